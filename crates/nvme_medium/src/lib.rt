@@ -1,0 +1,15 @@
+//! Block media: logical blocks of 512 bytes that are read and written whole, by calls of which each may fail.
+#![tactic(auto)]
+
+mod medium;
+mod memory;
+mod source;
+mod transfer;
+
+pub use medium::{BLOCK, Medium, MediumFault};
+pub use memory::MemMedium;
+pub use source::{Lent, Source};
+pub use transfer::{read_blocks, write_blocks};
+
+#[cfg(test)]
+mod tests;

@@ -1,0 +1,87 @@
+ghost use Rattle.std.specs.Prelude.{◌≡◌, ◌*◌, ◌<◌, ◌/◌, true, length, take, IfOk, IsOk};
+ghost use Rattle.nvme_spec.specs.Blocks.{block_at, overwritten};
+
+use crate::{Medium, MediumFault};
+use nvme_wire::NoMemory;
+use std::alloc::Global;
+
+/// A medium in memory. Its calls never fail.
+#[derive(Drop)]
+pub struct MemMedium {
+    bytes: Vec<u8>,
+    blocks: u64,
+    ghost whole: { length bytes.items ≡ 512 * blocks },
+}
+
+impl MemMedium {
+    ghost use Rattle.nvme_medium.specs.Memory.{memory_bytes, whole_blocks};
+
+    /// A medium of the whole blocks of these bytes: as many as 512 goes into their number. Bytes behind the last
+    /// whole block are ignored.
+    ///
+    /// `NoMemory` where the copy gets no memory.
+    pub fn new(alloc: Global, bytes: &[u8]) -> Result<Self, NoMemory>
+        ensures { IfOk result (λ medium. memory_bytes medium ≡ whole_blocks bytes.now) }
+    {
+        let blocks = bytes.len() / 512;
+        let bytes = bytes[..512 * blocks].to_vec(alloc)?;
+        Ok(MemMedium {
+            bytes,
+            blocks: blocks as u64,
+        })
+    }
+
+    /// The bytes of all blocks.
+    pub fn as_bytes(&self) -> &[u8]
+        ensures { result.now ≡ memory_bytes self.now }
+    {
+        self.bytes.as_slice()
+    }
+}
+
+impl Medium for MemMedium {
+    ghost use Rattle.nvme_medium.specs.Memory.{memory_bytes};
+
+    ghost tells = { true };
+
+    ghost content = { memory_bytes };
+
+    ghost size = { λ m. m.blocks };
+
+    ghost failures = { λ _. 0 };
+
+    ghost whole = { λ m _. m.whole };
+
+    fn blocks(&self) -> u64 {
+        self.blocks
+    }
+
+    fn read(&mut self, i: u64, buffer: &mut [u8; 512]) -> Result<(), MediumFault>
+        requires { i < self.old.blocks }
+        ensures done { IsOk result }
+        ensures read { buffer.new ≡ block_at (memory_bytes self.old) i }
+        ensures kept { self.new ≡ self.old }
+    {
+        let at = 512 * i as usize;
+        buffer.copy_from_slice(&self.bytes[at..at + 512]);
+        Ok(())
+    }
+
+    fn write(&mut self, i: u64, block: &[u8; 512]) -> Result<(), MediumFault>
+        requires { i < self.old.blocks }
+        ensures done { IsOk result }
+        ensures written { memory_bytes self.new ≡ overwritten (memory_bytes self.old) (512 * i) block.now }
+        ensures size { self.new.blocks ≡ self.old.blocks }
+    {
+        let at = 512 * i as usize;
+        self.bytes[at..at + 512].copy_from_slice(block);
+        Ok(())
+    }
+
+    fn flush(&mut self) -> Result<(), MediumFault>
+        ensures done { IsOk result }
+        ensures kept { self.new ≡ self.old }
+    {
+        Ok(())
+    }
+}

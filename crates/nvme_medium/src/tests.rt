@@ -1,0 +1,34 @@
+use super::*;
+use std::test::Fail;
+
+#[test]
+fn keeps_whole_blocks_alone(rt: HostRuntime) -> Result<(), Fail> {
+    let medium = MemMedium::new(rt.alloc(), &[7; 1100])?;
+    assert_eq!(rt; medium.blocks(), 2);
+    assert_eq!(rt; medium.as_bytes(), [7; 1024].as_slice());
+    Ok(())
+}
+
+#[test]
+fn reads_what_was_written(rt: HostRuntime) -> Result<(), Fail> {
+    let mut medium = MemMedium::new(rt.alloc(), &[0; 1536])?;
+    let mut buffer = [0; 1024];
+    assert_eq!(rt; medium.blocks(), 3);
+    assert!(rt;
+        write_blocks(
+            &mut medium,
+            1,
+            2,
+            &Lent {
+                bytes: &[0x5a; 1024]
+            }
+        )
+        .is_ok()
+    );
+    assert!(rt; medium.flush().is_ok());
+    assert_eq!(rt; medium.blocks(), 3);
+    assert!(rt; read_blocks(&mut medium, 0, &mut buffer).is_ok());
+    assert_eq!(rt; &buffer[..512], [0; 512].as_slice());
+    assert_eq!(rt; &buffer[512..], [0x5a; 512].as_slice());
+    Ok(())
+}

@@ -1,0 +1,2 @@
+pub mod Registrants
+pub mod Reporting

@@ -1,0 +1,60 @@
+-- The data of Reservation Report.
+use Rattle.std.proofs.Common.{◌≡◌, ℕ, ◌+◌, ◌<◌, ◌==◌, Bool, true, false, ◌||◌, cond, List, [], ◌∷◌, ◌++◌, length, get_or, take, Some, None, option_map, unwrap_or, find, ap, sym, refl, ◌∙◌, is_some, append-nil, append_assoc}
+use Rattle.std.specs.List.{flat_map}
+use Rattle.std.proofs.lemmas.List.{take_more}
+use Rattle.std.proofs.lemmas.List.Elements.{filter-append}
+use Rattle.std.proofs.lemmas.List.Concat.{flat_map-append}
+use Rattle.nvme_spec.specs.declared.access.Registrant.{Registrant}
+use Rattle.nvme_spec.specs.Reservation.{Reservation, is_registered, is_holder}
+use Rattle.nvme_spec.specs.Report.{ControllerHost, key_of, reported, header, entry_of, entry}
+
+pub length-header : (r : Reservation) (controllers : List ControllerHost) → length (header r controllers) ≡ 24
+unfolding header
+length-header r controllers = refl
+
+pub length-entry_of : (cntlid : ℕ) (holds : Bool) (host key : ℕ) → length (entry_of cntlid holds host key) ≡ 24
+unfolding entry_of
+length-entry_of cntlid holds host key = refl
+
+-- a host is registered where it has a key
+pub registered : (registrants : List Registrant) (host : ℕ) → is_registered registrants host ≡ is_some (key_of registrants host)
+registered [] host = refl
+registered (x ∷ xs) host =
+    elim (x.host == host) as (λ b. (b || is_registered xs host) ≡ is_some (option_map (λ r. r.key) (cond b (Some x) (find (λ r. r.host == host) xs)))) [
+      | true ↦ refl
+      | false ↦ registered xs host
+    ]
+
+-- The report of the first i controllers, behind `front`.
+abbrev so_far : Reservation → List ControllerHost → List ℕ → ℕ → List ℕ
+so_far r controllers front i = front ++ flat_map (entry r) (reported r (take i controllers))
+
+more : (r : Reservation) (controllers : List ControllerHost) (front : List ℕ) (i : ℕ) (d : ControllerHost) → i < length controllers
+    → so_far r controllers front (i + 1) ≡ so_far r controllers front i ++ flat_map (entry r) (reported r (get_or controllers i d ∷ []))
+more r controllers front i d lt =
+    ap (λ cs. front ++ flat_map (entry r) (reported r cs)) (take_more controllers i d lt)
+    ∙ (ap (λ cs. front ++ flat_map (entry r) cs) (filter-append _ (take i controllers) _)
+    ∙ (ap (λ l. front ++ l) (flat_map-append (entry r) (reported r (take i controllers)) _)
+    ∙ sym (append_assoc front (flat_map (entry r) (reported r (take i controllers))) _)))
+
+-- the next controller's host has this key
+pub more-registered : (r : Reservation) (controllers : List ControllerHost) (front : List ℕ) (i : ℕ) (d : ControllerHost) (key : ℕ) (bytes : List ℕ)
+    → i < length controllers → bytes ≡ so_far r controllers front i → key_of r.registrants (get_or controllers i d).1 ≡ Some key
+    → bytes ++ entry_of (get_or controllers i d).0 (is_holder r (get_or controllers i d).1) (get_or controllers i d).1 key
+    ≡ so_far r controllers front (i + 1)
+more-registered r controllers front i d key bytes lt here has =
+    let c : ControllerHost = get_or controllers i d in
+    let there : is_registered r.registrants c.1 ≡ true = registered r.registrants c.1 ∙ ap is_some has in
+    let one : flat_map (entry r) (reported r (c ∷ [])) ≡ entry_of c.0 (is_holder r c.1) c.1 key =
+    ap (λ b. flat_map (entry r) (cond b (c ∷ []) [])) there
+    ∙ (append-nil (entry r c) ∙ ap (λ k. entry_of c.0 (is_holder r c.1) c.1 (unwrap_or k 0)) has) in
+    sym (more r controllers front i d lt ∙ (λ j. sym here j ++ one j))
+
+-- the next controller's host is not registered
+pub more-absent : (r : Reservation) (controllers : List ControllerHost) (front : List ℕ) (i : ℕ) (d : ControllerHost) (bytes : List ℕ)
+    → i < length controllers → bytes ≡ so_far r controllers front i → key_of r.registrants (get_or controllers i d).1 ≡ None
+    → bytes ≡ so_far r controllers front (i + 1)
+more-absent r controllers front i d bytes lt here has =
+    let c : ControllerHost = get_or controllers i d in
+    let gone : is_registered r.registrants c.1 ≡ false = registered r.registrants c.1 ∙ ap is_some has in
+    sym (more r controllers front i d lt ∙ (ap (λ b. so_far r controllers front i ++ flat_map (entry r) (cond b (c ∷ []) [])) gone ∙ (append-nil _ ∙ sym here)))

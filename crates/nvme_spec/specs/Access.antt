@@ -1,0 +1,69 @@
+-- What a reservation lets a host read and write (NVM Express Base Specification 2.0, "Reservation Types").
+use Rattle.std.specs.Prelude.{ℕ, ◌≤◌, Bool, true, false, if◌then◌else◌, ◌==◌}
+use Rattle.nvme_spec.specs.declared.access.Hold.{Hold}
+use Rattle.nvme_spec.specs.declared.access.Hold.TheVariants.{Free, One, All}
+use Rattle.nvme_spec.specs.declared.access.Role.{Role}
+use Rattle.nvme_spec.specs.declared.access.Role.TheVariants.{Outsider, Registrant, Holder}
+use Rattle.nvme_spec.specs.declared.access.Group.{Group}
+use Rattle.nvme_spec.specs.declared.access.Group.TheVariants.{Read, Write}
+
+-- which groups of commands a host may send
+pub record Rights : Type 0 where
+  pub reads : Bool
+  pub writes : Bool
+
+abbrev pub no_access : Rights
+no_access = record { reads = false; writes = false }
+
+abbrev pub read_only : Rights
+read_only = record { reads = true; writes = false }
+
+abbrev pub read_write : Rights
+read_write = record { reads = true; writes = true }
+
+-- a row of the table: the rights of an outsider, of a registrant that is no holder, and of a holder
+pub record Row : Type 0 where
+  pub outsider : Rights
+  pub registrant : Rights
+  pub holder : Rights
+
+abbrev pub row : Rights → Rights → Rights → Row
+row outsider_rights registrant_rights holder_rights =
+    record { outsider = outsider_rights; registrant = registrant_rights; holder = holder_rights }
+
+-- The table of reservation types: 1 Write Exclusive, 2 Exclusive Access, 3 Write Exclusive - Registrants Only,
+-- 4 Exclusive Access - Registrants Only, 5 Write Exclusive - All Registrants, 6 Exclusive Access - All Registrants.
+--                     outsider, registrant, holder
+abbrev pub reservation_type : ℕ → Row
+reservation_type type =
+    if type == 1 then row read_only read_only read_write
+    else (if type == 2 then row no_access no_access read_write
+    else (if type == 3 then row read_only read_write read_write
+    else (if type == 4 then row no_access read_write read_write
+    else (if type == 5 then row read_only read_write read_write
+    else row no_access read_write read_write))))
+
+abbrev pub rights_of : Row → Role → Rights
+rights_of r Outsider = r.outsider
+rights_of r Registrant = r.registrant
+rights_of r Holder = r.holder
+
+abbrev pub allows : Rights → Group → Bool
+allows rights Read = rights.reads
+allows rights Write = rights.writes
+
+-- under a hold of this type
+abbrev pub is_permitted_under : ℕ → Role → Group → Bool
+is_permitted_under type role group = allows (rights_of (reservation_type type) role) group
+
+-- a command of this group is permitted to a host in this role; without a hold everything is
+abbrev pub is_permitted : Hold → Role → Group → Bool
+is_permitted Free role group = true
+is_permitted (One type host) role group = is_permitted_under type role group
+is_permitted (All type) role group = is_permitted_under type role group
+
+-- the hold's type is one of the six
+abbrev pub HasKnownType : Hold → Type 0
+HasKnownType Free = Unit {0}
+HasKnownType (One type host) = (1 ≤ type) × (type ≤ 6)
+HasKnownType (All type) = (1 ≤ type) × (type ≤ 6)

@@ -1,0 +1,110 @@
+-- The I/O commands: their opcodes, their fields and the data that they move (NVM Command Set Specification:
+-- Flush, Write, Read, Compare, Write Zeroes; Base Specification: Reservation Register, Report, Acquire, Release).
+use Rattle.std.specs.Prelude.{ℕ, ◌+◌, ◌*◌, ◌%◌, ◌^◌, ◌==◌, Bool, false, if◌then◌else◌, List, [], ◌∷◌, Option, None, Some, find}
+use Rattle.std.specs.List.{list_any}
+use Rattle.nvme_wire.specs.Entry.{bits}
+use Rattle.nvme_wire.specs.Submission.{cdw10, cdw11, cdw12}
+use Rattle.nvme_spec.specs.declared.access.Group.{Group}
+use Rattle.nvme_spec.specs.declared.access.Group.TheVariants.{Read as Reading, Write as Writing}
+use Rattle.nvme_spec.specs.declared.command.Command.{Command}
+use Rattle.nvme_spec.specs.declared.command.Command.TheVariants.{Flush, Write, Read, Compare, WriteZeroes, ReservationRegister, ReservationReport, ReservationAcquire, ReservationRelease}
+use Rattle.nvme_spec.specs.declared.verdict.Plan.{Plan}
+
+abbrev pub opcode_of : Command → ℕ
+opcode_of Flush = 0x00
+opcode_of Write = 0x01
+opcode_of Read = 0x02
+opcode_of Compare = 0x05
+opcode_of WriteZeroes = 0x08
+opcode_of ReservationRegister = 0x0d
+opcode_of ReservationReport = 0x0e
+opcode_of ReservationAcquire = 0x11
+opcode_of ReservationRelease = 0x15
+
+abbrev pub all_commands : List Command
+all_commands =
+    Flush ∷ Write ∷ Read ∷ Compare ∷ WriteZeroes
+    ∷ ReservationRegister ∷ ReservationReport ∷ ReservationAcquire ∷ ReservationRelease ∷ []
+
+-- the command with this opcode
+unfoldable pub command_of : ℕ → Option Command
+command_of opcode = find (λ c. opcode_of c == opcode) all_commands
+
+-- there is a command, and it is one of these
+abbrev pub is_one_of : Option Command → List Command → Bool
+is_one_of None commands = false
+is_one_of (Some command) commands = list_any (λ c. opcode_of c == opcode_of command) commands
+
+-- The fields of an entry.
+
+-- Starting LBA: double words 10 and 11
+unfoldable pub first_block : List ℕ → ℕ
+first_block e = cdw10 e + 2 ^ 32 * cdw11 e
+
+-- Number of Logical Blocks: one more than bits 15:0 of double word 12
+unfoldable pub block_count : List ℕ → ℕ
+block_count e = cdw12 e % 2 ^ 16 + 1
+
+-- the action of a reservation command (RREGA, RACQA, RRELA): bits 2:0 of double word 10
+unfoldable pub action : List ℕ → ℕ
+action e = bits (cdw10 e) 2 0
+
+-- Ignore Existing Key: bit 3
+unfoldable pub ignores_key : List ℕ → Bool
+ignores_key e = bits (cdw10 e) 3 3 == 1
+
+-- Change Persist Through Power Loss State: bits 31:30
+unfoldable pub persistence : List ℕ → ℕ
+persistence e = bits (cdw10 e) 31 30
+
+-- Reservation Type: bits 15:8
+unfoldable pub reservation_type : List ℕ → ℕ
+reservation_type e = bits (cdw10 e) 15 8
+
+-- Extended Data Structure: bit 0 of double word 11
+unfoldable pub is_extended : List ℕ → Bool
+is_extended e = bits (cdw11 e) 0 0 == 1
+
+-- the bytes of a report: 4 for each double word, of which there is one more than Number of Dwords says
+unfoldable pub report_length : List ℕ → ℕ
+report_length e = 4 * (cdw10 e + 1)
+
+-- the bytes that a command moves between host and controller
+abbrev pub data_length : Command → List ℕ → ℕ
+data_length Flush e = 0
+data_length Write e = 512 * block_count e
+data_length Read e = 512 * block_count e
+data_length Compare e = 512 * block_count e
+data_length WriteZeroes e = 0
+data_length ReservationRegister e = 16
+data_length ReservationReport e = report_length e
+data_length ReservationAcquire e = 16
+data_length ReservationRelease e = 8
+
+-- the commands that a reservation judges as reading, and as writing
+abbrev pub readers : List Command
+readers = Read ∷ Compare ∷ []
+
+abbrev pub writers : List Command
+writers = Write ∷ WriteZeroes ∷ Flush ∷ []
+
+abbrev pub group_of : Command → Option Group
+group_of command =
+    if is_one_of (Some command) readers then Some Reading
+    else (if is_one_of (Some command) writers then Some Writing else None)
+
+-- the commands that change blocks
+abbrev pub altering : List Command
+altering = Write ∷ WriteZeroes ∷ []
+
+-- the commands that name a range of blocks
+abbrev pub ranged : List Command
+ranged = Read ∷ Write ∷ Compare ∷ WriteZeroes ∷ []
+
+abbrev pub plan_of : Command → List ℕ → Plan
+plan_of command e = record {
+  kind = command;
+  first = if is_one_of (Some command) ranged then first_block e else 0;
+  blocks = if is_one_of (Some command) ranged then block_count e else 0;
+  bytes = data_length command e;
+}

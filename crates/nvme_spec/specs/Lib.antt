@@ -1,0 +1,13 @@
+pub mod Statuses
+pub mod Blocks
+pub mod Effects
+pub mod Reservation
+pub mod Access
+pub mod Report
+pub mod Configuration
+pub mod World
+pub mod Commands
+pub mod Rules
+pub mod IoRules
+pub mod Entries
+pub mod Examples

@@ -1,0 +1,165 @@
+-- Reservations of a namespace (NVM Express Base Specification 2.0, "Reservations"): which hosts are registered, with
+-- which keys, who holds the reservation, and what each action of the commands Reservation Register, Reservation Acquire
+-- and Reservation Release makes of it.
+use Rattle.std.specs.Prelude.{ℕ, ◌+◌, ◌<◌, ◌%◌, ◌^◌, Bool, true, false, not, ◌&&◌, ◌||◌, ◌==◌, nat_lt, nat_le, if◌then◌else◌, List, [], ◌∷◌, ◌++◌, length, filter, map, Result, Ok, Err}
+use Rattle.std.specs.List.{list_any, AllByRecursion}
+use Rattle.nvme_wire.specs.declared.status.Status.{Status}
+use Rattle.nvme_spec.specs.declared.access.Registrant.{Registrant}
+use Rattle.nvme_spec.specs.declared.access.Hold.{Hold}
+use Rattle.nvme_spec.specs.declared.access.Hold.TheVariants.{Free, One, All}
+use Rattle.nvme_spec.specs.declared.access.Role.{Role}
+use Rattle.nvme_spec.specs.declared.access.Role.TheVariants.{Outsider, Registrant as OnlyRegistrant, Holder}
+
+-- the registrants by rising host, the hold, and the generation counter
+pub record Reservation : Type 0 where
+  pub registrants : List Registrant
+  pub hold : Hold
+  pub generation : ℕ
+
+-- the statuses Reservation Conflict and Invalid Field in Command
+abbrev pub conflict : Status
+conflict = record { sct = 0; sc = 0x83 }
+
+abbrev pub invalid_field : Status
+invalid_field = record { sct = 0; sc = 0x02 }
+
+-- a new namespace: nobody is registered, nobody holds it
+abbrev pub unreserved : Reservation
+unreserved = record { registrants = []; hold = Free; generation = 0 }
+
+-- the host has a key
+abbrev pub is_registered : List Registrant → ℕ → Bool
+is_registered registrants host = list_any (λ r. r.host == host) registrants
+
+-- the host has this key
+abbrev pub is_registered_with : List Registrant → ℕ → ℕ → Bool
+is_registered_with registrants host key = list_any (λ r. (r.host == host) && (r.key == key)) registrants
+
+-- some host has this key
+abbrev pub is_key_in_use : List Registrant → ℕ → Bool
+is_key_in_use registrants key = list_any (λ r. r.key == key) registrants
+
+-- the host's key becomes `key`, whether it had one or not
+abbrev pub with_key : List Registrant → ℕ → ℕ → List Registrant
+with_key registrants host key =
+    filter (λ r. nat_lt r.host host) registrants ++ record { host = host; key = key } ∷ filter (λ r. nat_lt host r.host) registrants
+
+-- each registrant's host is above those before it
+abbrev pub IsRising : List Registrant → Type 0
+IsRising [] = Unit {0}
+IsRising (r ∷ rest) = AllByRecursion (λ x. r.host < x.host) rest × IsRising rest
+
+-- a registrant that is this host holds the reservation: it is the holder, or all registrants are
+abbrev pub is_held_by : Hold → ℕ → Bool
+is_held_by Free host = false
+is_held_by (One type holder) host = holder == host
+is_held_by (All type) host = true
+
+-- what a host is to the namespace: each of its controllers is that too
+abbrev pub role_of : Reservation → ℕ → Role
+role_of r host = if is_registered r.registrants host then (if is_held_by r.hold host then Holder else OnlyRegistrant) else Outsider
+
+abbrev pub is_holder : Reservation → ℕ → Bool
+is_holder r host = is_registered r.registrants host && is_held_by r.hold host
+
+-- the hold of a host that takes a reservation of this type: types 5 and 6 are all registrants'
+abbrev pub taken_by : ℕ → ℕ → Hold
+taken_by host type = if nat_le type 4 then One type host else All type
+
+-- what is left of a hold where these are the registrants that are left
+abbrev pub settled : Hold → List Registrant → Hold
+settled Free registrants = Free
+settled (One type holder) registrants = if is_registered registrants holder then One type holder else Free
+settled (All type) registrants = if length registrants == 0 then Free else All type
+
+-- the hold is of this type
+abbrev pub is_of_type : Hold → ℕ → Bool
+is_of_type Free type = false
+is_of_type (One t holder) type = t == type
+is_of_type (All t) type = t == type
+
+abbrev pub is_free : Hold → Bool
+is_free Free = true
+is_free (One type holder) = false
+is_free (All type) = false
+
+abbrev pub is_of_all : Hold → Bool
+is_of_all Free = false
+is_of_all (One type holder) = false
+is_of_all (All type) = true
+
+-- a single host holds the reservation, and has this key
+abbrev pub is_holders_key : Reservation → ℕ → Bool
+is_holders_key r key = is_holders_key_of r.hold r.registrants key where
+  is_holders_key_of : Hold → List Registrant → ℕ → Bool
+  is_holders_key_of Free registrants key = false
+  is_holders_key_of (One type holder) registrants key = is_registered_with registrants holder key
+  is_holders_key_of (All type) registrants key = false
+
+-- An action is denied with a status and changes nothing, or gives the next state.
+abbrev pub Outcome : Type 0
+Outcome = Result Reservation Status
+
+-- these registrants and this hold, and one more generation: the counter has 32 bits
+abbrev pub changed : Reservation → List Registrant → Hold → Reservation
+changed r registrants hold = record { registrants = registrants; hold = hold; generation = (r.generation + 1) % 2 ^ 32 }
+
+-- these registrants, what is left of the hold, and one more generation
+abbrev pub reduced : Reservation → List Registrant → Reservation
+reduced r rest = changed r rest (settled r.hold rest)
+
+-- Reservation Register command, Register Reservation Key. A host that has another key already is denied.
+abbrev pub register : Reservation → ℕ → ℕ → Outcome
+register r host nrkey =
+    if is_registered r.registrants host && not (is_registered_with r.registrants host nrkey) then Err conflict
+    else Ok (changed r (with_key r.registrants host nrkey) r.hold)
+
+-- Reservation Register command, Unregister Reservation Key. With IEKEY the key that the host gives is not looked at.
+abbrev pub unregister : Reservation → ℕ → Bool → ℕ → Outcome
+unregister r host iekey crkey =
+    if is_registered r.registrants host && (iekey || is_registered_with r.registrants host crkey)
+    then Ok (reduced r (filter (λ x. not (x.host == host)) r.registrants))
+    else Err conflict
+
+-- Reservation Register command, Replace Reservation Key. With IEKEY a host that is not registered is registered.
+abbrev pub replace : Reservation → ℕ → Bool → ℕ → ℕ → Outcome
+replace r host iekey crkey nrkey =
+    if iekey || is_registered_with r.registrants host crkey then Ok (changed r (with_key r.registrants host nrkey) r.hold)
+    else Err conflict
+
+-- Reservation Acquire command, Acquire.
+abbrev pub acquire : Reservation → ℕ → ℕ → ℕ → Outcome
+acquire r host rtype crkey =
+    if not (is_registered_with r.registrants host crkey) then Err conflict
+    else (if is_free r.hold then Ok (record r { hold = taken_by host rtype })
+    else (if is_of_type r.hold rtype && is_holder r host then Ok r
+    else Err conflict))
+
+-- Reservation Acquire command, Preempt. Key 0 stands for all other registrants of a reservation that all hold; the key of
+-- a single holder takes its reservation; any other key only removes the registrants that have it.
+abbrev pub preempt : Reservation → ℕ → ℕ → ℕ → ℕ → Outcome
+preempt r host rtype crkey prkey =
+    if not (is_registered_with r.registrants host crkey) then Err conflict
+    else (if prkey == 0
+    then (if is_of_all r.hold then Ok (changed r (filter (λ x. x.host == host) r.registrants) (taken_by host rtype)) else Err invalid_field)
+    else (if is_holders_key r prkey
+    then Ok (changed r (filter (λ x. (x.host == host) || not (x.key == prkey)) r.registrants) (taken_by host rtype))
+    else (if is_key_in_use r.registrants prkey then Ok (reduced r (filter (λ x. not (x.key == prkey)) r.registrants))
+    else Err conflict)))
+
+-- Reservation Release command, Release. A registrant that holds nothing succeeds and changes nothing.
+abbrev pub release : Reservation → ℕ → ℕ → ℕ → Outcome
+release r host rtype crkey =
+    if not (is_registered_with r.registrants host crkey) then Err conflict
+    else (if not (is_holder r host) then Ok r
+    else (if is_of_type r.hold rtype then Ok (record r { hold = Free })
+    else Err invalid_field))
+
+-- Reservation Release command, Clear.
+abbrev pub clear : Reservation → ℕ → ℕ → Outcome
+clear r host crkey =
+    if is_registered_with r.registrants host crkey then Ok (changed r [] Free) else Err conflict
+
+-- the hosts that were registered and no longer are, by rising host
+abbrev pub removed_hosts : List Registrant → List Registrant → List ℕ
+removed_hosts before after = map (λ r. r.host) (filter (λ r. not (is_registered after r.host)) before)

@@ -1,0 +1,16 @@
+//! The vocabulary of the subsystem: plain types that several layers speak of, and, in `specs/`, what the
+//! NVM Express specifications say of them.
+#![tactic(auto)]
+
+mod access;
+mod command;
+mod config;
+mod examples;
+mod pointer;
+mod verdict;
+
+pub use access::{Group, Hold, Registrant, Role};
+pub use command::{AdminCommand, Command};
+pub use config::{Attachment, Config, ConfigFault, ControllerConfig, NsConfig};
+pub use pointer::{DataFault, Piece};
+pub use verdict::{Denial, Plan, Verdict};
