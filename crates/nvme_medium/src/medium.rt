@@ -1,4 +1,4 @@
-ghost use Rattle.std.specs.Prelude.{◌≡◌, ◌*◌, ◌<◌, List, ℕ, Bool, length, IsTrue, OnOk, OnErr};
+ghost use Rattle.std.specs.Prelude.{◌≡◌, ◌*◌, ◌^◌, ◌<◌, List, ℕ, Bool, length, IsTrue, OnOk, OnErr};
 ghost use Rattle.nvme_spec.specs.Blocks.{block_at, overwritten, Torn, HasCause};
 
 /// How many bytes a logical block has.
@@ -50,6 +50,9 @@ pub trait Medium {
         ensures kept { IsTrue tells → content self.new ≡ content self.old }
         ensures size { size self.new ≡ size self.old }
         ensures cause { HasCause (failures self.old) (failures self.new) result };
+
+    /// The blocks are counted by 64 bits.
+    ghost countable: { (medium : Self) → size medium < 2 ^ 64 };
 
     /// The content has as many bytes as the blocks.
     ghost whole: { (medium : Self) → IsTrue tells → length (content medium) ≡ 512 * size medium };

@@ -1,4 +1,4 @@
-ghost use Rattle.std.specs.Prelude.{◌≡◌, ◌*◌, ◌<◌, ◌/◌, true, length, take, IfOk, IsOk};
+ghost use Rattle.std.specs.Prelude.{◌≡◌, ◌*◌, ◌<◌, ◌^◌, true, length, take, IfOk, IsOk};
 ghost use Rattle.nvme_spec.specs.Blocks.{block_at, overwritten};
 
 use crate::{Medium, MediumFault};
@@ -11,6 +11,7 @@ pub struct MemMedium {
     bytes: Vec<u8>,
     blocks: u64,
     ghost whole: { length bytes.items ≡ 512 * blocks },
+    ghost countable: { blocks < 2 ^ 64 },
 }
 
 impl MemMedium {
@@ -49,6 +50,8 @@ impl Medium for MemMedium {
     ghost size = { λ m. m.blocks };
 
     ghost failures = { λ _. 0 };
+
+    ghost countable = { λ m. m.countable };
 
     ghost whole = { λ m _. m.whole };
 

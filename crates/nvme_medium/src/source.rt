@@ -13,6 +13,7 @@ pub trait Source {
 }
 
 /// Data that lie in one slice.
+#[derive(Clone, Copy, Debug)]
 pub struct Lent<'a> {
     pub bytes: &'a [u8],
 }

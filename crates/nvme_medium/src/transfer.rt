@@ -12,7 +12,6 @@ pub fn write_blocks<M: Medium, S: Source>(
 ) -> Result<(), MediumFault>
     requires all { length (S.bytes source.now) ≡ 512 * blocks }
     requires within { first + blocks ≤ M.size medium.old }
-    requires fits { first + blocks < 2 ^ 64 }
     ensures written { OnOk result (IsTrue M.tells → M.content medium.new ≡ overwritten (M.content medium.old) (512 * first) (S.bytes source.now)) }
     ensures fault { OnErr result (IsTrue M.tells → StopsWriting first (S.bytes source.now) (M.content medium.old) (M.content medium.new)) }
     ensures size { M.size medium.new ≡ M.size medium.old }
@@ -35,7 +34,6 @@ pub fn read_blocks<M: Medium>(
 ) -> Result<(), MediumFault>
     requires whole { length buffer.old % 512 ≡ 0 }
     requires within { 512 * first + length buffer.old ≤ 512 * M.size medium.old }
-    requires fits { first + length buffer.old < 2 ^ 64 }
     ensures read { OnOk result (IsTrue M.tells → buffer.new ≡ blocks_from (M.content medium.old) first (length buffer.old)) }
     ensures fault { OnErr result (IsTrue M.tells → StopsReading first (M.content medium.old) buffer.old buffer.new) }
     ensures kept { IsTrue M.tells → M.content medium.new ≡ M.content medium.old }

@@ -45,7 +45,7 @@ rising-filter p (x ∷ xs) h =
       | false ↦ rising-filter p xs h.1
     ]
 
-same_test : (a : ℕ) → (a == a) ≡ true
+pub same_test : (a : ℕ) → (a == a) ≡ true
 same_test a = grind (arith, nat_tests)
 
 pub below_test : (a b : ℕ) → a < b → (a == b) ≡ false

@@ -1,20 +1,27 @@
 -- The data of Reservation Report.
-use Rattle.std.proofs.Common.{◌≡◌, ℕ, ◌+◌, ◌<◌, ◌==◌, Bool, true, false, ◌||◌, cond, List, [], ◌∷◌, ◌++◌, length, get_or, take, Some, None, option_map, unwrap_or, find, ap, sym, refl, ◌∙◌, is_some, append-nil, append_assoc}
+use Rattle.std.proofs.Common.{◌≡◌, ℕ, arith, ◌+◌, ◌<◌, ◌==◌, true, false, ◌||◌, cond, List, [], ◌∷◌, ◌++◌, length, get_or, take, Some, None, option_map, unwrap_or, find, ap, sym, refl, ◌∙◌, is_some, append-nil, append_assoc}
 use Rattle.std.specs.List.{flat_map}
 use Rattle.std.proofs.lemmas.List.{take_more}
 use Rattle.std.proofs.lemmas.List.Elements.{filter-append}
 use Rattle.std.proofs.lemmas.List.Concat.{flat_map-append}
+use Rattle.std.proofs.lemmas.Grind.{common_steps}
 use Rattle.nvme_spec.specs.declared.access.Registrant.{Registrant}
 use Rattle.nvme_spec.specs.Reservation.{Reservation, is_registered, is_holder}
-use Rattle.nvme_spec.specs.Report.{ControllerHost, key_of, reported, header, entry_of, entry}
+use Rattle.nvme_spec.specs.Report.{ControllerHost, HasRisingIds, key_of, reported, entry_of, entry, report_data}
+use Rattle.nvme_spec.proofs.Registrants.{all-filter}
 
-pub length-header : (r : Reservation) (controllers : List ControllerHost) → length (header r controllers) ≡ 24
-unfolding header
-length-header r controllers = refl
+pub length-report_data : (r : Reservation) (controllers : List ControllerHost) (size : ℕ) → length (report_data r controllers size) ≡ size
+unfolding report_data
+length-report_data r controllers size = grind (arith, common_steps)
 
-pub length-entry_of : (cntlid : ℕ) (holds : Bool) (host key : ℕ) → length (entry_of cntlid holds host key) ≡ 24
-unfolding entry_of
-length-entry_of cntlid holds host key = refl
+-- the controllers that are reported rise where all do
+pub rising-reported : (r : Reservation) (controllers : List ControllerHost) → HasRisingIds controllers → HasRisingIds (reported r controllers)
+rising-reported r [] h = h
+rising-reported r (c ∷ cs) h =
+    elim (is_registered r.registrants c.1) as (λ b. HasRisingIds (cond b (c ∷ reported r cs) (reported r cs))) [
+      | true ↦ (all-filter _ _ cs h.0, rising-reported r cs h.1)
+      | false ↦ rising-reported r cs h.1
+    ]
 
 -- a host is registered where it has a key
 pub registered : (registrants : List Registrant) (host : ℕ) → is_registered registrants host ≡ is_some (key_of registrants host)

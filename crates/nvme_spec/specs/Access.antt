@@ -31,16 +31,21 @@ abbrev pub row : Rights → Rights → Rights → Row
 row outsider_rights registrant_rights holder_rights =
     record { outsider = outsider_rights; registrant = registrant_rights; holder = holder_rights }
 
--- The table of reservation types: 1 Write Exclusive, 2 Exclusive Access, 3 Write Exclusive - Registrants Only,
--- 4 Exclusive Access - Registrants Only, 5 Write Exclusive - All Registrants, 6 Exclusive Access - All Registrants.
---                     outsider, registrant, holder
+-- The table of reservation types. No type is above 6.
+--             outsider, registrant, holder
 abbrev pub reservation_type : ℕ → Row
 reservation_type type =
+    -- Write Exclusive
     if type == 1 then row read_only read_only read_write
+    -- Exclusive Access
     else (if type == 2 then row no_access no_access read_write
+    -- Write Exclusive - Registrants Only
     else (if type == 3 then row read_only read_write read_write
+    -- Exclusive Access - Registrants Only
     else (if type == 4 then row no_access read_write read_write
+    -- Write Exclusive - All Registrants
     else (if type == 5 then row read_only read_write read_write
+    -- Exclusive Access - All Registrants
     else row no_access read_write read_write))))
 
 abbrev pub rights_of : Row → Role → Rights

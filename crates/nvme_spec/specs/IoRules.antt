@@ -2,7 +2,7 @@
 -- command that it doesn't name. The order of the rules is this subsystem's; each rule is the standard's (Base
 -- Specification: Command Format, Namespace Identifier Usage, Reservations, Namespace Write Protection; NVM Command
 -- Set Specification: LBA Out of Range).
-use Rattle.std.specs.Prelude.{ℕ, ◌+◌, ◌==◌, nat_lt, nat_le, Bool, true, false, not, ◌&&◌, ◌||◌, List, [], ◌∷◌, Option, None, Some, is_none, is_some, Ok, Err}
+use Rattle.std.specs.Prelude.{ℕ, ◌+◌, ◌≤◌, ◌==◌, nat_lt, nat_le, Bool, true, false, not, ◌&&◌, ◌||◌, List, [], ◌∷◌, Option, None, Some, is_none, is_some, IsSomeAnd, Ok, Err}
 use Rattle.nvme_wire.specs.Submission.{opcode, fuse, psdt, nsid}
 use Rattle.nvme_spec.specs.declared.access.Role.{Role}
 use Rattle.nvme_spec.specs.declared.access.Role.TheVariants.{Outsider}
@@ -10,6 +10,7 @@ use Rattle.nvme_spec.specs.declared.access.Group.{Group}
 use Rattle.nvme_spec.specs.declared.access.Group.TheVariants.{Read as Reading, Write as Writing}
 use Rattle.nvme_spec.specs.declared.command.Command.{Command}
 use Rattle.nvme_spec.specs.declared.command.Command.TheVariants.{Write, Read, Compare, ReservationRegister, ReservationReport, ReservationAcquire, ReservationRelease}
+use Rattle.nvme_spec.specs.declared.verdict.Plan.{Plan}
 use Rattle.nvme_spec.specs.declared.verdict.Verdict.{Verdict}
 use Rattle.nvme_spec.specs.declared.verdict.Verdict.TheVariants.{Allowed, Denied}
 use Rattle.nvme_spec.specs.Reservation.{role_of}
@@ -107,6 +108,15 @@ concluded (Err denial) command e = Denied denial.rule denial.status
 concluded (Ok u) None e = Denied 2 status.invalid_command_opcode
 concluded (Ok u) (Some command) e = Allowed (plan_of command e)
 
+-- what an allowed plan says
+abbrev pub IfAllowed : Verdict → (Plan → Type 0) → Type 0
+IfAllowed (Allowed plan) P = P plan
+IfAllowed (Denied rule status) P = Unit {0}
+
 -- what the rules answer to a command of a controller
 unfoldable pub verdict : World → ℕ → List ℕ → Bool → Verdict
 verdict w cntlid e marked = concluded (first_failing (access_rules w cntlid e marked)) (command_of (opcode e)) e
+
+-- the blocks of a plan lie in the namespace that an entry names
+abbrev pub FitsNamespace : World → ℕ → Plan → Type 0
+FitsNamespace w n plan = IsSomeAnd (namespace_of w n) (λ (space : Namespace). plan.first + plan.blocks ≤ space.blocks)

@@ -4,6 +4,8 @@ pub mod Effects
 pub mod Reservation
 pub mod Access
 pub mod Report
+pub mod ReservationLaws
+pub mod ReservationExamples
 pub mod Configuration
 pub mod World
 pub mod Commands
@@ -11,3 +13,10 @@ pub mod Rules
 pub mod IoRules
 pub mod Entries
 pub mod Examples
+pub mod Memory
+pub mod Pointer
+pub mod Transfers
+pub mod TransferLaws
+pub mod ExampleWindows
+pub mod IoData
+pub mod IoSteps

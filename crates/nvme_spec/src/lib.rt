@@ -6,6 +6,7 @@ mod access;
 mod command;
 mod config;
 mod examples;
+mod laws;
 mod pointer;
 mod verdict;
 

@@ -1,0 +1,25 @@
+-- Words of another number say nothing.
+use Rattle.std.proofs.Common.{◌≡◌, ◌≢◌, List, [], ◌∷◌, length, map, Option, None, refl}
+use Rattle.nvme_grammar.specs.Arity.{two, three, four}
+
+module _ {V W B : Type 0} (now : V → W) where
+  pub two_other : (f : W → W → Option B) (ws : List V) → length ws ≢ 2 → two f (map now ws) ≡ None
+  two_other f [] h = refl
+  two_other f (a ∷ []) h = refl
+  two_other f (a ∷ b ∷ []) h = absurd (h refl)
+  two_other f (a ∷ b ∷ c ∷ ws) h = refl
+
+  pub three_other : (f : W → W → W → Option B) (ws : List V) → length ws ≢ 3 → three f (map now ws) ≡ None
+  three_other f [] h = refl
+  three_other f (a ∷ []) h = refl
+  three_other f (a ∷ b ∷ []) h = refl
+  three_other f (a ∷ b ∷ c ∷ []) h = absurd (h refl)
+  three_other f (a ∷ b ∷ c ∷ d ∷ ws) h = refl
+
+  pub four_other : (f : W → W → W → W → Option B) (ws : List V) → length ws ≢ 4 → four f (map now ws) ≡ None
+  four_other f [] h = refl
+  four_other f (a ∷ []) h = refl
+  four_other f (a ∷ b ∷ []) h = refl
+  four_other f (a ∷ b ∷ c ∷ []) h = refl
+  four_other f (a ∷ b ∷ c ∷ d ∷ []) h = absurd (h refl)
+  four_other f (a ∷ b ∷ c ∷ d ∷ e ∷ ws) h = refl

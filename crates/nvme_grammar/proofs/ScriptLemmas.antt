@@ -1,0 +1,146 @@
+-- Lines that begin a script, and one more.
+use Rattle.std.proofs.Common.{◌≡◌, ℕ, suc, ◌+◌, ◌<◌, Bool, true, false, List, [], ◌∷◌, ◌++◌, length, take, drop, get_or, Option, Some, None, refl, sym, ap, ◌∙◌, subst, append_assoc, take-append-drop, arith, inl, inr, Bor}
+use Rattle.std.specs.Prelude.{◌&&◌}
+use Rattle.std.specs.Iterator.{Yields}
+use Rattle.std.proofs.lemmas.Iterator.{YieldsList}
+use Rattle.std.proofs.lemmas.Iterator.Consumers.{YieldsList-turn, YieldsList-end}
+use Rattle.std.specs.List.{filter_map, list_all, enumerate_from}
+use Rattle.std.specs.Option.{is_some}
+use Rattle.std.proofs.lemmas.Bool.{false≢true, cases_lt}
+use Rattle.std.proofs.lemmas.List.{append-nil, take_more, take-take, length-take-le}
+use Rattle.std.proofs.lemmas.List.Elements.{filter_map-append}
+use Rattle.std.proofs.lemmas.List.Folds.{list_all-append}
+use Rattle.std.proofs.lemmas.List.FromFn.{length-enumerate_from, get_or-enumerate_from}
+use Rattle.nvme_grammar.specs.Line.{line_at}
+use Rattle.nvme_grammar.specs.Script.{Begins, ArePlaced, IsFirstOutside, said, fits_behind}
+use Rattle.nvme_grammar.specs.declared.line.Line.{Line}
+
+ArePlaced-push : (before lines : List Line) (line : Line) → ArePlaced before lines → fits_behind (before ++ lines) line ≡ true → ArePlaced before (lines ++ line ∷ [])
+ArePlaced-push before [] line h f = (subst (λ (t : List Line). fits_behind t line ≡ true) (append-nil before) f, tt)
+ArePlaced-push before (x ∷ lines) line h f =
+    (h.0, ArePlaced-push (before ++ x ∷ []) lines line h.1 (subst (λ (t : List Line). fits_behind t line ≡ true) (sym (append_assoc before (x ∷ []) lines)) f))
+
+ArePlaced-last : (before lines : List Line) (line : Line) → ArePlaced before (lines ++ line ∷ []) → fits_behind (before ++ lines) line ≡ true
+ArePlaced-last before [] line h = subst (λ (t : List Line). fits_behind t line ≡ true) (sym (append-nil before)) h.0
+ArePlaced-last before (x ∷ lines) line h =
+    subst (λ (t : List Line). fits_behind t line ≡ true) (append_assoc before (x ∷ []) lines) (ArePlaced-last (before ++ x ∷ []) lines line h.1)
+
+-- what one more line says
+said-push : (raw : List (List ℕ)) (bytes : List ℕ) (line : Line) → line_at bytes ≡ Some line → said (raw ++ bytes ∷ []) ≡ said raw ++ line ∷ []
+said-push raw bytes line e = filter_map-append line_at raw (bytes ∷ []) ∙ ap (λ t. said raw ++ t) (single bytes line e)
+  where
+    single : (bytes : List ℕ) (line : Line) → line_at bytes ≡ Some line → filter_map line_at (bytes ∷ []) ≡ line ∷ []
+    single bytes line e = rw e refl
+
+-- where each line says something, nothing is left out
+pub length-said : (raw : List (List ℕ)) → list_all (λ line. is_some (line_at line)) raw ≡ true → length (said raw) ≡ length raw
+length-said [] h = refl
+length-said (bytes ∷ raw) h = by (line_at bytes) refl (λ rest. length-said raw rest)
+  where
+    by : (o : Option Line) → line_at bytes ≡ o → (list_all (λ line. is_some (line_at line)) raw ≡ true → length (said raw) ≡ length raw) → length (said (bytes ∷ raw)) ≡ length (bytes ∷ raw)
+    by (Some line) e rest = rw e (ap suc (rest (rw e at h)))
+    by None e rest = absurd (false≢true (rw e at h))
+
+pub Begins-none : Begins []
+Begins-none = record { spelled = refl; placed = tt }
+
+Begins-push : (raw : List (List ℕ)) (bytes : List ℕ) (line : Line) → Begins raw → line_at bytes ≡ Some line → fits_behind (said raw) line ≡ true → Begins (raw ++ bytes ∷ [])
+Begins-push raw bytes line h e f = record {
+  spelled = rw (list_all-append (λ l. is_some (line_at l)) raw (bytes ∷ []), h.spelled, e) refl;
+  placed = rw (said-push raw bytes line e) (ArePlaced-push [] (said raw) line h.placed f);
+}
+
+and_right : (a b : Bool) → (a && b) ≡ true → b ≡ true
+and_right true b h = h
+and_right false b h = absurd (false≢true h)
+
+outside_unread : (raw : List (List ℕ)) (bytes : List ℕ) → line_at bytes ≡ None → Begins (raw ++ bytes ∷ []) → ⊥
+outside_unread raw bytes e h =
+    let both : (list_all (λ l. is_some (line_at l)) raw && list_all (λ l. is_some (line_at l)) (bytes ∷ [])) ≡ true = sym (list_all-append (λ l. is_some (line_at l)) raw (bytes ∷ [])) ∙ h.spelled in
+    let last : list_all (λ l. is_some (line_at l)) (bytes ∷ []) ≡ true = and_right _ _ both in
+    false≢true (rw e at last)
+
+outside_misplaced : (raw : List (List ℕ)) (bytes : List ℕ) (line : Line) → line_at bytes ≡ Some line → fits_behind (said raw) line ≡ false → Begins (raw ++ bytes ∷ []) → ⊥
+outside_misplaced raw bytes line e f h =
+    let placed : ArePlaced [] (said raw ++ line ∷ []) = subst (λ (t : List Line). ArePlaced [] t) (said-push raw bytes line e) h.placed in
+    false≢true (sym f ∙ ArePlaced-last [] (said raw) line placed)
+
+-- the first i lines begin a script, however few of them are taken
+abbrev pub AllBegin : ℕ → List (List ℕ) → Type 0
+AllBegin i raw = (k : ℕ) → k < i + 1 → Begins (take k raw)
+
+pub AllBegin-none : (raw : List (List ℕ)) → AllBegin 0 raw
+AllBegin-none raw k h = let none : 0 ≡ k = omega arith in subst (λ (n : ℕ). Begins (take n raw)) none Begins-none
+
+first_outside : (raw : List (List ℕ)) (i : ℕ) → i < length raw → AllBegin i raw → (Begins (take (i + 1) raw) → ⊥) → IsFirstOutside (i + 1) raw
+first_outside raw i below before outside = record { counted = (omega arith, omega arith); before = before; outside = outside }
+
+-- line i, counted from 0, of the text
+module _ (raw : List (List ℕ)) (i : ℕ) (bytes : List ℕ) (below : i < length raw) (at_i : bytes ≡ get_or raw i bytes) (before : AllBegin i raw) where
+  next_line : take (i + 1) raw ≡ take i raw ++ bytes ∷ []
+  next_line = take_more raw i bytes below ∙ ap (λ x. take i raw ++ x ∷ []) (sym at_i)
+
+  pub first_unread : line_at bytes ≡ None → IsFirstOutside (i + 1) raw
+  first_unread e = first_outside raw i below before (λ b. outside_unread (take i raw) bytes e (subst (λ (t : List (List ℕ)). Begins t) next_line b))
+
+  pub first_misplaced : (line : Line) → line_at bytes ≡ Some line → fits_behind (said (take i raw)) line ≡ false → IsFirstOutside (i + 1) raw
+  first_misplaced line e misplaced = first_outside raw i below before (λ b. outside_misplaced (take i raw) bytes line e misplaced (subst (λ (t : List (List ℕ)). Begins t) next_line b))
+
+  pub AllBegin-next : (line : Line) → line_at bytes ≡ Some line → fits_behind (said (take i raw)) line ≡ true → AllBegin (i + 1) raw
+  AllBegin-next line e placed k h =
+      let next : Begins (take (i + 1) raw) = subst (λ (t : List (List ℕ)). Begins t) (sym next_line) (Begins-push (take i raw) bytes line (before i (omega arith)) e placed) in
+      elim (cases_lt k (i + 1)) [
+        | inl less ↦ before k less
+        | inr more ↦ (let same : i + 1 ≡ k = omega arith in subst (λ (n : ℕ). Begins (take n raw)) same next)
+      ]
+
+  pub said-next : (line : Line) → line_at bytes ≡ Some line → said (take (i + 1) raw) ≡ said (take i raw) ++ line ∷ []
+  said-next line e = ap said next_line ∙ said-push (take i raw) bytes line e
+
+-- an element and its place among all of them
+enumerated : (raw : List (List ℕ)) (i n : ℕ) (bytes : List ℕ) → i < length (enumerate_from 0 raw) → (n, bytes) ≡ get_or (enumerate_from 0 raw) i (n, bytes)
+    → (i < length raw) × (n ≡ i) × (bytes ≡ get_or raw i bytes)
+enumerated raw i n bytes below e =
+    let inside : i < length raw = rw (length-enumerate_from 0 raw) at below in
+    let both : (n, bytes) ≡ (0 + i, get_or raw i bytes) = e ∙ get_or-enumerate_from 0 raw i (n, bytes) inside in
+    (inside, from_zero n i (ap (λ p. p.0) both), ap (λ p. p.1) both)
+  where
+    from_zero : (n i : ℕ) → n ≡ 0 + i → n ≡ i
+    from_zero n i h = omega (arith, h)
+
+-- the lines of a text as a loop meets them: each with its place, and at the end all of them
+module _ {S : Type 0} {steps : S → Option (ℕ × Bor (List ℕ)) → S → Type 0} {s : S} (raw : List (List ℕ)) (xs : List (ℕ × Bor (List ℕ))) (t : S) (y : Yields steps s xs t) (r : Option (ℕ × Bor (List ℕ))) (u : S) where
+  pub line_turn : (x : ℕ × Bor (List ℕ)) → r ≡ Some x → steps t r u → YieldsList steps (λ p. (p.0, p.1.now)) s (enumerate_from 0 raw)
+      → (length xs < length raw) × (x.0 ≡ length xs) × (x.1.now ≡ get_or raw (length xs) x.1.now)
+  line_turn x e step road =
+      let turn = YieldsList-turn road xs t y r u x e step in
+      enumerated raw (length xs) x.0 x.1.now turn.0 turn.1
+
+  pub line_end : r ≡ None → steps t r u → YieldsList steps (λ p. (p.0, p.1.now)) s (enumerate_from 0 raw) → length xs ≡ length raw
+  line_end e step road = (YieldsList-end road xs t y r u e step).1 ∙ length-enumerate_from 0 raw
+
+-- the lines so far say one thing each
+pub length-said-taken : (raw : List (List ℕ)) (i : ℕ) → i < length raw → AllBegin i raw → length (said (take i raw)) ≡ i
+length-said-taken raw i below before = length-said (take i raw) (before i (omega arith)).spelled ∙ length-take-le i raw (omega arith)
+
+ArePlaced-front : (before xs ys : List Line) → ArePlaced before (xs ++ ys) → ArePlaced before xs
+ArePlaced-front before [] ys h = tt
+ArePlaced-front before (x ∷ xs) ys h = (h.0, ArePlaced-front (before ++ x ∷ []) xs ys h.1)
+
+-- the front of a beginning is one
+pub Begins-take : (raw : List (List ℕ)) (k : ℕ) → Begins raw → Begins (take k raw)
+Begins-take raw k h = record {
+  spelled = and_left _ _ (sym (list_all-append (λ l. is_some (line_at l)) (take k raw) (drop k raw)) ∙ rw (take-append-drop k raw) h.spelled);
+  placed = ArePlaced-front [] (said (take k raw)) (said (drop k raw)) (subst (λ (t : List Line). ArePlaced [] t) (sym (ap said (take-append-drop k raw)) ∙ filter_map-append line_at (take k raw) (drop k raw)) h.placed);
+}
+  where
+    and_left : (a b : Bool) → (a && b) ≡ true → a ≡ true
+    and_left true b h = refl
+    and_left false b h = absurd (false≢true h)
+
+-- the first line outside, counted from 0: those before it begin a script, and with it they don't
+pub IsFirstOutside-at : (raw : List (List ℕ)) (i : ℕ) → i < length raw → Begins (take i raw) → (Begins (take (i + 1) raw) → ⊥) → IsFirstOutside (i + 1) raw
+IsFirstOutside-at raw i below begun outside = first_outside raw i below before outside
+  where
+    before : AllBegin i raw
+    before k h = rw (sym (take-take k i raw (omega arith))) (Begins-take (take i raw) k begun)

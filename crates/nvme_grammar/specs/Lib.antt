@@ -1,0 +1,10 @@
+pub mod Arity
+pub mod Line
+pub mod Script
+pub mod Transfers
+pub mod Draft
+pub mod Example
+pub use Rattle.nvme_spec.specs.Configuration
+pub use Rattle.script_text.specs.Numbers
+pub use Rattle.script_text.specs.Words
+pub use Rattle.script_text.specs.Data

@@ -1,0 +1,104 @@
+-- What one line of a script says.
+use Rattle.std.specs.Prelude.{ℕ, nat_le, Bool, true, false, ◌&&◌, ◌||◌, ◌==◌, List, [], ◌∷◌, codes, Option, Some, None, if◌then◌else◌}
+use Rattle.std.specs.Str.{bytes_eq}
+use Rattle.std.specs.List.{list_all}
+use Rattle.script_text.specs.Numbers.{number_at}
+use Rattle.script_text.specs.Words.{line_words, is_separator}
+use Rattle.script_text.specs.Data.{data_at}
+use Rattle.nvme_grammar.specs.Arity.{◌>>=◌, two, three, four}
+use Rattle.nvme_grammar.specs.declared.line.Line.{Line}
+use Rattle.nvme_grammar.specs.declared.line.Line.TheVariants.{Blank, Controller, Namespace, Attached, Start, Do}
+use Rattle.nvme_grammar.specs.declared.line.Place.{Place}
+use Rattle.nvme_grammar.specs.declared.line.Action.TheVariants.{Read, Write}
+
+-- `controller C host H`
+abbrev pub controller : List (List ℕ) → Option Line
+controller = three (λ c keyword h. if bytes_eq keyword (codes "host") then (do
+  cntlid ← number_at 16 c
+  host ← number_at 64 h
+  Some (Controller (record { cntlid = cntlid; host = host }))) else None)
+
+-- `shared` or `private`
+abbrev pub sharing : List ℕ → Option Bool
+sharing word = if bytes_eq word (codes "shared") then Some true else if bytes_eq word (codes "private") then Some false else None
+
+-- `namespace N blocks B shared`, or `private`
+abbrev pub namespace : List (List ℕ) → Option Line
+namespace = four (λ n keyword b kind. if bytes_eq keyword (codes "blocks") then (do
+  nsid ← number_at 32 n
+  blocks ← number_at 64 b
+  shared ← sharing kind
+  Some (Namespace (record { nsid = nsid; blocks = blocks; shared = shared }))) else None)
+
+-- `attached C N`
+abbrev pub attached : List (List ℕ) → Option Line
+attached = two (λ c n. do
+  cntlid ← number_at 16 c
+  nsid ← number_at 32 n
+  Some (Attached cntlid nsid))
+
+-- `start`, alone on its line
+abbrev pub start : List (List ℕ) → Option Line
+start [] = Some Start
+start (word ∷ words) = None
+
+-- a number of blocks that a command may transfer
+abbrev pub transfer_blocks : List ℕ → Option ℕ
+transfer_blocks word = do
+  blocks ← number_at 32 word
+  if nat_le 1 blocks && nat_le blocks 256 then Some blocks else None
+
+-- `N SLBA BLOCKS`
+abbrev pub place_at : List ℕ → List ℕ → List ℕ → Option Place
+place_at n s b = do
+  nsid ← number_at 32 n
+  slba ← number_at 64 s
+  blocks ← transfer_blocks b
+  Some (record { nsid = nsid; slba = slba; blocks = blocks })
+
+-- what follows `do C read`: `N SLBA BLOCKS`
+abbrev pub read_command : ℕ → List (List ℕ) → Option Line
+read_command cntlid = three (λ n s b. do
+  place ← place_at n s b
+  Some (Do (record { cntlid = cntlid; place = place; action = Read })))
+
+-- what follows `do C write`: `N SLBA BLOCKS DATA`
+abbrev pub write_command : ℕ → List (List ℕ) → Option Line
+write_command cntlid = four (λ n s b word. do
+  place ← place_at n s b
+  payload ← data_at place.blocks word
+  Some (Do (record { cntlid = cntlid; place = place; action = Write payload })))
+
+-- `do C read ..` and `do C write ..`
+abbrev pub command : List (List ℕ) → Option Line
+command (c ∷ action ∷ operands) = do
+  cntlid ← number_at 16 c
+  if bytes_eq action (codes "read") then read_command cntlid operands else if bytes_eq action (codes "write") then write_command cntlid operands else None
+command words = None
+
+-- what words say, by the first of them
+unfoldable pub sentence : List (List ℕ) → Option Line
+sentence [] = Some Blank
+sentence (word ∷ words) =
+    if bytes_eq word (codes "controller") then controller words
+    else if bytes_eq word (codes "namespace") then namespace words
+    else if bytes_eq word (codes "attached") then attached words
+    else if bytes_eq word (codes "start") then start words
+    else if bytes_eq word (codes "do") then command words
+    else None
+
+-- a line whose first byte is `#`; what follows may be any bytes
+abbrev pub is_comment : List ℕ → Bool
+is_comment [] = false
+is_comment (b ∷ bs) = b == 35
+
+-- each byte stands between words or is a visible character
+abbrev pub is_line_text : List ℕ → Bool
+is_line_text bytes = list_all (λ b. is_separator b || (nat_le 33 b && nat_le b 126)) bytes
+
+-- what a line says, without the line feed that ends it, or nothing where it is outside the grammar
+unfoldable pub line_at : List ℕ → Option Line
+line_at bytes =
+    if is_comment bytes then Some Blank
+    else if is_line_text bytes then sentence (line_words bytes)
+    else None

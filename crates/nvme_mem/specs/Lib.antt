@@ -1,0 +1,2 @@
+pub use Rattle.nvme_spec.specs.Memory
+pub mod Lends

@@ -1,0 +1,137 @@
+ghost use Rattle.std.specs.Prelude.{◌≡◌, ◌+◌, ◌-◌, ◌<◌, ◌≤◌, ◌↔◌, IsSome, IfSome, IfOk, OnOk, OnErr, IsOk, IsTrue, length, slice_range};
+ghost use Rattle.std.specs.Borrow.{sem};
+ghost use Rattle.nvme_spec.specs.Memory.{stored, zeros, qword};
+ghost use Rattle.nvme_mem.specs.Lends.{LendsPart, LendsPartIf};
+
+use crate::part::Part;
+use byteorder::{ByteOrder, LittleEndian};
+use nvme_wire::NoMemory;
+use std::alloc::Global;
+use std::marker::Model;
+
+/// How many bytes a window has.
+pub const WINDOW_LEN: usize = 4_194_304;
+
+/// The window of host memory that a controller reaches: one byte for each address below `WINDOW_LEN`.
+#[derive(Drop)]
+pub struct Window {
+    bytes: Vec<u8>,
+}
+
+impl Model for Window {
+    ghost use Rattle.std.specs.Prelude.{◌≡◌, List, ℕ, length};
+    ghost use Rattle.nvme_mem.specs.declared.window.TheConstants.{WINDOW_LEN};
+
+    ghost Value = { List ℕ };
+
+    ghost view = { λ w. w.bytes.items };
+
+    ghost invariant = { λ w. length w.bytes.items ≡ WINDOW_LEN };
+}
+
+/// The bytes do not all lie in the window.
+#[derive(Clone, Copy, Debug, PartialEq, Eq)]
+pub struct OutsideWindow;
+
+/// Whether the `len` bytes from `addr` on all lie in the window.
+fn is_inside(addr: u64, len: u64) -> bool
+    ensures { IsTrue result ↔ (addr + len ≤ WINDOW_LEN) }
+{
+    Part::new(addr, len).is_some()
+}
+
+impl Window {
+    /// A window of zeros, on the heap.
+    ///
+    /// # Errors
+    /// `NoMemory` where the allocator has no room for it.
+    pub fn new(alloc: Global) -> Result<Window, NoMemory>
+        ensures zeros { IfOk result (λ window. window ≡ zeros) }
+    {
+        Ok(Window {
+            bytes: vec![in alloc; 0; WINDOW_LEN]?,
+        })
+    }
+
+    /// The bytes of a part.
+    pub fn bytes(&self, part: Part) -> &[u8]
+        ensures bytes { result.now ≡ slice_range self.now part.addr (part.addr + part.len) }
+        ensures len { length result.now ≡ part.len }
+        ensures whole_len { length self.now ≡ WINDOW_LEN }
+    {
+        let start = part.addr as usize;
+        &self.bytes[start..start + part.len as usize]
+    }
+
+    /// The bytes of a part, to be written. Writing them changes no other byte.
+    pub fn bytes_mut(&mut self, part: Part) -> &mut [u8]
+        ensures* writes_back { sem 𝓛 (LendsPart self.entry part.addr result) }
+        ensures bytes { result.now ≡ slice_range self.old part.addr (part.addr + part.len) }
+        ensures len { length result.now ≡ part.len }
+        ensures whole_len { length self.old ≡ WINDOW_LEN }
+        ensures inside { part.addr + part.len ≤ WINDOW_LEN }
+    {
+        let start = part.addr as usize;
+        self.bytes.slice_mut(start..start + part.len as usize)
+    }
+
+    /// The number in the eight bytes from `addr` on, the lowest byte first. That they lie in the window
+    /// is the caller's condition.
+    #[tactic(auto, unfolding(nvme_spec::specs::Memory::qword))]
+    pub fn u64_at(&self, addr: u64) -> u64
+        requires { addr + 8 ≤ WINDOW_LEN }
+        ensures number { result ≡ qword self.now addr }
+    {
+        let at = addr as usize;
+        LittleEndian::read_u64(&self.bytes[at..at + 8])
+    }
+
+    /// The `len` bytes from `addr` on, or `None` where they do not all lie in the window.
+    pub fn piece(&self, addr: u64, len: u64) -> Option<&[u8]>
+        ensures inside { IsSome result ↔ (addr + len ≤ WINDOW_LEN) }
+        ensures bytes { IfSome result (λ piece. piece.now ≡ slice_range self.now addr (addr + len)) }
+        ensures len { IfSome result (λ piece. length piece.now ≡ len) }
+    {
+        let part = Part::new(addr, len)?;
+        Some(self.bytes(part))
+    }
+
+    fn lent(&mut self, addr: u64, len: u64) -> &mut [u8]
+        requires { addr + len ≤ WINDOW_LEN }
+        ensures* writes_back { sem 𝓛 (LendsPart self.entry addr result) }
+        ensures bytes { result.now ≡ slice_range self.old addr (addr + len) }
+        ensures len { length result.now ≡ len }
+    {
+        self.bytes.slice_mut(addr as usize..(addr + len) as usize)
+    }
+
+    /// The `len` bytes from `addr` on, to be written, or `None` where they do not all lie in the window.
+    /// Writing them changes no other byte.
+    pub fn piece_mut(&mut self, addr: u64, len: u64) -> Option<&mut [u8]>
+        ensures* writes_back { sem 𝓛 (LendsPartIf self.entry addr result) }
+        ensures inside { IsSome result ↔ (addr + len ≤ WINDOW_LEN) }
+        ensures bytes { IfSome result (λ piece. piece.now ≡ slice_range self.old addr (addr + len)) }
+        ensures len { IfSome result (λ piece. length piece.now ≡ len) }
+    {
+        let inside = is_inside(addr, len);
+        if inside {
+            let part = self.lent(addr, len);
+            return Some(part);
+        }
+        None
+    }
+
+    /// Replaces the bytes from `addr` on by `bytes`.
+    ///
+    /// # Errors
+    /// `OutsideWindow` where they do not all lie in the window, which then stays as it was.
+    pub fn store(&mut self, addr: u64, bytes: &[u8]) -> Result<(), OutsideWindow>
+        ensures inside { IsOk result ↔ (addr + length bytes.now ≤ WINDOW_LEN) }
+        ensures ok { OnOk result (self.new ≡ stored self.old addr bytes.now) }
+        ensures err { OnErr result (self.new ≡ self.old) }
+    {
+        let part = Part::new(addr, bytes.len() as u64).ok_or(OutsideWindow)?;
+        self.bytes_mut(part).copy_from_slice(bytes);
+        Ok(())
+    }
+}

@@ -1,0 +1,5 @@
+pub use Rattle.nvme_spec.specs.World
+pub use Rattle.nvme_spec.specs.Configuration
+pub use Rattle.nvme_spec.specs.Reservation
+pub mod Configured
+pub mod Lending

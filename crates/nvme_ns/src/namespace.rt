@@ -1,0 +1,100 @@
+ghost use Rattle.std.specs.Prelude.{◌≡◌, ◌+◌, ◌≤◌, false};
+ghost use Rattle.std.specs.Borrow.{sem};
+ghost use Rattle.nvme_spec.specs.Reservation.{unreserved};
+
+use nvme_resv::Reservation;
+use nvme_spec::NsConfig;
+use std::marker::Model;
+
+/// A namespace: its place on the medium, who may reach it, and who has reserved it.
+#[derive(Drop)]
+pub struct Namespace {
+    nsid: u32,
+    first: u64,
+    blocks: u64,
+    shared: bool,
+    protected: bool,
+    reservation: Reservation,
+}
+
+impl Model for Namespace {
+    ghost use Rattle.nvme_spec.specs.World.{Namespace as State};
+
+    ghost Value = { State };
+
+    ghost view = { λ a. record { nsid = a.nsid; first = a.first; blocks = a.blocks; shared = a.shared; protected = a.protected; reservation = a.reservation } };
+}
+
+impl Default for Namespace {
+    fn default() -> Self {
+        Namespace::new(&NsConfig::default(), 0)
+    }
+}
+
+impl Namespace {
+    ghost use Rattle.nvme_ns.specs.Lending.{LendsOwnReservation};
+
+    /// A namespace that begins at block `first` of the medium. It is not write protected, and nobody has reserved it.
+    pub fn new(config: &NsConfig, first: u64) -> Self
+        ensures { result ≡ record { nsid = config.now.nsid; first = first; blocks = config.now.blocks; shared = config.now.shared; protected = false; reservation = unreserved } }
+    {
+        Namespace {
+            nsid: config.nsid,
+            first,
+            blocks: config.blocks,
+            shared: config.shared,
+            protected: false,
+            reservation: Reservation::new(),
+        }
+    }
+
+    /// The namespace identifier.
+    pub fn nsid(&self) -> u32
+        ensures { result ≡ self.now.nsid }
+    {
+        self.nsid
+    }
+
+    /// Its first block on the medium.
+    pub fn first_block(&self) -> u64
+        ensures { result ≡ self.now.first }
+    {
+        self.first
+    }
+
+    /// Its size in blocks of 512 bytes.
+    pub fn blocks(&self) -> u64
+        ensures { result ≡ self.now.blocks }
+    {
+        self.blocks
+    }
+
+    /// Whether it is write protected.
+    pub fn is_protected(&self) -> bool
+        ensures { result ≡ self.now.protected }
+    {
+        self.protected
+    }
+
+    /// Who has registered with it, and who holds it.
+    pub fn reservation(&self) -> &Reservation
+        ensures { result.now ≡ self.now.reservation }
+    {
+        &self.reservation
+    }
+
+    /// Sets or takes off the write protection.
+    pub fn set_protection(&mut self, protected: bool)
+        ensures { self.new ≡ record self.old { protected = protected } }
+    {
+        self.protected = protected;
+    }
+
+    /// Lends the reservation. Nothing else changes.
+    pub fn reservation_mut(&mut self) -> &mut Reservation
+        ensures* writes_back { sem 𝓛 (LendsOwnReservation self.entry result) }
+        ensures value { result.now ≡ self.old.reservation }
+    {
+        &mut self.reservation
+    }
+}

@@ -1,0 +1,54 @@
+//! The tables that a configuration opens with.
+
+ghost use Rattle.std.specs.Prelude.{◌≡◌, ◌<◌, ◌≤◌, ◌^◌, length, map};
+ghost use Rattle.nvme_spec.specs.Configuration.{total_blocks};
+ghost use Rattle.nvme_spec.specs.World.{laid_out, attachment};
+
+use crate::Namespace;
+use crate::checks::{MAX_ATTACHMENTS, MAX_CONTROLLERS, MAX_NAMESPACES};
+use arrayvec::ArrayVec;
+use nvme_spec::{Attachment, ControllerConfig, NsConfig};
+
+/// The table of controllers.
+pub fn controller_table(
+    controllers: &[ControllerConfig],
+) -> ArrayVec<ControllerConfig, MAX_CONTROLLERS>
+    requires { length controllers.now ≤ 16 }
+    ensures { result.items ≡ controllers.now }
+{
+    let mut table = ArrayVec::new();
+    for controller in controllers {
+        table.push(*controller);
+    }
+    table
+}
+
+/// The table of namespaces. They lie on the medium one after the other.
+pub fn namespace_table(namespaces: &[NsConfig]) -> ArrayVec<Namespace, MAX_NAMESPACES>
+    requires few { length namespaces.now ≤ 8 }
+    requires small { total_blocks namespaces.now < 2 ^ 64 }
+    ensures { result.items ≡ laid_out 0 namespaces.now }
+{
+    let mut table = ArrayVec::new();
+    let mut first = 0;
+    for namespace in namespaces {
+        table.push(Namespace::new(namespace, first));
+        first += namespace.blocks;
+    }
+    table
+}
+
+/// The table of attachments.
+pub fn attachment_table(attached: &[(u16, u32)]) -> ArrayVec<Attachment, MAX_ATTACHMENTS>
+    requires { length attached.now ≤ 128 }
+    ensures { result.items ≡ map attachment attached.now }
+{
+    let mut table = ArrayVec::new();
+    for (cntlid, nsid) in attached {
+        table.push(Attachment {
+            cntlid: *cntlid,
+            nsid: *nsid,
+        });
+    }
+    table
+}

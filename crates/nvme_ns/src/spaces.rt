@@ -1,0 +1,137 @@
+ghost use Rattle.std.specs.Prelude.{◌≡◌, ◌==◌, None, Some, IfOk, IfErr, option_map, option_copied, IsSome, position};
+ghost use Rattle.nvme_spec.specs.Configuration.{first_config_fault};
+ghost use Rattle.nvme_spec.specs.World as world;
+ghost use Rattle.std.specs.Borrow.{sem};
+ghost use Rattle.nvme_ns.specs.Configured.{configuration};
+ghost use Rattle.nvme_ns.specs.Lending.{LendsReservation};
+
+use crate::Namespace;
+use crate::checks::{MAX_ATTACHMENTS, MAX_CONTROLLERS, MAX_NAMESPACES, check};
+use crate::opening::{attachment_table, controller_table, namespace_table};
+use arrayvec::ArrayVec;
+use nvme_resv::Reservation;
+use nvme_spec::{Attachment, Config, ConfigFault, ControllerConfig};
+use std::marker::Model;
+
+/// The access state of a subsystem. It stands in tables of fixed size and takes no memory.
+#[derive(Drop)]
+pub struct Spaces {
+    controllers: ArrayVec<ControllerConfig, MAX_CONTROLLERS>,
+    namespaces: ArrayVec<Namespace, MAX_NAMESPACES>,
+    attachments: ArrayVec<Attachment, MAX_ATTACHMENTS>,
+}
+
+impl Model for Spaces {
+    ghost use Rattle.nvme_spec.specs.World.{World as State};
+
+    ghost Value = { State };
+
+    ghost view = { λ a. record { controllers = a.controllers.items; namespaces = a.namespaces.items; attachments = a.attachments.items } };
+}
+
+impl Spaces {
+    /// Opens a configuration over a medium of so many blocks: nobody is registered, nothing is reserved or write
+    /// protected, and the namespaces lie on the medium one after the other, in the order of the configuration.
+    ///
+    /// The first fault of the configuration, in the order `TooMany`, `BadId`, `BadSize`, `DoesNotFit`, refuses it.
+    #[tactic(auto, unfolding(nvme_spec::specs::World::opening_world))]
+    pub fn new(config: &Config, medium_blocks: u64) -> Result<Spaces, ConfigFault>
+        ensures accepted { IfOk result (λ _. first_config_fault (configuration config.now) medium_blocks ≡ None) }
+        ensures opened { IfOk result (λ spaces. spaces ≡ world.opening_world (configuration config.now)) }
+        ensures within { IfOk result (λ spaces. world.LiesWithin medium_blocks spaces.namespaces) }
+        ensures fault { IfErr result (λ fault. first_config_fault (configuration config.now) medium_blocks ≡ Some fault) }
+    {
+        check(config, medium_blocks)?;
+        Ok(Spaces {
+            controllers: controller_table(&config.controllers),
+            namespaces: namespace_table(&config.namespaces),
+            attachments: attachment_table(&config.attached),
+        })
+    }
+
+    /// The host that a controller belongs to, or None for a controller that isn't configured.
+    #[tactic(auto, unfolding(nvme_spec::specs::World::host_of))]
+    pub fn host_of(&self, cntlid: u16) -> Option<u64>
+        ensures { result ≡ world.host_of self.now cntlid }
+    {
+        self.controllers
+            .iter()
+            .find(|k| k.cntlid == cntlid)
+            .map(|k| k.host)
+    }
+
+    /// Whether a namespace is attached to a controller. It isn't where either isn't configured.
+    #[tactic(auto, unfolding(nvme_spec::specs::World::is_attached))]
+    pub fn is_attached(&self, cntlid: u16, nsid: u32) -> bool
+        ensures { result ≡ world.is_attached self.now cntlid nsid }
+    {
+        self.attachments
+            .iter()
+            .any(|a| a.cntlid == cntlid && a.nsid == nsid)
+    }
+
+    /// The namespace with this identifier, or None where it isn't configured.
+    #[tactic(auto, unfolding(nvme_spec::specs::World::namespace_of))]
+    pub fn namespace(&self, nsid: u32) -> Option<&Namespace>
+        ensures { option_copied result ≡ world.namespace_of self.now nsid }
+    {
+        self.namespaces.iter().find(|n| n.nsid() == nsid)
+    }
+
+    /// The first block of a namespace on the medium, or None where it isn't configured.
+    pub fn first_block(&self, nsid: u32) -> Option<u64>
+        ensures { result ≡ option_map (λ n. n.first) (world.namespace_of self.now nsid) }
+    {
+        Some(self.namespace(nsid)?.first_block())
+    }
+
+    /// The size of a namespace in blocks, or None where it isn't configured.
+    pub fn blocks(&self, nsid: u32) -> Option<u64>
+        ensures { result ≡ option_map (λ n. n.blocks) (world.namespace_of self.now nsid) }
+    {
+        Some(self.namespace(nsid)?.blocks())
+    }
+
+    /// The reservation of a namespace, or None where it isn't configured.
+    pub fn reservation(&self, nsid: u32) -> Option<&Reservation>
+        ensures { option_copied result ≡ option_map (λ n. n.reservation) (world.namespace_of self.now nsid) }
+    {
+        Some(self.namespace(nsid)?.reservation())
+    }
+
+    /// Whether a namespace is write protected, or None where it isn't configured.
+    pub fn protection(&self, nsid: u32) -> Option<bool>
+        ensures { result ≡ option_map (λ n. n.protected) (world.namespace_of self.now nsid) }
+    {
+        Some(self.namespace(nsid)?.is_protected())
+    }
+
+    /// Lends the reservation of a namespace, which has to be configured. Nothing else changes.
+    pub fn reservation_mut(&mut self, nsid: u32) -> &mut Reservation
+        requires { IsSome (world.namespace_of self.old nsid) }
+        ensures* writes_back { sem 𝓛 (LendsReservation self.entry nsid result) }
+        ensures value { option_map (λ n. n.reservation) (world.namespace_of self.old nsid) ≡ Some result.now }
+    {
+        let place = place_of(&self.namespaces, nsid).unwrap();
+        self.namespaces.get_mut(place).unwrap().reservation_mut()
+    }
+
+    /// Sets or takes off the write protection of a namespace, which has to be configured. Nothing else changes.
+    pub fn set_protection(&mut self, nsid: u32, protected: bool)
+        requires { IsSome (world.namespace_of self.old nsid) }
+        ensures { self.new ≡ world.with_protection self.old nsid protected }
+    {
+        let place = place_of(&self.namespaces, nsid).unwrap();
+        self.namespaces
+            .get_mut(place)
+            .unwrap()
+            .set_protection(protected);
+    }
+}
+
+/// Where the namespace with this identifier stands.
+fn place_of(namespaces: &[Namespace], nsid: u32) -> Option<usize>
+    ensures { result ≡ position (λ n. n.nsid == nsid) namespaces.now }
+{
+    namespaces.iter().position(|n| n.nsid() == nsid)
+}

@@ -1,0 +1,107 @@
+use super::*;
+use nvme_resv::Role;
+use std::alloc::{AllocError, Global};
+use std::test::Fail;
+
+// Four controllers of three hosts; a shared namespace of 64 blocks, attached to all, and a private one of 8 blocks,
+// attached to controller 1.
+fn cluster(alloc: Global) -> Result<Config, AllocError> {
+    let mut controllers = Vec::new(alloc);
+    for (cntlid, host) in [(1, 0xa1), (2, 0xb2), (3, 0xa1), (4, 0xc3)] {
+        controllers.push(ControllerConfig { cntlid, host })?;
+    }
+    let mut namespaces = Vec::new(alloc);
+    for (nsid, blocks, shared) in [(1, 64, true), (2, 8, false)] {
+        namespaces.push(NsConfig {
+            nsid,
+            blocks,
+            shared,
+        })?;
+    }
+    Ok(Config {
+        controllers,
+        namespaces,
+        attached: vec![in alloc; (1, 1), (2, 1), (3, 1), (4, 1), (1, 2)]?,
+    })
+}
+
+#[test]
+fn a_cluster_opens(rt: HostRuntime) -> Result<(), Fail> {
+    let config = cluster(rt.alloc())?;
+    assert_eq!(rt;
+        Spaces::new(&config, 71).err(),
+        Some(ConfigFault::DoesNotFit)
+    );
+    let spaces = Spaces::new(&config, 72)?;
+    assert_eq!(rt; spaces.host_of(3), Some(0xa1));
+    assert_eq!(rt; spaces.host_of(5), None);
+    assert!(rt; spaces.is_attached(4, 1));
+    assert!(rt; !spaces.is_attached(4, 2));
+    assert!(rt; !spaces.is_attached(5, 1));
+    assert_eq!(rt; spaces.first_block(2), Some(64));
+    assert_eq!(rt; spaces.blocks(2), Some(8));
+    assert_eq!(rt; spaces.blocks(3), None);
+    assert_eq!(rt; spaces.protection(1), Some(false));
+    Ok(())
+}
+
+#[test]
+fn faults_are_named(rt: HostRuntime) -> Result<(), Fail> {
+    let mut config = cluster(rt.alloc())?;
+    config.namespaces.push(NsConfig {
+        nsid: 3,
+        blocks: 0,
+        shared: true,
+    })?;
+    assert_eq!(rt; Spaces::new(&config, 72).err(), Some(ConfigFault::BadSize));
+    let mut config = cluster(rt.alloc())?;
+    config
+        .controllers
+        .push(ControllerConfig { cntlid: 6, host: 1 })?;
+    assert_eq!(rt; Spaces::new(&config, 72).err(), Some(ConfigFault::BadId));
+    let mut config = cluster(rt.alloc())?;
+    for nsid in 3..10 {
+        config.namespaces.push(NsConfig {
+            nsid,
+            blocks: 1,
+            shared: true,
+        })?;
+    }
+    assert_eq!(rt; Spaces::new(&config, 100).err(), Some(ConfigFault::TooMany));
+    assert_eq!(rt;
+        format!(in rt.alloc(); "{}", ConfigFault::DoesNotFit)?.as_str(),
+        "DoesNotFit"
+    );
+    Ok(())
+}
+
+#[test]
+fn a_lent_reservation_keeps_what_is_registered(rt: HostRuntime) -> Result<(), Fail> {
+    let config = cluster(rt.alloc())?;
+    let mut spaces = Spaces::new(&config, 72)?;
+    let before = spaces
+        .reservation(2)
+        .expect(&rt, "namespace 2 is configured");
+    assert!(rt; before.has_room_for(0xa1));
+    assert!(rt; spaces.reservation_mut(2).register(0xa1, 0x11).is_ok());
+    let after = spaces
+        .reservation(2)
+        .expect(&rt, "namespace 2 is configured");
+    assert_eq!(rt; after.role(0xa1), Role::Registrant);
+    let other = spaces
+        .reservation(1)
+        .expect(&rt, "namespace 1 is configured");
+    assert_eq!(rt; other.role(0xa1), Role::Outsider);
+    Ok(())
+}
+
+#[test]
+fn a_namespace_is_protected_alone(rt: HostRuntime) -> Result<(), Fail> {
+    let config = cluster(rt.alloc())?;
+    let mut spaces = Spaces::new(&config, 72)?;
+    assert!(rt; spaces.protection(2).is_some());
+    spaces.set_protection(2, true);
+    assert_eq!(rt; spaces.protection(2), Some(true));
+    assert_eq!(rt; spaces.protection(1), Some(false));
+    Ok(())
+}

@@ -1,0 +1,58 @@
+//! What the rules ask of each command: the one place that names the commands.
+
+ghost use Rattle.std.specs.Prelude.{◌≡◌, Some};
+ghost use Rattle.nvme_spec.specs.Commands as spec;
+
+use nvme_spec::{Command, Group};
+
+/// The I/O command with this opcode.
+#[tactic(auto, unfolding(nvme_spec::specs::Commands::command_of))]
+pub fn command_of(opcode: u8) -> Option<Command>
+    ensures { result ≡ spec.command_of opcode }
+{
+    match opcode {
+        0x00 => Some(Command::Flush),
+        0x01 => Some(Command::Write),
+        0x02 => Some(Command::Read),
+        0x05 => Some(Command::Compare),
+        0x08 => Some(Command::WriteZeroes),
+        0x0d => Some(Command::ReservationRegister),
+        0x0e => Some(Command::ReservationReport),
+        0x11 => Some(Command::ReservationAcquire),
+        0x15 => Some(Command::ReservationRelease),
+        _ => None,
+    }
+}
+
+/// What the rules ask of a command.
+#[derive(Clone, Copy, Debug)]
+pub struct Traits {
+    /// How a reservation judges it.
+    pub group: Option<Group>,
+    /// Whether it changes blocks, so that write protection forbids it.
+    pub alters: bool,
+    /// Whether it names a range of blocks.
+    pub is_ranged: bool,
+}
+
+/// What the rules ask of this command.
+pub fn traits_of(command: Command) -> Traits
+    ensures group { result.group ≡ spec.group_of command }
+    ensures alters { result.alters ≡ spec.is_one_of (Some command) spec.altering }
+    ensures ranged { result.is_ranged ≡ spec.is_one_of (Some command) spec.ranged }
+{
+    let (group, alters, is_ranged) = match command {
+        Command::Read | Command::Compare => (Some(Group::Read), false, true),
+        Command::Write | Command::WriteZeroes => (Some(Group::Write), true, true),
+        Command::Flush => (Some(Group::Write), false, false),
+        Command::ReservationRegister
+        | Command::ReservationReport
+        | Command::ReservationAcquire
+        | Command::ReservationRelease => (None, false, false),
+    };
+    Traits {
+        group,
+        alters,
+        is_ranged,
+    }
+}

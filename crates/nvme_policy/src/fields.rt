@@ -1,0 +1,70 @@
+//! The fields of an I/O command's entry.
+
+ghost use Rattle.std.specs.Prelude.{◌≡◌};
+ghost use Rattle.nvme_spec.specs.Commands as spec;
+
+use nvme_wire::Sqe;
+
+/// The first logical block of a transfer (Starting LBA).
+#[tactic(auto, unfolding(nvme_spec::specs::Commands::first_block))]
+pub fn first_block(sqe: &Sqe) -> u64
+    ensures { result ≡ spec.first_block sqe.now }
+{
+    u64::from(sqe.cdw10()) + (u64::from(sqe.cdw11()) << 32)
+}
+
+/// How many logical blocks a transfer has, 1 to 65,536 (Number of Logical Blocks).
+#[tactic(auto, unfolding(nvme_spec::specs::Commands::block_count))]
+pub fn block_count(sqe: &Sqe) -> u32
+    ensures { result ≡ spec.block_count sqe.now }
+{
+    (sqe.cdw12() & 0xffff) + 1
+}
+
+/// The action of a reservation command, 0 to 7.
+#[tactic(auto, unfolding(nvme_spec::specs::Commands::action))]
+pub fn action(sqe: &Sqe) -> u32
+    ensures { result ≡ spec.action sqe.now }
+{
+    sqe.cdw10() & 0b111
+}
+
+/// Whether the existing key is to be ignored (IEKEY).
+#[tactic(auto, unfolding(nvme_spec::specs::Commands::ignores_key))]
+pub fn ignores_key(sqe: &Sqe) -> bool
+    ensures { result ≡ spec.ignores_key sqe.now }
+{
+    (sqe.cdw10() >> 3) & 1 == 1
+}
+
+/// How persistence through power loss is to change, 0 to 3 (CPTPL).
+#[tactic(auto, unfolding(nvme_spec::specs::Commands::persistence))]
+pub fn persistence(sqe: &Sqe) -> u32
+    ensures { result ≡ spec.persistence sqe.now }
+{
+    sqe.cdw10() >> 30
+}
+
+/// The reservation type, 0 to 255 (RTYPE).
+#[tactic(auto, unfolding(nvme_spec::specs::Commands::reservation_type))]
+pub fn reservation_type(sqe: &Sqe) -> u32
+    ensures { result ≡ spec.reservation_type sqe.now }
+{
+    (sqe.cdw10() >> 8) & 0xff
+}
+
+/// Whether the extended data structure of a report is asked for (EDS).
+#[tactic(auto, unfolding(nvme_spec::specs::Commands::is_extended))]
+pub fn is_extended(sqe: &Sqe) -> bool
+    ensures { result ≡ spec.is_extended sqe.now }
+{
+    sqe.cdw11() & 1 == 1
+}
+
+/// The bytes that a Report asks for: 4 for each double word, of which there is one more than the field says.
+#[tactic(auto, unfolding(nvme_spec::specs::Commands::report_length))]
+pub fn report_length(sqe: &Sqe) -> u64
+    ensures { result ≡ spec.report_length sqe.now }
+{
+    4 * (u64::from(sqe.cdw10()) + 1)
+}

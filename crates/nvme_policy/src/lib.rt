@@ -1,0 +1,17 @@
+//! Which I/O commands a subsystem allows: the rules on access, one after the other.
+#![tactic(auto)]
+
+mod access;
+mod command;
+mod fields;
+mod planning;
+mod rules;
+mod verdict;
+
+pub use access::permits;
+pub use nvme_spec::{Command, Denial, Group, Plan, Verdict};
+pub use rules::{check_form, deny_if};
+pub use verdict::judge;
+
+#[cfg(test)]
+mod tests;

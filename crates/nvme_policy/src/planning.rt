@@ -1,0 +1,31 @@
+ghost use Rattle.std.specs.Prelude.{◌≡◌};
+ghost use Rattle.nvme_spec.specs.Commands.{plan_of};
+
+use crate::command::traits_of;
+use crate::fields;
+use nvme_spec::{Command, Plan};
+use nvme_wire::Sqe;
+
+/// What an allowed command is to do.
+pub fn plan(command: Command, sqe: &Sqe) -> Plan
+    ensures { result ≡ plan_of command sqe.now }
+{
+    let (first, blocks) = if traits_of(command).is_ranged {
+        (fields::first_block(sqe), fields::block_count(sqe))
+    } else {
+        (0, 0)
+    };
+    let bytes = match command {
+        Command::Flush | Command::WriteZeroes => 0,
+        Command::Read | Command::Write | Command::Compare => 512 * u64::from(blocks),
+        Command::ReservationRegister | Command::ReservationAcquire => 16,
+        Command::ReservationRelease => 8,
+        Command::ReservationReport => fields::report_length(sqe),
+    };
+    Plan {
+        kind: command,
+        first,
+        blocks,
+        bytes,
+    }
+}

@@ -1,0 +1,172 @@
+use super::*;
+use nvme_ns::{Config, ControllerConfig, NsConfig, Spaces};
+use nvme_wire::{Sqe, Status};
+use std::alloc::{AllocError, Global};
+use std::test::Fail;
+
+// Four controllers of three hosts; a shared namespace of 64 blocks, attached to all, and a private one of 8 blocks,
+// attached to controller 1.
+fn cluster(alloc: Global) -> Result<Config, AllocError> {
+    let mut controllers = Vec::new(alloc);
+    for (cntlid, host) in [(1, 0xa1), (2, 0xb2), (3, 0xa1), (4, 0xc3)] {
+        controllers.push(ControllerConfig { cntlid, host })?;
+    }
+    let mut namespaces = Vec::new(alloc);
+    for (nsid, blocks, shared) in [(1, 64, true), (2, 8, false)] {
+        namespaces.push(NsConfig {
+            nsid,
+            blocks,
+            shared,
+        })?;
+    }
+    Ok(Config {
+        controllers,
+        namespaces,
+        attached: vec![in alloc; (1, 1), (2, 1), (3, 1), (4, 1), (1, 2)]?,
+    })
+}
+
+// An entry by its double words 0, 1 and 10 to 12.
+fn entry(cdw0: u32, nsid: u32, cdw10: u32, cdw11: u32, cdw12: u32) -> Sqe {
+    let mut bytes = [0; 64];
+    bytes[0..4].copy_from_slice(&cdw0.to_le_bytes());
+    bytes[4..8].copy_from_slice(&nsid.to_le_bytes());
+    bytes[40..44].copy_from_slice(&cdw10.to_le_bytes());
+    bytes[44..48].copy_from_slice(&cdw11.to_le_bytes());
+    bytes[48..52].copy_from_slice(&cdw12.to_le_bytes());
+    Sqe::from_bytes(&bytes)
+}
+
+const LBA_OUT_OF_RANGE: Verdict = Verdict::Denied(9, Status::LBA_OUT_OF_RANGE);
+
+const CONFLICT: Verdict = Verdict::Denied(7, Status::RESERVATION_CONFLICT);
+
+#[test]
+fn the_first_rule_that_fails_decides(rt: HostRuntime) -> Result<(), Fail> {
+    let spaces = Spaces::new(&cluster(rt.alloc())?, 72)?;
+    let field = Verdict::Denied(6, Status::INVALID_FIELD_IN_COMMAND);
+    let verdicts = [
+        (entry(2, 1, 0, 0, 256), field),
+        (
+            entry(0x102, 1, 0, 0, 0),
+            Verdict::Denied(3, Status::INVALID_FIELD_IN_COMMAND),
+        ),
+        (
+            entry(2, 0xffff_ffff, 0, 0, 0),
+            Verdict::Denied(4, Status::INVALID_NAMESPACE_OR_FORMAT),
+        ),
+        (
+            entry(3, 1, 0, 0, 0),
+            Verdict::Denied(2, Status::INVALID_COMMAND_OPCODE),
+        ),
+        (entry(2, 1, 0xffff_ffff, 0xffff_ffff, 0), LBA_OUT_OF_RANGE),
+        (entry(2, 2, 7, 0, 1), LBA_OUT_OF_RANGE),
+        (
+            entry(0x0e, 1, 5, 1, 0),
+            Verdict::Denied(6, Status::HOST_IDENTIFIER_INCONSISTENT_FORMAT),
+        ),
+        (entry(0x0e, 1, 0xffff_ffff, 0, 0), field),
+        (entry(0x0d, 1, 0x4000_0000, 0, 0), field),
+        (entry(0x11, 1, 0x0102, 0, 0), field),
+        (entry(0x11, 1, 0x0000, 0, 0), field),
+    ];
+    for (sqe, verdict) in verdicts {
+        assert_eq!(rt; judge(&spaces, 1, &sqe, false), verdict);
+    }
+    assert_eq!(rt;
+        judge(&spaces, 1, &entry(2, 1, 0, 0, 0), true),
+        Verdict::Denied(1, Status::COMMAND_ABORTED_DUE_TO_PREEMPT_AND_ABORT)
+    );
+    assert_eq!(rt;
+        judge(&spaces, 2, &entry(2, 2, 0, 0, 0), false),
+        Verdict::Denied(5, Status::INVALID_FIELD_IN_COMMAND)
+    );
+    Ok(())
+}
+
+#[test]
+fn a_plan_says_what_is_to_be_done(rt: HostRuntime) -> Result<(), Fail> {
+    let spaces = Spaces::new(&cluster(rt.alloc())?, 72)?;
+    let plan = |kind, first, blocks, bytes| {
+        Verdict::Allowed(Plan {
+            kind,
+            first,
+            blocks,
+            bytes,
+        })
+    };
+    assert_eq!(rt;
+        judge(&spaces, 1, &entry(2, 2, 7, 0, 0), false),
+        plan(Command::Read, 7, 1, 512)
+    );
+    assert_eq!(rt;
+        judge(&spaces, 1, &entry(8, 2, 0, 0, 7), false),
+        plan(Command::WriteZeroes, 0, 8, 0)
+    );
+    assert_eq!(rt;
+        judge(&spaces, 1, &entry(0x0e, 1, 11, 0, 0), false),
+        plan(Command::ReservationReport, 0, 0, 48)
+    );
+    assert_eq!(rt;
+        judge(&spaces, 1, &entry(0x15, 1, 0x0100, 0, 0), false),
+        plan(Command::ReservationRelease, 0, 0, 8)
+    );
+    assert_eq!(rt;
+        judge(&spaces, 1, &entry(0, 1, 0, 0, 0), false),
+        plan(Command::Flush, 0, 0, 0)
+    );
+    Ok(())
+}
+
+#[test]
+fn a_reservation_fences_by_host(rt: HostRuntime) -> Result<(), Fail> {
+    let mut spaces = Spaces::new(&cluster(rt.alloc())?, 72)?;
+    let write_past_the_end = entry(1, 1, 64, 0, 0);
+    let read = entry(2, 1, 0, 0, 0);
+    for (rtype, reads) in [(1, true), (4, false)] {
+        assert!(rt; spaces.blocks(1).is_some());
+        let reservation = spaces.reservation_mut(1);
+        assert!(rt; reservation.has_room_for(0xa1));
+        assert!(rt; reservation.register(0xa1, 0x11).is_ok());
+        assert!(rt; reservation.acquire(0xa1, rtype, 0x11).is_ok());
+        assert_eq!(rt; judge(&spaces, 2, &write_past_the_end, false), CONFLICT);
+        assert_eq!(rt;
+            judge(&spaces, 3, &write_past_the_end, false),
+            LBA_OUT_OF_RANGE
+        );
+        assert!(rt; matches!(judge(&spaces, 3, &read, false), Verdict::Allowed(_)));
+        assert_eq!(rt;
+            matches!(judge(&spaces, 2, &read, false), Verdict::Allowed(_)),
+            reads
+        );
+        assert!(rt; spaces.blocks(1).is_some());
+        assert!(rt; spaces.reservation_mut(1).clear(0xa1, 0x11).is_ok());
+    }
+    assert_eq!(rt;
+        judge(&spaces, 2, &write_past_the_end, false),
+        LBA_OUT_OF_RANGE
+    );
+    Ok(())
+}
+
+#[test]
+fn write_protection_comes_behind_reservations(rt: HostRuntime) -> Result<(), Fail> {
+    let mut spaces = Spaces::new(&cluster(rt.alloc())?, 72)?;
+    assert!(rt; spaces.protection(1).is_some());
+    spaces.set_protection(1, true);
+    let protected = Verdict::Denied(8, Status::NAMESPACE_IS_WRITE_PROTECTED);
+    assert_eq!(rt; judge(&spaces, 2, &entry(8, 1, 64, 0, 0), false), protected);
+    assert!(rt;
+        matches!(
+            judge(&spaces, 2, &entry(2, 1, 0, 0, 0), false),
+            Verdict::Allowed(_)
+        )
+    );
+    assert!(rt;
+        matches!(
+            judge(&spaces, 2, &entry(0, 1, 0, 0, 0), false),
+            Verdict::Allowed(_)
+        )
+    );
+    Ok(())
+}

@@ -1,0 +1,47 @@
+ghost use Rattle.std.specs.Prelude.{◌≡◌, IfOk, IfErr};
+ghost use Rattle.nvme_wire.specs.Submission as entry;
+ghost use Rattle.nvme_spec.specs.IoRules as policy;
+ghost use Rattle.nvme_spec.specs.declared.verdict.Verdict.TheVariants.{Allowed, Denied};
+
+use crate::planning::plan;
+use crate::rules::{
+    check_attachment, check_fields, check_form, check_mark, check_nsid, check_opcode,
+    check_protection, check_range, check_reservation,
+};
+use nvme_ns::Spaces;
+use nvme_spec::{Denial, Plan, Verdict};
+use nvme_wire::Sqe;
+
+/// Judges an I/O command of a controller by the subsystem as it is now, before its data are looked at.
+///
+/// The rules are tested in order: mark, opcode, form, namespace, attachment, fields, reservation, write protection,
+/// range. The first that fails gives its number and status; where none fails the answer is the plan of the command.
+/// A marked command is one that a Preempt and Abort caught.
+pub fn judge(spaces: &Spaces, cntlid: u16, sqe: &Sqe, marked: bool) -> Verdict
+    ensures judged { result ≡ policy.verdict spaces.now cntlid sqe.now marked }
+    ensures in_range { policy.IfAllowed result (policy.FitsNamespace spaces.now (entry.nsid sqe.now)) }
+{
+    match admit(spaces, cntlid, sqe, marked) {
+        Ok(plan) => Verdict::Allowed(plan),
+        Err(Denial { rule, status }) => Verdict::Denied(rule, status),
+    }
+}
+
+/// Applies the rules in turn.
+#[tactic(auto, unfolding(nvme_spec::specs::IoRules::verdict))]
+fn admit(spaces: &Spaces, cntlid: u16, sqe: &Sqe, marked: bool) -> Result<Plan, Denial>
+    ensures ok { IfOk result (λ plan. policy.verdict spaces.now cntlid sqe.now marked ≡ Allowed plan) }
+    ensures in_range { IfOk result (policy.FitsNamespace spaces.now (entry.nsid sqe.now)) }
+    ensures err { IfErr result (λ denial. policy.verdict spaces.now cntlid sqe.now marked ≡ Denied denial.rule denial.status) }
+{
+    check_mark(marked)?;
+    let command = check_opcode(sqe)?;
+    check_form(sqe)?;
+    check_nsid(sqe.nsid())?;
+    let namespace = check_attachment(spaces, cntlid, sqe.nsid())?;
+    check_fields(command, sqe)?;
+    check_reservation(command, namespace, spaces.host_of(cntlid))?;
+    check_protection(command, namespace)?;
+    check_range(command, namespace, sqe)?;
+    Ok(plan(command, sqe))
+}

@@ -1,0 +1,4 @@
+pub mod Turns
+pub mod Judged
+pub mod PageBlocks
+pub mod AllPieces

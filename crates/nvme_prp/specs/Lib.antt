@@ -1,0 +1,5 @@
+pub use Rattle.nvme_spec.specs.Memory
+pub use Rattle.nvme_spec.specs.Pointer
+pub use Rattle.nvme_spec.specs.Transfers
+pub mod Walk
+pub mod Places

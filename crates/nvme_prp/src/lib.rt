@@ -1,0 +1,14 @@
+//! Data pointers: where the bytes of a command's data lie in host memory.
+#![tactic(auto)]
+
+mod block;
+mod walking;
+mod whole;
+
+pub use block::{gather_block, scatter_block};
+pub use nvme_spec::{DataFault, Piece};
+pub use walking::{Pieces, walk};
+pub use whole::{gather, scatter};
+
+#[cfg(test)]
+mod tests;

@@ -1,0 +1,139 @@
+use crate::{DataFault, Piece, gather, gather_block, scatter, scatter_block, walk};
+use nvme_mem::Window;
+use std::test::Fail;
+
+fn put(window: &mut Window, addr: u64, entry: u64) -> Result<(), Fail> {
+    window.store(addr, &entry.to_le_bytes())?;
+    Ok(())
+}
+
+fn whole(address: u64) -> Piece {
+    Piece { address, len: 4096 }
+}
+
+/// The list's page ends with the slot that PRP2 points to, so that slot names the next page of the list.
+#[test]
+fn the_last_slot_links_to_the_next_page(rt: HostRuntime) -> Result<(), Fail> {
+    let mut window = Window::new(rt.alloc())?;
+    put(&mut window, 0x2ff8, 0x3000)?;
+    put(&mut window, 0x3000, 0x6000)?;
+    put(&mut window, 0x3008, 0x7000)?;
+    let pieces = walk(&window, 0x5000, 0x2ff8, 12288)?;
+    assert_eq!(rt;
+        pieces.parts.as_slice(),
+        [whole(0x5000), whole(0x6000), whole(0x7000)].as_slice()
+    );
+    put(&mut window, 0x2ff8, 0x3008)?;
+    assert!(rt; matches!(walk(&window, 0x5000, 0x2ff8, 12288), Err(DataFault::Offset)));
+    assert!(rt; matches!(walk(&window, 0x5002, 0x2ff8, 12288), Err(DataFault::Offset)));
+    assert!(rt;
+        matches!(
+            walk(&window, 0x40_0000, 0x2ff8, 12288),
+            Err(DataFault::Outside)
+        )
+    );
+    Ok(())
+}
+
+/// Where as many entries follow as there are slots, the last slot is an entry.
+#[test]
+fn the_last_slot_is_an_entry(rt: HostRuntime) -> Result<(), Fail> {
+    let mut window = Window::new(rt.alloc())?;
+    put(&mut window, 0x2ff0, 0x6000)?;
+    put(&mut window, 0x2ff8, 0x7000)?;
+    let pieces = walk(&window, 0x5000, 0x2ff0, 12288)?;
+    assert_eq!(rt;
+        pieces.parts.as_slice(),
+        [whole(0x5000), whole(0x6000), whole(0x7000)].as_slice()
+    );
+    Ok(())
+}
+
+/// Both entries of the list name one page: the later blocks are kept there.
+#[test]
+fn the_later_block_is_kept(rt: HostRuntime) -> Result<(), Fail> {
+    let mut window = Window::new(rt.alloc())?;
+    put(&mut window, 0x3000, 0x6000)?;
+    put(&mut window, 0x3008, 0x6000)?;
+    let pieces = walk(&window, 0x5000, 0x3000, 12288)?;
+    for j in 0..24 {
+        scatter_block(&mut window, &pieces, j, &[j as u8; 512]);
+    }
+    for block in 0..8 {
+        let first = window.piece(0x5000 + 512 * block, 512).ok_or("outside")?;
+        assert_eq!(rt; first, [block as u8; 512].as_slice());
+        let second = window.piece(0x6000 + 512 * block, 512).ok_or("outside")?;
+        assert_eq!(rt; second, [block as u8 + 16; 512].as_slice());
+    }
+    Ok(())
+}
+
+/// The first page has four bytes of the block, and the second the others.
+#[test]
+fn a_block_in_two_pages(rt: HostRuntime) -> Result<(), Fail> {
+    let mut window = Window::new(rt.alloc())?;
+    let pieces = walk(&window, 0x5ffc, 0x9000, 512)?;
+    let front = Piece {
+        address: 0x5ffc,
+        len: 4,
+    };
+    let back = Piece {
+        address: 0x9000,
+        len: 508,
+    };
+    assert_eq!(rt; pieces.parts.as_slice(), [front, back].as_slice());
+    window.store(0x5ffc, &[1, 2, 3, 4])?;
+    window.store(0x9000, &[5, 6])?;
+    let mut block = [0; 512];
+    gather_block(&window, &pieces, 0, &mut block);
+    assert!(rt; block.starts_with(&[1, 2, 3, 4, 5, 6, 0]));
+    Ok(())
+}
+
+/// The longest transfer, from an offset on, touches 33 pages.
+#[test]
+fn thirty_three_pages(rt: HostRuntime) -> Result<(), Fail> {
+    let mut window = Window::new(rt.alloc())?;
+    for entry in 0..32 {
+        put(&mut window, 0x3000 + 8 * entry, 0x1_0000 + 0x1000 * entry)?;
+    }
+    let pieces = walk(&window, 0x5e04, 0x3000, 131_072)?;
+    let parts = pieces.parts.as_slice();
+    assert_eq!(rt; parts.len(), 33);
+    let first = Piece {
+        address: 0x5e04,
+        len: 508,
+    };
+    let last = Piece {
+        address: 0x2_f000,
+        len: 3588,
+    };
+    assert_eq!(rt; parts[0], first);
+    assert_eq!(rt; parts[31], whole(0x2_e000));
+    assert_eq!(rt; parts[32], last);
+    window.store(0x2_f000 + 3076, &[9; 512])?;
+    let mut block = [0; 512];
+    gather_block(&window, &pieces, 255, &mut block);
+    assert!(rt; block == [9; 512]);
+    Ok(())
+}
+
+/// Sixteen bytes of which four lie at the end of a page.
+#[test]
+fn a_record_in_two_pages(rt: HostRuntime) -> Result<(), Fail> {
+    let mut window = Window::new(rt.alloc())?;
+    let pieces = walk(&window, 0x5ffc, 0x9000, 16)?;
+    let record = [1, 2, 3, 4, 5, 6, 7, 8, 9, 10, 11, 12, 13, 14, 15, 16];
+    scatter(&mut window, &pieces, &record);
+    let front = window.piece(0x5ffc, 5).ok_or("outside")?;
+    assert_eq!(rt; front, [1, 2, 3, 4, 0].as_slice());
+    let back = window.piece(0x9000, 13).ok_or("outside")?;
+    assert_eq!(rt;
+        back,
+        [5, 6, 7, 8, 9, 10, 11, 12, 13, 14, 15, 16, 0].as_slice()
+    );
+    let mut bytes = [0; 16];
+    gather(&window, &pieces, &mut bytes);
+    assert_eq!(rt; bytes, record);
+    Ok(())
+}

@@ -1,0 +1,138 @@
+ghost use Rattle.std.specs.Prelude.{◌≡◌, ◌+◌, ◌*◌, ◌/◌, ◌%◌, ◌≤◌, ◌<◌, ◌++◌, length, map, None, Some, IsTrue, MatchResult, OnOk, IfOk, IfErr};
+ghost use Rattle.std.specs.List.{range_with_len};
+ghost use Rattle.arrayvec.specs.ArrayVec.{array_vec_len};
+ghost use Rattle.nvme_spec.specs.Memory.{qword};
+ghost use Rattle.nvme_spec.specs.Pointer.{AddressTest, fault_of, first_fault, page_test, list_of, list_tests, transfer, pointer_tests, pointer_fault, address};
+ghost use Rattle.nvme_spec.specs.Transfers.{listed_part, addresses, parts_of, ArePages, ArePages-prop};
+ghost use Rattle.nvme_prp.specs.Walk.{Follows};
+
+use arrayvec::ArrayVec;
+use nvme_mem::{WINDOW_LEN, Window};
+use nvme_spec::{DataFault, Piece};
+
+/// The size of a memory page, in bytes.
+pub const PAGE: u64 = 4096;
+
+type Parts = ArrayVec<Piece, 33>;
+
+/// Where the bytes of a transfer lie: a piece for each page that it touches, in the order of the bytes.
+/// Each piece lies inside one page of the window. Each but the first starts its page, and each but the
+/// last ends its page and has at least four bytes.
+#[derive(Debug, Drop)]
+pub struct Pieces {
+    pub parts: ArrayVec<Piece, 33>,
+    ghost pages: { ArePages parts.items } by { ArePages-prop parts.items },
+}
+
+/// Refuses an address that is not a multiple of the unit, or lies outside the window.
+#[tactic(auto, unfolding(nvme_spec::specs::Pointer::fault_of))]
+fn check(address: u64, unit: u64) -> Result<(), DataFault>
+    requires { 0 < unit }
+    ensures judged { MatchResult result (λ _. fault_of (record { address = address; unit = unit }) ≡ None)
+        (λ e. fault_of (record { address = address; unit = unit }) ≡ Some e) }
+    ensures aligned { OnOk result (address % unit ≡ 0) }
+    ensures in_window { OnOk result (address < 4194304) }
+{
+    if address % unit != 0 {
+        Err(DataFault::Offset)
+    } else if address >= WINDOW_LEN as u64 {
+        Err(DataFault::Outside)
+    } else {
+        Ok(())
+    }
+}
+
+/// The slot of a list that is read next. Where `slot` is the last of its page and entries follow, it
+/// names the page that the list goes on in.
+fn follow(window: &Window, slot: u64, more: bool) -> Result<u64, DataFault>
+    requires aligned { slot % 8 ≡ 0 }
+    requires in_window { slot < 4194304 }
+    ensures ok { IfOk result (λ at. Follows window.now slot more at) }
+    ensures still_aligned { IfOk result (λ at. at % 8 ≡ 0) }
+    ensures still_in_window { IfOk result (λ at. at < 4194304) }
+    ensures err { IfErr result (λ e. IsTrue more × (slot % 4096 ≡ 4088) × (fault_of (page_test (qword window.now slot)) ≡ Some e)) }
+{
+    if !more || slot % PAGE != PAGE - 8 {
+        return Ok(slot);
+    }
+    let next = window.u64_at(slot);
+    check(next, PAGE)?;
+    Ok(next)
+}
+
+/// Appends the pages that a list names, as far as `rest` bytes need them.
+fn walk_list(window: &Window, start: u64, rest: u64, parts: &mut Parts) -> Result<(), DataFault>
+    requires aligned { start % 8 ≡ 0 }
+    requires in_window { start < 4194304 }
+    requires several { 4096 < rest }
+    requires most { rest ≤ 131072 }
+    requires room { array_vec_len parts.old ≡ 1 }
+    ensures ok { OnOk result (let l = list_of window.now start rest in
+        (first_fault (list_tests l) ≡ None)
+        × (parts.new.items ≡ parts.old.items ++ map (listed_part l rest) (range_with_len 0 l.pages))) }
+    ensures err { IfErr result (λ e. first_fault (list_tests (list_of window.now start rest)) ≡ Some e) }
+{
+    let pages = rest.div_ceil(PAGE);
+    let mut left = rest;
+    let mut slot = start;
+    for j in 0..pages {
+        slot = follow(window, slot, j + 1 < pages)?;
+        let page = window.u64_at(slot);
+        check(page, PAGE)?;
+        let len = left.min(PAGE);
+        parts.push(Piece { address: page, len });
+        left -= len;
+        slot += 8;
+    }
+    Ok(())
+}
+
+/// One part for each page that a transfer touches.
+fn pages_of(window: &Window, prp1: u64, prp2: u64, len: u64) -> Result<Parts, DataFault>
+    requires some { 1 ≤ len }
+    requires most { len ≤ 131072 }
+    ensures sound { OnOk result (pointer_fault (transfer window.now prp1 prp2 len) ≡ None) }
+    ensures parts { IfOk result (λ parts. parts.items ≡ parts_of (transfer window.now prp1 prp2 len)) }
+    ensures fault { IfErr result (λ e. pointer_fault (transfer window.now prp1 prp2 len) ≡ Some e) }
+{
+    check(prp1, 4)?;
+    let first = len.min(PAGE - prp1 % PAGE);
+    let rest = len - first;
+    let mut parts = ArrayVec::new();
+    parts.push(Piece {
+        address: prp1,
+        len: first,
+    });
+    if rest > PAGE {
+        check(prp2, 8)?;
+        walk_list(window, prp2, rest, &mut parts)?;
+    } else if rest > 0 {
+        check(prp2, PAGE)?;
+        parts.push(Piece {
+            address: prp2,
+            len: rest,
+        });
+    }
+    Ok(parts)
+}
+
+/// The pieces of `len` bytes at a command's two entries (Base Specification 2.0, Physical Region Page
+/// Entry and List). That `len` is 1 to 131,072 is the caller's condition.
+///
+/// # Errors
+/// The fault of the first address that is refused, in the order in which they are met: `Offset` where it
+/// is not a multiple of what it must be, else `Outside` where it lies outside the window.
+pub fn walk(window: &Window, prp1: u64, prp2: u64, len: u64) -> Result<Pieces, DataFault>
+    requires some { 1 ≤ len }
+    requires most { len ≤ 131072 }
+    ensures sound { OnOk result (pointer_fault (transfer window.now prp1 prp2 len) ≡ None) }
+    // Each page has its piece.
+    ensures pieces { IfOk result (λ pieces. pieces.parts.items ≡ parts_of (transfer window.now prp1 prp2 len)) }
+    // The pieces joined are the addresses of the bytes.
+    ensures joined { IfOk result (λ pieces. addresses pieces.parts.items ≡ map (address (transfer window.now prp1 prp2 len)) (range_with_len 0 len)) }
+    ensures size { IfOk result (λ pieces. length (addresses pieces.parts.items) ≡ len) }
+    ensures fault { IfErr result (λ e. pointer_fault (transfer window.now prp1 prp2 len) ≡ Some e) }
+{
+    let parts = pages_of(window, prp1, prp2, len)?;
+    Ok(Pieces { parts })
+}

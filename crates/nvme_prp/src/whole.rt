@@ -1,0 +1,41 @@
+ghost use Rattle.std.specs.Prelude.{◌≡◌, ◌+◌, ◌≤◌, length};
+ghost use Rattle.nvme_spec.specs.Transfers.{addresses, gathered, scattered};
+
+use crate::walking::Pieces;
+use nvme_mem::{Part, Window};
+
+/// Copies all bytes of a transfer out of the window. That `bytes` has as many as the pieces is the
+/// caller's condition.
+pub fn gather(window: &Window, pieces: &Pieces, bytes: &mut [u8])
+    requires size { length bytes.old ≡ length (addresses pieces.now.parts.items) }
+    ensures bytes { bytes.new ≡ gathered window.now (addresses pieces.now.parts.items) }
+{
+    let mut filled = 0;
+    for piece in pieces.parts.as_slice() {
+        let part = Part {
+            addr: piece.address,
+            len: piece.len,
+        };
+        let end = filled + piece.len as usize;
+        bytes[filled..end].copy_from_slice(window.bytes(part));
+        filled = end;
+    }
+}
+
+/// Copies all bytes of a transfer into the window, by rising byte: where two have one address, the later
+/// is kept. That `bytes` has as many as the pieces is the caller's condition.
+pub fn scatter(window: &mut Window, pieces: &Pieces, bytes: &[u8])
+    requires size { length bytes.now ≡ length (addresses pieces.now.parts.items) }
+    ensures window { window.new ≡ scattered window.old (addresses pieces.now.parts.items) bytes.now }
+{
+    let mut stored = 0;
+    for piece in pieces.parts.as_slice() {
+        let part = Part {
+            addr: piece.address,
+            len: piece.len,
+        };
+        let end = stored + piece.len as usize;
+        window.bytes_mut(part).copy_from_slice(&bytes[stored..end]);
+        stored = end;
+    }
+}

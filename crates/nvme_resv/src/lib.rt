@@ -1,0 +1,14 @@
+//! The reservation of one namespace: which hosts are registered with it, which of them hold it, and what the commands
+//! Reservation Register, Reservation Acquire, Reservation Release and Reservation Report do and tell
+//! (NVM Express Base Specification 2.0, Reservations).
+#![tactic(auto)]
+
+mod change;
+mod registrants;
+mod reservation;
+#[cfg(test)]
+mod tests;
+
+pub use change::Change;
+pub use nvme_spec::{Hold, Role};
+pub use reservation::Reservation;

@@ -1,0 +1,75 @@
+ghost use Rattle.std.specs.Prelude.{◌≡◌, ◌↔◌, IsTrue};
+ghost use Rattle.nvme_spec.specs.Reservation as resv;
+ghost use Rattle.nvme_resv.specs.Answers.{HasRoomFor};
+
+use crate::registrants::{Registrants, is_registered};
+use nvme_spec::{Hold, Role};
+use std::marker::Model;
+
+mod actions;
+mod report;
+
+/// The reservation of one namespace: its registrants with their keys, who holds it, and the generation counter.
+#[derive(Drop)]
+pub struct Reservation {
+    registrants: Registrants,
+    hold: Hold,
+    generation: u32,
+}
+
+impl Model for Reservation {
+    ghost use Rattle.nvme_spec.specs.Reservation.{Reservation as State, IsRising};
+
+    ghost Value = { State };
+
+    ghost view = { λ a. record { registrants = a.registrants.items; hold = a.hold; generation = a.generation } };
+
+    ghost invariant = { λ a. IsRising a.registrants.items };
+}
+
+impl Reservation {
+    /// The reservation of a new namespace: nobody is registered, nobody holds it, and the generation is 0.
+    pub fn new() -> Self
+        ensures { result ≡ resv.unreserved }
+    {
+        Reservation {
+            registrants: Registrants::new(),
+            hold: Hold::Free,
+            generation: 0,
+        }
+    }
+
+    /// Who holds the reservation, with its type (Reservation Types).
+    pub fn hold(&self) -> Hold
+        ensures { result ≡ self.now.hold }
+    {
+        self.hold
+    }
+
+    /// What the host is to the namespace. Under types 5 and 6 each registrant is a holder.
+    pub fn role(&self, host: u64) -> Role
+        ensures { result ≡ resv.role_of self.now host }
+    {
+        if !is_registered(&self.registrants, host) {
+            return Role::Outsider;
+        }
+        match self.hold {
+            Hold::All(_) => Role::Holder,
+            Hold::One(_, holder) if holder == host => Role::Holder,
+            _ => Role::Registrant,
+        }
+    }
+
+    /// Whether the host is registered or can be: a namespace has at most sixteen registrants.
+    pub fn has_room_for(&self, host: u64) -> bool
+        ensures { IsTrue result ↔ HasRoomFor self.now host }
+    {
+        is_registered(&self.registrants, host) || !self.registrants.is_full()
+    }
+
+    fn is_holder(&self, host: u64) -> bool
+        ensures { result ≡ resv.is_holder self.now host }
+    {
+        matches!(self.role(host), Role::Holder)
+    }
+}

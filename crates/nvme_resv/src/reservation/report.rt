@@ -1,0 +1,104 @@
+//! The data of the command Reservation Report.
+
+ghost use Rattle.std.specs.Prelude.{◌≡◌, ◌+◌, ◌≤◌, ◌++◌, length};
+ghost use Rattle.nvme_spec.specs.Report as spec;
+
+use super::Reservation;
+use crate::registrants::{is_registered, key_of};
+use arrayvec::ArrayVec;
+use nvme_spec::Hold;
+
+/// The header, or an entry, of a report.
+type Part = ArrayVec<u8, 24>;
+
+/// A header and sixteen entries.
+type Report = ArrayVec<u8, 408>;
+
+impl Reservation {
+    /// Fills the buffer with the data of Reservation Report (Reservation Status Data Structure): as much of the report as
+    /// it takes, and zeros behind a shorter one. All numbers are little-endian. There is an entry for each of the
+    /// controllers, given with their hosts, whose host is registered.
+    ///
+    /// There are at most sixteen controllers, by rising identifier, each once.
+    #[tactic(auto, unfolding(nvme_spec::specs::Report::report_data))]
+    pub fn report_into(&self, controllers: &[(u16, u64)], buffer: &mut [u8])
+        requires few { length controllers.now ≤ 16 }
+        requires rising { spec.HasRisingIds controllers.now }
+        ensures { buffer.new ≡ spec.report_data self.now controllers.now (length buffer.old) }
+    {
+        let report = self.report(controllers);
+        let len = report.len().min(buffer.len());
+        buffer[..len].copy_from_slice(&report[..len]);
+        buffer[len..].fill(0);
+    }
+
+    /// The whole report.
+    fn report(&self, controllers: &[(u16, u64)]) -> Report
+        requires { length controllers.now ≤ 16 }
+        ensures { result.items ≡ spec.report self.now controllers.now }
+    {
+        let mut report = Report::new();
+        append(&mut report, &self.header(controllers));
+        for &(cntlid, host) in controllers {
+            if let Some(key) = key_of(&self.registrants, host) {
+                append(&mut report, &entry(cntlid, self.is_holder(host), host, key));
+            }
+        }
+        report
+    }
+
+    #[tactic(auto, unfolding(nvme_spec::specs::Report::header))]
+    fn header(&self, controllers: &[(u16, u64)]) -> Part
+        requires { length controllers.now ≤ 16 }
+        ensures { result.items ≡ spec.header self.now controllers.now }
+    {
+        let mut header = Part::new();
+        append(&mut header, &self.generation.to_le_bytes());
+        append(&mut header, &[type_of(self.hold)]);
+        append(&mut header, &self.count_reported(controllers).to_le_bytes());
+        append(&mut header, &[0; 17]);
+        header
+    }
+
+    /// How many of the controllers have a host that is registered.
+    fn count_reported(&self, controllers: &[(u16, u64)]) -> u16
+        requires { length controllers.now ≤ 16 }
+        ensures { result ≡ length (spec.reported self.now controllers.now) }
+    {
+        controllers
+            .iter()
+            .filter(|c| is_registered(&self.registrants, c.1))
+            .count() as u16
+    }
+}
+
+/// The reservation type, 0 where nobody holds the reservation.
+fn type_of(hold: Hold) -> u8
+    ensures { result ≡ spec.type_of hold }
+{
+    match hold {
+        Hold::Free => 0,
+        Hold::One(rtype, _) | Hold::All(rtype) => rtype,
+    }
+}
+
+/// The entry of a controller whose host has this key.
+#[tactic(auto, unfolding(nvme_spec::specs::Report::entry_of))]
+fn entry(cntlid: u16, is_holder: bool, host: u64, key: u64) -> Part
+    ensures { result.items ≡ spec.entry_of cntlid is_holder host key }
+{
+    let mut entry = Part::new();
+    append(&mut entry, &cntlid.to_le_bytes());
+    append(&mut entry, &[u8::from(is_holder), 0, 0, 0, 0, 0]);
+    append(&mut entry, &host.to_le_bytes());
+    append(&mut entry, &key.to_le_bytes());
+    entry
+}
+
+/// Appends bytes for which there is room.
+fn append<const N: usize>(bytes: &mut ArrayVec<u8, N>, part: &[u8])
+    requires { length bytes.old.items + length part.now ≤ N }
+    ensures { bytes.new.items ≡ bytes.old.items ++ part.now }
+{
+    let _fits = bytes.try_extend_from_slice(part);
+}

@@ -1,0 +1,154 @@
+use crate::{Change, Hold, Reservation, Role};
+use nvme_wire::Status;
+use std::process::Abort;
+use std::test::Fail;
+
+const CONTROLLERS: [(u16, u64); 4] = [(1, 0xa1), (2, 0xb2), (3, 0xa1), (4, 0xc3)];
+
+/// Registers a host for which there is room.
+fn register(
+    rt: &impl Abort,
+    reservation: &mut Reservation,
+    host: u64,
+    key: u64,
+) -> Result<Change, Status> {
+    assert!(rt; reservation.has_room_for(host));
+    reservation.register(host, key)
+}
+
+#[test]
+fn write_exclusive(rt: HostRuntime) -> Result<(), Fail> {
+    let mut reservation = Reservation::new();
+    register(&rt, &mut reservation, 0xa1, 0x11)?;
+    reservation.acquire(0xa1, 1, 0x11)?;
+    assert_eq!(rt; reservation.hold(), Hold::One(1, 0xa1));
+    assert_eq!(rt; reservation.role(0xb2), Role::Outsider);
+    assert_eq!(rt;
+        reservation.release(0xa1, 3, 0x11).err(),
+        Some(Status::INVALID_FIELD_IN_COMMAND)
+    );
+    reservation.release(0xa1, 1, 0x11)?;
+    assert_eq!(rt; reservation.hold(), Hold::Free);
+    Ok(())
+}
+
+#[test]
+fn roles_are_by_host(rt: HostRuntime) -> Result<(), Fail> {
+    let mut reservation = Reservation::new();
+    register(&rt, &mut reservation, 0xa1, 0x11)?;
+    reservation.acquire(0xa1, 4, 0x11)?;
+    assert_eq!(rt; reservation.role(0xa1), Role::Holder);
+    assert_eq!(rt; reservation.role(0xb2), Role::Outsider);
+    Ok(())
+}
+
+#[test]
+fn preempt_of_all_registrants(rt: HostRuntime) -> Result<(), Fail> {
+    let mut reservation = Reservation::new();
+    register(&rt, &mut reservation, 0xa1, 0x11)?;
+    register(&rt, &mut reservation, 0xb2, 0x22)?;
+    reservation.acquire(0xa1, 6, 0x11)?;
+    assert_eq!(rt; reservation.role(0xb2), Role::Holder);
+    let change = reservation.preempt(0xb2, 1, 0x22, 0)?;
+    assert_eq!(rt; change.removed.as_slice(), [0xa1].as_slice());
+    assert_eq!(rt; reservation.hold(), Hold::One(1, 0xb2));
+
+    let report = [
+        3, 0, 0, 0, 1, 1, 0, 0, 0, 0, 0, 0, 0, 0, 0, 0, 0, 0, 0, 0, 0, 0, 0, 0, // header
+        2, 0, 1, 0, 0, 0, 0, 0, 0xb2, 0, 0, 0, 0, 0, 0, 0, 0x22, 0, 0, 0, 0, 0, 0, 0,
+    ];
+    let mut data = [0xff; 48];
+    reservation.report_into(&CONTROLLERS, &mut data);
+    assert_eq!(rt; data.as_slice(), report.as_slice());
+
+    for rtype in [1, 3] {
+        let again = reservation.preempt(0xb2, rtype, 0x22, 0);
+        assert_eq!(rt;
+            again.err(),
+            Some(Status::INVALID_FIELD_IN_COMMAND),
+            "type {rtype}"
+        );
+        reservation.report_into(&CONTROLLERS, &mut data);
+        assert_eq!(rt; data.as_slice(), report.as_slice(), "type {rtype}");
+    }
+    Ok(())
+}
+
+#[test]
+fn registrants_leave(rt: HostRuntime) -> Result<(), Fail> {
+    let mut reservation = Reservation::new();
+    register(&rt, &mut reservation, 0xa1, 0x11)?;
+    register(&rt, &mut reservation, 0xb2, 0x22)?;
+    register(&rt, &mut reservation, 0xc3, 0x33)?;
+    reservation.acquire(0xa1, 5, 0x11)?;
+    reservation.unregister(0xa1, false, 0x11)?;
+    reservation.unregister(0xb2, false, 0x22)?;
+    assert_eq!(rt; reservation.hold(), Hold::All(5));
+    assert_eq!(rt; reservation.role(0xa1), Role::Outsider);
+    reservation.unregister(0xc3, false, 0x33)?;
+    assert_eq!(rt; reservation.hold(), Hold::Free);
+
+    let mut data = [0xff; 24];
+    reservation.report_into(&CONTROLLERS, &mut data);
+    let mut report = [0; 24];
+    report[0] = 6;
+    assert_eq!(rt; data.as_slice(), report.as_slice());
+    Ok(())
+}
+
+#[test]
+fn key_zero(rt: HostRuntime) -> Result<(), Fail> {
+    let mut reservation = Reservation::new();
+    assert_eq!(rt;
+        reservation.acquire(0xa1, 1, 0).err(),
+        Some(Status::RESERVATION_CONFLICT)
+    );
+    register(&rt, &mut reservation, 0xa1, 0)?;
+    register(&rt, &mut reservation, 0xa1, 0)?;
+    let mut generation = [0xff; 4];
+    reservation.report_into(&CONTROLLERS, &mut generation);
+    assert_eq!(rt; generation, [2, 0, 0, 0]);
+    let other = register(&rt, &mut reservation, 0xa1, 1);
+    assert_eq!(rt; other.err(), Some(Status::RESERVATION_CONFLICT));
+    assert_eq!(rt;
+        reservation.preempt(0xa1, 1, 0, 5).err(),
+        Some(Status::RESERVATION_CONFLICT)
+    );
+    reservation.release(0xa1, 1, 0)?;
+    assert_eq!(rt; reservation.hold(), Hold::Free);
+    reservation.acquire(0xa1, 1, 0)?;
+    let own_key = reservation.preempt(0xa1, 1, 0, 0);
+    assert_eq!(rt; own_key.err(), Some(Status::INVALID_FIELD_IN_COMMAND));
+    assert_eq!(rt; reservation.hold(), Hold::One(1, 0xa1));
+    Ok(())
+}
+
+#[test]
+fn preempt_of_the_holder(rt: HostRuntime) -> Result<(), Fail> {
+    let mut reservation = Reservation::new();
+    register(&rt, &mut reservation, 0xa1, 0x11)?;
+    register(&rt, &mut reservation, 0xb2, 0x11)?;
+    reservation.acquire(0xa1, 1, 0x11)?;
+    let change = reservation.preempt(0xb2, 3, 0x11, 0x11)?;
+    assert_eq!(rt; change.removed.as_slice(), [0xa1].as_slice());
+    assert_eq!(rt; reservation.hold(), Hold::One(3, 0xb2));
+    Ok(())
+}
+
+#[test]
+fn sixteen_registrants(rt: HostRuntime) -> Result<(), Fail> {
+    let mut reservation = Reservation::new();
+    for host in 1..=16 {
+        register(&rt, &mut reservation, host, host)?;
+    }
+    assert!(rt; !reservation.has_room_for(17));
+    assert!(rt; reservation.has_room_for(16));
+    let change = reservation.replace(16, true, 0, 1)?;
+    assert!(rt; change.removed.is_empty());
+    reservation.clear(16, 1)?;
+    assert_eq!(rt; reservation.role(1), Role::Outsider);
+    assert!(rt; reservation.has_room_for(17));
+    reservation.replace(17, true, 0, 1)?;
+    assert_eq!(rt; reservation.role(17), Role::Registrant);
+    Ok(())
+}

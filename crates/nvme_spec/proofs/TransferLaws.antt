@@ -1,0 +1,85 @@
+-- The laws of transfers.
+use Rattle.std.proofs.Common.{◌≡◌, ℕ, zero, suc, ◌+◌, ◌-◌, ◌*◌, ◌≤◌, List, [], ◌∷◌, ◌++◌, length, take, drop, refl, sym, ap, ◌∙◌, arith, length-drop}
+use Rattle.std.specs.Prelude.{slice_range, slice_index, slice_set}
+use Rattle.std.proofs.lemmas.List.{map-append, drop-drop, take_all, length-take-le, length-set, get_or-set_same, get_or-set_other}
+use Rattle.std.proofs.Math.Seq.{take-add}
+use Rattle.nvme_spec.specs.declared.pointer.Piece.{Piece}
+use Rattle.nvme_spec.specs.Pointer.{address}
+use Rattle.nvme_spec.specs.Transfers.{addresses, block_addresses, gathered, scattered, gathered_blocks, scattered_blocks}
+use Rattle.nvme_spec.specs.TransferLaws.{LastByteIsKept, OthersStay, BlocksMakeTheWhole, BlocksScatterTheWhole, SmallIsContiguous}
+use Rattle.nvme_spec.proofs.PagesJoined.{counts, address-near}
+use Rattle.nvme_spec.proofs.Runs.{gathered-run, scattered-append}
+
+pub others_stay : OthersStay
+unfolding scattered
+others_stay window [] bytes a h = refl
+others_stay window (p ∷ places) [] a h = refl
+others_stay window (p ∷ places) (b ∷ bytes) a h =
+    others_stay (slice_set window p b) places bytes a (λ i lt e. h (suc i) (omega (arith, lt)) e)
+    ∙ get_or-set_other window p a b 0 (λ e. h 0 (omega arith) (sym e))
+
+pub last_byte_is_kept : LastByteIsKept
+unfolding scattered
+last_byte_is_kept window [] bytes a k size fits last = absurd (omega (arith, last.0))
+last_byte_is_kept window (p ∷ places) [] a k size fits last = absurd (omega (arith, size))
+last_byte_is_kept window (p ∷ places) (b ∷ bytes) a zero size fits last =
+    others_stay (slice_set window p b) places bytes a (λ i lt e. last.2 (suc i) (omega arith) (omega (arith, lt)) e)
+    ∙ ap (λ q. slice_index (slice_set window q b) a) last.1 ∙ get_or-set_same window a b 0 fits
+last_byte_is_kept window (p ∷ places) (b ∷ bytes) a (suc k) size fits last =
+    last_byte_is_kept (slice_set window p b) places bytes a k (omega (arith, size)) (omega (arith, fits, length-set window p b))
+    (omega (arith, last.0), last.1, λ i low high e. last.2 (suc i) (omega (arith, low)) (omega (arith, high)) e)
+
+-- block j, and those behind it
+next-blocks : (places : List ℕ) (j n : ℕ) → take (512 * suc n) (drop (512 * j) places) ≡ slice_range places (512 * j) (512 * j + 512) ++ take (512 * n) (drop (512 * (j + 1)) places)
+next-blocks places j n =
+    let count : 512 * suc n ≡ 512 + 512 * n = omega arith in
+    let width : 512 * j + 512 - 512 * j ≡ 512 = omega arith in
+    let after : 512 * j + 512 ≡ 512 * (j + 1) = omega arith in
+    ap (λ k. take k (drop (512 * j) places)) count ∙ take-add 512 (512 * n) (drop (512 * j) places)
+    ∙ ap (λ xs. take 512 (drop (512 * j) places) ++ take (512 * n) xs) (drop-drop 512 (512 * j) places ∙ ap (λ k. drop k places) after)
+    ∙ ap (λ k. take k (drop (512 * j) places) ++ take (512 * n) (drop (512 * (j + 1)) places)) (sym width)
+
+-- n blocks from block j on
+pub gathered-from : (window : List ℕ) (ps : List Piece) (n j : ℕ) → gathered_blocks window ps j n ≡ gathered window (take (512 * n) (drop (512 * j) (addresses ps)))
+gathered-from window ps zero j = refl
+gathered-from window ps (suc n) j =
+    ap (λ xs. gathered window (block_addresses ps j) ++ xs) (gathered-from window ps n (j + 1))
+    ∙ sym (map-append (slice_index window) (block_addresses ps j) (take (512 * n) (drop (512 * (j + 1)) (addresses ps))))
+    ∙ ap (gathered window) (sym (next-blocks (addresses ps) j n))
+
+pub scattered-from : (window : List ℕ) (ps : List Piece) (n j : ℕ) (bytes : List ℕ) → length bytes ≡ 512 * n → 512 * (j + n) ≤ length (addresses ps) → scattered_blocks window ps j n bytes ≡ scattered window (take (512 * n) (drop (512 * j) (addresses ps))) bytes
+unfolding scattered scattered_blocks
+scattered-from window ps zero j bytes size enough = refl
+scattered-from window ps (suc n) j bytes size enough =
+    let here : List ℕ = block_addresses ps j in
+    let later : List ℕ = take (512 * n) (drop (512 * (j + 1)) (addresses ps)) in
+    let width : 512 * j + 512 - 512 * j ≡ 512 = omega arith in
+    let long : length here ≡ 512 =
+    ap (λ k. length (take k (drop (512 * j) (addresses ps)))) width
+    ∙ length-take-le 512 (drop (512 * j) (addresses ps)) (omega (arith, length-drop (512 * j) (addresses ps))) in
+    scattered-from (scattered window here (take 512 bytes)) ps n (j + 1) (drop 512 bytes) (omega (arith, length-drop 512 bytes)) (omega arith)
+    ∙ ap (λ k. scattered (scattered window here (take k bytes)) later (drop k bytes)) (sym long)
+    ∙ sym (scattered-append window here later bytes (omega arith))
+    ∙ ap (λ xs. scattered window xs bytes) (sym (next-blocks (addresses ps) j n))
+
+pub blocks_make_the_whole : BlocksMakeTheWhole
+blocks_make_the_whole window ps n size =
+    gathered-from window ps n 0 ∙ ap (gathered window) (take_all (512 * n) (addresses ps) (omega arith))
+
+pub blocks_scatter_the_whole : BlocksScatterTheWhole
+blocks_scatter_the_whole window ps n bytes size long =
+    scattered-from window ps n 0 bytes long (omega arith)
+    ∙ ap (λ xs. scattered window xs bytes) (take_all (512 * n) (addresses ps) (omega arith))
+
+pub small_is_contiguous : SmallIsContiguous
+small_is_contiguous t small fits =
+    let places = counts (address t) t.prp1 0 t.bytes (λ k lt. ap (address t) (omega arith) ∙ address-near t k (omega (arith, lt))) in
+    let width : t.prp1 + t.bytes - t.prp1 ≡ t.bytes = omega arith in
+    (places, ap (gathered t.window) places ∙ gathered-run t.window t.prp1 t.bytes fits ∙ ap (λ k. take k (drop t.prp1 t.window)) (sym width))
+
+-- a scattering leaves the window as long as it was
+pub length-scattered : (window places bytes : List ℕ) → length (scattered window places bytes) ≡ length window
+unfolding scattered
+length-scattered window [] bytes = refl
+length-scattered window (p ∷ places) [] = refl
+length-scattered window (p ∷ places) (b ∷ bytes) = length-scattered (slice_set window p b) places bytes ∙ length-set window p b

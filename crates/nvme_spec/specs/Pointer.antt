@@ -1,0 +1,119 @@
+-- Where the bytes of a transfer lie, as the two PRP entries of a command tell
+-- (Base Specification 2.0, Physical Region Page Entry and List). Pages have 4,096 bytes.
+use Rattle.std.specs.Prelude.{ℕ, zero, suc, ◌+◌, ◌-◌, ◌*◌, ◌/◌, ◌%◌, List, [], ◌∷◌, Bool, ◌&&◌, Option, Some, None, nat_lt, nat_le, ◌==◌, if◌then◌else◌}
+use Rattle.std.specs.List.{flat_map, range_with_len}
+use Rattle.nvme_spec.specs.Memory.{window_size, qword}
+use Rattle.nvme_spec.specs.declared.pointer.DataFault.{DataFault}
+use Rattle.nvme_spec.specs.declared.pointer.DataFault.TheVariants.{Offset, Outside}
+
+-- how much of its page lies at an address and behind it
+abbrev pub room : ℕ → ℕ
+room address = 4096 - address % 4096
+
+-- An address must be a multiple of a unit, and lie in the window.
+pub record AddressTest : Type 0 where
+  pub address : ℕ
+  pub unit : ℕ
+
+unfoldable pub fault_of : AddressTest → Option DataFault
+fault_of test =
+    if test.address % test.unit == 0
+    then (if nat_lt test.address window_size then None else Some Outside)
+    else Some Offset
+
+abbrev pub or_else : Option DataFault → Option DataFault → Option DataFault
+or_else None later = later
+or_else (Some fault) later = Some fault
+
+-- the fault of the first test that fails
+unfoldable pub first_fault : List AddressTest → Option DataFault
+first_fault [] = None
+first_fault (test ∷ later) = or_else (fault_of test) (first_fault later)
+
+abbrev pub page_test : ℕ → AddressTest
+page_test address = record { address = address; unit = 4096 }
+
+-- A PRP List: so many entries of eight bytes, from the first one's slot on.
+pub record PageList : Type 0 where
+  pub window : List ℕ
+  pub start : ℕ
+  pub pages : ℕ
+
+-- how many slots there are in the page that it starts in
+abbrev pub slots : PageList → ℕ
+slots l = room l.start / 8
+
+-- whether it goes on in a second page: its entries are more than these slots
+abbrev pub goes_on : PageList → Bool
+goes_on l = nat_lt (slots l) l.pages
+
+-- that second page: the last slot of the first names it
+abbrev pub next : PageList → ℕ
+next l = qword l.window (l.start + 8 * (slots l - 1))
+
+-- where entry j lies
+unfoldable pub slot : PageList → ℕ → ℕ
+slot l j = if goes_on l && nat_le (slots l - 1) j then next l + 8 * (j - (slots l - 1)) else l.start + 8 * j
+
+-- the page that entry j names
+abbrev pub listed : PageList → ℕ → ℕ
+listed l j = qword l.window (slot l j)
+
+-- the test of entry j, behind that of the second page of the list where it is the first entry there
+unfoldable pub entry_tests : PageList → ℕ → List AddressTest
+entry_tests l j =
+    if goes_on l && j == slots l - 1
+    then page_test (next l) ∷ page_test (listed l j) ∷ []
+    else page_test (listed l j) ∷ []
+
+-- the tests of all entries, in order
+abbrev pub list_tests : PageList → List AddressTest
+list_tests l = flat_map (entry_tests l) (range_with_len 0 l.pages)
+
+-- the list of the pages for so many bytes
+abbrev pub list_of : List ℕ → ℕ → ℕ → PageList
+list_of window start bytes = record { window = window; start = start; pages = (bytes + 4095) / 4096 }
+
+-- A transfer of so many bytes, at a command's two entries.
+pub record Transfer : Type 0 where
+  pub window : List ℕ
+  pub prp1 : ℕ
+  pub prp2 : ℕ
+  pub bytes : ℕ
+
+abbrev pub transfer : List ℕ → ℕ → ℕ → ℕ → Transfer
+transfer window prp1 prp2 bytes = record { window = window; prp1 = prp1; prp2 = prp2; bytes = bytes }
+
+-- how many pages it needs behind the first
+abbrev pub further_pages : Transfer → ℕ
+further_pages t = (t.bytes - room t.prp1 + 4095) / 4096
+
+-- the list that PRP2 points to, where these are several
+abbrev pub list : Transfer → PageList
+list t = record { window = t.window; start = t.prp2; pages = further_pages t }
+
+-- the address of further page j: one page is PRP2 itself, several are listed
+abbrev pub page : Transfer → ℕ → ℕ
+page t j = if further_pages t == 1 then t.prp2 else listed (list t) j
+
+-- the address of byte k
+abbrev pub address : Transfer → ℕ → ℕ
+address t k =
+    if nat_lt k (room t.prp1)
+    then t.prp1 + k
+    else page t ((k - room t.prp1) / 4096) + (k - room t.prp1) % 4096
+
+-- the tests that PRP2 brings, by the number of pages that it leads to
+abbrev pub further_tests : Transfer → ℕ → List AddressTest
+further_tests t zero = []
+further_tests t (suc zero) = page_test t.prp2 ∷ []
+further_tests t (suc (suc n)) =
+    record { address = t.prp2; unit = 8 } ∷ flat_map (entry_tests (list t)) (range_with_len 0 (suc (suc n)))
+
+-- all tests, in the order in which their addresses are met
+abbrev pub pointer_tests : Transfer → List AddressTest
+pointer_tests t = record { address = t.prp1; unit = 4 } ∷ further_tests t (further_pages t)
+
+-- what is wrong with the entries, if anything is
+abbrev pub pointer_fault : Transfer → Option DataFault
+pointer_fault t = first_fault (pointer_tests t)

@@ -1,0 +1,44 @@
+-- Words of the worked examples of reservations.
+use Rattle.std.specs.Prelude.{ℕ, Bool, List, [], ◌∷◌, Ok, Err}
+use Rattle.nvme_spec.specs.declared.access.Registrant.{Registrant}
+use Rattle.nvme_spec.specs.declared.access.Hold.{Hold}
+use Rattle.nvme_spec.specs.declared.access.Role.{Role}
+use Rattle.nvme_spec.specs.declared.access.Role.TheVariants.{Outsider, Registrant as OnlyRegistrant, Holder}
+use Rattle.nvme_spec.specs.declared.access.Group.TheVariants.{Read, Write}
+use Rattle.nvme_spec.specs.Reservation.{Reservation, Outcome}
+use Rattle.nvme_spec.specs.Access.{is_permitted_under}
+use Rattle.nvme_spec.specs.Report.{ControllerHost}
+
+-- one action after another; the first that is denied ends them
+abbrev pub and_then : Outcome → (Reservation → Outcome) → Outcome
+and_then (Ok r) action = action r
+and_then (Err status) action = Err status
+
+abbrev pub steps : Reservation → List (Reservation → Outcome) → Outcome
+steps r [] = Ok r
+steps r (action ∷ rest) = and_then (action r) (λ next. steps next rest)
+
+-- whether a role may read, and whether it may write
+abbrev pub reads_and_writes : ℕ → Role → Bool × Bool
+reads_and_writes type role = (is_permitted_under type role Read, is_permitted_under type role Write)
+
+-- what an outsider, a registrant and a holder may do under a type
+abbrev pub permissions : ℕ → List (Bool × Bool)
+permissions type = reads_and_writes type Outsider ∷ reads_and_writes type OnlyRegistrant ∷ reads_and_writes type Holder ∷ []
+
+-- the registrants a1h, b2h and c3h, by their keys
+abbrev pub a1 : ℕ → Registrant
+a1 key_of_a1 = record { host = 0xa1; key = key_of_a1 }
+
+abbrev pub b2 : ℕ → Registrant
+b2 key_of_b2 = record { host = 0xb2; key = key_of_b2 }
+
+abbrev pub c3 : ℕ → Registrant
+c3 key_of_c3 = record { host = 0xc3; key = key_of_c3 }
+
+abbrev pub state : List Registrant → Hold → ℕ → Reservation
+state rising held changes = record { registrants = rising; hold = held; generation = changes }
+
+-- controllers 1 and 3 are of host a1h, controller 2 is of host b2h, controller 4 of host c3h
+abbrev pub four_controllers : List ControllerHost
+four_controllers = (1, 0xa1) ∷ (2, 0xb2) ∷ (3, 0xa1) ∷ (4, 0xc3) ∷ []

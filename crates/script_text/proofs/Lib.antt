@@ -1,0 +1,6 @@
+mod FillLemmas
+mod HexTextLemmas
+pub mod OnLiterals
+mod NumberLemmas
+mod TrimLemmas
+pub mod DataLengths

@@ -1,0 +1,8 @@
+-- What an answer unfolds to compute the numbers and data that a literal word spells.
+use Rattle.std.specs.Prelude.{⊤}
+use Rattle.hex.proofs.OnLiterals.{hex_on_literals}
+use Rattle.script_text.specs.Numbers.{number_at}
+
+unfoldable pub words_on_literals : ⊤
+unfolding number_at hex_on_literals
+words_on_literals = tt

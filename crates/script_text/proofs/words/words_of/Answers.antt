@@ -1,0 +1,8 @@
+use Rattle.std.proofs.Common.{rules, tests}
+use Rattle.std.proofs.lemmas.Iterator.Consumers.{map_from_collect, YieldsList-from_filter, YieldsList-at}
+use Rattle.std.proofs.lemmas.Iterator.Splits.{YieldsList-from_slice_split}
+use Rattle.script_text.specs.Words.{is_separator, is_nonempty}
+use Rattle.script_text.proofs.words.words_of.Goals as goal
+
+pub returns : goal.returns
+returns c = record { words = map_from_collect _ c.collect.ensures.ran (YieldsList-from_filter _ is_nonempty (YieldsList-at c.filter.ensures.source (YieldsList-from_slice_split _ is_separator c.args.line.now c.split.ensures.rest c.split.ensures.done c.split.ensures.closure (λ x r q k. search (rules, tests)))) c.filter.ensures.closure (λ x r q k. search (rules, tests))) }

@@ -1,0 +1,68 @@
+//! Worked examples of the definitions: the contract of each function here is computed by the check.
+
+ghost use Rattle.std.specs.Prelude.{◌≡◌, ◌++◌, ◌∷◌, [], Some, None, codes, replicate};
+ghost use Rattle.script_text.specs.Numbers.{number_at};
+ghost use Rattle.script_text.specs.Words.{line_words};
+ghost use Rattle.script_text.specs.Data.{data_at};
+ghost use Rattle.script_text.specs.HexText.{hex_or_dash, without_trailing_zeros};
+
+#[tactic(auto, unfolding(crate::specs::Numbers::number_at))]
+pub fn numbers()
+    ensures decimal { number_at 16 (codes "65535") ≡ Some 65535 }
+    ensures zeros_in_front { number_at 8 (codes "000000000000000000000000255") ≡ Some 255 }
+    ensures lower_case { number_at 32 (codes "0xdeadbeef") ≡ Some 0xdeadbeef }
+    ensures upper_case { number_at 32 (codes "0xDEADbeef") ≡ Some 0xdeadbeef }
+    ensures widest { number_at 64 (codes "0xffffffffffffffff") ≡ Some 18446744073709551615 }
+{}
+
+#[tactic(auto, unfolding(crate::specs::Numbers::number_at))]
+pub fn no_numbers()
+    ensures above_8_bits { number_at 8 (codes "256") ≡ None }
+    ensures above_16_bits { number_at 16 (codes "65536") ≡ None }
+    ensures above_32_bits { number_at 32 (codes "0x100000000") ≡ None }
+    ensures above_64_bits { number_at 64 (codes "18446744073709551616") ≡ None }
+    ensures plus { number_at 64 (codes "+1") ≡ None }
+    ensures minus { number_at 64 (codes "-1") ≡ None }
+    ensures no_digit { number_at 64 (codes "0x") ≡ None }
+    ensures nothing { number_at 64 [] ≡ None }
+    ensures prefix_in_upper_case { number_at 64 (codes "0X1") ≡ None }
+    ensures digit_of_another_base { number_at 64 (codes "12a") ≡ None }
+{}
+
+pub fn words()
+    ensures separated { line_words (codes " do" ++ 9 ∷ codes "1  read" ++ 13 ∷ []) ≡ codes "do" ∷ codes "1" ∷ codes "read" ∷ [] }
+    ensures vertical_tab { line_words (codes "a" ++ 11 ∷ codes "b") ≡ (codes "a" ++ 11 ∷ codes "b") ∷ [] }
+    ensures form_feed { line_words (codes "a" ++ 12 ∷ codes "b") ≡ (codes "a" ++ 12 ∷ codes "b") ∷ [] }
+    ensures none { line_words (32 ∷ 9 ∷ 13 ∷ []) ≡ [] }
+{}
+
+#[tactic(auto, unfolding(hex::proofs::OnLiterals::hex_on_literals))]
+pub fn payloads()
+    ensures filled { data_at 2 (codes "fill:5a") ≡ Some (replicate 1024 90) }
+    ensures padded { data_at 1 (codes "hex:48656c6C6f") ≡ Some (codes "Hello" ++ replicate 507 0) }
+    ensures longest { data_at 1 (codes "hex:" ++ replicate 1024 48) ≡ Some (replicate 512 0) }
+    ensures no_transfer { data_at 0 (codes "hex:00") ≡ Some [] }
+    ensures too_many_blocks { data_at 257 (codes "fill:00") ≡ Some [] }
+    ensures long_for_no_transfer { data_at 0 (codes "hex:" ++ replicate 1026 48) ≡ Some [] }
+{}
+
+#[tactic(auto, unfolding(hex::proofs::OnLiterals::hex_on_literals))]
+pub fn no_payloads()
+    ensures one_digit { data_at 1 (codes "fill:5") ≡ None }
+    ensures three_digits { data_at 1 (codes "fill:5a5") ≡ None }
+    ensures two_bytes { data_at 1 (codes "fill:5a5a") ≡ None }
+    ensures no_hex_digit { data_at 1 (codes "fill:5g") ≡ None }
+    ensures odd { data_at 1 (codes "hex:486") ≡ None }
+    ensures empty { data_at 1 (codes "hex:") ≡ None }
+    ensures too_long { data_at 1 (codes "hex:" ++ replicate 1026 48) ≡ None }
+    ensures no_form { data_at 1 (codes "48") ≡ None }
+    ensures form_in_upper_case { data_at 1 (codes "HEX:48") ≡ None }
+    ensures odd_for_no_transfer { data_at 0 (codes "hex:0") ≡ None }
+{}
+
+pub fn shown_bytes()
+    ensures trimmed { hex_or_dash (without_trailing_zeros (codes "Hello" ++ replicate 507 0)) ≡ codes "48656c6c6f" }
+    ensures inner_zeros { hex_or_dash (without_trailing_zeros (0 ∷ 10 ∷ 0 ∷ 255 ∷ 0 ∷ [])) ≡ codes "000a00ff" }
+    ensures zeros { hex_or_dash (without_trailing_zeros (replicate 512 0)) ≡ codes "-" }
+    ensures nothing { hex_or_dash (without_trailing_zeros []) ≡ codes "-" }
+{}
