@@ -5,3 +5,6 @@ pub mod PagesJoined
 pub mod PagesSound
 pub mod Runs
 pub mod TransferLaws
+pub mod QueueLaws
+pub mod RegisterLaws
+pub mod AttachmentLaws

@@ -20,3 +20,17 @@ pub mod TransferLaws
 pub mod ExampleWindows
 pub mod IoData
 pub mod IoSteps
+pub mod Queues
+pub mod QueueLaws
+pub mod Registers
+pub mod RegisterLaws
+pub mod RegisterExamples
+pub mod ExistingQueues
+pub mod AdminCommands
+pub mod Attachments
+pub mod AttachmentLaws
+pub mod AdminRules
+pub mod Identify
+pub mod AdminEffects
+pub mod AdminExamples
+pub mod ClusterExamples

@@ -8,10 +8,14 @@ mod config;
 mod examples;
 mod laws;
 mod pointer;
+mod queues;
+mod registers;
 mod verdict;
 
 pub use access::{Group, Hold, Registrant, Role};
 pub use command::{AdminCommand, Command};
 pub use config::{Attachment, Config, ConfigFault, ControllerConfig, NsConfig};
 pub use pointer::{DataFault, Piece};
+pub use queues::{QueueChange, Queues};
+pub use registers::{AdminQueues, ControllerState, RegEffect};
 pub use verdict::{Denial, Plan, Verdict};

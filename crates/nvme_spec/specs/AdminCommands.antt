@@ -1,0 +1,124 @@
+-- The admin commands: their opcodes, their fields and the data that they move (Base Specification: Admin Command Set;
+-- Create and Delete I/O Completion Queue, Create and Delete I/O Submission Queue, Identify, Set Features and Get
+-- Features with Number of Queues, Host Identifier and Namespace Write Protection Config, Namespace Attachment).
+use Rattle.std.specs.Prelude.{ℕ, ◌+◌, ◌==◌, Bool, false, ◌&&◌, if◌then◌else◌, List, [], ◌∷◌, Option, None, Some, find}
+use Rattle.std.specs.List.{list_any}
+use Rattle.nvme_wire.specs.Entry.{bits}
+use Rattle.nvme_wire.specs.Submission.{cdw10, cdw11}
+use Rattle.nvme_spec.specs.declared.command.AdminCommand.{AdminCommand}
+use Rattle.nvme_spec.specs.declared.command.AdminCommand.TheVariants.{DeleteSubmissionQueue, CreateSubmissionQueue, DeleteCompletionQueue, CreateCompletionQueue, Identify, SetFeatures, GetFeatures, NamespaceAttachment}
+
+abbrev pub opcode_of : AdminCommand → ℕ
+opcode_of DeleteSubmissionQueue = 0x00
+opcode_of CreateSubmissionQueue = 0x01
+opcode_of DeleteCompletionQueue = 0x04
+opcode_of CreateCompletionQueue = 0x05
+opcode_of Identify = 0x06
+opcode_of SetFeatures = 0x09
+opcode_of GetFeatures = 0x0a
+opcode_of NamespaceAttachment = 0x15
+
+abbrev pub all_commands : List AdminCommand
+all_commands =
+    DeleteSubmissionQueue ∷ CreateSubmissionQueue ∷ DeleteCompletionQueue ∷ CreateCompletionQueue
+    ∷ Identify ∷ SetFeatures ∷ GetFeatures ∷ NamespaceAttachment ∷ []
+
+-- the command with this opcode
+unfoldable pub command_of : ℕ → Option AdminCommand
+command_of opcode = find (λ c. opcode_of c == opcode) all_commands
+
+-- there is a command, and it is one of these
+abbrev pub is_one_of : Option AdminCommand → List AdminCommand → Bool
+is_one_of None commands = false
+is_one_of (Some command) commands = list_any (λ c. opcode_of c == opcode_of command) commands
+
+-- The fields of an entry.
+
+-- Queue Identifier: bits 15:0 of double word 10
+unfoldable pub queue_id : List ℕ → ℕ
+queue_id e = bits (cdw10 e) 15 0
+
+-- Queue Size, in entries: one more than bits 31:16
+unfoldable pub queue_size : List ℕ → ℕ
+queue_size e = bits (cdw10 e) 31 16 + 1
+
+-- Physically Contiguous: bit 0 of double word 11
+unfoldable pub is_contiguous : List ℕ → Bool
+is_contiguous e = bits (cdw11 e) 0 0 == 1
+
+-- Completion Queue Identifier, of a submission queue: bits 31:16 of double word 11
+unfoldable pub completion_queue_id : List ℕ → ℕ
+completion_queue_id e = bits (cdw11 e) 31 16
+
+-- Controller or Namespace Structure: bits 7:0 of double word 10
+unfoldable pub structure : List ℕ → ℕ
+structure e = bits (cdw10 e) 7 0
+
+-- the structures: a namespace, the controller, the list of the namespaces that are attached to it
+abbrev pub namespace_structure : ℕ
+namespace_structure = 0x00
+
+abbrev pub controller_structure : ℕ
+controller_structure = 0x01
+
+abbrev pub namespace_list_structure : ℕ
+namespace_list_structure = 0x02
+
+-- Feature Identifier: bits 7:0 of double word 10
+unfoldable pub feature_id : List ℕ → ℕ
+feature_id e = bits (cdw10 e) 7 0
+
+abbrev pub number_of_queues : ℕ
+number_of_queues = 0x07
+
+abbrev pub host_identifier : ℕ
+host_identifier = 0x81
+
+abbrev pub write_protection : ℕ
+write_protection = 0x84
+
+-- Save: bit 31 of double word 10
+unfoldable pub is_saved : List ℕ → Bool
+is_saved e = bits (cdw10 e) 31 31 == 1
+
+-- Number of I/O Submission Queues Requested and Number of I/O Completion Queues Requested: the halves of double word 11
+unfoldable pub submission_queues_requested : List ℕ → ℕ
+submission_queues_requested e = bits (cdw11 e) 15 0
+
+unfoldable pub completion_queues_requested : List ℕ → ℕ
+completion_queues_requested e = bits (cdw11 e) 31 16
+
+-- Write Protection State: bits 2:0 of double word 11; 0 is none, 1 is write protected
+unfoldable pub protection_state : List ℕ → ℕ
+protection_state e = bits (cdw11 e) 2 0
+
+-- Enable Extended Host Identifier: bit 0 of double word 11
+unfoldable pub has_extended_host : List ℕ → Bool
+has_extended_host e = bits (cdw11 e) 0 0 == 1
+
+-- Select, of Namespace Attachment: bits 3:0 of double word 10; 0 attaches, 1 detaches
+unfoldable pub selection : List ℕ → ℕ
+selection e = bits (cdw10 e) 3 0
+
+-- the command sets or gets this feature
+abbrev pub names_feature : Option AdminCommand → ℕ → List ℕ → Bool
+names_feature command feature e = is_one_of command (SetFeatures ∷ GetFeatures ∷ []) && feature_id e == feature
+
+-- the command asks for this structure
+abbrev pub asks_for : Option AdminCommand → ℕ → List ℕ → Bool
+asks_for command which e = is_one_of command (Identify ∷ []) && structure e == which
+
+-- the bytes that a command moves between host and controller
+abbrev pub data_length : AdminCommand → List ℕ → ℕ
+data_length DeleteSubmissionQueue e = 0
+data_length CreateSubmissionQueue e = 0
+data_length DeleteCompletionQueue e = 0
+data_length CreateCompletionQueue e = 0
+data_length Identify e = 4096
+data_length SetFeatures e = 0
+data_length GetFeatures e = if feature_id e == host_identifier then 8 else 0
+data_length NamespaceAttachment e = 4096
+
+-- The way that they go stands in bits 1:0 of the opcode: 10b from the controller to the host, 01b from the host
+abbrev pub goes_to_host : AdminCommand → Bool
+goes_to_host command = bits (opcode_of command) 1 0 == 2

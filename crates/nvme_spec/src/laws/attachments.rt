@@ -1,0 +1,8 @@
+ghost use Rattle.nvme_spec.specs.AttachmentLaws.{AddsTheListed, RemovesTheListed};
+
+/// Which controllers a namespace is attached to after a list was attached, or detached.
+#[tactic(auto, using(crate::proofs::AttachmentLaws::adds_the_listed, crate::proofs::AttachmentLaws::removes_the_listed))]
+fn attachments()
+    ensures attached { AddsTheListed }
+    ensures detached { RemovesTheListed }
+{}

@@ -1,0 +1,25 @@
+ghost use Rattle.nvme_spec.specs.QueueLaws.{NextTurn, TwoTurns, TailAtHead, HeadAtTail, AllFetched, SubmissionHeadStays, CompletionTailStays, SubmissionTailStays, CompletionHeadStays};
+
+/// Slots come again each turn round the ring, with the other phase tag.
+#[tactic(auto, using(crate::proofs::QueueLaws::next_turn, crate::proofs::QueueLaws::two_turns))]
+fn turns()
+    ensures next { NextTurn }
+    ensures two { TwoTurns }
+{}
+
+/// A doorbell or a head that names the other end empties the queue.
+#[tactic(auto, using(crate::proofs::QueueLaws::tail_at_head, crate::proofs::QueueLaws::head_at_tail, crate::proofs::QueueLaws::all_fetched))]
+fn emptied()
+    ensures submission { TailAtHead }
+    ensures completion { HeadAtTail }
+    ensures heard { AllFetched }
+{}
+
+/// The counts of each end stay within their bounds.
+#[tactic(auto, using(crate::proofs::QueueLaws::submission_head_stays, crate::proofs::QueueLaws::completion_tail_stays, crate::proofs::QueueLaws::submission_tail_stays, crate::proofs::QueueLaws::completion_head_stays))]
+fn bounded()
+    ensures submission_head { SubmissionHeadStays }
+    ensures completion_tail { CompletionTailStays }
+    ensures submission_tail { SubmissionTailStays }
+    ensures completion_head { CompletionHeadStays }
+{}

@@ -1,0 +1,40 @@
+//! What a write to a controller's registers brings about.
+
+/// What a register write asks of the controller.
+#[derive(Clone, Copy, Debug, PartialEq, Eq)]
+pub enum RegEffect {
+    /// Nothing beyond the registers themselves.
+    Nothing,
+    /// The controller was enabled and is ready: the admin queues exist, empty. It may be shut down already.
+    Enable,
+    /// The controller was reset: all queues and all fetched commands are dropped.
+    Disable,
+    /// The controller was shut down: nothing is fetched from then on.
+    Shutdown,
+    /// The tail doorbell of a submission queue was written: its identifier, and the new tail.
+    SqTail(u16, u16),
+    /// The head doorbell of a completion queue was written: its identifier, and the new head.
+    CqHead(u16, u16),
+}
+
+/// Whether a controller runs (Base Specification 2.0, Controller Status).
+#[derive(Clone, Copy, Debug, PartialEq, Eq)]
+pub enum ControllerState {
+    /// Not enabled.
+    Off,
+    /// Enabled and ready.
+    Ready,
+    /// Enabled and ready, and told to shut down.
+    ShutDown,
+    /// Enabled with values that the controller does not take: a fatal status.
+    Failed,
+}
+
+/// The admin queues, by their addresses and their sizes in entries.
+#[derive(Clone, Copy, Debug, PartialEq, Eq)]
+pub struct AdminQueues {
+    pub sq_base: u64,
+    pub sq_size: u16,
+    pub cq_base: u64,
+    pub cq_size: u16,
+}
