@@ -1,2 +1,3 @@
 pub use Rattle.nvme_spec.specs.Blocks
 pub mod Memory
+pub mod Failing

@@ -1,14 +1,16 @@
 //! Block media: logical blocks of 512 bytes that are read and written whole, by calls of which each may fail.
 #![tactic(auto)]
 
+mod failing;
 mod medium;
 mod memory;
 mod source;
 mod transfer;
 
+pub use failing::Failing;
 pub use medium::{BLOCK, Medium, MediumFault};
 pub use memory::MemMedium;
-pub use source::{Lent, Source};
+pub use source::{Lent, Source, Zeros};
 pub use transfer::{read_blocks, write_blocks};
 
 #[cfg(test)]

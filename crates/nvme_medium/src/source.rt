@@ -1,4 +1,4 @@
-ghost use Rattle.std.specs.Prelude.{◌≡◌, ◌+◌, ◌*◌, ◌≤◌, List, ℕ, length};
+ghost use Rattle.std.specs.Prelude.{◌≡◌, ◌+◌, ◌*◌, ◌≤◌, List, ℕ, length, replicate};
 ghost use Rattle.nvme_spec.specs.Blocks.{block_at};
 
 /// The data that a command brings, a block at a time.
@@ -24,5 +24,19 @@ impl Source for Lent<'_> {
     fn gather(&self, j: u64, block: &mut [u8; 512]) {
         let at = 512 * j as usize;
         block.copy_from_slice(&self.bytes[at..at + 512]);
+    }
+}
+
+/// This many blocks of zeros.
+#[derive(Clone, Copy, Debug)]
+pub struct Zeros {
+    pub blocks: u64,
+}
+
+impl Source for Zeros {
+    ghost bytes = { λ s. replicate (512 * s.blocks) 0 };
+
+    fn gather(&self, _: u64, block: &mut [u8; 512]) {
+        block.fill(0);
     }
 }

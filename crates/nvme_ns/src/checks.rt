@@ -1,6 +1,6 @@
 //! When a configuration is refused.
 
-ghost use Rattle.std.specs.Prelude.{◌≡◌, ◌==◌, ◌<◌, ◌≤◌, ◌^◌, None, Some, OnOk, IfErr, false};
+ghost use Rattle.std.specs.Prelude.{◌≡◌, ◌==◌, ◌<◌, ◌≤◌, ◌^◌, None, Some, OnOk, IfErr, true, false};
 ghost use Rattle.std.specs.List.{list_any};
 ghost use Rattle.nvme_spec.specs.Configuration as spec;
 ghost use Rattle.nvme_ns.specs.Configured.{configuration};
@@ -21,6 +21,7 @@ const MAX_BLOCKS: u64 = 65_536;
 #[tactic(auto, unfolding(nvme_spec::specs::Configuration::first_config_fault))]
 pub fn check(config: &Config, medium_blocks: u64) -> Result<(), ConfigFault>
     ensures passed { OnOk result (spec.first_config_fault (configuration config.now) medium_blocks ≡ None) }
+    ensures numbered { OnOk result (spec.are_numbered config.now.controllers.items ≡ true) }
     ensures counts { OnOk result (spec.has_too_many (configuration config.now) ≡ false) }
     ensures total { OnOk result (spec.total_blocks config.now.namespaces.items < 2 ^ 64) }
     ensures fits { OnOk result (spec.total_blocks config.now.namespaces.items ≤ medium_blocks) }

@@ -1,5 +1,6 @@
-ghost use Rattle.std.specs.Prelude.{◌≡◌, ◌==◌, None, Some, IfOk, IfErr, option_map, option_copied, IsSome, position};
+ghost use Rattle.std.specs.Prelude.{◌≡◌, ◌==◌, ◌≤◌, None, Some, length, map, IfOk, IfErr, option_map, option_copied, IsSome, position};
 ghost use Rattle.nvme_spec.specs.Configuration.{first_config_fault};
+ghost use Rattle.nvme_spec.specs.Report.{HasRisingIds};
 ghost use Rattle.nvme_spec.specs.World as world;
 ghost use Rattle.std.specs.Borrow.{sem};
 ghost use Rattle.nvme_ns.specs.Configured.{configuration};
@@ -8,6 +9,7 @@ ghost use Rattle.nvme_ns.specs.Lending.{LendsReservation};
 use crate::Namespace;
 use crate::checks::{MAX_ATTACHMENTS, MAX_CONTROLLERS, MAX_NAMESPACES, check};
 use crate::opening::{attachment_table, controller_table, namespace_table};
+use crate::pairs::pairs_of;
 use arrayvec::ArrayVec;
 use nvme_resv::Reservation;
 use nvme_spec::{Attachment, Config, ConfigFault, ControllerConfig};
@@ -22,11 +24,15 @@ pub struct Spaces {
 }
 
 impl Model for Spaces {
+    ghost use Rattle.std.specs.Prelude.{◌≡◌, true};
+    ghost use Rattle.nvme_spec.specs.Configuration.{are_numbered};
     ghost use Rattle.nvme_spec.specs.World.{World as State};
 
     ghost Value = { State };
 
     ghost view = { λ a. record { controllers = a.controllers.items; namespaces = a.namespaces.items; attachments = a.attachments.items } };
+
+    ghost invariant = { λ a. are_numbered a.controllers.items ≡ true };
 }
 
 impl Spaces {
@@ -49,10 +55,20 @@ impl Spaces {
         })
     }
 
+    /// The identifiers of all controllers with their hosts, by rising identifier.
+    pub fn controllers(&self) -> ArrayVec<(u16, u64), MAX_CONTROLLERS>
+        ensures listed { result.items ≡ map (λ k. (k.cntlid, k.host)) self.now.controllers }
+        ensures few { length self.now.controllers ≤ 16 }
+        ensures rising { HasRisingIds result.items }
+    {
+        pairs_of(&self.controllers)
+    }
+
     /// The host that a controller belongs to, or None for a controller that isn't configured.
     #[tactic(auto, unfolding(nvme_spec::specs::World::host_of))]
     pub fn host_of(&self, cntlid: u16) -> Option<u64>
-        ensures { result ≡ world.host_of self.now cntlid }
+        ensures host { result ≡ world.host_of self.now cntlid }
+        ensures few { length self.now.controllers ≤ 16 }
     {
         self.controllers
             .iter()

@@ -47,10 +47,10 @@ pub fn persistence(sqe: &Sqe) -> u32
 
 /// The reservation type, 0 to 255 (RTYPE).
 #[tactic(auto, unfolding(nvme_spec::specs::Commands::reservation_type))]
-pub fn reservation_type(sqe: &Sqe) -> u32
+pub fn reservation_type(sqe: &Sqe) -> u8
     ensures { result ≡ spec.reservation_type sqe.now }
 {
-    (sqe.cdw10() >> 8) & 0xff
+    ((sqe.cdw10() >> 8) & 0xff) as u8
 }
 
 /// Whether the extended data structure of a report is asked for (EDS).

@@ -3,7 +3,7 @@
 
 mod access;
 mod command;
-mod fields;
+pub mod fields;
 mod planning;
 mod rules;
 mod verdict;

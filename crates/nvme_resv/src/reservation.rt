@@ -62,7 +62,9 @@ impl Reservation {
 
     /// Whether the host is registered or can be: a namespace has at most sixteen registrants.
     pub fn has_room_for(&self, host: u64) -> bool
-        ensures { IsTrue result ↔ HasRoomFor self.now host }
+        ensures room { IsTrue result ↔ HasRoomFor self.now host }
+        // The registrants rise by host, so that each host is counted once.
+        ensures rising { resv.IsRising self.now.registrants }
     {
         is_registered(&self.registrants, host) || !self.registrants.is_full()
     }

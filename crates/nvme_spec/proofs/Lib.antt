@@ -8,3 +8,5 @@ pub mod TransferLaws
 pub mod QueueLaws
 pub mod RegisterLaws
 pub mod AttachmentLaws
+pub mod Hosts
+pub mod Worlds

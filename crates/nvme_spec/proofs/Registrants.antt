@@ -85,7 +85,7 @@ pub removed_hosts-filter : (p : Registrant → Bool) (xs : List Registrant) → 
     → removed_hosts xs (filter (λ x. not (p x)) xs) ≡ map (λ r. r.host) (filter p xs)
 removed_hosts-filter p xs h = ap (map (λ r. r.host)) (filter-same_on _ _ xs (gone p xs h))
 
-all-append : {X : Type 0} (P : X → Type 0) (xs : List X) (v : X) (ys : List X) → AllByRecursion P xs → P v → AllByRecursion P ys → AllByRecursion P (xs ++ v ∷ ys)
+pub all-append : {X : Type 0} (P : X → Type 0) (xs : List X) (v : X) (ys : List X) → AllByRecursion P xs → P v → AllByRecursion P ys → AllByRecursion P (xs ++ v ∷ ys)
 all-append P [] v ys a b c = (b, c)
 all-append P (x ∷ xs) v ys a b c = (a.0, all-append P xs v ys a.1 b c)
 

@@ -1,7 +1,7 @@
 -- The rules that look at the data of an I/O command, behind those on access: its data pointer, and the keys of a
 -- reservation command (Base Specification: Physical Region Page Entry and List; Reservation Register, Acquire,
 -- Release, and their data structures).
-use Rattle.std.specs.Prelude.{ℕ, ◌+◌, ◌==◌, Bool, true, if◌then◌else◌, List, [], ◌∷◌, ◌++◌, Option, None, Some, Result, Ok, Err}
+use Rattle.std.specs.Prelude.{ℕ, ◌==◌, Bool, true, if◌then◌else◌, List, [], ◌∷◌, ◌++◌, Option, None, Some, Ok, Err}
 use Rattle.nvme_wire.specs.Entry.{qword_at}
 use Rattle.nvme_wire.specs.Submission.{opcode, nsid, prp1, prp2}
 use Rattle.nvme_wire.specs.declared.status.Status.{Status}
