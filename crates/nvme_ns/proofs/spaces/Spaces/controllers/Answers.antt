@@ -1,4 +1,3 @@
-use Rattle.std.proofs.Common.{◌∙◌}
 use Rattle.nvme_ns.proofs.Numbered.{rising}
 use Rattle.nvme_ns.proofs.spaces.Spaces.controllers.Goals as goal
 

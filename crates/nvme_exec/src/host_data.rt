@@ -1,0 +1,22 @@
+//! The data that a command brings in the memory of its host.
+
+ghost use Rattle.nvme_spec.specs.Transfers.{addresses, gathered};
+
+use nvme_medium::Source;
+use nvme_mem::Window;
+use nvme_prp::{Pieces, gather_block};
+
+/// The data at the pieces of a window.
+#[derive(Drop)]
+pub struct HostData<'a> {
+    pub window: &'a Window,
+    pub pieces: &'a Pieces,
+}
+
+impl Source for HostData<'_> {
+    ghost bytes = { λ s. gathered s.window.now (addresses s.pieces.now.parts.items) };
+
+    fn gather(&self, j: u64, block: &mut [u8; 512]) {
+        gather_block(self.window, self.pieces, j, block);
+    }
+}

@@ -1,0 +1,20 @@
+//! The execution of I/O commands: what an allowed command does to the blocks of a medium, to the memory of its host and
+//! to the reservation of its namespace, and the status that each command is answered with.
+#![tactic(auto)]
+
+mod actions;
+mod admission;
+mod answering;
+mod blocks;
+mod carrying;
+mod execution;
+mod host_data;
+mod outcome;
+mod reservations;
+mod transfer;
+
+pub use execution::execute;
+pub use outcome::{Marks, Outcome};
+
+#[cfg(test)]
+mod tests;

@@ -1,0 +1,4 @@
+pub mod Reaching
+pub mod Stepping
+pub mod Running
+pub mod Preparing

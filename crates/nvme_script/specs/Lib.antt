@@ -1,0 +1,9 @@
+pub use Rattle.nvme_spec.specs.World
+pub use Rattle.nvme_spec.specs.Effects
+pub use Rattle.nvme_spec.specs.Configuration
+pub use Rattle.nvme_grammar.specs.Script
+pub mod Direct
+pub mod Transcript
+pub mod Faults
+pub mod Replies
+pub mod Devices

@@ -1,0 +1,14 @@
+//! Scripts: what hosts do to a subsystem, line by line, and the transcript of what it answers.
+#![tactic(auto)]
+
+mod direct;
+mod program;
+mod reading;
+mod reply;
+mod run;
+
+pub use program::run_program;
+pub use run::{ScriptFault, run_script};
+
+#[cfg(test)]
+mod tests;

@@ -1,0 +1,214 @@
+//! The program: `nvmesim [IMAGE [SCRIPT]]` over streams that are handed in.
+
+ghost use Rattle.std.specs.Prelude.{◌≤◌};
+
+use crate::run::{ScriptFault, run_script};
+use clap::error::ErrorKind;
+use clap::{Arg, ArgAction, Command};
+use nvme_medium::MemMedium;
+use nvme_wire::NoMemory;
+use std::alloc::{AllocError, Global};
+use std::fs::OpenOptions;
+use std::io::{BufWriter, Read, Seek, SeekFrom, Write};
+use std::rt::Files;
+use std::{fs, io};
+use thiserror::Error;
+
+/// How many bytes the medium in memory has where no image is named: 1,024 blocks.
+const SCRATCH_BYTES: usize = 1024 * 512;
+
+/// Why the program ends with a status other than 0. Its text is what the program prints.
+#[derive(Clone, Copy, Debug, Error, PartialEq, Eq)]
+enum Failure {
+    #[error("{0}")]
+    Script(ScriptFault),
+    #[error("file fault")]
+    File,
+    #[error("bad command line")]
+    CommandLine,
+    #[error("out of memory")]
+    Memory,
+}
+
+impl Failure {
+    /// The exit status.
+    fn status(self) -> u8
+        ensures { result ≤ 4 }
+    {
+        match self {
+            Failure::Script(
+                ScriptFault::Syntax(_) | ScriptFault::Config(_, _) | ScriptFault::TooLong,
+            ) => 1,
+            Failure::Script(ScriptFault::Read | ScriptFault::Write) | Failure::File => 2,
+            Failure::CommandLine => 3,
+            Failure::Script(ScriptFault::NoMemory) | Failure::Memory => 4,
+        }
+    }
+}
+
+impl From<io::Error> for Failure {
+    fn from(error: io::Error) -> Failure {
+        match error.kind() {
+            io::ErrorKind::OutOfMemory => Failure::Memory,
+            _ => Failure::File,
+        }
+    }
+}
+
+impl From<AllocError> for Failure {
+    fn from(_: AllocError) -> Failure {
+        Failure::Memory
+    }
+}
+
+impl From<NoMemory> for Failure {
+    fn from(_: NoMemory) -> Failure {
+        Failure::Memory
+    }
+}
+
+/// What the command line names.
+#[derive(Drop)]
+struct Paths<'a> {
+    /// The image; without it the medium is zeros in memory.
+    image: Option<&'a str>,
+    /// The script; without it the script is the standard input.
+    script: Option<&'a str>,
+}
+
+/// The paths on a command line, whose first word is the program's name. A word that begins with `-` and is not `-`
+/// alone is an option, and there is none.
+fn paths_of<'a>(alloc: Global, words: &'a [String]) -> Result<Paths<'a>, Failure> {
+    if words.iter().skip(1).any(|word| word.as_str() == "--") {
+        return Err(Failure::CommandLine);
+    }
+    let command = Command::new(alloc, "nvmesim")
+        .disable_help_flag(true)
+        .arg(Arg::new(alloc, "image").action(ArgAction::Set))?
+        .arg(Arg::new(alloc, "script").action(ArgAction::Set))?;
+    match command.try_get_matches_from(words) {
+        Ok(matches) => Ok(Paths {
+            image: matches.get_str("image").filter(|path| *path != "-"),
+            script: matches.get_str("script"),
+        }),
+        Err(error) => match error.kind() {
+            ErrorKind::OutOfMemory => Err(Failure::Memory),
+            _ => Err(Failure::CommandLine),
+        },
+    }
+}
+
+/// What a run left: the medium, where there is one to be kept, and whether all went well.
+#[derive(Drop)]
+struct Ran {
+    medium: MemMedium,
+    outcome: Result<(), ScriptFault>,
+}
+
+/// Runs a script over a medium, and writes its transcript through a buffer.
+fn run_over<I: Read, O: Write>(
+    alloc: Global,
+    input: &mut I,
+    output: &mut O,
+    medium: MemMedium,
+) -> Result<Ran, Failure> {
+    let mut buffered = BufWriter::new(alloc, output)?;
+    let ran = match run_script(alloc, input, &mut buffered, medium) {
+        Ok(medium) => Ran {
+            medium,
+            outcome: Ok(()),
+        },
+        Err((fault, medium)) => Ran {
+            medium,
+            outcome: Err(fault),
+        },
+    };
+    if ran.outcome.is_ok() && buffered.flush().is_err() {
+        return Ok(Ran {
+            medium: ran.medium,
+            outcome: Err(ScriptFault::Write),
+        });
+    }
+    Ok(ran)
+}
+
+/// Runs the script that the command line names, or else the input, over a medium.
+fn run_named<R: Files + AllocGlobal, I: Read, O: Write>(
+    rt: &R,
+    script: Option<&str>,
+    input: &mut I,
+    output: &mut O,
+    medium: MemMedium,
+) -> Result<Ran, Failure> {
+    match script {
+        Some(path) => run_over(rt.alloc(), &mut fs::open(rt, path)?, output, medium),
+        None => run_over(rt.alloc(), input, output, medium),
+    }
+}
+
+/// Runs a script over an image. The image is opened for reading and writing and read whole; its blocks are written back
+/// where the script ran, also where its transcript could not be written. What stands behind its last whole block stays.
+fn run_image<R: Files + AllocGlobal, I: Read, O: Write>(
+    rt: &R,
+    image: &str,
+    script: Option<&str>,
+    input: &mut I,
+    output: &mut O,
+) -> Result<(), Failure> {
+    let mut file = OpenOptions::new().read(true).write(true).open(rt, image)?;
+    let medium = read_image(rt.alloc(), &mut file)?;
+    let ran = run_named(rt, script, input, output, medium)?;
+    if matches!(ran.outcome, Ok(()) | Err(ScriptFault::Write)) {
+        file.seek(SeekFrom::Start(0))?;
+        file.write_all(ran.medium.as_bytes())?;
+    }
+    Ok(ran.outcome.map_err(Failure::Script)?)
+}
+
+/// The blocks of an image.
+fn read_image<F: Read>(alloc: Global, file: &mut F) -> Result<MemMedium, Failure> {
+    let mut bytes = Vec::new(alloc);
+    file.read_to_end(&mut bytes)?;
+    Ok(MemMedium::new(alloc, bytes.as_slice())?)
+}
+
+/// Runs a script over zeros in memory.
+fn run_scratch<R: Files + AllocGlobal, I: Read, O: Write>(
+    rt: &R,
+    script: Option<&str>,
+    input: &mut I,
+    output: &mut O,
+) -> Result<(), Failure> {
+    let zeros = vec![in rt.alloc(); 0; SCRATCH_BYTES]?;
+    let medium = MemMedium::new(rt.alloc(), zeros.as_slice())?;
+    let ran = run_named(rt, script, input, output, medium)?;
+    Ok(ran.outcome.map_err(Failure::Script)?)
+}
+
+/// The program over the streams that it is handed: its words, the first of which is its name, its standard input, output
+/// and error. The answer is its exit status: 0 done; 1 a fault of the script; 2 a file or stream that can't be opened,
+/// read or written; 3 a refused command line; 4 want of memory. For all but 0 one line goes to standard error.
+pub fn run_program<R: Files + AllocGlobal, I: Read, O: Write, E: Write>(
+    rt: &R,
+    words: &[String],
+    input: &mut I,
+    output: &mut O,
+    errors: &mut E,
+) -> u8
+    ensures { result ≤ 4 }
+{
+    let outcome = match paths_of(rt.alloc(), words) {
+        Ok(paths) => match paths.image {
+            Some(image) => run_image(rt, image, paths.script, input, output),
+            None => run_scratch(rt, paths.script, input, output),
+        },
+        Err(failure) => Err(failure),
+    };
+    match outcome {
+        Ok(()) => 0,
+        Err(failure) => {
+            let _ = writeln!(errors, "nvmesim: {failure}");
+            failure.status()
+        }
+    }
+}

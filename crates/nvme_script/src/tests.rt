@@ -1,0 +1,6 @@
+//! What no clause says: the program's words, texts and statuses, the image's file, and streams that fail.
+
+mod image;
+mod program;
+mod script;
+mod streams;

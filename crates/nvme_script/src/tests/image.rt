@@ -1,0 +1,144 @@
+//! The program over an image in a file, and over scripts in files.
+
+use super::program::{SETUP, Shown, run, with_setup, words_of};
+use super::streams::{FailingReader, FailingWriter};
+use crate::run_program;
+use std::fs;
+use std::io::{Read, Write};
+use std::rt::Files;
+use std::test::Fail;
+
+/// A Write of a block, and a Read of it.
+const HELLO: &[u8] = b"do 1 write 1 0 1 hex:48656c6c6f\ndo 1 read 1 0 1\n";
+
+/// Runs the program over an image of these bytes, and gives what the image has then.
+fn run_over_image<R: Files + AllocGlobal, I: Read, O: Write>(
+    rt: &R,
+    path: &str,
+    image: &[u8],
+    input: &mut I,
+    output: &mut O,
+) -> Result<(u8, Vec<u8>), Fail> {
+    fs::write(rt, path, image)?;
+    let words = words_of(rt.alloc(), &[path])?;
+    let mut errors: Vec<u8> = Vec::new(rt.alloc());
+    let status = run_program(rt, words.as_slice(), input, output, &mut errors);
+    let left = fs::read(rt, path)?;
+    fs::remove_file(rt, path)?;
+    Ok((status, left))
+}
+
+#[test]
+fn keeps_the_image_without_commands(rt: HostRuntime) -> Result<(), Fail> {
+    let cut = with_setup(rt.alloc(), b"do 1 write 1 0 1 hex:01\ndo 1 read 1 0")?;
+    let cases = [(b"".as_slice(), 0), (SETUP, 0), (cut.as_slice(), 1)];
+    let image = [7; 40000];
+    for (text, wanted) in cases {
+        let mut output: Vec<u8> = Vec::new(rt.alloc());
+        let (status, left) = run_over_image(&rt, "kept.img", &image, &mut &text[..], &mut output)?;
+        assert_eq!(rt; status, wanted);
+        assert!(rt; output.is_empty());
+        assert_eq!(rt; left.as_slice(), image.as_slice());
+    }
+    Ok(())
+}
+
+#[test]
+fn keeps_what_stands_behind_the_last_block(rt: HostRuntime) -> Result<(), Fail> {
+    let image = [7; 5000];
+    let cases = [
+        (
+            b"controller 1 host 1\nnamespace 1 blocks 10 shared\nattached 1 1\nstart\ndo 1 write 1 8 1 fill:5a\n".as_slice(),
+            1,
+            7,
+        ),
+        (
+            b"controller 1 host 1\nnamespace 1 blocks 9 shared\nattached 1 1\nstart\ndo 1 write 1 8 1 fill:5a\n",
+            0,
+            0x5a,
+        ),
+    ];
+    for (text, wanted, last) in cases {
+        let mut output: Vec<u8> = Vec::new(rt.alloc());
+        let (status, left) = run_over_image(&rt, "tail.img", &image, &mut &text[..], &mut output)?;
+        assert_eq!(rt; status, wanted);
+        let mut expected = Vec::new(rt.alloc());
+        expected.extend_from_slice(&[7; 4096])?;
+        expected.extend_from_slice(&[last; 512])?;
+        expected.extend_from_slice(&[7; 392])?;
+        assert_eq!(rt; left.as_slice(), expected.as_slice());
+    }
+    Ok(())
+}
+
+#[test]
+fn writes_the_image_back_where_the_transcript_fails(rt: HostRuntime) -> Result<(), Fail> {
+    let text = with_setup(rt.alloc(), HELLO)?;
+    let writers = [
+        FailingWriter::at_write(rt.alloc(), 0),
+        FailingWriter::at_flush(rt.alloc(), 0),
+    ];
+    for mut writer in writers {
+        let (status, left) = run_over_image(
+            &rt,
+            "back.img",
+            &[0; 32768],
+            &mut text.as_slice(),
+            &mut writer,
+        )?;
+        assert_eq!(rt; status, 2);
+        assert!(rt; left.starts_with(b"Hello\x00"));
+    }
+    Ok(())
+}
+
+#[test]
+fn leaves_the_image_where_the_script_cannot_be_read(rt: HostRuntime) -> Result<(), Fail> {
+    let text = with_setup(rt.alloc(), HELLO)?;
+    let mut reader = FailingReader::new(text.as_slice(), 12);
+    let mut output: Vec<u8> = Vec::new(rt.alloc());
+    let (status, left) = run_over_image(&rt, "unread.img", &[0; 32768], &mut reader, &mut output)?;
+    assert_eq!(rt; status, 2);
+    assert!(rt; output.is_empty());
+    assert_eq!(rt; left.as_slice(), [0; 32768].as_slice());
+    Ok(())
+}
+
+#[test]
+fn faults_of_files_come_first(rt: HostRuntime) -> Result<(), Fail> {
+    let faults: [&[&str]; 7] = [
+        &["no-such-image"],
+        &["no-such-image", "no-such-script"],
+        &[""],
+        &["."],
+        &["-", "no-such-script"],
+        &["-", ""],
+        &["-", "."],
+    ];
+    for arguments in faults {
+        let shown = run(&rt, arguments, &mut &b"not a script"[..])?;
+        assert_eq!(rt;
+            shown.errors.as_slice(),
+            b"nvmesim: file fault\n".as_slice()
+        );
+        assert_eq!(rt; shown.status, 2);
+        assert!(rt; shown.output.is_empty());
+    }
+    Ok(())
+}
+
+#[test]
+fn a_script_is_a_path_as_it_stands(rt: HostRuntime) -> Result<(), Fail> {
+    let missing = run(&rt, &["-", "-"], &mut SETUP)?;
+    assert_eq!(rt; missing.status, 2);
+    let text = with_setup(rt.alloc(), HELLO)?;
+    fs::write(&rt, "-", text.as_slice())?;
+    let shown = run(&rt, &["-", "-"], &mut &b"not a script"[..])?;
+    fs::remove_file(&rt, "-")?;
+    assert_eq!(rt; shown.status, 0);
+    assert_eq!(rt;
+        shown.output.as_slice(),
+        b"did 1 0:00 0\ndid 1 0:00 0 512 48656c6c6f\n".as_slice()
+    );
+    Ok(())
+}

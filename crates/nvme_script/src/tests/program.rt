@@ -1,0 +1,180 @@
+//! The program over streams and files: its words, texts and statuses.
+
+use crate::run_program;
+use std::alloc::{AllocError, Global};
+use std::io::Read;
+use std::rt::Files;
+use std::test::Fail;
+
+/// One controller with a shared namespace of 64 blocks: the first four lines of many scripts.
+pub const SETUP: &[u8] =
+    b"controller 1 host 0xa1\nnamespace 1 blocks 64 shared\nattached 1 1\nstart\n";
+
+/// What a run of the program showed.
+#[derive(Drop)]
+pub struct Shown {
+    pub status: u8,
+    pub output: Vec<u8>,
+    pub errors: Vec<u8>,
+}
+
+/// The words of a command line, behind the program's name.
+pub fn words_of(alloc: Global, arguments: &[&str]) -> Result<Vec<String>, AllocError> {
+    let mut words = Vec::new(alloc);
+    words.push(String::from_str(alloc, "nvmesim")?)?;
+    for argument in arguments {
+        words.push(String::from_str(alloc, argument)?)?;
+    }
+    Ok(words)
+}
+
+/// Runs the program on arguments and an input.
+pub fn run<R: Files + AllocGlobal, I: Read>(
+    rt: &R,
+    arguments: &[&str],
+    input: &mut I,
+) -> Result<Shown, AllocError> {
+    let words = words_of(rt.alloc(), arguments)?;
+    let mut output: Vec<u8> = Vec::new(rt.alloc());
+    let mut errors: Vec<u8> = Vec::new(rt.alloc());
+    let status = run_program(rt, words.as_slice(), input, &mut output, &mut errors);
+    Ok(Shown {
+        status,
+        output,
+        errors,
+    })
+}
+
+/// The setup with more lines behind it.
+pub fn with_setup(alloc: Global, lines: &[u8]) -> Result<Vec<u8>, AllocError> {
+    let mut text = Vec::new(alloc);
+    text.extend_from_slice(SETUP)?;
+    text.extend_from_slice(lines)?;
+    Ok(text)
+}
+
+#[test]
+fn answers_each_command(rt: HostRuntime) -> Result<(), Fail> {
+    let cases = [
+        (
+            b"do 1 write 1 0 1 hex:48656c6c6f\ndo 1 read 1 0 1\n".as_slice(),
+            b"did 1 0:00 0\ndid 1 0:00 0 512 48656c6c6f\n".as_slice(),
+        ),
+        (b"do 1 read 1 0 2", b"did 1 0:00 0 1024 -\n"),
+        (
+            b"do 1 write 1 5 1 hex:00aB00Cd00\ndo 1 read 1 5 1\n",
+            b"did 1 0:00 0\ndid 1 0:00 0 512 00ab00cd\n",
+        ),
+        (b"do 1 read 1 64 1\n", b"did 1 0:80 9\n"),
+        (b"do 1 read 1 63 2\n", b"did 1 0:80 9\n"),
+        (b"do 1 read 1 18446744073709551615 1\n", b"did 1 0:80 9\n"),
+        (b"do 1 write 1 64 1 hex:ff\n", b"did 1 0:80 9\n"),
+        (b"do 1 read 2 0 1\n", b"did 1 0:02 5\n"),
+        (b"do 1 read 9 0 1\n", b"did 1 0:0b 4\n"),
+        (b"", b""),
+    ];
+    for (lines, transcript) in cases {
+        let text = with_setup(rt.alloc(), lines)?;
+        let shown = run(&rt, &[], &mut text.as_slice())?;
+        assert_eq!(rt; shown.output.as_slice(), transcript);
+        assert_eq!(rt; shown.status, 0);
+        assert!(rt; shown.errors.is_empty());
+    }
+    Ok(())
+}
+
+#[test]
+fn names_the_fault_of_a_script(rt: HostRuntime) -> Result<(), Fail> {
+    let cases = [
+        (
+            b"controller 1 host 0xa1\nnamespace 1 blocks 64 shared\nattached 1 1\nstart\ndo 1 read 1 0".as_slice(),
+            b"nvmesim: line 5: not understood\n".as_slice(),
+        ),
+        (
+            b"start\ndo 1 read 1 0 1\n",
+            b"nvmesim: line 2: not understood\n",
+        ),
+        (
+            b"# \xff\x00\x0b is a comment\n\xff\x00\x0b is not\n",
+            b"nvmesim: line 2: not understood\n",
+        ),
+        (
+            b"controller 2 host 0xa1\nstart\n",
+            b"nvmesim: line 2: BadId\n",
+        ),
+        (
+            b"controller 1 host 0xa1\n\nnamespace 1 blocks 0 shared\nstart\n",
+            b"nvmesim: line 4: BadSize\n",
+        ),
+        (
+            b"namespace 1 blocks 1 shared\nnamespace 2 blocks 1 shared\nnamespace 3 blocks 1 shared\nnamespace 4 blocks 1 shared\nnamespace 5 blocks 1 shared\nnamespace 6 blocks 1 shared\nnamespace 7 blocks 1 shared\nnamespace 8 blocks 1 shared\nnamespace 9 blocks 1 shared\nstart\n",
+            b"nvmesim: line 10: TooMany\n",
+        ),
+        (
+            b"namespace 1 blocks 1025 shared\n#\nstart\n",
+            b"nvmesim: line 3: DoesNotFit\n",
+        ),
+    ];
+    for (text, told) in cases {
+        let shown = run(&rt, &[], &mut &text[..])?;
+        assert_eq!(rt; shown.errors.as_slice(), told);
+        assert_eq!(rt; shown.status, 1);
+        assert!(rt; shown.output.is_empty());
+    }
+    Ok(())
+}
+
+#[test]
+fn refuses_command_lines(rt: HostRuntime) -> Result<(), Fail> {
+    let bad: [&[&str]; 10] = [
+        &["a", "b", "c"],
+        &["--help"],
+        &["-h"],
+        &["-x"],
+        &["--"],
+        &["--", "a"],
+        &["-", "-x"],
+        &["-", "--help"],
+        &["-", "-", "--"],
+        &["no-such-image", "--help"],
+    ];
+    for arguments in bad {
+        let shown = run(&rt, arguments, &mut SETUP)?;
+        assert_eq!(rt;
+            shown.errors.as_slice(),
+            b"nvmesim: bad command line\n".as_slice()
+        );
+        assert_eq!(rt; shown.status, 3);
+        assert!(rt; shown.output.is_empty());
+    }
+    Ok(())
+}
+
+#[test]
+fn scripts_have_a_longest_length(rt: HostRuntime) -> Result<(), Fail> {
+    let text = vec![in rt.alloc(); b'#'; 4_194_305]?;
+    let longest = run(&rt, &[], &mut &text[1..])?;
+    assert_eq!(rt; longest.status, 0);
+    assert!(rt; longest.output.is_empty() && longest.errors.is_empty());
+    let longer = run(&rt, &[], &mut text.as_slice())?;
+    assert_eq!(rt;
+        longer.errors.as_slice(),
+        b"nvmesim: script too long\n".as_slice()
+    );
+    assert_eq!(rt; longer.status, 1);
+    assert!(rt; longer.output.is_empty());
+    Ok(())
+}
+
+#[test]
+fn two_hosts_share_a_namespace(rt: HostRuntime) -> Result<(), Fail> {
+    let text =
+        b"controller 1 host 0xa1\ncontroller 2 host 0xb2\nnamespace 1 blocks 8 shared\nnamespace 2 blocks 8 private\nattached 1 1\nattached 2 1\nattached 1 2\nstart\ndo 1 write 1 7 1 hex:c0ffee\ndo 2 read 1 7 1\ndo 1 write 2 0 1 hex:01\ndo 2 read 2 0 1\ndo 2 write 2 0 1 hex:02\ndo 1 read 2 0 1\n";
+    let shown = run(&rt, &[], &mut &text[..])?;
+    assert_eq!(rt;
+        shown.output.as_slice(),
+        b"did 1 0:00 0\ndid 2 0:00 0 512 c0ffee\ndid 1 0:00 0\ndid 2 0:02 5\ndid 2 0:02 5\ndid 1 0:00 0 512 01\n".as_slice()
+    );
+    assert_eq!(rt; shown.status, 0);
+    Ok(())
+}

@@ -1,0 +1,81 @@
+//! Scripts over streams that fail in the middle.
+
+use super::streams::{FailingReader, FailingWriter};
+use crate::{ScriptFault, run_script};
+use nvme_medium::MemMedium;
+use std::test::Fail;
+
+/// One controller, one namespace of 8 blocks, and a byte written to each of the blocks 0, 1 and 2.
+const THREE_WRITES: &[u8] =
+    b"controller 1 host 0xa1\nnamespace 1 blocks 8 shared\nattached 1 1\nstart\ndo 1 write 1 0 1 hex:01\ndo 1 write 1 1 1 hex:02\ndo 1 write 1 2 1 hex:03\n";
+
+/// How many line feeds a text has.
+fn lines_in(text: &[u8]) -> usize {
+    text.iter().filter(|byte| **byte == b'\n').count()
+}
+
+/// How many of the bytes that the three commands write are on the medium, where they are there in their order.
+fn commands_done(medium: &MemMedium) -> Option<usize> {
+    let bytes = medium.as_bytes();
+    let firsts = [
+        bytes.get(0).copied()?,
+        bytes.get(512).copied()?,
+        bytes.get(1024).copied()?,
+    ];
+    match firsts {
+        [0, 0, 0] => Some(0),
+        [1, 0, 0] => Some(1),
+        [1, 2, 0] => Some(2),
+        [1, 2, 3] => Some(3),
+        _ => None,
+    }
+}
+
+#[test]
+fn a_reader_that_fails_leaves_all_as_it_was(rt: HostRuntime) -> Result<(), Fail> {
+    for failing in 0..20 {
+        let mut reader = FailingReader::new(THREE_WRITES, failing);
+        let mut written: Vec<u8> = Vec::new(rt.alloc());
+        let medium = MemMedium::new(rt.alloc(), &[0; 4096])?;
+        let (fault, medium) = run_script(rt.alloc(), &mut reader, &mut written, medium)
+            .err()
+            .ok_or("a read failed unseen")?;
+        assert_eq!(rt; fault, ScriptFault::Read, "at read {failing}");
+        assert_eq!(rt; commands_done(&medium), Some(0), "at read {failing}");
+        assert!(rt; written.is_empty(), "at read {failing}");
+    }
+    Ok(())
+}
+
+#[test]
+fn a_writer_that_fails_stops_behind_its_command(rt: HostRuntime) -> Result<(), Fail> {
+    let mut refused = 0;
+    for failing in 0..100 {
+        let mut writer = FailingWriter::at_write(rt.alloc(), failing);
+        let medium = MemMedium::new(rt.alloc(), &[0; 4096])?;
+        match run_script(rt.alloc(), &mut &THREE_WRITES[..], &mut writer, medium) {
+            Ok(medium) => {
+                assert_eq!(rt; commands_done(&medium), Some(3));
+                assert_eq!(rt;
+                    writer.kept.as_slice(),
+                    b"did 1 0:00 0\ndid 1 0:00 0\ndid 1 0:00 0\n".as_slice()
+                );
+            }
+            Err((fault, medium)) => {
+                refused = failing + 1;
+                assert_eq!(rt; fault, ScriptFault::Write, "at write {failing}");
+                let told = lines_in(writer.kept.as_slice());
+                assert_eq!(rt;
+                    commands_done(&medium),
+                    told.checked_add(1),
+                    "at write {failing}"
+                );
+            }
+        }
+    }
+    assert!(rt;
+        3 <= refused && refused < 100,
+        "each line is one write at least, and the last write is reached"
+    );
+    Ok(())
+}
