@@ -32,3 +32,19 @@ fn reads_what_was_written(rt: HostRuntime) -> Result<(), Fail> {
     assert_eq!(rt; &buffer[512..], [0x5a; 512].as_slice());
     Ok(())
 }
+
+#[test]
+fn one_call_fails_without_effect(rt: HostRuntime) -> Result<(), Fail> {
+    let inner = MemMedium::new(rt.alloc(), &[7; 1024])?;
+    let mut medium = Failing::new(inner, 1);
+    let zeros = Zeros { blocks: 2 };
+    let mut buffer = [9; 512];
+    assert_eq!(rt; medium.blocks(), 2);
+    assert!(rt; write_blocks(&mut medium, 0, 2, &zeros).is_err());
+    assert!(rt; medium.read(0, &mut buffer).is_ok());
+    assert_eq!(rt; buffer, [0; 512]);
+    assert!(rt; medium.read(1, &mut buffer).is_ok());
+    assert_eq!(rt; buffer, [7; 512]);
+    assert!(rt; medium.flush().is_ok());
+    Ok(())
+}

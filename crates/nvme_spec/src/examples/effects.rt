@@ -1,6 +1,6 @@
 //! Blocks that are read and written.
 
-ghost use Rattle.std.specs.Prelude.{◌≡◌, ◌++◌, replicate};
+ghost use Rattle.std.specs.Prelude.{◌≡◌, ◌≢◌, ◌++◌, ◌∷◌, replicate};
 ghost use Rattle.nvme_spec.specs.Blocks.{block_at, blocks_from, overwritten};
 
 /// A medium of three blocks of zeros.
@@ -8,4 +8,10 @@ fn three_blocks()
     ensures written { overwritten (replicate 1536 0) 512 (replicate 512 0x5a) ≡ replicate 512 0 ++ replicate 512 0x5a ++ replicate 512 0 }
     ensures read_back { block_at (overwritten (replicate 1536 0) 512 (replicate 512 0x5a)) 1 ≡ replicate 512 0x5a }
     ensures untouched { blocks_from (overwritten (replicate 1536 0) 0 (replicate 512 0x5a)) 1 1024 ≡ replicate 1024 0 }
+{}
+
+/// Compare of a block of zeros with zeros, and with data that begin with 1.
+fn compared()
+    ensures same { blocks_from (replicate 1536 0) 0 512 ≡ replicate 512 0 }
+    ensures different { blocks_from (replicate 1536 0) 0 512 ≢ 1 ∷ replicate 511 0 }
 {}

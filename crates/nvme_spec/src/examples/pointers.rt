@@ -1,6 +1,7 @@
 ghost use Rattle.std.specs.Prelude.{◌≡◌, ◌-◌, [], ◌∷◌, None, Some, length, drop, replicate};
 ghost use Rattle.nvme_spec.specs.Pointer.{transfer, pointer_fault, address};
-ghost use Rattle.nvme_spec.specs.Transfers.{parts_of, scattered};
+ghost use Rattle.std.specs.List.{range_with_len};
+ghost use Rattle.nvme_spec.specs.Transfers.{parts_of, block_addresses, scattered};
 ghost use Rattle.nvme_spec.specs.ExampleWindows.{linked, full, doubled, long, whole};
 ghost use Rattle.nvme_spec.specs.declared.pointer.DataFault.TheVariants.{Offset, Outside};
 
@@ -51,4 +52,11 @@ fn last_four_bytes_of_a_page()
     ensures prp2_offset { pointer_fault (transfer [] 24572 36868 512) ≡ Some Offset }
     // It is not used where the bytes fit into the first page.
     ensures prp2_unused { pointer_fault (transfer [] 24572 36868 4) ≡ None }
+{}
+
+/// A block may lie on two pages; the second block of a page begins 512 bytes behind the first.
+#[tactic(auto, unfolding(crate::specs::Transfers::addresses))]
+fn blocks()
+    ensures on_two_pages { parts_of (transfer [] 24068 24576 512) ≡ record { address = 24068; len = 508 } ∷ record { address = 24576; len = 4 } ∷ [] }
+    ensures second { block_addresses (parts_of (transfer [] 20480 0 1024)) 1 ≡ range_with_len 20992 512 }
 {}
