@@ -33,7 +33,7 @@ impl fmt::Display for Measured {
 }
 
 /// Measures each call, and prints a line for each.
-pub fn all<R: Clock + AllocGlobal + Print>(rt: &R, rounds: u32) -> io::Result<()> {
+pub(crate) fn all<R: Clock + AllocGlobal + Print>(rt: &R, rounds: u32) -> io::Result<()> {
     let mut window = listed_window(rt)?;
     println!(rt; "walk of 256 blocks: {}", walks(rt, &window, rounds)?)?;
     println!(rt; "copy of 256 blocks: {}", copies(rt, rounds)?)?;

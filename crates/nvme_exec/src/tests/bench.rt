@@ -61,7 +61,7 @@ fn configuration(alloc: Global) -> Result<Config, AllocError> {
 }
 
 /// Opens the configuration over a medium, with a window of zeros.
-pub fn bench_over<M: Medium + Drop>(alloc: Global, medium: M) -> Result<Bench<M>, Fail>
+pub(crate) fn bench_over<M: Medium + Drop>(alloc: Global, medium: M) -> Result<Bench<M>, Fail>
     ensures within { IfOk result (λ bench. LiesWithin (M.size bench.medium) bench.spaces.namespaces) }
     ensures known { IfOk result (λ bench. HasKnownRegistrants bench.spaces) }
 {
@@ -76,7 +76,7 @@ pub fn bench_over<M: Medium + Drop>(alloc: Global, medium: M) -> Result<Bench<M>
 }
 
 /// Executes an entry: its status and the rule, or None where the controller isn't configured.
-pub fn run<M: Medium>(bench: &mut Bench<M>, cntlid: u16, entry: &[u8; 64]) -> Option<(Status, u8)>
+pub(crate) fn run<M: Medium>(bench: &mut Bench<M>, cntlid: u16, entry: &[u8; 64]) -> Option<(Status, u8)>
     requires within { LiesWithin (M.size bench.old.medium) bench.old.spaces.namespaces }
     requires known { HasKnownRegistrants bench.old.spaces }
     ensures within { LiesWithin (M.size bench.new.medium) bench.new.spaces.namespaces }
@@ -95,12 +95,12 @@ pub fn run<M: Medium>(bench: &mut Bench<M>, cntlid: u16, entry: &[u8; 64]) -> Op
 }
 
 /// Whether these bytes stand in the window, from an address on.
-pub fn holds(window: &Window, addr: u64, bytes: &[u8]) -> bool {
+pub(crate) fn holds(window: &Window, addr: u64, bytes: &[u8]) -> bool {
     window.piece(addr, bytes.len() as u64) == Some(bytes)
 }
 
 /// An entry with two PRP entries and the double words 10 to 12.
-pub fn entry(opcode: u8, nsid: u32, prp: [u64; 2], dwords: [u32; 3]) -> [u8; 64] {
+pub(crate) fn entry(opcode: u8, nsid: u32, prp: [u64; 2], dwords: [u32; 3]) -> [u8; 64] {
     let mut bytes = [0; 64];
     bytes[0] = opcode;
     bytes[4..8].copy_from_slice(&nsid.to_le_bytes());
@@ -113,7 +113,7 @@ pub fn entry(opcode: u8, nsid: u32, prp: [u64; 2], dwords: [u32; 3]) -> [u8; 64]
 }
 
 /// An entry that names blocks. There is no second PRP entry.
-pub fn transfer(opcode: u8, nsid: u32, first: u64, blocks: u8, prp1: u64) -> [u8; 64] {
+pub(crate) fn transfer(opcode: u8, nsid: u32, first: u64, blocks: u8, prp1: u64) -> [u8; 64] {
     let low = (first & 0xffff_ffff) as u32;
     let high = (first >> 32) as u32;
     entry(

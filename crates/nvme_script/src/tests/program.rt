@@ -19,7 +19,7 @@ pub struct Shown {
 }
 
 /// The words of a command line, behind the program's name.
-pub fn words_of(alloc: Global, arguments: &[&str]) -> Result<Vec<String>, AllocError> {
+pub(crate) fn words_of(alloc: Global, arguments: &[&str]) -> Result<Vec<String>, AllocError> {
     let mut words = Vec::new(alloc);
     words.push(String::from_str(alloc, "nvmesim")?)?;
     for argument in arguments {
@@ -29,7 +29,7 @@ pub fn words_of(alloc: Global, arguments: &[&str]) -> Result<Vec<String>, AllocE
 }
 
 /// Runs the program on arguments and an input.
-pub fn run<R: Files + AllocGlobal, I: Read>(
+pub(crate) fn run<R: Files + AllocGlobal, I: Read>(
     rt: &R,
     arguments: &[&str],
     input: &mut I,
@@ -46,7 +46,7 @@ pub fn run<R: Files + AllocGlobal, I: Read>(
 }
 
 /// The setup with more lines behind it.
-pub fn with_setup(alloc: Global, lines: &[u8]) -> Result<Vec<u8>, AllocError> {
+pub(crate) fn with_setup(alloc: Global, lines: &[u8]) -> Result<Vec<u8>, AllocError> {
     let mut text = Vec::new(alloc);
     text.extend_from_slice(SETUP)?;
     text.extend_from_slice(lines)?;

@@ -18,7 +18,7 @@ pub struct FailingReader<'a> {
 }
 
 impl<'a> FailingReader<'a> {
-    pub fn new(text: &'a [u8], failing: usize) -> FailingReader<'a> {
+    pub(crate) fn new(text: &'a [u8], failing: usize) -> FailingReader<'a> {
         FailingReader {
             text,
             calls: 0,
@@ -52,7 +52,7 @@ pub struct FailingWriter {
 }
 
 impl FailingWriter {
-    pub fn at_write(alloc: Global, failing: usize) -> FailingWriter {
+    pub(crate) fn at_write(alloc: Global, failing: usize) -> FailingWriter {
         FailingWriter {
             kept: Vec::new(alloc),
             writes: 0,
@@ -62,7 +62,7 @@ impl FailingWriter {
         }
     }
 
-    pub fn at_flush(alloc: Global, failing: usize) -> FailingWriter {
+    pub(crate) fn at_flush(alloc: Global, failing: usize) -> FailingWriter {
         FailingWriter {
             kept: Vec::new(alloc),
             writes: 0,
