@@ -1,6 +1,9 @@
 //! The program: `nvmesim [IMAGE [SCRIPT]]` over streams that are handed in.
 
-ghost use Rattle.std.specs.Prelude.{◌≤◌};
+ghost use Rattle.std.specs.Prelude.{◌≡◌, ◌≢◌, ◌≤◌};
+ghost use Rattle.std.specs.IoError.{error_kind};
+ghost use Rattle.std.specs.declared.io.ErrorKind.TheVariants.{OutOfMemory};
+ghost use Rattle.nvme_script.specs.declared.program.Failure.TheVariants.{File as FileFault, Memory as MemoryRefused};
 
 use crate::run::{ScriptFault, run_script};
 use clap::error::ErrorKind;
@@ -47,6 +50,8 @@ impl Failure {
 }
 
 impl From<io::Error> for Failure {
+    ghost from_gives = { λ error e. (error_kind error ≡ OutOfMemory → e ≡ MemoryRefused) × (error_kind error ≢ OutOfMemory → e ≡ FileFault) };
+
     fn from(error: io::Error) -> Failure {
         match error.kind() {
             io::ErrorKind::OutOfMemory => Failure::Memory,
@@ -56,12 +61,16 @@ impl From<io::Error> for Failure {
 }
 
 impl From<AllocError> for Failure {
+    ghost from_gives = { λ _ e. e ≡ MemoryRefused };
+
     fn from(_: AllocError) -> Failure {
         Failure::Memory
     }
 }
 
 impl From<NoMemory> for Failure {
+    ghost from_gives = { λ _ e. e ≡ MemoryRefused };
+
     fn from(_: NoMemory) -> Failure {
         Failure::Memory
     }

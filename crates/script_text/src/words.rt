@@ -16,7 +16,12 @@ pub fn is_separator_byte(byte: u8) -> bool
 pub fn words_of(alloc: Global, line: &[u8]) -> Result<Vec<&[u8]>, AllocError>
     ensures words { IfOk result (λ words. map (λ word. word.now) words.items ≡ line_words line.now) }
 {
-    line.split(|byte| is_separator_byte(*byte))
+    let mut words = Vec::new(alloc);
+    for word in line
+        .split(|byte| is_separator_byte(*byte))
         .filter(|word| !word.is_empty())
-        .collect(alloc)
+    {
+        words.push(word)?;
+    }
+    Ok(words)
 }
