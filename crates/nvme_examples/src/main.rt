@@ -22,8 +22,8 @@ fn main(rt: HostRuntime) -> io::Result<()> {
     Ok(())
 }
 
-/// What the program prints for an example, over a medium in memory: its status, where that is not 0, and all that goes
-/// to standard output and standard error.
+/// What the program prints for an example, over a medium in memory: the transcript, and behind it what goes to standard
+/// error.
 fn transcript_of<R: Files + AllocGlobal>(rt: &R, name: &str) -> Result<Vec<u8>, AllocError> {
     let words = words_of(rt.alloc(), name)?;
     let mut shown: Vec<u8> = Vec::new(rt.alloc());

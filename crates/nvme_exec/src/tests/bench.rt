@@ -76,7 +76,11 @@ pub(crate) fn bench_over<M: Medium + Drop>(alloc: Global, medium: M) -> Result<B
 }
 
 /// Executes an entry: its status and the rule, or None where the controller isn't configured.
-pub(crate) fn run<M: Medium>(bench: &mut Bench<M>, cntlid: u16, entry: &[u8; 64]) -> Option<(Status, u8)>
+pub(crate) fn run<M: Medium>(
+    bench: &mut Bench<M>,
+    cntlid: u16,
+    entry: &[u8; 64],
+) -> Option<(Status, u8)>
     requires within { LiesWithin (M.size bench.old.medium) bench.old.spaces.namespaces }
     requires known { HasKnownRegistrants bench.old.spaces }
     ensures within { LiesWithin (M.size bench.new.medium) bench.new.spaces.namespaces }
