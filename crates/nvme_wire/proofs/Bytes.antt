@@ -1,12 +1,13 @@
 -- Bytes that are read as numbers and written again are the same bytes.
 use Rattle.std.proofs.Common.{◌≡◌, ℕ, ◌+◌, ◌-◌, ◌<◌, ◌≤◌, List, [], ◌++◌, length, get_or, take, drop, refl, sym, arith, ⊎_elim}
 use Rattle.std.specs.Prelude.{slice_range}
-use Rattle.std.specs.Int.{w16, w32, w64, from_le_bytes, to_le_bytes}
-use Rattle.std.proofs.lemmas.Nat.{le_bytes_2, le_bytes_4, le_bytes_8}
+use Rattle.std.specs.Int.{w32, w64, from_le_bytes, to_le_bytes}
+use Rattle.std.proofs.lemmas.Nat.{le_bytes_4, le_bytes_8}
 use Rattle.std.proofs.lemmas.List.{length-take-le, length-drop, get_or-take, get_or-drop, get_or_past, drop_all}
 use Rattle.std.proofs.lemmas.List.Folds.{drop_split}
 use Rattle.std.proofs.lemmas.Bool.{cases_lt}
 use Rattle.nvme_wire.specs.Submission as submission
+use Rattle.nvme_wire.specs.Completion as completion
 
 abbrev pub IsBytes : List ℕ → Type 0
 IsBytes bytes = (i : ℕ) → get_or bytes i 0 < 256
@@ -44,12 +45,6 @@ qword bytes i j rest e h all f =
     joined bytes i j (to_le_bytes w64 (from_le_bytes w64 (slice_range bytes i j))) rest (omega arith)
     (rw (width) (qword-bytes bytes i (omega arith) all)) f
 
-word : (bytes : List ℕ) (i j : ℕ) (rest : List ℕ) → i + 2 ≡ j → j ≤ length bytes → IsBytes bytes → rest ≡ drop j bytes → to_le_bytes w16 (from_le_bytes w16 (slice_range bytes i j)) ++ rest ≡ drop i bytes
-word bytes i j rest e h all f =
-    let width : j - i ≡ 2 = omega arith in
-    joined bytes i j (to_le_bytes w16 (from_le_bytes w16 (slice_range bytes i j))) rest (omega arith)
-    (rw (width) (le_bytes_2 _ _ (part-length bytes i 2 (omega arith)) (part-bytes bytes i 2 (omega arith) all) refl)) f
-
 pub submission-read : (bytes : List ℕ) → length bytes ≡ 64 → IsBytes bytes → submission.spelled (submission.read bytes) ≡ bytes
 submission-read bytes h all =
     dword bytes 0 4 _ refl (omega arith) all
@@ -65,3 +60,10 @@ submission-read bytes h all =
     (dword bytes 52 56 _ refl (omega arith) all
     (dword bytes 56 60 _ refl (omega arith) all
     (dword bytes 60 64 [] refl (omega arith) all (sym (drop_all 64 bytes (omega arith)))))))))))))))
+
+pub completion-read : (bytes : List ℕ) → length bytes ≡ 16 → IsBytes bytes → completion.spelled (completion.read bytes) ≡ bytes
+completion-read bytes h all =
+    dword bytes 0 4 _ refl (omega arith) all
+    (dword bytes 4 8 _ refl (omega arith) all
+    (dword bytes 8 12 _ refl (omega arith) all
+    (dword bytes 12 16 [] refl (omega arith) all (sym (drop_all 16 bytes (omega arith))))))

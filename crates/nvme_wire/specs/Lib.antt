@@ -1,3 +1,5 @@
 pub mod Entry
 pub mod Submission
+pub mod Completion
+pub mod EntryLaws
 pub mod StatusNames

@@ -1,5 +1,5 @@
 -- Statuses by name and as text (Base Specification, Status Field Definition).
-use Rattle.std.specs.Prelude.{ℕ, ◌-◌, ◌^◌, ◌==◌, false, if◌then◌else◌, List, [], ◌∷◌, ◌++◌, codes, unwrap_or, find, option_map}
+use Rattle.std.specs.Prelude.{◌≡◌, ℕ, ◌-◌, ◌^◌, ◌==◌, false, if◌then◌else◌, List, [], ◌∷◌, ◌++◌, codes, unwrap_or, find, option_map}
 use Rattle.std.specs.Fmt.{digits, padded_integral, format_spec}
 use Rattle.nvme_wire.specs.declared.status.Status.{Status}
 
@@ -75,3 +75,7 @@ name_of s =
 -- `SCT:SC` in lower-case hexadecimal, one digit and two
 abbrev pub status_text : Status → List ℕ
 status_text s = digits 16 false s.sct ++ (codes ":" ++ padded_integral (format_spec 32 0 4 2 (2 ^ 64 - 1)) false [] (digits 16 false s.sc))
+
+-- a status has this type and code, and this name
+abbrev pub IsNamed : Status → ℕ → ℕ → List ℕ → Type 0
+IsNamed s sct sc name = (s ≡ record { sct = sct; sc = sc }) × (name_of s ≡ name)

@@ -1,3 +1,5 @@
+//! The error of calls that take memory.
+
 use std::alloc::AllocError;
 
 /// The allocator refused memory. Whatever was asked for was not made, and nothing was changed.

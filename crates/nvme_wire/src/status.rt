@@ -1,10 +1,12 @@
+//! Statuses, by their standard codes, names and texts (NVM Express Base Specification 2.0, Status Field Definition).
+
 ghost use Rattle.std.specs.Prelude.{◌≡◌, Some};
 ghost use Rattle.nvme_wire.specs.StatusNames.{name_of, generic_name, specific_name, media_name, status_text};
 
 use std::fmt;
 
-/// The status field of a completion queue entry: a status code type, and a status code within it
-/// (NVM Express Base Specification 2.0, Status Field Definition).
+/// The status of a completion queue entry: a status code type, and a status code within it. The constants are the
+/// statuses that have a name here, by rising codes.
 #[derive(Clone, Copy, Debug, PartialEq, Eq)]
 pub struct Status {
     /// Status Code Type: 0 generic, 1 command specific, 2 media and data integrity errors.
@@ -14,54 +16,79 @@ pub struct Status {
 }
 
 impl Status {
+    /// The command was carried out.
     pub const SUCCESSFUL_COMPLETION: Status = Status { sct: 0, sc: 0x00 };
 
+    /// The opcode is not one of those of its queue's kind.
     pub const INVALID_COMMAND_OPCODE: Status = Status { sct: 0, sc: 0x01 };
 
+    /// A field of the command holds a value that is not taken.
     pub const INVALID_FIELD_IN_COMMAND: Status = Status { sct: 0, sc: 0x02 };
 
+    /// An address of the data pointer is not in host memory.
     pub const DATA_TRANSFER_ERROR: Status = Status { sct: 0, sc: 0x04 };
 
+    /// The command names a namespace that cannot be.
     pub const INVALID_NAMESPACE_OR_FORMAT: Status = Status { sct: 0, sc: 0x0b };
 
+    /// The command came at a time at which it may not.
     pub const COMMAND_SEQUENCE_ERROR: Status = Status { sct: 0, sc: 0x0c };
 
+    /// An address of the data pointer does not begin where it must.
     pub const PRP_OFFSET_INVALID: Status = Status { sct: 0, sc: 0x13 };
 
+    /// The command asks for host identifiers of another size.
     pub const HOST_IDENTIFIER_INCONSISTENT_FORMAT: Status = Status { sct: 0, sc: 0x18 };
 
+    /// A Preempt and Abort removed the registration of the command's host.
     pub const COMMAND_ABORTED_DUE_TO_PREEMPT_AND_ABORT: Status = Status { sct: 0, sc: 0x1b };
 
+    /// The namespace is write protected, and the command would change it.
     pub const NAMESPACE_IS_WRITE_PROTECTED: Status = Status { sct: 0, sc: 0x20 };
 
+    /// The logical blocks do not all lie in the namespace.
     pub const LBA_OUT_OF_RANGE: Status = Status { sct: 0, sc: 0x80 };
 
+    /// A reservation of the namespace does not permit its host the command.
     pub const RESERVATION_CONFLICT: Status = Status { sct: 0, sc: 0x83 };
 
+    /// The completion queue that the command names does not exist.
     pub const COMPLETION_QUEUE_INVALID: Status = Status { sct: 1, sc: 0x00 };
 
+    /// The queue identifier is none that the command can take.
     pub const INVALID_QUEUE_IDENTIFIER: Status = Status { sct: 1, sc: 0x01 };
 
+    /// The queue would have too few or too many entries.
     pub const INVALID_QUEUE_SIZE: Status = Status { sct: 1, sc: 0x02 };
 
+    /// The completion queue still has a submission queue.
     pub const INVALID_QUEUE_DELETION: Status = Status { sct: 1, sc: 0x0c };
 
+    /// The feature cannot be saved.
     pub const FEATURE_IDENTIFIER_NOT_SAVEABLE: Status = Status { sct: 1, sc: 0x0d };
 
+    /// The feature cannot be changed now.
     pub const FEATURE_NOT_CHANGEABLE: Status = Status { sct: 1, sc: 0x0e };
 
+    /// The namespace is attached to the controller already.
     pub const NAMESPACE_ALREADY_ATTACHED: Status = Status { sct: 1, sc: 0x18 };
 
+    /// The namespace is private, and attached to another controller.
     pub const NAMESPACE_IS_PRIVATE: Status = Status { sct: 1, sc: 0x19 };
 
+    /// The namespace is not attached to the controller.
     pub const NAMESPACE_NOT_ATTACHED: Status = Status { sct: 1, sc: 0x1a };
 
+    /// The controller list is empty, too long, out of order, or names a controller that is not there.
     pub const CONTROLLER_LIST_INVALID: Status = Status { sct: 1, sc: 0x1c };
 
+    /// The medium failed to write or to flush.
     pub const WRITE_FAULT: Status = Status { sct: 2, sc: 0x80 };
 
+    /// The medium failed to read.
     pub const UNRECOVERED_READ_ERROR: Status = Status { sct: 2, sc: 0x81 };
 
+    /// The logical blocks differ from the data.
     pub const COMPARE_FAILURE: Status = Status { sct: 2, sc: 0x85 };
 
     /// The standard's name of the status, or `Unlisted` for one that this subsystem never answers.

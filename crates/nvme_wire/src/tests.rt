@@ -45,6 +45,90 @@ fn reads_each_double_word(rt: HostRuntime) {
 }
 
 #[test]
+fn makes_the_write_from_its_fields(rt: HostRuntime) {
+    let sqe = Sqe::from(SqeFields {
+        opcode: 0x01,
+        cid: 7,
+        nsid: 1,
+        prp1: 0x5000,
+        ..SqeFields::default()
+    });
+    assert_eq!(rt; sqe.to_bytes().as_slice(), WRITE.as_slice());
+}
+
+// Each byte of the fields that a host sets has a value of its own; the others are 0.
+#[test]
+fn makes_an_entry_from_all_fields(rt: HostRuntime) {
+    let sqe = Sqe::from(SqeFields {
+        opcode: 0xa1,
+        cid: 0xa3a2,
+        nsid: 0xa7a6_a5a4,
+        prp1: 0xbfbe_bdbc_bbba_b9b8,
+        prp2: 0xc7c6_c5c4_c3c2_c1c0,
+        cdw10: 0xcbca_c9c8,
+        cdw11: 0xcfce_cdcc,
+        cdw12: 0xd3d2_d1d0,
+        cdw13: 0xd7d6_d5d4,
+        cdw14: 0xdbda_d9d8,
+        cdw15: 0xdfde_dddc,
+    });
+    let mut bytes = [0; 64];
+    bytes[0..8].copy_from_slice(&[0xa1, 0, 0xa2, 0xa3, 0xa4, 0xa5, 0xa6, 0xa7]);
+    for i in 24..64 {
+        bytes[i] = 0xa0 + i as u8;
+    }
+    assert_eq!(rt; sqe.to_bytes().as_slice(), bytes.as_slice());
+}
+
+// The completion of that Write, the first in its queue, denied by a reservation.
+const DENIED: [u8; 16] = [
+    0x00, 0x00, 0x00, 0x00, 0x00, 0x00, 0x00, 0x00, //
+    0x01, 0x00, 0x01, 0x00, 0x07, 0x00, 0x07, 0x01,
+];
+
+#[test]
+fn makes_a_completion(rt: HostRuntime) {
+    let cqe = Cqe::new(0, 1, 1, 7, true, Status::RESERVATION_CONFLICT);
+    assert_eq!(rt; cqe.to_bytes().as_slice(), DENIED.as_slice());
+}
+
+#[test]
+fn reads_the_fields_of_a_completion(rt: HostRuntime) {
+    let cqe = Cqe::from_bytes(&DENIED);
+    assert_eq!(rt; cqe.dw0(), 0);
+    assert_eq!(rt; cqe.sq_head(), 1);
+    assert_eq!(rt; cqe.sq_id(), 1);
+    assert_eq!(rt; cqe.cid(), 7);
+    assert_eq!(rt; cqe.phase(), true);
+    assert_eq!(rt; cqe.status(), Status::RESERVATION_CONFLICT);
+}
+
+// All bits of the last double word but the phase tag are 1, as are the reserved ones of double word 1.
+#[test]
+fn keeps_the_bits_that_no_field_names(rt: HostRuntime) {
+    let bytes = [
+        0x10, 0x11, 0x12, 0x13, 0xff, 0xff, 0xff, 0xff, //
+        0x18, 0x19, 0x1a, 0x1b, 0x1c, 0x1d, 0xfe, 0xff,
+    ];
+    let cqe = Cqe::from_bytes(&bytes);
+    assert_eq!(rt; cqe.dw0(), 0x1312_1110);
+    assert_eq!(rt; cqe.sq_head(), 0x1918);
+    assert_eq!(rt; cqe.sq_id(), 0x1b1a);
+    assert_eq!(rt; cqe.cid(), 0x1d1c);
+    assert_eq!(rt; cqe.phase(), false);
+    assert_eq!(rt; cqe.status(), Status { sct: 7, sc: 0xff });
+    assert_eq!(rt; cqe.to_bytes().as_slice(), bytes.as_slice());
+}
+
+#[test]
+fn reads_numbers_within_bytes(rt: HostRuntime) {
+    let bytes = [0x01, 0x02, 0x03, 0x04, 0x05, 0x06, 0x07, 0x08, 0x09];
+    assert_eq!(rt; u16_at(&bytes, 1), 0x0302);
+    assert_eq!(rt; u32_at(&bytes, 1), 0x0504_0302);
+    assert_eq!(rt; u64_at(&bytes, 1), 0x0908_0706_0504_0302);
+}
+
+#[test]
 fn names_and_prints_statuses(rt: HostRuntime) -> Result<(), Fail> {
     let statuses = [
         (

@@ -1,0 +1,3 @@
+//! Worked examples: functions that do nothing, whose contracts are proved by computing.
+
+mod statuses;
