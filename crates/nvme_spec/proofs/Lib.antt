@@ -7,6 +7,7 @@ pub mod Runs
 pub mod TransferLaws
 pub mod QueueLaws
 pub mod RegisterLaws
+pub mod RegisterEffects
 pub mod AttachmentLaws
 pub mod Hosts
 pub mod Worlds

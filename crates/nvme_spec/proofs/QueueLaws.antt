@@ -1,12 +1,12 @@
 -- The laws of queues.
-use Rattle.std.proofs.Common.{◌≡◌, ℕ, ◌+◌, ◌-◌, ◌*◌, ◌/◌, ◌%◌, ◌<◌, ◌≤◌, ◌==◌, true, false, not, nat_lt, nat_le, ◌&&◌, inl, inr, sym, ap, ◌∙◌, arith}
+use Rattle.std.proofs.Common.{◌≡◌, ◌≢◌, ◌↔◌, ℕ, ◌+◌, ◌-◌, ◌*◌, ◌/◌, ◌%◌, ◌<◌, ◌≤◌, ◌==◌, true, false, not, nat_lt, nat_le, ◌&&◌, inl, inr, sym, ap, ◌∙◌, arith}
 use Rattle.std.specs.Prelude.{if◌then◌else◌}
-use Rattle.std.proofs.Math.Nat.{add-mod_right, add-div_right, mod_self, mod-mod}
+use Rattle.std.proofs.Math.Nat.{mul-le-mul_left, add-mod_right, add-div_right, mod_self, mod-mod}
 use Rattle.std.proofs.Math.Arith.{mod-mul}
 use Rattle.std.proofs.lemmas.Nat.{mod-mul-add, div-mul-add, mod_below}
 use Rattle.std.proofs.lemmas.Bool.{cases_lt, lt-ltb, le-leb}
 use Rattle.nvme_spec.specs.Queues.{ahead, IsQueueSize, slot_of, SubmissionHead, FitsSubmissionHead, CompletionTail, FitsCompletionTail, SubmissionTail, FitsSubmissionTail, can_be_heard}
-use Rattle.nvme_spec.specs.QueueLaws.{NextTurn, TwoTurns, TailAtHead, HeadAtTail, AllFetched, SubmissionHeadStays, CompletionTailStays, SubmissionTailStays, CompletionHeadStays}
+use Rattle.nvme_spec.specs.QueueLaws.{NextTurn, TwoTurns, TailAtHead, HeadAtTail, AllFetched, SubmissionHeadStays, CompletionTailStays, SubmissionTailStays, CompletionHeadStays, EntryIsInside, CompletionRoom, SubmissionRoom}
 
 -- one more turns an even number odd, and an odd one even
 odd_next : (x : ℕ) → ((x + 1) % 2 == 0) ≡ not (x % 2 == 0)
@@ -36,6 +36,21 @@ two_turns size n some =
           ∙ ap (λ k. k % 2 == 0) (div-mul-add (n / size % 2) size (n % size) low)
           ∙ ap (λ k. k == 0) (mod-mod (n / size) 2),
     )
+
+pub entry_is_inside : EntryIsInside
+entry_is_inside base width size n some =
+    let slot : slot_of size n + 1 ≤ size = omega (arith, mod_below n size some) in
+    let entry : width * (slot_of size n + 1) ≤ width * size = mul-le-mul_left width slot in
+    omega (arith, entry)
+
+room_unless_full : (size count : ℕ) → count < size → (0 < size - 1 - count) ↔ (count ≢ size - 1)
+room_unless_full size count within = (λ room full. omega arith, λ other. omega arith)
+
+pub completion_has_room : CompletionRoom
+completion_has_room q fits = room_unless_full q.size q.unread fits.unread
+
+pub submission_has_room : SubmissionRoom
+submission_has_room q fits = room_unless_full q.size q.unheard fits.unheard
 
 some_entries : {size : ℕ} → IsQueueSize size → 0 < size
 some_entries fits = omega (arith, fits.0)

@@ -1,14 +1,29 @@
 -- What the words of queues promise together (Base Specification: Phase Tag, Empty Queue, Full Queue).
-use Rattle.std.specs.Prelude.{◌≡◌, ℕ, ◌+◌, ◌*◌, ◌%◌, ◌<◌, not}
+use Rattle.std.specs.Prelude.{◌≡◌, ◌≢◌, ◌↔◌, ℕ, ◌+◌, ◌-◌, ◌*◌, ◌%◌, ◌<◌, ◌≤◌, not}
 use Rattle.nvme_spec.specs.Queues.{slot_of, phase_tag, SubmissionHead, FitsSubmissionHead, after_tail_doorbell, after_fetch, CompletionTail, FitsCompletionTail, after_head_doorbell, completion_room, after_post, SubmissionTail, FitsSubmissionTail, submission_room, after_put, after_head, CompletionHead, FitsCompletionHead, after_consumption}
 
 -- a turn round the ring later a completion lies in the same slot, and has the other phase tag
 abbrev pub NextTurn : Type 0
-NextTurn = (size n : ℕ) → 0 < size → (slot_of size (n + size) ≡ slot_of size n) × (phase_tag size (n + size) ≡ not (phase_tag size n))
+NextTurn =
+    (size n : ℕ) → 0 < size
+    → (slot_of size (n + size) ≡ slot_of size n) × (phase_tag size (n + size) ≡ not (phase_tag size n))
 
 -- to count modulo twice the size is enough
 abbrev pub TwoTurns : Type 0
-TwoTurns = (size n : ℕ) → 0 < size → (slot_of size (n % (2 * size)) ≡ slot_of size n) × (phase_tag size (n % (2 * size)) ≡ phase_tag size n)
+TwoTurns =
+    (size n : ℕ) → 0 < size
+    → (slot_of size (n % (2 * size)) ≡ slot_of size n) × (phase_tag size (n % (2 * size)) ≡ phase_tag size n)
+
+-- an entry lies inside its queue, whatever the width of entries
+abbrev pub EntryIsInside : Type 0
+EntryIsInside = (base width size n : ℕ) → 0 < size → base + width * slot_of size n + width ≤ base + width * size
+
+-- a queue is full where all its entries but one are taken, and has room until then
+abbrev pub CompletionRoom : Type 0
+CompletionRoom = (q : CompletionTail) → FitsCompletionTail q → (0 < completion_room q) ↔ (q.unread ≢ q.size - 1)
+
+abbrev pub SubmissionRoom : Type 0
+SubmissionRoom = (q : SubmissionTail) → FitsSubmissionTail q → (0 < submission_room q) ↔ (q.unheard ≢ q.size - 1)
 
 -- a tail doorbell that names the head leaves no command waiting
 abbrev pub TailAtHead : Type 0

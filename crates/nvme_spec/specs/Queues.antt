@@ -64,7 +64,8 @@ empty_completion_tail entries = record { size = entries; posted = 0; unread = 0 
 
 -- the head doorbell is written: the completions from the head on are unread. A head that is no slot is ignored
 abbrev pub after_head_doorbell : CompletionTail → ℕ → CompletionTail
-after_head_doorbell q head = if nat_lt head q.size then record q { unread = ahead q.size (slot_of q.size q.posted) head } else q
+after_head_doorbell q head =
+    if nat_lt head q.size then record q { unread = ahead q.size (slot_of q.size q.posted) head } else q
 
 -- how many completions can be posted: one entry of a queue stays free
 abbrev pub completion_room : CompletionTail → ℕ
@@ -74,7 +75,8 @@ completion_room q = q.size - 1 - q.unread
 abbrev pub after_post : CompletionTail → CompletionTail
 after_post q = record q { posted = (q.posted + 1) % (2 * q.size); unread = q.unread + 1 }
 
--- A submission queue at its host: how many commands it has put there, and how many of them it hasn't heard to be fetched.
+-- A submission queue at its host: how many commands it has put there, and how many of them it has not heard to be
+-- fetched.
 pub record SubmissionTail : Type 0 where
   pub size : ℕ
   pub put : ℕ

@@ -62,7 +62,9 @@ readable r =
 
 -- what a read gives: 0 at every other offset
 unfoldable pub value_at : Registers → ℕ → ℕ
-value_at r offset = unwrap_or (option_map (λ (entry : ℕ × ℕ). entry.1) (find (λ (entry : ℕ × ℕ). entry.0 == offset) (readable r))) 0
+value_at r offset =
+    let found = find (λ (entry : ℕ × ℕ). entry.0 == offset) (readable r) in
+    unwrap_or (option_map (λ (entry : ℕ × ℕ). entry.1) found) 0
 
 -- The fields of CC and AQA.
 
@@ -106,11 +108,16 @@ abbrev pub is_admin_queue : ℕ → ℕ → ℕ → Bool
 is_admin_queue base entries width =
     nat_le 2 entries && nat_le entries 64 && base % 4096 == 0 && nat_le (base + width * entries) window_size
 
+-- pages of 4 KiB, the NVM command set, round robin, entries of 64 and of 16 bytes
+abbrev pub is_supported : ℕ → Bool
+is_supported cc =
+    page_size cc == 0 && command_set cc == 0 && arbitration cc == 0
+    && submission_entry_size cc == 6 && completion_entry_size cc == 4
+
 -- an enabling takes these values
 unfoldable pub can_enable : Registers → Bool
 can_enable r =
-    page_size r.cc == 0 && command_set r.cc == 0 && arbitration r.cc == 0
-    && submission_entry_size r.cc == 6 && completion_entry_size r.cc == 4
+    is_supported r.cc
     && is_admin_queue r.asq (admin_submission_size r.aqa) 64
     && is_admin_queue r.acq (admin_completion_size r.aqa) 16
 
@@ -118,7 +125,12 @@ can_enable r =
 abbrev pub admin_queues : Registers → Option AdminQueues
 admin_queues r =
     if is_ready r.state
-    then Some (record { sq_base = r.asq; sq_size = admin_submission_size r.aqa; cq_base = r.acq; cq_size = admin_completion_size r.aqa })
+    then Some (record {
+      sq_base = r.asq;
+      sq_size = admin_submission_size r.aqa;
+      cq_base = r.acq;
+      cq_size = admin_completion_size r.aqa;
+    })
     else None
 
 -- What a write leaves, and what it asks of the controller.
@@ -135,7 +147,9 @@ ready_state cc = if is_shutdown cc then ShutDown else Ready
 
 -- EN goes from 0 to 1
 abbrev pub enabled : Registers → Written
-enabled r = if can_enable r then written (record r { state = ready_state r.cc }) Enable else written (record r { state = Failed }) Nothing
+enabled r =
+    if can_enable r then written (record r { state = ready_state r.cc }) Enable
+    else written (record r { state = Failed }) Nothing
 
 -- SHN alone is taken
 abbrev pub with_notification : ℕ → ℕ → ℕ
@@ -145,7 +159,8 @@ with_notification cc v = cc % 2 ^ 14 + 2 ^ 14 * notification v + 2 ^ 16 * (cc / 
 abbrev pub notified : Registers → ℕ → Written
 notified r v =
     let kept : Registers = record r { cc = with_notification r.cc v } in
-    if is_ready r.state && is_shutdown v then written (record kept { state = ShutDown }) Shutdown else written kept Nothing
+    if is_ready r.state && is_shutdown v then written (record kept { state = ShutDown }) Shutdown
+    else written kept Nothing
 
 -- a write of CC. Where EN was 0 or becomes 0 it is kept as written
 unfoldable pub configured : Registers → ℕ → Written
@@ -172,13 +187,17 @@ prepared r offset v =
     else (if offset == 0x34 then record r { acq = with_high r.acq v }
     else r)))))
 
--- the doorbells: of queue y the tail at 1000h + 8y and the head at 1004h + 8y, in bits 15:0. There are queues 0 to 4
+-- a doorbell takes bits 15:0
+abbrev pub doorbell_value : ℕ → ℕ
+doorbell_value v = bits v 15 0
+
+-- the doorbells: of queue y the tail at 1000h + 8y and the head at 1004h + 8y. There are queues 0 to 4
 unfoldable pub doorbell : ℕ → ℕ → RegEffect
 doorbell offset v =
     let queue = (offset - 0x1000) / 8 in
     if nat_lt offset 0x1000 || nat_lt 4 queue then Nothing
-    else (if offset % 8 == 0 then SqTail queue (bits v 15 0)
-    else (if offset % 8 == 4 then CqHead queue (bits v 15 0)
+    else (if offset % 8 == 0 then SqTail queue (doorbell_value v)
+    else (if offset % 8 == 4 then CqHead queue (doorbell_value v)
     else Nothing))
 
 -- a write. Doorbells ring where the controller is ready; all other writes are ignored

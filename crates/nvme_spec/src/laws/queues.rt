@@ -1,10 +1,25 @@
-ghost use Rattle.nvme_spec.specs.QueueLaws.{NextTurn, TwoTurns, TailAtHead, HeadAtTail, AllFetched, SubmissionHeadStays, CompletionTailStays, SubmissionTailStays, CompletionHeadStays};
+//! What follows from the definitions of queues.
+
+ghost use Rattle.nvme_spec.specs.QueueLaws.{NextTurn, TwoTurns, TailAtHead, HeadAtTail, AllFetched, SubmissionHeadStays, CompletionTailStays, SubmissionTailStays, CompletionHeadStays, EntryIsInside, CompletionRoom, SubmissionRoom};
 
 /// Slots come again each turn round the ring, with the other phase tag.
 #[tactic(auto, using(crate::proofs::QueueLaws::next_turn, crate::proofs::QueueLaws::two_turns))]
 fn turns()
     ensures next { NextTurn }
     ensures two { TwoTurns }
+{}
+
+/// Each entry lies inside its queue.
+#[tactic(auto, using(crate::proofs::QueueLaws::entry_is_inside))]
+fn placed()
+    ensures { EntryIsInside }
+{}
+
+/// There is room until all entries but one are taken.
+#[tactic(auto, using(crate::proofs::QueueLaws::completion_has_room, crate::proofs::QueueLaws::submission_has_room))]
+fn rooms()
+    ensures completion { CompletionRoom }
+    ensures submission { SubmissionRoom }
 {}
 
 /// A doorbell or a head that names the other end empties the queue.

@@ -1,9 +1,16 @@
-ghost use Rattle.nvme_spec.specs.RegisterLaws.{StateIsShown};
-ghost use Rattle.nvme_spec.specs.Registers.{initial_registers, ShowsItsState};
+//! What follows from the definitions of registers.
 
-/// From a new controller on, CC.EN tells whether the controller is off, whatever is written.
-#[tactic(auto, using(crate::proofs::RegisterLaws::state_is_shown))]
-fn enabled_unless_off()
-    ensures new { ShowsItsState initial_registers }
-    ensures written { StateIsShown }
+ghost use Rattle.nvme_spec.specs.RegisterLaws.{BeginsConsistent, StaysConsistent, EffectsTell, DoorbellsNameQueues};
+
+/// From a new controller on, CC.EN tells whether the controller is off, and while RDY is 1 the admin queues can be
+/// where they are, whatever is written.
+fn consistent_registers()
+    ensures begins { BeginsConsistent }
+    ensures stays { StaysConsistent }
+{}
+
+/// Each effect comes exactly where the state of the controller changes so, or its doorbell rings.
+fn effects()
+    ensures tell { EffectsTell }
+    ensures names { DoorbellsNameQueues }
 {}
