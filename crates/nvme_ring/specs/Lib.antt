@@ -1,0 +1,1 @@
+pub use Rattle.nvme_spec.specs.Queues
