@@ -1,0 +1,3 @@
+pub use Rattle.nvme_spec.specs.Registers
+pub use Rattle.nvme_spec.specs.RegisterLaws
+pub mod Configuring
