@@ -40,9 +40,11 @@ impl Model for Registers {
 
     ghost Value = { Values };
 
-    ghost view = { λ r. record { cc = r.cc; state = r.state; aqa = r.aqa; asq = r.asq; acq = r.acq } };
+    ghost use Rattle.nvme_regs.specs.Shown.{shown};
 
-    ghost invariant = { λ r. IsConsistent (record { cc = r.cc; state = r.state; aqa = r.aqa; asq = r.asq; acq = r.acq }) };
+    ghost view = { shown };
+
+    ghost invariant = { λ r. IsConsistent (shown r) };
 
     ghost inverse = { λ r. record { cc = r.cc; state = r.state; aqa = r.aqa; asq = r.asq; acq = r.acq } };
 }

@@ -1,5 +1,5 @@
 -- What the effect of a register write tells.
-use Rattle.std.proofs.Common.{◌≡◌, ℕ, zero, suc, ◌+◌, ◌-◌, ◌*◌, ◌/◌, ◌%◌, ◌≤◌, ◌==◌, nat_lt, ◌&&◌, ◌||◌, Bool, true, false, refl, sym, ap, subst, ◌∙◌, arith}
+use Rattle.std.proofs.Common.{◌≡◌, ◌↔◌, ℕ, zero, suc, ◌+◌, ◌-◌, ◌*◌, ◌/◌, ◌%◌, ◌≤◌, ◌==◌, nat_lt, ◌&&◌, ◌||◌, Bool, true, false, refl, sym, ap, subst, ◌∙◌, arith}
 use Rattle.std.specs.Prelude.{if◌then◌else◌}
 use Rattle.std.proofs.lemmas.Bool.{eqb-true, eqb-false, ltb-false, and_parts, and_from, or_parts, both_ways, ne_eqb}
 use Rattle.nvme_spec.specs.declared.registers.RegEffect.{RegEffect}
@@ -75,10 +75,29 @@ ready-rings r offset v e high ready is =
     let other : (offset == 0x14) ≡ false = ne_eqb offset 0x14 (λ same. omega arith) in
     rw (other, ready) is
 
-tail-place : (offset v q tail : ℕ) → doorbell offset v ≡ SqTail q tail
-    → (offset ≡ 0x1000 + 8 * q) × (q ≤ 4) × (tail ≡ doorbell_value v)
+-- the doorbell of a queue: its head's, or else its tail's
+abbrev bell : Bool → ℕ → ℕ → RegEffect
+bell false q value = SqTail q value
+bell true q value = CqHead q value
+
+-- where that of queue 0 lies
+abbrev first-bell : Bool → ℕ
+first-bell false = 0x1000
+first-bell true = 0x1004
+
+-- where the test of the doorbells finds a queue
+queue-found : (offset q : ℕ) → (nat_lt offset 0x1000 || nat_lt 4 ((offset - 0x1000) / 8)) ≡ false
+    → (offset - 0x1000) / 8 ≡ q → (offset ≡ 0x1000 + offset % 8 + 8 * q) × (q ≤ 4)
+queue-found offset q found same =
+    let within = or_parts (nat_lt offset 0x1000) (nat_lt 4 ((offset - 0x1000) / 8)) found in
+    let low : 0x1000 ≤ offset = ltb-false offset 0x1000 within.0 in
+    let high : (offset - 0x1000) / 8 ≤ 4 = ltb-false 4 ((offset - 0x1000) / 8) within.1 in
+    (omega (arith, same), omega (arith, same))
+
+bell-place : (head : Bool) (offset v q value : ℕ) → doorbell offset v ≡ bell head q value
+    → (offset ≡ first-bell head + 8 * q) × (q ≤ 4) × (value ≡ doorbell_value v)
 unfolding doorbell
-tail-place offset v q tail is = by none (offset % 8 == 0) (offset % 8 == 4) refl refl is
+bell-place head offset v q value is = by head none (offset % 8 == 0) (offset % 8 == 4) refl refl refl is
   where
     queue : ℕ
     queue = (offset - 0x1000) / 8
@@ -86,44 +105,23 @@ tail-place offset v q tail is = by none (offset % 8 == 0) (offset % 8 == 4) refl
     none : Bool
     none = nat_lt offset 0x1000 || nat_lt 4 queue
 
-    by : (a b c : Bool) → none ≡ a → (offset % 8 == 0) ≡ b → doorbell-if a b c queue (doorbell_value v) ≡ SqTail q tail
-        → (offset ≡ 0x1000 + 8 * q) × (q ≤ 4) × (tail ≡ doorbell_value v)
-    by true b c out place e = absurd (cc)
-    by false true c out place e =
-        let within = or_parts (nat_lt offset 0x1000) (nat_lt 4 queue) out in
-        let low : 0x1000 ≤ offset = ltb-false offset 0x1000 within.0 in
-        let high : (offset - 0x1000) / 8 ≤ 4 = ltb-false 4 queue within.1 in
-        let even : offset % 8 ≡ 0 = eqb-true (offset % 8) 0 place in
+    by : (head a b c : Bool) → none ≡ a → (offset % 8 == 0) ≡ b → (offset % 8 == 4) ≡ c
+        → doorbell-if a b c queue (doorbell_value v) ≡ bell head q value
+        → (offset ≡ first-bell head + 8 * q) × (q ≤ 4) × (value ≡ doorbell_value v)
+    by false true b c found even odd e = absurd (cc)
+    by true true b c found even odd e = absurd (cc)
+    by false false true c found even odd e =
         let same : queue ≡ q = cc in
-        let value : doorbell_value v ≡ tail = cc in
-        (omega (arith, same), omega (arith, same), sym value)
-    by false false true out place e = absurd (cc)
-    by false false false out place e = absurd (cc)
-
-head-place : (offset v q head : ℕ) → doorbell offset v ≡ CqHead q head
-    → (offset ≡ 0x1004 + 8 * q) × (q ≤ 4) × (head ≡ doorbell_value v)
-unfolding doorbell
-head-place offset v q head is = by none (offset % 8 == 0) (offset % 8 == 4) refl refl is
-  where
-    queue : ℕ
-    queue = (offset - 0x1000) / 8
-
-    none : Bool
-    none = nat_lt offset 0x1000 || nat_lt 4 queue
-
-    by : (a b c : Bool) → none ≡ a → (offset % 8 == 4) ≡ c → doorbell-if a b c queue (doorbell_value v) ≡ CqHead q head
-        → (offset ≡ 0x1004 + 8 * q) × (q ≤ 4) × (head ≡ doorbell_value v)
-    by true b c out place e = absurd (cc)
-    by false true c out place e = absurd (cc)
-    by false false true out place e =
-        let within = or_parts (nat_lt offset 0x1000) (nat_lt 4 queue) out in
-        let low : 0x1000 ≤ offset = ltb-false offset 0x1000 within.0 in
-        let high : (offset - 0x1000) / 8 ≤ 4 = ltb-false 4 queue within.1 in
-        let odd : offset % 8 ≡ 4 = eqb-true (offset % 8) 4 place in
+        let place = queue-found offset q found same in
+        (omega (arith, place.0, eqb-true (offset % 8) 0 even), place.1, (cc))
+    by true false true c found even odd e = absurd (cc)
+    by false false false true found even odd e = absurd (cc)
+    by true false false true found even odd e =
         let same : queue ≡ q = cc in
-        let value : doorbell_value v ≡ head = cc in
-        (omega (arith, same), omega (arith, same), sym value)
-    by false false false out place e = absurd (cc)
+        let place = queue-found offset q found same in
+        (omega (arith, place.0, eqb-true (offset % 8) 4 odd), place.1, (cc))
+    by false false false false found even odd e = absurd (cc)
+    by true false false false found even odd e = absurd (cc)
 
 -- the doorbells of queues 0 to 4, one after the other
 tail-at : (q v : ℕ) → q ≤ 4 → doorbell (0x1000 + 8 * q) v ≡ SqTail q (doorbell_value v)
@@ -144,25 +142,34 @@ head-at (suc (suc (suc zero))) v few = refl
 head-at (suc (suc (suc (suc zero)))) v few = refl
 head-at (suc (suc (suc (suc (suc q))))) v few = absurd (omega arith)
 
-tail_rings : (r : Registers) (offset v : ℕ) → TailRings r offset v (after_write r offset v).effect
-tail_rings r offset v q tail = (
+bell-at : (head : Bool) (q v : ℕ) → q ≤ 4 → doorbell (first-bell head + 8 * q) v ≡ bell head q (doorbell_value v)
+bell-at false q v few = tail-at q v few
+bell-at true q v few = head-at q v few
+
+bell-rung : (head : Bool) (q value : ℕ) → rings (bell head q value) ≡ true
+bell-rung false q value = refl
+bell-rung true q value = refl
+
+high : (head : Bool) (q : ℕ) → 0x1000 ≤ first-bell head + 8 * q
+high false q = omega arith
+high true q = omega arith
+
+bell-rings : (head : Bool) (r : Registers) (offset v q value : ℕ)
+    → ((after_write r offset v).effect ≡ bell head q value)
+    ↔ ((offset ≡ first-bell head + 8 * q) × (q ≤ 4) × (value ≡ doorbell_value v) × (is_ready r.state ≡ true))
+bell-rings head r offset v q value = (
   λ is.
-      let rung = rings-ready r offset v (SqTail q tail) refl is in
-      let place = tail-place offset v q tail rung.1 in
+      let rung = rings-ready r offset v (bell head q value) (bell-rung head q value) is in
+      let place = bell-place head offset v q value rung.1 in
       (place.0, place.1, place.2, rung.0),
-  λ (at, few, value, ready).
-      ready-rings r offset v (SqTail q tail) (omega arith) ready (rw (at, value) (tail-at q v few)),
+  λ (at, few, same, ready). rw (at, same) (ready-rings r _ v _ (high head q) ready (bell-at head q v few)),
 )
 
+tail_rings : (r : Registers) (offset v : ℕ) → TailRings r offset v (after_write r offset v).effect
+tail_rings r offset v = bell-rings false r offset v
+
 head_rings : (r : Registers) (offset v : ℕ) → HeadRings r offset v (after_write r offset v).effect
-head_rings r offset v q head = (
-  λ is.
-      let rung = rings-ready r offset v (CqHead q head) refl is in
-      let place = head-place offset v q head rung.1 in
-      (place.0, place.1, place.2, rung.0),
-  λ (at, few, value, ready).
-      ready-rings r offset v (CqHead q head) (omega arith) ready (rw (at, value) (head-at q v few)),
-)
+head_rings r offset v = bell-rings true r offset v
 
 pub doorbells_name_queues : DoorbellsNameQueues
 doorbells_name_queues r offset v = by (after_write r offset v).effect refl

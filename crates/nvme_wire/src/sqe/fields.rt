@@ -1,6 +1,8 @@
+//! The fields of a submission queue entry that a host sets.
+
 use super::Sqe;
 
-/// The fields of a submission queue entry that a host sets, each 0 unless it is given. The entry's other fields are
+/// The fields of a submission queue entry that a host sets, each 0 unless it is given. What the entry has besides is
 /// 0: the command is not fused, its data pointer is PRP entries, and it has no metadata.
 #[derive(Clone, Copy, Debug, Default, PartialEq, Eq)]
 pub struct SqeFields {
