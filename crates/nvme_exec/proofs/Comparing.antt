@@ -4,7 +4,7 @@ use Rattle.std.specs.Str.{bytes_eq}
 use Rattle.std.proofs.lemmas.List.{same_lists, places}
 use Rattle.std.proofs.lemmas.Slice.Eq.{bytes_eq-Decides}
 use Rattle.nvme_spec.specs.Blocks.{block_at, blocks_from}
-use Rattle.nvme_medium.proofs.Runs.{blocks_from-more}
+use Rattle.nvme_spec.proofs.Splices.{blocks_from-more}
 
 not-true : (b : Bool) → not b ≡ true → b ≡ false
 not-true true h = absurd (cc)

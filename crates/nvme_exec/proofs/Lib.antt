@@ -1,7 +1,9 @@
-pub mod Transferring
 pub mod Comparing
-pub mod Verdicts
-pub mod Settling
+pub mod Transferring
 pub mod Placing
+pub mod Acting
+pub mod Settling
+pub mod Data
 pub mod Performing
+pub mod Verdicts
 pub mod Judging

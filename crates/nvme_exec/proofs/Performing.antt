@@ -1,149 +1,207 @@
--- What an admitted command does is what its plan says.
-use Rattle.std.proofs.Common.{◌≡◌, ℕ, ◌+◌, ◌*◌, ◌≤◌, List, length, take, replicate, Option, Some, None, Ok, refl, ap, ◌∙◌, arith}
-use Rattle.std.specs.Prelude.{IsSome, IsSomeAnd, IsOk, option_map}
+-- A command that has been carried out has done what its definition says.
+use Rattle.std.proofs.Common.{◌≡◌, ℕ, ◌+◌, Bool, List, [], length, take, Option, Some, None, Ok, Err, refl, sym, ap, subst, ◌∙◌, arith}
+use Rattle.std.proofs.lemmas.List.{take_all}
 use Rattle.nvme_wire.specs.Submission.{nsid}
 use Rattle.nvme_wire.specs.declared.status.Status.{Status}
 use Rattle.nvme_spec.specs.declared.command.Command.{Command}
 use Rattle.nvme_spec.specs.declared.command.Command.TheVariants.{Flush, Write, Read, Compare, WriteZeroes, ReservationRegister, ReservationReport, ReservationAcquire, ReservationRelease}
-use Rattle.nvme_spec.specs.declared.pointer.Piece.{Piece}
+use Rattle.nvme_spec.specs.declared.command.CommandKind.{CommandKind}
+use Rattle.nvme_spec.specs.declared.command.CommandKind.TheVariants.{OnBlocks, OnReservation, OnReport}
+use Rattle.nvme_spec.specs.declared.outcome.Marks.{Marks}
+use Rattle.nvme_spec.specs.declared.outcome.Outcome.{Outcome}
 use Rattle.nvme_spec.specs.declared.verdict.Plan.{Plan}
-use Rattle.nvme_spec.specs.World.{World, Namespace, host_of, namespace_of, LiesWithin}
-use Rattle.nvme_spec.specs.Commands.{plan_of, block_count, data_length}
-use Rattle.nvme_spec.specs.IoRules.{FitsNamespace}
-use Rattle.nvme_spec.specs.IoData.{places, data_in, outcome_for, reserved}
-use Rattle.nvme_spec.specs.IoSteps.{start_of, medium_block, report_of}
-use Rattle.nvme_spec.specs.Effects.{Device, WriteEffect, CompareEffect, FlushEffect}
-use Rattle.nvme_spec.specs.Transfers.{addresses, gathered, scattered}
+use Rattle.nvme_spec.specs.Blocks.{Device}
+use Rattle.nvme_spec.specs.Reservation as resv
+use Rattle.nvme_spec.specs.Commands.{kind_of, plan_of, block_count, data_length}
+use Rattle.nvme_spec.specs.Transfers.{addresses, gathered_bytes, with_scattered}
+use Rattle.nvme_spec.specs.World.{World, Namespace, namespace_of}
+use Rattle.nvme_spec.specs.DataRules.{data_addresses}
+use Rattle.nvme_spec.specs.IoData.{data_of, action_outcome, outcome_in, reservation_outcome}
+use Rattle.nvme_spec.specs.Execution.{Scene, scene, BlockEffect, PerformsAs, start_of, medium_block, report_of, world_after, no_marks, marks_of, marks_for, removed_by, is_preempt_and_abort}
 use Rattle.nvme_spec.specs.Statuses as status
-use Rattle.nvme_spec.proofs.Worlds.{of_named}
+use Rattle.nvme_exec.specs.declared.admission.Admission.{Admission}
 use Rattle.nvme_exec.specs.Admitted.{IsAdmitted}
-use Rattle.nvme_exec.specs.Execution.{site, CarriesOut}
-use Rattle.nvme_exec.specs.Reading.{ReadsInto}
+use Rattle.nvme_exec.specs.Carrying.{ActsAt, IsCarriedOut, IsUnrefused, Removes}
+use Rattle.nvme_exec.proofs.Data.{data-is, outcome-is}
 
-some_and : {X : Type 0} (o : Option X) (P Q : X → Type 0) → ((x : X) → P x → Q x) → IsSomeAnd o P → IsSomeAnd o Q
-some_and None P Q f h = h
-some_and (Some x) P Q f h = f x h
+-- only reservation commands make something of a reservation
+no-action : (command : Command) (r : resv.Reservation) (host : ℕ) (e keys : List ℕ) → (kind_of command ≡ OnReservation → ⊥) → action_outcome command r host e keys ≡ None
+unfolding action_outcome
+no-action Flush r host e keys h = refl
+no-action Write r host e keys h = refl
+no-action Read r host e keys h = refl
+no-action Compare r host e keys h = refl
+no-action WriteZeroes r host e keys h = refl
+no-action ReservationReport r host e keys h = refl
+no-action ReservationRegister r host e keys h = absurd (h refl)
+no-action ReservationAcquire r host e keys h = absurd (h refl)
+no-action ReservationRelease r host e keys h = absurd (h refl)
 
-is-some : {X : Type 0} (o : Option X) (P : X → Type 0) → IsSomeAnd o P → IsSome o
-is-some None P h = absurd h
-is-some (Some x) P h = refl
+no-outcome : (command : Command) (n : Option Namespace) (host : ℕ) (e keys : List ℕ) → (kind_of command ≡ OnReservation → ⊥) → outcome_in (Some command) n (Some host) e keys ≡ None
+no-outcome command None host e keys h = refl
+no-outcome command (Some n) host e keys h = no-action command n.reservation host e keys h
 
--- an admitted command names a namespace
-pub named : (w : World) (window e : List ℕ) (plan : Plan) (pieces : List Piece) → IsAdmitted w window e plan pieces → IsSome (namespace_of w (nsid e))
-named w window e plan pieces a = is-some (namespace_of w (nsid e)) _ a.fits
+-- a command that is no reservation command leaves its reservation alone
+pub unreserved : (w : World) (cntlid : ℕ) (window e : List ℕ) (a : Admission) → IsAdmitted w cntlid window e a → (kind_of a.plan.kind ≡ OnReservation → ⊥)
+    → reservation_outcome w cntlid e (data_of window e) ≡ None
+unreserved w cntlid window e a h other =
+    outcome-is w cntlid window e _ a h refl ∙ no-outcome a.plan.kind (namespace_of w (nsid e)) a.host e _ other
 
-in-range-at : (w : World) (n size : ℕ) (plan : Plan) (found : Option Namespace) → namespace_of w n ≡ found → LiesWithin size w.namespaces
-    → IsSomeAnd found (λ (space : Namespace). plan.first + plan.blocks ≤ space.blocks) → start_of found + plan.first + plan.blocks ≤ size
-in-range-at w n size plan None is lies fits = absurd fits
-in-range-at w n size plan (Some space) is lies fits =
-    let inside : space.first + space.blocks ≤ size = of_named (λ m. m.first + m.blocks ≤ size) w n space lies is in
-    omega (arith, fits, inside)
+-- such a command marks nothing
+no-marks : (command : Command) (e : List ℕ) → (kind_of command ≡ OnReservation → ⊥) → is_preempt_and_abort command e ≡ is_preempt_and_abort Flush e
+no-marks Flush e h = refl
+no-marks Write e h = refl
+no-marks Read e h = refl
+no-marks Compare e h = refl
+no-marks WriteZeroes e h = refl
+no-marks ReservationReport e h = refl
+no-marks ReservationRegister e h = absurd (h refl)
+no-marks ReservationAcquire e h = absurd (h refl)
+no-marks ReservationRelease e h = absurd (h refl)
 
--- its blocks lie within the medium
-pub in-range : (w : World) (window e : List ℕ) (size : ℕ) (plan : Plan) (pieces : List Piece) → LiesWithin size w.namespaces → IsAdmitted w window e plan pieces
-    → start_of (namespace_of w (nsid e)) + plan.first + plan.blocks ≤ size
-in-range w window e size plan pieces lies a = in-range-at w (nsid e) size plan (namespace_of w (nsid e)) refl lies a.fits
+unmarked : (command : Command) (e : List ℕ) (outcome : Option resv.Outcome) → (kind_of command ≡ OnReservation → ⊥) → no_marks ≡ marks_of command e outcome
+unmarked command e outcome h = sym (rw (no-marks command e h) refl)
 
-pub starts : (found : Option Namespace) (start : ℕ) → option_map (λ (n : Namespace). n.first) found ≡ Some start → start_of found ≡ start
-starts None start h = absurd (cc)
-starts (Some n) start h = cc
+-- a command is answered so
+abbrev answered : Status → Outcome
+answered why = record { status = why; dw0 = 0; rule = 0; marks = no_marks }
 
--- a command that is not about a reservation
-abbrev pub IsPlainCommand : Command → Type 0
-IsPlainCommand ReservationRegister = ⊥
-IsPlainCommand ReservationAcquire = ⊥
-IsPlainCommand ReservationRelease = ⊥
-IsPlainCommand command = Unit {0}
+-- the blocks of a command are those that its entry names
+aimed : (tells : Bool) (command : Command) (w : World) (e sent : List ℕ) (first blocks : ℕ) (before after : Device) (answer : Status) (returned : List ℕ)
+    → first ≡ start_of (namespace_of w (nsid e)) + (plan_of command e).first → blocks ≡ (plan_of command e).blocks
+    → BlockEffect tells command first blocks sent before after answer returned
+    → BlockEffect tells command (medium_block w e) (block_count e) sent before after answer returned
+aimed tells Flush w e sent first blocks before after answer returned f b h = h
+aimed tells Write w e sent first blocks before after answer returned f b h = rw f at h
+aimed tells Read w e sent first blocks before after answer returned f b h = rw (f, b) at h
+aimed tells Compare w e sent first blocks before after answer returned f b h = rw f at h
+aimed tells WriteZeroes w e sent first blocks before after answer returned f b h = rw (f, b) at h
+aimed tells ReservationRegister w e sent first blocks before after answer returned f b h = h
+aimed tells ReservationReport w e sent first blocks before after answer returned f b h = h
+aimed tells ReservationAcquire w e sent first blocks before after answer returned f b h = h
+aimed tells ReservationRelease w e sent first blocks before after answer returned f b h = h
 
-plain-outcome : (command : Command) (n : Namespace) (host : Option ℕ) (window e : List ℕ) → IsPlainCommand command → IsOk (outcome_for command n host window e)
-unfolding reserved
-plain-outcome command n None window e k = refl
-plain-outcome Flush n (Some h) window e k = refl
-plain-outcome Write n (Some h) window e k = refl
-plain-outcome Read n (Some h) window e k = refl
-plain-outcome Compare n (Some h) window e k = refl
-plain-outcome WriteZeroes n (Some h) window e k = refl
-plain-outcome ReservationReport n (Some h) window e k = refl
-plain-outcome ReservationRegister n (Some h) window e k = absurd k
-plain-outcome ReservationAcquire n (Some h) window e k = absurd k
-plain-outcome ReservationRelease n (Some h) window e k = absurd k
+-- a kind is not another
+not-reservation-blocks : (k : CommandKind) → k ≡ OnBlocks → k ≡ OnReservation → ⊥
+not-reservation-blocks k a b = cc
 
-unrefused : (command : Command) (w : World) (cntlid : ℕ) (window e : List ℕ) (plan : Plan) → IsPlainCommand command → FitsNamespace w (nsid e) plan
-    → IsSomeAnd (namespace_of w (nsid e)) (λ (n : Namespace). IsOk (outcome_for command n (host_of w cntlid) window e))
-unrefused command w cntlid window e plan k fits = some_and (namespace_of w (nsid e)) _ _ (λ n h. plain-outcome command n (host_of w cntlid) window e k) fits
+not-reservation-report : (k : CommandKind) → k ≡ OnReport → k ≡ OnReservation → ⊥
+not-reservation-report k a b = cc
 
--- the plan of a command of this kind
-pub plan-is : (w : World) (window e : List ℕ) (plan : Plan) (pieces : List Piece) (command : Command) → IsAdmitted w window e plan pieces → plan.kind ≡ command → plan ≡ plan_of command e
-plan-is w window e plan pieces command a k = a.planned ∙ ap (λ c. plan_of c e) k
+-- a command on blocks
+pub blocks-done : (tells : Bool) (w : World) (cntlid : ℕ) (window new e : List ℕ) (a : Admission) (before after : Device) (answer : Status) (outcome : Outcome)
+    → IsAdmitted w cntlid window e a → kind_of a.plan.kind ≡ OnBlocks
+    → ActsAt tells a.plan.kind a.extent.first a.extent.blocks (addresses a.pieces.parts.items) before after window new answer
+    → outcome ≡ answered answer
+    → IsCarriedOut tells a.plan.kind cntlid e (scene w window before) (scene w new after) outcome
+blocks-done tells w cntlid window new e a before after answer outcome h k acts is =
+    let other = not-reservation-blocks (kind_of a.plan.kind) k in
+    let old_scene : Scene = scene w window before in
+    let new_scene : Scene = scene w new after in
+    let first_is = h.first ∙ ap (λ (p : Plan). start_of (namespace_of w (nsid e)) + p.first) h.planned in
+    let blocks_is = h.blocks ∙ ap (λ (p : Plan). p.blocks) h.planned in
+    let effect = aimed tells a.plan.kind w e (gathered_bytes window (addresses a.pieces.parts.items)) a.extent.first a.extent.blocks before after answer acts.returned first_is blocks_is acts.effect in
+    rw is (record {
+      performed = record {
+        returned = acts.returned;
+        effect = subst (λ kind. PerformsAs kind tells a.plan.kind cntlid e (data_of window e) old_scene new_scene answer acts.returned) (sym k)
+            (record {
+              world = refl;
+              effect = subst (λ sent. BlockEffect tells a.plan.kind (medium_block w e) (block_count e) sent before after answer acts.returned) (sym (data-is w cntlid window e a h)) effect;
+            });
+        window = acts.window ∙ ap (λ at. with_scattered window (take (length acts.returned) at) acts.returned) h.placed;
+        dw0 = refl;
+        rule = refl;
+        marks = unmarked a.plan.kind e (reservation_outcome w cntlid e (data_of window e)) other;
+      };
+      unrefused = rw (unreserved w cntlid window e a h other) tt;
+    })
 
-pub placed-as : (w : World) (window e : List ℕ) (plan : Plan) (pieces : List Piece) (command : Command) → IsAdmitted w window e plan pieces → plan.kind ≡ command → addresses pieces ≡ places command window e
-placed-as w window e plan pieces command a k = a.placed ∙ ap (λ c. places c window e) k
+-- only Report reports
+report-kind : (command : Command) → kind_of command ≡ OnReport → command ≡ ReservationReport
+report-kind Flush h = absurd (cc)
+report-kind Write h = absurd (cc)
+report-kind Read h = absurd (cc)
+report-kind Compare h = absurd (cc)
+report-kind WriteZeroes h = absurd (cc)
+report-kind ReservationReport h = refl
+report-kind ReservationRegister h = absurd (cc)
+report-kind ReservationAcquire h = absurd (cc)
+report-kind ReservationRelease h = absurd (cc)
 
-pub sized-as : (w : World) (window e : List ℕ) (plan : Plan) (pieces : List Piece) (command : Command) → IsAdmitted w window e plan pieces → plan.kind ≡ command → length (addresses pieces) ≡ data_length command e
-sized-as w window e plan pieces command a k = a.size ∙ ap (λ (p : Plan). p.bytes) (plan-is w window e plan pieces command a k)
+-- a report
+pub report-done : (tells : Bool) (w : World) (cntlid n : ℕ) (window new e : List ℕ) (a : Admission) (device : Device) (outcome : Outcome)
+    → IsAdmitted w cntlid window e a → kind_of a.plan.kind ≡ OnReport → n ≡ nsid e
+    → new ≡ with_scattered window (addresses a.pieces.parts.items) (report_of (namespace_of w n) w.controllers a.plan.bytes)
+    → length (report_of (namespace_of w n) w.controllers a.plan.bytes) ≡ a.plan.bytes
+    → outcome ≡ answered status.successful_completion
+    → IsCarriedOut tells a.plan.kind cntlid e (scene w window device) (scene w new device) outcome
+report-done tells w cntlid n window new e a device outcome h k n-is stored size is =
+    let other = not-reservation-report (kind_of a.plan.kind) k in
+    let old_scene : Scene = scene w window device in
+    let new_scene : Scene = scene w new device in
+    let report : List ℕ = report_of (namespace_of w n) w.controllers a.plan.bytes in
+    let kind_is : a.plan.kind ≡ ReservationReport = report-kind a.plan.kind k in
+    let bytes_is : a.plan.bytes ≡ data_length ReservationReport e = ap (λ (p : Plan). p.bytes) h.planned ∙ ap (λ c. data_length c e) kind_is in
+    let all : take (length report) (addresses a.pieces.parts.items) ≡ addresses a.pieces.parts.items = take_all (length report) (addresses a.pieces.parts.items) (omega (arith, h.bytes, size, bytes-of a e h.planned)) in
+    rw is (record {
+      performed = record {
+        returned = report;
+        effect = subst (λ kind. PerformsAs kind tells a.plan.kind cntlid e (data_of window e) old_scene new_scene status.successful_completion report) (sym k)
+            (record {
+              answered = refl;
+              world = refl;
+              device = refl;
+              data_back = ap (λ m. report_of (namespace_of w m) w.controllers a.plan.bytes) n-is ∙ ap (report_of (namespace_of w (nsid e)) w.controllers) bytes_is;
+            });
+        window = stored ∙ ap (λ at. with_scattered window at report) (sym all ∙ ap (take (length report)) h.placed);
+        dw0 = refl;
+        rule = refl;
+        marks = unmarked a.plan.kind e (reservation_outcome w cntlid e (data_of window e)) other;
+      };
+      unrefused = rw (unreserved w cntlid window e a h other) tt;
+    })
+  where
+    bytes-of : (a : Admission) (e : List ℕ) → a.plan ≡ plan_of a.plan.kind e → a.plan.bytes ≡ data_length a.plan.kind e
+    bytes-of a e planned = ap (λ (p : Plan). p.bytes) planned
 
--- What stands for a command on blocks: its world, its data, its plan and the blocks of the medium that it names.
-pub record IsAt (w : World) (window e : List ℕ) (plan : Plan) (pieces : List Piece) (first blocks : ℕ) : Type 0 where
-  pub admitted : IsAdmitted w window e plan pieces
-  pub first_is : first ≡ start_of (namespace_of w (nsid e)) + plan.first
-  pub blocks_is : blocks ≡ plan.blocks
+unrefused-by : (o : Option resv.Outcome) (removed : List ℕ) → Removes o removed → IsUnrefused o
+unrefused-by None removed r = tt
+unrefused-by (Some (Ok t)) removed r = refl
+unrefused-by (Some (Err why)) removed r = absurd r
 
-pub flushed : (w : World) (cntlid : ℕ) (window e : List ℕ) (plan : Plan) (pieces : List Piece) (before after : Device) (answer : Status) → IsAdmitted w window e plan pieces → plan.kind ≡ Flush
-    → FlushEffect before after answer → CarriesOut plan.kind cntlid e (Unit {0}) (site w window before) (site w window after) (Ok answer)
-flushed w cntlid window e plan pieces before after answer a k f = rw k ((record { world = refl; window = refl }, f), unrefused Flush w cntlid window e plan tt a.fits)
+removed-is : (o : Option resv.Outcome) (removed : List ℕ) → Removes o removed → removed ≡ removed_by o
+removed-is None removed r = absurd r
+removed-is (Some (Ok t)) removed r = r
+removed-is (Some (Err why)) removed r = absurd r
 
-pub written : (w : World) (cntlid : ℕ) (window e : List ℕ) (plan : Plan) (pieces : List Piece) (first blocks : ℕ) (before after : Device) (answer : Status) → IsAt w window e plan pieces first blocks → plan.kind ≡ Write
-    → WriteEffect first (gathered window (addresses pieces)) before after answer → CarriesOut plan.kind cntlid e (Unit {0}) (site w window before) (site w window after) (Ok answer)
-written w cntlid window e plan pieces first blocks before after answer at k f =
-    let is = plan-is w window e plan pieces Write at.admitted k in
-    let first_is : first ≡ medium_block w e = at.first_is ∙ ap (λ (p : Plan). start_of (namespace_of w (nsid e)) + p.first) is in
-    let data_is : gathered window (addresses pieces) ≡ data_in Write window e = ap (gathered window) (placed-as w window e plan pieces Write at.admitted k) in
-    rw k ((record { world = refl; window = refl }, rw (first_is, data_is) at f), unrefused Write w cntlid window e plan tt at.admitted.fits)
+-- no data return to the host
+nothing : (window at : List ℕ) → window ≡ with_scattered window (take 0 at) []
+unfolding with_scattered
+nothing window at = refl
 
-pub compared : (w : World) (cntlid : ℕ) (window e : List ℕ) (plan : Plan) (pieces : List Piece) (first blocks : ℕ) (before after : Device) (answer : Status) → IsAt w window e plan pieces first blocks → plan.kind ≡ Compare
-    → CompareEffect first (gathered window (addresses pieces)) before after answer → CarriesOut plan.kind cntlid e (Unit {0}) (site w window before) (site w window after) (Ok answer)
-compared w cntlid window e plan pieces first blocks before after answer at k f =
-    let is = plan-is w window e plan pieces Compare at.admitted k in
-    let first_is : first ≡ medium_block w e = at.first_is ∙ ap (λ (p : Plan). start_of (namespace_of w (nsid e)) + p.first) is in
-    let data_is : gathered window (addresses pieces) ≡ data_in Compare window e = ap (gathered window) (placed-as w window e plan pieces Compare at.admitted k) in
-    rw k ((record { world = refl; window = refl }, rw (first_is, data_is) at f), unrefused Compare w cntlid window e plan tt at.admitted.fits)
-
-pub zeroed : (w : World) (cntlid : ℕ) (window e : List ℕ) (plan : Plan) (pieces : List Piece) (first blocks : ℕ) (before after : Device) (answer : Status) → IsAt w window e plan pieces first blocks → plan.kind ≡ WriteZeroes
-    → WriteEffect first (replicate (512 * blocks) 0) before after answer → CarriesOut plan.kind cntlid e (Unit {0}) (site w window before) (site w window after) (Ok answer)
-zeroed w cntlid window e plan pieces first blocks before after answer at k f =
-    let is = plan-is w window e plan pieces WriteZeroes at.admitted k in
-    let first_is : first ≡ medium_block w e = at.first_is ∙ ap (λ (p : Plan). start_of (namespace_of w (nsid e)) + p.first) is in
-    let blocks_is : blocks ≡ block_count e = at.blocks_is ∙ ap (λ (p : Plan). p.blocks) is in
-    rw k ((record { world = refl; window = refl }, rw (first_is, blocks_is) at f), unrefused WriteZeroes w cntlid window e plan tt at.admitted.fits)
-
-pub has-read : (w : World) (cntlid : ℕ) (window new e : List ℕ) (plan : Plan) (pieces : List Piece) (first blocks : ℕ) (before after : Device) (answer : Status) → IsAt w window e plan pieces first blocks → plan.kind ≡ Read
-    → ReadsInto first (512 * blocks) (addresses pieces) before after window new answer → CarriesOut plan.kind cntlid e (Unit {0}) (site w window before) (site w new after) (Ok answer)
-has-read w cntlid window new e plan pieces first blocks before after answer at k r =
-    let is = plan-is w window e plan pieces Read at.admitted k in
-    let first_is : first ≡ medium_block w e = at.first_is ∙ ap (λ (p : Plan). start_of (namespace_of w (nsid e)) + p.first) is in
-    let blocks_is : blocks ≡ block_count e = at.blocks_is ∙ ap (λ (p : Plan). p.blocks) is in
-    rw k (
-      record {
-        read = r.read;
-        world = refl;
-        blocks = rw (first_is, blocks_is) at r.blocks;
-        window = r.window ∙ ap (λ x. scattered window (take (length r.read) x) r.read) (placed-as w window e plan pieces Read at.admitted k);
-      },
-      unrefused Read w cntlid window e plan tt at.admitted.fits,
-    )
-
-pub reported : (w : World) (cntlid : ℕ) (window new e : List ℕ) (plan : Plan) (pieces : List Piece) (device : Device) (n : ℕ) → IsAdmitted w window e plan pieces → plan.kind ≡ ReservationReport → n ≡ nsid e
-    → new ≡ scattered window (addresses pieces) (report_of w n plan.bytes) → CarriesOut plan.kind cntlid e (Unit {0}) (site w window device) (site w new device) (Ok status.successful_completion)
-reported w cntlid window new e plan pieces device n a k n-is is =
-    let bytes : plan.bytes ≡ data_length ReservationReport e = ap (λ (p : Plan). p.bytes) (plan-is w window e plan pieces ReservationReport a k) in
-    rw k (
-      record {
-        done = refl;
-        world = refl;
-        device = refl;
-        window = is ∙ ap (λ x. scattered window x (report_of w n plan.bytes)) (placed-as w window e plan pieces ReservationReport a k)
-            ∙ ap (λ x. scattered window (places ReservationReport window e) (report_of w x plan.bytes)) n-is
-            ∙ ap (λ x. scattered window (places ReservationReport window e) (report_of w (nsid e) x)) bytes;
-      },
-      unrefused ReservationReport w cntlid window e plan tt a.fits,
-    )
+-- a reservation command
+pub reservation-done : (tells : Bool) (w new : World) (cntlid : ℕ) (window e removed : List ℕ) (a : Admission) (device : Device) (outcome : Outcome) (marks : Marks)
+    → kind_of a.plan.kind ≡ OnReservation
+    → Removes (reservation_outcome w cntlid e (data_of window e)) removed
+    → new ≡ world_after w (nsid e) (reservation_outcome w cntlid e (data_of window e))
+    → outcome ≡ answered status.successful_completion
+    → marks ≡ marks_for a.plan.kind e removed
+    → IsCarriedOut tells a.plan.kind cntlid e (scene w window device) (scene new window device)
+    (record { status = outcome.status; dw0 = outcome.dw0; rule = outcome.rule; marks = marks })
+reservation-done tells w new cntlid window e removed a device outcome marks k removes world is marks-is =
+    let o = reservation_outcome w cntlid e (data_of window e) in
+    let old_scene : Scene = scene w window device in
+    let new_scene : Scene = scene new window device in
+    record {
+      performed = record {
+        returned = [];
+        effect = subst (λ kind. PerformsAs kind tells a.plan.kind cntlid e (data_of window e) old_scene new_scene outcome.status []) (sym k)
+            (record { answered = ap (λ (x : Outcome). x.status) is; world = world; device = refl; data_back = refl });
+        window = nothing window (data_addresses (data_length a.plan.kind e) window e);
+        dw0 = ap (λ (x : Outcome). x.dw0) is;
+        rule = ap (λ (x : Outcome). x.rule) is;
+        marks = marks-is ∙ ap (marks_for a.plan.kind e) (removed-is o removed removes);
+      };
+      unrefused = unrefused-by o removed removes;
+    }

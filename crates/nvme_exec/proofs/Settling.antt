@@ -1,38 +1,39 @@
 -- Reservation commands do to a namespace's reservation what they are to do.
-use Rattle.std.proofs.Common.{◌≡◌, ℕ, ◌≤◌, List, length, Option, Some, None, Ok, Err, refl, ap, ◌∙◌}
-use Rattle.std.specs.Prelude.{IsSomeAnd, option_map}
-use Rattle.nvme_wire.specs.Submission.{nsid}
+use Rattle.std.proofs.Common.{◌≡◌, ℕ, ◌≤◌, List, length, Result, Option, Some, None, Ok, Err, refl, ap, ◌∙◌}
+use Rattle.std.specs.Prelude.{option_map}
+use Rattle.nvme_wire.specs.declared.status.Status.{Status}
 use Rattle.nvme_spec.specs.declared.command.Command.{Command}
 use Rattle.nvme_spec.specs.Reservation as resv
 use Rattle.nvme_spec.specs.World.{World, Namespace, host_of, namespace_of, with_reservation}
-use Rattle.nvme_spec.specs.Transfers.{gathered}
-use Rattle.nvme_spec.specs.IoData.{reserved, outcome_for, data_in, places}
-use Rattle.nvme_spec.specs.IoSteps.{HasKnownRegistrants}
+use Rattle.nvme_spec.specs.IoData.{action_outcome, outcome_in}
+use Rattle.nvme_spec.specs.Execution.{HasKnownRegistrants, world_after}
 use Rattle.nvme_spec.proofs.Hosts.{room}
 use Rattle.nvme_spec.proofs.Worlds.{same-reservation, of_named, host-known}
+use Rattle.nvme_resv.specs.declared.change.Change.{Change}
 use Rattle.nvme_resv.specs.Answers.{HasRoomFor}
-use Rattle.nvme_exec.specs.Answers.{Answer, Answers, Settles, SettlesFor}
+use Rattle.nvme_exec.specs.Carrying.{FollowsSome, Settles, Removes}
 
-settles : (outcome : resv.Outcome) (w : World) (n : ℕ) (space : Namespace) (answer : Answer) (next : resv.Reservation) → namespace_of w n ≡ Some space
-    → Answers outcome space.reservation answer next → Settles outcome n w answer (with_reservation w n next)
-settles (Ok new) w n space answer next found a = (a.0, ap (with_reservation w n) a.1)
-settles (Err refusal) w n space answer next found a = (a.0, ap (with_reservation w n) a.1 ∙ same-reservation w n space found)
+settles : (outcome : Option resv.Outcome) (w : World) (n : ℕ) (space : Namespace) (result : Result Change Status) (next : resv.Reservation) → namespace_of w n ≡ Some space
+    → FollowsSome outcome space.reservation result next → Settles outcome n w result (with_reservation w n next)
+settles None w n space result next found a = absurd a
+settles (Some (Ok new)) w n space result next found a = (a.0, ap (with_reservation w n) a.1)
+settles (Some (Err refusal)) w n space result next found a = (a.0, ap (with_reservation w n) a.1 ∙ same-reservation w n space found)
 
-settles-at : (command : Command) (w : World) (cntlid host : ℕ) (window e keys : List ℕ) (r next : resv.Reservation) (answer : Answer) (found : Option Namespace) → namespace_of w (nsid e) ≡ found
-    → option_map (λ (n : Namespace). n.reservation) found ≡ Some r → host_of w cntlid ≡ Some host → keys ≡ data_in command window e → Answers (reserved command r host e keys) r answer next
-    → IsSomeAnd found (λ (n : Namespace). Settles (outcome_for command n (host_of w cntlid) window e) (nsid e) w answer (with_reservation w (nsid e) next))
-settles-at command w cntlid host window e keys r next answer None is named configured gathered a = absurd (cc)
-settles-at command w cntlid host window e keys r next answer (Some n) is named configured gathered a =
-    let same : r ≡ n.reservation = cc in
-    let here = rw (same, gathered) at a in
-    rw configured (settles (reserved command n.reservation host e (data_in command window e)) w (nsid e) n answer next is here)
+settles-at : (command : Command) (w : World) (n host : ℕ) (e keys : List ℕ) (r next : resv.Reservation) (result : Result Change Status) (found : Option Namespace) → namespace_of w n ≡ found
+    → option_map (λ (n : Namespace). n.reservation) found ≡ Some r → FollowsSome (action_outcome command r host e keys) r result next
+    → Settles (outcome_in (Some command) found (Some host) e keys) n w result (with_reservation w n next)
+settles-at command w n host e keys r next result None is named a = absurd (cc)
+settles-at command w n host e keys r next result (Some space) is named a =
+    let same : r ≡ space.reservation = cc in
+    settles (action_outcome command space.reservation host e keys) w n space result next is (rw same at a)
 
-pub settles-for : (command : Command) (w : World) (cntlid host n : ℕ) (window e keys : List ℕ) (r next : resv.Reservation) (answer : Answer) → n ≡ nsid e
-    → option_map (λ (n : Namespace). n.reservation) (namespace_of w n) ≡ Some r → host_of w cntlid ≡ Some host → (at : List ℕ) → keys ≡ gathered window at → at ≡ places command window e
-    → Answers (reserved command r host e keys) r answer next → SettlesFor command w cntlid window e answer (with_reservation w n next)
-settles-for command w cntlid host n window e keys r next answer n-is named configured at gathered_is placed a =
-    let named_here = rw n-is at named in
-    rw n-is (settles-at command w cntlid host window e keys r next answer (namespace_of w (nsid e)) refl named_here configured (gathered_is ∙ ap (gathered window) placed) a)
+-- a command of this kind, on the namespace whose reservation was lent
+pub settles-for : (command kind : Command) (w : World) (m n host : ℕ) (e keys : List ℕ) (r next : resv.Reservation) (result : Result Change Status) → kind ≡ command → m ≡ n
+    → option_map (λ (n : Namespace). n.reservation) (namespace_of w m) ≡ Some r → FollowsSome (action_outcome command r host e keys) r result next
+    → Settles (outcome_in (Some kind) (namespace_of w n) (Some host) e keys) n w result (with_reservation w m next)
+settles-for command kind w m n host e keys r next result k is named a =
+    let here = rw is at named in
+    rw (k, is) (settles-at command w n host e keys r next result (namespace_of w n) refl here a)
 
 room-at : (w : World) (cntlid host n : ℕ) (r : resv.Reservation) (found : Option Namespace) → namespace_of w n ≡ found → option_map (λ (n : Namespace). n.reservation) found ≡ Some r
     → host_of w cntlid ≡ Some host → length w.controllers ≤ 16 → resv.IsRising r.registrants → HasKnownRegistrants w → HasRoomFor r host
@@ -46,3 +47,32 @@ room-at w cntlid host n r (Some space) is named configured few rising known =
 pub room-for : (w : World) (cntlid host n : ℕ) (r : resv.Reservation) → option_map (λ (n : Namespace). n.reservation) (namespace_of w n) ≡ Some r
     → host_of w cntlid ≡ Some host → length w.controllers ≤ 16 → resv.IsRising r.registrants → HasKnownRegistrants w → HasRoomFor r host
 room-for w cntlid host n r named configured few rising known = room-at w cntlid host n r (namespace_of w n) refl named configured few rising known
+
+-- what was removed, why it was refused, and what is left of the world
+
+removed-by : (outcome : Option resv.Outcome) (n : ℕ) (w new : World) (change : Change) → Settles outcome n w (Ok change) new → Removes outcome change.removed.items
+removed-by None n w new change s = s
+removed-by (Some (Ok t)) n w new change s =
+    let same : change ≡ record { removed = record { items = t.removed } } = cc (s.0) in ap (λ (c : Change). c.removed.items) same
+removed-by (Some (Err why)) n w new change s = absurd (cc (s.0))
+
+pub removed : (outcome other : Option resv.Outcome) (n : ℕ) (w new : World) (result : Result Change Status) (change : Change) → outcome ≡ other → result ≡ Ok change
+    → Settles other n w result new → Removes outcome change.removed.items
+removed outcome other n w new result change is done s = rw is (removed-by other n w new change (rw done at s))
+
+refused-by : (outcome : Option resv.Outcome) (n : ℕ) (w new : World) (why : Status) → Settles outcome n w (Err why) new → outcome ≡ Some (Err why)
+refused-by None n w new why s = absurd s
+refused-by (Some (Ok t)) n w new why s = absurd (cc (s.0))
+refused-by (Some (Err reason)) n w new why s = let same : why ≡ reason = cc (s.0) in rw same refl
+
+pub refused : (outcome other : Option resv.Outcome) (n : ℕ) (w new : World) (result : Result Change Status) (why : Status) → outcome ≡ other → result ≡ Err why
+    → Settles other n w result new → outcome ≡ Some (Err why)
+refused outcome other n w new result why is done s = is ∙ refused-by other n w new why (rw done at s)
+
+left-by : (outcome : Option resv.Outcome) (n : ℕ) (w new : World) (result : Result Change Status) → Settles outcome n w result new → new ≡ world_after w n outcome
+left-by None n w new result s = absurd s
+left-by (Some (Ok t)) n w new result s = s.1
+left-by (Some (Err why)) n w new result s = s.1
+
+pub left : (outcome other : Option resv.Outcome) (n : ℕ) (w new : World) (result : Result Change Status) → outcome ≡ other → Settles other n w result new → new ≡ world_after w n outcome
+left outcome other n w new result is s = rw is (left-by other n w new result s)

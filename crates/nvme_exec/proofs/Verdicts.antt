@@ -8,47 +8,59 @@ use Rattle.nvme_wire.specs.declared.status.Status.{Status}
 use Rattle.nvme_spec.specs.declared.command.Command.{Command}
 use Rattle.nvme_spec.specs.declared.command.Command.TheVariants.{Flush, Write, Read, Compare, WriteZeroes, ReservationRegister, ReservationReport, ReservationAcquire, ReservationRelease}
 use Rattle.nvme_spec.specs.declared.pointer.DataFault.{DataFault}
-use Rattle.nvme_spec.specs.declared.verdict.Denial.{Denial}
 use Rattle.nvme_spec.specs.declared.verdict.Plan.{Plan}
 use Rattle.nvme_spec.specs.declared.verdict.Verdict.TheVariants.{Allowed, Denied}
 use Rattle.nvme_spec.specs.Reservation as resv
-use Rattle.nvme_spec.specs.World.{World, Namespace, host_of, namespace_of}
-use Rattle.nvme_spec.specs.Commands.{command_of, data_length, plan_of, block_count, report_length, reservation_type, action, ignores_key}
-use Rattle.nvme_spec.specs.Rules.{Rule, Test, Judgement, tested, else_by, first_failing, first_failing_test}
-use Rattle.nvme_spec.specs.IoRules.{field_rule, access_rules, concluded, verdict}
-use Rattle.nvme_spec.specs.IoData.{pointer_rule, action_rule, data_fault, fault_status, fault_tests, outcome_for, refusal_tests, io_verdict}
+use Rattle.nvme_spec.specs.World.{World, host_of, namespace_of}
+use Rattle.nvme_spec.specs.Commands.{command_of, data_length, data_length_of, plan_of, block_count, report_length, rtype, action, iekey}
+use Rattle.nvme_spec.specs.Rules.{Rule, Test, Judgement, denial_by, judgement_by, else_by, first_failing, first_failure}
+use Rattle.nvme_spec.specs.IoRules.{field_rule, access_rules, conclusion, verdict}
+use Rattle.nvme_spec.specs.DataRules.{pointer_rule, data_fault, fault_status, fault_tests}
+use Rattle.nvme_spec.specs.IoData.{action_rule, outcome_tests, data_of, outcome_in, reservation_outcome, io_judgement, io_verdict}
+use Rattle.nvme_exec.specs.Carrying.{IsUnrefused}
 
 first_failing-append : (xs ys : List Rule) → first_failing (xs ++ ys) ≡ else_by (first_failing xs) (first_failing ys)
 first_failing-append [] ys = refl
 first_failing-append (x ∷ xs) ys =
-    elim (tested x) as (λ t. else_by t (first_failing (xs ++ ys)) ≡ else_by (else_by t (first_failing xs)) (first_failing ys)) [
+    elim (judgement_by x) as (λ t. else_by t (first_failing (xs ++ ys)) ≡ else_by (else_by t (first_failing xs)) (first_failing ys)) [
       | Ok u ↦ first_failing-append xs ys
       | Err d ↦ refl
     ]
 
 -- the rules on the data
-abbrev data_rules : Option Command → Option Namespace → Option ℕ → List ℕ → List ℕ → List Rule
-data_rules command n host window e = pointer_rule command window e ∷ action_rule command n host window e ∷ []
+abbrev data_rules : ℕ → Option resv.Outcome → List ℕ → List ℕ → List Rule
+data_rules bytes outcome window e = pointer_rule bytes window e ∷ action_rule outcome ∷ []
+
+-- what a command makes of its reservation
+abbrev outcome_now : Option Command → World → ℕ → List ℕ → List ℕ → Option resv.Outcome
+outcome_now command w cntlid window e = outcome_in command (namespace_of w (nsid e)) (host_of w cntlid) e (data_of window e)
 
 judged : (w : World) (cntlid : ℕ) (e : List ℕ) (marked : Bool) (window : List ℕ)
     → io_verdict w cntlid e marked window
-    ≡ concluded (else_by (first_failing (access_rules w cntlid e marked)) (first_failing (data_rules (command_of (opcode e)) (namespace_of w (nsid e)) (host_of w cntlid) window e))) (command_of (opcode e)) e
-unfolding io_verdict
-judged w cntlid e marked window = ap (λ j. concluded j (command_of (opcode e)) e) (first_failing-append (access_rules w cntlid e marked) (data_rules (command_of (opcode e)) (namespace_of w (nsid e)) (host_of w cntlid) window e))
+    ≡ conclusion (else_by (first_failing (access_rules w cntlid e marked))
+    (first_failing (data_rules (data_length_of (command_of (opcode e)) e) (outcome_now (command_of (opcode e)) w cntlid window e) window e)))
+    (command_of (opcode e)) e
+unfolding io_judgement reservation_outcome
+judged w cntlid e marked window =
+    ap (λ j. conclusion j (command_of (opcode e)) e)
+    (first_failing-append (access_rules w cntlid e marked)
+    (data_rules (data_length_of (command_of (opcode e)) e) (outcome_now (command_of (opcode e)) w cntlid window e) window e))
 
-denied-still : (j : Judgement) (command : Option Command) (n : Option Namespace) (host : Option ℕ) (window e : List ℕ) (rule : ℕ) (status : Status)
-    → concluded j command e ≡ Denied rule status → concluded (else_by j (first_failing (data_rules command n host window e))) command e ≡ Denied rule status
-unfolding tested pointer_rule action_rule
-denied-still (Err d) command n host window e rule status h = h
-denied-still (Ok u) None n host window e rule status h = h
-denied-still (Ok u) (Some command) n host window e rule status h = absurd (cc)
+denied-still : (j : Judgement) (command : Option Command) (w : World) (cntlid : ℕ) (window e : List ℕ) (rule : ℕ) (status : Status)
+    → conclusion j command e ≡ Denied rule status
+    → conclusion (else_by j (first_failing (data_rules (data_length_of command e) (outcome_now command w cntlid window e) window e))) command e ≡ Denied rule status
+unfolding judgement_by pointer_rule action_rule
+denied-still (Err d) command w cntlid window e rule status h = h
+denied-still (Ok u) None w cntlid window e rule status h = h
+denied-still (Ok u) (Some command) w cntlid window e rule status h = absurd (cc)
 
 -- a denial by a rule on access stands
 pub denied : (w : World) (cntlid : ℕ) (e : List ℕ) (marked : Bool) (window : List ℕ) (rule : ℕ) (status : Status)
     → verdict w cntlid e marked ≡ Denied rule status → io_verdict w cntlid e marked window ≡ Denied rule status
 unfolding verdict
 denied w cntlid e marked window rule status h =
-    judged w cntlid e marked window ∙ denied-still (first_failing (access_rules w cntlid e marked)) (command_of (opcode e)) _ _ window e rule status h
+    judged w cntlid e marked window
+    ∙ denied-still (first_failing (access_rules w cntlid e marked)) (command_of (opcode e)) w cntlid window e rule status h
 
 -- what an allowed plan tells
 pub record IsPlanned (j : Judgement) (command : Option Command) (e : List ℕ) (plan : Plan) : Type 0 where
@@ -56,7 +68,7 @@ pub record IsPlanned (j : Judgement) (command : Option Command) (e : List ℕ) (
   pub named : command ≡ Some plan.kind
   pub plan_is : plan ≡ plan_of plan.kind e
 
-planned : (j : Judgement) (command : Option Command) (e : List ℕ) (plan : Plan) → concluded j command e ≡ Allowed plan → IsPlanned j command e plan
+planned : (j : Judgement) (command : Option Command) (e : List ℕ) (plan : Plan) → conclusion j command e ≡ Allowed plan → IsPlanned j command e plan
 planned (Err d) command e plan h = absurd (cc)
 planned (Ok tt) None e plan h = absurd (cc)
 planned (Ok tt) (Some command) e plan h =
@@ -72,52 +84,61 @@ planned-by w cntlid e marked plan h = planned _ _ e plan h
 -- the data decide about a plan
 decided : (w : World) (cntlid : ℕ) (e : List ℕ) (marked : Bool) (window : List ℕ) (plan : Plan) → verdict w cntlid e marked ≡ Allowed plan
     → io_verdict w cntlid e marked window
-    ≡ concluded (first_failing (data_rules (Some plan.kind) (namespace_of w (nsid e)) (host_of w cntlid) window e)) (Some plan.kind) e
+    ≡ conclusion (first_failing (data_rules (data_length plan.kind e) (outcome_now (command_of (opcode e)) w cntlid window e) window e)) (Some plan.kind) e
 decided w cntlid e marked window plan h =
     let p = planned-by w cntlid e marked plan h in
+    let outcome = outcome_now (command_of (opcode e)) w cntlid window e in
     judged w cntlid e marked window
-    ∙ ap (λ j. concluded (else_by j (first_failing (data_rules (command_of (opcode e)) (namespace_of w (nsid e)) (host_of w cntlid) window e))) (command_of (opcode e)) e) p.passed
-    ∙ ap (λ c. concluded (first_failing (data_rules c (namespace_of w (nsid e)) (host_of w cntlid) window e)) c e) p.named
+    ∙ ap (λ j. conclusion (else_by j (first_failing (data_rules (data_length_of (command_of (opcode e)) e) outcome window e))) (command_of (opcode e)) e) p.passed
+    ∙ ap (λ c. conclusion (first_failing (data_rules (data_length_of c e) outcome window e)) c e) p.named
 
-pointer-fails : (command : Command) (n : Option Namespace) (host : Option ℕ) (window e : List ℕ) (fault : DataFault) → data_fault command window e ≡ Some fault
-    → concluded (first_failing (data_rules (Some command) n host window e)) (Some command) e ≡ Denied 10 (fault_status fault)
-unfolding tested pointer_rule
-pointer-fails command n host window e fault h =
-    ap (λ f. concluded (else_by (first_failing_test 10 (fault_tests f)) (first_failing (action_rule (Some command) n host window e ∷ []))) (Some command) e) h
+pointer-fails : (bytes : ℕ) (command : Command) (outcome : Option resv.Outcome) (window e : List ℕ) (fault : DataFault) → data_fault bytes window e ≡ Some fault
+    → conclusion (first_failing (data_rules bytes outcome window e)) (Some command) e ≡ Denied 10 (fault_status fault)
+unfolding judgement_by pointer_rule
+pointer-fails bytes command outcome window e fault h =
+    ap (λ f. conclusion (else_by (denial_by 10 (first_failure (fault_tests f))) (first_failing (action_rule outcome ∷ []))) (Some command) e) h
 
 -- a data pointer that has a fault denies
 pub pointer-denied : (w : World) (cntlid : ℕ) (e : List ℕ) (marked : Bool) (window : List ℕ) (plan : Plan) (fault : DataFault) → verdict w cntlid e marked ≡ Allowed plan
-    → data_fault plan.kind window e ≡ Some fault → io_verdict w cntlid e marked window ≡ Denied 10 (fault_status fault)
-pointer-denied w cntlid e marked window plan fault h f = decided w cntlid e marked window plan h ∙ pointer-fails plan.kind _ _ window e fault f
+    → data_fault plan.bytes window e ≡ Some fault → io_verdict w cntlid e marked window ≡ Denied 10 (fault_status fault)
+pointer-denied w cntlid e marked window plan fault h f =
+    let bytes : plan.bytes ≡ data_length plan.kind e = ap (λ (p : Plan). p.bytes) (planned-by w cntlid e marked plan h).plan_is in
+    decided w cntlid e marked window plan h ∙ pointer-fails (data_length plan.kind e) plan.kind _ window e fault (rw bytes at f)
 
-data-sound : (command : Command) (n : Namespace) (host : Option ℕ) (window e : List ℕ) (outcome : resv.Outcome) → data_fault command window e ≡ None
-    → outcome_for command n host window e ≡ outcome
-    → concluded (first_failing (data_rules (Some command) (Some n) host window e)) (Some command) e ≡ concluded (else_by (first_failing_test 11 (refusal_tests outcome)) (Ok tt)) (Some command) e
-unfolding tested pointer_rule action_rule
-data-sound command n host window e outcome h o =
-    ap (λ f. concluded (else_by (first_failing_test 10 (fault_tests f)) (first_failing (action_rule (Some command) (Some n) host window e ∷ []))) (Some command) e) h
-    ∙ ap (λ r. concluded (else_by (first_failing_test 11 (refusal_tests r)) (Ok tt)) (Some command) e) o
+data-sound : (bytes : ℕ) (command : Command) (window e : List ℕ) (now outcome : Option resv.Outcome) → data_fault bytes window e ≡ None → now ≡ outcome
+    → conclusion (first_failing (data_rules bytes now window e)) (Some command) e ≡ conclusion (else_by (denial_by 11 (first_failure (outcome_tests outcome))) (Ok tt)) (Some command) e
+unfolding judgement_by pointer_rule action_rule
+data-sound bytes command window e now outcome h o =
+    ap (λ f. conclusion (else_by (denial_by 10 (first_failure (fault_tests f))) (first_failing (action_rule now ∷ []))) (Some command) e) h
+    ∙ ap (λ r. conclusion (else_by (denial_by 11 (first_failure (outcome_tests r))) (Ok tt)) (Some command) e) o
 
-sound-by : (w : World) (cntlid : ℕ) (e : List ℕ) (marked : Bool) (window : List ℕ) (plan : Plan) (n : Namespace) (outcome : resv.Outcome) → verdict w cntlid e marked ≡ Allowed plan
-    → data_fault plan.kind window e ≡ None → namespace_of w (nsid e) ≡ Some n → outcome_for plan.kind n (host_of w cntlid) window e ≡ outcome
-    → io_verdict w cntlid e marked window ≡ concluded (else_by (first_failing_test 11 (refusal_tests outcome)) (Ok tt)) (Some plan.kind) e
-sound-by w cntlid e marked window plan n outcome h f found o =
-    decided w cntlid e marked window plan h
-    ∙ ap (λ m. concluded (first_failing (data_rules (Some plan.kind) m (host_of w cntlid) window e)) (Some plan.kind) e) found
-    ∙ data-sound plan.kind n (host_of w cntlid) window e outcome f o
+sound-by : (w : World) (cntlid : ℕ) (e : List ℕ) (marked : Bool) (window : List ℕ) (plan : Plan) (outcome : Option resv.Outcome) → verdict w cntlid e marked ≡ Allowed plan
+    → data_fault (data_length plan.kind e) window e ≡ None → reservation_outcome w cntlid e (data_of window e) ≡ outcome
+    → io_verdict w cntlid e marked window ≡ conclusion (else_by (denial_by 11 (first_failure (outcome_tests outcome))) (Ok tt)) (Some plan.kind) e
+unfolding reservation_outcome
+sound-by w cntlid e marked window plan outcome h f o =
+    decided w cntlid e marked window plan h ∙ data-sound (data_length plan.kind e) plan.kind window e _ outcome f o
 
 -- a reservation that refuses the action denies
-pub action-denied : (w : World) (cntlid : ℕ) (e : List ℕ) (marked : Bool) (window : List ℕ) (plan : Plan) (n : Namespace) (refusal : Status) → verdict w cntlid e marked ≡ Allowed plan
-    → data_fault plan.kind window e ≡ None → namespace_of w (nsid e) ≡ Some n → outcome_for plan.kind n (host_of w cntlid) window e ≡ Err refusal
+pub action-denied : (w : World) (cntlid : ℕ) (e : List ℕ) (marked : Bool) (window : List ℕ) (plan : Plan) (refusal : Status) → verdict w cntlid e marked ≡ Allowed plan
+    → data_fault (data_length plan.kind e) window e ≡ None → reservation_outcome w cntlid e (data_of window e) ≡ Some (Err refusal)
     → io_verdict w cntlid e marked window ≡ Denied 11 refusal
-action-denied w cntlid e marked window plan n refusal h f found o = sound-by w cntlid e marked window plan n (Err refusal) h f found o
+action-denied w cntlid e marked window plan refusal h f o = sound-by w cntlid e marked window plan (Some (Err refusal)) h f o
+
+passes : (plan : Plan) (e : List ℕ) (outcome : Option resv.Outcome) → IsUnrefused outcome
+    → conclusion (else_by (denial_by 11 (first_failure (outcome_tests outcome))) (Ok tt)) (Some plan.kind) e ≡ Allowed (plan_of plan.kind e)
+passes plan e None h = refl
+passes plan e (Some (Ok t)) h = refl
+passes plan e (Some (Err why)) h = absurd (cc (h))
 
 -- and nothing else does
-pub allowed : (w : World) (cntlid : ℕ) (e : List ℕ) (marked : Bool) (window : List ℕ) (plan : Plan) (n : Namespace) (next : resv.Reservation) → verdict w cntlid e marked ≡ Allowed plan
-    → data_fault plan.kind window e ≡ None → namespace_of w (nsid e) ≡ Some n → outcome_for plan.kind n (host_of w cntlid) window e ≡ Ok next
+pub allowed : (w : World) (cntlid : ℕ) (e : List ℕ) (marked : Bool) (window : List ℕ) (plan : Plan) → verdict w cntlid e marked ≡ Allowed plan
+    → data_fault (data_length plan.kind e) window e ≡ None → IsUnrefused (reservation_outcome w cntlid e (data_of window e))
     → io_verdict w cntlid e marked window ≡ Allowed plan
-allowed w cntlid e marked window plan n next h f found o =
-    sound-by w cntlid e marked window plan n (Ok next) h f found o ∙ ap Allowed (sym (planned-by w cntlid e marked plan h).plan_is)
+allowed w cntlid e marked window plan h f unrefused =
+    sound-by w cntlid e marked window plan (reservation_outcome w cntlid e (data_of window e)) h f refl
+    ∙ passes plan e (reservation_outcome w cntlid e (data_of window e)) unrefused
+    ∙ ap Allowed (sym (planned-by w cntlid e marked plan h).plan_is)
 
 -- Fields that the rules let pass.
 
@@ -125,27 +146,30 @@ ok-both : (a b : Judgement) → else_by a b ≡ Ok tt → (a ≡ Ok tt) × (b �
 ok-both (Ok u) b h = (refl, h)
 ok-both (Err d) b h = absurd (cc)
 
-all-pass : (rs : List Rule) → first_failing rs ≡ Ok tt → AllByRecursion (λ r. tested r ≡ Ok tt) rs
+all-pass : (rs : List Rule) → first_failing rs ≡ Ok tt → AllByRecursion (λ r. judgement_by r ≡ Ok tt) rs
 all-pass [] h = tt
-all-pass (r ∷ rs) h = let p = ok-both (tested r) (first_failing rs) h in (p.0, all-pass rs p.1)
+all-pass (r ∷ rs) h = let p = ok-both (judgement_by r) (first_failing rs) h in (p.0, all-pass rs p.1)
 
-passes-on : (b : Bool) (d : Denial) (later : Judgement) → (if b then Err d else later) ≡ Ok tt → (b ≡ false) × (later ≡ Ok tt)
-passes-on true d later h = absurd (cc)
-passes-on false d later h = (refl, h)
+passes-on : (b : Bool) (why : Status) (later : Option Status) → (if b then Some why else later) ≡ None → (b ≡ false) × (later ≡ None)
+passes-on true why later h = absurd (cc)
+passes-on false why later h = (refl, h)
 
-all-tests-pass : (number : ℕ) (ts : List Test) → first_failing_test number ts ≡ Ok tt → AllByRecursion (λ (t : Test). t.fails ≡ false) ts
-all-tests-pass number [] h = tt
-all-tests-pass number (t ∷ ts) h =
-    let p = passes-on t.fails (record { rule = number; status = t.status }) (first_failing_test number ts) h in (p.0, all-tests-pass number ts p.1)
+all-tests-pass : (ts : List Test) → first_failure ts ≡ None → AllByRecursion (λ (t : Test). t.fails ≡ false) ts
+all-tests-pass [] h = tt
+all-tests-pass (t ∷ ts) h = let p = passes-on t.fails t.status (first_failure ts) h in (p.0, all-tests-pass ts p.1)
+
+no-failure : (number : ℕ) (o : Option Status) → denial_by number o ≡ Ok tt → o ≡ None
+no-failure number None h = refl
+no-failure number (Some why) h = absurd (cc)
 
 -- the tests of the rule on fields
 pub fields-pass : (w : World) (cntlid : ℕ) (e : List ℕ) (marked : Bool) (plan : Plan) → verdict w cntlid e marked ≡ Allowed plan
     → AllByRecursion (λ (t : Test). t.fails ≡ false) (field_rule (Some plan.kind) e).tests
-unfolding tested
+unfolding judgement_by
 fields-pass w cntlid e marked plan h =
     let p = planned-by w cntlid e marked plan h in
     let all = all-pass (access_rules w cntlid e marked) p.passed in
-    all-tests-pass _ _ (ap (λ c. tested (field_rule c e)) (sym p.named) ∙ all.1.1.1.1.1.0)
+    all-tests-pass _ (no-failure _ _ (ap (λ c. judgement_by (field_rule c e)) (sym p.named) ∙ all.1.1.1.1.1.0))
 
 few : (n : ℕ) → nat_lt 256 n ≡ false → 512 * n ≤ 131072
 few n h = grind (arith, nat_tests)
@@ -166,18 +190,17 @@ bytes-few ReservationReport e h = small (report_length e) h.1.1.1.1.1.0
 bytes-few ReservationAcquire e h = omega arith
 bytes-few ReservationRelease e h = omega arith
 
-pub plan-bytes : (w : World) (cntlid : ℕ) (e : List ℕ) (marked : Bool) (plan : Plan) → verdict w cntlid e marked ≡ Allowed plan → plan.bytes ≤ 131072
-plan-bytes w cntlid e marked plan h =
-    rw (planned-by w cntlid e marked plan h).plan_is (bytes-few plan.kind e (fields-pass w cntlid e marked plan h))
+pub plan-bytes : (w : World) (cntlid : ℕ) (e : List ℕ) (marked : Bool) (plan : Plan) → verdict w cntlid e marked ≡ Allowed plan → data_length plan.kind e ≤ 131072
+plan-bytes w cntlid e marked plan h = bytes-few plan.kind e (fields-pass w cntlid e marked plan h)
 
 type-by : (n : ℕ) (a b : Bool) → (a || b || (n == 0) || nat_lt 6 n) ≡ false → (1 ≤ n) × (n ≤ 6)
 type-by n a b h = (grind (arith, nat_tests), grind (arith, nat_tests))
 
-type-of : (e : List ℕ) → AllByRecursion (λ (t : Test). t.fails ≡ false) (field_rule (Some ReservationAcquire) e).tests → (1 ≤ reservation_type e) × (reservation_type e ≤ 6)
+type-of : (e : List ℕ) → AllByRecursion (λ (t : Test). t.fails ≡ false) (field_rule (Some ReservationAcquire) e).tests → (1 ≤ rtype e) × (rtype e ≤ 6)
 unfolding field_rule
-type-of e h = type-by (reservation_type e) (nat_lt 1 (action e)) (ignores_key e) h.1.1.0
+type-of e h = type-by (rtype e) (nat_lt 2 (action e)) (iekey e) h.1.1.0
 
 -- Acquire names one of the six types
 pub type-known : (w : World) (cntlid : ℕ) (e : List ℕ) (marked : Bool) (plan : Plan) → verdict w cntlid e marked ≡ Allowed plan → plan.kind ≡ ReservationAcquire
-    → (1 ≤ reservation_type e) × (reservation_type e ≤ 6)
+    → (1 ≤ rtype e) × (rtype e ≤ 6)
 type-known w cntlid e marked plan h is = type-of e (rw is at (fields-pass w cntlid e marked plan h))

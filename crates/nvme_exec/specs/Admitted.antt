@@ -1,20 +1,24 @@
 -- A command that the rules on access and on its data pointer have let pass.
-use Rattle.std.specs.Prelude.{◌≡◌, ◌≤◌, ℕ, List, length}
-use Rattle.nvme_wire.specs.Submission.{nsid}
+use Rattle.std.specs.Prelude.{◌≡◌, ◌+◌, ◌≤◌, ℕ, List, length, Some, IsSome}
+use Rattle.nvme_wire.specs.Submission.{opcode, nsid}
 use Rattle.nvme_spec.specs.declared.command.Command.TheVariants.{ReservationAcquire}
-use Rattle.nvme_spec.specs.declared.pointer.Piece.{Piece}
-use Rattle.nvme_spec.specs.declared.verdict.Plan.{Plan}
-use Rattle.nvme_spec.specs.Commands.{plan_of, reservation_type}
+use Rattle.nvme_spec.specs.Commands.{command_of, plan_of, data_length, rtype}
 use Rattle.nvme_spec.specs.Transfers.{addresses}
-use Rattle.nvme_spec.specs.World.{World}
-use Rattle.nvme_spec.specs.IoRules.{FitsNamespace}
-use Rattle.nvme_spec.specs.IoData.{places}
+use Rattle.nvme_spec.specs.World.{World, host_of, namespace_of}
+use Rattle.nvme_spec.specs.DataRules.{data_addresses}
+use Rattle.nvme_spec.specs.Execution.{start_of}
+use Rattle.nvme_exec.specs.declared.admission.Admission.{Admission}
 
--- the plan of a command, and where its data lie
-pub record IsAdmitted (w : World) (window e : List ℕ) (plan : Plan) (pieces : List Piece) : Type 0 where
-  pub planned : plan ≡ plan_of plan.kind e
-  pub fits : FitsNamespace w (nsid e) plan
-  pub placed : addresses pieces ≡ places plan.kind window e
-  pub size : length (addresses pieces) ≡ plan.bytes
-  pub few : plan.bytes ≤ 131072
-  pub typed : plan.kind ≡ ReservationAcquire → (1 ≤ reservation_type e) × (reservation_type e ≤ 6)
+-- What is known of it: what it is to do, whose it is, where its blocks and where its data lie.
+pub record IsAdmitted (w : World) (cntlid : ℕ) (window e : List ℕ) (a : Admission) : Type 0 where
+  pub command : command_of (opcode e) ≡ Some a.plan.kind
+  pub planned : a.plan ≡ plan_of a.plan.kind e
+  pub host : host_of w cntlid ≡ Some a.host
+  pub known : length w.controllers ≤ 16
+  pub named : IsSome (namespace_of w (nsid e))
+  pub first : a.extent.first ≡ start_of (namespace_of w (nsid e)) + a.plan.first
+  pub blocks : a.extent.blocks ≡ a.plan.blocks
+  pub placed : addresses a.pieces.parts.items ≡ data_addresses (data_length a.plan.kind e) window e
+  pub bytes : length (addresses a.pieces.parts.items) ≡ data_length a.plan.kind e
+  pub few : data_length a.plan.kind e ≤ 131072
+  pub typed : a.plan.kind ≡ ReservationAcquire → (1 ≤ rtype e) × (rtype e ≤ 6)

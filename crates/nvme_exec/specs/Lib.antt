@@ -1,8 +1,8 @@
+pub use Rattle.nvme_spec.specs.Blocks
 pub use Rattle.nvme_spec.specs.Effects
+pub use Rattle.nvme_spec.specs.DataRules
 pub use Rattle.nvme_spec.specs.IoData
-pub use Rattle.nvme_spec.specs.IoSteps
-pub mod Devices
+pub use Rattle.nvme_spec.specs.Execution
 pub mod Reading
-pub mod Answers
 pub mod Admitted
-pub mod Execution
+pub mod Carrying

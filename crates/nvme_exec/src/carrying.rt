@@ -1,26 +1,30 @@
-//! What an admitted command does: one function a command.
+//! What an admitted command does, by what it works on.
 
-ghost use Rattle.std.specs.Prelude.{◌≡◌, ◌+◌, ◌<◌, ◌^◌, IsSome};
-ghost use Rattle.nvme_spec.specs.World.{namespace_of};
-ghost use Rattle.nvme_spec.specs.IoSteps.{start_of};
+ghost use Rattle.std.specs.Prelude.{◌≡◌, ◌+◌, ◌≤◌, IfOk, IfErr, OnErr};
+ghost use Rattle.nvme_spec.specs.declared.command.Command.TheVariants.{Flush};
+ghost use Rattle.nvme_spec.specs.Execution as spec;
+ghost use Rattle.nvme_spec.specs.Execution.{scene, HasKnownRegistrants};
 ghost use Rattle.nvme_exec.specs.Admitted.{IsAdmitted};
-ghost use Rattle.nvme_exec.specs.Devices.{device_of};
-ghost use Rattle.nvme_exec.specs.Execution.{site, CanExecute, CarriesOut};
+ghost use Rattle.nvme_exec.specs.Carrying.{IsCarriedOut, IsRefused, IsFlushed};
 
 use crate::admission::Admission;
-use crate::blocks::{Extent, compare, flush, read, write, write_zeroes};
-use crate::reservations::{acquire, register, release, report};
+use crate::on_blocks::act_on_blocks;
+use crate::on_reservation::act_on_reservation;
+use crate::report::report;
 use nvme_medium::Medium;
 use nvme_mem::Window;
 use nvme_ns::Spaces;
-use nvme_spec::{Command, Plan};
+use nvme_policy::command::traits_of;
+use nvme_policy::fields::action;
+use nvme_resv::Change;
+use nvme_spec::{Command, CommandKind, Denial, Marks, Outcome};
 use nvme_wire::{Sqe, Status};
 
-/// Carries an admitted command out.
+/// Carries an admitted command of a controller out.
 ///
 /// # Errors
 ///
-/// The status with which the reservation of the namespace refuses the action of the command. Nothing is changed then.
+/// Rule 11, with the status with which the reservation of the namespace refuses the action. Nothing is changed then.
 pub fn carry_out<M: Medium>(
     spaces: &mut Spaces,
     medium: &mut M,
@@ -28,44 +32,47 @@ pub fn carry_out<M: Medium>(
     cntlid: u16,
     sqe: &Sqe,
     admission: &Admission,
-) -> Result<Status, Status>
-    requires ready { CanExecute spaces.old (M.size medium.old) cntlid }
-    requires admitted { IsAdmitted spaces.old window.old sqe.now admission.now.plan admission.now.pieces.parts.items }
-    ensures carried { CarriesOut admission.now.plan.kind cntlid sqe.now
-        ((spaces.new ≡ spaces.old) × (window.new ≡ window.old) × (medium.new ≡ medium.old))
-        (site spaces.old window.old (device_of M.tells M.content M.failures medium.old))
-        (site spaces.new window.new (device_of M.tells M.content M.failures medium.new)) result }
+) -> Result<Outcome, Denial>
+    requires known { HasKnownRegistrants spaces.old }
+    requires admitted { IsAdmitted spaces.old cntlid window.old sqe.now admission.now }
+    requires within { admission.now.extent.first + admission.now.extent.blocks ≤ M.size medium.old }
+    ensures done { IfOk result (IsCarriedOut M.tells admission.now.plan.kind cntlid sqe.now
+        (scene spaces.old window.old (M.device medium.old)) (scene spaces.new window.new (M.device medium.new))) }
+    ensures flushed { IfOk result (λ outcome. admission.now.plan.kind ≡ Flush → IsFlushed M.flushes medium.old medium.new outcome.status) }
+    ensures refused { IfErr result (IsRefused cntlid sqe.now (scene spaces.old window.old (M.device medium.old))) }
+    ensures unchanged { OnErr result ((spaces.new ≡ spaces.old) × (window.new ≡ window.old) × (medium.new ≡ medium.old)) }
     ensures size { M.size medium.new ≡ M.size medium.old }
 {
-    let plan = admission.plan;
-    let pieces = &admission.pieces;
-    let extent = extent_of(spaces, sqe.nsid(), &plan);
-    match plan.kind {
-        Command::Flush => Ok(flush(medium)),
-        Command::Write => Ok(write(medium, extent, window, pieces)),
-        Command::Read => Ok(read(medium, extent, window, pieces)),
-        Command::Compare => Ok(compare(medium, extent, window, pieces)),
-        Command::WriteZeroes => Ok(write_zeroes(medium, extent)),
-        Command::ReservationRegister => register(spaces, cntlid, sqe, window, pieces),
-        Command::ReservationReport => {
-            report(spaces, sqe.nsid(), window, pieces, plan.bytes);
-            Ok(Status::SUCCESSFUL_COMPLETION)
+    let plan = &admission.plan;
+    match traits_of(plan.kind).kind {
+        CommandKind::OnBlocks => Ok(Outcome::completed(act_on_blocks(medium, window, admission))),
+        CommandKind::OnReport => {
+            report(spaces, sqe.nsid(), window, &admission.pieces, plan.bytes);
+            Ok(Outcome::completed(Status::SUCCESSFUL_COMPLETION))
         }
-        Command::ReservationAcquire => acquire(spaces, cntlid, sqe, window, pieces),
-        Command::ReservationRelease => release(spaces, cntlid, sqe, window, pieces),
+        CommandKind::OnReservation => {
+            match act_on_reservation(spaces, window, cntlid, sqe, admission) {
+                Ok(change) => Ok(Outcome {
+                    marks: marks_of(plan.kind, sqe, change),
+                    ..Outcome::completed(Status::SUCCESSFUL_COMPLETION)
+                }),
+                Err(denial) => Err(denial),
+            }
+        }
     }
 }
 
-/// The blocks of the medium that a plan names in a namespace.
-fn extent_of(spaces: &Spaces, nsid: u32, plan: &Plan) -> Extent
-    requires named { IsSome (namespace_of spaces.now nsid) }
-    requires fits { start_of (namespace_of spaces.now nsid) + plan.now.first < 2 ^ 64 }
-    ensures first { result.first ≡ start_of (namespace_of spaces.now nsid) + plan.now.first }
-    ensures blocks { result.blocks ≡ plan.now.blocks }
+/// What a command marks that has removed these hosts: their fetched commands on the namespace, where it is a Preempt and
+/// Abort, else nothing.
+fn marks_of(command: Command, sqe: &Sqe, change: Change) -> Marks
+    ensures { result ≡ spec.marks_for command sqe.now change.removed.items }
 {
-    let start = spaces.first_block(nsid).unwrap();
-    Extent {
-        first: start + plan.first,
-        blocks: u64::from(plan.blocks),
+    let aborts = command == Command::ReservationAcquire && action(sqe) == 2;
+    if !aborts || change.removed.is_empty() {
+        return Marks::none();
+    }
+    Marks {
+        nsid: sqe.nsid(),
+        hosts: change.removed,
     }
 }

@@ -1,17 +1,20 @@
-ghost use Rattle.std.specs.Prelude.{◌≡◌, IfOk, IfErr, OnErr};
-ghost use Rattle.nvme_spec.specs.declared.verdict.Verdict.TheVariants.{Denied};
-ghost use Rattle.nvme_spec.specs.IoData.{io_verdict};
-ghost use Rattle.nvme_exec.specs.Devices.{device_of};
-ghost use Rattle.nvme_exec.specs.Execution.{site, CanExecute, Executes, HasPerformed, IsPlain};
+//! The execution of one I/O command.
 
-use crate::Outcome;
+ghost use Rattle.std.specs.Prelude.{◌≡◌, IfOk, IfErr, OnErr};
+ghost use Rattle.nvme_spec.specs.declared.command.Command.TheVariants.{Flush};
+ghost use Rattle.nvme_spec.specs.declared.verdict.Verdict.TheVariants.{Denied};
+ghost use Rattle.nvme_spec.specs.IoRules.{IfAllowed, IfDenied};
+ghost use Rattle.nvme_spec.specs.IoData.{io_verdict};
+ghost use Rattle.nvme_spec.specs.Execution.{Executes, scene};
+ghost use Rattle.nvme_exec.specs.Carrying.{CanExecute, IsAllowed, IsFlushed};
+
 use crate::admission::admit;
 use crate::carrying::carry_out;
 use nvme_medium::Medium;
 use nvme_mem::Window;
 use nvme_ns::Spaces;
-use nvme_spec::Denial;
-use nvme_wire::{Sqe, Status};
+use nvme_spec::{Denial, Outcome};
+use nvme_wire::Sqe;
 
 /// Executes an I/O command of a controller, by the subsystem, the host's memory and the medium as they are now.
 ///
@@ -32,22 +35,27 @@ pub fn execute<M: Medium>(
     marked: bool,
 ) -> Outcome
     requires ready { CanExecute spaces.old (M.size medium.old) cntlid }
-    ensures executed { Executes (io_verdict spaces.old cntlid sqe.now marked window.old) cntlid sqe.now
-        ((spaces.new ≡ spaces.old) × (window.new ≡ window.old) × (medium.new ≡ medium.old))
-        (site spaces.old window.old (device_of M.tells M.content M.failures medium.old))
-        (site spaces.new window.new (device_of M.tells M.content M.failures medium.new)) result }
+    ensures executed { Executes M.tells cntlid sqe.now marked
+        (scene spaces.old window.old (M.device medium.old)) (scene spaces.new window.new (M.device medium.new)) result }
+    // A denied command makes no call of the medium, and a Flush that is allowed makes one of its flushes.
+    ensures spared { IfDenied (io_verdict spaces.old cntlid sqe.now marked window.old) (medium.new ≡ medium.old) }
+    ensures flushed { IfAllowed (io_verdict spaces.old cntlid sqe.now marked window.old)
+        (λ plan. plan.kind ≡ Flush → IsFlushed M.flushes medium.old medium.new result.status) }
     ensures ready { CanExecute spaces.new (M.size medium.new) cntlid }
     ensures controllers { spaces.new.controllers ≡ spaces.old.controllers }
     ensures size { M.size medium.new ≡ M.size medium.old }
-    ensures plain { IsPlain result }
 {
     match perform(spaces, medium, window, cntlid, sqe, marked) {
-        Ok(status) => Outcome::allowed(status),
+        Ok(outcome) => outcome,
         Err(denial) => Outcome::denied(denial),
     }
 }
 
 /// Judges a command, and carries it out where it is allowed.
+///
+/// # Errors
+///
+/// The first rule that fails. Nothing is changed then.
 fn perform<M: Medium>(
     spaces: &mut Spaces,
     medium: &mut M,
@@ -55,21 +63,18 @@ fn perform<M: Medium>(
     cntlid: u16,
     sqe: &Sqe,
     marked: bool,
-) -> Result<Status, Denial>
+) -> Result<Outcome, Denial>
     requires ready { CanExecute spaces.old (M.size medium.old) cntlid }
-    ensures allowed { IfOk result (λ status. HasPerformed (io_verdict spaces.old cntlid sqe.now marked window.old) cntlid sqe.now
-        (site spaces.old window.old (device_of M.tells M.content M.failures medium.old))
-        (site spaces.new window.new (device_of M.tells M.content M.failures medium.new)) status) }
+    ensures allowed { IfOk result (IsAllowed M.tells (io_verdict spaces.old cntlid sqe.now marked window.old) cntlid sqe.now
+        (scene spaces.old window.old (M.device medium.old)) (scene spaces.new window.new (M.device medium.new))) }
+    ensures flushed { IfOk result (λ outcome. IfAllowed (io_verdict spaces.old cntlid sqe.now marked window.old)
+        (λ plan. plan.kind ≡ Flush → IsFlushed M.flushes medium.old medium.new outcome.status)) }
     ensures denied { IfErr result (λ d. io_verdict spaces.old cntlid sqe.now marked window.old ≡ Denied d.rule d.status) }
     ensures unchanged { OnErr result ((spaces.new ≡ spaces.old) × (window.new ≡ window.old) × (medium.new ≡ medium.old)) }
     ensures size { M.size medium.new ≡ M.size medium.old }
 {
-    let admission = match admit(spaces, window, cntlid, sqe, marked) {
-        Ok(admission) => admission,
-        Err(denial) => return Err(denial),
-    };
-    match carry_out(spaces, medium, window, cntlid, sqe, &admission) {
-        Ok(status) => Ok(status),
-        Err(status) => Err(Denial { rule: 11, status }),
+    match admit(spaces, medium.blocks(), window, cntlid, sqe, marked) {
+        Ok(admission) => carry_out(spaces, medium, window, cntlid, sqe, &admission),
+        Err(denial) => Err(denial),
     }
 }

@@ -1,6 +1,6 @@
 //! The data that a command brings in the memory of its host.
 
-ghost use Rattle.nvme_spec.specs.Transfers.{addresses, gathered};
+ghost use Rattle.nvme_spec.specs.Transfers.{addresses, gathered_bytes};
 
 use nvme_medium::Source;
 use nvme_mem::Window;
@@ -14,7 +14,7 @@ pub struct HostData<'a> {
 }
 
 impl Source for HostData<'_> {
-    ghost bytes = { λ s. gathered s.window.now (addresses s.pieces.now.parts.items) };
+    ghost bytes = { λ s. gathered_bytes s.window.now (addresses s.pieces.now.parts.items) };
 
     fn gather(&self, j: u64, block: &mut [u8; 512]) {
         gather_block(self.window, self.pieces, j, block);

@@ -4,17 +4,16 @@
 
 mod actions;
 mod admission;
-mod answering;
-mod blocks;
 mod carrying;
 mod execution;
 mod host_data;
-mod outcome;
-mod reservations;
+mod on_blocks;
+mod on_reservation;
+mod report;
 mod transfer;
 
 pub use execution::execute;
-pub use outcome::{Marks, Outcome};
+pub use nvme_spec::{Marks, Outcome};
 
 #[cfg(test)]
 mod tests;

@@ -1,7 +1,7 @@
 //! Blocks that go from a medium to the memory of a host, or are compared with data of it, one after the other.
 
 ghost use Rattle.std.specs.Prelude.{◌≡◌, ◌+◌, ◌*◌, ◌≤◌, ◌↔◌, length, IsTrue, IfOk, OnOk, OnErr};
-ghost use Rattle.nvme_spec.specs.Blocks.{blocks_from, HasCause};
+ghost use Rattle.nvme_spec.specs.Blocks.{Told, blocks_from, CountsFaults};
 ghost use Rattle.nvme_spec.specs.Effects.{HasSameFront};
 ghost use Rattle.nvme_spec.specs.Transfers.{addresses};
 ghost use Rattle.nvme_exec.specs.Reading.{HasReadBlocks, StoppedReading};
@@ -21,11 +21,11 @@ pub fn read_into<M: Medium>(
 ) -> Result<(), MediumFault>
     requires all { length (addresses pieces.now.parts.items) ≡ 512 * blocks }
     requires within { first + blocks ≤ M.size medium.old }
-    ensures read { OnOk result (HasReadBlocks M.tells (M.content medium.old) first blocks (addresses pieces.now.parts.items) window.old window.new) }
-    ensures fault { OnErr result (StoppedReading M.tells (M.content medium.old) first blocks (addresses pieces.now.parts.items) window.old window.new) }
-    ensures kept { IsTrue M.tells → M.content medium.new ≡ M.content medium.old }
+    ensures read { OnOk result (HasReadBlocks M.tells (M.device medium.old).content first blocks (addresses pieces.now.parts.items) window.old window.new) }
+    ensures fault { OnErr result (StoppedReading M.tells (M.device medium.old).content first blocks (addresses pieces.now.parts.items) window.old window.new) }
+    ensures kept { Told M.tells ((M.device medium.new).content ≡ (M.device medium.old).content) }
     ensures size { M.size medium.new ≡ M.size medium.old }
-    ensures cause { HasCause (M.failures medium.old) (M.failures medium.new) result }
+    ensures count { CountsFaults (M.device medium.old).failures (M.device medium.new).failures result }
 {
     let mut block = [0; 512];
     for j in 0..blocks {
@@ -44,11 +44,11 @@ pub fn compare_blocks<M: Medium, S: Source>(
 ) -> Result<bool, MediumFault>
     requires all { length (S.bytes source.now) ≡ 512 * blocks }
     requires within { first + blocks ≤ M.size medium.old }
-    ensures same { IfOk result (λ same. IsTrue M.tells → (IsTrue same ↔ (blocks_from (M.content medium.old) first (length (S.bytes source.now)) ≡ S.bytes source.now))) }
-    ensures fault { OnErr result (IsTrue M.tells → HasSameFront first (S.bytes source.now) (M.content medium.old)) }
-    ensures kept { IsTrue M.tells → M.content medium.new ≡ M.content medium.old }
+    ensures same { IfOk result (λ same. Told M.tells (IsTrue same ↔ (blocks_from (M.device medium.old).content first (length (S.bytes source.now)) ≡ S.bytes source.now))) }
+    ensures fault { OnErr result (Told M.tells (HasSameFront first (S.bytes source.now) (M.device medium.old).content)) }
+    ensures kept { Told M.tells ((M.device medium.new).content ≡ (M.device medium.old).content) }
     ensures size { M.size medium.new ≡ M.size medium.old }
-    ensures cause { HasCause (M.failures medium.old) (M.failures medium.new) result }
+    ensures count { CountsFaults (M.device medium.old).failures (M.device medium.new).failures result }
 {
     let mut brought = [0; 512];
     let mut stored = [0; 512];

@@ -1,19 +1,13 @@
 -- A transfer, a block at a time.
-use Rattle.std.proofs.Common.{◌≡◌, ℕ, List, ◌++◌, ◌+◌, ◌-◌, ◌*◌, ◌≤◌, ◌<◌, length, drop, replicate, get_or, rules, arith, sym, ◌∙◌}
+use Rattle.std.proofs.Common.{◌≡◌, ℕ, Bool, IsTrue, List, [], ◌++◌, ◌+◌, ◌-◌, ◌*◌, ◌≤◌, ◌<◌, length, drop, replicate, get_or, rules, arith, refl, sym, ap, ◌∙◌, length-append}
 use Rattle.std.proofs.lemmas.List.{same_lists, places, length-take, length-drop, length-replicate, get_or-take, get_or-drop, get_or-replicate}
 use borrow.Rule.Slice.PartMut.{put_mid}
 use Rattle.nvme_spec.specs.Blocks.{block_at, blocks_from}
+use Rattle.nvme_spec.proofs.Splices.{blocks_from-more}
 
--- one block more
-pub blocks_from-more : (content : List ℕ) (first j : ℕ) → 512 * (first + j + 1) ≤ length content → blocks_from content first (512 * (j + 1)) ≡ blocks_from content first (512 * j) ++ block_at content (first + j)
-blocks_from-more content first j fits = same_lists _ _ (search (rules, places)) (λ k d h. grind (arith, places))
-
--- the next block of a read is stored
-pub stored : (front block old : List ℕ) (at : ℕ) → length front ≡ at → length block ≡ 512 → at + 512 ≤ length old → put_mid at (at + 512 - at) (front ++ drop at old) block ≡ (front ++ block) ++ drop (at + 512) old
-stored front block old at long whole fits = same_lists _ _ (search (rules, places)) (λ k d h. grind (arith, places))
-
-pub length-blocks_from : (content : List ℕ) (first n : ℕ) → 512 * first + n ≤ length content → length (blocks_from content first n) ≡ n
-length-blocks_from content first n fits = simp (length-take, length-drop) (omega arith)
+-- the next block of a read stands behind those before it
+pub put-block : (front block old : List ℕ) (at : ℕ) → length front ≡ at → length block ≡ 512 → at + 512 ≤ length old → put_mid at (at + 512 - at) (front ++ drop at old) block ≡ (front ++ block) ++ drop (at + 512) old
+put-block front block old at long whole fits = same_lists _ _ (search (rules, places)) (λ k d h. grind (arith, places))
 
 zeros_at : (n i k d : ℕ) → 512 * i + 512 ≤ n → k < 512 → get_or (block_at (replicate n 0) i) k d ≡ 0
 zeros_at n i k d fits within =
@@ -26,3 +20,33 @@ pub block_at-zeros : (n i : ℕ) → 512 * i + 512 ≤ n → replicate {A = ℕ}
 block_at-zeros n i fits = same_lists _ _ (simp (length-take, length-drop, length-replicate) (omega arith)) (λ k d h.
     let within : k < 512 = omega (arith, length-replicate 512 (let z : ℕ = 0 in z)) in
     get_or-replicate 512 k 0 d within ∙ sym (zeros_at n i k d fits within))
+
+-- so many blocks of the content, from block `first` on, stand at the front of a buffer, and nothing behind them has changed
+pub record HasReadFront (tells : Bool) (first blocks : ℕ) (content old now : List ℕ) : Type 0 where
+  pub front : List ℕ
+  pub size : length front ≡ 512 * blocks
+  pub told : IsTrue tells → front ≡ blocks_from content first (512 * blocks)
+  pub is : now ≡ front ++ drop (512 * blocks) old
+
+-- no block has been read
+pub no_front : (tells : Bool) (first : ℕ) (content old : List ℕ) → HasReadFront tells first 0 content old old
+no_front tells first content old =
+    let none : 512 * first + 512 * 0 - 512 * first ≡ 0 = omega arith in
+    record { front = []; size = refl; told = λ t. rw none refl; is = refl }
+
+-- a block more
+pub one_more : (tells : Bool) (first j : ℕ) (content old now new block : List ℕ) (size : ℕ) → HasReadFront tells first j content old now
+    → length block ≡ 512 → (IsTrue tells → block ≡ block_at content (first + j)) → (IsTrue tells → length content ≡ 512 * size)
+    → new ≡ put_mid (512 * j) (512 * j + 512 - 512 * j) now block → 512 * j + 512 ≤ length old → first + j < size
+    → HasReadFront tells first (j + 1) content old new
+one_more tells first j content old now new block size before long told whole is fits within =
+    let at : 512 * (j + 1) ≡ 512 * j + 512 = omega arith in
+    record {
+      front = before.front ++ block;
+      size = omega (arith, length-append before.front block, before.size);
+      told = λ t.
+          let enough : 512 * (first + j + 1) ≤ length content = omega (arith, whole t) in
+          rw (before.told t, told t) (sym (blocks_from-more content first j enough));
+      is = rw at (is ∙ ap (λ x. put_mid (512 * j) (512 * j + 512 - 512 * j) x block) before.is
+          ∙ put-block before.front block old (512 * j) before.size long fits);
+    }

@@ -1,5 +1,6 @@
 ghost use Rattle.std.specs.Prelude.{◌≡◌, ◌≢◌, ◌+◌, ◌*◌, ◌<◌, IsTrue, OnOk, OnErr, Some};
-ghost use Rattle.nvme_spec.specs.Blocks.{block_at, overwritten, Torn, HasCause};
+ghost use Rattle.nvme_spec.specs.Blocks.{Told, block_at, Torn, CountsFaults};
+ghost use Rattle.nvme_spec.specs.Bytes.{with_bytes};
 
 use crate::{Medium, MediumFault};
 
@@ -47,15 +48,15 @@ impl<M: Medium> Failing<M> {
 }
 
 impl<M: Medium> Medium for Failing<M> {
-    ghost use Rattle.nvme_medium.specs.Failing.{inner_of, calls_left, one_call_later, failures_of, CountsCall};
+    ghost use Rattle.nvme_medium.specs.Failing.{inner_of, calls_left, one_call_later, device_of, FlushesInner, IsSkipped};
 
     ghost tells = { M.tells };
 
-    ghost content = { λ m. M.content m.inner };
+    ghost device = { device_of M.device };
 
     ghost size = { λ m. M.size m.inner };
 
-    ghost failures = { failures_of M.failures };
+    ghost flushes = { FlushesInner M.flushes };
 
     ghost countable = { λ m. M.countable m.inner };
 
@@ -67,12 +68,15 @@ impl<M: Medium> Medium for Failing<M> {
 
     fn read(&mut self, i: u64, buffer: &mut [u8; 512]) -> Result<(), MediumFault>
         requires { i < M.size (inner_of self.old) }
-        ensures ok { OnOk result (IsTrue M.tells → buffer.new ≡ block_at (M.content (inner_of self.old)) i) }
-        ensures kept { IsTrue M.tells → M.content (inner_of self.new) ≡ M.content (inner_of self.old) }
+        ensures ok { OnOk result (Told M.tells (buffer.new ≡ block_at (M.device (inner_of self.old)).content i)) }
+        ensures kept { Told M.tells ((M.device (inner_of self.new)).content ≡ (M.device (inner_of self.old)).content) }
         ensures size { M.size (inner_of self.new) ≡ M.size (inner_of self.old) }
-        ensures cause { HasCause (failures_of M.failures self.old) (failures_of M.failures self.new) result }
-        ensures counts { CountsCall M.failures self.old self.new result }
+        ensures count { CountsFaults (device_of M.device self.old).failures (device_of M.device self.new).failures result }
+        ensures later { calls_left self.new ≡ one_call_later (calls_left self.old) }
+        ensures fails { calls_left self.old ≡ Some 0 → IsSkipped self.old self.new result }
         ensures untouched { calls_left self.old ≡ Some 0 → buffer.new ≡ buffer.old }
+        ensures passes { calls_left self.old ≢ Some 0
+            → CountsFaults (M.device (inner_of self.old)).failures (M.device (inner_of self.new)).failures result }
     {
         self.count_call()?;
         self.inner.read(i, buffer)
@@ -80,21 +84,27 @@ impl<M: Medium> Medium for Failing<M> {
 
     fn write(&mut self, i: u64, block: &[u8; 512]) -> Result<(), MediumFault>
         requires { i < M.size (inner_of self.old) }
-        ensures ok { OnOk result (IsTrue M.tells → M.content (inner_of self.new) ≡ overwritten (M.content (inner_of self.old)) (512 * i) block.now) }
-        ensures err { OnErr result (IsTrue M.tells → Torn i (M.content (inner_of self.old)) (M.content (inner_of self.new))) }
+        ensures ok { OnOk result (Told M.tells ((M.device (inner_of self.new)).content
+            ≡ with_bytes (M.device (inner_of self.old)).content (512 * i) block.now)) }
+        ensures err { OnErr result (Told M.tells (Torn i (M.device (inner_of self.old)).content (M.device (inner_of self.new)).content)) }
         ensures size { M.size (inner_of self.new) ≡ M.size (inner_of self.old) }
-        ensures cause { HasCause (failures_of M.failures self.old) (failures_of M.failures self.new) result }
-        ensures counts { CountsCall M.failures self.old self.new result }
+        ensures count { CountsFaults (device_of M.device self.old).failures (device_of M.device self.new).failures result }
+        ensures later { calls_left self.new ≡ one_call_later (calls_left self.old) }
+        ensures fails { calls_left self.old ≡ Some 0 → IsSkipped self.old self.new result }
+        ensures passes { calls_left self.old ≢ Some 0
+            → CountsFaults (M.device (inner_of self.old)).failures (M.device (inner_of self.new)).failures result }
     {
         self.count_call()?;
         self.inner.write(i, block)
     }
 
     fn flush(&mut self) -> Result<(), MediumFault>
-        ensures kept { IsTrue M.tells → M.content (inner_of self.new) ≡ M.content (inner_of self.old) }
+        ensures kept { Told M.tells ((M.device (inner_of self.new)).content ≡ (M.device (inner_of self.old)).content) }
         ensures size { M.size (inner_of self.new) ≡ M.size (inner_of self.old) }
-        ensures cause { HasCause (failures_of M.failures self.old) (failures_of M.failures self.new) result }
-        ensures counts { CountsCall M.failures self.old self.new result }
+        ensures count { CountsFaults (device_of M.device self.old).failures (device_of M.device self.new).failures result }
+        ensures flushed { FlushesInner M.flushes self.old result self.new }
+        ensures passes { calls_left self.old ≢ Some 0
+            → CountsFaults (M.device (inner_of self.old)).failures (M.device (inner_of self.new)).failures result }
     {
         self.count_call()?;
         self.inner.flush()

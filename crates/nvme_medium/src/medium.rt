@@ -1,5 +1,7 @@
-ghost use Rattle.std.specs.Prelude.{◌≡◌, ◌*◌, ◌^◌, ◌<◌, List, ℕ, Bool, length, IsTrue, OnOk, OnErr};
-ghost use Rattle.nvme_spec.specs.Blocks.{block_at, overwritten, Torn, HasCause};
+ghost use Rattle.std.specs.Prelude.{◌≡◌, ◌*◌, ◌^◌, ◌<◌, ℕ, Bool, Result, length, IsTrue, OnOk, OnErr};
+ghost use Rattle.nvme_spec.specs.Blocks.{Device, Told, block_at, Torn, CountsFaults};
+ghost use Rattle.nvme_spec.specs.Bytes.{with_bytes};
+ghost use Rattle.nvme_medium.specs.declared.medium.MediumFault.{MediumFault as Fault};
 
 /// How many bytes a logical block has.
 pub const BLOCK: usize = 512;
@@ -10,20 +12,21 @@ pub struct MediumFault;
 
 /// Logical blocks that are read and written whole.
 ///
-/// Every call but `blocks` may fail, and a failure is counted. What is said of the content is said of media that
-/// tell theirs: such a medium returns what was written to it.
+/// Every call but `blocks` may fail. A failure is counted, and only a failure: the count tells whether a call failed.
+/// What is said of the content is said of media that tell theirs: such a medium returns what was written to it.
 pub trait Medium {
     /// Whether the medium tells its content.
     ghost tells: { Bool };
 
-    /// The bytes of all blocks.
-    ghost content: { Self → List ℕ };
+    /// The medium as the definitions see it: the bytes of all blocks, and how often a call has failed.
+    ghost device: { Self → Device };
 
     /// How many blocks there are.
     ghost size: { Self → ℕ };
 
-    /// How often a call has failed.
-    ghost failures: { Self → ℕ };
+    /// What a flush does, from the medium before it to its answer and the medium after it. One that stands on another
+    /// medium or on a file says here that the other was flushed.
+    ghost flushes: { Self → Result (Unit {0}) Fault → Self → Type 0 } = { λ _ _ _. Unit {0} };
 
     /// How many blocks there are. The number never changes.
     fn blocks(&self) -> u64
@@ -32,28 +35,29 @@ pub trait Medium {
     /// Reads block `i`, which there has to be. A failed read leaves any bytes in the buffer, and changes no block.
     fn read(&mut self, i: u64, buffer: &mut [u8; 512]) -> Result<(), MediumFault>
         requires { i < size self.old }
-        ensures ok { OnOk result (IsTrue tells → buffer.new ≡ block_at (content self.old) i) }
-        ensures kept { IsTrue tells → content self.new ≡ content self.old }
+        ensures ok { OnOk result (Told tells (buffer.new ≡ block_at (device self.old).content i)) }
+        ensures kept { Told tells ((device self.new).content ≡ (device self.old).content) }
         ensures size { size self.new ≡ size self.old }
-        ensures cause { HasCause (failures self.old) (failures self.new) result };
+        ensures count { CountsFaults (device self.old).failures (device self.new).failures result };
 
     /// Writes block `i`, which there has to be. A failed write leaves any bytes in that block, and changes no other.
     fn write(&mut self, i: u64, block: &[u8; 512]) -> Result<(), MediumFault>
         requires { i < size self.old }
-        ensures ok { OnOk result (IsTrue tells → content self.new ≡ overwritten (content self.old) (512 * i) block.now) }
-        ensures err { OnErr result (IsTrue tells → Torn i (content self.old) (content self.new)) }
+        ensures ok { OnOk result (Told tells ((device self.new).content ≡ with_bytes (device self.old).content (512 * i) block.now)) }
+        ensures err { OnErr result (Told tells (Torn i (device self.old).content (device self.new).content)) }
         ensures size { size self.new ≡ size self.old }
-        ensures cause { HasCause (failures self.old) (failures self.new) result };
+        ensures count { CountsFaults (device self.old).failures (device self.new).failures result };
 
     /// Makes earlier writes last. It changes no block, whether it fails or not.
     fn flush(&mut self) -> Result<(), MediumFault>
-        ensures kept { IsTrue tells → content self.new ≡ content self.old }
+        ensures kept { Told tells ((device self.new).content ≡ (device self.old).content) }
         ensures size { size self.new ≡ size self.old }
-        ensures cause { HasCause (failures self.old) (failures self.new) result };
+        ensures count { CountsFaults (device self.old).failures (device self.new).failures result }
+        ensures flushed { flushes self.old result self.new };
 
     /// The blocks are counted by 64 bits.
     ghost countable: { (medium : Self) → size medium < 2 ^ 64 };
 
     /// The content has as many bytes as the blocks.
-    ghost whole: { (medium : Self) → IsTrue tells → length (content medium) ≡ 512 * size medium };
+    ghost whole: { (medium : Self) → IsTrue tells → length (device medium).content ≡ 512 * size medium };
 }

@@ -1,5 +1,6 @@
 ghost use Rattle.std.specs.Prelude.{◌≡◌, ◌*◌, ◌<◌, ◌^◌, true, length, take, IfOk, IsOk};
-ghost use Rattle.nvme_spec.specs.Blocks.{block_at, overwritten};
+ghost use Rattle.nvme_spec.specs.Blocks.{block_at};
+ghost use Rattle.nvme_spec.specs.Bytes.{with_bytes};
 
 use crate::{Medium, MediumFault};
 use nvme_wire::NoMemory;
@@ -45,11 +46,11 @@ impl Medium for MemMedium {
 
     ghost tells = { true };
 
-    ghost content = { memory_bytes };
+    ghost device = { λ m. record { content = memory_bytes m; failures = 0 } };
 
     ghost size = { λ m. m.blocks };
 
-    ghost failures = { λ _. 0 };
+    ghost flushes = { λ old _ new. new ≡ old };
 
     ghost countable = { λ m. m.countable };
 
@@ -73,7 +74,7 @@ impl Medium for MemMedium {
     fn write(&mut self, i: u64, block: &[u8; 512]) -> Result<(), MediumFault>
         requires { i < self.old.blocks }
         ensures done { IsOk result }
-        ensures written { memory_bytes self.new ≡ overwritten (memory_bytes self.old) (512 * i) block.now }
+        ensures written { memory_bytes self.new ≡ with_bytes (memory_bytes self.old) (512 * i) block.now }
         ensures size { self.new.blocks ≡ self.old.blocks }
     {
         let at = 512 * i as usize;

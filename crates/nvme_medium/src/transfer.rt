@@ -1,5 +1,7 @@
-ghost use Rattle.std.specs.Prelude.{◌≡◌, ◌+◌, ◌*◌, ◌≤◌, ◌<◌, ◌%◌, ◌^◌, length, IsTrue, OnOk, OnErr};
-ghost use Rattle.nvme_spec.specs.Blocks.{overwritten, blocks_from, HasCause, StopsWriting, StopsReading};
+ghost use Rattle.std.specs.Prelude.{◌≡◌, ◌+◌, ◌*◌, ◌≤◌, ◌<◌, ◌%◌, ◌^◌, length, OnOk, OnErr};
+ghost use Rattle.nvme_spec.specs.Blocks.{Told, blocks_from, CountsFaults, StopsWriting};
+ghost use Rattle.nvme_spec.specs.Bytes.{with_bytes};
+ghost use Rattle.nvme_medium.specs.Reading.{StopsReading};
 
 use crate::{Medium, MediumFault, Source};
 
@@ -12,10 +14,10 @@ pub fn write_blocks<M: Medium, S: Source>(
 ) -> Result<(), MediumFault>
     requires all { length (S.bytes source.now) ≡ 512 * blocks }
     requires within { first + blocks ≤ M.size medium.old }
-    ensures written { OnOk result (IsTrue M.tells → M.content medium.new ≡ overwritten (M.content medium.old) (512 * first) (S.bytes source.now)) }
-    ensures fault { OnErr result (IsTrue M.tells → StopsWriting first (S.bytes source.now) (M.content medium.old) (M.content medium.new)) }
+    ensures written { OnOk result (Told M.tells ((M.device medium.new).content ≡ with_bytes (M.device medium.old).content (512 * first) (S.bytes source.now))) }
+    ensures fault { OnErr result (Told M.tells (StopsWriting first (S.bytes source.now) (M.device medium.old).content (M.device medium.new).content)) }
     ensures size { M.size medium.new ≡ M.size medium.old }
-    ensures cause { HasCause (M.failures medium.old) (M.failures medium.new) result }
+    ensures count { CountsFaults (M.device medium.old).failures (M.device medium.new).failures result }
 {
     let mut block = [0; 512];
     for j in 0..blocks {
@@ -34,11 +36,11 @@ pub fn read_blocks<M: Medium>(
 ) -> Result<(), MediumFault>
     requires whole { length buffer.old % 512 ≡ 0 }
     requires within { 512 * first + length buffer.old ≤ 512 * M.size medium.old }
-    ensures read { OnOk result (IsTrue M.tells → buffer.new ≡ blocks_from (M.content medium.old) first (length buffer.old)) }
-    ensures fault { OnErr result (IsTrue M.tells → StopsReading first (M.content medium.old) buffer.old buffer.new) }
-    ensures kept { IsTrue M.tells → M.content medium.new ≡ M.content medium.old }
+    ensures read { OnOk result (Told M.tells (buffer.new ≡ blocks_from (M.device medium.old).content first (length buffer.old))) }
+    ensures fault { OnErr result (StopsReading M.tells first (M.device medium.old).content buffer.old buffer.new) }
+    ensures kept { Told M.tells ((M.device medium.new).content ≡ (M.device medium.old).content) }
     ensures size { M.size medium.new ≡ M.size medium.old }
-    ensures cause { HasCause (M.failures medium.old) (M.failures medium.new) result }
+    ensures count { CountsFaults (M.device medium.old).failures (M.device medium.new).failures result }
 {
     let mut block = [0; 512];
     for j in 0..buffer.len() / 512 {

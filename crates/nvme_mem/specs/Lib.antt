@@ -1,2 +1,3 @@
+pub use Rattle.nvme_spec.specs.Bytes
 pub use Rattle.nvme_spec.specs.Memory
 pub mod Lends

@@ -1,4 +1,5 @@
-use crate::{OutsideWindow, Part, Window};
+use crate::{OutsideWindow, Window};
+use nvme_spec::Piece;
 use std::test::Fail;
 
 #[test]
@@ -34,10 +35,16 @@ fn what_is_stored_is_read(rt: HostRuntime) -> Result<(), Fail> {
     assert_eq!(rt; window.u64_at(0x3000), 0x0100_0000_0000_6000);
     let piece = window.piece_mut(0x3001, 2).ok_or("a part is refused")?;
     piece.copy_from_slice(&[7, 8]);
-    let part = Part::new(0x3000, 4).ok_or("a part is refused")?;
-    assert_eq!(rt; window.bytes(part), [0x00, 7, 8, 0].as_slice());
-    let front = Part::new(0x3000, 1).ok_or("a part is refused")?;
+    let piece = Piece {
+        address: 0x3000,
+        len: 4,
+    };
+    assert_eq!(rt; window.bytes(piece), [0x00, 7, 8, 0].as_slice());
+    let front = Piece {
+        address: 0x3000,
+        len: 1,
+    };
     window.bytes_mut(front).fill(9);
-    assert_eq!(rt; window.bytes(part), [9, 7, 8, 0].as_slice());
+    assert_eq!(rt; window.bytes(piece), [9, 7, 8, 0].as_slice());
     Ok(())
 }

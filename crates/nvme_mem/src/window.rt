@@ -1,10 +1,11 @@
 ghost use Rattle.std.specs.Prelude.{◌≡◌, ◌+◌, ◌-◌, ◌<◌, ◌≤◌, ◌↔◌, IsSome, IfSome, IfOk, OnOk, OnErr, IsOk, IsTrue, length, slice_range};
 ghost use Rattle.std.specs.Borrow.{sem};
-ghost use Rattle.nvme_spec.specs.Memory.{stored, zeros, qword};
+ghost use Rattle.nvme_spec.specs.Bytes.{with_bytes};
+ghost use Rattle.nvme_spec.specs.Memory.{LiesInWindow, zeros, qword};
 ghost use Rattle.nvme_mem.specs.Lends.{LendsPart, LendsPartIf};
 
-use crate::part::Part;
 use byteorder::{ByteOrder, LittleEndian};
+use nvme_spec::Piece;
 use nvme_wire::NoMemory;
 use std::alloc::Global;
 use std::marker::Model;
@@ -37,7 +38,8 @@ pub struct OutsideWindow;
 fn is_inside(addr: u64, len: u64) -> bool
     ensures { IsTrue result ↔ (addr + len ≤ WINDOW_LEN) }
 {
-    Part::new(addr, len).is_some()
+    addr.checked_add(len)
+        .is_some_and(|end| end <= WINDOW_LEN as u64)
 }
 
 impl Window {
@@ -53,26 +55,28 @@ impl Window {
         })
     }
 
-    /// The bytes of a part.
-    pub fn bytes(&self, part: Part) -> &[u8]
-        ensures bytes { result.now ≡ slice_range self.now part.addr (part.addr + part.len) }
-        ensures len { length result.now ≡ part.len }
+    /// The bytes of a piece. That it lies in the window is the caller's condition.
+    pub fn bytes(&self, piece: Piece) -> &[u8]
+        requires inside { LiesInWindow piece }
+        ensures bytes { result.now ≡ slice_range self.now piece.address (piece.address + piece.len) }
+        ensures len { length result.now ≡ piece.len }
         ensures whole_len { length self.now ≡ WINDOW_LEN }
     {
-        let start = part.addr as usize;
-        &self.bytes[start..start + part.len as usize]
+        let start = piece.address as usize;
+        &self.bytes[start..start + piece.len as usize]
     }
 
-    /// The bytes of a part, to be written. Writing them changes no other byte.
-    pub fn bytes_mut(&mut self, part: Part) -> &mut [u8]
-        ensures* writes_back { sem 𝓛 (LendsPart self.entry part.addr result) }
-        ensures bytes { result.now ≡ slice_range self.old part.addr (part.addr + part.len) }
-        ensures len { length result.now ≡ part.len }
+    /// The bytes of a piece, to be written. Writing them changes no other byte. That the piece lies in the window is the
+    /// caller's condition.
+    pub fn bytes_mut(&mut self, piece: Piece) -> &mut [u8]
+        requires inside { LiesInWindow piece }
+        ensures* writes_back { sem 𝓛 (LendsPart self.entry piece.address result) }
+        ensures bytes { result.now ≡ slice_range self.old piece.address (piece.address + piece.len) }
+        ensures len { length result.now ≡ piece.len }
         ensures whole_len { length self.old ≡ WINDOW_LEN }
-        ensures inside { part.addr + part.len ≤ WINDOW_LEN }
     {
-        let start = part.addr as usize;
-        self.bytes.slice_mut(start..start + part.len as usize)
+        let start = piece.address as usize;
+        self.bytes.slice_mut(start..start + piece.len as usize)
     }
 
     /// The number in the eight bytes from `addr` on, the lowest byte first. That they lie in the window
@@ -92,8 +96,10 @@ impl Window {
         ensures bytes { IfSome result (λ piece. piece.now ≡ slice_range self.now addr (addr + len)) }
         ensures len { IfSome result (λ piece. length piece.now ≡ len) }
     {
-        let part = Part::new(addr, len)?;
-        Some(self.bytes(part))
+        if !is_inside(addr, len) {
+            return None;
+        }
+        Some(self.bytes(Piece { address: addr, len }))
     }
 
     fn lent(&mut self, addr: u64, len: u64) -> &mut [u8]
@@ -115,8 +121,8 @@ impl Window {
     {
         let inside = is_inside(addr, len);
         if inside {
-            let part = self.lent(addr, len);
-            return Some(part);
+            let piece = self.lent(addr, len);
+            return Some(piece);
         }
         None
     }
@@ -127,11 +133,15 @@ impl Window {
     /// `OutsideWindow` where they do not all lie in the window, which then stays as it was.
     pub fn store(&mut self, addr: u64, bytes: &[u8]) -> Result<(), OutsideWindow>
         ensures inside { IsOk result ↔ (addr + length bytes.now ≤ WINDOW_LEN) }
-        ensures ok { OnOk result (self.new ≡ stored self.old addr bytes.now) }
+        ensures ok { OnOk result (self.new ≡ with_bytes self.old addr bytes.now) }
         ensures err { OnErr result (self.new ≡ self.old) }
     {
-        let part = Part::new(addr, bytes.len() as u64).ok_or(OutsideWindow)?;
-        self.bytes_mut(part).copy_from_slice(bytes);
+        let len = bytes.len() as u64;
+        if !is_inside(addr, len) {
+            return Err(OutsideWindow);
+        }
+        self.bytes_mut(Piece { address: addr, len })
+            .copy_from_slice(bytes);
         Ok(())
     }
 }

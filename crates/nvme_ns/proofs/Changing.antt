@@ -7,16 +7,16 @@ use Rattle.std.proofs.lemmas.Grind.{common_steps}
 use Rattle.std.proofs.lemmas.List.Folds.{find_at}
 use Rattle.std.proofs.lemmas.Option.{slice_get-get_or}
 use Rattle.std.proofs.lemmas.List.Quantifiers.{position-Some}
-use Rattle.nvme_spec.specs.World.{Namespace, changed_namespace}
+use Rattle.nvme_spec.specs.World.{Namespace, with_namespace}
 
 -- the one at the first place where the identifier stands
-changed_namespace-at : (change : Namespace → Namespace) (nsid : ℕ) (ns : List Namespace) (i : ℕ) (d : Namespace) → i < length ns
+with_namespace-at : (change : Namespace → Namespace) (nsid : ℕ) (ns : List Namespace) (i : ℕ) (d : Namespace) → i < length ns
     → ((slice_index_or ns i d).nsid == nsid) ≡ true → ((k : ℕ) → k < i → ((slice_index_or ns k d).nsid == nsid) ≡ false)
-    → slice_set ns i (change (slice_index_or ns i d)) ≡ changed_namespace change nsid ns
-changed_namespace-at change nsid [] i d below here before = absurd (omega arith)
-changed_namespace-at change nsid (n ∷ ns) zero d below here before = rw here refl
-changed_namespace-at change nsid (n ∷ ns) (suc i) d below here before =
-    rw (before 0 (omega arith)) (ap (λ rest. n ∷ rest) (changed_namespace-at change nsid ns i d (omega arith) here (λ k l. before (suc k) (omega arith))))
+    → slice_set ns i (change (slice_index_or ns i d)) ≡ with_namespace change nsid ns
+with_namespace-at change nsid [] i d below here before = absurd (omega arith)
+with_namespace-at change nsid (n ∷ ns) zero d below here before = rw here refl
+with_namespace-at change nsid (n ∷ ns) (suc i) d below here before =
+    rw (before 0 (omega arith)) (ap (λ rest. n ∷ rest) (with_namespace-at change nsid ns i d (omega arith) here (λ k l. before (suc k) (omega arith))))
 
 -- what is found has a place
 pub found_placed : (p : Namespace → Bool) (ns : List Namespace) → IsSome (find p ns) → IsSome (position p ns)
@@ -38,8 +38,8 @@ found-at_place p ns i d place =
     find_at p ns ∙ ap (slice_get ns) here ∙ slice_get-get_or ns i d at.0
 
 -- a table where the namespace n at its place is written anew
-pub changed_namespace-placed : (change : Namespace → Namespace) (nsid : ℕ) (ns : List Namespace) (i : ℕ) (n : Namespace) → position (λ m. m.nsid == nsid) ns ≡ Some i
-    → n ≡ slice_index_or ns i n → slice_set ns i (change n) ≡ changed_namespace change nsid ns
-changed_namespace-placed change nsid ns i n place is =
+pub with_namespace-placed : (change : Namespace → Namespace) (nsid : ℕ) (ns : List Namespace) (i : ℕ) (n : Namespace) → position (λ m. m.nsid == nsid) ns ≡ Some i
+    → n ≡ slice_index_or ns i n → slice_set ns i (change n) ≡ with_namespace change nsid ns
+with_namespace-placed change nsid ns i n place is =
     let at = position-Some (λ m. m.nsid == nsid) ns i n place in
-    ap (λ m. slice_set ns i (change m)) is ∙ changed_namespace-at change nsid ns i n at.0 at.1 at.2
+    ap (λ m. slice_set ns i (change m)) is ∙ with_namespace-at change nsid ns i n at.0 at.1 at.2

@@ -5,7 +5,6 @@
 mod checks;
 mod namespace;
 mod opening;
-mod pairs;
 mod spaces;
 
 pub use namespace::Namespace;

@@ -26,7 +26,9 @@ impl Model for Namespace {
 }
 
 impl Default for Namespace {
-    fn default() -> Self {
+    fn default() -> Self
+        ensures { result ≡ record { nsid = 0; first = 0; blocks = 0; shared = false; protected = false; reservation = unreserved } }
+    {
         Namespace::new(&NsConfig::default(), 0)
     }
 }

@@ -2,23 +2,21 @@
 
 ghost use Rattle.std.specs.Prelude.{◌≡◌, ◌<◌, ◌≤◌, ◌^◌, length, map};
 ghost use Rattle.nvme_spec.specs.Configuration.{total_blocks};
-ghost use Rattle.nvme_spec.specs.World.{laid_out, attachment};
+ghost use Rattle.nvme_spec.specs.World.{laid_out, controller_host};
 
 use crate::Namespace;
 use crate::checks::{MAX_ATTACHMENTS, MAX_CONTROLLERS, MAX_NAMESPACES};
 use arrayvec::ArrayVec;
-use nvme_spec::{Attachment, ControllerConfig, NsConfig};
+use nvme_spec::{ControllerConfig, NsConfig};
 
-/// The table of controllers.
-pub fn controller_table(
-    controllers: &[ControllerConfig],
-) -> ArrayVec<ControllerConfig, MAX_CONTROLLERS>
+/// The table of controllers: the identifier of each with its host.
+pub fn controller_table(controllers: &[ControllerConfig]) -> ArrayVec<(u16, u64), MAX_CONTROLLERS>
     requires { length controllers.now ≤ 16 }
-    ensures { result.items ≡ controllers.now }
+    ensures { result.items ≡ map controller_host controllers.now }
 {
     let mut table = ArrayVec::new();
     for controller in controllers {
-        table.push(*controller);
+        table.push((controller.cntlid, controller.host));
     }
     table
 }
@@ -39,16 +37,13 @@ pub fn namespace_table(namespaces: &[NsConfig]) -> ArrayVec<Namespace, MAX_NAMES
 }
 
 /// The table of attachments.
-pub fn attachment_table(attached: &[(u16, u32)]) -> ArrayVec<Attachment, MAX_ATTACHMENTS>
+pub fn attachment_table(attached: &[(u16, u32)]) -> ArrayVec<(u16, u32), MAX_ATTACHMENTS>
     requires { length attached.now ≤ 128 }
-    ensures { result.items ≡ map attachment attached.now }
+    ensures { result.items ≡ attached.now }
 {
     let mut table = ArrayVec::new();
-    for (cntlid, nsid) in attached {
-        table.push(Attachment {
-            cntlid: *cntlid,
-            nsid: *nsid,
-        });
+    for pair in attached {
+        table.push(*pair);
     }
     table
 }

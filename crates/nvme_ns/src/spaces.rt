@@ -9,30 +9,30 @@ ghost use Rattle.nvme_ns.specs.Lending.{LendsReservation};
 use crate::Namespace;
 use crate::checks::{MAX_ATTACHMENTS, MAX_CONTROLLERS, MAX_NAMESPACES, check};
 use crate::opening::{attachment_table, controller_table, namespace_table};
-use crate::pairs::pairs_of;
 use arrayvec::ArrayVec;
 use nvme_resv::Reservation;
-use nvme_spec::{Attachment, Config, ConfigFault, ControllerConfig};
+use nvme_spec::{Config, ConfigFault};
 use std::marker::Model;
 
 /// The access state of a subsystem. It stands in tables of fixed size and takes no memory.
 #[derive(Drop)]
 pub struct Spaces {
-    controllers: ArrayVec<ControllerConfig, MAX_CONTROLLERS>,
+    /// The identifier of each controller with its host, by rising identifier.
+    controllers: ArrayVec<(u16, u64), MAX_CONTROLLERS>,
     namespaces: ArrayVec<Namespace, MAX_NAMESPACES>,
-    attachments: ArrayVec<Attachment, MAX_ATTACHMENTS>,
+    /// The identifier of a controller with that of a namespace.
+    attachments: ArrayVec<(u16, u32), MAX_ATTACHMENTS>,
 }
 
 impl Model for Spaces {
-    ghost use Rattle.std.specs.Prelude.{◌≡◌, true};
-    ghost use Rattle.nvme_spec.specs.Configuration.{are_numbered};
+    ghost use Rattle.nvme_spec.specs.Report.{HasRisingIds};
     ghost use Rattle.nvme_spec.specs.World.{World as State};
 
     ghost Value = { State };
 
     ghost view = { λ a. record { controllers = a.controllers.items; namespaces = a.namespaces.items; attachments = a.attachments.items } };
 
-    ghost invariant = { λ a. are_numbered a.controllers.items ≡ true };
+    ghost invariant = { λ a. HasRisingIds a.controllers.items };
 }
 
 impl Spaces {
@@ -56,12 +56,12 @@ impl Spaces {
     }
 
     /// The identifiers of all controllers with their hosts, by rising identifier.
-    pub fn controllers(&self) -> ArrayVec<(u16, u64), MAX_CONTROLLERS>
-        ensures listed { result.items ≡ map (λ k. (k.cntlid, k.host)) self.now.controllers }
+    pub fn controllers(&self) -> &[(u16, u64)]
+        ensures listed { result.now ≡ self.now.controllers }
         ensures few { length self.now.controllers ≤ 16 }
-        ensures rising { HasRisingIds result.items }
+        ensures rising { HasRisingIds self.now.controllers }
     {
-        pairs_of(&self.controllers)
+        self.controllers.as_slice()
     }
 
     /// The host that a controller belongs to, or None for a controller that isn't configured.
@@ -70,10 +70,7 @@ impl Spaces {
         ensures host { result ≡ world.host_of self.now cntlid }
         ensures few { length self.now.controllers ≤ 16 }
     {
-        self.controllers
-            .iter()
-            .find(|k| k.cntlid == cntlid)
-            .map(|k| k.host)
+        self.controllers.iter().find(|k| k.0 == cntlid).map(|k| k.1)
     }
 
     /// Whether a namespace is attached to a controller. It isn't where either isn't configured.
@@ -83,7 +80,7 @@ impl Spaces {
     {
         self.attachments
             .iter()
-            .any(|a| a.cntlid == cntlid && a.nsid == nsid)
+            .any(|a| a.0 == cntlid && a.1 == nsid)
     }
 
     /// The namespace with this identifier, or None where it isn't configured.

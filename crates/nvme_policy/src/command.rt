@@ -1,9 +1,9 @@
-//! What the rules ask of each command: the one place that names the commands.
+//! The opcodes of the I/O commands, and what is asked of each command.
 
 ghost use Rattle.std.specs.Prelude.{◌≡◌, Some};
 ghost use Rattle.nvme_spec.specs.Commands as spec;
 
-use nvme_spec::{Command, Group};
+use nvme_spec::{Command, CommandKind, Group};
 
 /// The I/O command with this opcode.
 #[tactic(auto, unfolding(nvme_spec::specs::Commands::command_of))]
@@ -24,9 +24,11 @@ pub fn command_of(opcode: u8) -> Option<Command>
     }
 }
 
-/// What the rules ask of a command.
+/// What the rules and the execution ask of a command.
 #[derive(Clone, Copy, Debug)]
 pub struct Traits {
+    /// What it works on.
+    pub kind: CommandKind,
     /// How a reservation judges it.
     pub group: Option<Group>,
     /// Whether it changes blocks, so that write protection forbids it.
@@ -35,22 +37,27 @@ pub struct Traits {
     pub is_ranged: bool,
 }
 
-/// What the rules ask of this command.
+/// What is asked of this command.
 pub fn traits_of(command: Command) -> Traits
+    ensures kind { result.kind ≡ spec.kind_of command }
     ensures group { result.group ≡ spec.group_of command }
     ensures alters { result.alters ≡ spec.is_one_of (Some command) spec.altering }
     ensures ranged { result.is_ranged ≡ spec.is_one_of (Some command) spec.ranged }
 {
-    let (group, alters, is_ranged) = match command {
-        Command::Read | Command::Compare => (Some(Group::Read), false, true),
-        Command::Write | Command::WriteZeroes => (Some(Group::Write), true, true),
-        Command::Flush => (Some(Group::Write), false, false),
-        Command::ReservationRegister
-        | Command::ReservationReport
-        | Command::ReservationAcquire
-        | Command::ReservationRelease => (None, false, false),
+    let (kind, group, alters, is_ranged) = match command {
+        Command::Read | Command::Compare => {
+            (CommandKind::OnBlocks, Some(Group::Read), false, true)
+        }
+        Command::Write | Command::WriteZeroes => {
+            (CommandKind::OnBlocks, Some(Group::Write), true, true)
+        }
+        Command::Flush => (CommandKind::OnBlocks, Some(Group::Write), false, false),
+        Command::ReservationReport => (CommandKind::OnReport, None, false, false),
+        Command::ReservationRegister | Command::ReservationAcquire | Command::ReservationRelease =>
+            (CommandKind::OnReservation, None, false, false),
     };
     Traits {
+        kind,
         group,
         alters,
         is_ranged,

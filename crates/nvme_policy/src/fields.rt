@@ -6,9 +6,9 @@ ghost use Rattle.nvme_spec.specs.Commands as spec;
 use nvme_wire::Sqe;
 
 /// The first logical block of a transfer (Starting LBA).
-#[tactic(auto, unfolding(nvme_spec::specs::Commands::first_block))]
-pub fn first_block(sqe: &Sqe) -> u64
-    ensures { result ≡ spec.first_block sqe.now }
+#[tactic(auto, unfolding(nvme_spec::specs::Commands::starting_lba))]
+pub fn starting_lba(sqe: &Sqe) -> u64
+    ensures { result ≡ spec.starting_lba sqe.now }
 {
     u64::from(sqe.cdw10()) + (u64::from(sqe.cdw11()) << 32)
 }
@@ -30,33 +30,33 @@ pub fn action(sqe: &Sqe) -> u32
 }
 
 /// Whether the existing key is to be ignored (IEKEY).
-#[tactic(auto, unfolding(nvme_spec::specs::Commands::ignores_key))]
-pub fn ignores_key(sqe: &Sqe) -> bool
-    ensures { result ≡ spec.ignores_key sqe.now }
+#[tactic(auto, unfolding(nvme_spec::specs::Commands::iekey))]
+pub fn iekey(sqe: &Sqe) -> bool
+    ensures { result ≡ spec.iekey sqe.now }
 {
     (sqe.cdw10() >> 3) & 1 == 1
 }
 
-/// How persistence through power loss is to change, 0 to 3 (CPTPL).
-#[tactic(auto, unfolding(nvme_spec::specs::Commands::persistence))]
-pub fn persistence(sqe: &Sqe) -> u32
-    ensures { result ≡ spec.persistence sqe.now }
+/// How cptpl through power loss is to change, 0 to 3 (CPTPL).
+#[tactic(auto, unfolding(nvme_spec::specs::Commands::cptpl))]
+pub fn cptpl(sqe: &Sqe) -> u32
+    ensures { result ≡ spec.cptpl sqe.now }
 {
     sqe.cdw10() >> 30
 }
 
 /// The reservation type, 0 to 255 (RTYPE).
-#[tactic(auto, unfolding(nvme_spec::specs::Commands::reservation_type))]
-pub fn reservation_type(sqe: &Sqe) -> u8
-    ensures { result ≡ spec.reservation_type sqe.now }
+#[tactic(auto, unfolding(nvme_spec::specs::Commands::rtype))]
+pub fn rtype(sqe: &Sqe) -> u8
+    ensures { result ≡ spec.rtype sqe.now }
 {
     ((sqe.cdw10() >> 8) & 0xff) as u8
 }
 
 /// Whether the extended data structure of a report is asked for (EDS).
-#[tactic(auto, unfolding(nvme_spec::specs::Commands::is_extended))]
-pub fn is_extended(sqe: &Sqe) -> bool
-    ensures { result ≡ spec.is_extended sqe.now }
+#[tactic(auto, unfolding(nvme_spec::specs::Commands::eds))]
+pub fn eds(sqe: &Sqe) -> bool
+    ensures { result ≡ spec.eds sqe.now }
 {
     sqe.cdw11() & 1 == 1
 }

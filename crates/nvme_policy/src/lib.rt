@@ -2,7 +2,7 @@
 #![tactic(auto)]
 
 mod access;
-mod command;
+pub mod command;
 pub mod fields;
 mod planning;
 mod rules;
@@ -11,7 +11,7 @@ mod verdict;
 pub use access::permits;
 pub use nvme_spec::{Command, Denial, Group, Plan, Verdict};
 pub use rules::{check_form, deny_if};
-pub use verdict::judge;
+pub use verdict::{Admitted, admit, judge};
 
 #[cfg(test)]
 mod tests;

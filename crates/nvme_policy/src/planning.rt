@@ -11,7 +11,7 @@ pub fn plan(command: Command, sqe: &Sqe) -> Plan
     ensures { result ≡ plan_of command sqe.now }
 {
     let (first, blocks) = if traits_of(command).is_ranged {
-        (fields::first_block(sqe), fields::block_count(sqe))
+        (fields::starting_lba(sqe), fields::block_count(sqe))
     } else {
         (0, 0)
     };

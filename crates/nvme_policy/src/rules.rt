@@ -4,7 +4,7 @@ ghost use Rattle.std.specs.Prelude.{◌≡◌, ◌+◌, ◌≤◌, IfOk, IfErr, 
 ghost use Rattle.nvme_wire.specs.Submission as entry;
 ghost use Rattle.nvme_spec.specs.World.{namespace_of};
 ghost use Rattle.nvme_spec.specs.Commands as commands;
-ghost use Rattle.nvme_spec.specs.Rules.{tested, rule as one_test};
+ghost use Rattle.nvme_spec.specs.Rules.{judgement_by, rule as one_test};
 ghost use Rattle.nvme_spec.specs.IoRules as policy;
 
 use crate::command::{command_of, traits_of};
@@ -13,10 +13,18 @@ use nvme_ns::{Namespace, Spaces};
 use nvme_spec::{Command, Denial, Role};
 use nvme_wire::{Sqe, Status};
 
+/// The highest namespace identifier.
+const HIGHEST_NSID: u32 = 8;
+
+/// The most blocks of a Read, Write or Compare, and the most bytes of any transfer.
+const MAX_BLOCKS: u32 = 256;
+
+const MAX_BYTES: u64 = 131_072;
+
 /// Denies by a rule that fails.
-#[tactic(auto, unfolding(nvme_spec::specs::Rules::tested))]
+#[tactic(auto, unfolding(nvme_spec::specs::Rules::judgement_by))]
 pub fn deny_if(fails: bool, rule: u8, status: Status) -> Result<(), Denial>
-    ensures { result ≡ tested (one_test rule fails status) }
+    ensures { result ≡ judgement_by (one_test rule fails status) }
 {
     if fails {
         Err(Denial { rule, status })
@@ -28,17 +36,17 @@ pub fn deny_if(fails: bool, rule: u8, status: Status) -> Result<(), Denial>
 /// Rule 1: a preempt and abort has marked the command.
 #[tactic(auto, unfolding(nvme_spec::specs::IoRules::mark_rule))]
 pub fn check_mark(marked: bool) -> Result<(), Denial>
-    ensures { result ≡ tested (policy.mark_rule marked) }
+    ensures { result ≡ judgement_by (policy.mark_rule marked) }
 {
     deny_if(marked, 1, Status::COMMAND_ABORTED_DUE_TO_PREEMPT_AND_ABORT)
 }
 
 /// Rule 2: the opcode is an I/O command's.
-#[tactic(auto, unfolding(nvme_spec::specs::IoRules::opcode_rule, nvme_spec::specs::Rules::tested))]
+#[tactic(auto, unfolding(nvme_spec::specs::IoRules::opcode_rule, nvme_spec::specs::Rules::judgement_by))]
 pub fn check_opcode(sqe: &Sqe) -> Result<Command, Denial>
     ensures named { IfOk result (λ command. commands.command_of (entry.opcode sqe.now) ≡ Some command) }
-    ensures passed { IfOk result (λ _. tested (policy.opcode_rule (commands.command_of (entry.opcode sqe.now))) ≡ Ok tt) }
-    ensures denied { IfErr result (λ d. tested (policy.opcode_rule (commands.command_of (entry.opcode sqe.now))) ≡ Err d) }
+    ensures passed { IfOk result (λ _. judgement_by (policy.opcode_rule (commands.command_of (entry.opcode sqe.now))) ≡ Ok tt) }
+    ensures denied { IfErr result (λ d. judgement_by (policy.opcode_rule (commands.command_of (entry.opcode sqe.now))) ≡ Err d) }
 {
     command_of(sqe.opcode()).ok_or(Denial {
         rule: 2,
@@ -49,7 +57,7 @@ pub fn check_opcode(sqe: &Sqe) -> Result<Command, Denial>
 /// Rule 3: the command stands alone, and points by PRP entries.
 #[tactic(auto, unfolding(nvme_spec::specs::IoRules::form_rule))]
 pub fn check_form(sqe: &Sqe) -> Result<(), Denial>
-    ensures { result ≡ tested (policy.form_rule sqe.now) }
+    ensures { result ≡ judgement_by (policy.form_rule sqe.now) }
 {
     deny_if(
         sqe.fuse() != 0 || sqe.psdt() != 0,
@@ -61,21 +69,21 @@ pub fn check_form(sqe: &Sqe) -> Result<(), Denial>
 /// Rule 4: the identifier is one that a namespace can have.
 #[tactic(auto, unfolding(nvme_spec::specs::IoRules::nsid_rule))]
 pub fn check_nsid(nsid: u32) -> Result<(), Denial>
-    ensures { result ≡ tested (policy.nsid_rule nsid) }
+    ensures { result ≡ judgement_by (policy.nsid_rule nsid) }
 {
     deny_if(
-        nsid == 0 || nsid > 8,
+        nsid == 0 || nsid > HIGHEST_NSID,
         4,
         Status::INVALID_NAMESPACE_OR_FORMAT,
     )
 }
 
 /// Rule 5: the namespace is attached to the controller.
-#[tactic(auto, unfolding(nvme_spec::specs::IoRules::attachment_rule, nvme_spec::specs::Rules::tested))]
+#[tactic(auto, unfolding(nvme_spec::specs::IoRules::attachment_rule, nvme_spec::specs::Rules::judgement_by))]
 pub fn check_attachment(spaces: &Spaces, cntlid: u16, nsid: u32) -> Result<&Namespace, Denial>
     ensures found { IfOk result (λ namespace. namespace_of spaces.now nsid ≡ Some namespace.now) }
-    ensures passed { IfOk result (λ _. tested (policy.attachment_rule spaces.now cntlid nsid) ≡ Ok tt) }
-    ensures denied { IfErr result (λ d. tested (policy.attachment_rule spaces.now cntlid nsid) ≡ Err d) }
+    ensures passed { IfOk result (λ _. judgement_by (policy.attachment_rule spaces.now cntlid nsid) ≡ Ok tt) }
+    ensures denied { IfErr result (λ d. judgement_by (policy.attachment_rule spaces.now cntlid nsid) ≡ Err d) }
 {
     match spaces.namespace(nsid) {
         Some(namespace) if spaces.is_attached(cntlid, nsid) => Ok(namespace),
@@ -87,43 +95,40 @@ pub fn check_attachment(spaces: &Spaces, cntlid: u16, nsid: u32) -> Result<&Name
 }
 
 /// Rule 6: each field has a value that the command takes.
-#[tactic(auto, unfolding(nvme_spec::specs::IoRules::field_rule, nvme_spec::specs::Rules::tested))]
+#[tactic(auto, unfolding(nvme_spec::specs::IoRules::field_rule, nvme_spec::specs::Rules::judgement_by))]
 pub fn check_fields(command: Command, sqe: &Sqe) -> Result<(), Denial>
-    ensures { result ≡ tested (policy.field_rule (Some command) sqe.now) }
+    ensures { result ≡ judgement_by (policy.field_rule (Some command) sqe.now) }
 {
     match command {
         Command::Flush | Command::WriteZeroes => Ok(()),
         Command::Read | Command::Write | Command::Compare => deny_if(
-            fields::block_count(sqe) > 256,
+            fields::block_count(sqe) > MAX_BLOCKS,
             6,
             Status::INVALID_FIELD_IN_COMMAND,
         ),
         Command::ReservationRegister => deny_if(
-            fields::action(sqe) > 2 || matches!(fields::persistence(sqe), 1 | 3),
+            fields::action(sqe) > 2 || matches!(fields::cptpl(sqe), 1 | 3),
             6,
             Status::INVALID_FIELD_IN_COMMAND,
         ),
         Command::ReservationAcquire => deny_if(
-            // Preempt and Abort, action 2, is not known yet.
-            fields::action(sqe) > 1
-                || fields::ignores_key(sqe)
-                || !(1..=6).contains(&fields::reservation_type(sqe)),
+            fields::action(sqe) > 2 || fields::iekey(sqe) || !(1..=6).contains(&fields::rtype(sqe)),
             6,
             Status::INVALID_FIELD_IN_COMMAND,
         ),
         Command::ReservationRelease => deny_if(
-            fields::action(sqe) > 1 || fields::ignores_key(sqe),
+            fields::action(sqe) > 1 || fields::iekey(sqe),
             6,
             Status::INVALID_FIELD_IN_COMMAND,
         ),
         Command::ReservationReport => {
             deny_if(
-                fields::is_extended(sqe),
+                fields::eds(sqe),
                 6,
                 Status::HOST_IDENTIFIER_INCONSISTENT_FORMAT,
             )?;
             deny_if(
-                fields::report_length(sqe) > 131_072,
+                fields::report_length(sqe) > MAX_BYTES,
                 6,
                 Status::INVALID_FIELD_IN_COMMAND,
             )
@@ -138,7 +143,7 @@ pub fn check_reservation(
     namespace: &Namespace,
     host: Option<u64>,
 ) -> Result<(), Denial>
-    ensures { result ≡ tested (policy.reservation_rule (Some command) (Some namespace.now) host) }
+    ensures { result ≡ judgement_by (policy.reservation_rule (Some command) (Some namespace.now) host) }
 {
     let reservation = namespace.reservation();
     let role = match host {
@@ -155,7 +160,7 @@ pub fn check_reservation(
 /// Rule 8: a command that changes blocks finds no write protection.
 #[tactic(auto, unfolding(nvme_spec::specs::IoRules::protection_rule))]
 pub fn check_protection(command: Command, namespace: &Namespace) -> Result<(), Denial>
-    ensures { result ≡ tested (policy.protection_rule (Some command) (Some namespace.now)) }
+    ensures { result ≡ judgement_by (policy.protection_rule (Some command) (Some namespace.now)) }
 {
     deny_if(
         traits_of(command).alters && namespace.is_protected(),
@@ -167,10 +172,10 @@ pub fn check_protection(command: Command, namespace: &Namespace) -> Result<(), D
 /// Rule 9: the range lies within the namespace.
 #[tactic(auto, unfolding(nvme_spec::specs::IoRules::range_rule))]
 pub fn check_range(command: Command, namespace: &Namespace, sqe: &Sqe) -> Result<(), Denial>
-    ensures judged { result ≡ tested (policy.range_rule (Some command) (Some namespace.now) sqe.now) }
+    ensures judged { result ≡ judgement_by (policy.range_rule (Some command) (Some namespace.now) sqe.now) }
     ensures in_range { OnOk result ((commands.plan_of command sqe.now).first + (commands.plan_of command sqe.now).blocks ≤ namespace.now.blocks) }
 {
-    let end = u128::from(fields::first_block(sqe)) + u128::from(fields::block_count(sqe));
+    let end = u128::from(fields::starting_lba(sqe)) + u128::from(fields::block_count(sqe));
     deny_if(
         traits_of(command).is_ranged && end > u128::from(namespace.blocks()),
         9,

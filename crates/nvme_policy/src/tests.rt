@@ -67,7 +67,7 @@ fn the_first_rule_that_fails_decides(rt: HostRuntime) -> Result<(), Fail> {
         ),
         (entry(0x0e, 1, 0xffff_ffff, 0, 0), field),
         (entry(0x0d, 1, 0x4000_0000, 0, 0), field),
-        (entry(0x11, 1, 0x0102, 0, 0), field),
+        (entry(0x11, 1, 0x0103, 0, 0), field),
         (entry(0x11, 1, 0x0000, 0, 0), field),
     ];
     for (sqe, verdict) in verdicts {

@@ -1,5 +1,6 @@
-ghost use Rattle.std.specs.Prelude.{◌≡◌, IfOk, IfErr};
+ghost use Rattle.std.specs.Prelude.{◌≡◌, ◌+◌, ◌≤◌, Some, IfOk, IfErr};
 ghost use Rattle.nvme_wire.specs.Submission as entry;
+ghost use Rattle.nvme_spec.specs.World.{namespace_of};
 ghost use Rattle.nvme_spec.specs.IoRules as policy;
 ghost use Rattle.nvme_spec.specs.declared.verdict.Verdict.TheVariants.{Allowed, Denied};
 
@@ -8,9 +9,18 @@ use crate::rules::{
     check_attachment, check_fields, check_form, check_mark, check_nsid, check_opcode,
     check_protection, check_range, check_reservation,
 };
-use nvme_ns::Spaces;
+use nvme_ns::{Namespace, Spaces};
 use nvme_spec::{Denial, Plan, Verdict};
 use nvme_wire::Sqe;
+
+/// A command that the rules on access let pass.
+#[derive(Clone, Copy)]
+pub struct Admitted<'a> {
+    /// What it is to do.
+    pub plan: Plan,
+    /// The namespace that it names.
+    pub namespace: &'a Namespace,
+}
 
 /// Judges an I/O command of a controller by the subsystem as it is now, before its data are looked at.
 ///
@@ -22,17 +32,27 @@ pub fn judge(spaces: &Spaces, cntlid: u16, sqe: &Sqe, marked: bool) -> Verdict
     ensures in_range { policy.IfAllowed result (policy.FitsNamespace spaces.now (entry.nsid sqe.now)) }
 {
     match admit(spaces, cntlid, sqe, marked) {
-        Ok(plan) => Verdict::Allowed(plan),
+        Ok(admitted) => Verdict::Allowed(admitted.plan),
         Err(Denial { rule, status }) => Verdict::Denied(rule, status),
     }
 }
 
-/// Applies the rules in turn.
+/// Judges a command as `judge` does, and finds its namespace.
+///
+/// # Errors
+///
+/// The first rule that fails.
 #[tactic(auto, unfolding(nvme_spec::specs::IoRules::verdict))]
-fn admit(spaces: &Spaces, cntlid: u16, sqe: &Sqe, marked: bool) -> Result<Plan, Denial>
-    ensures ok { IfOk result (λ plan. policy.verdict spaces.now cntlid sqe.now marked ≡ Allowed plan) }
-    ensures in_range { IfOk result (policy.FitsNamespace spaces.now (entry.nsid sqe.now)) }
-    ensures err { IfErr result (λ denial. policy.verdict spaces.now cntlid sqe.now marked ≡ Denied denial.rule denial.status) }
+pub fn admit<'a>(
+    spaces: &'a Spaces,
+    cntlid: u16,
+    sqe: &Sqe,
+    marked: bool,
+) -> Result<Admitted<'a>, Denial>
+    ensures allowed { IfOk result (λ a. policy.verdict spaces.now cntlid sqe.now marked ≡ Allowed a.plan) }
+    ensures named { IfOk result (λ a. namespace_of spaces.now (entry.nsid sqe.now) ≡ Some a.namespace.now) }
+    ensures in_range { IfOk result (λ a. a.plan.first + a.plan.blocks ≤ a.namespace.now.blocks) }
+    ensures denied { IfErr result (λ denial. policy.verdict spaces.now cntlid sqe.now marked ≡ Denied denial.rule denial.status) }
 {
     check_mark(marked)?;
     let command = check_opcode(sqe)?;
@@ -43,5 +63,8 @@ fn admit(spaces: &Spaces, cntlid: u16, sqe: &Sqe, marked: bool) -> Result<Plan, 
     check_reservation(command, namespace, spaces.host_of(cntlid))?;
     check_protection(command, namespace)?;
     check_range(command, namespace, sqe)?;
-    Ok(plan(command, sqe))
+    Ok(Admitted {
+        plan: plan(command, sqe),
+        namespace,
+    })
 }

@@ -5,15 +5,15 @@ use Rattle.std.proofs.lemmas.List.{map-append, drop_more, drop_all, take_all, dr
 use Rattle.std.proofs.lemmas.List.FromFn.{length-range_with_len}
 use borrow.Rule.Slice.PartMut.{put_mid}
 use Rattle.nvme_spec.specs.declared.pointer.Piece.{Piece}
-use Rattle.nvme_spec.specs.Memory.{stored_within}
-use Rattle.nvme_spec.specs.Transfers.{run, addresses, gathered, scattered, ArePages}
-use Rattle.nvme_spec.proofs.Runs.{gathered-run, scattered-append, run-store}
+use Rattle.nvme_spec.specs.Bytes.{with_bytes_within}
+use Rattle.nvme_spec.specs.Transfers.{run, addresses, gathered_bytes, with_scattered, ArePages}
+use Rattle.nvme_spec.proofs.Runs.{gathered_bytes-run, with_scattered-append, run-store}
 use Rattle.nvme_prp.proofs.PageBlocks.{addresses-cons, addresses-size, front-fits}
 
 -- What is known before piece i: how much is left, and that what is filled and what is to come are all of it.
 pub record Gathering (w : List ℕ) (ps : List Piece) (i filled : ℕ) (bytes : List ℕ) : Type 0 where
   pub left : filled + length (addresses (drop i ps)) ≡ length bytes
-  pub same : take filled bytes ++ gathered w (addresses (drop i ps)) ≡ gathered w (addresses ps)
+  pub same : take filled bytes ++ gathered_bytes w (addresses (drop i ps)) ≡ gathered_bytes w (addresses ps)
 
 next-piece : (ps : List Piece) (i : ℕ) (d : Piece) → i < length ps → addresses (drop i ps) ≡ run (get_or ps i d) ++ addresses (drop (i + 1) ps)
 next-piece ps i d h = ap addresses (drop_more ps i d h) ∙ addresses-cons (get_or ps i d) (drop (i + 1) ps)
@@ -33,8 +33,8 @@ gathering-turn w ps i filled n k bytes part d pages whole g h n-is k-is part-is 
     let left = g.left in
     let fit = front-fits ps i d pages h in
     let width : p.address + n - p.address ≡ n = omega arith in
-    let read : part ≡ gathered w (run p) =
-    part-is ∙ ap (λ m. take m (drop p.address w)) (width ∙ n-is) ∙ sym (gathered-run w p.address p.len (omega arith)) in
+    let read : part ≡ gathered_bytes w (run p) =
+    part-is ∙ ap (λ m. take m (drop p.address w)) (width ∙ n-is) ∙ sym (gathered_bytes-run w p.address p.len (omega arith)) in
     let part-size : length part ≡ n = ap length (part-is ∙ ap (λ m. take m (drop p.address w)) width) ∙ length-take-le n (drop p.address w) (omega (arith, length-drop p.address w)) in
     let tail : List ℕ = drop k (drop filled bytes) in
     let front-size : length (take filled bytes) ≡ filled = length-take-le filled bytes (omega arith) in
@@ -48,9 +48,9 @@ gathering-turn w ps i filled n k bytes part d pages whole g h n-is k-is part-is 
     record {
       left = omega arith;
       same =
-          ap (λ xs. xs ++ gathered w later) done ∙ append_assoc (take filled bytes) part (gathered w later)
-          ∙ ap (λ xs. take filled bytes ++ (xs ++ gathered w later)) read
-          ∙ ap (λ xs. take filled bytes ++ xs) (sym (map-append (slice_index w) (run p) later) ∙ ap (gathered w) (sym (next-piece ps i d h)))
+          ap (λ xs. xs ++ gathered_bytes w later) done ∙ append_assoc (take filled bytes) part (gathered_bytes w later)
+          ∙ ap (λ xs. take filled bytes ++ (xs ++ gathered_bytes w later)) read
+          ∙ ap (λ xs. take filled bytes ++ xs) (sym (map-append (slice_index w) (run p) later) ∙ ap (gathered_bytes w) (sym (next-piece ps i d h)))
           ∙ g.same;
     }
 
@@ -58,58 +58,58 @@ nothing-left : (ps : List Piece) (i : ℕ) → length ps ≤ i → addresses (dr
 unfolding addresses
 nothing-left ps i h = ap addresses (drop_all i ps h)
 
-pub gathering-end : (w : List ℕ) (ps : List Piece) (i filled : ℕ) (bytes : List ℕ) → Gathering w ps i filled bytes → length ps ≤ i → bytes ≡ gathered w (addresses ps)
+pub gathering-end : (w : List ℕ) (ps : List Piece) (i filled : ℕ) (bytes : List ℕ) → Gathering w ps i filled bytes → length ps ≤ i → bytes ≡ gathered_bytes w (addresses ps)
 gathering-end w ps i filled bytes g h =
     let none = nothing-left ps i h in
     let left = g.left in
     let size = ap length none in
     sym (take_all filled bytes (omega arith)) ∙ sym (append-nil (take filled bytes))
-    ∙ ap (λ xs. take filled bytes ++ gathered w xs) (sym none) ∙ g.same
+    ∙ ap (λ xs. take filled bytes ++ gathered_bytes w xs) (sym none) ∙ g.same
 
 -- What is known before piece i: how much is left, and that storing it makes of the window what storing all would have made.
-pub record Scattering (old : List ℕ) (ps : List Piece) (i stored : ℕ) (w bytes : List ℕ) : Type 0 where
-  pub left : stored + length (addresses (drop i ps)) ≡ length bytes
-  pub same : scattered w (addresses (drop i ps)) (drop stored bytes) ≡ scattered old (addresses ps) bytes
+pub record Scattering (old : List ℕ) (ps : List Piece) (i with_bytes : ℕ) (w bytes : List ℕ) : Type 0 where
+  pub left : with_bytes + length (addresses (drop i ps)) ≡ length bytes
+  pub same : with_scattered w (addresses (drop i ps)) (drop with_bytes bytes) ≡ with_scattered old (addresses ps) bytes
 
-pub scattering-room : (old : List ℕ) (ps : List Piece) (i stored : ℕ) (w bytes : List ℕ) (d : Piece) → Scattering old ps i stored w bytes → i < length ps → stored + (get_or ps i d).len ≤ length bytes
-scattering-room old ps i stored w bytes d g h = let size = next-size ps i d h in let left = g.left in omega arith
+pub scattering-room : (old : List ℕ) (ps : List Piece) (i with_bytes : ℕ) (w bytes : List ℕ) (d : Piece) → Scattering old ps i with_bytes w bytes → i < length ps → with_bytes + (get_or ps i d).len ≤ length bytes
+scattering-room old ps i with_bytes w bytes d g h = let size = next-size ps i d h in let left = g.left in omega arith
 
-pub scattering-turn : (old : List ℕ) (ps : List Piece) (i stored n k : ℕ) (w bytes part : List ℕ) (d : Piece) → ArePages ps → length w ≡ 4194304 → Scattering old ps i stored w bytes → i < length ps → n ≡ (get_or ps i d).len → k ≡ n → part ≡ take k (drop stored bytes) → Scattering old ps (i + 1) (stored + n) (stored_within w (get_or ps i d).address part) bytes
-scattering-turn old ps i stored n k w bytes part d pages whole g h n-is k-is part-is =
+pub scattering-turn : (old : List ℕ) (ps : List Piece) (i with_bytes n k : ℕ) (w bytes part : List ℕ) (d : Piece) → ArePages ps → length w ≡ 4194304 → Scattering old ps i with_bytes w bytes → i < length ps → n ≡ (get_or ps i d).len → k ≡ n → part ≡ take k (drop with_bytes bytes) → Scattering old ps (i + 1) (with_bytes + n) (with_bytes_within w (get_or ps i d).address part) bytes
+scattering-turn old ps i with_bytes n k w bytes part d pages whole g h n-is k-is part-is =
     let p : Piece = get_or ps i d in
     let later : List ℕ = addresses (drop (i + 1) ps) in
     let size = next-size ps i d h in
     let left = g.left in
     let fit = front-fits ps i d pages h in
     let run-size : length (run p) ≡ p.len = length-range_with_len p.address p.len in
-    let long : length (drop stored bytes) ≡ length bytes - stored = length-drop stored bytes in
-    let part-size : length (take p.len (drop stored bytes)) ≡ p.len = length-take-le p.len (drop stored bytes) (omega arith) in
-    let one : stored_within w p.address part ≡ scattered w (run p) (take p.len (drop stored bytes)) =
-    run-store w p.address p.len p.address part (take p.len (drop stored bytes)) refl (part-is ∙ ap (λ m. take m (drop stored bytes)) (k-is ∙ n-is)) part-size (omega arith) in
-    let all = scattered-append w (run p) later (drop stored bytes) (omega arith) in
+    let long : length (drop with_bytes bytes) ≡ length bytes - with_bytes = length-drop with_bytes bytes in
+    let part-size : length (take p.len (drop with_bytes bytes)) ≡ p.len = length-take-le p.len (drop with_bytes bytes) (omega arith) in
+    let one : with_bytes_within w p.address part ≡ with_scattered w (run p) (take p.len (drop with_bytes bytes)) =
+    run-store w p.address p.len p.address part (take p.len (drop with_bytes bytes)) refl (part-is ∙ ap (λ m. take m (drop with_bytes bytes)) (k-is ∙ n-is)) part-size (omega arith) in
+    let all = with_scattered-append w (run p) later (drop with_bytes bytes) (omega arith) in
     record {
       left = omega arith;
       same =
-          ap (λ x. scattered x later (drop (stored + n) bytes)) one
-          ∙ ap (λ m. scattered (scattered w (run p) (take p.len (drop stored bytes))) later (drop (stored + m) bytes)) n-is
-          ∙ ap (λ xs. scattered (scattered w (run p) (take p.len (drop stored bytes))) later xs) (sym (drop-drop p.len stored bytes))
-          ∙ ap (λ m. scattered (scattered w (run p) (take m (drop stored bytes))) later (drop m (drop stored bytes))) (sym run-size)
-          ∙ sym all ∙ ap (λ xs. scattered w xs (drop stored bytes)) (sym (next-piece ps i d h)) ∙ g.same;
+          ap (λ x. with_scattered x later (drop (with_bytes + n) bytes)) one
+          ∙ ap (λ m. with_scattered (with_scattered w (run p) (take p.len (drop with_bytes bytes))) later (drop (with_bytes + m) bytes)) n-is
+          ∙ ap (λ xs. with_scattered (with_scattered w (run p) (take p.len (drop with_bytes bytes))) later xs) (sym (drop-drop p.len with_bytes bytes))
+          ∙ ap (λ m. with_scattered (with_scattered w (run p) (take m (drop with_bytes bytes))) later (drop m (drop with_bytes bytes))) (sym run-size)
+          ∙ sym all ∙ ap (λ xs. with_scattered w xs (drop with_bytes bytes)) (sym (next-piece ps i d h)) ∙ g.same;
     }
 
-pub scattering-end : (old : List ℕ) (ps : List Piece) (i stored : ℕ) (w bytes : List ℕ) → Scattering old ps i stored w bytes → length ps ≤ i → w ≡ scattered old (addresses ps) bytes
-unfolding scattered
-scattering-end old ps i stored w bytes g h =
-    ap (λ xs. scattered w xs (drop stored bytes)) (sym (nothing-left ps i h)) ∙ g.same
+pub scattering-end : (old : List ℕ) (ps : List Piece) (i with_bytes : ℕ) (w bytes : List ℕ) → Scattering old ps i with_bytes w bytes → length ps ≤ i → w ≡ with_scattered old (addresses ps) bytes
+unfolding with_scattered
+scattering-end old ps i with_bytes w bytes g h =
+    ap (λ xs. with_scattered w xs (drop with_bytes bytes)) (sym (nothing-left ps i h)) ∙ g.same
 
 -- The same facts of the pieces as the code has them, in a slice.
 pub gathering-fits : (w : List ℕ) (ps xs : List Piece) (i filled : ℕ) (bytes : List ℕ) (d : Piece) → xs ≡ ps → Gathering w ps i filled bytes → i < length xs → filled + (get_or xs i d).len ≤ length bytes
 gathering-fits w ps xs i filled bytes d e g h =
     subst (λ ys. filled + (get_or ys i d).len ≤ length bytes) (sym e) (gathering-room w ps i filled bytes d g (omega (arith, ap length e)))
 
-pub scattering-fits : (old : List ℕ) (ps xs : List Piece) (i stored : ℕ) (w bytes : List ℕ) (d : Piece) → xs ≡ ps → Scattering old ps i stored w bytes → i < length xs → stored + (get_or xs i d).len ≤ length bytes
-scattering-fits old ps xs i stored w bytes d e g h =
-    subst (λ ys. stored + (get_or ys i d).len ≤ length bytes) (sym e) (scattering-room old ps i stored w bytes d g (omega (arith, ap length e)))
+pub scattering-fits : (old : List ℕ) (ps xs : List Piece) (i with_bytes : ℕ) (w bytes : List ℕ) (d : Piece) → xs ≡ ps → Scattering old ps i with_bytes w bytes → i < length xs → with_bytes + (get_or xs i d).len ≤ length bytes
+scattering-fits old ps xs i with_bytes w bytes d e g h =
+    subst (λ ys. with_bytes + (get_or ys i d).len ≤ length bytes) (sym e) (scattering-room old ps i with_bytes w bytes d g (omega (arith, ap length e)))
 
 pub piece-fits : (ps xs : List Piece) (i : ℕ) (d : Piece) → xs ≡ ps → ArePages ps → i < length xs → (get_or xs i d).address + (get_or xs i d).len ≤ 4194304
 piece-fits ps xs i d e pages h =

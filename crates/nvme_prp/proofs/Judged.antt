@@ -1,11 +1,12 @@
 -- Which of a transfer's pointer_tests fails first.
 use Rattle.std.proofs.Common.{◌≡◌, ℕ, zero, suc, ◌-◌, ◌*◌, ◌<◌, List, [], ◌∷◌, map, min, refl, sym, ap, ◌∙◌, arith, Some, None, Option}
 use Rattle.std.specs.List.{flat_map, range_with_len}
+use Rattle.nvme_prp.specs.Walk.{list_tests, list_of, listed_piece}
 use Rattle.nvme_spec.specs.declared.pointer.DataFault.{DataFault}
 use Rattle.std.proofs.lemmas.Bool.{ne_eqb, eq-eqb, cond-true, cond-false}
 use Rattle.nvme_spec.specs.declared.pointer.Piece.{Piece}
-use Rattle.nvme_spec.specs.Transfers.{listed_part, parts_of, further_part}
-use Rattle.nvme_spec.specs.Pointer.{AddressTest, fault_of, first_fault, or_else, page_test, entry_tests, list_tests, list_of, Transfer, room, further_pages, further_tests, list, pointer_tests, page, listed}
+use Rattle.nvme_spec.specs.Transfers.{pieces_of, further_piece}
+use Rattle.nvme_spec.specs.Pointer.{AddressTest, fault_of, first_fault, or_else, page_test, entry_tests, Transfer, room, further_pages, further_tests, list, pointer_tests, page, listed}
 
 abbrev at_four : ℕ → AddressTest
 at_four a = record { address = a; unit = 4 }
@@ -39,7 +40,7 @@ unfolding first_fault
 many-further t o f m g = rw (f, further-many t (further_pages t) m, g) refl
 
 -- the pieces, by the number of further pages
-pub parts-none : (t : Transfer) → further_pages t ≡ 0 → parts_of t ≡ record { address = t.prp1; len = min t.bytes (room t.prp1) } ∷ []
+pub parts-none : (t : Transfer) → further_pages t ≡ 0 → pieces_of t ≡ record { address = t.prp1; len = min t.bytes (room t.prp1) } ∷ []
 parts-none t m = rw (m) refl
 
 page-one : (t : Transfer) (j : ℕ) → further_pages t ≡ 1 → page t j ≡ t.prp2
@@ -52,18 +53,18 @@ map-same : (f g : ℕ → Piece) → ((j : ℕ) → f j ≡ g j) → (js : List 
 map-same f g h [] = refl
 map-same f g h (j ∷ js) = let e = h j in let es = map-same f g h js in cc
 
-pub parts-one : (t : Transfer) (bytes : ℕ) → further_pages t ≡ 1 → bytes ≡ t.bytes - room t.prp1 → parts_of t ≡ record { address = t.prp1; len = min t.bytes (room t.prp1) } ∷ record { address = t.prp2; len = bytes } ∷ []
+pub parts-one : (t : Transfer) (bytes : ℕ) → further_pages t ≡ 1 → bytes ≡ t.bytes - room t.prp1 → pieces_of t ≡ record { address = t.prp1; len = min t.bytes (room t.prp1) } ∷ record { address = t.prp2; len = bytes } ∷ []
 parts-one t bytes m e =
     let first : Piece = record { address = t.prp1; len = min t.bytes (room t.prp1) } in
     let second : Piece = record { address = t.prp2; len = bytes } in
     let all : min (t.bytes - room t.prp1 - 4096 * 0) 4096 ≡ bytes = omega arith in
     let place = page-one t 0 m in
-    let same : further_part t 0 ≡ second = cc in
-    ap (λ n. first ∷ map (further_part t) (range_with_len 0 n)) m ∙ ap (λ p. first ∷ p ∷ []) same
+    let same : further_piece t 0 ≡ second = cc in
+    ap (λ n. first ∷ map (further_piece t) (range_with_len 0 n)) m ∙ ap (λ p. first ∷ p ∷ []) same
 
-pub parts-many : (t : Transfer) (bytes : ℕ) → 1 < further_pages t → bytes ≡ t.bytes - room t.prp1 → parts_of t ≡ record { address = t.prp1; len = min t.bytes (room t.prp1) } ∷ map (listed_part (list_of t.window t.prp2 bytes) bytes) (range_with_len 0 (further_pages t))
+pub parts-many : (t : Transfer) (bytes : ℕ) → 1 < further_pages t → bytes ≡ t.bytes - room t.prp1 → pieces_of t ≡ record { address = t.prp1; len = min t.bytes (room t.prp1) } ∷ map (listed_piece (list_of t.window t.prp2 bytes) bytes) (range_with_len 0 (further_pages t))
 parts-many t bytes m e =
     let first : Piece = record { address = t.prp1; len = min t.bytes (room t.prp1) } in
-    let same : (j : ℕ) → further_part t j ≡ listed_part (list t) (t.bytes - room t.prp1) j = λ j. let place = page-many t j m in cc in
-    ap (λ ps. first ∷ ps) (map-same (further_part t) (listed_part (list t) (t.bytes - room t.prp1)) same (range_with_len 0 (further_pages t)))
-    ∙ ap (λ b. first ∷ map (listed_part (list_of t.window t.prp2 b) b) (range_with_len 0 (further_pages t))) (sym e)
+    let same : (j : ℕ) → further_piece t j ≡ listed_piece (list t) (t.bytes - room t.prp1) j = λ j. let place = page-many t j m in cc in
+    ap (λ ps. first ∷ ps) (map-same (further_piece t) (listed_piece (list t) (t.bytes - room t.prp1)) same (range_with_len 0 (further_pages t)))
+    ∙ ap (λ b. first ∷ map (listed_piece (list_of t.window t.prp2 b) b) (range_with_len 0 (further_pages t))) (sym e)

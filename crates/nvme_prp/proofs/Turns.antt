@@ -4,13 +4,13 @@ use Rattle.std.specs.List.{flat_map, range_with_len}
 use Rattle.std.proofs.lemmas.List.FromFn.{map-range_with_len_more, length-map-range_with_len}
 use Rattle.std.proofs.lemmas.List.{append_assoc}
 use Rattle.std.proofs.lemmas.Bool.{cases_lt, cases_eq, eq-eqb, ne_eqb, eqb-true, eqb-false, ltb-true, lt-ltb, le-leb, lt-leb, and_parts, and_cases, and_left, and_right, cases_Bool, and_from}
+use Rattle.nvme_prp.specs.Walk.{list_tests, listed_piece}
 use Rattle.nvme_spec.specs.declared.pointer.Piece.{Piece}
 use Rattle.nvme_spec.specs.declared.pointer.DataFault.{DataFault}
-use Rattle.nvme_spec.specs.Pointer.{AddressTest, fault_of, first_fault, or_else, page_test, PageList, slots, goes_on, next, slot, listed, entry_tests, list_tests}
+use Rattle.nvme_spec.specs.Pointer.{AddressTest, fault_of, first_fault, or_else, page_test, PageList, slots, goes_on, next, slot, listed, entry_tests}
 use Rattle.nvme_spec.specs.Memory.{qword}
 use Rattle.nvme_spec.proofs.PagesSound.{sound}
 use Rattle.nvme_prp.specs.Walk.{Follows}
-use Rattle.nvme_spec.specs.Transfers.{listed_part}
 
 -- What is known before entry j is read: how many bytes are left, where the walk stands, which pointer_tests are left, what was found.
 pub record Reached (l : PageList) (bytes j left at : ℕ) (before parts : List Piece) : Type 0 where
@@ -21,7 +21,7 @@ pub record Reached (l : PageList) (bytes j left at : ℕ) (before parts : List P
   pub far_aligned : slots l ≤ j → j < l.pages → next l % 4096 ≡ 0
   pub far_in_window : slots l ≤ j → j < l.pages → next l < 4194304
   pub tested : first_fault (list_tests l) ≡ first_fault (flat_map (entry_tests l) (range_with_len j (l.pages - j)))
-  pub found : parts ≡ before ++ map (listed_part l bytes) (range_with_len 0 j)
+  pub found : parts ≡ before ++ map (listed_piece l bytes) (range_with_len 0 j)
 
 -- the list starts as a list may, and is as short as a transfer's
 pub record IsShort (l : PageList) : Type 0 where
@@ -196,15 +196,15 @@ turn l bytes j left at new before parts r s h f ok =
       tested = turn-tested l bytes j left at new before parts r s h f ∙ ap (λ o. or_else o (first_fault (flat_map (entry_tests l) (range_with_len (j + 1) (l.pages - (j + 1)))))) none;
       found =
           let piece : Piece = record { address = qword l.window new; len = min left 4096 } in
-          let same : piece ≡ listed_part l bytes j = cc in
-          ap (λ ps. ps ++ piece ∷ []) r.found ∙ append_assoc before (map (listed_part l bytes) (range_with_len 0 j)) (piece ∷ [])
-          ∙ ap (λ ps. before ++ ps) (ap (λ p. map (listed_part l bytes) (range_with_len 0 j) ++ p ∷ []) same ∙ sym (map-range_with_len_more (listed_part l bytes) 0 j j (omega arith)));
+          let same : piece ≡ listed_piece l bytes j = cc in
+          ap (λ ps. ps ++ piece ∷ []) r.found ∙ append_assoc before (map (listed_piece l bytes) (range_with_len 0 j)) (piece ∷ [])
+          ∙ ap (λ ps. before ++ ps) (ap (λ p. map (listed_piece l bytes) (range_with_len 0 j) ++ p ∷ []) same ∙ sym (map-range_with_len_more (listed_piece l bytes) 0 j j (omega arith)));
     }
 
 pub found-length : (l : PageList) (bytes j left at : ℕ) (before parts : List Piece) → Reached l bytes j left at before parts → length parts ≡ length before + j
 found-length l bytes j left at before parts r =
-    ap length r.found ∙ length-append before (map (listed_part l bytes) (range_with_len 0 j))
-    ∙ ap (λ n. length before + n) (length-map-range_with_len (listed_part l bytes) 0 j)
+    ap length r.found ∙ length-append before (map (listed_piece l bytes) (range_with_len 0 j))
+    ∙ ap (λ n. length before + n) (length-map-range_with_len (listed_piece l bytes) 0 j)
 
 -- a fault in the entry's page is the first
 pub page-fault : (l : PageList) (bytes j left at new : ℕ) (before parts : List Piece) (e : DataFault) → Reached l bytes j left at before parts → IsShort l → j < l.pages → Follows l.window at (nat_lt (j + 1) l.pages) new → fault_of (page_test (qword l.window new)) ≡ Some e → first_fault (list_tests l) ≡ Some e

@@ -3,3 +3,4 @@ pub use Rattle.nvme_spec.specs.Pointer
 pub use Rattle.nvme_spec.specs.Transfers
 pub mod Walk
 pub mod Places
+pub mod Pages

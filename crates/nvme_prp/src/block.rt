@@ -1,18 +1,20 @@
 ghost use Rattle.std.specs.Prelude.{◌≡◌, ◌+◌, ◌-◌, ◌*◌, ◌≤◌, ◌<◌, ◌++◌, length};
 ghost use Rattle.std.specs.List.{range_with_len};
-ghost use Rattle.nvme_spec.specs.Transfers.{addresses, block_addresses, gathered, scattered};
+ghost use Rattle.nvme_spec.specs.Memory.{LiesInWindow};
+ghost use Rattle.nvme_spec.specs.Transfers.{addresses, block_addresses, gathered_bytes, with_scattered};
 ghost use Rattle.nvme_prp.specs.Places.{LiesAt};
 
 use crate::walking::{PAGE, Pieces};
-use nvme_mem::{Part, Window};
+use nvme_mem::Window;
+use nvme_spec::Piece;
 
 const BLOCK: u64 = 512;
 
-/// Where a block lies: its front in one part of the window, and its back, which may be empty, in another.
+/// Where a block lies: its front in one piece of the window, and its back, which may be empty, in another.
 #[derive(Clone, Copy)]
-struct BlockParts {
-    front: Part,
-    back: Part,
+struct BlockPieces {
+    front: Piece,
+    back: Piece,
 }
 
 /// Where byte `at` of a transfer lies: the index of its piece, and how many bytes of that stand before it.
@@ -30,28 +32,30 @@ fn byte_place(pieces: &Pieces, at: u64) -> (usize, u64)
 }
 
 /// Where block `j` of a transfer lies.
-fn block_parts(pieces: &Pieces, j: u64) -> BlockParts
+fn block_pieces(pieces: &Pieces, j: u64) -> BlockPieces
     requires { 512 * j + 512 ≤ length (addresses pieces.now.parts.items) }
     ensures addresses { block_addresses pieces.now.parts.items j
-        ≡ range_with_len result.front.addr result.front.len ++ range_with_len result.back.addr result.back.len }
+        ≡ range_with_len result.front.address result.front.len ++ range_with_len result.back.address result.back.len }
+    ensures front_inside { LiesInWindow result.front }
+    ensures back_inside { LiesInWindow result.back }
     ensures len { result.front.len + result.back.len ≡ 512 }
 {
     let parts = pieces.parts.as_slice();
     let (i, skip) = byte_place(pieces, BLOCK * j);
     let len = (parts[i].len - skip).min(BLOCK);
-    let front = Part {
-        addr: parts[i].address + skip,
+    let front = Piece {
+        address: parts[i].address + skip,
         len,
     };
     if len < BLOCK {
-        let back = Part {
-            addr: parts[i + 1].address,
+        let back = Piece {
+            address: parts[i + 1].address,
             len: BLOCK - len,
         };
-        BlockParts { front, back }
+        BlockPieces { front, back }
     } else {
-        let back = Part { addr: 0, len: 0 };
-        BlockParts { front, back }
+        let back = Piece { address: 0, len: 0 };
+        BlockPieces { front, back }
     }
 }
 
@@ -59,9 +63,9 @@ fn block_parts(pieces: &Pieces, j: u64) -> BlockParts
 /// the pieces is the caller's condition.
 pub fn gather_block(window: &Window, pieces: &Pieces, j: u64, block: &mut [u8; 512])
     requires inside { 512 * j + 512 ≤ length (addresses pieces.now.parts.items) }
-    ensures block { block.new ≡ gathered window.now (block_addresses pieces.now.parts.items j) }
+    ensures block { block.new ≡ gathered_bytes window.now (block_addresses pieces.now.parts.items j) }
 {
-    let parts = block_parts(pieces, j);
+    let parts = block_pieces(pieces, j);
     let (front, back) = block.split_at_mut(parts.front.len as usize);
     front.copy_from_slice(window.bytes(parts.front));
     back.copy_from_slice(window.bytes(parts.back));
@@ -71,9 +75,9 @@ pub fn gather_block(window: &Window, pieces: &Pieces, j: u64, block: &mut [u8; 5
 /// two of these have one address, the later is kept. That they lie in the pieces is the caller's condition.
 pub fn scatter_block(window: &mut Window, pieces: &Pieces, j: u64, block: &[u8; 512])
     requires inside { 512 * j + 512 ≤ length (addresses pieces.now.parts.items) }
-    ensures window { window.new ≡ scattered window.old (block_addresses pieces.now.parts.items j) block.now }
+    ensures window { window.new ≡ with_scattered window.old (block_addresses pieces.now.parts.items j) block.now }
 {
-    let parts = block_parts(pieces, j);
+    let parts = block_pieces(pieces, j);
     let (front, back) = block.split_at(parts.front.len as usize);
     window.bytes_mut(parts.front).copy_from_slice(front);
     window.bytes_mut(parts.back).copy_from_slice(back);

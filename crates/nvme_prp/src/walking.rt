@@ -2,9 +2,10 @@ ghost use Rattle.std.specs.Prelude.{◌≡◌, ◌+◌, ◌*◌, ◌/◌, ◌%�
 ghost use Rattle.std.specs.List.{range_with_len};
 ghost use Rattle.arrayvec.specs.ArrayVec.{array_vec_len};
 ghost use Rattle.nvme_spec.specs.Memory.{qword};
-ghost use Rattle.nvme_spec.specs.Pointer.{AddressTest, fault_of, first_fault, page_test, list_of, list_tests, transfer, pointer_tests, pointer_fault, address};
-ghost use Rattle.nvme_spec.specs.Transfers.{listed_part, addresses, parts_of, ArePages, ArePages-prop};
-ghost use Rattle.nvme_prp.specs.Walk.{Follows};
+ghost use Rattle.nvme_spec.specs.Pointer.{AddressTest, fault_of, first_fault, page_test, transfer, pointer_tests, pointer_fault, address};
+ghost use Rattle.nvme_spec.specs.Transfers.{addresses, pieces_of, ArePages};
+ghost use Rattle.nvme_prp.specs.Walk.{Follows, list_of, list_tests, listed_piece};
+ghost use Rattle.nvme_prp.specs.Pages.{ArePages-prop};
 
 use arrayvec::ArrayVec;
 use nvme_mem::{WINDOW_LEN, Window};
@@ -69,7 +70,7 @@ fn walk_list(window: &Window, start: u64, rest: u64, parts: &mut Parts) -> Resul
     requires room { array_vec_len parts.old ≡ 1 }
     ensures ok { OnOk result (let l = list_of window.now start rest in
         (first_fault (list_tests l) ≡ None)
-        × (parts.new.items ≡ parts.old.items ++ map (listed_part l rest) (range_with_len 0 l.pages))) }
+        × (parts.new.items ≡ parts.old.items ++ map (listed_piece l rest) (range_with_len 0 l.pages))) }
     ensures err { IfErr result (λ e. first_fault (list_tests (list_of window.now start rest)) ≡ Some e) }
 {
     let pages = rest.div_ceil(PAGE);
@@ -92,7 +93,7 @@ fn pages_of(window: &Window, prp1: u64, prp2: u64, len: u64) -> Result<Parts, Da
     requires some { 1 ≤ len }
     requires most { len ≤ 131072 }
     ensures sound { OnOk result (pointer_fault (transfer window.now prp1 prp2 len) ≡ None) }
-    ensures parts { IfOk result (λ parts. parts.items ≡ parts_of (transfer window.now prp1 prp2 len)) }
+    ensures parts { IfOk result (λ parts. parts.items ≡ pieces_of (transfer window.now prp1 prp2 len)) }
     ensures fault { IfErr result (λ e. pointer_fault (transfer window.now prp1 prp2 len) ≡ Some e) }
 {
     check(prp1, 4)?;
@@ -127,7 +128,7 @@ pub fn walk(window: &Window, prp1: u64, prp2: u64, len: u64) -> Result<Pieces, D
     requires most { len ≤ 131072 }
     ensures sound { OnOk result (pointer_fault (transfer window.now prp1 prp2 len) ≡ None) }
     // Each page has its piece.
-    ensures pieces { IfOk result (λ pieces. pieces.parts.items ≡ parts_of (transfer window.now prp1 prp2 len)) }
+    ensures pieces { IfOk result (λ pieces. pieces.parts.items ≡ pieces_of (transfer window.now prp1 prp2 len)) }
     // The pieces joined are the addresses of the bytes.
     ensures joined { IfOk result (λ pieces. addresses pieces.parts.items ≡ map (address (transfer window.now prp1 prp2 len)) (range_with_len 0 len)) }
     ensures size { IfOk result (λ pieces. length (addresses pieces.parts.items) ≡ len) }

@@ -1,23 +1,19 @@
 ghost use Rattle.std.specs.Prelude.{◌≡◌, ◌+◌, ◌≤◌, length};
-ghost use Rattle.nvme_spec.specs.Transfers.{addresses, gathered, scattered};
+ghost use Rattle.nvme_spec.specs.Transfers.{addresses, gathered_bytes, with_scattered};
 
 use crate::walking::Pieces;
-use nvme_mem::{Part, Window};
+use nvme_mem::Window;
 
 /// Copies all bytes of a transfer out of the window. That `bytes` has as many as the pieces is the
 /// caller's condition.
 pub fn gather(window: &Window, pieces: &Pieces, bytes: &mut [u8])
     requires size { length bytes.old ≡ length (addresses pieces.now.parts.items) }
-    ensures bytes { bytes.new ≡ gathered window.now (addresses pieces.now.parts.items) }
+    ensures bytes { bytes.new ≡ gathered_bytes window.now (addresses pieces.now.parts.items) }
 {
     let mut filled = 0;
     for piece in pieces.parts.as_slice() {
-        let part = Part {
-            addr: piece.address,
-            len: piece.len,
-        };
         let end = filled + piece.len as usize;
-        bytes[filled..end].copy_from_slice(window.bytes(part));
+        bytes[filled..end].copy_from_slice(window.bytes(*piece));
         filled = end;
     }
 }
@@ -26,16 +22,12 @@ pub fn gather(window: &Window, pieces: &Pieces, bytes: &mut [u8])
 /// is kept. That `bytes` has as many as the pieces is the caller's condition.
 pub fn scatter(window: &mut Window, pieces: &Pieces, bytes: &[u8])
     requires size { length bytes.now ≡ length (addresses pieces.now.parts.items) }
-    ensures window { window.new ≡ scattered window.old (addresses pieces.now.parts.items) bytes.now }
+    ensures window { window.new ≡ with_scattered window.old (addresses pieces.now.parts.items) bytes.now }
 {
-    let mut stored = 0;
+    let mut sent = 0;
     for piece in pieces.parts.as_slice() {
-        let part = Part {
-            addr: piece.address,
-            len: piece.len,
-        };
-        let end = stored + piece.len as usize;
-        window.bytes_mut(part).copy_from_slice(&bytes[stored..end]);
-        stored = end;
+        let end = sent + piece.len as usize;
+        window.bytes_mut(*piece).copy_from_slice(&bytes[sent..end]);
+        sent = end;
     }
 }

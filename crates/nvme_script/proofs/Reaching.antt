@@ -1,5 +1,5 @@
 -- Where an allowed command of a script transfers its blocks.
-use Rattle.std.proofs.Common.{◌≡◌, ℕ, ◌+◌, ◌-◌, ◌*◌, ◌<◌, ◌≤◌, ◌^◌, ◌==◌, Bool, true, false, cond, List, [], ◌∷◌, Option, Some, None, Ok, Err, refl, ap, subst, arith}
+use Rattle.std.proofs.Common.{◌≡◌, ℕ, ◌+◌, ◌-◌, ◌<◌, ◌≤◌, ◌^◌, ◌==◌, Bool, true, false, cond, List, [], ◌∷◌, Option, Some, None, Ok, Err, refl, ap, subst, arith}
 use Rattle.std.specs.Prelude.{find, IsSome, IsSomeAnd, option_map}
 use Rattle.std.specs.List.{AllByRecursion}
 use Rattle.std.proofs.lemmas.Nat.{from_le_bytes-to_le_bytes_4, from_le_bytes-to_le_bytes_8}
@@ -9,11 +9,10 @@ use Rattle.nvme_spec.specs.declared.verdict.Verdict.TheVariants.{Allowed}
 use Rattle.nvme_spec.specs.declared.command.Command.{Command}
 use Rattle.nvme_spec.specs.declared.command.Command.TheVariants as command
 use Rattle.nvme_spec.specs.World.{World, Namespace, namespace_of, LiesWithin}
-use Rattle.nvme_spec.specs.Blocks.{blocks_from}
 use Rattle.nvme_spec.specs.Entries.{transfer_entry}
-use Rattle.nvme_spec.specs.Commands.{command_of, first_block, block_count, plan_of}
+use Rattle.nvme_spec.specs.Commands.{command_of, starting_lba, block_count, plan_of}
 use Rattle.nvme_spec.specs.Rules.{Judgement, first_failing}
-use Rattle.nvme_spec.specs.IoRules.{verdict, concluded, access_rules, FitsNamespace}
+use Rattle.nvme_spec.specs.IoRules.{verdict, conclusion, access_rules, FitsNamespace}
 use Rattle.nvme_grammar.specs.declared.line.Direct.{Direct}
 use Rattle.nvme_grammar.specs.declared.line.Place.{Place}
 use Rattle.nvme_grammar.specs.declared.line.Action.{Action}
@@ -26,8 +25,8 @@ entry-nsid : (cdw0 n first blocks : ℕ) → n < 2 ^ 32 → nsid (transfer_entry
 unfolding nsid transfer_entry
 entry-nsid cdw0 n first blocks small = from_le_bytes-to_le_bytes_4 n small
 
-entry-first : (cdw0 n first blocks : ℕ) → first < 2 ^ 64 → first_block (transfer_entry cdw0 n first blocks) ≡ first
-unfolding first_block cdw10 cdw11 transfer_entry
+entry-first : (cdw0 n first blocks : ℕ) → first < 2 ^ 64 → starting_lba (transfer_entry cdw0 n first blocks) ≡ first
+unfolding starting_lba cdw10 cdw11 transfer_entry
 entry-first cdw0 n first blocks small = omega (arith, from_le_bytes-to_le_bytes_8 first small)
 
 entry-blocks : (cdw0 n first blocks : ℕ) → 1 ≤ blocks → blocks ≤ 256 → block_count (transfer_entry cdw0 n first blocks) ≡ blocks
@@ -45,18 +44,18 @@ find-all P p (y ∷ xs) x all found =
     ] found
 
 -- an allowed command's plan is that of its opcode
-allowed_plan : (j : Judgement) (k : Command) (e : List ℕ) (plan : Plan) → concluded j (Some k) e ≡ Allowed plan → plan ≡ plan_of k e
+allowed_plan : (j : Judgement) (k : Command) (e : List ℕ) (plan : Plan) → conclusion j (Some k) e ≡ Allowed plan → plan ≡ plan_of k e
 allowed_plan (Ok u) k e plan h = cc
 allowed_plan (Err denial) k e plan h = absurd (cc)
 
 -- the range of a Read's plan, and of a Write's, is that of its entry
 planned : (w : World) (d : Direct) (plan : Plan) → verdict w d.cntlid (entry_of d) false ≡ Allowed plan
-    → (plan.first ≡ first_block (entry_of d)) × (plan.blocks ≡ block_count (entry_of d))
+    → (plan.first ≡ starting_lba (entry_of d)) × (plan.blocks ≡ block_count (entry_of d))
 unfolding verdict command_of opcode transfer_entry
 planned w d plan h = by d.action h
   where
     by : (a : Action) → verdict w d.cntlid (transfer_entry (opcode_of a) d.place.nsid d.place.slba d.place.blocks) false ≡ Allowed plan
-        → (plan.first ≡ first_block (transfer_entry (opcode_of a) d.place.nsid d.place.slba d.place.blocks))
+        → (plan.first ≡ starting_lba (transfer_entry (opcode_of a) d.place.nsid d.place.slba d.place.blocks))
         × (plan.blocks ≡ block_count (transfer_entry (opcode_of a) d.place.nsid d.place.slba d.place.blocks))
     by Read k =
         let e = transfer_entry 2 d.place.nsid d.place.slba d.place.blocks in
@@ -86,10 +85,6 @@ reaches w d plan size transfer small_nsid small_slba allowed fits within = by (n
         let blocks = entry-blocks (opcode_of d.action) d.place.nsid d.place.slba d.place.blocks transfer.some transfer.few in
         let lies : n.first + n.blocks ≤ size = find-all (λ m. m.first + m.blocks ≤ size) (λ m. m.nsid == d.place.nsid) w.namespaces n within e in
         record { space = n; found = e; fits = omega (arith, range.0, range.1, first, blocks, h, lies) }
-
--- no blocks hold no bytes
-pub no_blocks : (content : List ℕ) (first : ℕ) → [] ≡ blocks_from content first 0
-no_blocks content first = let none : 512 * first + 0 - 512 * first ≡ 0 = omega arith in rw none refl
 
 -- an allowed command's namespace is configured
 pub configured : (w : World) (d : Direct) (plan : Plan) → d.place.nsid < 2 ^ 32 → FitsNamespace w (nsid (entry_of d)) plan → IsSome (option_map (λ n. n.first) (namespace_of w d.place.nsid))

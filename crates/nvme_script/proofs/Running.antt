@@ -1,12 +1,12 @@
 -- One more command at the end of a run.
-use Rattle.std.proofs.Common.{◌≡◌, ℕ, ◌+◌, ◌<◌, List, [], ◌∷◌, ◌++◌, length, take, get_or, Option, Some, None, refl, sym, ap, ◌∙◌, subst, append_assoc}
+use Rattle.std.proofs.Common.{◌≡◌, ℕ, Bool, ◌+◌, ◌<◌, List, [], ◌∷◌, ◌++◌, length, take, get_or, Option, Some, None, refl, sym, ap, ◌∙◌, subst, append_assoc}
 use Rattle.std.proofs.lemmas.List.{append-nil, take_more}
 use Rattle.std.proofs.lemmas.Grind.{flat_map-append}
 use Rattle.std.specs.List.{flat_map}
 use Rattle.std.specs.Io.KnownBytes.{Appends}
 use Rattle.std.specs.Prelude.{Result, Ok, Err, OnErr}
 use Rattle.nvme_spec.specs.World.{World}
-use Rattle.nvme_spec.specs.Effects.{Device}
+use Rattle.nvme_spec.specs.Blocks.{Device}
 use Rattle.nvme_grammar.specs.declared.line.Direct.{Direct}
 use Rattle.nvme_script.specs.Direct.{Reply, Runs, Step}
 use Rattle.nvme_script.specs.Faults.{Transcribes, RunsSome}
@@ -26,23 +26,23 @@ pub on_err_from : {T E P : Type 0} (r : Result T E) → P → OnErr r P
 on_err_from (Ok x) p = tt
 on_err_from (Err e) p = p
 
-module _ (w : World) where
-  Runs-push : (ds : List Direct) (rs : List Reply) (a b c : Device) (d : Direct) (r : Reply) → Runs w ds a b rs → Step w d b c r → Runs w (ds ++ d ∷ []) a c (rs ++ r ∷ [])
-  Runs-push [] [] a b c d r h s = (c, subst (λ (x : Device). Step w d x c r) h s, refl)
+module _ (tells : Bool) (w : World) where
+  Runs-push : (ds : List Direct) (rs : List Reply) (a b c : Device) (d : Direct) (r : Reply) → Runs tells w ds a b rs → Step tells w d b c r → Runs tells w (ds ++ d ∷ []) a c (rs ++ r ∷ [])
+  Runs-push [] [] a b c d r h s = (c, subst (λ (x : Device). Step tells w d x c r) h s, refl)
   Runs-push [] (x ∷ rs) a b c d r h s = absurd h
   Runs-push (k ∷ ds) [] a b c d r h s = absurd h
   Runs-push (k ∷ ds) (x ∷ rs) a b c d r h s = (h.0, h.1, Runs-push ds rs h.0 b c d r h.2 s)
 
-  pub Transcribes-none : (a : Device) (x : Option (List ℕ)) → Transcribes w [] a a x x
+  pub Transcribes-none : (a : Device) (x : Option (List ℕ)) → Transcribes tells w [] a a x x
   Transcribes-none a x = ([], refl, Appends-none x)
 
-  pub Transcribes-next : (ds : List Direct) (i : ℕ) (d : Direct) (a b c : Device) (x y z : Option (List ℕ)) (r : Reply) → i < length ds → d ≡ get_or ds i d → Transcribes w (take i ds) a b x y
-      → Step w d b c r → Appends y z (reply_line r) → Transcribes w (take (i + 1) ds) a c x z
+  pub Transcribes-next : (ds : List Direct) (i : ℕ) (d : Direct) (a b c : Device) (x y z : Option (List ℕ)) (r : Reply) → i < length ds → d ≡ get_or ds i d → Transcribes tells w (take i ds) a b x y
+      → Step tells w d b c r → Appends y z (reply_line r) → Transcribes tells w (take (i + 1) ds) a c x z
   Transcribes-next ds i d a b c x y z r below is h s wrote =
       let text : flat_map reply_line (h.0 ++ r ∷ []) ≡ flat_map reply_line h.0 ++ reply_line r =
       flat_map-append reply_line h.0 (r ∷ []) ∙ ap (λ t. flat_map reply_line h.0 ++ t) (append-nil (reply_line r)) in
       rw (take_more ds i d below, ← is) (h.0 ++ r ∷ [], Runs-push (take i ds) h.0 a b c d r h.1 s, rw text (Appends-more x y z _ _ h.2 wrote))
 
-  pub RunsSome-next : (ds : List Direct) (i : ℕ) (d : Direct) (a b c : Device) (x y : Option (List ℕ)) (r : Reply) → i < length ds → d ≡ get_or ds i d → Transcribes w (take i ds) a b x y
-      → Step w d b c r → RunsSome w ds a c
+  pub RunsSome-next : (ds : List Direct) (i : ℕ) (d : Direct) (a b c : Device) (x y : Option (List ℕ)) (r : Reply) → i < length ds → d ≡ get_or ds i d → Transcribes tells w (take i ds) a b x y
+      → Step tells w d b c r → RunsSome tells w ds a c
   RunsSome-next ds i d a b c x y r below is h s = (i, below, h.0 ++ r ∷ [], rw (take_more ds i d below, ← is) (Runs-push (take i ds) h.0 a b c d r h.1 s))

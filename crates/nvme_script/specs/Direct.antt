@@ -6,8 +6,9 @@ use Rattle.nvme_spec.specs.declared.verdict.Verdict.TheVariants.{Allowed, Denied
 use Rattle.nvme_spec.specs.World.{World, namespace_of}
 use Rattle.nvme_spec.specs.Entries.{transfer_entry}
 use Rattle.nvme_spec.specs.IoRules.{verdict}
-use Rattle.nvme_spec.specs.IoSteps.{start_of}
-use Rattle.nvme_spec.specs.Effects.{Device, ReadEffect, WriteEffect}
+use Rattle.nvme_spec.specs.Blocks.{Device}
+use Rattle.nvme_spec.specs.Effects.{ReadEffect, WriteEffect}
+use Rattle.nvme_spec.specs.Execution.{start_of}
 use Rattle.nvme_grammar.specs.declared.line.Direct.{Direct}
 use Rattle.nvme_grammar.specs.declared.line.Place.{Place}
 use Rattle.nvme_grammar.specs.declared.line.Action.{Action}
@@ -46,29 +47,29 @@ abbrev pub data_if : Bool → List ℕ → Option (List ℕ)
 data_if has_data buffer = if has_data then Some buffer else None
 
 -- so many bytes are read from a block of the medium on, and shown where that succeeds
-abbrev pub ReadsInto : ℕ → Device → Device → Status → ℕ → Option (List ℕ) → Type 0
-ReadsInto first old new answer size bytes = (read : List ℕ) × ReadEffect first size old new answer read × (bytes ≡ shown answer read)
+abbrev pub ReadsInto : Bool → ℕ → Device → Device → Status → ℕ → Option (List ℕ) → Type 0
+ReadsInto tells first old new answer size bytes = (read : List ℕ) × ReadEffect tells first size old new answer read × (bytes ≡ shown answer read)
 
 -- what an allowed command does, and what it is answered
-abbrev pub Does : Action → World → Direct → Device → Device → Reply → Type 0
-Does Read w d old new reply =
-    (answer : Status) × (bytes : Option (List ℕ)) × ReadsInto (first_of w d.place) old new answer (512 * d.place.blocks) bytes
+abbrev pub Does : Bool → Action → World → Direct → Device → Device → Reply → Type 0
+Does tells Read w d old new reply =
+    (answer : Status) × (bytes : Option (List ℕ)) × ReadsInto tells (first_of w d.place) old new answer (512 * d.place.blocks) bytes
     × (reply ≡ reply_to d answer 0 bytes)
-Does (Write payload) w d old new reply =
-    (answer : Status) × WriteEffect (first_of w d.place) payload old new answer × (reply ≡ reply_to d answer 0 None)
+Does tells (Write payload) w d old new reply =
+    (answer : Status) × WriteEffect tells (first_of w d.place) payload old new answer × (reply ≡ reply_to d answer 0 None)
 
 -- a verdict that is carried out: a denied command changes nothing
-abbrev pub Answers : Verdict → World → Direct → Device → Device → Reply → Type 0
-Answers (Denied rule denial) w d old new reply = (new ≡ old) × (reply ≡ reply_to d denial rule None)
-Answers (Allowed plan) w d old new reply = Does d.action w d old new reply
+abbrev pub Answers : Bool → Verdict → World → Direct → Device → Device → Reply → Type 0
+Answers tells (Denied rule denial) w d old new reply = (new ≡ old) × (reply ≡ reply_to d denial rule None)
+Answers tells (Allowed plan) w d old new reply = Does tells d.action w d old new reply
 
 -- a command is judged by the access state, and carried out at once
-abbrev pub Step : World → Direct → Device → Device → Reply → Type 0
-Step w d old new reply = Answers (verdict w d.cntlid (entry_of d) false) w d old new reply
+abbrev pub Step : Bool → World → Direct → Device → Device → Reply → Type 0
+Step tells w d old new reply = Answers tells (verdict w d.cntlid (entry_of d) false) w d old new reply
 
--- one command after the other, each with its reply
-abbrev pub Runs : World → List Direct → Device → Device → List Reply → Type 0
-Runs w [] old new [] = new ≡ old
-Runs w [] old new (r ∷ rs) = ⊥
-Runs w (d ∷ ds) old new [] = ⊥
-Runs w (d ∷ ds) old new (r ∷ rs) = (between : Device) × Step w d old between r × Runs w ds between new rs
+-- One command after the other, each with its reply. Whether the medium tells its content never changes.
+abbrev pub Runs : Bool → World → List Direct → Device → Device → List Reply → Type 0
+Runs tells w [] old new [] = new ≡ old
+Runs tells w [] old new (r ∷ rs) = ⊥
+Runs tells w (d ∷ ds) old new [] = ⊥
+Runs tells w (d ∷ ds) old new (r ∷ rs) = (between : Device) × Step tells w d old between r × Runs tells w ds between new rs

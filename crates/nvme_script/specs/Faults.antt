@@ -1,8 +1,8 @@
 -- What a script's run gives, and what each fault says.
-use Rattle.std.specs.Prelude.{◌≡◌, ℕ, ◌+◌, ◌<◌, ◌≤◌, List, length, take, Option, None, Some, IfSome}
+use Rattle.std.specs.Prelude.{◌≡◌, ℕ, Bool, ◌+◌, ◌<◌, ◌≤◌, List, length, take, Option, None, Some, IfSome}
 use Rattle.std.specs.Io.KnownBytes.{Appends}
 use Rattle.std.specs.List.{flat_map}
-use Rattle.nvme_spec.specs.Effects.{Device}
+use Rattle.nvme_spec.specs.Blocks.{Device}
 use Rattle.nvme_spec.specs.Configuration.{first_config_fault}
 use Rattle.nvme_spec.specs.World.{World, opening_world}
 use Rattle.nvme_grammar.specs.Script.{text_lines, Begins, IsFirstOutside, configuration_of, start_of, commands_of}
@@ -33,12 +33,12 @@ abbrev pub commands_in : List ℕ → List Direct
 commands_in text = commands_of (text_lines text)
 
 -- the commands ran, and for each reply its line was added to what was written
-abbrev pub Transcribes : World → List Direct → Device → Device → Option (List ℕ) → Option (List ℕ) → Type 0
-Transcribes w ds old new before after = (replies : List Reply) × Runs w ds old new replies × Appends before after (flat_map reply_line replies)
+abbrev pub Transcribes : Bool → World → List Direct → Device → Device → Option (List ℕ) → Option (List ℕ) → Type 0
+Transcribes tells w ds old new before after = (replies : List Reply) × Runs tells w ds old new replies × Appends before after (flat_map reply_line replies)
 
 -- the first commands ran, one at least
-abbrev pub RunsSome : World → List Direct → Device → Device → Type 0
-RunsSome w ds old new = (k : ℕ) × (k < length ds) × (replies : List Reply) × Runs w (take (k + 1) ds) old new replies
+abbrev pub RunsSome : Bool → World → List Direct → Device → Device → Type 0
+RunsSome tells w ds old new = (k : ℕ) × (k < length ds) × (replies : List Reply) × Runs tells w (take (k + 1) ds) old new replies
 
 -- a text that is a script, whose configuration is accepted over a medium of so many blocks
 pub record IsScript (text : List ℕ) (medium_blocks : ℕ) : Type 0 where
@@ -74,9 +74,9 @@ IsEarlyFault Read text medium_blocks = Unit {0}
 IsEarlyFault Write text medium_blocks = ⊥
 
 -- what a fault says of the text, and of the medium before and after
-abbrev pub IsFault : ScriptFault → List ℕ → ℕ → Device → Device → Type 0
-IsFault Write text medium_blocks old new = IsScript text medium_blocks × RunsSome (world_of text) (commands_in text) old new
-IsFault fault text medium_blocks old new = IsEarlyFault fault text medium_blocks
+abbrev pub IsFault : Bool → ScriptFault → List ℕ → ℕ → Device → Device → Type 0
+IsFault tells Write text medium_blocks old new = IsScript text medium_blocks × RunsSome tells (world_of text) (commands_in text) old new
+IsFault tells fault text medium_blocks old new = IsEarlyFault fault text medium_blocks
 
 abbrev pub IsWrite : ScriptFault → Type 0
 IsWrite Write = Unit {0}

@@ -1,4 +1,5 @@
 pub use Rattle.nvme_spec.specs.World
+pub use Rattle.nvme_spec.specs.Blocks
 pub use Rattle.nvme_spec.specs.Effects
 pub use Rattle.nvme_spec.specs.Configuration
 pub use Rattle.nvme_grammar.specs.Script
@@ -6,4 +7,3 @@ pub mod Direct
 pub mod Transcript
 pub mod Faults
 pub mod Replies
-pub mod Devices

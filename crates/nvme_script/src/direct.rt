@@ -5,7 +5,6 @@ ghost use Rattle.nvme_spec.specs.World.{LiesWithin};
 ghost use Rattle.nvme_spec.specs.Effects.{WriteEffect};
 ghost use Rattle.nvme_grammar.specs.Transfers.{IsTransfer};
 ghost use Rattle.nvme_script.specs.Direct as spec;
-ghost use Rattle.nvme_script.specs.Devices.{device};
 
 use nvme_grammar::{Action, Direct};
 use nvme_medium::{Lent, Medium, read_blocks, write_blocks};
@@ -55,7 +54,7 @@ pub fn execute<M: Medium>(
     requires transfer { IsTransfer command.now }
     requires room { length buffer.old ≡ 512 * command.now.place.blocks }
     requires within { LiesWithin (M.size medium.old) spaces.now.namespaces }
-    ensures step { spec.Step spaces.now command.now (device M.tells M.content M.failures medium.old) (device M.tells M.content M.failures medium.new)
+    ensures step { spec.Step M.tells spaces.now command.now (M.device medium.old) (M.device medium.new)
         (spec.reply_to command.now result.status result.rule (spec.data_if result.has_data buffer.new)) }
     ensures size { M.size medium.new ≡ M.size medium.old }
 {
@@ -94,7 +93,7 @@ fn read<M: Medium>(medium: &mut M, first: u64, buffer: &mut [u8]) -> Answer
     requires whole { length buffer.old % 512 ≡ 0 }
     requires within { 512 * first + length buffer.old ≤ 512 * M.size medium.old }
     ensures rule { result.rule ≡ 0 }
-    ensures effect { spec.ReadsInto first (device M.tells M.content M.failures medium.old) (device M.tells M.content M.failures medium.new) result.status (length buffer.old) (spec.data_if result.has_data buffer.new) }
+    ensures effect { spec.ReadsInto M.tells first (M.device medium.old) (M.device medium.new) result.status (length buffer.old) (spec.data_if result.has_data buffer.new) }
     ensures size { M.size medium.new ≡ M.size medium.old }
 {
     match read_blocks(medium, first, buffer) {
@@ -114,7 +113,7 @@ fn write<M: Medium>(medium: &mut M, first: u64, payload: &Payload, buffer: &mut 
     requires within { 512 * first + length payload.now ≤ 512 * M.size medium.old }
     ensures rule { result.rule ≡ 0 }
     ensures no_data { result.has_data ≡ false }
-    ensures effect { WriteEffect first payload.now (device M.tells M.content M.failures medium.old) (device M.tells M.content M.failures medium.new) result.status }
+    ensures effect { WriteEffect M.tells first payload.now (M.device medium.old) (M.device medium.new) result.status }
     ensures size { M.size medium.new ≡ M.size medium.old }
 {
     payload.copy_into(buffer);

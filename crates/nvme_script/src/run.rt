@@ -4,7 +4,6 @@ ghost use Rattle.std.specs.Prelude.{◌≡◌, ◌≤◌, ◌⊎◌, IfOk, IfErr
 ghost use Rattle.std.specs.List.{AllByRecursion};
 ghost use Rattle.nvme_spec.specs.World.{LiesWithin};
 ghost use Rattle.nvme_grammar.specs.Transfers.{IsTransfer};
-ghost use Rattle.nvme_script.specs.Devices.{device};
 ghost use Rattle.nvme_script.specs.Faults.{IsScript, IsReady, Transcribes, RunsSome, IsEarlyFault, IsFault, IsWrite, world_of, commands_in, of_reading, of_grammar};
 ghost use Rattle.nvme_script.specs.declared.run.ScriptFault.TheVariants.{NoMemory as MemoryRefused};
 
@@ -120,8 +119,8 @@ fn run_commands<W: Write, M: Medium>(
     requires transfers { AllByRecursion IsTransfer commands.now }
     requires room { length buffer.old ≡ 131072 }
     requires within { LiesWithin (M.size medium.old) spaces.now.namespaces }
-    ensures ok { OnOk result (Transcribes spaces.now commands.now (device M.tells M.content M.failures medium.old) (device M.tells M.content M.failures medium.new) (W.contents writer.old) (W.contents writer.new)) }
-    ensures err { OnErr result (RunsSome spaces.now commands.now (device M.tells M.content M.failures medium.old) (device M.tells M.content M.failures medium.new)) }
+    ensures ok { OnOk result (Transcribes M.tells spaces.now commands.now (M.device medium.old) (M.device medium.new) (W.contents writer.old) (W.contents writer.new)) }
+    ensures err { OnErr result (RunsSome M.tells spaces.now commands.now (M.device medium.old) (M.device medium.new)) }
 {
     for command in commands {
         let data = &mut buffer[..512 * command.place.blocks as usize];
@@ -153,10 +152,10 @@ pub fn run_script<R: Read, W: Write, M: Medium>(
 ) -> Result<M, (ScriptFault, M)>
     // The transcript is that of the text that was read, and the medium has what its commands left.
     ensures ok { IfOk result (λ after. IfSome (R.remaining reader.old) (λ text. IsScript text (M.size medium)
-        × Transcribes (world_of text) (commands_in text) (device M.tells M.content M.failures medium) (device M.tells M.content M.failures after) (W.contents writer.old) (W.contents writer.new))) }
+        × Transcribes M.tells (world_of text) (commands_in text) (M.device medium) (M.device after) (W.contents writer.old) (W.contents writer.new))) }
     // What each fault says.
     ensures fault { IfErr result (λ e. IfSome (R.remaining reader.old) (λ text.
-        IsFault e.0 text (M.size medium) (device M.tells M.content M.failures medium) (device M.tells M.content M.failures e.1))) }
+        IsFault M.tells e.0 text (M.size medium) (M.device medium) (M.device e.1))) }
     // Each fault but one of the writer comes before the first command.
     ensures early { IfErr result (λ e. IsWrite e.0 ⊎ ((e.1 ≡ medium) × (writer.new ≡ writer.old))) }
 {

@@ -5,13 +5,12 @@ use Rattle.std.specs.List.{list_any}
 use Rattle.std.proofs.Math.Bool.{and-false}
 use Rattle.std.proofs.lemmas.Bool.{and_parts, eqb-true}
 use Rattle.std.proofs.lemmas.List.Folds.{list_any-append}
-use Rattle.nvme_spec.specs.declared.config.Attachment.{Attachment}
-use Rattle.nvme_spec.specs.World.{is_attached, attachment}
+use Rattle.nvme_spec.specs.World.{is_attached}
 use Rattle.nvme_spec.specs.AttachmentLaws.{is_one_of, AddsTheListed, RemovesTheListed}
 
 -- a test of attachments
-abbrev names : ℕ → ℕ → Attachment → Bool
-names cntlid n a = (a.cntlid == cntlid) && (a.nsid == n)
+abbrev names : ℕ → ℕ → ℕ × ℕ → Bool
+names cntlid n a = (a.0 == cntlid) && (a.1 == n)
 
 and_or : (a b c : Bool) → ((a && c) || (b && c)) ≡ ((a || b) && c)
 and_or true b true = refl
@@ -19,7 +18,7 @@ and_or true b false = and-false b
 and_or false b c = refl
 
 listed : (nsid cntlid n : ℕ) → (controllers : List ℕ)
-    → list_any (names cntlid n) (map (λ c. attachment (c, nsid)) controllers) ≡ (is_one_of cntlid controllers && nsid == n)
+    → list_any (names cntlid n) (map (λ c. (c, nsid)) controllers) ≡ (is_one_of cntlid controllers && nsid == n)
 listed nsid cntlid n [] = refl
 listed nsid cntlid n (c ∷ rest) =
     ap (λ later. ((c == cntlid) && (nsid == n)) || later) (listed nsid cntlid n rest)
@@ -28,7 +27,7 @@ listed nsid cntlid n (c ∷ rest) =
 pub adds_the_listed : AddsTheListed
 unfolding is_attached
 adds_the_listed w nsid controllers cntlid n =
-    list_any-append (names cntlid n) w.attachments (map (λ c. attachment (c, nsid)) controllers)
+    list_any-append (names cntlid n) w.attachments (map (λ c. (c, nsid)) controllers)
     ∙ ap (λ later. list_any (names cntlid n) w.attachments || later) (listed nsid cntlid n controllers)
 
 -- one step of a list whose elements that fail a test are kept, where the elements that are sought are all tested alike
@@ -41,11 +40,11 @@ step true false false kept later h e = refl
 step false true alike kept later h e = e
 step false false alike kept later h e = e
 
-any-cond : (p : Attachment → Bool) → (b : Bool) → (xs ys : List Attachment) → list_any p (cond b xs ys) ≡ cond b (list_any p xs) (list_any p ys)
+any-cond : (p : ℕ × ℕ → Bool) → (b : Bool) → (xs ys : List (ℕ × ℕ)) → list_any p (cond b xs ys) ≡ cond b (list_any p xs) (list_any p ys)
 any-cond p true xs ys = refl
 any-cond p false xs ys = refl
 
-kept_alike : (p q : Attachment → Bool) → (alike : Bool) → ((a : Attachment) → p a ≡ true → q a ≡ alike) → (all : List Attachment)
+kept_alike : (p q : ℕ × ℕ → Bool) → (alike : Bool) → ((a : ℕ × ℕ) → p a ≡ true → q a ≡ alike) → (all : List (ℕ × ℕ))
     → list_any p (filter (λ a. not (q a)) all) ≡ (list_any p all && not alike)
 kept_alike p q alike h [] = refl
 kept_alike p q alike h (a ∷ rest) =
@@ -55,9 +54,9 @@ kept_alike p q alike h (a ∷ rest) =
 pub removes_the_listed : RemovesTheListed
 unfolding is_attached
 removes_the_listed w nsid controllers cntlid n =
-    kept_alike (names cntlid n) (λ a. (a.nsid == nsid) && list_any (λ c. c == a.cntlid) controllers) (n == nsid && is_one_of cntlid controllers)
-    (λ a found.
-    let parts : ((a.cntlid == cntlid) ≡ true) × ((a.nsid == n) ≡ true) = and_parts (a.cntlid == cntlid) (a.nsid == n) found in
-    ap (λ k. (k == nsid) && list_any (λ c. c == a.cntlid) controllers) (eqb-true a.nsid n parts.1)
-    ∙ ap (λ k. (n == nsid) && list_any (λ c. c == k) controllers) (eqb-true a.cntlid cntlid parts.0))
+    kept_alike (names cntlid n) (λ (a : ℕ × ℕ). (a.1 == nsid) && list_any (λ c. c == a.0) controllers) (n == nsid && is_one_of cntlid controllers)
+    (λ (a : ℕ × ℕ) found.
+    let parts : ((a.0 == cntlid) ≡ true) × ((a.1 == n) ≡ true) = and_parts (a.0 == cntlid) (a.1 == n) found in
+    ap (λ k. (k == nsid) && list_any (λ c. c == a.0) controllers) (eqb-true a.1 n parts.1)
+    ∙ ap (λ k. (n == nsid) && list_any (λ c. c == k) controllers) (eqb-true a.0 cntlid parts.0))
     w.attachments

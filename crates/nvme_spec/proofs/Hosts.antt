@@ -1,5 +1,5 @@
 -- Registrants that are hosts of controllers: how many there are, and that they stay so.
-use Rattle.std.proofs.Common.{◌≡◌, ℕ, ◌+◌, ◌<◌, ◌≤◌, ◌==◌, ◌||◌, ◌&&◌, Bool, true, false, cond, not, IsTrue, List, [], ◌∷◌, length, filter, nat_lt, refl, ap, arith, suc, length-append, ⊎_elim, inl, inr, ◌⊎◌}
+use Rattle.std.proofs.Common.{◌≡◌, ℕ, ◌+◌, ◌<◌, ◌≤◌, ◌==◌, ◌||◌, ◌&&◌, Bool, true, false, cond, not, IsTrue, List, [], ◌∷◌, Option, None, Some, length, filter, nat_lt, refl, ap, arith, suc, length-append, ⊎_elim, inl, inr, ◌⊎◌}
 use Rattle.std.specs.Prelude.{if◌then◌else◌}
 use Rattle.std.specs.List.{list_any, AllByRecursion}
 use Rattle.std.proofs.lemmas.Bool.{cases_lt, cases_Bool, lt-ltb, le-ltb, eqb-true}
@@ -7,20 +7,19 @@ use Rattle.std.proofs.lemmas.Bool.Decides.{nat_tests}
 use Rattle.nvme_spec.specs.declared.access.Registrant.{Registrant}
 use Rattle.nvme_spec.specs.declared.command.Command.{Command}
 use Rattle.nvme_spec.specs.declared.command.Command.TheVariants.{Flush, Write, Read, Compare, WriteZeroes, ReservationRegister, ReservationReport, ReservationAcquire, ReservationRelease}
-use Rattle.nvme_spec.specs.declared.config.ControllerConfig.{ControllerConfig}
-use Rattle.nvme_wire.specs.Entry.{qword_at}
-use Rattle.nvme_spec.specs.Commands.{action, ignores_key, reservation_type}
+use Rattle.nvme_spec.specs.Report.{ControllerHost}
+use Rattle.nvme_spec.specs.Commands.{action, iekey, rtype}
 use Rattle.nvme_spec.specs.Reservation.{Reservation, Outcome, IsRising, with_key, is_registered, is_registered_with, is_free, is_of_type, is_of_all, is_holder, is_holders_key, is_key_in_use, register, unregister, replace, acquire, preempt, release, clear}
 use Rattle.nvme_spec.specs.ReservationLaws.{Keeps}
-use Rattle.nvme_spec.specs.IoData.{reserved}
+use Rattle.nvme_spec.specs.IoData.{action_outcome, current_key, other_key}
 use Rattle.nvme_spec.proofs.Registrants.{all-filter, filter-all, all-map, above_test, rising-filter, rising-with_key, all-append}
 
 -- a host of one of these controllers
-abbrev pub IsKnown : List ControllerConfig → ℕ → Type 0
-IsKnown ks host = IsTrue (list_any (λ (k : ControllerConfig). host == k.host) ks)
+abbrev pub IsKnown : List ControllerHost → ℕ → Type 0
+IsKnown ks host = IsTrue (list_any (λ (k : ControllerHost). host == k.1) ks)
 
-abbrev pub AreKnown : List ControllerConfig → List Registrant → Type 0
-AreKnown ks xs = AllByRecursion (λ r. IsTrue (list_any (λ k. r.host == k.host) ks)) xs
+abbrev pub AreKnown : List ControllerHost → List Registrant → Type 0
+AreKnown ks xs = AllByRecursion (λ r. IsTrue (list_any (λ (k : ControllerHost). r.host == k.1) ks)) xs
 
 -- of registrants that rise, one at most is a host
 one-at_most : (host : ℕ) (xs : List Registrant) → IsRising xs → length xs ≤ suc (length (filter (λ x. not (x.host == host)) xs))
@@ -34,21 +33,21 @@ one-at_most host (x ∷ xs) r =
       | false ↦ λ e. omega (arith, one-at_most host xs r.1)
     ] refl
 
-others-known : (k : ControllerConfig) (ks : List ControllerConfig) (xs : List Registrant) → AreKnown (k ∷ ks) xs → AreKnown ks (filter (λ x. not (x.host == k.host)) xs)
+others-known : (k : ControllerHost) (ks : List ControllerHost) (xs : List Registrant) → AreKnown (k ∷ ks) xs → AreKnown ks (filter (λ x. not (x.host == k.1)) xs)
 others-known k ks [] a = tt
 others-known k ks (x ∷ xs) a =
-    elim (x.host == k.host) as (λ b. IsTrue (b || list_any (λ j. x.host == j.host) ks) → AreKnown ks (cond (not b) (x ∷ filter (λ y. not (y.host == k.host)) xs) (filter (λ y. not (y.host == k.host)) xs))) [
+    elim (x.host == k.1) as (λ b. IsTrue (b || list_any (λ (j : ControllerHost). x.host == j.1) ks) → AreKnown ks (cond (not b) (x ∷ filter (λ y. not (y.host == k.1)) xs) (filter (λ y. not (y.host == k.1)) xs))) [
       | true ↦ λ h. others-known k ks xs a.1
       | false ↦ λ h. (h, others-known k ks xs a.1)
     ] a.0
 
 -- no more registrants than controllers
-pub no_more : (ks : List ControllerConfig) (xs : List Registrant) → IsRising xs → AreKnown ks xs → length xs ≤ length ks
+pub no_more : (ks : List ControllerHost) (xs : List Registrant) → IsRising xs → AreKnown ks xs → length xs ≤ length ks
 no_more [] [] r a = omega arith
 no_more [] (x ∷ xs) r a = absurd (cc (a.0))
 no_more (k ∷ ks) xs r a =
-    let rest = no_more ks (filter (λ x. not (x.host == k.host)) xs) (rising-filter _ xs r) (others-known k ks xs a) in
-    omega (arith, rest, one-at_most k.host xs r)
+    let rest = no_more ks (filter (λ x. not (x.host == k.1)) xs) (rising-filter _ xs r) (others-known k ks xs a) in
+    omega (arith, rest, one-at_most k.1 xs r)
 
 -- the front and the back beside a host that is not registered
 both-sides : (host : ℕ) (xs : List Registrant) → is_registered xs host ≡ false
@@ -72,11 +71,11 @@ both-sides host (x ∷ xs) h =
     above : (a b : ℕ) → b ≤ a → (a == b) ≡ false → b < a
     above a b le ne = grind (arith, nat_tests)
 
-known-with_key : (ks : List ControllerConfig) (xs : List Registrant) (host key : ℕ) → AreKnown ks xs → IsKnown ks host → AreKnown ks (with_key xs host key)
+known-with_key : (ks : List ControllerHost) (xs : List Registrant) (host key : ℕ) → AreKnown ks xs → IsKnown ks host → AreKnown ks (with_key xs host key)
 known-with_key ks xs host key a h = all-append _ (filter (λ x. nat_lt x.host host) xs) (record { host = host; key = key }) (filter (λ x. nat_lt host x.host) xs) (all-filter _ _ xs a) h (all-filter _ _ xs a)
 
 -- a known host that is not registered leaves room for itself
-pub room : (ks : List ControllerConfig) (xs : List Registrant) (host : ℕ) → IsRising xs → AreKnown ks xs → IsKnown ks host → length ks ≤ 16
+pub room : (ks : List ControllerHost) (xs : List Registrant) (host : ℕ) → IsRising xs → AreKnown ks xs → IsKnown ks host → length ks ≤ 16
     → IsTrue (is_registered xs host) ⊎ (length xs < 16)
 room ks xs host r a h few =
     ⊎_elim {C = IsTrue (is_registered xs host) ⊎ (length xs < 16)}
@@ -93,27 +92,27 @@ keeps-if P true x y h k = h
 keeps-if P false x y h k = k
 
 -- what an action keeps, by its tests
-abbrev KeepsKnown : List ControllerConfig → Outcome → Type 0
+abbrev KeepsKnown : List ControllerHost → Outcome → Type 0
 KeepsKnown ks o = Keeps o (λ next. AreKnown ks next.registrants)
 
-abbrev keeps-by : (ks : List ControllerConfig) (b : Bool) (x y : Outcome) → KeepsKnown ks x → KeepsKnown ks y → KeepsKnown ks (if b then x else y)
+abbrev keeps-by : (ks : List ControllerHost) (b : Bool) (x y : Outcome) → KeepsKnown ks x → KeepsKnown ks y → KeepsKnown ks (if b then x else y)
 keeps-by ks b x y h k = keeps-if (λ next. AreKnown ks next.registrants) b x y h k
 
-keeps-register : (ks : List ControllerConfig) (r : Reservation) (host nrkey : ℕ) → AreKnown ks r.registrants → IsKnown ks host → KeepsKnown ks (register r host nrkey)
+keeps-register : (ks : List ControllerHost) (r : Reservation) (host nrkey : ℕ) → AreKnown ks r.registrants → IsKnown ks host → KeepsKnown ks (register r host nrkey)
 keeps-register ks r host nrkey a h = keeps-by ks (is_registered r.registrants host && not (is_registered_with r.registrants host nrkey)) _ _ tt (known-with_key ks r.registrants host nrkey a h)
 
-keeps-unregister : (ks : List ControllerConfig) (r : Reservation) (host : ℕ) (iekey : Bool) (crkey : ℕ) → AreKnown ks r.registrants → KeepsKnown ks (unregister r host iekey crkey)
+keeps-unregister : (ks : List ControllerHost) (r : Reservation) (host : ℕ) (iekey : Bool) (crkey : ℕ) → AreKnown ks r.registrants → KeepsKnown ks (unregister r host iekey crkey)
 keeps-unregister ks r host iekey crkey a = keeps-by ks (is_registered r.registrants host && (iekey || is_registered_with r.registrants host crkey)) _ _ (all-filter _ _ r.registrants a) tt
 
-keeps-replace : (ks : List ControllerConfig) (r : Reservation) (host : ℕ) (iekey : Bool) (crkey nrkey : ℕ) → AreKnown ks r.registrants → IsKnown ks host → KeepsKnown ks (replace r host iekey crkey nrkey)
+keeps-replace : (ks : List ControllerHost) (r : Reservation) (host : ℕ) (iekey : Bool) (crkey nrkey : ℕ) → AreKnown ks r.registrants → IsKnown ks host → KeepsKnown ks (replace r host iekey crkey nrkey)
 keeps-replace ks r host iekey crkey nrkey a h = keeps-by ks (iekey || is_registered_with r.registrants host crkey) _ _ (known-with_key ks r.registrants host nrkey a h) tt
 
-keeps-acquire : (ks : List ControllerConfig) (r : Reservation) (host rtype crkey : ℕ) → AreKnown ks r.registrants → KeepsKnown ks (acquire r host rtype crkey)
+keeps-acquire : (ks : List ControllerHost) (r : Reservation) (host rtype crkey : ℕ) → AreKnown ks r.registrants → KeepsKnown ks (acquire r host rtype crkey)
 keeps-acquire ks r host rtype crkey a =
     keeps-by ks (not (is_registered_with r.registrants host crkey)) _ _ tt
     (keeps-by ks (is_free r.hold) _ _ a (keeps-by ks (is_of_type r.hold rtype && is_holder r host) _ _ a tt))
 
-keeps-preempt : (ks : List ControllerConfig) (r : Reservation) (host rtype crkey prkey : ℕ) → AreKnown ks r.registrants → KeepsKnown ks (preempt r host rtype crkey prkey)
+keeps-preempt : (ks : List ControllerHost) (r : Reservation) (host rtype crkey prkey : ℕ) → AreKnown ks r.registrants → KeepsKnown ks (preempt r host rtype crkey prkey)
 keeps-preempt ks r host rtype crkey prkey a =
     keeps-by ks (not (is_registered_with r.registrants host crkey)) _ _ tt
     (keeps-by ks (prkey == 0) _ _
@@ -121,30 +120,35 @@ keeps-preempt ks r host rtype crkey prkey a =
     (keeps-by ks (is_holders_key r prkey) _ _ (all-filter _ _ r.registrants a)
     (keeps-by ks (is_key_in_use r.registrants prkey) _ _ (all-filter _ _ r.registrants a) tt)))
 
-keeps-release : (ks : List ControllerConfig) (r : Reservation) (host rtype crkey : ℕ) → AreKnown ks r.registrants → KeepsKnown ks (release r host rtype crkey)
+keeps-release : (ks : List ControllerHost) (r : Reservation) (host rtype crkey : ℕ) → AreKnown ks r.registrants → KeepsKnown ks (release r host rtype crkey)
 keeps-release ks r host rtype crkey a =
     keeps-by ks (not (is_registered_with r.registrants host crkey)) _ _ tt
     (keeps-by ks (not (is_holder r host)) _ _ a (keeps-by ks (is_of_type r.hold rtype) _ _ a tt))
 
-keeps-clear : (ks : List ControllerConfig) (r : Reservation) (host crkey : ℕ) → KeepsKnown ks (clear r host crkey)
+keeps-clear : (ks : List ControllerHost) (r : Reservation) (host crkey : ℕ) → KeepsKnown ks (clear r host crkey)
 keeps-clear ks r host crkey = keeps-by ks (is_registered_with r.registrants host crkey) _ _ tt tt
 
-pub keeps-known : (ks : List ControllerConfig) (command : Command) (r : Reservation) (host : ℕ) (e keys : List ℕ) → AreKnown ks r.registrants → IsKnown ks host
-    → Keeps (reserved command r host e keys) (λ next. AreKnown ks next.registrants)
-unfolding reserved
+-- what holds of an outcome, if there is one
+abbrev pub KeepsIfSome : Option Outcome → (Reservation → Type 0) → Type 0
+KeepsIfSome None P = Unit {0}
+KeepsIfSome (Some o) P = Keeps o P
+
+pub keeps-known : (ks : List ControllerHost) (command : Command) (r : Reservation) (host : ℕ) (e keys : List ℕ) → AreKnown ks r.registrants → IsKnown ks host
+    → KeepsIfSome (action_outcome command r host e keys) (λ next. AreKnown ks next.registrants)
+unfolding action_outcome
 keeps-known ks ReservationRegister r host e keys a h =
-    keeps-by ks (action e == 0) _ _ (keeps-register ks r host (qword_at keys 8) a h)
-    (keeps-by ks (action e == 1) _ _ (keeps-unregister ks r host (ignores_key e) (qword_at keys 0) a)
-    (keeps-replace ks r host (ignores_key e) (qword_at keys 0) (qword_at keys 8) a h))
+    keeps-by ks (action e == 0) _ _ (keeps-register ks r host (other_key keys) a h)
+    (keeps-by ks (action e == 1) _ _ (keeps-unregister ks r host (iekey e) (current_key keys) a)
+    (keeps-replace ks r host (iekey e) (current_key keys) (other_key keys) a h))
 keeps-known ks ReservationAcquire r host e keys a h =
-    keeps-by ks (action e == 0) _ _ (keeps-acquire ks r host (reservation_type e) (qword_at keys 0) a)
-    (keeps-preempt ks r host (reservation_type e) (qword_at keys 0) (qword_at keys 8) a)
+    keeps-by ks (action e == 0) _ _ (keeps-acquire ks r host (rtype e) (current_key keys) a)
+    (keeps-preempt ks r host (rtype e) (current_key keys) (other_key keys) a)
 keeps-known ks ReservationRelease r host e keys a h =
-    keeps-by ks (action e == 0) _ _ (keeps-release ks r host (reservation_type e) (qword_at keys 0) a)
-    (keeps-clear ks r host (qword_at keys 0))
-keeps-known ks Flush r host e keys a h = a
-keeps-known ks Write r host e keys a h = a
-keeps-known ks Read r host e keys a h = a
-keeps-known ks Compare r host e keys a h = a
-keeps-known ks WriteZeroes r host e keys a h = a
-keeps-known ks ReservationReport r host e keys a h = a
+    keeps-by ks (action e == 0) _ _ (keeps-release ks r host (rtype e) (current_key keys) a)
+    (keeps-clear ks r host (current_key keys))
+keeps-known ks Flush r host e keys a h = tt
+keeps-known ks Write r host e keys a h = tt
+keeps-known ks Read r host e keys a h = tt
+keeps-known ks Compare r host e keys a h = tt
+keeps-known ks WriteZeroes r host e keys a h = tt
+keeps-known ks ReservationReport r host e keys a h = tt

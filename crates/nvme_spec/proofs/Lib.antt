@@ -1,6 +1,7 @@
 pub mod Registrants
 pub mod Reporting
 pub mod ReservationLaws
+pub mod Splices
 pub mod PagesJoined
 pub mod PagesSound
 pub mod Runs

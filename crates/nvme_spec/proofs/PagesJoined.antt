@@ -5,7 +5,7 @@ use Rattle.std.proofs.lemmas.List.Folds.{flat_map-map}
 use Rattle.std.proofs.lemmas.List.{map-append}
 use Rattle.std.proofs.lemmas.Bool.{lt-ltb, le-ltb}
 use Rattle.nvme_spec.specs.Pointer.{Transfer, room, further_pages, page, address}
-use Rattle.nvme_spec.specs.Transfers.{run, addresses, further_part, parts_of}
+use Rattle.nvme_spec.specs.Transfers.{run, addresses, further_piece, pieces_of}
 
 -- a function that counts up gives a run
 pub counts : (f : ℕ → ℕ) (a b n : ℕ) → ((k : ℕ) → k < n → f (b + k) ≡ a + k) → map f (range_with_len b n) ≡ range_with_len a n
@@ -48,7 +48,7 @@ address-far t j i h =
     rw (far, quotient, remainder) refl
 
 -- the further pages from page j on
-further : (t : Transfer) (n j : ℕ) → j + n ≡ further_pages t → flat_map (λ i. run (further_part t i)) (range_with_len j n) ≡ map (address t) (range_with_len (room t.prp1 + 4096 * j) (t.bytes - (room t.prp1 + 4096 * j)))
+further : (t : Transfer) (n j : ℕ) → j + n ≡ further_pages t → flat_map (λ i. run (further_piece t i)) (range_with_len j n) ≡ map (address t) (range_with_len (room t.prp1 + 4096 * j) (t.bytes - (room t.prp1 + 4096 * j)))
 further t zero j h = let none : t.bytes - (room t.prp1 + 4096 * j) ≡ 0 = omega arith in rw (none) refl
 further t (suc n) j h =
     let rest = further t n (j + 1) (omega arith) in
@@ -58,15 +58,15 @@ further t (suc n) j h =
     sym (ap (λ k. map (address t) (range_with_len (room t.prp1 + 4096 * j) k)) all
     ∙ map-split (address t) (room t.prp1 + 4096 * j) (room t.prp1 + 4096 * (j + 1)) here (t.bytes - (room t.prp1 + 4096 * (j + 1))) (λ more. omega arith)
     ∙ ap (λ xs. xs ++ map (address t) (range_with_len (room t.prp1 + 4096 * (j + 1)) (t.bytes - (room t.prp1 + 4096 * (j + 1))))) front
-    ∙ ap (λ xs. run (further_part t j) ++ xs) (sym rest))
+    ∙ ap (λ xs. run (further_piece t j) ++ xs) (sym rest))
 
-pub joined : (t : Transfer) → addresses (parts_of t) ≡ map (address t) (range_with_len 0 t.bytes)
+pub joined : (t : Transfer) → addresses (pieces_of t) ≡ map (address t) (range_with_len 0 t.bytes)
 unfolding addresses
 joined t =
     let here : ℕ = min t.bytes (room t.prp1) in
     let all : t.bytes ≡ here + (t.bytes - (room t.prp1 + 4096 * 0)) = omega arith in
     let front = counts (address t) t.prp1 0 here (λ k lt. ap (address t) (omega arith) ∙ address-near t k (omega arith)) in
-    let rest = flat_map-map run (further_part t) (range_with_len 0 (further_pages t)) ∙ further t (further_pages t) 0 (omega arith) in
+    let rest = flat_map-map run (further_piece t) (range_with_len 0 (further_pages t)) ∙ further t (further_pages t) 0 (omega arith) in
     sym (ap (λ k. map (address t) (range_with_len 0 k)) all
     ∙ map-split (address t) 0 (room t.prp1 + 4096 * 0) here (t.bytes - (room t.prp1 + 4096 * 0)) (λ more. omega arith)
     ∙ ap (λ xs. xs ++ map (address t) (range_with_len (room t.prp1 + 4096 * 0) (t.bytes - (room t.prp1 + 4096 * 0)))) front

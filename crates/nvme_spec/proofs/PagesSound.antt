@@ -5,7 +5,7 @@ use Rattle.std.proofs.lemmas.Bool.{cases_Bool, cases_eq, eqb-true, ltb-true, eq-
 use Rattle.nvme_spec.specs.declared.pointer.DataFault.{DataFault}
 use Rattle.nvme_spec.specs.declared.pointer.Piece.{Piece}
 use Rattle.nvme_spec.specs.Pointer.{AddressTest, fault_of, first_fault, or_else, page_test, PageList, listed, goes_on, slots, entry_tests, Transfer, room, further_pages, further_tests, list, page, pointer_fault}
-use Rattle.nvme_spec.specs.Transfers.{first_part, further_part, parts_of, ArePages, LiesInPage}
+use Rattle.nvme_spec.specs.Transfers.{first_piece, further_piece, pieces_of, ArePages, LiesInPage}
 
 -- an address with no fault
 pub sound : (test : AddressTest) → fault_of test ≡ None → (test.address % test.unit ≡ 0) × (test.address < 4194304)
@@ -69,7 +69,7 @@ pages-sound t (suc (suc m)) m-is e i h =
     rw here (listed-sound (list t) (suc (suc m)) 0 (or_else-none _ _ e).1 i (omega arith) (omega arith))
 
 -- the further pieces, from page j on, the first of which starts its page
-further-pages : (t : Transfer) (n j : ℕ) → j + n ≡ further_pages t → ((i : ℕ) → i < further_pages t → (page t i % 4096 ≡ 0) × (page t i < 4194304)) → ArePages (map (further_part t) (range_with_len j n))
+further-pages : (t : Transfer) (n j : ℕ) → j + n ≡ further_pages t → ((i : ℕ) → i < further_pages t → (page t i % 4096 ≡ 0) × (page t i < 4194304)) → ArePages (map (further_piece t) (range_with_len j n))
 unfolding ArePages
 further-pages t zero j e h = tt
 further-pages t (suc zero) j e h = let here = h j (omega arith) in (omega arith, omega arith)
@@ -79,12 +79,12 @@ further-pages t (suc (suc n)) j e h =
     let full : min (t.bytes - room t.prp1 - 4096 * j) 4096 ≡ 4096 = omega arith in
     ((omega arith, omega arith), omega arith, omega arith, after.0, further-pages t (suc n) (j + 1) (omega arith) h)
 
-join-first : (p : Piece) (t : Transfer) (n : ℕ) → ArePages (map (further_part t) (range_with_len 0 n)) → LiesInPage p → (0 < n → (p.address % 4096 + p.len ≡ 4096) × (4 ≤ p.len) × (page t 0 % 4096 ≡ 0)) → ArePages (p ∷ map (further_part t) (range_with_len 0 n))
+join-first : (p : Piece) (t : Transfer) (n : ℕ) → ArePages (map (further_piece t) (range_with_len 0 n)) → LiesInPage p → (0 < n → (p.address % 4096 + p.len ≡ 4096) × (4 ≤ p.len) × (page t 0 % 4096 ≡ 0)) → ArePages (p ∷ map (further_piece t) (range_with_len 0 n))
 unfolding ArePages
 join-first p t zero rest lies more = lies
 join-first p t (suc n) rest lies more = let m = more (omega arith) in (lies, m.0, m.1, m.2, rest)
 
-pub parts-are_pages : (t : Transfer) → pointer_fault t ≡ None → ArePages (parts_of t)
+pub parts-are_pages : (t : Transfer) → pointer_fault t ≡ None → ArePages (pieces_of t)
 unfolding first_fault
 parts-are_pages t e =
     let both = or_else-none (fault_of (record { address = t.prp1; unit = 4 })) (first_fault (further_tests t (further_pages t))) e in
@@ -92,6 +92,6 @@ parts-are_pages t e =
     let pages = pages-sound t (further_pages t) refl both.1 in
     let aligned : t.prp1 % 4 ≡ 0 = start.0 in
     let below : t.prp1 < 4194304 = start.1 in
-    join-first (first_part t) t (further_pages t) (further-pages t (further_pages t) 0 (omega arith) pages)
+    join-first (first_piece t) t (further_pages t) (further-pages t (further_pages t) 0 (omega arith) pages)
     (omega arith, omega arith)
     (λ more. (omega arith, omega arith, (pages 0 more).0))

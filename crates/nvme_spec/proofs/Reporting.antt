@@ -7,7 +7,7 @@ use Rattle.std.proofs.lemmas.List.Concat.{flat_map-append}
 use Rattle.std.proofs.lemmas.Grind.{common_steps}
 use Rattle.nvme_spec.specs.declared.access.Registrant.{Registrant}
 use Rattle.nvme_spec.specs.Reservation.{Reservation, is_registered, is_holder}
-use Rattle.nvme_spec.specs.Report.{ControllerHost, HasRisingIds, key_of, reported, entry_of, entry, report_data}
+use Rattle.nvme_spec.specs.Report.{ControllerHost, HasRisingIds, key_of, reported_controllers, entry_of, entry, report_data}
 use Rattle.nvme_spec.proofs.Registrants.{all-filter}
 
 pub length-report_data : (r : Reservation) (controllers : List ControllerHost) (size : ℕ) → length (report_data r controllers size) ≡ size
@@ -15,10 +15,10 @@ unfolding report_data
 length-report_data r controllers size = grind (arith, common_steps)
 
 -- the controllers that are reported rise where all do
-pub rising-reported : (r : Reservation) (controllers : List ControllerHost) → HasRisingIds controllers → HasRisingIds (reported r controllers)
+pub rising-reported : (r : Reservation) (controllers : List ControllerHost) → HasRisingIds controllers → HasRisingIds (reported_controllers r controllers)
 rising-reported r [] h = h
 rising-reported r (c ∷ cs) h =
-    elim (is_registered r.registrants c.1) as (λ b. HasRisingIds (cond b (c ∷ reported r cs) (reported r cs))) [
+    elim (is_registered r.registrants c.1) as (λ b. HasRisingIds (cond b (c ∷ reported_controllers r cs) (reported_controllers r cs))) [
       | true ↦ (all-filter _ _ cs h.0, rising-reported r cs h.1)
       | false ↦ rising-reported r cs h.1
     ]
@@ -34,15 +34,15 @@ registered (x ∷ xs) host =
 
 -- The report of the first i controllers, behind `front`.
 abbrev so_far : Reservation → List ControllerHost → List ℕ → ℕ → List ℕ
-so_far r controllers front i = front ++ flat_map (entry r) (reported r (take i controllers))
+so_far r controllers front i = front ++ flat_map (entry r) (reported_controllers r (take i controllers))
 
 more : (r : Reservation) (controllers : List ControllerHost) (front : List ℕ) (i : ℕ) (d : ControllerHost) → i < length controllers
-    → so_far r controllers front (i + 1) ≡ so_far r controllers front i ++ flat_map (entry r) (reported r (get_or controllers i d ∷ []))
+    → so_far r controllers front (i + 1) ≡ so_far r controllers front i ++ flat_map (entry r) (reported_controllers r (get_or controllers i d ∷ []))
 more r controllers front i d lt =
-    ap (λ cs. front ++ flat_map (entry r) (reported r cs)) (take_more controllers i d lt)
+    ap (λ cs. front ++ flat_map (entry r) (reported_controllers r cs)) (take_more controllers i d lt)
     ∙ (ap (λ cs. front ++ flat_map (entry r) cs) (filter-append _ (take i controllers) _)
-    ∙ (ap (λ l. front ++ l) (flat_map-append (entry r) (reported r (take i controllers)) _)
-    ∙ sym (append_assoc front (flat_map (entry r) (reported r (take i controllers))) _)))
+    ∙ (ap (λ l. front ++ l) (flat_map-append (entry r) (reported_controllers r (take i controllers)) _)
+    ∙ sym (append_assoc front (flat_map (entry r) (reported_controllers r (take i controllers))) _)))
 
 -- the next controller's host has this key
 pub more-registered : (r : Reservation) (controllers : List ControllerHost) (front : List ℕ) (i : ℕ) (d : ControllerHost) (key : ℕ) (bytes : List ℕ)
@@ -52,7 +52,7 @@ pub more-registered : (r : Reservation) (controllers : List ControllerHost) (fro
 more-registered r controllers front i d key bytes lt here has =
     let c : ControllerHost = get_or controllers i d in
     let there : is_registered r.registrants c.1 ≡ true = registered r.registrants c.1 ∙ ap is_some has in
-    let one : flat_map (entry r) (reported r (c ∷ [])) ≡ entry_of c.0 (is_holder r c.1) c.1 key =
+    let one : flat_map (entry r) (reported_controllers r (c ∷ [])) ≡ entry_of c.0 (is_holder r c.1) c.1 key =
     ap (λ b. flat_map (entry r) (cond b (c ∷ []) [])) there
     ∙ (append-nil (entry r c) ∙ ap (λ k. entry_of c.0 (is_holder r c.1) c.1 (unwrap_or k 0)) has) in
     sym (more r controllers front i d lt ∙ (λ j. sym here j ++ one j))

@@ -1,11 +1,12 @@
 -- Laws of reservations.
-use Rattle.std.proofs.Common.{◌≡◌, ℕ, ◌<◌, ◌==◌, Bool, true, false, cond, not, ◌&&◌, ◌||◌, IsTrue, if◌then◌else◌, List, [], ◌∷◌, ◌++◌, length, filter, ap, sym, refl, ◌∙◌, arith, nat_lt, nat_le, subst, Ok, Err}
+use Rattle.std.proofs.Common.{◌≡◌, ℕ, ◌<◌, ◌==◌, Bool, true, false, cond, not, ◌&&◌, ◌||◌, IsTrue, if◌then◌else◌, List, [], ◌∷◌, ◌++◌, length, filter, ap, sym, refl, ◌∙◌, arith, nat_lt, nat_le, subst, Err}
 use Rattle.std.specs.List.{list_any, AllByRecursion}
 use Rattle.std.proofs.lemmas.Bool.Decides.{nat_tests}
 use Rattle.nvme_spec.specs.declared.access.Registrant.{Registrant}
 use Rattle.nvme_spec.specs.declared.access.Hold.{Hold}
 use Rattle.nvme_spec.specs.declared.access.Hold.TheVariants.{Free, One, All}
-use Rattle.nvme_spec.specs.Reservation.{Reservation, Outcome, IsRising, conflict, is_registered, is_registered_with, is_of_all, with_key, taken_by, settled, changed, register, unregister, replace, acquire, preempt, is_free, is_of_type, is_holder, is_holders_key, is_key_in_use}
+use Rattle.nvme_spec.specs.Reservation.{Reservation, Outcome, IsRising, becomes, is_registered, is_registered_with, is_of_all, with_key, taken_by, remaining_hold, next_generation, register, unregister, replace, acquire, preempt, is_free, is_of_type, is_holder, is_holders_key, is_key_in_use}
+use Rattle.nvme_spec.specs.Statuses as status
 use Rattle.nvme_spec.specs.ReservationLaws.{Gives, Keeps, IsHoldOf, IsHeldByRegistrants}
 use Rattle.nvme_spec.proofs.Registrants.{filter-all, filter-none, all-map, above_test, same_test}
 
@@ -97,14 +98,14 @@ taken-held xs host type h =
     ]
 
 -- what is left of a hold
-settled-held : (hold : Hold) (xs : List Registrant) → IsHoldOf (settled hold xs) xs
-settled-held Free xs = tt
-settled-held (One type holder) xs =
+remaining_hold-held : (hold : Hold) (xs : List Registrant) → IsHoldOf (remaining_hold hold xs) xs
+remaining_hold-held Free xs = tt
+remaining_hold-held (One type holder) xs =
     elim (is_registered xs holder) as (λ b. is_registered xs holder ≡ b → IsHoldOf (if b then One type holder else Free) xs) [
       | true ↦ λ e. e
       | false ↦ λ e. tt
     ] refl
-settled-held (All type) xs =
+remaining_hold-held (All type) xs =
     elim (length xs == 0) as (λ b. (length xs == 0) ≡ b → IsHoldOf (if b then Free else All type) xs) [
       | true ↦ λ e. tt
       | false ↦ λ e. ap not e
@@ -119,7 +120,7 @@ kept-held (All type) xs host key h = filled (with_key xs host key) host (any-joi
 pub register-held : (r : Reservation) (host key : ℕ) → IsHeldByRegistrants r → Keeps (register r host key) IsHeldByRegistrants
 register-held r host key h =
     elim (is_registered r.registrants host && not (is_registered_with r.registrants host key))
-    as (λ b. Keeps (if b then Err conflict else Ok (changed r (with_key r.registrants host key) r.hold)) IsHeldByRegistrants) [
+    as (λ b. Keeps (if b then Err status.reservation_conflict else becomes (next_generation r (with_key r.registrants host key) r.hold)) IsHeldByRegistrants) [
       | true ↦ tt
       | false ↦ kept-held r.hold r.registrants host key h
     ]
@@ -127,17 +128,17 @@ register-held r host key h =
 pub replace-held : (r : Reservation) (host : ℕ) (iekey : Bool) (crkey nrkey : ℕ) → IsHeldByRegistrants r → Keeps (replace r host iekey crkey nrkey) IsHeldByRegistrants
 replace-held r host iekey crkey nrkey h =
     elim (iekey || is_registered_with r.registrants host crkey)
-    as (λ b. Keeps (if b then Ok (changed r (with_key r.registrants host nrkey) r.hold) else Err conflict) IsHeldByRegistrants) [
+    as (λ b. Keeps (if b then becomes (next_generation r (with_key r.registrants host nrkey) r.hold) else Err status.reservation_conflict) IsHeldByRegistrants) [
       | true ↦ kept-held r.hold r.registrants host nrkey h
       | false ↦ tt
     ]
 
 -- an action that is denied to a host without its key, and else is this one
 with-its-key : (r : Reservation) (host key : ℕ) (action : Outcome) → (is_registered r.registrants host ≡ true → Keeps action IsHeldByRegistrants)
-    → Keeps (if not (is_registered_with r.registrants host key) then Err conflict else action) IsHeldByRegistrants
+    → Keeps (if not (is_registered_with r.registrants host key) then Err status.reservation_conflict else action) IsHeldByRegistrants
 with-its-key r host key action f =
     elim (is_registered_with r.registrants host key)
-    as (λ b. is_registered_with r.registrants host key ≡ b → Keeps (if not b then Err conflict else action) IsHeldByRegistrants) [
+    as (λ b. is_registered_with r.registrants host key ≡ b → Keeps (if not b then Err status.reservation_conflict else action) IsHeldByRegistrants) [
       | true ↦ λ e. f (registered-with r.registrants host key e)
       | false ↦ λ e. tt
     ] refl
@@ -161,7 +162,7 @@ preempt-held r host rtype crkey prkey =
     (either (is_of_all r.hold) _ _ (taken-held (filter (λ x. x.host == host) xs) host rtype (any-filter _ _ xs (λ x e. e) there)) tt)
     (either (is_holders_key r prkey) _ _
     (taken-held (filter (λ x. (x.host == host) || not (x.key == prkey)) xs) host rtype (any-filter _ _ xs (λ x e. ap (λ b. b || not (x.key == prkey)) e) there))
-    (either (is_key_in_use xs prkey) _ _ (settled-held r.hold (filter (λ x. not (x.key == prkey)) xs)) tt)))
+    (either (is_key_in_use xs prkey) _ _ (remaining_hold-held r.hold (filter (λ x. not (x.key == prkey)) xs)) tt)))
 
 or-false : (a b : Bool) → (a || b) ≡ false → (a ≡ false) × (b ≡ false)
 or-false true b h = no-both true refl h

@@ -5,13 +5,13 @@ use Rattle.std.proofs.lemmas.List.{map-append, drop-drop, take_all, length-take-
 use Rattle.std.proofs.Math.Seq.{take-add}
 use Rattle.nvme_spec.specs.declared.pointer.Piece.{Piece}
 use Rattle.nvme_spec.specs.Pointer.{address}
-use Rattle.nvme_spec.specs.Transfers.{addresses, block_addresses, gathered, scattered, gathered_blocks, scattered_blocks}
+use Rattle.nvme_spec.specs.Transfers.{addresses, block_addresses, gathered_bytes, with_scattered, gathered_blocks, with_scattered_blocks}
 use Rattle.nvme_spec.specs.TransferLaws.{LastByteIsKept, OthersStay, BlocksMakeTheWhole, BlocksScatterTheWhole, SmallIsContiguous}
 use Rattle.nvme_spec.proofs.PagesJoined.{counts, address-near}
-use Rattle.nvme_spec.proofs.Runs.{gathered-run, scattered-append}
+use Rattle.nvme_spec.proofs.Runs.{gathered_bytes-run, with_scattered-append}
 
 pub others_stay : OthersStay
-unfolding scattered
+unfolding with_scattered
 others_stay window [] bytes a h = refl
 others_stay window (p ∷ places) [] a h = refl
 others_stay window (p ∷ places) (b ∷ bytes) a h =
@@ -19,7 +19,7 @@ others_stay window (p ∷ places) (b ∷ bytes) a h =
     ∙ get_or-set_other window p a b 0 (λ e. h 0 (omega arith) (sym e))
 
 pub last_byte_is_kept : LastByteIsKept
-unfolding scattered
+unfolding with_scattered
 last_byte_is_kept window [] bytes a k size fits last = absurd (omega (arith, last.0))
 last_byte_is_kept window (p ∷ places) [] a k size fits last = absurd (omega (arith, size))
 last_byte_is_kept window (p ∷ places) (b ∷ bytes) a zero size fits last =
@@ -40,46 +40,46 @@ next-blocks places j n =
     ∙ ap (λ k. take k (drop (512 * j) places) ++ take (512 * n) (drop (512 * (j + 1)) places)) (sym width)
 
 -- n blocks from block j on
-pub gathered-from : (window : List ℕ) (ps : List Piece) (n j : ℕ) → gathered_blocks window ps j n ≡ gathered window (take (512 * n) (drop (512 * j) (addresses ps)))
-gathered-from window ps zero j = refl
-gathered-from window ps (suc n) j =
-    ap (λ xs. gathered window (block_addresses ps j) ++ xs) (gathered-from window ps n (j + 1))
+pub gathered_bytes-from : (window : List ℕ) (ps : List Piece) (n j : ℕ) → gathered_blocks window ps j n ≡ gathered_bytes window (take (512 * n) (drop (512 * j) (addresses ps)))
+gathered_bytes-from window ps zero j = refl
+gathered_bytes-from window ps (suc n) j =
+    ap (λ xs. gathered_bytes window (block_addresses ps j) ++ xs) (gathered_bytes-from window ps n (j + 1))
     ∙ sym (map-append (slice_index window) (block_addresses ps j) (take (512 * n) (drop (512 * (j + 1)) (addresses ps))))
-    ∙ ap (gathered window) (sym (next-blocks (addresses ps) j n))
+    ∙ ap (gathered_bytes window) (sym (next-blocks (addresses ps) j n))
 
-pub scattered-from : (window : List ℕ) (ps : List Piece) (n j : ℕ) (bytes : List ℕ) → length bytes ≡ 512 * n → 512 * (j + n) ≤ length (addresses ps) → scattered_blocks window ps j n bytes ≡ scattered window (take (512 * n) (drop (512 * j) (addresses ps))) bytes
-unfolding scattered scattered_blocks
-scattered-from window ps zero j bytes size enough = refl
-scattered-from window ps (suc n) j bytes size enough =
+pub with_scattered-from : (window : List ℕ) (ps : List Piece) (n j : ℕ) (bytes : List ℕ) → length bytes ≡ 512 * n → 512 * (j + n) ≤ length (addresses ps) → with_scattered_blocks window ps j n bytes ≡ with_scattered window (take (512 * n) (drop (512 * j) (addresses ps))) bytes
+unfolding with_scattered with_scattered_blocks
+with_scattered-from window ps zero j bytes size enough = refl
+with_scattered-from window ps (suc n) j bytes size enough =
     let here : List ℕ = block_addresses ps j in
     let later : List ℕ = take (512 * n) (drop (512 * (j + 1)) (addresses ps)) in
     let width : 512 * j + 512 - 512 * j ≡ 512 = omega arith in
     let long : length here ≡ 512 =
     ap (λ k. length (take k (drop (512 * j) (addresses ps)))) width
     ∙ length-take-le 512 (drop (512 * j) (addresses ps)) (omega (arith, length-drop (512 * j) (addresses ps))) in
-    scattered-from (scattered window here (take 512 bytes)) ps n (j + 1) (drop 512 bytes) (omega (arith, length-drop 512 bytes)) (omega arith)
-    ∙ ap (λ k. scattered (scattered window here (take k bytes)) later (drop k bytes)) (sym long)
-    ∙ sym (scattered-append window here later bytes (omega arith))
-    ∙ ap (λ xs. scattered window xs bytes) (sym (next-blocks (addresses ps) j n))
+    with_scattered-from (with_scattered window here (take 512 bytes)) ps n (j + 1) (drop 512 bytes) (omega (arith, length-drop 512 bytes)) (omega arith)
+    ∙ ap (λ k. with_scattered (with_scattered window here (take k bytes)) later (drop k bytes)) (sym long)
+    ∙ sym (with_scattered-append window here later bytes (omega arith))
+    ∙ ap (λ xs. with_scattered window xs bytes) (sym (next-blocks (addresses ps) j n))
 
 pub blocks_make_the_whole : BlocksMakeTheWhole
 blocks_make_the_whole window ps n size =
-    gathered-from window ps n 0 ∙ ap (gathered window) (take_all (512 * n) (addresses ps) (omega arith))
+    gathered_bytes-from window ps n 0 ∙ ap (gathered_bytes window) (take_all (512 * n) (addresses ps) (omega arith))
 
 pub blocks_scatter_the_whole : BlocksScatterTheWhole
 blocks_scatter_the_whole window ps n bytes size long =
-    scattered-from window ps n 0 bytes long (omega arith)
-    ∙ ap (λ xs. scattered window xs bytes) (take_all (512 * n) (addresses ps) (omega arith))
+    with_scattered-from window ps n 0 bytes long (omega arith)
+    ∙ ap (λ xs. with_scattered window xs bytes) (take_all (512 * n) (addresses ps) (omega arith))
 
 pub small_is_contiguous : SmallIsContiguous
 small_is_contiguous t small fits =
     let places = counts (address t) t.prp1 0 t.bytes (λ k lt. ap (address t) (omega arith) ∙ address-near t k (omega (arith, lt))) in
     let width : t.prp1 + t.bytes - t.prp1 ≡ t.bytes = omega arith in
-    (places, ap (gathered t.window) places ∙ gathered-run t.window t.prp1 t.bytes fits ∙ ap (λ k. take k (drop t.prp1 t.window)) (sym width))
+    (places, ap (gathered_bytes t.window) places ∙ gathered_bytes-run t.window t.prp1 t.bytes fits ∙ ap (λ k. take k (drop t.prp1 t.window)) (sym width))
 
 -- a scattering leaves the window as long as it was
-pub length-scattered : (window places bytes : List ℕ) → length (scattered window places bytes) ≡ length window
-unfolding scattered
-length-scattered window [] bytes = refl
-length-scattered window (p ∷ places) [] = refl
-length-scattered window (p ∷ places) (b ∷ bytes) = length-scattered (slice_set window p b) places bytes ∙ length-set window p b
+pub length-with_scattered : (window places bytes : List ℕ) → length (with_scattered window places bytes) ≡ length window
+unfolding with_scattered
+length-with_scattered window [] bytes = refl
+length-with_scattered window (p ∷ places) [] = refl
+length-with_scattered window (p ∷ places) (b ∷ bytes) = length-with_scattered (slice_set window p b) places bytes ∙ length-set window p b

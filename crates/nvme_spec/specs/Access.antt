@@ -31,10 +31,10 @@ abbrev pub row : Rights → Rights → Rights → Row
 row outsider_rights registrant_rights holder_rights =
     record { outsider = outsider_rights; registrant = registrant_rights; holder = holder_rights }
 
--- The table of reservation types. No type is above 6.
+-- The table of reservation types: the rights under each. No type is above 6.
 --             outsider, registrant, holder
-abbrev pub reservation_type : ℕ → Row
-reservation_type type =
+abbrev pub rights_table : ℕ → Row
+rights_table type =
     -- Write Exclusive
     if type == 1 then row read_only read_only read_write
     -- Exclusive Access
@@ -59,7 +59,7 @@ allows rights Write = rights.writes
 
 -- under a hold of this type
 abbrev pub is_permitted_under : ℕ → Role → Group → Bool
-is_permitted_under type role group = allows (rights_of (reservation_type type) role) group
+is_permitted_under type role group = allows (rights_of (rights_table type) role) group
 
 -- a command of this group is permitted to a host in this role; without a hold everything is
 abbrev pub is_permitted : Hold → Role → Group → Bool

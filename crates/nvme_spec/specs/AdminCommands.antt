@@ -34,25 +34,25 @@ is_one_of (Some command) commands = list_any (λ c. opcode_of c == opcode_of com
 
 -- The fields of an entry.
 
--- Queue Identifier: bits 15:0 of double word 10
-unfoldable pub queue_id : List ℕ → ℕ
-queue_id e = bits (cdw10 e) 15 0
+-- Queue Identifier (QID): bits 15:0 of double word 10
+unfoldable pub qid : List ℕ → ℕ
+qid e = bits (cdw10 e) 15 0
 
--- Queue Size, in entries: one more than bits 31:16
+-- how many entries: one more than Queue Size (QSIZE), bits 31:16
 unfoldable pub queue_size : List ℕ → ℕ
 queue_size e = bits (cdw10 e) 31 16 + 1
 
--- Physically Contiguous: bit 0 of double word 11
-unfoldable pub is_contiguous : List ℕ → Bool
-is_contiguous e = bits (cdw11 e) 0 0 == 1
+-- Physically Contiguous (PC): bit 0 of double word 11
+unfoldable pub pc : List ℕ → Bool
+pc e = bits (cdw11 e) 0 0 == 1
 
--- Completion Queue Identifier, of a submission queue: bits 31:16 of double word 11
-unfoldable pub completion_queue_id : List ℕ → ℕ
-completion_queue_id e = bits (cdw11 e) 31 16
+-- Completion Queue Identifier (CQID), of a submission queue: bits 31:16 of double word 11
+unfoldable pub cqid : List ℕ → ℕ
+cqid e = bits (cdw11 e) 31 16
 
--- Controller or Namespace Structure: bits 7:0 of double word 10
-unfoldable pub structure : List ℕ → ℕ
-structure e = bits (cdw10 e) 7 0
+-- Controller or Namespace Structure (CNS): bits 7:0 of double word 10
+unfoldable pub cns : List ℕ → ℕ
+cns e = bits (cdw10 e) 7 0
 
 -- the structures: a namespace, the controller, the list of the namespaces that are attached to it
 abbrev pub namespace_structure : ℕ
@@ -64,9 +64,9 @@ controller_structure = 0x01
 abbrev pub namespace_list_structure : ℕ
 namespace_list_structure = 0x02
 
--- Feature Identifier: bits 7:0 of double word 10
-unfoldable pub feature_id : List ℕ → ℕ
-feature_id e = bits (cdw10 e) 7 0
+-- Feature Identifier (FID): bits 7:0 of double word 10
+unfoldable pub fid : List ℕ → ℕ
+fid e = bits (cdw10 e) 7 0
 
 abbrev pub number_of_queues : ℕ
 number_of_queues = 0x07
@@ -77,36 +77,36 @@ host_identifier = 0x81
 abbrev pub write_protection : ℕ
 write_protection = 0x84
 
--- Save: bit 31 of double word 10
-unfoldable pub is_saved : List ℕ → Bool
-is_saved e = bits (cdw10 e) 31 31 == 1
+-- Save (SV): bit 31 of double word 10
+unfoldable pub sv : List ℕ → Bool
+sv e = bits (cdw10 e) 31 31 == 1
 
--- Number of I/O Submission Queues Requested and Number of I/O Completion Queues Requested: the halves of double word 11
-unfoldable pub submission_queues_requested : List ℕ → ℕ
-submission_queues_requested e = bits (cdw11 e) 15 0
+-- Number of I/O Submission Queues Requested (NSQR) and Number of I/O Completion Queues Requested (NCQR): the halves of double word 11
+unfoldable pub nsqr : List ℕ → ℕ
+nsqr e = bits (cdw11 e) 15 0
 
-unfoldable pub completion_queues_requested : List ℕ → ℕ
-completion_queues_requested e = bits (cdw11 e) 31 16
+unfoldable pub ncqr : List ℕ → ℕ
+ncqr e = bits (cdw11 e) 31 16
 
--- Write Protection State: bits 2:0 of double word 11; 0 is none, 1 is write protected
-unfoldable pub protection_state : List ℕ → ℕ
-protection_state e = bits (cdw11 e) 2 0
+-- Write Protection State (WPS): bits 2:0 of double word 11; 0 is none, 1 is write protected
+unfoldable pub wps : List ℕ → ℕ
+wps e = bits (cdw11 e) 2 0
 
--- Enable Extended Host Identifier: bit 0 of double word 11
-unfoldable pub has_extended_host : List ℕ → Bool
-has_extended_host e = bits (cdw11 e) 0 0 == 1
+-- Enable Extended Host Identifier (EXHID): bit 0 of double word 11
+unfoldable pub exhid : List ℕ → Bool
+exhid e = bits (cdw11 e) 0 0 == 1
 
--- Select, of Namespace Attachment: bits 3:0 of double word 10; 0 attaches, 1 detaches
-unfoldable pub selection : List ℕ → ℕ
-selection e = bits (cdw10 e) 3 0
+-- Select (SEL), of Namespace Attachment: bits 3:0 of double word 10; 0 attaches, 1 detaches
+unfoldable pub sel : List ℕ → ℕ
+sel e = bits (cdw10 e) 3 0
 
 -- the command sets or gets this feature
 abbrev pub names_feature : Option AdminCommand → ℕ → List ℕ → Bool
-names_feature command feature e = is_one_of command (SetFeatures ∷ GetFeatures ∷ []) && feature_id e == feature
+names_feature command feature e = is_one_of command (SetFeatures ∷ GetFeatures ∷ []) && fid e == feature
 
--- the command asks for this structure
+-- the command asks for this cns
 abbrev pub asks_for : Option AdminCommand → ℕ → List ℕ → Bool
-asks_for command which e = is_one_of command (Identify ∷ []) && structure e == which
+asks_for command which e = is_one_of command (Identify ∷ []) && cns e == which
 
 -- the bytes that a command moves between host and controller
 abbrev pub data_length : AdminCommand → List ℕ → ℕ
@@ -116,9 +116,9 @@ data_length DeleteCompletionQueue e = 0
 data_length CreateCompletionQueue e = 0
 data_length Identify e = 4096
 data_length SetFeatures e = 0
-data_length GetFeatures e = if feature_id e == host_identifier then 8 else 0
+data_length GetFeatures e = if fid e == host_identifier then 8 else 0
 data_length NamespaceAttachment e = 4096
 
--- The way that they go stands in bits 1:0 of the opcode: 10b from the controller to the host, 01b from the host
-abbrev pub goes_to_host : AdminCommand → Bool
-goes_to_host command = bits (opcode_of command) 1 0 == 2
+abbrev pub data_length_of : Option AdminCommand → List ℕ → ℕ
+data_length_of None e = 0
+data_length_of (Some command) e = data_length command e

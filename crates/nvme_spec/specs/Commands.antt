@@ -8,7 +8,10 @@ use Rattle.nvme_spec.specs.declared.access.Group.{Group}
 use Rattle.nvme_spec.specs.declared.access.Group.TheVariants.{Read as Reading, Write as Writing}
 use Rattle.nvme_spec.specs.declared.command.Command.{Command}
 use Rattle.nvme_spec.specs.declared.command.Command.TheVariants.{Flush, Write, Read, Compare, WriteZeroes, ReservationRegister, ReservationReport, ReservationAcquire, ReservationRelease}
+use Rattle.nvme_spec.specs.declared.command.CommandKind.{CommandKind}
+use Rattle.nvme_spec.specs.declared.command.CommandKind.TheVariants.{OnBlocks, OnReservation, OnReport}
 use Rattle.nvme_spec.specs.declared.verdict.Plan.{Plan}
+use Rattle.nvme_spec.specs.Limits.{block_size}
 
 abbrev pub opcode_of : Command → ℕ
 opcode_of Flush = 0x00
@@ -37,11 +40,11 @@ is_one_of (Some command) commands = list_any (λ c. opcode_of c == opcode_of com
 
 -- The fields of an entry.
 
--- Starting LBA: double words 10 and 11
-unfoldable pub first_block : List ℕ → ℕ
-first_block e = cdw10 e + 2 ^ 32 * cdw11 e
+-- Starting LBA (SLBA): double words 10 and 11
+unfoldable pub starting_lba : List ℕ → ℕ
+starting_lba e = cdw10 e + 2 ^ 32 * cdw11 e
 
--- Number of Logical Blocks: one more than bits 15:0 of double word 12
+-- how many blocks: one more than Number of Logical Blocks (NLB), bits 15:0 of double word 12
 unfoldable pub block_count : List ℕ → ℕ
 block_count e = cdw12 e % 2 ^ 16 + 1
 
@@ -49,37 +52,41 @@ block_count e = cdw12 e % 2 ^ 16 + 1
 unfoldable pub action : List ℕ → ℕ
 action e = bits (cdw10 e) 2 0
 
--- Ignore Existing Key: bit 3
-unfoldable pub ignores_key : List ℕ → Bool
-ignores_key e = bits (cdw10 e) 3 3 == 1
+-- Ignore Existing Key (IEKEY): bit 3
+unfoldable pub iekey : List ℕ → Bool
+iekey e = bits (cdw10 e) 3 3 == 1
 
--- Change Persist Through Power Loss State: bits 31:30
-unfoldable pub persistence : List ℕ → ℕ
-persistence e = bits (cdw10 e) 31 30
+-- Change Persist Through Power Loss State (CPTPL): bits 31:30
+unfoldable pub cptpl : List ℕ → ℕ
+cptpl e = bits (cdw10 e) 31 30
 
--- Reservation Type: bits 15:8
-unfoldable pub reservation_type : List ℕ → ℕ
-reservation_type e = bits (cdw10 e) 15 8
+-- Reservation Type (RTYPE): bits 15:8
+unfoldable pub rtype : List ℕ → ℕ
+rtype e = bits (cdw10 e) 15 8
 
--- Extended Data Structure: bit 0 of double word 11
-unfoldable pub is_extended : List ℕ → Bool
-is_extended e = bits (cdw11 e) 0 0 == 1
+-- Extended Data Structure (EDS): bit 0 of double word 11
+unfoldable pub eds : List ℕ → Bool
+eds e = bits (cdw11 e) 0 0 == 1
 
--- the bytes of a report: 4 for each double word, of which there is one more than Number of Dwords says
+-- the bytes of a report: 4 for each double word, of which there is one more than Number of Dwords (NUMD) says
 unfoldable pub report_length : List ℕ → ℕ
 report_length e = 4 * (cdw10 e + 1)
 
 -- the bytes that a command moves between host and controller
 abbrev pub data_length : Command → List ℕ → ℕ
 data_length Flush e = 0
-data_length Write e = 512 * block_count e
-data_length Read e = 512 * block_count e
-data_length Compare e = 512 * block_count e
+data_length Write e = block_size * block_count e
+data_length Read e = block_size * block_count e
+data_length Compare e = block_size * block_count e
 data_length WriteZeroes e = 0
 data_length ReservationRegister e = 16
 data_length ReservationReport e = report_length e
 data_length ReservationAcquire e = 16
 data_length ReservationRelease e = 8
+
+abbrev pub data_length_of : Option Command → List ℕ → ℕ
+data_length_of None e = 0
+data_length_of (Some command) e = data_length command e
 
 -- the commands that a reservation judges as reading, and as writing
 abbrev pub readers : List Command
@@ -101,10 +108,22 @@ altering = Write ∷ WriteZeroes ∷ []
 abbrev pub ranged : List Command
 ranged = Read ∷ Write ∷ Compare ∷ WriteZeroes ∷ []
 
+-- the commands that act on a reservation, and those that report one; all others work on blocks
+abbrev pub reserving : List Command
+reserving = ReservationRegister ∷ ReservationAcquire ∷ ReservationRelease ∷ []
+
+abbrev pub reporting : List Command
+reporting = ReservationReport ∷ []
+
+abbrev pub kind_of : Command → CommandKind
+kind_of command =
+    if is_one_of (Some command) reserving then OnReservation
+    else (if is_one_of (Some command) reporting then OnReport else OnBlocks)
+
 abbrev pub plan_of : Command → List ℕ → Plan
 plan_of command e = record {
   kind = command;
-  first = if is_one_of (Some command) ranged then first_block e else 0;
+  first = if is_one_of (Some command) ranged then starting_lba e else 0;
   blocks = if is_one_of (Some command) ranged then block_count e else 0;
   bytes = data_length command e;
 }

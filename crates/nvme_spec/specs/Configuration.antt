@@ -3,6 +3,7 @@
 -- Namespace, Host Identifier; shared and private namespaces).
 use Rattle.std.specs.Prelude.{ℕ, ◌+◌, Bool, false, not, ◌&&◌, ◌||◌, ◌==◌, nat_lt, if◌then◌else◌, List, [], ◌∷◌, length, sum_by, Option, None, Some}
 use Rattle.std.specs.List.{list_any, list_all, enumerate_from}
+use Rattle.nvme_spec.specs.Limits.{most_controllers, highest_nsid, most_attachments, largest_namespace}
 use Rattle.nvme_spec.specs.declared.config.ControllerConfig.{ControllerConfig}
 use Rattle.nvme_spec.specs.declared.config.NsConfig.{NsConfig}
 use Rattle.nvme_spec.specs.declared.config.ConfigFault.{ConfigFault}
@@ -18,7 +19,9 @@ empty_configuration = record { controllers = []; namespaces = []; attached = [] 
 
 -- more controllers, namespaces or attachments than there is room for
 abbrev pub has_too_many : Configuration → Bool
-has_too_many c = nat_lt 16 (length c.controllers) || nat_lt 8 (length c.namespaces) || nat_lt 128 (length c.attached)
+has_too_many c =
+    nat_lt most_controllers (length c.controllers) || nat_lt highest_nsid (length c.namespaces)
+    || nat_lt most_attachments (length c.attached)
 
 -- the k-th controller's identifier is k, from 1
 abbrev pub are_numbered : List ControllerConfig → Bool
@@ -28,9 +31,9 @@ are_numbered controllers = list_all (λ p. p.1.cntlid == p.0 + 1) (enumerate_fro
 abbrev pub is_hostless : List ControllerConfig → Bool
 is_hostless controllers = list_any (λ k. k.host == 0) controllers
 
--- some namespace identifier is none of 1 to 8
+-- some namespace identifier is none of 1 to 8, of which there are as many
 abbrev pub has_foreign_nsid : List NsConfig → Bool
-has_foreign_nsid namespaces = list_any (λ n. (n.nsid == 0) || nat_lt 8 n.nsid) namespaces
+has_foreign_nsid namespaces = list_any (λ n. (n.nsid == 0) || nat_lt highest_nsid n.nsid) namespaces
 
 -- some namespace identifier stands twice
 abbrev pub has_repeated_nsid : List NsConfig → Bool
@@ -64,7 +67,7 @@ has_bad_id c =
 
 -- some namespace is empty, or larger than 65,536 blocks
 abbrev pub has_bad_size : List NsConfig → Bool
-has_bad_size namespaces = list_any (λ n. (n.blocks == 0) || nat_lt 65536 n.blocks) namespaces
+has_bad_size namespaces = list_any (λ n. (n.blocks == 0) || nat_lt largest_namespace n.blocks) namespaces
 
 -- the blocks of all namespaces together
 abbrev pub total_blocks : List NsConfig → ℕ

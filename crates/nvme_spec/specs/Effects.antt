@@ -1,40 +1,40 @@
 -- What an allowed command does to the blocks of a medium, and what a fault of the medium leaves (NVM Command Set
--- Specification: Read, Write, Compare, Flush; Base Specification: Media and Data Integrity Errors). Blocks are
--- counted on the medium. What is said of the content is said of a medium that tells its content.
-use Rattle.std.specs.Prelude.{◌≡◌, ◌≢◌, ◌<◌, ◌⊎◌, ℕ, ◌*◌, Bool, IsTrue, List, length, take}
+-- Specification: Read, Write, Compare, Write Zeroes, Flush; Base Specification: Media and Data Integrity Errors). Blocks
+-- are counted on the medium. Each effect says what becomes of the count of failures: it stays, or a fault is answered.
+use Rattle.std.specs.Prelude.{◌≡◌, ◌≢◌, ◌<◌, ◌⊎◌, ℕ, ◌*◌, Bool, List, length, take}
 use Rattle.nvme_wire.specs.declared.status.Status.{Status}
-use Rattle.nvme_spec.specs.Blocks.{blocks_from, overwritten, HasRisen, StopsWriting}
+use Rattle.nvme_spec.specs.Bytes.{with_bytes}
+use Rattle.nvme_spec.specs.Blocks.{Device, Told, blocks_from, HasFailed, StopsWriting, IsFront}
 use Rattle.nvme_spec.specs.Statuses as status
 
--- A medium: whether it tells its content, its content, and how often one of its calls has failed.
-pub record Device : Type 0 where
-  pub tells : Bool
-  pub content : List ℕ
-  pub failures : ℕ
+-- no call of the medium failed, and this is answered
+pub record Completes (old new : Device) (answer status : Status) : Type 0 where
+  pub answered : answer ≡ status
+  pub failures : new.failures ≡ old.failures
 
--- a fact about the content of a medium that tells it
-abbrev pub Told : Device → Type 0 → Type 0
-Told device fact = IsTrue device.tells → fact
+-- a call of the medium failed, and this is answered
+pub record Faults (old new : Device) (answer status : Status) : Type 0 where
+  pub answered : answer ≡ status
+  pub failures : HasFailed old.failures new.failures
 
--- what was read before one of the blocks of a transfer of so many bytes
-pub record IsFront (first bytes : ℕ) (device : Device) (front : List ℕ) : Type 0 where
-  pub at : ℕ
-  pub within : 512 * at < bytes
-  pub size : length front ≡ 512 * at
-  pub is : Told device (front ≡ blocks_from device.content first (512 * at))
+-- the blocks are as they were
+abbrev pub KeepsBlocks : Bool → Device → Device → Type 0
+KeepsBlocks tells old new = Told tells (new.content ≡ old.content)
 
 -- Read: the bytes of the blocks; at a fault those of the blocks before it
-abbrev pub ReadEffect : ℕ → ℕ → Device → Device → Status → List ℕ → Type 0
-ReadEffect first bytes old new answer read =
-    Told old (new.content ≡ old.content)
-    × (((answer ≡ status.successful_completion) × (length read ≡ bytes) × Told old (read ≡ blocks_from old.content first bytes))
-    ⊎ ((answer ≡ status.unrecovered_read_error) × HasRisen old.failures new.failures × IsFront first bytes old read))
+abbrev pub ReadEffect : Bool → ℕ → ℕ → Device → Device → Status → List ℕ → Type 0
+ReadEffect tells first bytes old new answer read =
+    KeepsBlocks tells old new
+    × ((Completes old new answer status.successful_completion × (length read ≡ bytes)
+    × Told tells (read ≡ blocks_from old.content first bytes))
+    ⊎ (Faults old new answer status.unrecovered_read_error × IsFront tells first bytes old.content read))
 
 -- Write: the blocks hold the bytes; at a fault those before it do, it may hold any, and later ones are as they were
-abbrev pub WriteEffect : ℕ → List ℕ → Device → Device → Status → Type 0
-WriteEffect first bytes old new answer =
-    ((answer ≡ status.successful_completion) × Told old (new.content ≡ overwritten old.content (512 * first) bytes))
-    ⊎ ((answer ≡ status.write_fault) × HasRisen old.failures new.failures × Told old (StopsWriting first bytes old.content new.content))
+abbrev pub WriteEffect : Bool → ℕ → List ℕ → Device → Device → Status → Type 0
+WriteEffect tells first bytes old new answer =
+    (Completes old new answer status.successful_completion
+    × Told tells (new.content ≡ with_bytes old.content (512 * first) bytes))
+    ⊎ (Faults old new answer status.write_fault × Told tells (StopsWriting first bytes old.content new.content))
 
 -- the blocks before one of the blocks of a comparison hold the same bytes
 pub record HasSameFront (first : ℕ) (bytes content : List ℕ) : Type 0 where
@@ -43,15 +43,17 @@ pub record HasSameFront (first : ℕ) (bytes content : List ℕ) : Type 0 where
   pub same : blocks_from content first (512 * at) ≡ take (512 * at) bytes
 
 -- Compare: whether the blocks hold the bytes; at a fault those before it do
-abbrev pub CompareEffect : ℕ → List ℕ → Device → Device → Status → Type 0
-CompareEffect first bytes old new answer =
-    Told old (new.content ≡ old.content)
-    × (((answer ≡ status.successful_completion) × Told old (blocks_from old.content first (length bytes) ≡ bytes))
-    ⊎ ((answer ≡ status.compare_failure) × Told old (blocks_from old.content first (length bytes) ≢ bytes))
-    ⊎ ((answer ≡ status.unrecovered_read_error) × HasRisen old.failures new.failures × Told old (HasSameFront first bytes old.content)))
+abbrev pub CompareEffect : Bool → ℕ → List ℕ → Device → Device → Status → Type 0
+CompareEffect tells first bytes old new answer =
+    KeepsBlocks tells old new
+    × ((Completes old new answer status.successful_completion
+    × Told tells (blocks_from old.content first (length bytes) ≡ bytes))
+    ⊎ (Completes old new answer status.compare_failure
+    × Told tells (blocks_from old.content first (length bytes) ≢ bytes))
+    ⊎ (Faults old new answer status.unrecovered_read_error × Told tells (HasSameFront first bytes old.content)))
 
 -- Flush: nothing changes
-abbrev pub FlushEffect : Device → Device → Status → Type 0
-FlushEffect old new answer =
-    Told old (new.content ≡ old.content)
-    × ((answer ≡ status.successful_completion) ⊎ ((answer ≡ status.write_fault) × HasRisen old.failures new.failures))
+abbrev pub FlushEffect : Bool → Device → Device → Status → Type 0
+FlushEffect tells old new answer =
+    KeepsBlocks tells old new
+    × (Completes old new answer status.successful_completion ⊎ Faults old new answer status.write_fault)

@@ -3,11 +3,11 @@ use Rattle.std.specs.Prelude.{ℕ, ◌+◌, ◌*◌, List, replicate}
 use Rattle.std.specs.List.{flat_map, range_with_len}
 use Rattle.std.specs.Int.{w64, to_le_bytes}
 use Rattle.nvme_spec.specs.declared.pointer.Piece.{Piece}
-use Rattle.nvme_spec.specs.Memory.{stored}
+use Rattle.nvme_spec.specs.Bytes.{with_bytes}
 
 -- an entry of a list, at an address
 abbrev pub with_entry : List ℕ → ℕ → ℕ → List ℕ
-with_entry window address entry = stored window address (to_le_bytes w64 entry)
+with_entry window address entry = with_bytes window address (to_le_bytes w64 entry)
 
 -- A list whose first slot is the last of its page: it names the page 3000h, or what is given, and the
 -- entries there name the pages 6000h and 7000h.

@@ -4,7 +4,7 @@
 use Rattle.std.specs.Prelude.{ℕ, ◌-◌, nat_lt, Bool, ◌&&◌, if◌then◌else◌, List, [], ◌∷◌, ◌++◌, codes, length, filter, flat_map, replicate, Option, None, Some}
 use Rattle.std.specs.List.{range_with_len}
 use Rattle.std.specs.Int.{w16, w32, w64, to_le_bytes}
-use Rattle.nvme_spec.specs.Memory.{stored}
+use Rattle.nvme_spec.specs.Bytes.{with_bytes}
 use Rattle.nvme_spec.specs.World.{World, Namespace, namespace_of, is_attached}
 
 -- Bytes at an offset.
@@ -32,7 +32,7 @@ text_field at size text = record { offset = at; bytes = text ++ replicate (size 
 -- the bytes, with these fields one after the other
 abbrev pub with_fields : List ℕ → List Field → List ℕ
 with_fields data_bytes [] = data_bytes
-with_fields data_bytes (field ∷ rest) = with_fields (stored data_bytes field.offset field.bytes) rest
+with_fields data_bytes (field ∷ rest) = with_fields (with_bytes data_bytes field.offset field.bytes) rest
 
 abbrev pub no_fields : List ℕ
 no_fields = replicate 4096 0
@@ -100,7 +100,7 @@ attached_above w cntlid nsid = filter (λ n. nat_lt nsid n && is_attached w cntl
 
 -- the list of these, four bytes each
 unfoldable pub namespace_list : List ℕ → List ℕ
-namespace_list nsids = stored no_fields 0 (flat_map (to_le_bytes w32) nsids)
+namespace_list nsids = with_bytes no_fields 0 (flat_map (to_le_bytes w32) nsids)
 
 -- zeros where the namespace is not attached to the controller
 abbrev pub identify_attached : World → ℕ → ℕ → List ℕ

@@ -1,91 +1,74 @@
 -- The rules that look at the data of an I/O command, behind those on access: its data pointer, and the keys of a
--- reservation command (Base Specification: Physical Region Page Entry and List; Reservation Register, Acquire,
--- Release, and their data structures).
-use Rattle.std.specs.Prelude.{ℕ, ◌==◌, Bool, true, if◌then◌else◌, List, [], ◌∷◌, ◌++◌, Option, None, Some, Ok, Err}
-use Rattle.nvme_wire.specs.Entry.{qword_at}
-use Rattle.nvme_wire.specs.Submission.{opcode, nsid, prp1, prp2}
-use Rattle.nvme_wire.specs.declared.status.Status.{Status}
+-- reservation command (Base Specification: Reservation Register, Acquire, Release, and their data structures).
+use Rattle.std.specs.Prelude.{ℕ, ◌==◌, Bool, if◌then◌else◌, List, [], ◌∷◌, ◌++◌, Option, None, Some}
+use Rattle.nvme_wire.specs.Submission.{opcode, nsid}
 use Rattle.nvme_spec.specs.declared.command.Command.{Command}
 use Rattle.nvme_spec.specs.declared.command.Command.TheVariants.{ReservationRegister, ReservationAcquire, ReservationRelease}
-use Rattle.nvme_spec.specs.declared.pointer.DataFault.{DataFault}
-use Rattle.nvme_spec.specs.declared.pointer.DataFault.TheVariants.{Offset, Outside}
 use Rattle.nvme_spec.specs.declared.verdict.Verdict.{Verdict}
+use Rattle.nvme_spec.specs.Memory.{qword}
 use Rattle.nvme_spec.specs.Reservation as resv
-use Rattle.nvme_spec.specs.Pointer.{Transfer, transfer, pointer_fault}
-use Rattle.nvme_spec.specs.Transfers.{addresses, parts_of, gathered}
 use Rattle.nvme_spec.specs.World.{World, Namespace, host_of, namespace_of}
-use Rattle.nvme_spec.specs.Commands.{command_of, data_length, action, ignores_key, reservation_type}
-use Rattle.nvme_spec.specs.Rules.{Rule, Test, test, first_failing}
-use Rattle.nvme_spec.specs.IoRules.{access_rules, concluded}
-use Rattle.nvme_spec.specs.Statuses as status
+use Rattle.nvme_spec.specs.Commands.{command_of, data_length_of, action, iekey, rtype}
+use Rattle.nvme_spec.specs.Rules.{Rule, Test, Judgement, refusal_tests, first_failing}
+use Rattle.nvme_spec.specs.IoRules.{access_rules, conclusion}
+use Rattle.nvme_spec.specs.DataRules.{data_in, pointer_rule}
 
--- the transfer of a command's data, as its two PRP entries tell
-abbrev pub data_transfer : Command → List ℕ → List ℕ → Transfer
-data_transfer command window e = transfer window (prp1 e) (prp2 e) (data_length command e)
+-- The data of a reservation command are two keys: the current one (CRKEY), and that which is to be registered (NRKEY) or
+-- preempted (PRKEY).
+abbrev pub current_key : List ℕ → ℕ
+current_key keys = qword keys 0
 
--- the addresses of a command's data
-unfoldable pub places : Command → List ℕ → List ℕ → List ℕ
-places command window e = addresses (parts_of (data_transfer command window e))
+abbrev pub other_key : List ℕ → ℕ
+other_key keys = qword keys 8
 
--- the data that host memory holds for a command
-abbrev pub data_in : Command → List ℕ → List ℕ → List ℕ
-data_in command window e = gathered window (places command window e)
+-- what a reservation command of a host makes of a reservation, by its keys. Other commands make nothing of it
+unfoldable pub action_outcome : Command → resv.Reservation → ℕ → List ℕ → List ℕ → Option resv.Outcome
+action_outcome ReservationRegister r host e keys = Some (
+    if action e == 0 then resv.register r host (other_key keys)
+    else (if action e == 1 then resv.unregister r host (iekey e) (current_key keys)
+    else resv.replace r host (iekey e) (current_key keys) (other_key keys)))
+action_outcome ReservationAcquire r host e keys = Some (
+    if action e == 0 then resv.acquire r host (rtype e) (current_key keys)
+    else resv.preempt r host (rtype e) (current_key keys) (other_key keys))
+action_outcome ReservationRelease r host e keys = Some (
+    if action e == 0 then resv.release r host (rtype e) (current_key keys)
+    else resv.clear r host (current_key keys))
+action_outcome command r host e keys = None
 
-abbrev pub fault_status : DataFault → Status
-fault_status Offset = status.prp_offset_invalid
-fault_status Outside = status.data_transfer_error
+-- what a command makes of the reservation of the namespace that it names, for the host that sent it
+abbrev pub outcome_in : Option Command → Option Namespace → Option ℕ → List ℕ → List ℕ → Option resv.Outcome
+outcome_in (Some command) (Some n) (Some host) e keys = action_outcome command n.reservation host e keys
+outcome_in (Some command) (Some n) None e keys = None
+outcome_in (Some command) None host e keys = None
+outcome_in None n host e keys = None
 
-abbrev pub fault_tests : Option DataFault → List Test
-fault_tests None = []
-fault_tests (Some fault) = test true (fault_status fault) ∷ []
+-- the same of a command of a controller, by the data that its host's memory holds
+unfoldable pub reservation_outcome : World → ℕ → List ℕ → List ℕ → Option resv.Outcome
+reservation_outcome w cntlid e brought = outcome_in (command_of (opcode e)) (namespace_of w (nsid e)) (host_of w cntlid) e brought
 
--- what is wrong with a command's data pointer; a command without data has none
-abbrev pub data_fault : Command → List ℕ → List ℕ → Option DataFault
-data_fault command window e = if data_length command e == 0 then None else pointer_fault (data_transfer command window e)
-
--- 10: the data pointer has a fault
-unfoldable pub pointer_rule : Option Command → List ℕ → List ℕ → Rule
-pointer_rule None window e = record { number = 10; tests = [] }
-pointer_rule (Some command) window e = record { number = 10; tests = fault_tests (data_fault command window e) }
-
--- what a reservation command makes of a reservation. Its data are two keys: that which the host holds, and that which
--- is to be registered or preempted.
-unfoldable pub reserved : Command → resv.Reservation → ℕ → List ℕ → List ℕ → resv.Outcome
-reserved ReservationRegister r host e keys =
-    if action e == 0 then resv.register r host (qword_at keys 8)
-    else (if action e == 1 then resv.unregister r host (ignores_key e) (qword_at keys 0)
-    else resv.replace r host (ignores_key e) (qword_at keys 0) (qword_at keys 8))
-reserved ReservationAcquire r host e keys =
-    if action e == 0 then resv.acquire r host (reservation_type e) (qword_at keys 0)
-    else resv.preempt r host (reservation_type e) (qword_at keys 0) (qword_at keys 8)
-reserved ReservationRelease r host e keys =
-    if action e == 0 then resv.release r host (reservation_type e) (qword_at keys 0)
-    else resv.clear r host (qword_at keys 0)
-reserved command r host e keys = Ok r
-
-abbrev pub refusal_tests : resv.Outcome → List Test
-refusal_tests (Ok next) = []
-refusal_tests (Err refusal) = test true refusal ∷ []
-
--- what a command makes of the reservation of a namespace, for a host
-abbrev pub outcome_for : Command → Namespace → Option ℕ → List ℕ → List ℕ → resv.Outcome
-outcome_for command n None window e = Ok n.reservation
-outcome_for command n (Some host) window e = reserved command n.reservation host e (data_in command window e)
+abbrev pub outcome_tests : Option resv.Outcome → List Test
+outcome_tests None = []
+outcome_tests (Some outcome) = refusal_tests outcome
 
 -- 11: the reservation refuses the action
-unfoldable pub action_rule : Option Command → Option Namespace → Option ℕ → List ℕ → List ℕ → Rule
-action_rule None namespace host window e = record { number = 11; tests = [] }
-action_rule (Some command) None host window e = record { number = 11; tests = [] }
-action_rule (Some command) (Some n) host window e = record { number = 11; tests = refusal_tests (outcome_for command n host window e) }
+unfoldable pub action_rule : Option resv.Outcome → Rule
+action_rule outcome = record { number = 11; tests = outcome_tests outcome }
+
+-- the data that a command finds in its host's memory
+abbrev pub data_of : List ℕ → List ℕ → List ℕ
+data_of window e = data_in (data_length_of (command_of (opcode e)) e) window e
 
 -- all rules of an I/O command, in their order
 abbrev pub io_rules : World → ℕ → List ℕ → Bool → List ℕ → List Rule
 io_rules w cntlid e marked window =
     access_rules w cntlid e marked
-    ++ pointer_rule (command_of (opcode e)) window e
-    ∷ action_rule (command_of (opcode e)) (namespace_of w (nsid e)) (host_of w cntlid) window e
+    ++ pointer_rule (data_length_of (command_of (opcode e)) e) window e
+    ∷ action_rule (reservation_outcome w cntlid e (data_of window e))
     ∷ []
 
+unfoldable pub io_judgement : World → ℕ → List ℕ → Bool → List ℕ → Judgement
+io_judgement w cntlid e marked window = first_failing (io_rules w cntlid e marked window)
+
 -- what all rules answer to an I/O command of a controller, with its host's memory
-unfoldable pub io_verdict : World → ℕ → List ℕ → Bool → List ℕ → Verdict
-io_verdict w cntlid e marked window = concluded (first_failing (io_rules w cntlid e marked window)) (command_of (opcode e)) e
+abbrev pub io_verdict : World → ℕ → List ℕ → Bool → List ℕ → Verdict
+io_verdict w cntlid e marked window = conclusion (io_judgement w cntlid e marked window) (command_of (opcode e)) e

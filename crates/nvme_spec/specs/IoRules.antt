@@ -16,13 +16,14 @@ use Rattle.nvme_spec.specs.declared.verdict.Verdict.TheVariants.{Allowed, Denied
 use Rattle.nvme_spec.specs.Reservation.{role_of}
 use Rattle.nvme_spec.specs.Access.{is_permitted}
 use Rattle.nvme_spec.specs.World.{World, Namespace, host_of, namespace_of, is_attached}
-use Rattle.nvme_spec.specs.Commands.{command_of, is_one_of, first_block, block_count, action, ignores_key, persistence, reservation_type, is_extended, report_length, readers, writers, altering, ranged, plan_of}
+use Rattle.nvme_spec.specs.Commands.{command_of, is_one_of, starting_lba, block_count, action, iekey, cptpl, rtype, eds, report_length, readers, writers, altering, ranged, plan_of}
 use Rattle.nvme_spec.specs.Rules.{Rule, Judgement, rule, test, first_failing}
+use Rattle.nvme_spec.specs.Limits.{highest_nsid, most_blocks, most_bytes}
 use Rattle.nvme_spec.specs.Statuses as status
 
 -- 1: a preempt and abort has marked the command
 unfoldable pub mark_rule : Bool → Rule
-mark_rule marked = rule 1 marked status.aborted_by_preempt
+mark_rule marked = rule 1 marked status.command_aborted_due_to_preempt_and_abort
 
 -- 2: the opcode is not that of an I/O command
 unfoldable pub opcode_rule : Option Command → Rule
@@ -30,27 +31,33 @@ opcode_rule command = rule 2 (is_none command) status.invalid_command_opcode
 
 -- 3: the command is fused, or its data pointer is not of PRP entries
 unfoldable pub form_rule : List ℕ → Rule
-form_rule e = rule 3 (not (fuse e == 0) || not (psdt e == 0)) status.invalid_field
+form_rule e = rule 3 (not (fuse e == 0) || not (psdt e == 0)) status.invalid_field_in_command
 
--- 4: no namespace can have this identifier
+-- no namespace can have this identifier
+abbrev pub is_no_nsid : ℕ → Bool
+is_no_nsid n = (n == 0) || nat_lt highest_nsid n
+
+-- 4: the identifier is that of no namespace
 unfoldable pub nsid_rule : ℕ → Rule
-nsid_rule n = rule 4 ((n == 0) || nat_lt 8 n) status.invalid_namespace
+nsid_rule n = rule 4 (is_no_nsid n) status.invalid_namespace_or_format
 
 -- 5: the identifier names no namespace that is attached to the controller
 unfoldable pub attachment_rule : World → ℕ → ℕ → Rule
-attachment_rule w cntlid n = rule 5 (not (is_some (namespace_of w n) && is_attached w cntlid n)) status.invalid_field
+attachment_rule w cntlid n = rule 5 (not (is_some (namespace_of w n) && is_attached w cntlid n)) status.invalid_field_in_command
 
 -- 6: a field has a value that the command does not take
 unfoldable pub field_rule : Option Command → List ℕ → Rule
 field_rule command e = record {
   number = 6;
   tests =
-      test (is_one_of command (Read ∷ Write ∷ Compare ∷ []) && nat_lt 256 (block_count e)) status.invalid_field
-      ∷ test (is_one_of command (ReservationRegister ∷ []) && (nat_lt 2 (action e) || (persistence e == 1) || (persistence e == 3))) status.invalid_field
-      ∷ test (is_one_of command (ReservationAcquire ∷ []) && (nat_lt 1 (action e) || ignores_key e || (reservation_type e == 0) || nat_lt 6 (reservation_type e))) status.invalid_field
-      ∷ test (is_one_of command (ReservationRelease ∷ []) && (nat_lt 1 (action e) || ignores_key e)) status.invalid_field
-      ∷ test (is_one_of command (ReservationReport ∷ []) && is_extended e) status.host_identifier_inconsistent
-      ∷ test (is_one_of command (ReservationReport ∷ []) && nat_lt 131072 (report_length e)) status.invalid_field
+      test (is_one_of command (Read ∷ Write ∷ Compare ∷ []) && nat_lt most_blocks (block_count e)) status.invalid_field_in_command
+      ∷ test (is_one_of command (ReservationRegister ∷ []) && (nat_lt 2 (action e) || (cptpl e == 1) || (cptpl e == 3)))
+      status.invalid_field_in_command
+      ∷ test (is_one_of command (ReservationAcquire ∷ []) && (nat_lt 2 (action e) || iekey e || (rtype e == 0) || nat_lt 6 (rtype e)))
+      status.invalid_field_in_command
+      ∷ test (is_one_of command (ReservationRelease ∷ []) && (nat_lt 1 (action e) || iekey e)) status.invalid_field_in_command
+      ∷ test (is_one_of command (ReservationReport ∷ []) && eds e) status.host_identifier_inconsistent_format
+      ∷ test (is_one_of command (ReservationReport ∷ []) && nat_lt most_bytes (report_length e)) status.invalid_field_in_command
       ∷ [];
 }
 
@@ -76,7 +83,7 @@ is_protected (Some n) = n.protected
 
 -- 8: the command would change a namespace that is write protected
 unfoldable pub protection_rule : Option Command → Option Namespace → Rule
-protection_rule command namespace = rule 8 (is_one_of command altering && is_protected namespace) status.write_protected
+protection_rule command namespace = rule 8 (is_one_of command altering && is_protected namespace) status.namespace_is_write_protected
 
 abbrev pub has_blocks_below : Option Namespace → ℕ → Bool
 has_blocks_below None end = true
@@ -85,7 +92,7 @@ has_blocks_below (Some n) end = nat_le end n.blocks
 -- 9: the range ends past the namespace
 unfoldable pub range_rule : Option Command → Option Namespace → List ℕ → Rule
 range_rule command namespace e =
-    rule 9 (is_one_of command ranged && not (has_blocks_below namespace (first_block e + block_count e))) status.lba_out_of_range
+    rule 9 (is_one_of command ranged && not (has_blocks_below namespace (starting_lba e + block_count e))) status.lba_out_of_range
 
 abbrev pub access_rules : World → ℕ → List ℕ → Bool → List Rule
 access_rules w cntlid e marked =
@@ -102,20 +109,24 @@ access_rules w cntlid e marked =
     ∷ range_rule command namespace e
     ∷ []
 
--- the denial by the first rule that fails, else the plan of the command
-abbrev pub concluded : Judgement → Option Command → List ℕ → Verdict
-concluded (Err denial) command e = Denied denial.rule denial.status
-concluded (Ok u) None e = Denied 2 status.invalid_command_opcode
-concluded (Ok u) (Some command) e = Allowed (plan_of command e)
+-- the denial by the first rule that fails, else the plan of the command. Where there is no command, rule 2 has failed
+abbrev pub conclusion : Judgement → Option Command → List ℕ → Verdict
+conclusion (Err denial) command e = Denied denial.rule denial.status
+conclusion (Ok u) None e = Denied 2 status.invalid_command_opcode
+conclusion (Ok u) (Some command) e = Allowed (plan_of command e)
 
--- what an allowed plan says
+-- what an allowed plan says, and what a denial says
 abbrev pub IfAllowed : Verdict → (Plan → Type 0) → Type 0
 IfAllowed (Allowed plan) P = P plan
-IfAllowed (Denied rule status) P = Unit {0}
+IfAllowed (Denied number why) P = Unit {0}
 
--- what the rules answer to a command of a controller
+abbrev pub IfDenied : Verdict → Type 0 → Type 0
+IfDenied (Allowed plan) P = Unit {0}
+IfDenied (Denied number why) P = P
+
+-- what the rules on access answer to a command of a controller
 unfoldable pub verdict : World → ℕ → List ℕ → Bool → Verdict
-verdict w cntlid e marked = concluded (first_failing (access_rules w cntlid e marked)) (command_of (opcode e)) e
+verdict w cntlid e marked = conclusion (first_failing (access_rules w cntlid e marked)) (command_of (opcode e)) e
 
 -- the blocks of a plan lie in the namespace that an entry names
 abbrev pub FitsNamespace : World → ℕ → Plan → Type 0

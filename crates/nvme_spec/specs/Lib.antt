@@ -1,4 +1,6 @@
 pub mod Statuses
+pub mod Limits
+pub mod Bytes
 pub mod Blocks
 pub mod Effects
 pub mod Reservation
@@ -18,8 +20,9 @@ pub mod Pointer
 pub mod Transfers
 pub mod TransferLaws
 pub mod ExampleWindows
+pub mod DataRules
 pub mod IoData
-pub mod IoSteps
+pub mod Execution
 pub mod Queues
 pub mod QueueLaws
 pub mod Registers

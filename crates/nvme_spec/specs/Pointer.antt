@@ -66,14 +66,6 @@ entry_tests l j =
     then page_test (next l) ∷ page_test (listed l j) ∷ []
     else page_test (listed l j) ∷ []
 
--- the tests of all entries, in order
-abbrev pub list_tests : PageList → List AddressTest
-list_tests l = flat_map (entry_tests l) (range_with_len 0 l.pages)
-
--- the list of the pages for so many bytes
-abbrev pub list_of : List ℕ → ℕ → ℕ → PageList
-list_of window start bytes = record { window = window; start = start; pages = (bytes + 4095) / 4096 }
-
 -- A transfer of so many bytes, at a command's two entries.
 pub record Transfer : Type 0 where
   pub window : List ℕ

@@ -28,13 +28,13 @@ abbrev pub key_of : List Registrant → ℕ → Option ℕ
 key_of registrants host = option_map (λ r. r.key) (find (λ r. r.host == host) registrants)
 
 -- the controllers whose host is registered
-abbrev pub reported : Reservation → List ControllerHost → List ControllerHost
-reported r controllers = filter (λ c. is_registered r.registrants c.1) controllers
+abbrev pub reported_controllers : Reservation → List ControllerHost → List ControllerHost
+reported_controllers r controllers = filter (λ c. is_registered r.registrants c.1) controllers
 
 -- bytes 0 to 3 the generation, 4 the reservation type, 5 and 6 the number of entries, 9 PTPLS, which is 0
 unfoldable pub header : Reservation → List ControllerHost → List ℕ
 header r controllers =
-    to_le_bytes w32 r.generation ++ type_of r.hold ∷ [] ++ to_le_bytes w16 (length (reported r controllers)) ++ replicate 17 0
+    to_le_bytes w32 r.generation ++ type_of r.hold ∷ [] ++ to_le_bytes w16 (length (reported_controllers r controllers)) ++ replicate 17 0
 
 -- bytes 0 and 1 the controller identifier, 2 the status with bit 0 set for a holder, 8 to 15 the host, 16 to 23 its key
 unfoldable pub entry_of : ℕ → Bool → ℕ → ℕ → List ℕ
@@ -46,7 +46,7 @@ abbrev pub entry : Reservation → ControllerHost → List ℕ
 entry r c = entry_of c.0 (is_holder r c.1) c.1 (unwrap_or (key_of r.registrants c.1) 0)
 
 abbrev pub report : Reservation → List ControllerHost → List ℕ
-report r controllers = header r controllers ++ flat_map (entry r) (reported r controllers)
+report r controllers = header r controllers ++ flat_map (entry r) (reported_controllers r controllers)
 
 -- what a transfer of this many bytes has: the front of the report, and zeros behind it
 unfoldable pub report_data : Reservation → List ControllerHost → ℕ → List ℕ

@@ -9,19 +9,13 @@ use Rattle.nvme_spec.specs.declared.access.Hold.{Hold}
 use Rattle.nvme_spec.specs.declared.access.Hold.TheVariants.{Free, One, All}
 use Rattle.nvme_spec.specs.declared.access.Role.{Role}
 use Rattle.nvme_spec.specs.declared.access.Role.TheVariants.{Outsider, Registrant as OnlyRegistrant, Holder}
+use Rattle.nvme_spec.specs.Statuses as status
 
 -- the registrants by rising host, the hold, and the generation counter
 pub record Reservation : Type 0 where
   pub registrants : List Registrant
   pub hold : Hold
   pub generation : ℕ
-
--- the statuses Reservation Conflict and Invalid Field in Command
-abbrev pub conflict : Status
-conflict = record { sct = 0; sc = 0x83 }
-
-abbrev pub invalid_field : Status
-invalid_field = record { sct = 0; sc = 0x02 }
 
 -- a new namespace: nobody is registered, nobody holds it
 abbrev pub unreserved : Reservation
@@ -67,10 +61,10 @@ abbrev pub taken_by : ℕ → ℕ → Hold
 taken_by host type = if nat_le type 4 then One type host else All type
 
 -- what is left of a hold where these are the registrants that are left
-abbrev pub settled : Hold → List Registrant → Hold
-settled Free registrants = Free
-settled (One type holder) registrants = if is_registered registrants holder then One type holder else Free
-settled (All type) registrants = if length registrants == 0 then Free else All type
+abbrev pub remaining_hold : Hold → List Registrant → Hold
+remaining_hold Free registrants = Free
+remaining_hold (One type holder) registrants = if is_registered registrants holder then One type holder else Free
+remaining_hold (All type) registrants = if length registrants == 0 then Free else All type
 
 -- the hold is of this type
 abbrev pub is_of_type : Hold → ℕ → Bool
@@ -96,70 +90,87 @@ is_holders_key r key = is_holders_key_of r.hold r.registrants key where
   is_holders_key_of (One type holder) registrants key = is_registered_with registrants holder key
   is_holders_key_of (All type) registrants key = false
 
--- An action is denied with a status and changes nothing, or gives the next state.
+-- What an action makes of a reservation: the next state, and the hosts that Preempt removed, by rising host.
+pub record Transition : Type 0 where
+  pub next : Reservation
+  pub removed : List ℕ
+
+-- An action is denied with a status and changes nothing, or makes a transition.
 abbrev pub Outcome : Type 0
-Outcome = Result Reservation Status
+Outcome = Result Transition Status
+
+-- the next state, where no host was preempted
+abbrev pub becomes : Reservation → Outcome
+becomes next = Ok (record { next = next; removed = [] })
+
+-- the hosts that were registered and no longer are
+abbrev pub removed_hosts : List Registrant → List Registrant → List ℕ
+removed_hosts before after = map (λ r. r.host) (filter (λ r. not (is_registered after r.host)) before)
+
+-- the next state, and the hosts that it no longer has
+abbrev pub preempts : Reservation → Reservation → Outcome
+preempts r next = Ok (record { next = next; removed = removed_hosts r.registrants next.registrants })
 
 -- these registrants and this hold, and one more generation: the counter has 32 bits
-abbrev pub changed : Reservation → List Registrant → Hold → Reservation
-changed r registrants hold = record { registrants = registrants; hold = hold; generation = (r.generation + 1) % 2 ^ 32 }
+abbrev pub next_generation : Reservation → List Registrant → Hold → Reservation
+next_generation r registrants hold = record { registrants = registrants; hold = hold; generation = (r.generation + 1) % 2 ^ 32 }
 
 -- these registrants, what is left of the hold, and one more generation
-abbrev pub reduced : Reservation → List Registrant → Reservation
-reduced r rest = changed r rest (settled r.hold rest)
+abbrev pub remaining : Reservation → List Registrant → Reservation
+remaining r rest = next_generation r rest (remaining_hold r.hold rest)
 
 -- Reservation Register command, Register Reservation Key. A host that has another key already is denied.
 abbrev pub register : Reservation → ℕ → ℕ → Outcome
 register r host nrkey =
-    if is_registered r.registrants host && not (is_registered_with r.registrants host nrkey) then Err conflict
-    else Ok (changed r (with_key r.registrants host nrkey) r.hold)
+    if is_registered r.registrants host && not (is_registered_with r.registrants host nrkey) then Err status.reservation_conflict
+    else becomes (next_generation r (with_key r.registrants host nrkey) r.hold)
 
 -- Reservation Register command, Unregister Reservation Key. With IEKEY the key that the host gives is not looked at.
 abbrev pub unregister : Reservation → ℕ → Bool → ℕ → Outcome
 unregister r host iekey crkey =
     if is_registered r.registrants host && (iekey || is_registered_with r.registrants host crkey)
-    then Ok (reduced r (filter (λ x. not (x.host == host)) r.registrants))
-    else Err conflict
+    then becomes (remaining r (filter (λ x. not (x.host == host)) r.registrants))
+    else Err status.reservation_conflict
 
 -- Reservation Register command, Replace Reservation Key. With IEKEY a host that is not registered is registered.
 abbrev pub replace : Reservation → ℕ → Bool → ℕ → ℕ → Outcome
 replace r host iekey crkey nrkey =
-    if iekey || is_registered_with r.registrants host crkey then Ok (changed r (with_key r.registrants host nrkey) r.hold)
-    else Err conflict
+    if iekey || is_registered_with r.registrants host crkey
+    then becomes (next_generation r (with_key r.registrants host nrkey) r.hold)
+    else Err status.reservation_conflict
 
 -- Reservation Acquire command, Acquire.
 abbrev pub acquire : Reservation → ℕ → ℕ → ℕ → Outcome
 acquire r host rtype crkey =
-    if not (is_registered_with r.registrants host crkey) then Err conflict
-    else (if is_free r.hold then Ok (record r { hold = taken_by host rtype })
-    else (if is_of_type r.hold rtype && is_holder r host then Ok r
-    else Err conflict))
+    if not (is_registered_with r.registrants host crkey) then Err status.reservation_conflict
+    else (if is_free r.hold then becomes (record r { hold = taken_by host rtype })
+    else (if is_of_type r.hold rtype && is_holder r host then becomes r
+    else Err status.reservation_conflict))
 
 -- Reservation Acquire command, Preempt. Key 0 stands for all other registrants of a reservation that all hold; the key of
 -- a single holder takes its reservation; any other key only removes the registrants that have it.
 abbrev pub preempt : Reservation → ℕ → ℕ → ℕ → ℕ → Outcome
 preempt r host rtype crkey prkey =
-    if not (is_registered_with r.registrants host crkey) then Err conflict
+    if not (is_registered_with r.registrants host crkey) then Err status.reservation_conflict
     else (if prkey == 0
-    then (if is_of_all r.hold then Ok (changed r (filter (λ x. x.host == host) r.registrants) (taken_by host rtype)) else Err invalid_field)
+    then (if is_of_all r.hold
+    then preempts r (next_generation r (filter (λ x. x.host == host) r.registrants) (taken_by host rtype))
+    else Err status.invalid_field_in_command)
     else (if is_holders_key r prkey
-    then Ok (changed r (filter (λ x. (x.host == host) || not (x.key == prkey)) r.registrants) (taken_by host rtype))
-    else (if is_key_in_use r.registrants prkey then Ok (reduced r (filter (λ x. not (x.key == prkey)) r.registrants))
-    else Err conflict)))
+    then preempts r (next_generation r (filter (λ x. (x.host == host) || not (x.key == prkey)) r.registrants) (taken_by host rtype))
+    else (if is_key_in_use r.registrants prkey
+    then preempts r (remaining r (filter (λ x. not (x.key == prkey)) r.registrants))
+    else Err status.reservation_conflict)))
 
 -- Reservation Release command, Release. A registrant that holds nothing succeeds and changes nothing.
 abbrev pub release : Reservation → ℕ → ℕ → ℕ → Outcome
 release r host rtype crkey =
-    if not (is_registered_with r.registrants host crkey) then Err conflict
-    else (if not (is_holder r host) then Ok r
-    else (if is_of_type r.hold rtype then Ok (record r { hold = Free })
-    else Err invalid_field))
+    if not (is_registered_with r.registrants host crkey) then Err status.reservation_conflict
+    else (if not (is_holder r host) then becomes r
+    else (if is_of_type r.hold rtype then becomes (record r { hold = Free })
+    else Err status.invalid_field_in_command))
 
 -- Reservation Release command, Clear.
 abbrev pub clear : Reservation → ℕ → ℕ → Outcome
 clear r host crkey =
-    if is_registered_with r.registrants host crkey then Ok (changed r [] Free) else Err conflict
-
--- the hosts that were registered and no longer are, by rising host
-abbrev pub removed_hosts : List Registrant → List Registrant → List ℕ
-removed_hosts before after = map (λ r. r.host) (filter (λ r. not (is_registered after r.host)) before)
+    if is_registered_with r.registrants host crkey then becomes (next_generation r [] Free) else Err status.reservation_conflict

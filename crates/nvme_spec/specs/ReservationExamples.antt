@@ -5,18 +5,23 @@ use Rattle.nvme_spec.specs.declared.access.Hold.{Hold}
 use Rattle.nvme_spec.specs.declared.access.Role.{Role}
 use Rattle.nvme_spec.specs.declared.access.Role.TheVariants.{Outsider, Registrant as OnlyRegistrant, Holder}
 use Rattle.nvme_spec.specs.declared.access.Group.TheVariants.{Read, Write}
-use Rattle.nvme_spec.specs.Reservation.{Reservation, Outcome}
+use Rattle.nvme_spec.specs.Reservation.{Reservation, Outcome, becomes}
 use Rattle.nvme_spec.specs.Access.{is_permitted_under}
 use Rattle.nvme_spec.specs.Report.{ControllerHost}
 
+-- Preempt gives the next state, and has removed these hosts
+abbrev pub preempting : Reservation → List ℕ → Outcome
+preempting state hosts = Ok (record { next = state; removed = hosts })
+
 -- one action after another; the first that is denied ends them
 abbrev pub and_then : Outcome → (Reservation → Outcome) → Outcome
-and_then (Ok r) action = action r
+and_then (Ok transition) action = action transition.next
 and_then (Err status) action = Err status
 
 abbrev pub steps : Reservation → List (Reservation → Outcome) → Outcome
-steps r [] = Ok r
-steps r (action ∷ rest) = and_then (action r) (λ next. steps next rest)
+steps r [] = becomes r
+steps r (action ∷ []) = action r
+steps r (action ∷ next ∷ rest) = and_then (action r) (λ state. steps state (next ∷ rest))
 
 -- whether a role may read, and whether it may write
 abbrev pub reads_and_writes : ℕ → Role → Bool × Bool

@@ -7,12 +7,12 @@ use Rattle.nvme_spec.specs.Reservation.{Reservation, Outcome, is_registered}
 
 -- the action is not denied, and the next state is so
 abbrev pub Gives : Outcome → (Reservation → Type 0) → Type 0
-Gives (Ok next) P = P next
+Gives (Ok transition) P = P transition.next
 Gives (Err status) P = ⊥
 
 -- where the action is not denied, the next state is so
 abbrev pub Keeps : Outcome → (Reservation → Type 0) → Type 0
-Keeps (Ok next) P = P next
+Keeps (Ok transition) P = P transition.next
 Keeps (Err status) P = Unit {0}
 
 -- the single holder is a registrant, and where all registrants hold there is one

@@ -1,5 +1,5 @@
 -- Rules that a command is judged by: a list of tests with a number. The first test that fails decides the status.
-use Rattle.std.specs.Prelude.{ℕ, Bool, if◌then◌else◌, List, [], ◌∷◌, Result, Ok, Err}
+use Rattle.std.specs.Prelude.{ℕ, Bool, true, if◌then◌else◌, List, [], ◌∷◌, Option, None, Some, Result, Ok, Err}
 use Rattle.nvme_wire.specs.declared.status.Status.{Status}
 use Rattle.nvme_spec.specs.declared.verdict.Denial.{Denial}
 
@@ -23,13 +23,23 @@ test fails status = record { fails = fails; status = status }
 abbrev pub rule : ℕ → Bool → Status → Rule
 rule number fails status = record { number = number; tests = test fails status ∷ [] }
 
-abbrev pub first_failing_test : ℕ → List Test → Judgement
-first_failing_test number [] = Ok tt
-first_failing_test number (t ∷ rest) = if t.fails then Err (record { rule = number; status = t.status }) else first_failing_test number rest
+-- a test that fails with the status of a refusal
+abbrev pub refusal_tests : {T : Type 0} → Result T Status → List Test
+refusal_tests (Ok next) = []
+refusal_tests (Err refusal) = test true refusal ∷ []
+
+-- the status of the first test that fails
+abbrev pub first_failure : List Test → Option Status
+first_failure [] = None
+first_failure (t ∷ rest) = if t.fails then Some t.status else first_failure rest
+
+abbrev pub denial_by : ℕ → Option Status → Judgement
+denial_by number None = Ok tt
+denial_by number (Some why) = Err (record { rule = number; status = why })
 
 -- what a rule says
-unfoldable pub tested : Rule → Judgement
-tested r = first_failing_test r.number r.tests
+unfoldable pub judgement_by : Rule → Judgement
+judgement_by r = denial_by r.number (first_failure r.tests)
 
 -- a judgement that passes leaves the word to a later one
 abbrev pub else_by : Judgement → Judgement → Judgement
@@ -39,4 +49,4 @@ else_by (Err denial) later = Err denial
 -- the first rule that fails
 abbrev pub first_failing : List Rule → Judgement
 first_failing [] = Ok tt
-first_failing (r ∷ rest) = else_by (tested r) (first_failing rest)
+first_failing (r ∷ rest) = else_by (judgement_by r) (first_failing rest)

@@ -18,14 +18,14 @@ successful_completion = generic 0x00
 abbrev pub invalid_command_opcode : Status
 invalid_command_opcode = generic 0x01
 
-abbrev pub invalid_field : Status
-invalid_field = generic 0x02
+abbrev pub invalid_field_in_command : Status
+invalid_field_in_command = generic 0x02
 
 abbrev pub data_transfer_error : Status
 data_transfer_error = generic 0x04
 
-abbrev pub invalid_namespace : Status
-invalid_namespace = generic 0x0b
+abbrev pub invalid_namespace_or_format : Status
+invalid_namespace_or_format = generic 0x0b
 
 abbrev pub command_sequence_error : Status
 command_sequence_error = generic 0x0c
@@ -33,14 +33,14 @@ command_sequence_error = generic 0x0c
 abbrev pub prp_offset_invalid : Status
 prp_offset_invalid = generic 0x13
 
-abbrev pub host_identifier_inconsistent : Status
-host_identifier_inconsistent = generic 0x18
+abbrev pub host_identifier_inconsistent_format : Status
+host_identifier_inconsistent_format = generic 0x18
 
-abbrev pub aborted_by_preempt : Status
-aborted_by_preempt = generic 0x1b
+abbrev pub command_aborted_due_to_preempt_and_abort : Status
+command_aborted_due_to_preempt_and_abort = generic 0x1b
 
-abbrev pub write_protected : Status
-write_protected = generic 0x20
+abbrev pub namespace_is_write_protected : Status
+namespace_is_write_protected = generic 0x20
 
 abbrev pub lba_out_of_range : Status
 lba_out_of_range = generic 0x80
@@ -60,8 +60,8 @@ invalid_queue_size = specific 0x02
 abbrev pub invalid_queue_deletion : Status
 invalid_queue_deletion = specific 0x0c
 
-abbrev pub feature_not_saveable : Status
-feature_not_saveable = specific 0x0d
+abbrev pub feature_identifier_not_saveable : Status
+feature_identifier_not_saveable = specific 0x0d
 
 abbrev pub feature_not_changeable : Status
 feature_not_changeable = specific 0x0e

@@ -4,7 +4,7 @@ use Rattle.std.specs.Prelude.{slice_range, slice_index, ℕ, ◌+◌, ◌*◌, �
 use Rattle.std.specs.List.{range_with_len}
 use Rattle.nvme_spec.specs.declared.pointer.Piece.{Piece}
 use Rattle.nvme_spec.specs.Pointer.{Transfer, room, address}
-use Rattle.nvme_spec.specs.Transfers.{addresses, gathered, scattered, gathered_blocks, scattered_blocks}
+use Rattle.nvme_spec.specs.Transfers.{addresses, gathered_bytes, with_scattered, gathered_blocks, with_scattered_blocks}
 
 -- k is the greatest place of an address among those of the bytes
 abbrev pub StandsLastAt : List ℕ → ℕ → ℕ → Type 0
@@ -16,29 +16,29 @@ StandsLastAt places a k =
 abbrev pub LastByteIsKept : Type 0
 LastByteIsKept =
     (window places bytes : List ℕ) (a k : ℕ) → length places ≡ length bytes → a < length window
-    → StandsLastAt places a k → slice_index (scattered window places bytes) a ≡ slice_index bytes k
+    → StandsLastAt places a k → slice_index (with_scattered window places bytes) a ≡ slice_index bytes k
 
 -- an address that is not named keeps what it held
 abbrev pub OthersStay : Type 0
 OthersStay =
     (window places bytes : List ℕ) (a : ℕ) → ((i : ℕ) → i < length places → slice_index places i ≢ a)
-    → slice_index (scattered window places bytes) a ≡ slice_index window a
+    → slice_index (with_scattered window places bytes) a ≡ slice_index window a
 
 -- blocks gathered one after the other, and joined, are all bytes
 abbrev pub BlocksMakeTheWhole : Type 0
 BlocksMakeTheWhole =
     (window : List ℕ) (ps : List Piece) (n : ℕ) → length (addresses ps) ≡ 512 * n
-    → gathered_blocks window ps 0 n ≡ gathered window (addresses ps)
+    → gathered_blocks window ps 0 n ≡ gathered_bytes window (addresses ps)
 
 -- blocks scattered one after the other leave what all bytes leave that are scattered at once
 abbrev pub BlocksScatterTheWhole : Type 0
 BlocksScatterTheWhole =
     (window : List ℕ) (ps : List Piece) (n : ℕ) (bytes : List ℕ) → length (addresses ps) ≡ 512 * n
-    → length bytes ≡ 512 * n → scattered_blocks window ps 0 n bytes ≡ scattered window (addresses ps) bytes
+    → length bytes ≡ 512 * n → with_scattered_blocks window ps 0 n bytes ≡ with_scattered window (addresses ps) bytes
 
 -- a transfer that fits into its first page lies in one run from PRP1 on
 abbrev pub SmallIsContiguous : Type 0
 SmallIsContiguous =
     (t : Transfer) → t.bytes ≤ room t.prp1 → t.prp1 + t.bytes ≤ length t.window
     → (map (address t) (range_with_len 0 t.bytes) ≡ range_with_len t.prp1 t.bytes)
-    × (gathered t.window (map (address t) (range_with_len 0 t.bytes)) ≡ slice_range t.window t.prp1 (t.prp1 + t.bytes))
+    × (gathered_bytes t.window (map (address t) (range_with_len 0 t.bytes)) ≡ slice_range t.window t.prp1 (t.prp1 + t.bytes))

@@ -1,11 +1,12 @@
 -- The subsystem as its rules see it (Base Specification: NVM Subsystem, Controllers, Namespaces): the
 -- controllers with their hosts, the namespaces with who may change them, and which are attached to which.
-use Rattle.std.specs.Prelude.{ℕ, ◌+◌, ◌≤◌, Bool, false, ◌&&◌, ◌==◌, List, [], ◌∷◌, map, Option, option_map, find, if◌then◌else◌}
+use Rattle.std.specs.Prelude.{ℕ, ◌+◌, ◌*◌, ◌≤◌, Bool, false, ◌&&◌, ◌==◌, List, [], ◌∷◌, map, Option, option_map, find, if◌then◌else◌}
 use Rattle.std.specs.List.{list_any, AllByRecursion}
 use Rattle.nvme_spec.specs.declared.config.ControllerConfig.{ControllerConfig}
 use Rattle.nvme_spec.specs.declared.config.NsConfig.{NsConfig}
-use Rattle.nvme_spec.specs.declared.config.Attachment.{Attachment}
+use Rattle.nvme_spec.specs.Blocks.{blocks_from}
 use Rattle.nvme_spec.specs.Configuration.{Configuration}
+use Rattle.nvme_spec.specs.Report.{ControllerHost}
 use Rattle.nvme_spec.specs.Reservation.{Reservation, unreserved}
 
 -- A namespace: its place on the medium, who may reach it, and who has reserved it.
@@ -17,14 +18,19 @@ pub record Namespace : Type 0 where
   pub protected : Bool
   pub reservation : Reservation
 
+-- the bytes of its blocks
+abbrev pub namespace_bytes : List ℕ → Namespace → List ℕ
+namespace_bytes content n = blocks_from content n.first (512 * n.blocks)
+
+-- An attachment is a pair of a controller's identifier and a namespace's.
 pub record World : Type 0 where
-  pub controllers : List ControllerConfig
+  pub controllers : List ControllerHost
   pub namespaces : List Namespace
-  pub attachments : List Attachment
+  pub attachments : List (ℕ × ℕ)
 
 -- the host that a controller belongs to
 unfoldable pub host_of : World → ℕ → Option ℕ
-host_of w cntlid = option_map (λ (k : ControllerConfig). k.host) (find (λ k. k.cntlid == cntlid) w.controllers)
+host_of w cntlid = option_map (λ (k : ControllerHost). k.1) (find (λ (k : ControllerHost). k.0 == cntlid) w.controllers)
 
 -- the namespace with this identifier
 unfoldable pub namespace_of : World → ℕ → Option Namespace
@@ -32,7 +38,11 @@ namespace_of w nsid = find (λ n. n.nsid == nsid) w.namespaces
 
 -- the namespace is attached to the controller
 unfoldable pub is_attached : World → ℕ → ℕ → Bool
-is_attached w cntlid nsid = list_any (λ a. (a.cntlid == cntlid) && (a.nsid == nsid)) w.attachments
+is_attached w cntlid nsid = list_any (λ (a : ℕ × ℕ). (a.0 == cntlid) && (a.1 == nsid)) w.attachments
+
+-- a controller of a configuration, and its host
+abbrev pub controller_host : ControllerConfig → ControllerHost
+controller_host k = (k.cntlid, k.host)
 
 -- namespaces lie on the medium one after the other, from this block on; nobody has registered, nothing is protected
 abbrev pub laid_out : ℕ → List NsConfig → List Namespace
@@ -41,15 +51,12 @@ laid_out first (n ∷ rest) =
     record { nsid = n.nsid; first = first; blocks = n.blocks; shared = n.shared; protected = false; reservation = unreserved }
     ∷ laid_out (first + n.blocks) rest
 
-abbrev pub attachment : ℕ × ℕ → Attachment
-attachment pair = record { cntlid = pair.0; nsid = pair.1 }
-
 -- the world that a configuration opens with
 unfoldable pub opening_world : Configuration → World
 opening_world c = record {
-  controllers = c.controllers;
+  controllers = map controller_host c.controllers;
   namespaces = laid_out 0 c.namespaces;
-  attachments = map attachment c.attached;
+  attachments = c.attached;
 }
 
 -- every namespace lies within a medium of so many blocks
@@ -57,14 +64,14 @@ abbrev pub LiesWithin : ℕ → List Namespace → Type 0
 LiesWithin size namespaces = AllByRecursion (λ n. n.first + n.blocks ≤ size) namespaces
 
 -- the namespaces, where that with this identifier is changed
-abbrev pub changed_namespace : (Namespace → Namespace) → ℕ → List Namespace → List Namespace
-changed_namespace change nsid [] = []
-changed_namespace change nsid (n ∷ rest) = if n.nsid == nsid then change n ∷ rest else n ∷ changed_namespace change nsid rest
+abbrev pub with_namespace : (Namespace → Namespace) → ℕ → List Namespace → List Namespace
+with_namespace change nsid [] = []
+with_namespace change nsid (n ∷ rest) = if n.nsid == nsid then change n ∷ rest else n ∷ with_namespace change nsid rest
 
 -- the world, where the namespace with this identifier is reserved in this way
 abbrev pub with_reservation : World → ℕ → Reservation → World
-with_reservation w nsid r = record w { namespaces = changed_namespace (λ n. record n { reservation = r }) nsid w.namespaces }
+with_reservation w nsid r = record w { namespaces = with_namespace (λ n. record n { reservation = r }) nsid w.namespaces }
 
 -- the world, where the namespace with this identifier is write protected, or no longer is
 abbrev pub with_protection : World → ℕ → Bool → World
-with_protection w nsid protected = record w { namespaces = changed_namespace (λ n. record n { protected = protected }) nsid w.namespaces }
+with_protection w nsid protected = record w { namespaces = with_namespace (λ n. record n { protected = protected }) nsid w.namespaces }

@@ -15,6 +15,17 @@ pub enum Command {
     ReservationRelease,
 }
 
+/// What an I/O command works on.
+#[derive(Clone, Copy, Debug, PartialEq, Eq)]
+pub enum CommandKind {
+    /// The blocks of a namespace.
+    OnBlocks,
+    /// The reservation of a namespace, which it may change.
+    OnReservation,
+    /// The reservation of a namespace, which it reports.
+    OnReport,
+}
+
 /// The admin commands, of queue 0 (Base Specification 2.0, Admin Command Set).
 #[derive(Clone, Copy, Debug, PartialEq, Eq)]
 pub enum AdminCommand {

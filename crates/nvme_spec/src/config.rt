@@ -22,13 +22,6 @@ pub struct NsConfig {
     pub shared: bool,
 }
 
-/// A namespace that is attached to a controller.
-#[derive(Clone, Copy, Debug, Default, PartialEq, Eq)]
-pub struct Attachment {
-    pub cntlid: u16,
-    pub nsid: u32,
-}
-
 /// The controllers and namespaces of a subsystem, and which are attached to which.
 #[derive(Debug, Drop)]
 pub struct Config {

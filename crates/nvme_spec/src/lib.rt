@@ -7,14 +7,16 @@ mod command;
 mod config;
 mod examples;
 mod laws;
+mod outcome;
 mod pointer;
 mod queues;
 mod registers;
 mod verdict;
 
 pub use access::{Group, Hold, Registrant, Role};
-pub use command::{AdminCommand, Command};
-pub use config::{Attachment, Config, ConfigFault, ControllerConfig, NsConfig};
+pub use command::{AdminCommand, Command, CommandKind};
+pub use config::{Config, ConfigFault, ControllerConfig, NsConfig};
+pub use outcome::{Marks, Outcome};
 pub use pointer::{DataFault, Piece};
 pub use queues::{QueueChange, Queues};
 pub use registers::{AdminQueues, ControllerState, RegEffect};

@@ -2,7 +2,7 @@
 
 ghost use Rattle.std.specs.Prelude.{◌≡◌, IfOk};
 ghost use Rattle.nvme_spec.specs.World.{LiesWithin};
-ghost use Rattle.nvme_spec.specs.IoSteps.{HasKnownRegistrants};
+ghost use Rattle.nvme_spec.specs.Execution.{HasKnownRegistrants};
 
 use crate::execute;
 use nvme_medium::Medium;

@@ -22,7 +22,7 @@ impl Reservation {
     /// Reservation Conflict where the host is registered with another key. Nothing is changed then.
     pub fn register(&mut self, host: u64, nrkey: u64) -> Result<Change, Status>
         requires { HasRoomFor self.old host }
-        ensures { Follows (resv.register self.old host nrkey) (λ _. []) self.old result self.new }
+        ensures { Follows (resv.register self.old host nrkey) self.old result self.new }
     {
         if is_registered(&self.registrants, host) && !self.has_key(host, nrkey) {
             return Err(Status::RESERVATION_CONFLICT);
@@ -38,7 +38,7 @@ impl Reservation {
     /// Reservation Conflict where the host is not registered, or where IEKEY is clear and CRKEY is not its key. Nothing is
     /// changed then.
     pub fn unregister(&mut self, host: u64, iekey: bool, crkey: u64) -> Result<Change, Status>
-        ensures { Follows (resv.unregister self.old host iekey crkey) (λ _. []) self.old result self.new }
+        ensures { Follows (resv.unregister self.old host iekey crkey) self.old result self.new }
     {
         let has_right_key = iekey || self.has_key(host, crkey);
         if !is_registered(&self.registrants, host) || !has_right_key {
@@ -64,7 +64,7 @@ impl Reservation {
         nrkey: u64,
     ) -> Result<Change, Status>
         requires { HasRoomFor self.old host }
-        ensures { Follows (resv.replace self.old host iekey crkey nrkey) (λ _. []) self.old result self.new }
+        ensures { Follows (resv.replace self.old host iekey crkey nrkey) self.old result self.new }
     {
         if !iekey && !self.has_key(host, crkey) {
             return Err(Status::RESERVATION_CONFLICT);
@@ -81,14 +81,14 @@ impl Reservation {
     /// where it is of another type. Nothing is changed then.
     pub fn acquire(&mut self, host: u64, rtype: u8, crkey: u64) -> Result<Change, Status>
         requires { (1 ≤ rtype) × (rtype ≤ 6) }
-        ensures { Follows (resv.acquire self.old host rtype crkey) (λ _. []) self.old result self.new }
+        ensures { Follows (resv.acquire self.old host rtype crkey) self.old result self.new }
     {
         if !self.has_key(host, crkey) {
             return Err(Status::RESERVATION_CONFLICT);
         }
         match self.hold {
             Hold::Free => {
-                self.hold = take(host, rtype);
+                self.hold = taken_by(host, rtype);
                 Ok(Change::none())
             }
             Hold::One(held, _) | Hold::All(held) if held == rtype && self.is_holder(host) => Ok(
@@ -117,7 +117,7 @@ impl Reservation {
         prkey: u64,
     ) -> Result<Change, Status>
         requires { (1 ≤ rtype) × (rtype ≤ 6) }
-        ensures { Follows (resv.preempt self.old host rtype crkey prkey) (λ next. resv.removed_hosts self.old.registrants next.registrants) self.old result self.new }
+        ensures { Follows (resv.preempt self.old host rtype crkey prkey) self.old result self.new }
     {
         if !self.has_key(host, crkey) {
             return Err(Status::RESERVATION_CONFLICT);
@@ -145,7 +145,7 @@ impl Reservation {
     /// Reservation Conflict where the host is not registered with CRKEY; Invalid Field in Command where it is a holder and
     /// RTYPE is not the type that it holds. Nothing is changed then.
     pub fn release(&mut self, host: u64, rtype: u8, crkey: u64) -> Result<Change, Status>
-        ensures { Follows (resv.release self.old host rtype crkey) (λ _. []) self.old result self.new }
+        ensures { Follows (resv.release self.old host rtype crkey) self.old result self.new }
     {
         if !self.has_key(host, crkey) {
             return Err(Status::RESERVATION_CONFLICT);
@@ -165,7 +165,7 @@ impl Reservation {
     ///
     /// Reservation Conflict where the host is not registered with CRKEY. Nothing is changed then.
     pub fn clear(&mut self, host: u64, crkey: u64) -> Result<Change, Status>
-        ensures { Follows (resv.clear self.old host crkey) (λ _. []) self.old result self.new }
+        ensures { Follows (resv.clear self.old host crkey) self.old result self.new }
     {
         if !self.has_key(host, crkey) {
             return Err(Status::RESERVATION_CONFLICT);
@@ -179,7 +179,7 @@ impl Reservation {
     /// Registers the host with this key, or gives it this key.
     fn give_key(&mut self, host: u64, key: u64) -> Change
         requires { HasRoomFor self.old host }
-        ensures next { self.new ≡ resv.changed self.old (resv.with_key self.old.registrants host key) self.old.hold }
+        ensures next { self.new ≡ resv.next_generation self.old (resv.with_key self.old.registrants host key) self.old.hold }
         ensures removed { result.removed.items ≡ [] }
     {
         set_key(&mut self.registrants, host, key);
@@ -189,31 +189,31 @@ impl Reservation {
 
     /// Removes the host.
     fn remove_host(&mut self, host: u64)
-        ensures { self.new ≡ resv.reduced self.old (filter (λ r. not (r.host == host)) self.old.registrants) }
+        ensures { self.new ≡ resv.remaining self.old (filter (λ r. not (r.host == host)) self.old.registrants) }
     {
         remove_host(&mut self.registrants, host);
-        self.hold = settle(self.hold, &self.registrants);
+        self.hold = remaining_hold(self.hold, &self.registrants);
         self.generation = self.generation.wrapping_add(1);
     }
 
     /// Removes all with this key.
     fn remove_key(&mut self, key: u64) -> Change
-        ensures next { self.new ≡ resv.reduced self.old (filter (λ r. not (r.key == key)) self.old.registrants) }
+        ensures next { self.new ≡ resv.remaining self.old (filter (λ r. not (r.key == key)) self.old.registrants) }
         ensures removed { result.removed.items ≡ resv.removed_hosts self.old.registrants self.new.registrants }
     {
         let removed = expel(&mut self.registrants, Some(key), None);
-        self.hold = settle(self.hold, &self.registrants);
+        self.hold = remaining_hold(self.hold, &self.registrants);
         self.generation = self.generation.wrapping_add(1);
         Change { removed }
     }
 
     /// Removes the others with this key, or all others, and takes the reservation.
     fn take_over(&mut self, host: u64, rtype: u8, key: Option<u64>) -> Change
-        ensures next { self.new ≡ resv.changed self.old (filter (λ r. not (leaves_test key (Some host) r)) self.old.registrants) (resv.taken_by host rtype) }
+        ensures next { self.new ≡ resv.next_generation self.old (filter (λ r. not (leaves_test key (Some host) r)) self.old.registrants) (resv.taken_by host rtype) }
         ensures removed { result.removed.items ≡ resv.removed_hosts self.old.registrants self.new.registrants }
     {
         let removed = expel(&mut self.registrants, key, Some(host));
-        self.hold = take(host, rtype);
+        self.hold = taken_by(host, rtype);
         self.generation = self.generation.wrapping_add(1);
         Change { removed }
     }
@@ -243,7 +243,7 @@ impl Reservation {
 }
 
 /// The hold of a host that takes a reservation of this type.
-fn take(host: u64, rtype: u8) -> Hold
+fn taken_by(host: u64, rtype: u8) -> Hold
     ensures { result ≡ resv.taken_by host rtype }
 {
     if rtype <= 4 {
@@ -253,9 +253,9 @@ fn take(host: u64, rtype: u8) -> Hold
     }
 }
 
-/// What is left of a hold beside the registrants that are left.
-fn settle(hold: Hold, registrants: &[Registrant]) -> Hold
-    ensures { result ≡ resv.settled hold registrants.now }
+/// What is left of a hold where these are the registrants that are left.
+fn remaining_hold(hold: Hold, registrants: &[Registrant]) -> Hold
+    ensures { result ≡ resv.remaining_hold hold registrants.now }
 {
     match hold {
         Hold::One(_, holder) if !is_registered(registrants, holder) => Hold::Free,

@@ -63,7 +63,7 @@ impl Reservation {
     /// How many of the controllers have a host that is registered.
     fn count_reported(&self, controllers: &[(u16, u64)]) -> u16
         requires { length controllers.now ≤ 16 }
-        ensures { result ≡ length (spec.reported self.now controllers.now) }
+        ensures { result ≡ length (spec.reported_controllers self.now controllers.now) }
     {
         controllers
             .iter()

@@ -1,5 +1,5 @@
 //! What the rules answer to admin commands of a controller of a cluster.
-#![tactic(auto, unfolding(nvme_wire::specs::Submission::opcode, nvme_wire::specs::Submission::fuse, nvme_wire::specs::Submission::psdt, nvme_wire::specs::Submission::nsid, nvme_wire::specs::Submission::prp1, nvme_wire::specs::Submission::prp2, nvme_wire::specs::Submission::cdw10, nvme_wire::specs::Submission::cdw11, crate::specs::Entries::command_entry, crate::specs::World::host_of, crate::specs::World::namespace_of, crate::specs::World::is_attached, crate::specs::World::opening_world, crate::specs::AdminExamples::cluster_world, crate::specs::AdminExamples::reserved_world, crate::specs::AdminExamples::listing, crate::specs::AdminCommands::command_of, crate::specs::AdminCommands::queue_id, crate::specs::AdminCommands::queue_size, crate::specs::AdminCommands::is_contiguous, crate::specs::AdminCommands::completion_queue_id, crate::specs::AdminCommands::structure, crate::specs::AdminCommands::feature_id, crate::specs::AdminCommands::is_saved, crate::specs::AdminCommands::submission_queues_requested, crate::specs::AdminCommands::completion_queues_requested, crate::specs::AdminCommands::protection_state, crate::specs::AdminCommands::has_extended_host, crate::specs::AdminCommands::selection, crate::specs::Rules::tested, crate::specs::IoRules::form_rule, crate::specs::Pointer::fault_of, crate::specs::Pointer::first_fault, crate::specs::AdminRules::opcode_rule, crate::specs::AdminRules::nsid_rule, crate::specs::AdminRules::attachment_rule, crate::specs::AdminRules::completion_queue_rule, crate::specs::AdminRules::submission_queue_rule, crate::specs::AdminRules::submission_deletion_rule, crate::specs::AdminRules::completion_deletion_rule, crate::specs::AdminRules::identify_rule, crate::specs::AdminRules::set_features_rule, crate::specs::AdminRules::get_features_rule, crate::specs::AdminRules::selection_rule, crate::specs::AdminRules::reservation_rule, crate::specs::AdminRules::places, crate::specs::AdminRules::pointer_rule, crate::specs::AdminRules::list_count, crate::specs::AdminRules::listed_controllers, crate::specs::AdminRules::list_rule, crate::specs::Attachments::list_answer, crate::specs::Attachments::has_controller, crate::specs::Attachments::attach_answer, crate::specs::Attachments::detach_answer, crate::specs::Attachments::attach, crate::specs::Attachments::detach, crate::specs::AdminRules::admin_judgement, crate::specs::Transfers::addresses))]
+#![tactic(auto, unfolding(nvme_wire::specs::Submission::opcode, nvme_wire::specs::Submission::fuse, nvme_wire::specs::Submission::psdt, nvme_wire::specs::Submission::nsid, nvme_wire::specs::Submission::prp1, nvme_wire::specs::Submission::prp2, nvme_wire::specs::Submission::cdw10, nvme_wire::specs::Submission::cdw11, crate::specs::Entries::command_entry, crate::specs::World::host_of, crate::specs::World::namespace_of, crate::specs::World::is_attached, crate::specs::World::opening_world, crate::specs::AdminExamples::cluster_world, crate::specs::AdminExamples::reserved_world, crate::specs::AdminExamples::listing, crate::specs::AdminCommands::command_of, crate::specs::AdminCommands::qid, crate::specs::AdminCommands::queue_size, crate::specs::AdminCommands::pc, crate::specs::AdminCommands::cqid, crate::specs::AdminCommands::cns, crate::specs::AdminCommands::fid, crate::specs::AdminCommands::sv, crate::specs::AdminCommands::nsqr, crate::specs::AdminCommands::ncqr, crate::specs::AdminCommands::wps, crate::specs::AdminCommands::exhid, crate::specs::AdminCommands::sel, crate::specs::Rules::judgement_by, crate::specs::IoRules::form_rule, crate::specs::Pointer::fault_of, crate::specs::Pointer::first_fault, crate::specs::AdminRules::opcode_rule, crate::specs::AdminRules::nsid_rule, crate::specs::AdminRules::attachment_rule, crate::specs::AdminRules::completion_queue_rule, crate::specs::AdminRules::submission_queue_rule, crate::specs::AdminRules::submission_deletion_rule, crate::specs::AdminRules::completion_deletion_rule, crate::specs::AdminRules::identify_rule, crate::specs::AdminRules::set_features_rule, crate::specs::AdminRules::get_features_rule, crate::specs::AdminRules::selection_rule, crate::specs::AdminRules::reservation_rule, crate::specs::DataRules::data_addresses, crate::specs::DataRules::pointer_rule, crate::specs::AdminRules::list_count, crate::specs::AdminRules::listed_controllers, crate::specs::AdminRules::list_rule, crate::specs::Attachments::list_tests, crate::specs::Attachments::has_controller, crate::specs::Attachments::attach_tests, crate::specs::Attachments::detach_tests, crate::specs::Attachments::attach, crate::specs::Attachments::detach, crate::specs::AdminRules::admin_judgement, crate::specs::Transfers::addresses))]
 
 ghost use Rattle.std.specs.Prelude.{◌≡◌, [], ◌∷◌, Ok};
 ghost use Rattle.nvme_spec.specs.Entries.{command_entry};
@@ -18,9 +18,9 @@ fn completion_queues()
     ensures sixty_five_entries { admin_judgement cluster_world one_completion_queue 1 (command_entry 5 0 0x3000 0x00400002 1) [] ≡ denied 6 status.invalid_queue_size }
     ensures one_entry { admin_judgement cluster_world one_completion_queue 1 (command_entry 5 0 0x3000 0x00000002 1) [] ≡ denied 6 status.invalid_queue_size }
     ensures offset { admin_judgement cluster_world one_completion_queue 1 (command_entry 5 0 0x3004 0x001f0002 1) [] ≡ denied 6 status.prp_offset_invalid }
-    ensures outside { admin_judgement cluster_world one_completion_queue 1 (command_entry 5 0 0x400000 0x001f0002 1) [] ≡ denied 6 status.invalid_field }
-    ensures not_contiguous { admin_judgement cluster_world one_completion_queue 1 (command_entry 5 0 0x3000 0x001f0002 0) [] ≡ denied 6 status.invalid_field }
-    ensures contiguous_first { admin_judgement cluster_world one_completion_queue 1 (command_entry 5 0 0x3004 0x00400001 0) [] ≡ denied 6 status.invalid_field }
+    ensures outside { admin_judgement cluster_world one_completion_queue 1 (command_entry 5 0 0x400000 0x001f0002 1) [] ≡ denied 6 status.invalid_field_in_command }
+    ensures not_contiguous { admin_judgement cluster_world one_completion_queue 1 (command_entry 5 0 0x3000 0x001f0002 0) [] ≡ denied 6 status.invalid_field_in_command }
+    ensures contiguous_first { admin_judgement cluster_world one_completion_queue 1 (command_entry 5 0 0x3004 0x00400001 0) [] ≡ denied 6 status.invalid_field_in_command }
 {}
 
 /// An I/O submission queue of 8 entries at 2000h needs a completion queue, which can't be deleted while it is used.
@@ -42,21 +42,21 @@ fn submission_queues()
 fn set_features()
     ensures queues { admin_judgement cluster_world only_admin_queues 1 (command_entry 9 0 0 0x07 0x00070007) [] ≡ Ok tt }
     ensures after_a_queue { admin_judgement cluster_world one_completion_queue 1 (command_entry 9 0 0 0x07 0x00070007) [] ≡ denied 6 status.command_sequence_error }
-    ensures too_many_queues { admin_judgement cluster_world only_admin_queues 1 (command_entry 9 0 0 0x07 0x0000ffff) [] ≡ denied 6 status.invalid_field }
+    ensures too_many_queues { admin_judgement cluster_world only_admin_queues 1 (command_entry 9 0 0 0x07 0x0000ffff) [] ≡ denied 6 status.invalid_field_in_command }
     ensures protection { admin_judgement cluster_world only_admin_queues 1 (command_entry 9 1 0 0x84 1) [] ≡ Ok tt }
-    ensures saved { admin_judgement cluster_world only_admin_queues 1 (command_entry 9 1 0 0x80000084 1) [] ≡ denied 6 status.feature_not_saveable }
-    ensures other_state { admin_judgement cluster_world only_admin_queues 1 (command_entry 9 1 0 0x84 2) [] ≡ denied 6 status.invalid_field }
-    ensures host_identifier { admin_judgement cluster_world only_admin_queues 1 (command_entry 9 0 0 0x81 0) [] ≡ denied 6 status.invalid_field }
-    ensures not_attached { admin_judgement cluster_world only_admin_queues 2 (command_entry 9 2 0 0x84 1) [] ≡ denied 5 status.invalid_field }
-    ensures broadcast { admin_judgement cluster_world only_admin_queues 1 (command_entry 9 0xffffffff 0 0x84 1) [] ≡ denied 4 status.invalid_namespace }
+    ensures saved { admin_judgement cluster_world only_admin_queues 1 (command_entry 9 1 0 0x80000084 1) [] ≡ denied 6 status.feature_identifier_not_saveable }
+    ensures other_state { admin_judgement cluster_world only_admin_queues 1 (command_entry 9 1 0 0x84 2) [] ≡ denied 6 status.invalid_field_in_command }
+    ensures host_identifier { admin_judgement cluster_world only_admin_queues 1 (command_entry 9 0 0 0x81 0) [] ≡ denied 6 status.invalid_field_in_command }
+    ensures not_attached { admin_judgement cluster_world only_admin_queues 2 (command_entry 9 2 0 0x84 1) [] ≡ denied 5 status.invalid_field_in_command }
+    ensures broadcast { admin_judgement cluster_world only_admin_queues 1 (command_entry 9 0xffffffff 0 0x84 1) [] ≡ denied 4 status.invalid_namespace_or_format }
     ensures reserved { admin_judgement reserved_world only_admin_queues 2 (command_entry 9 1 0 0x84 1) [] ≡ Ok tt }
 {}
 
 /// Features that are asked for: a host identifier of 8 bytes.
 fn get_features()
     ensures host_identifier { admin_judgement cluster_world only_admin_queues 2 (command_entry 10 0 0x5000 0x81 0) [] ≡ Ok tt }
-    ensures extended { admin_judgement cluster_world only_admin_queues 2 (command_entry 10 0 0x5000 0x81 1) [] ≡ denied 6 status.invalid_field }
-    ensures other { admin_judgement cluster_world only_admin_queues 2 (command_entry 10 0 0x5000 0x82 0) [] ≡ denied 6 status.invalid_field }
+    ensures extended { admin_judgement cluster_world only_admin_queues 2 (command_entry 10 0 0x5000 0x81 1) [] ≡ denied 6 status.invalid_field_in_command }
+    ensures other { admin_judgement cluster_world only_admin_queues 2 (command_entry 10 0 0x5000 0x82 0) [] ≡ denied 6 status.invalid_field_in_command }
     ensures offset { admin_judgement cluster_world only_admin_queues 2 (command_entry 10 0 0x5002 0x81 0) [] ≡ denied 10 status.prp_offset_invalid }
     ensures outside { admin_judgement cluster_world only_admin_queues 2 (command_entry 10 0 0x400000 0x81 0) [] ≡ denied 10 status.data_transfer_error }
     ensures no_data { admin_judgement cluster_world only_admin_queues 2 (command_entry 10 0 0x5002 0x07 0) [] ≡ Ok tt }
@@ -66,12 +66,12 @@ fn get_features()
 fn identify()
     ensures namespaces { admin_judgement cluster_world only_admin_queues 1 (command_entry 6 0 0x5000 2 0) [] ≡ Ok tt }
     ensures unattached { admin_judgement cluster_world only_admin_queues 2 (command_entry 6 2 0x5000 0 0) [] ≡ Ok tt }
-    ensures other_structure { admin_judgement cluster_world only_admin_queues 1 (command_entry 6 0 0x5000 9 0) [] ≡ denied 6 status.invalid_field }
-    ensures ninth_namespace { admin_judgement cluster_world only_admin_queues 1 (command_entry 6 9 0x5000 0 0) [] ≡ denied 4 status.invalid_namespace }
-    ensures above_all { admin_judgement cluster_world only_admin_queues 1 (command_entry 6 0xfffffffe 0x5000 2 0) [] ≡ denied 4 status.invalid_namespace }
+    ensures other_structure { admin_judgement cluster_world only_admin_queues 1 (command_entry 6 0 0x5000 9 0) [] ≡ denied 6 status.invalid_field_in_command }
+    ensures ninth_namespace { admin_judgement cluster_world only_admin_queues 1 (command_entry 6 9 0x5000 0 0) [] ≡ denied 4 status.invalid_namespace_or_format }
+    ensures above_all { admin_judgement cluster_world only_admin_queues 1 (command_entry 6 0xfffffffe 0x5000 2 0) [] ≡ denied 4 status.invalid_namespace_or_format }
     ensures high_but_no_reserved { admin_judgement cluster_world only_admin_queues 1 (command_entry 6 0xfffffffd 0x5000 2 0) [] ≡ Ok tt }
     ensures opcode { admin_judgement cluster_world only_admin_queues 1 (command_entry 0x102 0 0x5000 1 0) [] ≡ denied 2 status.invalid_command_opcode }
-    ensures fused { admin_judgement cluster_world only_admin_queues 1 (command_entry 0x106 9 0x5000 0 0) [] ≡ denied 3 status.invalid_field }
+    ensures fused { admin_judgement cluster_world only_admin_queues 1 (command_entry 0x106 9 0x5000 0 0) [] ≡ denied 3 status.invalid_field_in_command }
 {}
 
 /// Namespaces are attached to controllers, and detached.
@@ -84,8 +84,8 @@ fn attachments()
     ensures list_offset { admin_judgement cluster_world only_admin_queues 1 (command_entry 0x15 1 2 1 0) (listing []) ≡ denied 10 status.prp_offset_invalid }
     ensures none { admin_judgement cluster_world only_admin_queues 1 (command_entry 0x15 1 0 0 0) (listing []) ≡ denied 11 status.controller_list_invalid }
     ensures no_controller { admin_judgement cluster_world only_admin_queues 1 (command_entry 0x15 1 0 1 0) (listing (2 ∷ 5 ∷ [])) ≡ denied 11 status.controller_list_invalid }
-    ensures no_namespace { admin_judgement cluster_world only_admin_queues 1 (command_entry 0x15 3 0 0 0) (listing (1 ∷ [])) ≡ denied 6 status.invalid_field }
-    ensures other_selection { admin_judgement cluster_world only_admin_queues 1 (command_entry 0x15 1 0 2 0) (listing (2 ∷ [])) ≡ denied 6 status.invalid_field }
+    ensures no_namespace { admin_judgement cluster_world only_admin_queues 1 (command_entry 0x15 3 0 0 0) (listing (1 ∷ [])) ≡ denied 6 status.invalid_field_in_command }
+    ensures other_selection { admin_judgement cluster_world only_admin_queues 1 (command_entry 0x15 1 0 2 0) (listing (2 ∷ [])) ≡ denied 6 status.invalid_field_in_command }
     ensures detached { admin_judgement cluster_world only_admin_queues 2 (command_entry 0x15 1 0 1 0) (listing (2 ∷ [])) ≡ Ok tt }
     ensures not_attached { admin_judgement cluster_world only_admin_queues 2 (command_entry 0x15 2 0 1 0) (listing (1 ∷ 2 ∷ [])) ≡ denied 11 status.namespace_not_attached }
     ensures second_of_a_private { admin_judgement (without_attached cluster_world 2 (1 ∷ [])) only_admin_queues 1 (command_entry 0x15 2 0 0 0) (listing (1 ∷ 2 ∷ [])) ≡ denied 11 status.namespace_is_private }

@@ -1,15 +1,15 @@
 //! What the rules answer to the controllers of a cluster, as reservations, attachments and protection change.
-#![tactic(auto, unfolding(nvme_wire::specs::Submission::opcode, nvme_wire::specs::Submission::fuse, nvme_wire::specs::Submission::psdt, nvme_wire::specs::Submission::nsid, nvme_wire::specs::Submission::cdw10, nvme_wire::specs::Submission::cdw11, nvme_wire::specs::Submission::cdw12, crate::specs::Entries::transfer_entry, crate::specs::World::host_of, crate::specs::World::namespace_of, crate::specs::World::is_attached, crate::specs::World::opening_world, crate::specs::Commands::command_of, crate::specs::Commands::first_block, crate::specs::Commands::block_count, crate::specs::Rules::tested, crate::specs::IoRules::mark_rule, crate::specs::IoRules::opcode_rule, crate::specs::IoRules::form_rule, crate::specs::IoRules::nsid_rule, crate::specs::IoRules::attachment_rule, crate::specs::IoRules::field_rule, crate::specs::IoRules::reservation_rule, crate::specs::IoRules::protection_rule, crate::specs::IoRules::range_rule, crate::specs::IoRules::verdict, nvme_wire::specs::Submission::prp1, nvme_wire::specs::Submission::prp2, crate::specs::Entries::command_entry, crate::specs::AdminExamples::cluster_world, crate::specs::Commands::action, crate::specs::Commands::ignores_key, crate::specs::Commands::persistence, crate::specs::Commands::reservation_type, crate::specs::Commands::is_extended, crate::specs::Commands::report_length, crate::specs::IoData::places, crate::specs::IoData::pointer_rule, crate::specs::IoData::reserved, crate::specs::IoData::action_rule, crate::specs::IoData::io_verdict, crate::specs::Pointer::fault_of, crate::specs::Pointer::first_fault, crate::specs::Transfers::addresses, crate::specs::ClusterExamples::after_sent, crate::specs::Report::header, crate::specs::Report::entry_of, crate::specs::Report::report_data))]
+#![tactic(auto, unfolding(nvme_wire::specs::Submission::opcode, nvme_wire::specs::Submission::fuse, nvme_wire::specs::Submission::psdt, nvme_wire::specs::Submission::nsid, nvme_wire::specs::Submission::cdw10, nvme_wire::specs::Submission::cdw11, nvme_wire::specs::Submission::cdw12, crate::specs::Entries::transfer_entry, crate::specs::World::host_of, crate::specs::World::namespace_of, crate::specs::World::is_attached, crate::specs::World::opening_world, crate::specs::Commands::command_of, crate::specs::Commands::starting_lba, crate::specs::Commands::block_count, crate::specs::Rules::judgement_by, crate::specs::IoRules::mark_rule, crate::specs::IoRules::opcode_rule, crate::specs::IoRules::form_rule, crate::specs::IoRules::nsid_rule, crate::specs::IoRules::attachment_rule, crate::specs::IoRules::field_rule, crate::specs::IoRules::reservation_rule, crate::specs::IoRules::protection_rule, crate::specs::IoRules::range_rule, crate::specs::IoRules::verdict, nvme_wire::specs::Submission::prp1, nvme_wire::specs::Submission::prp2, crate::specs::Entries::command_entry, crate::specs::AdminExamples::cluster_world, crate::specs::Commands::action, crate::specs::Commands::iekey, crate::specs::Commands::cptpl, crate::specs::Commands::rtype, crate::specs::Commands::eds, crate::specs::Commands::report_length, crate::specs::DataRules::data_addresses, crate::specs::DataRules::pointer_rule, crate::specs::IoData::action_outcome, crate::specs::IoData::action_rule, crate::specs::IoData::io_judgement, crate::specs::Pointer::fault_of, crate::specs::Pointer::first_fault, crate::specs::Transfers::addresses, crate::specs::ClusterExamples::after_sent, crate::specs::Report::header, crate::specs::Report::entry_of, crate::specs::Report::report_data, crate::specs::IoData::reservation_outcome, crate::specs::Memory::qword))]
 
 ghost use Rattle.std.specs.Prelude.{◌≡◌, [], ◌∷◌, ◌++◌, replicate, true, false};
 ghost use Rattle.nvme_spec.specs.Entries.{transfer_entry, command_entry};
 ghost use Rattle.nvme_spec.specs.World.{with_reservation, with_protection};
-ghost use Rattle.nvme_spec.specs.IoSteps.{Reserves, report_of};
+ghost use Rattle.nvme_spec.specs.Execution.{no_marks, world_after};
 ghost use Rattle.nvme_spec.specs.IoRules.{verdict};
 ghost use Rattle.nvme_spec.specs.Attachments.{without_attached};
 ghost use Rattle.nvme_spec.specs.AdminExamples.{cluster_world};
 ghost use Rattle.nvme_spec.specs.ReservationExamples.{state, a1, b2, c3};
-ghost use Rattle.nvme_spec.specs.ClusterExamples.{at_rest, keys, after_sent, verdict_on, registers, acquires, releases};
+ghost use Rattle.nvme_spec.specs.ClusterExamples.{after_sent, verdict_on, outcome_on, report_on, marks_on, registers, acquires, releases};
 ghost use Rattle.nvme_spec.specs.Statuses as status;
 ghost use Rattle.nvme_spec.specs.declared.verdict.Verdict.TheVariants.{Allowed, Denied};
 
@@ -22,8 +22,8 @@ fn ranges()
     ensures last_block { verdict cluster_world 1 (transfer_entry 2 2 7 1) false ≡ Allowed (record { kind = Command.Read; first = 7; blocks = 1; bytes = 512 }) }
     ensures over_the_end { verdict cluster_world 1 (transfer_entry 2 2 7 2) false ≡ Denied 9 status.lba_out_of_range }
     ensures zeroes { verdict cluster_world 1 (transfer_entry 8 2 0 8) false ≡ Allowed (record { kind = Command.WriteZeroes; first = 0; blocks = 8; bytes = 0 }) }
-    ensures long { verdict cluster_world 1 (transfer_entry 2 1 0 257) false ≡ Denied 6 status.invalid_field }
-    ensures private { verdict cluster_world 2 (transfer_entry 2 2 0 1) false ≡ Denied 5 status.invalid_field }
+    ensures long { verdict cluster_world 1 (transfer_entry 2 1 0 257) false ≡ Denied 6 status.invalid_field_in_command }
+    ensures private { verdict cluster_world 2 (transfer_entry 2 2 0 1) false ≡ Denied 5 status.invalid_field_in_command }
 {}
 
 /// Host a1h registers, and acquires namespace 1 by Write Exclusive: host b2h reads, and does not write.
@@ -32,7 +32,7 @@ fn write_exclusive()
     ensures write { verdict (after_sent cluster_world (registers 1 0 0 0x11 ∷ acquires 1 0 1 0x11 0 ∷ [])) 2 (transfer_entry 1 1 0 1) false ≡ Denied 7 status.reservation_conflict }
     ensures read { verdict (after_sent cluster_world (registers 1 0 0 0x11 ∷ acquires 1 0 1 0x11 0 ∷ [])) 2 (transfer_entry 2 1 0 1) false ≡ Allowed (record { kind = Command.Read; first = 0; blocks = 1; bytes = 512 }) }
     ensures reservation_before_range { verdict (after_sent cluster_world (registers 1 0 0 0x11 ∷ acquires 1 0 1 0x11 0 ∷ [])) 2 (transfer_entry 1 1 64 1) false ≡ Denied 7 status.reservation_conflict }
-    ensures other_type { verdict_on (after_sent cluster_world (registers 1 0 0 0x11 ∷ acquires 1 0 1 0x11 0 ∷ [])) (releases 1 0 3 0x11) ≡ Denied 11 status.invalid_field }
+    ensures other_type { verdict_on (after_sent cluster_world (registers 1 0 0 0x11 ∷ acquires 1 0 1 0x11 0 ∷ [])) (releases 1 0 3 0x11) ≡ Denied 11 status.invalid_field_in_command }
     ensures released { after_sent cluster_world (registers 1 0 0 0x11 ∷ acquires 1 0 1 0x11 0 ∷ releases 1 0 1 0x11 ∷ []) ≡ with_reservation cluster_world 1 (state (a1 0x11 ∷ []) Hold.Free 1) }
     ensures range { verdict (after_sent cluster_world (registers 1 0 0 0x11 ∷ acquires 1 0 1 0x11 0 ∷ releases 1 0 1 0x11 ∷ [])) 2 (transfer_entry 1 1 64 1) false ≡ Denied 9 status.lba_out_of_range }
 {}
@@ -46,13 +46,13 @@ fn roles_by_host()
 /// A controller is detached while its command waits.
 fn detached()
     ensures before { verdict cluster_world 2 (transfer_entry 2 1 0 1) false ≡ Allowed (record { kind = Command.Read; first = 0; blocks = 1; bytes = 512 }) }
-    ensures after { verdict (without_attached cluster_world 1 (2 ∷ [])) 2 (transfer_entry 2 1 0 1) false ≡ Denied 5 status.invalid_field }
+    ensures after { verdict (without_attached cluster_world 1 (2 ∷ [])) 2 (transfer_entry 2 1 0 1) false ≡ Denied 5 status.invalid_field_in_command }
 {}
 
 /// Host a1h preempts host b2h: a command that was marked is aborted, a later one meets the reservation.
 fn preempted()
     ensures removed { after_sent cluster_world (registers 1 0 0 0x11 ∷ registers 2 0 0 0x22 ∷ acquires 1 0 2 0x11 0 ∷ acquires 1 1 2 0x11 0x22 ∷ []) ≡ with_reservation cluster_world 1 (state (a1 0x11 ∷ []) (Hold.One 2 0xa1) 3) }
-    ensures marked { verdict (after_sent cluster_world (registers 1 0 0 0x11 ∷ registers 2 0 0 0x22 ∷ acquires 1 0 2 0x11 0 ∷ acquires 1 1 2 0x11 0x22 ∷ [])) 2 (transfer_entry 2 1 0 1) true ≡ Denied 1 status.aborted_by_preempt }
+    ensures marked { verdict (after_sent cluster_world (registers 1 0 0 0x11 ∷ registers 2 0 0 0x22 ∷ acquires 1 0 2 0x11 0 ∷ acquires 1 1 2 0x11 0x22 ∷ [])) 2 (transfer_entry 2 1 0 1) true ≡ Denied 1 status.command_aborted_due_to_preempt_and_abort }
     ensures later { verdict (after_sent cluster_world (registers 1 0 0 0x11 ∷ registers 2 0 0 0x22 ∷ acquires 1 0 2 0x11 0 ∷ acquires 1 1 2 0x11 0x22 ∷ [])) 2 (transfer_entry 2 1 0 1) false ≡ Denied 7 status.reservation_conflict }
     ensures no_registrant { verdict_on cluster_world (acquires 1 0 2 0x11 0) ≡ Denied 11 status.reservation_conflict }
 {}
@@ -60,9 +60,9 @@ fn preempted()
 /// Under Exclusive Access - All Registrants host b2h preempts all others, and takes another type.
 fn preempted_all()
     ensures taken { after_sent cluster_world (registers 1 0 0 0x11 ∷ registers 2 0 0 0x22 ∷ acquires 1 0 6 0x11 0 ∷ acquires 2 1 1 0x22 0 ∷ []) ≡ with_reservation cluster_world 1 (state (b2 0x22 ∷ []) (Hold.One 1 0xb2) 3) }
-    ensures report { report_of (with_reservation cluster_world 1 (state (b2 0x22 ∷ []) (Hold.One 1 0xb2) 3)) 1 48 ≡
+    ensures report { report_on (with_reservation cluster_world 1 (state (b2 0x22 ∷ []) (Hold.One 1 0xb2) 3)) 1 48 ≡
         3 ∷ 0 ∷ 0 ∷ 0 ∷ 1 ∷ 1 ∷ replicate 18 0 ++ 2 ∷ 0 ∷ 1 ∷ replicate 5 0 ++ 0xb2 ∷ replicate 7 0 ++ 0x22 ∷ replicate 7 0 }
-    ensures single { verdict_on (after_sent cluster_world (registers 1 0 0 0x11 ∷ registers 2 0 0 0x22 ∷ acquires 1 0 6 0x11 0 ∷ acquires 2 1 1 0x22 0 ∷ [])) (acquires 2 1 3 0x22 0) ≡ Denied 11 status.invalid_field }
+    ensures single { verdict_on (after_sent cluster_world (registers 1 0 0 0x11 ∷ registers 2 0 0 0x22 ∷ acquires 1 0 6 0x11 0 ∷ acquires 2 1 1 0x22 0 ∷ [])) (acquires 2 1 3 0x22 0) ≡ Denied 11 status.invalid_field_in_command }
 {}
 
 /// Under Write Exclusive - All Registrants the reservation lasts until the last registrant has left.
@@ -70,20 +70,31 @@ fn last_registrant()
     ensures one_left { after_sent cluster_world (registers 1 0 0 0x11 ∷ registers 2 0 0 0x22 ∷ registers 4 0 0 0x33 ∷ acquires 1 0 5 0x11 0 ∷ registers 1 1 0x11 0 ∷ registers 2 1 0x22 0 ∷ []) ≡ with_reservation cluster_world 1 (state (c3 0x33 ∷ []) (Hold.All 5) 5) }
     ensures outsider { verdict (with_reservation cluster_world 1 (state (c3 0x33 ∷ []) (Hold.All 5) 5)) 1 (transfer_entry 1 1 0 1) false ≡ Denied 7 status.reservation_conflict }
     ensures none_left { after_sent (with_reservation cluster_world 1 (state (c3 0x33 ∷ []) (Hold.All 5) 5)) (registers 4 1 0x33 0 ∷ []) ≡ with_reservation cluster_world 1 (state [] Hold.Free 6) }
-    ensures report { report_of (with_reservation cluster_world 1 (state [] Hold.Free 6)) 1 24 ≡ 6 ∷ replicate 23 0 }
+    ensures report { report_on (with_reservation cluster_world 1 (state [] Hold.Free 6)) 1 24 ≡ 6 ∷ replicate 23 0 }
     ensures everyone { verdict (with_reservation cluster_world 1 (state [] Hold.Free 6)) 1 (transfer_entry 1 1 0 1) false ≡ Allowed (record { kind = Command.Write; first = 0; blocks = 1; bytes = 512 }) }
 {}
 
-/// What a reservation command changes: the reservation of its namespace.
+/// What a reservation command changes: the reservation of its namespace, where it is not refused.
 fn one_reservation_changes()
-    ensures registered { Reserves Command.ReservationRegister 1 (registers 1 0 0 0x11).entry (at_rest cluster_world (keys 0 0x11)) (at_rest (with_reservation cluster_world 1 (state (a1 0x11 ∷ []) Hold.Free 1)) (keys 0 0x11)) }
-    ensures refused { Reserves Command.ReservationAcquire 1 (acquires 1 0 1 0x11 0).entry (at_rest cluster_world (keys 0x11 0)) (at_rest cluster_world (keys 0x11 0)) }
+    ensures registered { world_after cluster_world 1 (outcome_on cluster_world (registers 1 0 0 0x11))
+        ≡ with_reservation cluster_world 1 (state (a1 0x11 ∷ []) Hold.Free 1) }
+    ensures refused { world_after cluster_world 1 (outcome_on cluster_world (acquires 1 0 1 0x11 0)) ≡ cluster_world }
+{}
+
+/// Preempt and Abort names the host that it removed; Preempt names none.
+fn marks()
+    ensures aborting { marks_on (with_reservation cluster_world 1 (state (a1 0x11 ∷ b2 0x22 ∷ []) (Hold.One 2 0xa1) 2)) (acquires 1 2 2 0x11 0x22)
+        ≡ record { nsid = 1; hosts = record { items = 0xb2 ∷ [] } } }
+    ensures preempting { marks_on (with_reservation cluster_world 1 (state (a1 0x11 ∷ b2 0x22 ∷ []) (Hold.One 2 0xa1) 2)) (acquires 1 1 2 0x11 0x22)
+        ≡ no_marks }
+    ensures refused { marks_on (with_reservation cluster_world 1 (state (a1 0x11 ∷ b2 0x22 ∷ []) (Hold.One 2 0xa1) 2)) (acquires 1 2 2 0x11 0x33)
+        ≡ no_marks }
 {}
 
 /// A write protected namespace is read and flushed, and not written.
 fn write_protected()
-    ensures zeroes { verdict (with_protection cluster_world 1 true) 2 (transfer_entry 8 1 0 1) false ≡ Denied 8 status.write_protected }
-    ensures write { verdict (with_protection cluster_world 1 true) 1 (transfer_entry 1 1 64 1) false ≡ Denied 8 status.write_protected }
+    ensures zeroes { verdict (with_protection cluster_world 1 true) 2 (transfer_entry 8 1 0 1) false ≡ Denied 8 status.namespace_is_write_protected }
+    ensures write { verdict (with_protection cluster_world 1 true) 1 (transfer_entry 1 1 64 1) false ≡ Denied 8 status.namespace_is_write_protected }
     ensures read { verdict (with_protection cluster_world 1 true) 2 (transfer_entry 2 1 0 1) false ≡ Allowed (record { kind = Command.Read; first = 0; blocks = 1; bytes = 512 }) }
     ensures flush { verdict (with_protection cluster_world 1 true) 2 (command_entry 0 1 0 0 0) false ≡ Allowed (record { kind = Command.Flush; first = 0; blocks = 0; bytes = 0 }) }
 {}

@@ -1,13 +1,14 @@
 //! Blocks that are read and written.
 
 ghost use Rattle.std.specs.Prelude.{◌≡◌, ◌≢◌, ◌++◌, ◌∷◌, replicate};
-ghost use Rattle.nvme_spec.specs.Blocks.{block_at, blocks_from, overwritten};
+ghost use Rattle.nvme_spec.specs.Blocks.{block_at, blocks_from};
+ghost use Rattle.nvme_spec.specs.Bytes.{with_bytes};
 
 /// A medium of three blocks of zeros.
 fn three_blocks()
-    ensures written { overwritten (replicate 1536 0) 512 (replicate 512 0x5a) ≡ replicate 512 0 ++ replicate 512 0x5a ++ replicate 512 0 }
-    ensures read_back { block_at (overwritten (replicate 1536 0) 512 (replicate 512 0x5a)) 1 ≡ replicate 512 0x5a }
-    ensures untouched { blocks_from (overwritten (replicate 1536 0) 0 (replicate 512 0x5a)) 1 1024 ≡ replicate 1024 0 }
+    ensures written { with_bytes (replicate 1536 0) 512 (replicate 512 0x5a) ≡ replicate 512 0 ++ replicate 512 0x5a ++ replicate 512 0 }
+    ensures read_back { block_at (with_bytes (replicate 1536 0) 512 (replicate 512 0x5a)) 1 ≡ replicate 512 0x5a }
+    ensures untouched { blocks_from (with_bytes (replicate 1536 0) 0 (replicate 512 0x5a)) 1 1024 ≡ replicate 1024 0 }
 {}
 
 /// Compare of a block of zeros with zeros, and with data that begin with 1.

@@ -1,9 +1,9 @@
 //! Entries as bytes: a Write, and the completions that it may get.
-#![tactic(auto, unfolding(nvme_wire::specs::Submission::opcode, nvme_wire::specs::Submission::fuse, nvme_wire::specs::Submission::psdt, nvme_wire::specs::Submission::cid, nvme_wire::specs::Submission::nsid, nvme_wire::specs::Submission::prp1, nvme_wire::specs::Submission::cdw10, nvme_wire::specs::Submission::cdw11, nvme_wire::specs::Submission::cdw12, crate::specs::Commands::command_of, crate::specs::Commands::first_block, crate::specs::Commands::block_count, crate::specs::Entries::command_entry, nvme_wire::specs::Completion::completion_entry))]
+#![tactic(auto, unfolding(nvme_wire::specs::Submission::opcode, nvme_wire::specs::Submission::fuse, nvme_wire::specs::Submission::psdt, nvme_wire::specs::Submission::cid, nvme_wire::specs::Submission::nsid, nvme_wire::specs::Submission::prp1, nvme_wire::specs::Submission::cdw10, nvme_wire::specs::Submission::cdw11, nvme_wire::specs::Submission::cdw12, crate::specs::Commands::command_of, crate::specs::Commands::starting_lba, crate::specs::Commands::block_count, crate::specs::Entries::command_entry, nvme_wire::specs::Completion::completion_entry))]
 
 ghost use Rattle.std.specs.Prelude.{◌≡◌, ◌++◌, [], ◌∷◌, Some, replicate, true, false};
 ghost use Rattle.nvme_wire.specs.Submission as entry;
-ghost use Rattle.nvme_spec.specs.Commands.{command_of, first_block, block_count};
+ghost use Rattle.nvme_spec.specs.Commands.{command_of, starting_lba, block_count};
 ghost use Rattle.nvme_spec.specs.Entries.{command_entry, completion_entry};
 ghost use Rattle.nvme_spec.specs.Queues.{empty_submission_head, after_tail_doorbell, after_fetch, completion_place, phase_tag};
 ghost use Rattle.nvme_spec.specs.Statuses as status;
@@ -19,7 +19,7 @@ fn write()
     ensures cid { entry.cid (command_entry 0x00070001 1 0x5000 0 0) ≡ 7 }
     ensures nsid { entry.nsid (command_entry 0x00070001 1 0x5000 0 0) ≡ 1 }
     ensures prp1 { entry.prp1 (command_entry 0x00070001 1 0x5000 0 0) ≡ 0x5000 }
-    ensures first { first_block (command_entry 0x00070001 1 0x5000 0 0) ≡ 0 }
+    ensures first { starting_lba (command_entry 0x00070001 1 0x5000 0 0) ≡ 0 }
     ensures count { block_count (command_entry 0x00070001 1 0x5000 0 0) ≡ 1 }
 {}
 

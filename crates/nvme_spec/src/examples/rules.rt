@@ -1,5 +1,5 @@
 //! What the rules answer to reads and writes of one controller.
-#![tactic(auto, unfolding(nvme_wire::specs::Submission::opcode, nvme_wire::specs::Submission::fuse, nvme_wire::specs::Submission::psdt, nvme_wire::specs::Submission::nsid, nvme_wire::specs::Submission::cdw10, nvme_wire::specs::Submission::cdw11, nvme_wire::specs::Submission::cdw12, crate::specs::Entries::transfer_entry, crate::specs::World::host_of, crate::specs::World::namespace_of, crate::specs::World::is_attached, crate::specs::World::opening_world, crate::specs::Commands::command_of, crate::specs::Commands::first_block, crate::specs::Commands::block_count, crate::specs::Rules::tested, crate::specs::IoRules::mark_rule, crate::specs::IoRules::opcode_rule, crate::specs::IoRules::form_rule, crate::specs::IoRules::nsid_rule, crate::specs::IoRules::attachment_rule, crate::specs::IoRules::field_rule, crate::specs::IoRules::reservation_rule, crate::specs::IoRules::protection_rule, crate::specs::IoRules::range_rule, crate::specs::IoRules::verdict))]
+#![tactic(auto, unfolding(nvme_wire::specs::Submission::opcode, nvme_wire::specs::Submission::fuse, nvme_wire::specs::Submission::psdt, nvme_wire::specs::Submission::nsid, nvme_wire::specs::Submission::cdw10, nvme_wire::specs::Submission::cdw11, nvme_wire::specs::Submission::cdw12, crate::specs::Entries::transfer_entry, crate::specs::World::host_of, crate::specs::World::namespace_of, crate::specs::World::is_attached, crate::specs::World::opening_world, crate::specs::Commands::command_of, crate::specs::Commands::starting_lba, crate::specs::Commands::block_count, crate::specs::Rules::judgement_by, crate::specs::IoRules::mark_rule, crate::specs::IoRules::opcode_rule, crate::specs::IoRules::form_rule, crate::specs::IoRules::nsid_rule, crate::specs::IoRules::attachment_rule, crate::specs::IoRules::field_rule, crate::specs::IoRules::reservation_rule, crate::specs::IoRules::protection_rule, crate::specs::IoRules::range_rule, crate::specs::IoRules::verdict))]
 
 ghost use Rattle.std.specs.Prelude.{◌≡◌, true, false};
 ghost use Rattle.nvme_spec.specs.Examples.{single};
@@ -18,23 +18,23 @@ fn one_namespace()
     ensures past_the_end { verdict (opening_world single) 1 (transfer_entry 2 1 64 1) false ≡ Denied 9 status.lba_out_of_range }
     ensures over_the_end { verdict (opening_world single) 1 (transfer_entry 2 1 63 2) false ≡ Denied 9 status.lba_out_of_range }
     ensures largest { verdict (opening_world single) 1 (transfer_entry 2 1 18446744073709551615 1) false ≡ Denied 9 status.lba_out_of_range }
-    ensures not_attached { verdict (opening_world single) 1 (transfer_entry 2 2 0 1) false ≡ Denied 5 status.invalid_field }
-    ensures no_such_namespace { verdict (opening_world single) 1 (transfer_entry 2 9 0 1) false ≡ Denied 4 status.invalid_namespace }
+    ensures not_attached { verdict (opening_world single) 1 (transfer_entry 2 2 0 1) false ≡ Denied 5 status.invalid_field_in_command }
+    ensures no_such_namespace { verdict (opening_world single) 1 (transfer_entry 2 9 0 1) false ≡ Denied 4 status.invalid_namespace_or_format }
 {}
 
 /// Each rule before the range, by a Read that fails it.
 fn first_failing_rules()
-    ensures marked { verdict (opening_world single) 1 (transfer_entry 2 1 0 1) true ≡ Denied 1 status.aborted_by_preempt }
+    ensures marked { verdict (opening_world single) 1 (transfer_entry 2 1 0 1) true ≡ Denied 1 status.command_aborted_due_to_preempt_and_abort }
     ensures opcode { verdict (opening_world single) 1 (transfer_entry 3 1 0 1) false ≡ Denied 2 status.invalid_command_opcode }
-    ensures fused { verdict (opening_world single) 1 (transfer_entry 0x102 1 0 1) false ≡ Denied 3 status.invalid_field }
-    ensures with_sgl { verdict (opening_world single) 1 (transfer_entry 0x4002 1 0 1) false ≡ Denied 3 status.invalid_field }
-    ensures nsid_zero { verdict (opening_world single) 1 (transfer_entry 2 0 0 1) false ≡ Denied 4 status.invalid_namespace }
-    ensures broadcast { verdict (opening_world single) 1 (transfer_entry 2 0xffffffff 0 1) false ≡ Denied 4 status.invalid_namespace }
-    ensures too_long { verdict (opening_world single) 1 (transfer_entry 2 1 0 257) false ≡ Denied 6 status.invalid_field }
-    ensures marked_first { verdict (opening_world single) 1 (transfer_entry 3 0 64 257) true ≡ Denied 1 status.aborted_by_preempt }
+    ensures fused { verdict (opening_world single) 1 (transfer_entry 0x102 1 0 1) false ≡ Denied 3 status.invalid_field_in_command }
+    ensures with_sgl { verdict (opening_world single) 1 (transfer_entry 0x4002 1 0 1) false ≡ Denied 3 status.invalid_field_in_command }
+    ensures nsid_zero { verdict (opening_world single) 1 (transfer_entry 2 0 0 1) false ≡ Denied 4 status.invalid_namespace_or_format }
+    ensures broadcast { verdict (opening_world single) 1 (transfer_entry 2 0xffffffff 0 1) false ≡ Denied 4 status.invalid_namespace_or_format }
+    ensures too_long { verdict (opening_world single) 1 (transfer_entry 2 1 0 257) false ≡ Denied 6 status.invalid_field_in_command }
+    ensures marked_first { verdict (opening_world single) 1 (transfer_entry 3 0 64 257) true ≡ Denied 1 status.command_aborted_due_to_preempt_and_abort }
     ensures opcode_before_form { verdict (opening_world single) 1 (transfer_entry 0x103 0 64 257) false ≡ Denied 2 status.invalid_command_opcode }
-    ensures form_before_namespace { verdict (opening_world single) 1 (transfer_entry 0x102 0 64 257) false ≡ Denied 3 status.invalid_field }
-    ensures namespace_before_field { verdict (opening_world single) 1 (transfer_entry 2 9 64 257) false ≡ Denied 4 status.invalid_namespace }
-    ensures attached_before_field { verdict (opening_world single) 1 (transfer_entry 2 2 64 257) false ≡ Denied 5 status.invalid_field }
-    ensures field_before_range { verdict (opening_world single) 1 (transfer_entry 2 1 64 257) false ≡ Denied 6 status.invalid_field }
+    ensures form_before_namespace { verdict (opening_world single) 1 (transfer_entry 0x102 0 64 257) false ≡ Denied 3 status.invalid_field_in_command }
+    ensures namespace_before_field { verdict (opening_world single) 1 (transfer_entry 2 9 64 257) false ≡ Denied 4 status.invalid_namespace_or_format }
+    ensures attached_before_field { verdict (opening_world single) 1 (transfer_entry 2 2 64 257) false ≡ Denied 5 status.invalid_field_in_command }
+    ensures field_before_range { verdict (opening_world single) 1 (transfer_entry 2 1 64 257) false ≡ Denied 6 status.invalid_field_in_command }
 {}

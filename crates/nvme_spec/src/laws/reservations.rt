@@ -3,7 +3,7 @@
 ghost use Rattle.std.specs.Prelude.{◌≡◌, ℕ, Bool, true, false, List, length};
 ghost use Rattle.nvme_spec.specs.Reservation.{Reservation, IsRising, unreserved, is_registered, is_of_all, role_of, register, unregister, replace, acquire, preempt, release, clear};
 ghost use Rattle.nvme_spec.specs.Access.{is_permitted};
-ghost use Rattle.nvme_spec.specs.Report.{ControllerHost, HasRisingIds, reported, report_data};
+ghost use Rattle.nvme_spec.specs.Report.{ControllerHost, HasRisingIds, reported_controllers, report_data};
 ghost use Rattle.nvme_spec.specs.ReservationLaws.{Gives, Keeps, IsHeldByRegistrants};
 
 use crate::access::{Group, Hold, Role};
@@ -32,7 +32,7 @@ fn holders_write()
 /// A report has as many bytes as are asked for, and its entries rise by controller where the controllers do.
 fn reports()
     ensures size { (r : Reservation) → (controllers : List ControllerHost) → (size : ℕ) → length (report_data r controllers size) ≡ size }
-    ensures rising { (r : Reservation) → (controllers : List ControllerHost) → HasRisingIds controllers → HasRisingIds (reported r controllers) }
+    ensures rising { (r : Reservation) → (controllers : List ControllerHost) → HasRisingIds controllers → HasRisingIds (reported_controllers r controllers) }
 {}
 
 /// From a new namespace on, the hold is never with a host that is not registered, whatever the actions are.

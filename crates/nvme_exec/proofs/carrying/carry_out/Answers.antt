@@ -1,78 +1,21 @@
-use Rattle.std.proofs.Common.{arith}
-use Rattle.nvme_exec.specs.Devices.{device_of}
-use Rattle.nvme_exec.proofs.Performing.{in-range, flushed, written, has-read, compared, zeroed, reported}
+use Rattle.std.proofs.Common.{sym, ◌∙◌}
+use Rattle.nvme_exec.proofs.Performing.{blocks-done, report-done, reservation-done}
 use Rattle.nvme_exec.proofs.carrying.carry_out.Goals as goal
 
-pub extent_of-extent-requires-clause-fits : goal.extent_of-extent-requires-clause-fits
-extent_of-extent-requires-clause-fits g c =
-    let inside = in-range c.args.spaces.now c.args.window.now c.args.sqe.now (g.M.Medium.size c.args.medium.now) c.args.admission.now.plan c.args.admission.now.pieces.parts.items
-    c.requires.ready.within c.requires.admitted in
-    rw c.nsid.ensures (omega (arith, inside, g.met.M.Medium.countable c.args.medium.now))
+pub returns-in-OnBlocks-clause-done : goal.returns-in-OnBlocks-clause-done
+returns-in-OnBlocks-clause-done g c =
+    blocks-done _ _ _ _ _ _ _ _ _ c.act_on_blocks.result c.completed.result c.requires.admitted (sym c.traits_of.ensures.kind ∙ c.in-OnBlocks.is)
+    c.act_on_blocks.ensures.acts c.completed.ensures
 
-pub write-requires-clause-within : goal.write-requires-clause-within
-write-requires-clause-within g c =
-    let inside = in-range c.args.spaces.now c.args.window.now c.args.sqe.now (g.M.Medium.size c.args.medium.now) c.args.admission.now.plan c.args.admission.now.pieces.parts.items
-    c.requires.ready.within c.requires.admitted in
-    let first = rw c.nsid.ensures at c.extent_of-extent.ensures.first in
-    omega (arith, inside, first)
+pub returns-in-OnBlocks-clause-flushed : goal.returns-in-OnBlocks-clause-flushed
+returns-in-OnBlocks-clause-flushed g c = λ k. rw c.completed.ensures (c.act_on_blocks.ensures.flushed k)
 
-pub read-requires-clause-within : goal.read-requires-clause-within
-read-requires-clause-within g c =
-    let inside = in-range c.args.spaces.now c.args.window.now c.args.sqe.now (g.M.Medium.size c.args.medium.now) c.args.admission.now.plan c.args.admission.now.pieces.parts.items
-    c.requires.ready.within c.requires.admitted in
-    let first = rw c.nsid.ensures at c.extent_of-extent.ensures.first in
-    omega (arith, inside, first)
+pub returns-in-OnReport-clause-done : goal.returns-in-OnReport-clause-done
+returns-in-OnReport-clause-done g c =
+    report-done _ _ _ c.nsid.result _ _ _ _ _ c.completed-in-OnReport.result c.requires.admitted (sym c.traits_of.ensures.kind ∙ c.in-OnReport.is)
+    c.nsid.ensures c.report.ensures.stored c.report.ensures.size c.completed-in-OnReport.ensures
 
-pub compare-requires-clause-within : goal.compare-requires-clause-within
-compare-requires-clause-within g c =
-    let inside = in-range c.args.spaces.now c.args.window.now c.args.sqe.now (g.M.Medium.size c.args.medium.now) c.args.admission.now.plan c.args.admission.now.pieces.parts.items
-    c.requires.ready.within c.requires.admitted in
-    let first = rw c.nsid.ensures at c.extent_of-extent.ensures.first in
-    omega (arith, inside, first)
-
-pub write_zeroes-requires : goal.write_zeroes-requires
-write_zeroes-requires g c =
-    let inside = in-range c.args.spaces.now c.args.window.now c.args.sqe.now (g.M.Medium.size c.args.medium.now) c.args.admission.now.plan c.args.admission.now.pieces.parts.items
-    c.requires.ready.within c.requires.admitted in
-    let first = rw c.nsid.ensures at c.extent_of-extent.ensures.first in
-    record { within = omega (arith, inside, first) }
-
-pub returns-in-Flush-clause-carried : goal.returns-in-Flush-clause-carried
-returns-in-Flush-clause-carried g c =
-    flushed c.args.spaces.now c.args.cntlid c.args.window.now c.args.sqe.now c.args.admission.now.plan c.args.admission.now.pieces.parts.items (device_of g.M.Medium.tells g.M.Medium.content g.M.Medium.failures c.args.medium.now) (device_of g.M.Medium.tells g.M.Medium.content g.M.Medium.failures c.flush.new.medium) c.flush.result c.requires.admitted c.in-Flush.is c.flush.ensures.effect
-
-pub returns-in-Write-clause-carried : goal.returns-in-Write-clause-carried
-returns-in-Write-clause-carried g c =
-    written c.args.spaces.now c.args.cntlid c.args.window.now c.args.sqe.now c.args.admission.now.plan c.args.admission.now.pieces.parts.items c.extent_of-extent.result.first c.extent_of-extent.result.blocks (device_of g.M.Medium.tells g.M.Medium.content g.M.Medium.failures c.args.medium.now) (device_of g.M.Medium.tells g.M.Medium.content g.M.Medium.failures c.write.new.medium) c.write.result (record {
-      admitted = c.requires.admitted;
-      first_is = rw c.nsid.ensures at c.extent_of-extent.ensures.first;
-      blocks_is = omega arith;
-    }) c.in-Write.is c.write.ensures.effect
-
-pub returns-in-Read-clause-carried : goal.returns-in-Read-clause-carried
-returns-in-Read-clause-carried g c =
-    has-read c.args.spaces.now c.args.cntlid c.args.window.now c.read.new.window c.args.sqe.now c.args.admission.now.plan c.args.admission.now.pieces.parts.items c.extent_of-extent.result.first c.extent_of-extent.result.blocks (device_of g.M.Medium.tells g.M.Medium.content g.M.Medium.failures c.args.medium.now) (device_of g.M.Medium.tells g.M.Medium.content g.M.Medium.failures c.read.new.medium) c.read.result (record {
-      admitted = c.requires.admitted;
-      first_is = rw c.nsid.ensures at c.extent_of-extent.ensures.first;
-      blocks_is = omega arith;
-    }) c.in-Read.is c.read.ensures.effect
-
-pub returns-in-Compare-clause-carried : goal.returns-in-Compare-clause-carried
-returns-in-Compare-clause-carried g c =
-    compared c.args.spaces.now c.args.cntlid c.args.window.now c.args.sqe.now c.args.admission.now.plan c.args.admission.now.pieces.parts.items c.extent_of-extent.result.first c.extent_of-extent.result.blocks (device_of g.M.Medium.tells g.M.Medium.content g.M.Medium.failures c.args.medium.now) (device_of g.M.Medium.tells g.M.Medium.content g.M.Medium.failures c.compare.new.medium) c.compare.result (record {
-      admitted = c.requires.admitted;
-      first_is = rw c.nsid.ensures at c.extent_of-extent.ensures.first;
-      blocks_is = omega arith;
-    }) c.in-Compare.is c.compare.ensures.effect
-
-pub returns-in-WriteZeroes-clause-carried : goal.returns-in-WriteZeroes-clause-carried
-returns-in-WriteZeroes-clause-carried g c =
-    zeroed c.args.spaces.now c.args.cntlid c.args.window.now c.args.sqe.now c.args.admission.now.plan c.args.admission.now.pieces.parts.items c.extent_of-extent.result.first c.extent_of-extent.result.blocks (device_of g.M.Medium.tells g.M.Medium.content g.M.Medium.failures c.args.medium.now) (device_of g.M.Medium.tells g.M.Medium.content g.M.Medium.failures c.write_zeroes.new.medium) c.write_zeroes.result (record {
-      admitted = c.requires.admitted;
-      first_is = rw c.nsid.ensures at c.extent_of-extent.ensures.first;
-      blocks_is = omega arith;
-    }) c.in-WriteZeroes.is c.write_zeroes.ensures.effect
-
-pub returns-in-ReservationReport-clause-carried : goal.returns-in-ReservationReport-clause-carried
-returns-in-ReservationReport-clause-carried g c =
-    reported c.args.spaces.now c.args.cntlid c.args.window.now c.report.new.window c.args.sqe.now c.args.admission.now.plan c.args.admission.now.pieces.parts.items (device_of g.M.Medium.tells g.M.Medium.content g.M.Medium.failures c.args.medium.now) c.nsid-in-ReservationReport.result c.requires.admitted c.in-ReservationReport.is c.nsid-in-ReservationReport.ensures c.report.ensures
+pub returns-in-Ok-clause-done : goal.returns-in-Ok-clause-done
+returns-in-Ok-clause-done g c =
+    reservation-done _ _ _ _ _ _ c.in-Ok.change.removed.items c.args.admission.now _ c.completed-in-Ok.result c.marks_of.result (sym c.traits_of.ensures.kind ∙ c.in-OnReservation.is)
+    (c.in-Ok.ensures {u = tt}).acts c.act_on_reservation.ensures.world c.completed-in-Ok.ensures c.marks_of.ensures

@@ -1,15 +1,19 @@
-use Rattle.nvme_exec.specs.Devices.{device_of}
-use Rattle.nvme_exec.specs.Execution.{site}
-use Rattle.nvme_exec.proofs.Judging.{has-performed, refused}
+use Rattle.nvme_spec.specs.declared.command.Command.TheVariants.{Flush}
+use Rattle.nvme_exec.specs.Carrying.{IsFlushed}
+use Rattle.nvme_exec.proofs.Judging.{is-allowed, of-allowed, denial-is}
+use Rattle.std.proofs.Common.{◌≡◌}
 use Rattle.nvme_exec.proofs.execution.perform.Goals as goal
 
-pub returns-in-Ok-carry_out-clause-allowed : goal.returns-in-Ok-carry_out-clause-allowed
-returns-in-Ok-carry_out-clause-allowed g c =
-    has-performed c.args.spaces.now c.args.cntlid c.args.sqe.now c.args.marked c.args.window.now (device_of g.M.Medium.tells g.M.Medium.content g.M.Medium.failures c.args.medium.now)
-    c.in-Ok.admission.plan (site c.carry_out.new.spaces c.carry_out.new.window (device_of g.M.Medium.tells g.M.Medium.content g.M.Medium.failures c.carry_out.new.medium))
-    c.in-Ok-carry_out.status c.in-Ok.ensures.allowed c.in-Ok.ensures.sound c.in-Ok-carry_out.ensures.carried
+pub returns-in-Ok-clause-allowed : goal.returns-in-Ok-clause-allowed
+returns-in-Ok-clause-allowed g c =
+    is-allowed _ _ _ c.args.marked _ _ c.in-Ok.admission.plan c.carry_out.result c.in-Ok.ensures.allowed c.in-Ok.ensures.sound c.carry_out.ensures.done
 
-pub returns-in-Err-carry_out-clause-denied : goal.returns-in-Err-carry_out-clause-denied
-returns-in-Err-carry_out-clause-denied g c =
-    refused c.args.spaces.now c.args.cntlid c.args.sqe.now c.args.marked c.args.window.now c.in-Ok.admission.plan c.in-Err-carry_out.status
-    c.in-Ok.ensures.allowed c.in-Ok.ensures.sound c.in-Err-carry_out.ensures.carried.1
+pub returns-in-Ok-clause-denied : goal.returns-in-Ok-clause-denied
+returns-in-Ok-clause-denied g c =
+    denial-is _ _ c.args.marked _ c.in-Ok.admission.plan c.carry_out.result c.in-Ok.ensures.allowed c.in-Ok.ensures.sound c.carry_out.ensures.refused
+
+pub returns-in-Ok-clause-flushed : goal.returns-in-Ok-clause-flushed
+returns-in-Ok-clause-flushed g c =
+    of-allowed _ _ _ c.args.marked _ _ c.in-Ok.admission.plan c.carry_out.result
+    (λ plan outcome. plan.kind ≡ Flush → IsFlushed g.M.Medium.flushes c.args.medium.now c.carry_out.new.medium outcome.status)
+    c.in-Ok.ensures.allowed c.in-Ok.ensures.sound c.carry_out.ensures.done c.carry_out.ensures.flushed

@@ -1,11 +1,11 @@
-use Rattle.std.proofs.Common.{◌≡◌, ◌+◌, ◌∙◌, ap, arith}
+use Rattle.std.proofs.Common.{◌≡◌, ◌+◌, ◌∙◌, ap, refl, arith}
 use Rattle.nvme_spec.specs.Blocks.{block_at}
 use Rattle.nvme_exec.proofs.Comparing.{equal, differ, same-more, block-differs}
 use Rattle.nvme_exec.proofs.transfer.compare_blocks.Goals as goal
 
 pub returns-then-ne-clause-same : goal.returns-then-ne-clause-same
 returns-then-ne-clause-same g c = λ tells.
-    let content = g.M.Medium.content c.args.medium.now in
+    let content = (g.M.Medium.device c.args.medium.now).content in
     let whole = g.met.M.Medium.whole c.args.medium.now tells in
     let found : c.read.new.buffer ≡ block_at content (c.args.first + c.loop-j.j) =
     c.in_ok-read.ensures.ok tells ∙ ap (λ x. block_at x (c.args.first + c.loop-j.j)) (c.loop-j.invariant.kept tells) in (
@@ -17,7 +17,7 @@ returns-then-ne-clause-same g c = λ tells.
 pub loop-j-preserved : goal.loop-j-preserved
 loop-j-preserved g c = record {
   same = λ tells.
-      let content = g.M.Medium.content c.args.medium.now in
+      let content = (g.M.Medium.device c.args.medium.now).content in
       let whole = g.met.M.Medium.whole c.args.medium.now tells in
       let found : c.read.new.buffer ≡ block_at content (c.args.first + c.loop-j.j) =
       c.in_ok-read.ensures.ok tells ∙ ap (λ x. block_at x (c.args.first + c.loop-j.j)) (c.loop-j.invariant.kept tells) in
@@ -25,5 +25,5 @@ loop-j-preserved g c = record {
       (c.loop-j.invariant.same tells) found c.gather.ensures (equal c.ne.result _ _ c.ne.ensures c.if-ne.false) (omega arith) (omega arith);
   kept = λ tells. c.read.ensures.kept tells ∙ c.loop-j.invariant.kept tells;
   size = c.read.ensures.size ∙ c.loop-j.invariant.size;
-  later = omega (arith, c.read.ensures.cause.later);
+  failures = c.in_ok-read.ensures.count.done refl ∙ c.loop-j.invariant.failures;
 }

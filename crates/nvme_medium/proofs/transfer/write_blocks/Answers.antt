@@ -1,11 +1,11 @@
-use Rattle.std.proofs.Common.{◌∙◌, arith}
-use Rattle.nvme_medium.proofs.Splice.{overwritten-next}
+use Rattle.std.proofs.Common.{◌∙◌, refl, arith}
+use Rattle.nvme_spec.proofs.Splices.{with_bytes-next}
 use Rattle.nvme_medium.proofs.transfer.write_blocks.Goals as goal
 
 pub loop-j-preserved : goal.loop-j-preserved
 loop-j-preserved g c = record {
-  written = λ tells. overwritten-next _ _ _ _ c.args.blocks _ _ _ (c.loop-j.invariant.written tells) (c.in_ok-write.ensures.ok tells) c.gather.ensures c.loop-j-test.true c.requires.all
-      (omega (arith, g.met.M.Medium.whole c.args.medium.now tells));
+  written = λ tells. with_bytes-next _ _ _ _ c.args.blocks _ _ _ (c.loop-j.invariant.written tells) (c.in_ok-write.ensures.ok tells)
+      c.gather.ensures c.loop-j-test.true c.requires.all (omega (arith, g.met.M.Medium.whole c.args.medium.now tells));
   size = c.write.ensures.size ∙ c.loop-j.invariant.size;
-  later = omega (arith, c.write.ensures.cause.later);
+  failures = c.in_ok-write.ensures.count.done refl ∙ c.loop-j.invariant.failures;
 }

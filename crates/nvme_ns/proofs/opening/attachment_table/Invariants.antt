@@ -1,6 +1,5 @@
-use Rattle.std.proofs.Common.{◌≡◌, take, map}
-use Rattle.nvme_spec.specs.World.{attachment}
+use Rattle.std.proofs.Common.{◌≡◌, take}
 use Rattle.nvme_ns.proofs.opening.attachment_table.Given as goal
 
-abbrev pub invariant-loop-cntlid : goal.invariant-loop-cntlid
-invariant-loop-cntlid l = l.table.items ≡ map attachment (take l.cntlid-index l.attached)
+abbrev pub invariant-loop-pair : goal.invariant-loop-pair
+invariant-loop-pair l = l.table.items ≡ take l.pair-index l.attached

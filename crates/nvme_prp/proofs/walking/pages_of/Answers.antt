@@ -1,9 +1,10 @@
 use Rattle.std.proofs.Common.{◌≡◌, ◌+◌, ◌-◌, ◌/◌, ◌<◌, ◌++◌, ◌∷◌, [], map, min, arith, sym, ap, ◌∙◌, None}
 use Rattle.std.proofs.lemmas.Result.{err_from_is_err_and}
 use Rattle.std.specs.List.{range_with_len}
-use Rattle.nvme_spec.specs.Pointer.{Transfer, transfer, pointer_tests, first_fault, further_pages, room, list_of, list_tests}
+use Rattle.nvme_prp.specs.Walk.{list_of, list_tests, listed_piece}
+use Rattle.nvme_spec.specs.Pointer.{Transfer, transfer, pointer_tests, first_fault, further_pages, room}
 use Rattle.nvme_spec.specs.declared.pointer.Piece.{Piece}
-use Rattle.nvme_spec.specs.Transfers.{parts_of, listed_part}
+use Rattle.nvme_spec.specs.Transfers.{pieces_of}
 use Rattle.nvme_prp.proofs.Judged.{first-fault, none-further, one-further, many-further, same-list, parts-none, parts-one, parts-many}
 use Rattle.nvme_prp.proofs.walking.pages_of.Goals as goal
 use Rattle.nvme_prp.proofs.walking.pages_of.Goals.{then-rest-gt-PAGE+in_ok-check-2+in_ok-walk_list, else-rest-gt-PAGE+then-rest-gt0+in_ok-check-3, else-rest-gt-PAGE+else-rest-gt0}
@@ -41,7 +42,7 @@ returns-in_err-check-3-clause-fault c =
     rw (p.1, p.2) (one-further t _ c.in_ok-check.ensures.judged one c.in_err-check-3.ensures.judged)
 
 -- all pointer_tests passed, and the pieces are those of the pages
-all-found : (c : goal.Joined-rest-gt-PAGE) → (first_fault (pointer_tests (transfer c.args.window.now c.args.prp1 c.args.prp2 c.args.len)) ≡ None) × (c.if-rest-gt-PAGE.parts.items ≡ parts_of (transfer c.args.window.now c.args.prp1 c.args.prp2 c.args.len))
+all-found : (c : goal.Joined-rest-gt-PAGE) → (first_fault (pointer_tests (transfer c.args.window.now c.args.prp1 c.args.prp2 c.args.len)) ≡ None) × (c.if-rest-gt-PAGE.parts.items ≡ pieces_of (transfer c.args.window.now c.args.prp1 c.args.prp2 c.args.len))
 all-found c =
     let t : Transfer = transfer c.args.window.now c.args.prp1 c.args.prp2 c.args.len in
     let first = c.min-first.ensures in
@@ -58,8 +59,8 @@ all-found c =
           let listed = w.in_ok-walk_list.ensures.ok in
           let parts = parts-many t (c.args.len - c.min-first.result) more rest in (
             many-further t None ok more w.in_ok-check-2.ensures.judged ∙ ap (λ l. first_fault (list_tests l)) (sym (same-list t (c.args.len - c.min-first.result) rest)) ∙ listed.0,
-            ap (λ v. v.items) w.parts-is ∙ listed.1 ∙ ap (λ ps. ps ++ map (listed_part (list_of t.window t.prp2 (c.args.len - c.min-first.result)) (c.args.len - c.min-first.result)) (range_with_len 0 ((c.args.len - c.min-first.result + 4095) / 4096))) start
-                ∙ ap (λ n. piece ∷ map (listed_part (list_of t.window t.prp2 (c.args.len - c.min-first.result)) (c.args.len - c.min-first.result)) (range_with_len 0 ((n + 4095) / 4096))) rest
+            ap (λ v. v.items) w.parts-is ∙ listed.1 ∙ ap (λ ps. ps ++ map (listed_piece (list_of t.window t.prp2 (c.args.len - c.min-first.result)) (c.args.len - c.min-first.result)) (range_with_len 0 ((c.args.len - c.min-first.result + 4095) / 4096))) start
+                ∙ ap (λ n. piece ∷ map (listed_piece (list_of t.window t.prp2 (c.args.len - c.min-first.result)) (c.args.len - c.min-first.result)) (range_with_len 0 ((n + 4095) / 4096))) rest
                 ∙ sym parts,
           )
       | else-rest-gt-PAGE+then-rest-gt0+in_ok-check-3 w ↦

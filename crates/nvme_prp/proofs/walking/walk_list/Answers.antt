@@ -2,9 +2,9 @@ use Rattle.std.proofs.Common.{◌≡◌, ◌-◌, ◌%◌, ◌≤◌, ◌<◌, �
 use Rattle.std.proofs.lemmas.Result.{err_from_is_err_and}
 use Rattle.std.proofs.lemmas.Bool.{ltb-true}
 use Rattle.std.specs.List.{flat_map, range_with_len}
+use Rattle.nvme_prp.specs.Walk.{list_of, list_tests, listed_piece}
 use Rattle.nvme_spec.specs.declared.pointer.Piece.{Piece}
-use Rattle.nvme_spec.specs.Transfers.{listed_part}
-use Rattle.nvme_spec.specs.Pointer.{PageList, list_of, list_tests, first_fault, entry_tests}
+use Rattle.nvme_spec.specs.Pointer.{PageList, first_fault, entry_tests}
 use Rattle.nvme_prp.proofs.Turns.{IsShort, Reached, turn, page-fault, next-fault, found-length}
 use Rattle.nvme_prp.proofs.walking.walk_list.Goals as goal
 
@@ -12,14 +12,14 @@ short : (window : List ℕ) (start bytes : ℕ) → start % 8 ≡ 0 → start < 
 short window start bytes a b s = record { aligned = a; in_window = b; short = omega arith }
 
 -- once all entries are read, no test is left
-done : (l : PageList) (bytes j left at : ℕ) (before parts : List Piece) → Reached l bytes j left at before parts → l.pages ≤ j → (first_fault (list_tests l) ≡ None) × (parts ≡ before ++ map (listed_part l bytes) (range_with_len 0 l.pages))
+done : (l : PageList) (bytes j left at : ℕ) (before parts : List Piece) → Reached l bytes j left at before parts → l.pages ≤ j → (first_fault (list_tests l) ≡ None) × (parts ≡ before ++ map (listed_piece l bytes) (range_with_len 0 l.pages))
 unfolding first_fault
 done l bytes j left at before parts r h =
     let within = r.within in
     let none : l.pages - j ≡ 0 = omega arith in
     let all : j ≡ l.pages = omega arith in (
       r.tested ∙ ap (λ n. first_fault (flat_map (entry_tests l) (range_with_len j n))) none,
-      r.found ∙ ap (λ n. before ++ map (listed_part l bytes) (range_with_len 0 n)) all,
+      r.found ∙ ap (λ n. before ++ map (listed_piece l bytes) (range_with_len 0 n)) all,
     )
 
 pub returns-in_err-slot-clause-err : goal.returns-in_err-slot-clause-err

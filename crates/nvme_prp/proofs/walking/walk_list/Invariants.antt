@@ -1,5 +1,5 @@
 use Rattle.std.proofs.Common.{◌≡◌, ◌+◌, ◌/◌}
-use Rattle.nvme_spec.specs.Pointer.{list_of}
+use Rattle.nvme_prp.specs.Walk.{list_of}
 use Rattle.nvme_prp.proofs.Turns.{Reached}
 use Rattle.nvme_prp.proofs.walking.walk_list.Given as goal
 

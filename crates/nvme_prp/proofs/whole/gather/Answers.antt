@@ -17,8 +17,8 @@ slice_bounds-copy_from_slice-end c =
     let room = gathering-fits _ _ _ _ _ _ blank c.loop-piece.invariant.items c.loop-piece.invariant.gathering c.loop-piece-test.true in
     omega arith
 
-pub invariant_of-part : goal.invariant_of-part
-invariant_of-part c = record { inside = piece-fits _ _ _ blank c.loop-piece.invariant.items c.args.pieces.now.pages c.loop-piece-test.true }
+pub bytes-requires : goal.bytes-requires
+bytes-requires c = record { inside = piece-fits _ _ _ blank c.loop-piece.invariant.items c.args.pieces.now.pages c.loop-piece-test.true }
 
 pub loop-piece-preserved : goal.loop-piece-preserved
 loop-piece-preserved c =

@@ -17,8 +17,8 @@ slice_bounds-copy_from_slice-end c =
     let room = scattering-fits _ _ _ _ _ _ _ blank c.loop-piece.invariant.items c.loop-piece.invariant.scattering c.loop-piece-test.true in
     omega arith
 
-pub invariant_of-part : goal.invariant_of-part
-invariant_of-part c = record { inside = piece-fits _ _ _ blank c.loop-piece.invariant.items c.args.pieces.now.pages c.loop-piece-test.true }
+pub bytes_mut-requires : goal.bytes_mut-requires
+bytes_mut-requires c = record { inside = piece-fits _ _ _ blank c.loop-piece.invariant.items c.args.pieces.now.pages c.loop-piece-test.true }
 
 pub loop-piece-preserved : goal.loop-piece-preserved
 loop-piece-preserved c =

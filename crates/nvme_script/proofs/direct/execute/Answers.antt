@@ -45,7 +45,7 @@ returns-in-Read-clause-step g c =
     let at = reaches c.args.spaces.now c.args.command.now c.in_default.field-0 (g.M.Medium.size c.args.medium.now) c.requires.transfer small small_slba
     allowed (rw c.entry-sqe.ensures at c.in_default.ensures.in_range) c.requires.within in
     let first = begins c.args.spaces.now c.args.command.now (g.M.Medium.size c.args.medium.now) c.unwrap.result at (sym c.first_block.ensures ∙ c.unwrap.ensures) in
-    rw c.read.ensures.rule (step_read c.args.spaces.now c.args.command.now c.in_default.field-0 _ _ c.read.result.status _ allowed c.in-Read.is (rw (first, c.requires.room) at c.read.ensures.effect))
+    rw c.read.ensures.rule (step_read g.M.Medium.tells c.args.spaces.now c.args.command.now c.in_default.field-0 _ _ c.read.result.status _ allowed c.in-Read.is (rw (first, c.requires.room) at c.read.ensures.effect))
 
 pub returns-in-Write-clause-step : goal.returns-in-Write-clause-step
 returns-in-Write-clause-step g c =
@@ -55,4 +55,4 @@ returns-in-Write-clause-step g c =
     let at = reaches c.args.spaces.now c.args.command.now c.in_default.field-0 (g.M.Medium.size c.args.medium.now) c.requires.transfer small small_slba
     allowed (rw c.entry-sqe.ensures at c.in_default.ensures.in_range) c.requires.within in
     let first = begins c.args.spaces.now c.args.command.now (g.M.Medium.size c.args.medium.now) c.unwrap.result at (sym c.first_block.ensures ∙ c.unwrap.ensures) in
-    rw (c.write.ensures.rule, c.write.ensures.no_data) (step_write c.args.spaces.now c.args.command.now c.in_default.field-0 _ _ c.write.result.status c.in-Write.payload allowed c.in-Write.is (rw first at c.write.ensures.effect))
+    rw (c.write.ensures.rule, c.write.ensures.no_data) (step_write g.M.Medium.tells c.args.spaces.now c.args.command.now c.in_default.field-0 _ _ c.write.result.status c.in-Write.payload allowed c.in-Write.is (rw first at c.write.ensures.effect))

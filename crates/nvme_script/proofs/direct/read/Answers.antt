@@ -1,7 +1,8 @@
-use Rattle.std.proofs.Common.{[], refl, arith, inr, rules}
-use Rattle.nvme_script.proofs.Reaching.{no_blocks}
+use Rattle.std.proofs.Common.{refl, inr, rules}
 use Rattle.nvme_script.proofs.direct.read.Goals as goal
 
 -- where the medium failed nothing is shown
 pub returns-in-Err-clause-effect : goal.returns-in-Err-clause-effect
-returns-in-Err-clause-effect g c = ([], (c.in-Err.ensures.kept, inr (search rules, c.in-Err.ensures.cause.risen refl, record { at = 0; within = omega arith; size = refl; is = λ _. no_blocks (g.M.Medium.content c.args.medium.now) c.args.first })), search rules)
+returns-in-Err-clause-effect g c =
+    let stopped = c.in-Err.ensures.fault in
+    (stopped.front, (c.in-Err.ensures.kept, inr (record { answered = search rules; failures = c.in-Err.ensures.count.failed refl }, stopped.read)), search rules)

@@ -6,7 +6,7 @@ pub loop-command-preserved : goal.loop-command-preserved
 loop-command-preserved g c =
     let below : c.loop-command.command-index < length c.args.commands.now = omega arith in
     let step = rw (← c.data.ensures) at c.execute-answer.ensures.step in record {
-      transcribed = Transcribes-next c.args.spaces.now c.args.commands.now c.loop-command.command-index c.command-item.result _ _ _ _ _ _ _ below c.command-item.is
+      transcribed = Transcribes-next g.M.Medium.tells c.args.spaces.now c.args.commands.now c.loop-command.command-index c.command-item.result _ _ _ _ _ _ _ below c.command-item.is
           c.loop-command.invariant.transcribed step c.in_ok-writeln.ensures.bytes;
       size = c.execute-answer.ensures.size ∙ c.loop-command.invariant.size;
     }
@@ -14,5 +14,5 @@ loop-command-preserved g c =
 pub returns-in_err-writeln-clause-err : goal.returns-in_err-writeln-clause-err
 returns-in_err-writeln-clause-err g c =
     let below : c.loop-command.command-index < length c.args.commands.now = omega arith in
-    on_err_from _ (RunsSome-next c.args.spaces.now c.args.commands.now c.loop-command.command-index c.command-item.result _ _ _ _ _ _ below c.command-item.is
+    on_err_from _ (RunsSome-next g.M.Medium.tells c.args.spaces.now c.args.commands.now c.loop-command.command-index c.command-item.result _ _ _ _ _ _ below c.command-item.is
     c.loop-command.invariant.transcribed c.execute-answer.ensures.step)

@@ -60,11 +60,11 @@ piece_mut_spec 𝓤 𝓛 𝓜 𝓡 wired =
     await ! tt $ pick ! (λ x. split ! $ split ! $ split ! $ move ! (3 ∷ []) $ pick ! (λ ws. split ! $ drop ! $ split ! $ move ! (1 ∷ []) $ split ! $
     heard ! _ (λ bytes. heard ! _ (λ long.
     -- [the lender; the token; nothing; the part]
-    move ! (3 ∷ []) $ fsplit ! $ fsplit ! $ feq_l ! (λ is_part.
+    move ! (3 ∷ []) $ fsplit ! $ fsplit ! $ feq_l ! (λ is_piece.
     -- [the room; the rest of the part; the lender; the token; nothing]
     let n : ℕ = length x.now in let v₃ : Val = slice_val x.ref_ptr n in
     let n-fits : n < 2 ^ 64 = omega (arith, long, len-fits) in
-    lands_as ! (ap only is_part) refl (tt, (tt, (record { fits = n-fits }, tt))) $
+    lands_as ! (ap only is_piece) refl (tt, (tt, (record { fits = n-fits }, tt))) $
     sets ! (addr ! (from ! (fld ! refl (hop ! (look_in_at ! 5 (sub ! 0 refl (whole !))) (stop !))))) refl (tt, tt) $
     sets ! (agg ! (and_then ! (get ! refl) (and_then ! (get_in ! (fld ! refl (stop !)) (sub ! 1 refl (whole !))) (no_more !)))) refl (tt, (tt, (record { fits = n-fits }, tt))) $
     sets ! (agg ! (and_then ! (lit ! tt) (and_then ! (get ! refl) (no_more !)))) refl (tt, (record { fits = lit< tt }, ((tt, (record { fits = n-fits }, tt)), tt))) $

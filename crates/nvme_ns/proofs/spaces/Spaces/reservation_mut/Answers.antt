@@ -2,7 +2,7 @@ use Rattle.std.proofs.Common.{◌≡◌, refl, sym, ap, ◌∙◌, Some, ◌==�
 use Rattle.std.specs.Prelude.{position, option_map}
 use Rattle.nvme_spec.specs.Reservation.{Reservation}
 use Rattle.nvme_spec.specs.World.{namespace_of}
-use Rattle.nvme_ns.proofs.Changing.{found_placed, found-at_place, changed_namespace-placed}
+use Rattle.nvme_ns.proofs.Changing.{found_placed, found-at_place, with_namespace-placed}
 use Rattle.nvme_ns.proofs.spaces.Spaces.reservation_mut.Goals as goal
 
 pub unwrap-place-requires : goal.unwrap-place-requires
@@ -18,7 +18,7 @@ returns c =
     let place : position (λ m. m.nsid == c.args.nsid) table ≡ Some c.unwrap-place.result =
     ap (position (λ m. m.nsid == c.args.nsid)) (sym c.deref.ensures.0) ∙ sym c.place_of.ensures ∙ c.unwrap-place.ensures in
     let here = rw c.unwrap.ensures at c.get_mut.ensures.value in
-    let written = λ (w : Reservation). changed_namespace-placed (λ m. record m { reservation = w }) c.args.nsid table c.unwrap-place.result n place here in
+    let written = λ (w : Reservation). with_namespace-placed (λ m. record m { reservation = w }) c.args.nsid table c.unwrap-place.result n place here in
     let found = found-at_place (λ m. m.nsid == c.args.nsid) table c.unwrap-place.result n place in (
       (refl, λ w. rw (← c.self.view_is) (λ i. record { controllers = c.self.inside.controllers.items; namespaces = written w i; attachments = c.self.inside.attachments.items })),
       record {

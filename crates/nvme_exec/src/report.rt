@@ -1,0 +1,57 @@
+//! Reservation Report: the registrants and the holder of a namespace, in the memory of the host.
+
+ghost use Rattle.std.specs.Prelude.{◌≡◌, ◌≤◌, length, IsSome};
+ghost use Rattle.nvme_spec.specs.World.{namespace_of};
+ghost use Rattle.nvme_spec.specs.Transfers.{addresses, with_scattered};
+ghost use Rattle.nvme_spec.specs.Execution.{report_of};
+
+use nvme_mem::Window;
+use nvme_ns::Spaces;
+use nvme_prp::{Pieces, scatter};
+
+/// The most bytes that a report may have.
+const MAX_REPORT: usize = 131_072;
+
+/// Stores a report of so many bytes.
+pub fn report(spaces: &Spaces, nsid: u32, window: &mut Window, pieces: &Pieces, bytes: u64)
+    requires named { IsSome (namespace_of spaces.now nsid) }
+    requires few { bytes ≤ 131072 }
+    requires size { length (addresses pieces.now.parts.items) ≡ bytes }
+    ensures stored { window.new ≡ with_scattered window.old (addresses pieces.now.parts.items)
+        (report_of (namespace_of spaces.now nsid) spaces.now.controllers bytes) }
+    ensures size { length (report_of (namespace_of spaces.now nsid) spaces.now.controllers bytes) ≡ bytes }
+{
+    let mut buffer = [0; MAX_REPORT];
+    store_report(spaces, nsid, window, pieces, &mut buffer, bytes);
+}
+
+/// Stores a report, by way of a buffer that is long enough.
+fn store_report(
+    spaces: &Spaces,
+    nsid: u32,
+    window: &mut Window,
+    pieces: &Pieces,
+    buffer: &mut [u8],
+    bytes: u64,
+)
+    requires named { IsSome (namespace_of spaces.now nsid) }
+    requires fits { bytes ≤ length buffer.old }
+    requires size { length (addresses pieces.now.parts.items) ≡ bytes }
+    ensures stored { window.new ≡ with_scattered window.old (addresses pieces.now.parts.items)
+        (report_of (namespace_of spaces.now nsid) spaces.now.controllers bytes) }
+    ensures size { length (report_of (namespace_of spaces.now nsid) spaces.now.controllers bytes) ≡ bytes }
+{
+    let report = &mut buffer[..bytes as usize];
+    fill_report(spaces, nsid, report);
+    scatter(window, pieces, report);
+}
+
+/// Fills a buffer with the data of a report.
+fn fill_report(spaces: &Spaces, nsid: u32, buffer: &mut [u8])
+    requires named { IsSome (namespace_of spaces.now nsid) }
+    ensures report { buffer.new ≡ report_of (namespace_of spaces.now nsid) spaces.now.controllers (length buffer.old) }
+    ensures size { length buffer.new ≡ length buffer.old }
+{
+    let reservation = spaces.reservation(nsid).unwrap();
+    reservation.report_into(spaces.controllers(), buffer);
+}
