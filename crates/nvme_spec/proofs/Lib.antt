@@ -12,3 +12,13 @@ pub mod RegisterEffects
 pub mod AttachmentLaws
 pub mod Hosts
 pub mod Worlds
+pub mod Passing
+pub mod Namespaces
+pub mod FaultFree
+pub mod Contents
+pub mod Openings
+pub mod Fencing
+pub mod QueueChanges
+pub mod StatusLaws
+pub mod Judgements
+pub mod AdminLaws

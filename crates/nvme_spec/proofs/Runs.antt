@@ -45,7 +45,7 @@ with_scattered-run w a (suc n) (b ∷ bs) e h =
     ∙ ap (λ xs. take a w ++ (b ∷ (bs ++ xs))) (drop-set-lt (a + 1 + n) w a b (omega arith) ∙ ap (λ k. drop k w) (sym f))
 
 -- `with_bytes`, read from the right
-with_bytes-is : (w : List ℕ) (a : ℕ) (bs : List ℕ) → with_bytes w a bs ≡ take a w ++ (bs ++ drop (a + length bs) w)
+pub with_bytes-is : (w : List ℕ) (a : ℕ) (bs : List ℕ) → with_bytes w a bs ≡ take a w ++ (bs ++ drop (a + length bs) w)
 with_bytes-is w a bs = append_assoc (take a w) bs (drop (a + length bs) w)
 
 length-with_bytes : (w : List ℕ) (a : ℕ) (bs : List ℕ) → a + length bs ≤ length w → length (with_bytes w a bs) ≡ length w

@@ -1,14 +1,15 @@
 -- The laws of transfers.
-use Rattle.std.proofs.Common.{◌≡◌, ℕ, zero, suc, ◌+◌, ◌-◌, ◌*◌, ◌≤◌, List, [], ◌∷◌, ◌++◌, length, take, drop, refl, sym, ap, ◌∙◌, arith, length-drop}
+use Rattle.std.proofs.Common.{◌≡◌, ℕ, zero, suc, ◌+◌, ◌-◌, ◌*◌, ◌<◌, ◌≤◌, List, [], ◌∷◌, ◌++◌, length, take, drop, refl, sym, ap, ◌∙◌, arith, length-drop}
 use Rattle.std.specs.Prelude.{slice_range, slice_index, slice_set}
-use Rattle.std.proofs.lemmas.List.{map-append, drop-drop, take_all, length-take-le, length-set, get_or-set_same, get_or-set_other}
+use Rattle.std.proofs.lemmas.List.{map-append, drop-drop, take_all, length-take-le, length-map, length-set, get_or-map, get_or-set_same, get_or-set_other}
 use Rattle.std.proofs.Math.Seq.{take-add}
+use Rattle.std.proofs.lemmas.Grind.{same_number_lists}
 use Rattle.nvme_spec.specs.declared.pointer.Piece.{Piece}
 use Rattle.nvme_spec.specs.Pointer.{address}
 use Rattle.nvme_spec.specs.Transfers.{addresses, block_addresses, gathered_bytes, with_scattered, gathered_blocks, with_scattered_blocks}
-use Rattle.nvme_spec.specs.TransferLaws.{LastByteIsKept, OthersStay, BlocksMakeTheWhole, BlocksScatterTheWhole, SmallIsContiguous}
+use Rattle.nvme_spec.specs.TransferLaws.{LastByteIsKept, OthersStay, BlocksMakeTheWhole, BlocksScatterTheWhole, SmallIsContiguous, GatheredIsScattered, RunIsWritten, ScatteringKeepsTheLength}
 use Rattle.nvme_spec.proofs.PagesJoined.{counts, address-near}
-use Rattle.nvme_spec.proofs.Runs.{gathered_bytes-run, with_scattered-append}
+use Rattle.nvme_spec.proofs.Runs.{gathered_bytes-run, with_scattered-append, with_scattered-run, with_bytes-is}
 
 pub others_stay : OthersStay
 unfolding with_scattered
@@ -83,3 +84,16 @@ unfolding with_scattered
 length-with_scattered window [] bytes = refl
 length-with_scattered window (p ∷ places) [] = refl
 length-with_scattered window (p ∷ places) (b ∷ bytes) = length-with_scattered (slice_set window p b) places bytes ∙ length-set window p b
+
+pub scattering_keeps_the_length : ScatteringKeepsTheLength
+scattering_keeps_the_length window places bytes = length-with_scattered window places bytes
+
+pub run_is_written : RunIsWritten
+run_is_written window first bytes fits = with_scattered-run window first (length bytes) bytes refl fits ∙ sym (with_bytes-is window first bytes)
+
+pub gathered_is_scattered : GatheredIsScattered
+gathered_is_scattered window places bytes same distinct inside =
+    same_number_lists _ _ (length-map places (slice_index (with_scattered window places bytes)) ∙ same) (λ k within.
+    let short : k < length places = omega (arith, within, length-map places (slice_index (with_scattered window places bytes))) in
+    get_or-map (slice_index (with_scattered window places bytes)) places k 0 0 short
+    ∙ last_byte_is_kept window places bytes (slice_index places k) k same (inside k short) (short, refl, λ i later last. distinct k i later last))

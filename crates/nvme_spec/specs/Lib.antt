@@ -23,6 +23,9 @@ pub mod ExampleWindows
 pub mod DataRules
 pub mod IoData
 pub mod Execution
+pub mod Layout
+pub mod FaultFree
+pub mod ExecutionLaws
 pub mod Queues
 pub mod QueueLaws
 pub mod Registers
@@ -35,5 +38,8 @@ pub mod AttachmentLaws
 pub mod AdminRules
 pub mod Identify
 pub mod AdminEffects
+pub mod QueueChanges
+pub mod StatusLaws
+pub mod AdminLaws
 pub mod AdminExamples
 pub mod ClusterExamples

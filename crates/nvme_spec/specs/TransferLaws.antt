@@ -3,6 +3,7 @@
 use Rattle.std.specs.Prelude.{slice_range, slice_index, ℕ, ◌+◌, ◌*◌, ◌≡◌, ◌≢◌, ◌<◌, ◌≤◌, List, length, map}
 use Rattle.std.specs.List.{range_with_len}
 use Rattle.nvme_spec.specs.declared.pointer.Piece.{Piece}
+use Rattle.nvme_spec.specs.Bytes.{with_bytes}
 use Rattle.nvme_spec.specs.Pointer.{Transfer, room, address}
 use Rattle.nvme_spec.specs.Transfers.{addresses, gathered_bytes, with_scattered, gathered_blocks, with_scattered_blocks}
 
@@ -42,3 +43,24 @@ SmallIsContiguous =
     (t : Transfer) → t.bytes ≤ room t.prp1 → t.prp1 + t.bytes ≤ length t.window
     → (map (address t) (range_with_len 0 t.bytes) ≡ range_with_len t.prp1 t.bytes)
     × (gathered_bytes t.window (map (address t) (range_with_len 0 t.bytes)) ≡ slice_range t.window t.prp1 (t.prp1 + t.bytes))
+
+-- no address is named twice
+abbrev pub AreDistinct : List ℕ → Type 0
+AreDistinct places = (i j : ℕ) → i < j → j < length places → slice_index places j ≢ slice_index places i
+
+-- what is scattered over such addresses of a window is gathered there
+abbrev pub GatheredIsScattered : Type 0
+GatheredIsScattered =
+    (window places bytes : List ℕ) → length places ≡ length bytes → AreDistinct places
+    → ((k : ℕ) → k < length places → slice_index places k < length window)
+    → gathered_bytes (with_scattered window places bytes) places ≡ bytes
+
+-- bytes scattered over a run of rising addresses are written there
+abbrev pub RunIsWritten : Type 0
+RunIsWritten =
+    (window : List ℕ) (first : ℕ) (bytes : List ℕ) → first + length bytes ≤ length window
+    → with_scattered window (range_with_len first (length bytes)) bytes ≡ with_bytes window first bytes
+
+-- a window keeps its length
+abbrev pub ScatteringKeepsTheLength : Type 0
+ScatteringKeepsTheLength = (window places bytes : List ℕ) → length (with_scattered window places bytes) ≡ length window

@@ -1,6 +1,8 @@
 //! Laws that follow from the definitions, each the contract of a function that does nothing.
 
+mod admin;
 mod attachments;
+mod executions;
 mod queues;
 mod registers;
 mod reservations;

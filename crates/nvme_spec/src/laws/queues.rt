@@ -1,5 +1,6 @@
 //! What follows from the definitions of queues.
 
+ghost use Rattle.nvme_spec.specs.QueueChanges.{AdminChangesSuit};
 ghost use Rattle.nvme_spec.specs.QueueLaws.{NextTurn, TwoTurns, TailAtHead, HeadAtTail, AllFetched, SubmissionHeadStays, CompletionTailStays, SubmissionTailStays, CompletionHeadStays, EntryIsInside, CompletionRoom, SubmissionRoom};
 
 /// Slots come again each turn round the ring, with the other phase tag.
@@ -37,4 +38,11 @@ fn bounded()
     ensures completion_tail { CompletionTailStays }
     ensures submission_tail { SubmissionTailStays }
     ensures completion_head { CompletionHeadStays }
+{}
+
+/// A change of the queues that an admin command is allowed can be done: a new queue lies in host memory, and no submission
+/// queue is left without its completion queue.
+#[tactic(auto, using(crate::proofs::QueueChanges::admin_changes_suit))]
+fn suited()
+    ensures { AdminChangesSuit }
 {}

@@ -1,0 +1,36 @@
+//! What follows from the definition of an execution.
+
+ghost use Rattle.nvme_spec.specs.Layout.{OpeningIsLaidOut};
+ghost use Rattle.nvme_spec.specs.StatusLaws.{ExecutionFits, AdminExecutionFits};
+ghost use Rattle.nvme_spec.specs.ExecutionLaws.{FailuresNeverFall, FaultFreeExecutes, ExecutesAlone, ExecutionKeepsTheRest, OnlyAllowedWritesWrite, OnlyAllowedActionsReserve, FencedCommandsWriteNothing, LayoutStays};
+
+/// Each command can be executed, and without a fault of the medium there is one execution alone.
+#[tactic(auto, using(crate::proofs::FaultFree::failures_never_fall, crate::proofs::FaultFree::fault_free_executes, crate::proofs::FaultFree::executes_alone))]
+fn determined()
+    ensures count { FailuresNeverFall }
+    ensures exists { FaultFreeExecutes }
+    ensures alone { ExecutesAlone }
+{}
+
+/// An execution leaves controllers, attachments, other reservations and the layout of the namespaces.
+#[tactic(auto, using(crate::proofs::Openings::opening_is_laid_out, crate::proofs::Fencing::execution_keeps_the_rest, crate::proofs::Fencing::layout_stays))]
+fn framed()
+    ensures opening { OpeningIsLaidOut }
+    ensures rest { ExecutionKeepsTheRest }
+    ensures layout { LayoutStays }
+{}
+
+/// Blocks and reservations change only by commands that all rules let pass.
+#[tactic(auto, using(crate::proofs::Fencing::only_allowed_writes_write, crate::proofs::Fencing::only_allowed_actions_reserve, crate::proofs::Fencing::fenced_commands_write_nothing))]
+fn fenced()
+    ensures writes { OnlyAllowedWritesWrite }
+    ensures reserves { OnlyAllowedActionsReserve }
+    ensures fenced { FencedCommandsWriteNothing }
+{}
+
+/// Every status fits its field of the completion queue entry.
+#[tactic(auto, using(crate::proofs::StatusLaws::execution_fits, crate::proofs::StatusLaws::admin_execution_fits))]
+fn answered()
+    ensures io { ExecutionFits }
+    ensures admin { AdminExecutionFits }
+{}
