@@ -25,12 +25,22 @@ impl MemMedium {
     pub fn new(alloc: Global, bytes: &[u8]) -> Result<Self, NoMemory>
         ensures { IfOk result (λ medium. memory_bytes medium ≡ whole_blocks bytes.now) }
     {
+        let whole = 512 * (bytes.len() / 512);
+        Ok(MemMedium::of(bytes[..whole].to_vec(alloc)?))
+    }
+
+    /// A medium of the whole blocks of these bytes, which are taken as they are: no memory is taken. Bytes behind the
+    /// last whole block are dropped.
+    pub fn of(bytes: Vec<u8>) -> Self
+        ensures { memory_bytes result ≡ whole_blocks bytes.items }
+    {
+        let mut bytes = bytes;
         let blocks = bytes.len() / 512;
-        let bytes = bytes[..512 * blocks].to_vec(alloc)?;
-        Ok(MemMedium {
+        bytes.truncate(512 * blocks);
+        MemMedium {
             bytes,
             blocks: blocks as u64,
-        })
+        }
     }
 
     /// The bytes of all blocks.

@@ -3,9 +3,12 @@ use std::test::Fail;
 
 #[test]
 fn keeps_whole_blocks_alone(rt: HostRuntime) -> Result<(), Fail> {
-    let medium = MemMedium::new(rt.alloc(), &[7; 1100])?;
-    assert_eq!(rt; medium.blocks(), 2);
-    assert_eq!(rt; medium.as_bytes(), [7; 1024].as_slice());
+    let copied = MemMedium::new(rt.alloc(), &[7; 1100])?;
+    let taken = MemMedium::of(vec![in rt.alloc(); 7; 1100]?);
+    for medium in [copied, taken] {
+        assert_eq!(rt; medium.blocks(), 2);
+        assert_eq!(rt; medium.as_bytes(), [7; 1024].as_slice());
+    }
     Ok(())
 }
 
