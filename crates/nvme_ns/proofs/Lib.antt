@@ -1,3 +1,5 @@
 pub mod Placing
 pub mod Changing
 pub mod Numbered
+pub mod Attaching
+pub mod Opened

@@ -18,18 +18,27 @@ pub struct Namespace {
 }
 
 impl Model for Namespace {
+    ghost use Rattle.std.specs.Prelude.{◌≤◌};
     ghost use Rattle.nvme_spec.specs.World.{Namespace as State};
 
     ghost Value = { State };
+
+    // Identifiers are 1 to 8.
+    ghost invariant = { λ a. (1 ≤ a.nsid) × (a.nsid ≤ 8) };
 
     ghost view = { λ a. record { nsid = a.nsid; first = a.first; blocks = a.blocks; shared = a.shared; protected = a.protected; reservation = a.reservation } };
 }
 
 impl Default for Namespace {
     fn default() -> Self
-        ensures { result ≡ record { nsid = 0; first = 0; blocks = 0; shared = false; protected = false; reservation = unreserved } }
+        ensures { result ≡ record { nsid = 1; first = 0; blocks = 0; shared = false; protected = false; reservation = unreserved } }
     {
-        Namespace::new(&NsConfig::default(), 0)
+        let empty = NsConfig {
+            nsid: 1,
+            blocks: 0,
+            shared: false,
+        };
+        Namespace::new(&empty, 0)
     }
 }
 
@@ -37,7 +46,9 @@ impl Namespace {
     ghost use Rattle.nvme_ns.specs.Lending.{LendsOwnReservation};
 
     /// A namespace that begins at block `first` of the medium. It is not write protected, and nobody has reserved it.
+    /// That its identifier is 1 to 8 is the caller's condition.
     pub fn new(config: &NsConfig, first: u64) -> Self
+        requires { (1 ≤ config.now.nsid) × (config.now.nsid ≤ 8) }
         ensures { result ≡ record { nsid = config.now.nsid; first = first; blocks = config.now.blocks; shared = config.now.shared; protected = false; reservation = unreserved } }
     {
         Namespace {
@@ -69,6 +80,15 @@ impl Namespace {
         ensures { result ≡ self.now.blocks }
     {
         self.blocks
+    }
+
+    /// Whether it may be attached to several controllers.
+    pub fn is_shared(&self) -> bool
+        ensures shared { result ≡ self.now.shared }
+        // Identifiers are 1 to 8.
+        ensures known { (1 ≤ self.now.nsid) × (self.now.nsid ≤ 8) }
+    {
+        self.shared
     }
 
     /// Whether it is write protected.

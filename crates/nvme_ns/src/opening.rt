@@ -1,7 +1,7 @@
 //! The tables that a configuration opens with.
 
-ghost use Rattle.std.specs.Prelude.{◌≡◌, ◌<◌, ◌≤◌, ◌^◌, length, map};
-ghost use Rattle.nvme_spec.specs.Configuration.{total_blocks};
+ghost use Rattle.std.specs.Prelude.{◌≡◌, ◌<◌, ◌≤◌, ◌^◌, length, map, false};
+ghost use Rattle.nvme_spec.specs.Configuration.{total_blocks, has_foreign_nsid};
 ghost use Rattle.nvme_spec.specs.World.{laid_out, controller_host};
 
 use crate::Namespace;
@@ -25,6 +25,7 @@ pub fn controller_table(controllers: &[ControllerConfig]) -> ArrayVec<(u16, u64)
 pub fn namespace_table(namespaces: &[NsConfig]) -> ArrayVec<Namespace, MAX_NAMESPACES>
     requires few { length namespaces.now ≤ 8 }
     requires small { total_blocks namespaces.now < 2 ^ 64 }
+    requires known { has_foreign_nsid namespaces.now ≡ false }
     ensures { result.items ≡ laid_out 0 namespaces.now }
 {
     let mut table = ArrayVec::new();

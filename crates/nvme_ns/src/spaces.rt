@@ -14,6 +14,8 @@ use nvme_resv::Reservation;
 use nvme_spec::{Config, ConfigFault};
 use std::marker::Model;
 
+mod attaching;
+
 /// The access state of a subsystem. It stands in tables of fixed size and takes no memory.
 #[derive(Drop)]
 pub struct Spaces {
@@ -27,12 +29,14 @@ pub struct Spaces {
 impl Model for Spaces {
     ghost use Rattle.nvme_spec.specs.Report.{HasRisingIds};
     ghost use Rattle.nvme_spec.specs.World.{World as State};
+    ghost use Rattle.nvme_ns.specs.Attached.{HasSmallIds, IsAttachmentTable};
 
     ghost Value = { State };
 
     ghost view = { λ a. record { controllers = a.controllers.items; namespaces = a.namespaces.items; attachments = a.attachments.items } };
 
-    ghost invariant = { λ a. HasRisingIds a.controllers.items };
+    ghost invariant = { λ a. HasRisingIds a.controllers.items × HasSmallIds a.controllers.items
+        × IsAttachmentTable a.attachments.items };
 }
 
 impl Spaces {
@@ -117,6 +121,13 @@ impl Spaces {
         ensures { result ≡ option_map (λ n. n.protected) (world.namespace_of self.now nsid) }
     {
         Some(self.namespace(nsid)?.is_protected())
+    }
+
+    /// Whether a namespace may be attached to several controllers, or None where it isn't configured.
+    pub fn shared(&self, nsid: u32) -> Option<bool>
+        ensures { result ≡ option_map (λ n. n.shared) (world.namespace_of self.now nsid) }
+    {
+        Some(self.namespace(nsid)?.is_shared())
     }
 
     /// Lends the reservation of a namespace, which has to be configured. Nothing else changes.

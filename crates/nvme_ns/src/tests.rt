@@ -1,5 +1,6 @@
 use super::*;
 use nvme_resv::Role;
+use nvme_wire::Status;
 use std::alloc::{AllocError, Global};
 use std::test::Fail;
 
@@ -103,5 +104,68 @@ fn a_namespace_is_protected_alone(rt: HostRuntime) -> Result<(), Fail> {
     spaces.set_protection(2, true);
     assert_eq!(rt; spaces.protection(2), Some(true));
     assert_eq!(rt; spaces.protection(1), Some(false));
+    Ok(())
+}
+
+#[test]
+fn a_list_is_taken_whole_or_refused(rt: HostRuntime) -> Result<(), Fail> {
+    let config = cluster(rt.alloc())?;
+    let mut spaces = Spaces::new(&config, 72)?;
+    assert_eq!(rt; spaces.shared(1), Some(true));
+    assert_eq!(rt; spaces.shared(2), Some(false));
+    assert_eq!(rt; spaces.shared(3), None);
+    assert_eq!(rt; spaces.detach(1, &[2, 4]), Ok(()));
+    assert!(rt; !spaces.is_attached(2, 1));
+    assert!(rt; spaces.is_attached(3, 1));
+    assert_eq!(rt;
+        spaces.detach(1, &[1, 2]),
+        Err(Status::NAMESPACE_NOT_ATTACHED)
+    );
+    assert!(rt; spaces.is_attached(1, 1));
+    assert!(rt; spaces.namespace(1).is_some());
+    assert_eq!(rt;
+        spaces.attach(1, &[2, 3]),
+        Err(Status::NAMESPACE_ALREADY_ATTACHED)
+    );
+    assert!(rt; !spaces.is_attached(2, 1));
+    assert!(rt; spaces.namespace(1).is_some());
+    assert_eq!(rt; spaces.attach(1, &[2, 4]), Ok(()));
+    assert!(rt; spaces.is_attached(4, 1));
+    Ok(())
+}
+
+#[test]
+fn lists_of_controllers_rise(rt: HostRuntime) -> Result<(), Fail> {
+    let config = cluster(rt.alloc())?;
+    let mut spaces = Spaces::new(&config, 72)?;
+    for list in [&[2, 1][..], &[2, 2][..], &[0][..], &[5][..], &[][..]] {
+        assert_eq!(rt;
+            spaces.detach(1, list),
+            Err(Status::CONTROLLER_LIST_INVALID)
+        );
+    }
+    assert_eq!(rt;
+        spaces.detach(1, &[1; 2048]),
+        Err(Status::CONTROLLER_LIST_INVALID)
+    );
+    Ok(())
+}
+
+#[test]
+fn a_private_namespace_has_one_controller(rt: HostRuntime) -> Result<(), Fail> {
+    let config = cluster(rt.alloc())?;
+    let mut spaces = Spaces::new(&config, 72)?;
+    assert!(rt; spaces.namespace(2).is_some());
+    assert_eq!(rt; spaces.attach(2, &[2]), Err(Status::NAMESPACE_IS_PRIVATE));
+    assert_eq!(rt; spaces.detach(2, &[1]), Ok(()));
+    assert!(rt; spaces.namespace(2).is_some());
+    assert_eq!(rt;
+        spaces.attach(2, &[2, 3]),
+        Err(Status::NAMESPACE_IS_PRIVATE)
+    );
+    assert!(rt; !spaces.is_attached(2, 2));
+    assert!(rt; spaces.namespace(2).is_some());
+    assert_eq!(rt; spaces.attach(2, &[3]), Ok(()));
+    assert!(rt; spaces.is_attached(3, 2));
     Ok(())
 }

@@ -1,13 +1,20 @@
-use Rattle.std.proofs.Common.{◌≡◌, ◌≤◌, true, arith, rules}
-use Rattle.nvme_spec.specs.Configuration.{total_blocks, are_numbered}
+use Rattle.std.proofs.Common.{◌≤◌, arith, rules}
+use Rattle.nvme_spec.specs.Configuration.{total_blocks}
+use Rattle.nvme_ns.specs.Configured.{configuration}
 use Rattle.nvme_ns.proofs.Numbered.{rising}
+use Rattle.nvme_ns.proofs.Opened.{few, small, opened}
 use Rattle.nvme_ns.proofs.Placing.{LiesWithin-laid_out}
 use Rattle.nvme_ns.proofs.spaces.Spaces.new.Goals as goal
 
 pub invariant_of-result : goal.invariant_of-result
 invariant_of-result c =
-    let numbered : are_numbered c.deref.result.now ≡ true = search rules in
-    rw c.controller_table.ensures (rising 0 c.deref.result.now numbered)
+    let config = configuration c.args.config.now in
+    let ok = c.in_ok-check.ensures {u = tt} in
+    let count = few config ok.counts in (
+      rw (c.controller_table.ensures, c.deref.ensures.value) (rising 0 config.controllers ok.numbered),
+      rw (c.controller_table.ensures, c.deref.ensures.value) (small config.controllers ok.numbered count),
+      rw (c.attachment_table.ensures, c.deref-3.ensures.value) (opened config config.attached ok.attached ok.numbered count ok.known),
+    )
 
 pub returns-clause-within : goal.returns-clause-within
 returns-clause-within c =
