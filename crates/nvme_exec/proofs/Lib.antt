@@ -1,6 +1,5 @@
 pub mod Comparing
 pub mod Transferring
-pub mod Placing
 pub mod Acting
 pub mod Settling
 pub mod Data

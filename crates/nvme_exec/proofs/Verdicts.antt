@@ -7,7 +7,7 @@ use Rattle.nvme_wire.specs.Submission.{opcode, nsid}
 use Rattle.nvme_wire.specs.declared.status.Status.{Status}
 use Rattle.nvme_spec.specs.declared.command.Command.{Command}
 use Rattle.nvme_spec.specs.declared.command.Command.TheVariants.{Flush, Write, Read, Compare, WriteZeroes, ReservationRegister, ReservationReport, ReservationAcquire, ReservationRelease}
-use Rattle.nvme_spec.specs.declared.pointer.DataFault.{DataFault}
+use Rattle.nvme_spec.specs.declared.verdict.Denial.{Denial}
 use Rattle.nvme_spec.specs.declared.verdict.Plan.{Plan}
 use Rattle.nvme_spec.specs.declared.verdict.Verdict.TheVariants.{Allowed, Denied}
 use Rattle.nvme_spec.specs.Reservation as resv
@@ -15,17 +15,10 @@ use Rattle.nvme_spec.specs.World.{World, host_of, namespace_of}
 use Rattle.nvme_spec.specs.Commands.{command_of, data_length, data_length_of, plan_of, block_count, report_length, rtype, action, iekey}
 use Rattle.nvme_spec.specs.Rules.{Rule, Test, Judgement, denial_by, judgement_by, else_by, first_failing, first_failure}
 use Rattle.nvme_spec.specs.IoRules.{field_rule, access_rules, conclusion, verdict}
-use Rattle.nvme_spec.specs.DataRules.{pointer_rule, data_fault, fault_status, fault_tests}
+use Rattle.nvme_spec.specs.DataRules.{pointer_rule, data_fault, fault_tests}
 use Rattle.nvme_spec.specs.IoData.{action_rule, outcome_tests, data_of, outcome_in, reservation_outcome, io_judgement, io_verdict}
+use Rattle.nvme_spec.proofs.Judgements.{first_failing-append}
 use Rattle.nvme_exec.specs.Carrying.{IsUnrefused}
-
-first_failing-append : (xs ys : List Rule) → first_failing (xs ++ ys) ≡ else_by (first_failing xs) (first_failing ys)
-first_failing-append [] ys = refl
-first_failing-append (x ∷ xs) ys =
-    elim (judgement_by x) as (λ t. else_by t (first_failing (xs ++ ys)) ≡ else_by (else_by t (first_failing xs)) (first_failing ys)) [
-      | Ok u ↦ first_failing-append xs ys
-      | Err d ↦ refl
-    ]
 
 -- the rules on the data
 abbrev data_rules : ℕ → Option resv.Outcome → List ℕ → List ℕ → List Rule
@@ -92,18 +85,17 @@ decided w cntlid e marked window plan h =
     ∙ ap (λ j. conclusion (else_by j (first_failing (data_rules (data_length_of (command_of (opcode e)) e) outcome window e))) (command_of (opcode e)) e) p.passed
     ∙ ap (λ c. conclusion (first_failing (data_rules (data_length_of c e) outcome window e)) c e) p.named
 
-pointer-fails : (bytes : ℕ) (command : Command) (outcome : Option resv.Outcome) (window e : List ℕ) (fault : DataFault) → data_fault bytes window e ≡ Some fault
-    → conclusion (first_failing (data_rules bytes outcome window e)) (Some command) e ≡ Denied 10 (fault_status fault)
-unfolding judgement_by pointer_rule
-pointer-fails bytes command outcome window e fault h =
-    ap (λ f. conclusion (else_by (denial_by 10 (first_failure (fault_tests f))) (first_failing (action_rule outcome ∷ []))) (Some command) e) h
+pointer-fails : (bytes : ℕ) (command : Command) (outcome : Option resv.Outcome) (window e : List ℕ) (d : Denial) → judgement_by (pointer_rule bytes window e) ≡ Err d
+    → conclusion (first_failing (data_rules bytes outcome window e)) (Some command) e ≡ Denied d.rule d.status
+pointer-fails bytes command outcome window e d h =
+    ap (λ j. conclusion (else_by j (first_failing (action_rule outcome ∷ []))) (Some command) e) h
 
 -- a data pointer that has a fault denies
-pub pointer-denied : (w : World) (cntlid : ℕ) (e : List ℕ) (marked : Bool) (window : List ℕ) (plan : Plan) (fault : DataFault) → verdict w cntlid e marked ≡ Allowed plan
-    → data_fault plan.bytes window e ≡ Some fault → io_verdict w cntlid e marked window ≡ Denied 10 (fault_status fault)
-pointer-denied w cntlid e marked window plan fault h f =
+pub pointer-denied : (w : World) (cntlid : ℕ) (e : List ℕ) (marked : Bool) (window : List ℕ) (plan : Plan) (d : Denial) → verdict w cntlid e marked ≡ Allowed plan
+    → judgement_by (pointer_rule plan.bytes window e) ≡ Err d → io_verdict w cntlid e marked window ≡ Denied d.rule d.status
+pointer-denied w cntlid e marked window plan d h f =
     let bytes : plan.bytes ≡ data_length plan.kind e = ap (λ (p : Plan). p.bytes) (planned-by w cntlid e marked plan h).plan_is in
-    decided w cntlid e marked window plan h ∙ pointer-fails (data_length plan.kind e) plan.kind _ window e fault (rw bytes at f)
+    decided w cntlid e marked window plan h ∙ pointer-fails (data_length plan.kind e) plan.kind _ window e d (rw bytes at f)
 
 data-sound : (bytes : ℕ) (command : Command) (window e : List ℕ) (now outcome : Option resv.Outcome) → data_fault bytes window e ≡ None → now ≡ outcome
     → conclusion (first_failing (data_rules bytes now window e)) (Some command) e ≡ conclusion (else_by (denial_by 11 (first_failure (outcome_tests outcome))) (Ok tt)) (Some command) e

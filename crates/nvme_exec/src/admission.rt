@@ -10,13 +10,12 @@ ghost use Rattle.nvme_spec.specs.DataRules as rules;
 ghost use Rattle.nvme_spec.specs.IoData.{io_verdict};
 ghost use Rattle.nvme_exec.specs.Admitted.{IsAdmitted};
 
-use arrayvec::ArrayVec;
 use nvme_mem::Window;
 use nvme_ns::Spaces;
 use nvme_policy::Admitted;
-use nvme_prp::{Pieces, walk};
-use nvme_spec::{DataFault, Denial, Plan};
-use nvme_wire::{Sqe, Status};
+use nvme_prp::{Pieces, locate};
+use nvme_spec::{Denial, Plan};
+use nvme_wire::Sqe;
 
 /// Blocks of a medium, one after the other.
 #[derive(Clone, Copy, Debug)]
@@ -64,12 +63,7 @@ pub fn admit(
     };
     let pieces = match locate(window, sqe, plan.bytes) {
         Ok(pieces) => pieces,
-        Err(fault) => {
-            return Err(Denial {
-                rule: 10,
-                status: status_of(fault),
-            });
-        }
+        Err(denial) => return Err(denial),
     };
     Ok(Admission {
         plan,
@@ -80,30 +74,4 @@ pub fn admit(
         },
         pieces,
     })
-}
-
-/// Where so many bytes of data lie.
-fn locate(window: &Window, sqe: &Sqe, bytes: u64) -> Result<Pieces, DataFault>
-    requires few { bytes ≤ 131072 }
-    ensures sound { OnOk result (rules.data_fault bytes window.now sqe.now ≡ None) }
-    ensures placed { IfOk result (λ pieces. addresses pieces.parts.items ≡ rules.data_addresses bytes window.now sqe.now) }
-    ensures size { IfOk result (λ pieces. length (addresses pieces.parts.items) ≡ bytes) }
-    ensures fault { IfErr result (λ fault. rules.data_fault bytes window.now sqe.now ≡ Some fault) }
-{
-    if bytes == 0 {
-        return Ok(Pieces {
-            parts: ArrayVec::new(),
-        });
-    }
-    walk(window, sqe.prp1(), sqe.prp2(), bytes)
-}
-
-/// The status of a command whose data pointer has a fault.
-fn status_of(fault: DataFault) -> Status
-    ensures { result ≡ rules.fault_status fault }
-{
-    match fault {
-        DataFault::Offset => Status::PRP_OFFSET_INVALID,
-        DataFault::Outside => Status::DATA_TRANSFER_ERROR,
-    }
 }

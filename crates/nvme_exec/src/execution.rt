@@ -1,11 +1,13 @@
 //! The execution of one I/O command.
 
 ghost use Rattle.std.specs.Prelude.{◌≡◌, IfOk, IfErr, OnErr};
+ghost use Rattle.nvme_wire.specs.Submission.{nsid};
 ghost use Rattle.nvme_spec.specs.declared.command.Command.TheVariants.{Flush};
 ghost use Rattle.nvme_spec.specs.declared.verdict.Verdict.TheVariants.{Denied};
 ghost use Rattle.nvme_spec.specs.IoRules.{IfAllowed, IfDenied};
 ghost use Rattle.nvme_spec.specs.IoData.{io_verdict};
 ghost use Rattle.nvme_spec.specs.Execution.{Executes, scene};
+ghost use Rattle.nvme_spec.specs.ExecutionLaws.{KeepsTheRest};
 ghost use Rattle.nvme_exec.specs.Carrying.{CanExecute, IsAllowed, IsFlushed};
 
 use crate::admission::admit;
@@ -37,6 +39,8 @@ pub fn execute<M: Medium>(
     requires ready { CanExecute spaces.old (M.size medium.old) cntlid }
     ensures executed { Executes M.tells cntlid sqe.now marked
         (scene spaces.old window.old (M.device medium.old)) (scene spaces.new window.new (M.device medium.new)) result }
+    ensures frame { KeepsTheRest (nsid sqe.now)
+        (scene spaces.old window.old (M.device medium.old)) (scene spaces.new window.new (M.device medium.new)) }
     // A denied command makes no call of the medium, and a Flush that is allowed makes one of its flushes.
     ensures spared { IfDenied (io_verdict spaces.old cntlid sqe.now marked window.old) (medium.new ≡ medium.old) }
     ensures flushed { IfAllowed (io_verdict spaces.old cntlid sqe.now marked window.old)

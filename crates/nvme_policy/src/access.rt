@@ -1,6 +1,8 @@
-ghost use Rattle.std.specs.Prelude.{◌≡◌};
+ghost use Rattle.std.specs.Prelude.{◌≡◌, Some};
 ghost use Rattle.nvme_spec.specs.Access.{is_permitted};
+ghost use Rattle.nvme_spec.specs.IoRules as policy;
 
+use nvme_ns::Namespace;
 use nvme_spec::{Group, Hold, Role};
 
 /// Whether a command of this group is permitted to a host in this role under a hold (Base Specification, Reservation
@@ -22,4 +24,17 @@ pub fn permits(hold: Hold, role: Role, group: Group) -> bool
             _ => role != Role::Outsider,
         },
     }
+}
+
+/// Whether the reservation of a namespace permits commands of this group to the host of a controller. A controller that
+/// isn't configured has no host.
+pub fn permits_host(namespace: &Namespace, host: Option<u64>, group: Group) -> bool
+    ensures { result ≡ policy.permits_group (Some namespace.now) host group }
+{
+    let reservation = namespace.reservation();
+    let role = match host {
+        Some(host) => reservation.role(host),
+        None => Role::Outsider,
+    };
+    permits(reservation.hold(), role, group)
 }

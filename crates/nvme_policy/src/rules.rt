@@ -7,10 +7,11 @@ ghost use Rattle.nvme_spec.specs.Commands as commands;
 ghost use Rattle.nvme_spec.specs.Rules.{judgement_by, rule as one_test};
 ghost use Rattle.nvme_spec.specs.IoRules as policy;
 
+use crate::access::permits_host;
 use crate::command::{command_of, traits_of};
-use crate::{fields, permits};
+use crate::fields;
 use nvme_ns::{Namespace, Spaces};
-use nvme_spec::{Command, Denial, Role};
+use nvme_spec::{Command, Denial};
 use nvme_wire::{Sqe, Status};
 
 /// The highest namespace identifier.
@@ -71,11 +72,14 @@ pub fn check_form(sqe: &Sqe) -> Result<(), Denial>
 pub fn check_nsid(nsid: u32) -> Result<(), Denial>
     ensures { result ≡ judgement_by (policy.nsid_rule nsid) }
 {
-    deny_if(
-        nsid == 0 || nsid > HIGHEST_NSID,
-        4,
-        Status::INVALID_NAMESPACE_OR_FORMAT,
-    )
+    deny_if(is_no_nsid(nsid), 4, Status::INVALID_NAMESPACE_OR_FORMAT)
+}
+
+/// Whether no namespace can have this identifier.
+pub fn is_no_nsid(nsid: u32) -> bool
+    ensures { result ≡ policy.is_no_nsid nsid }
+{
+    nsid == 0 || nsid > HIGHEST_NSID
 }
 
 /// Rule 5: the namespace is attached to the controller.
@@ -145,13 +149,8 @@ pub fn check_reservation(
 ) -> Result<(), Denial>
     ensures { result ≡ judgement_by (policy.reservation_rule (Some command) (Some namespace.now) host) }
 {
-    let reservation = namespace.reservation();
-    let role = match host {
-        Some(host) => reservation.role(host),
-        None => Role::Outsider,
-    };
     let is_permitted = match traits_of(command).group {
-        Some(group) => permits(reservation.hold(), role, group),
+        Some(group) => permits_host(namespace, host, group),
         None => true,
     };
     deny_if(!is_permitted, 7, Status::RESERVATION_CONFLICT)

@@ -2,3 +2,4 @@ pub mod Turns
 pub mod Judged
 pub mod PageBlocks
 pub mod AllPieces
+pub mod Placing

@@ -2,10 +2,12 @@
 #![tactic(auto)]
 
 mod block;
+mod data;
 mod walking;
 mod whole;
 
 pub use block::{gather_block, scatter_block};
+pub use data::locate;
 pub use nvme_spec::{DataFault, Piece};
 pub use walking::{Pieces, walk};
 pub use whole::{gather, scatter};

@@ -1,6 +1,5 @@
 use Rattle.std.proofs.Common.{◌+◌, ◌≤◌, ◌∙◌, refl, sym, ap, arith}
 use Rattle.nvme_spec.specs.declared.verdict.Plan.{Plan}
-use Rattle.nvme_spec.specs.declared.verdict.Verdict.TheVariants.{Denied}
 use Rattle.nvme_spec.specs.DataRules.{data_fault, data_addresses}
 use Rattle.nvme_spec.proofs.Worlds.{of_named}
 use Rattle.nvme_exec.proofs.Verdicts.{denied, planned-by, pointer-denied, plan-bytes, type-known}
@@ -19,8 +18,8 @@ locate-requires c =
 
 pub returns-in-Err-locate-clause-denied : goal.returns-in-Err-locate-clause-denied
 returns-in-Err-locate-clause-denied c =
-    pointer-denied c.args.spaces.now c.args.cntlid c.args.sqe.now c.args.marked c.args.window.now c.in-Ok.admitted.plan c.in-Err-locate.fault
-    c.in-Ok.ensures.allowed c.in-Err-locate.ensures.fault ∙ ap (Denied 10) (sym c.status_of.ensures)
+    pointer-denied c.args.spaces.now c.args.cntlid c.args.sqe.now c.args.marked c.args.window.now c.in-Ok.admitted.plan c.in-Err-locate.denial
+    c.in-Ok.ensures.allowed c.in-Err-locate.ensures.denied
 
 pub overflow_add-result : goal.overflow_add-result
 overflow_add-result c =

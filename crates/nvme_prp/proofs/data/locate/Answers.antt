@@ -1,7 +1,7 @@
 use Rattle.std.proofs.Common.{◌∙◌, arith}
 use Rattle.nvme_spec.specs.Transfers.{ArePages}
-use Rattle.nvme_exec.proofs.Placing.{if_ok, placed, nowhere, no-bytes}
-use Rattle.nvme_exec.proofs.admission.locate.Goals as goal
+use Rattle.nvme_prp.proofs.Placing.{placed, nowhere, no-bytes}
+use Rattle.nvme_prp.proofs.data.locate.Goals as goal
 
 pub invariant_of-result : goal.invariant_of-result
 unfolding ArePages
@@ -14,7 +14,6 @@ returns-then-bytes-eq0-clause-placed c =
 pub returns-then-bytes-eq0-clause-size : goal.returns-then-bytes-eq0-clause-size
 returns-then-bytes-eq0-clause-size c = no-bytes c.new.result.items c.new.ensures ∙ omega (arith, c.if-bytes-eq0.true)
 
-pub returns-clause-placed : goal.returns-clause-placed
-returns-clause-placed c =
-    if_ok c.walk.result _ _ (λ pieces is. placed c.args.window.now c.args.sqe.now c.prp1.result c.prp2.result c.args.bytes pieces.parts.items
-    c.prp1.ensures c.prp2.ensures is) c.walk.ensures.pieces
+pub returns-in-Ok-clause-placed : goal.returns-in-Ok-clause-placed
+returns-in-Ok-clause-placed c =
+    placed c.args.window.now c.args.sqe.now c.prp1.result c.prp2.result c.args.bytes c.in-Ok.pieces.parts.items c.prp1.ensures c.prp2.ensures c.in-Ok.ensures.pieces

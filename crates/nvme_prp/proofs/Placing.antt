@@ -1,6 +1,5 @@
 -- Where the data of a command lie.
-use Rattle.std.proofs.Common.{◌≡◌, ℕ, List, [], length, map, Result, Ok, Err, ap, sym, ◌∙◌}
-use Rattle.std.specs.Prelude.{IfOk}
+use Rattle.std.proofs.Common.{◌≡◌, ℕ, List, [], length, map, ap, sym, ◌∙◌}
 use Rattle.std.specs.List.{range_with_len}
 use Rattle.nvme_wire.specs.Submission.{prp1, prp2}
 use Rattle.nvme_spec.specs.declared.pointer.Piece.{Piece}
@@ -8,10 +7,6 @@ use Rattle.nvme_spec.specs.Pointer.{transfer, address}
 use Rattle.nvme_spec.specs.Transfers.{addresses, pieces_of}
 use Rattle.nvme_spec.specs.DataRules.{data_addresses, data_transfer}
 use Rattle.nvme_spec.proofs.PagesJoined.{joined}
-
-pub if_ok : {T E : Type 0} (r : Result T E) (P Q : T → Type 0) → ((x : T) → P x → Q x) → IfOk r P → IfOk r Q
-if_ok (Ok x) P Q f h = f x h
-if_ok (Err e) P Q f h = tt
 
 -- the pieces of a walk are where the data lie
 pub placed : (window e : List ℕ) (p q bytes : ℕ) (pieces : List Piece) → p ≡ prp1 e → q ≡ prp2 e
