@@ -1,0 +1,20 @@
+//! Admin commands: the rules that they are judged by, what allowed ones do, and what each is answered with.
+#![tactic(auto)]
+
+mod attachment;
+mod command;
+mod execution;
+mod features;
+mod fields;
+mod identify;
+mod outcome;
+mod queues;
+mod rules;
+mod structure;
+
+pub use execution::execute_admin;
+pub use nvme_spec::{AdminCommand, QueueChange, Queues};
+pub use outcome::AdminOutcome;
+
+#[cfg(test)]
+mod tests;
