@@ -1,0 +1,52 @@
+-- Fencing holds over runs.
+use Rattle.std.proofs.Common.{◌≡◌, inl, inr, ℕ, true, false, List, [], ◌∷◌, Option, None, Some, refl, ap, ◌∙◌}
+use Rattle.std.specs.Prelude.{option_map}
+use Rattle.std.specs.List.{AllByRecursion}
+use Rattle.nvme_spec.specs.declared.access.Group.TheVariants.{Write as Writing}
+use Rattle.nvme_spec.specs.declared.access.Role.TheVariants.{Outsider}
+use Rattle.nvme_spec.specs.Access.{is_permitted}
+use Rattle.nvme_spec.specs.Reservation as resv
+use Rattle.nvme_spec.specs.World.{World, Namespace, host_of, namespace_of}
+use Rattle.nvme_spec.specs.IoRules.{permits_group}
+use Rattle.nvme_spec.specs.Layout.{reservation_of, may_write}
+use Rattle.nvme_machine.specs.declared.event.Event.{Event}
+use Rattle.nvme_machine.specs.Subsystems.{controller_of}
+use Rattle.nvme_machine.specs.Fencing.{namespace_bytes, PermissionsStay, FencingHolds}
+use Rattle.nvme_machine.proofs.Layouts.{step-extents, layout_stays, only_allowed_actions_reserve, fenced_events_write_nothing}
+
+-- what a host may depends on the reservation alone
+permits-by : (o p : Option Namespace) (host : Option ℕ) → option_map (λ (m : Namespace). m.reservation) o ≡ option_map (λ (m : Namespace). m.reservation) p
+    → permits_group o host Writing ≡ permits_group p host Writing
+permits-by None None host e = refl
+permits-by None (Some b) host e = absurd (cc)
+permits-by (Some a) None host e = absurd (cc)
+permits-by (Some a) (Some b) None e = let same : a.reservation ≡ b.reservation = cc in ap (λ (r : resv.Reservation). is_permitted r.hold Outsider Writing) same
+permits-by (Some a) (Some b) (Some host) e = let same : a.reservation ≡ b.reservation = cc in ap (λ (r : resv.Reservation). is_permitted r.hold (resv.role_of r host) Writing) same
+
+may-still : (old new : World) (n k : ℕ) → host_of new k ≡ host_of old k → reservation_of new n ≡ reservation_of old n → may_write new k n ≡ may_write old k n
+unfolding may_write reservation_of
+may-still old new n k hosts same = ap (λ h. permits_group (namespace_of new n) h Writing) hosts ∙ permits-by (namespace_of new n) (namespace_of old n) (host_of old k) same
+
+pub permissions_stay : PermissionsStay
+permissions_stay tells old new event seen n step quiet k =
+    let same = step-extents tells old new event seen step in
+    elim (only_allowed_actions_reserve tells old new event seen n step) [
+      | inl reservation ↦ may-still old.world new.world n k (same.hosts k) reservation
+      | inr allowed ↦ absurd (quiet allowed)
+    ]
+
+-- what holds of the events in one world holds of them in the next
+still : (old new : World) (n : ℕ) (events : List Event) → ((k : ℕ) → may_write new k n ≡ may_write old k n)
+    → AllByRecursion (λ event. may_write old (controller_of event) n ≡ false) events → AllByRecursion (λ event. may_write new (controller_of event) n ≡ false) events
+still old new n [] same h = tt
+still old new n (event ∷ events) same h = (same (controller_of event) ∙ h.0, still old new n events same h.1)
+
+pub fencing_holds : FencingHolds
+fencing_holds old new [] [] n laid run fenced = (ap (λ s. namespace_bytes s n) run, λ k. ap (λ s. may_write s.world k n) run)
+fencing_holds old new [] (x ∷ later) n laid run fenced = absurd run
+fencing_holds old new (event ∷ events) [] n laid run fenced = absurd run
+fencing_holds old new (event ∷ events) (x ∷ later) n laid run fenced =
+    let mid = run.0 in
+    let same = permissions_stay true old mid event x n run.2 run.1 in
+    let rest = fencing_holds mid new events later n (layout_stays old mid event x laid run.2) run.3 (still old.world mid.world n events same fenced.1) in
+    (rest.0 ∙ fenced_events_write_nothing old mid event x n laid run.2 fenced.0, λ k. rest.1 k ∙ same k)

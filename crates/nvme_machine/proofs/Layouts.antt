@@ -1,0 +1,180 @@
+-- What any event leaves of the world and of the bytes on the medium.
+use Rattle.std.proofs.Common.{◌≡◌, ◌⊎◌, inl, inr, ℕ, ◌==◌, ◌&&◌, not, Bool, true, false, List, length, Option, None, Some, refl, sym, ap, subst, ◌∙◌, arith}
+use Rattle.std.specs.Prelude.{slice_get}
+use Rattle.std.proofs.lemmas.Bool.{eq-eqb}
+use Rattle.nvme_wire.specs.Submission.{nsid}
+use Rattle.nvme_spec.specs.declared.command.Command.{Command}
+use Rattle.nvme_spec.specs.declared.queues.Queues.{Queues}
+use Rattle.nvme_spec.specs.Commands.{altering, reserving}
+use Rattle.nvme_spec.specs.Execution.{Scene}
+use Rattle.nvme_spec.specs.Layout.{extent_of, bytes_at, bytes_of, IsLaidOut, reservation_of, may_write}
+use Rattle.nvme_spec.specs.ExecutionLaws.{IsAllowed}
+use Rattle.nvme_spec.proofs.Fencing as spec
+use Rattle.nvme_machine.specs.declared.event.Event.{Event}
+use Rattle.nvme_machine.specs.declared.event.Event.TheVariants.{Store, Write32, Read32, Fetch, Execute}
+use Rattle.nvme_machine.specs.declared.fetched.FetchedCommand.{FetchedCommand}
+use Rattle.nvme_machine.specs.declared.seen.Seen.{Seen}
+use Rattle.nvme_machine.specs.Controllers.{Controller, QueuePair, Reaction, names, queues_of, open_pair}
+use Rattle.nvme_machine.specs.Answers.{Answer, Answers, AnswersAs}
+use Rattle.nvme_machine.specs.Subsystems.{Subsystem, Step, ReactsAs, ExecutesAt, ExecutesOne, ExecutesOver, controller_at, controller_of, with_controller, scene_of, after_execution}
+use Rattle.nvme_machine.specs.Fencing.{namespace_bytes, IsAllowedAt, Allows, OnlyAllowedWritesWrite, OnlyAllowedActionsReserve, LayoutStays, FencedEventsWriteNothing}
+use Rattle.nvme_machine.proofs.AdminWorlds.{HasSameExtents, same-extents, admin-keeps}
+
+-- What an answer leaves.
+
+-- an I/O command on the namespace that all rules let pass, one of these
+pub record AllowsOne (commands : List Command) (k : ℕ) (t : FetchedCommand) (s : Scene) (n : ℕ) : Type 0 where
+  pub named : names n t ≡ true
+  pub allowed : IsAllowed commands s.world k t.entry t.marked s.window
+
+named-so : (n : ℕ) (t : FetchedCommand) → (t.queue == 0) ≡ false → nsid t.entry ≡ n → names n t ≡ true
+named-so n t io is = ap (λ b. not b && (nsid t.entry == n)) io ∙ eq-eqb (nsid t.entry) n is
+
+answer-extents : (admin : Bool) (tells : Bool) (queues : Queues) (k : ℕ) (t : FetchedCommand) (s : Scene) (a : Answer) → AnswersAs admin tells queues k t s a → HasSameExtents s.world a.left.world
+answer-extents true tells queues k t s a h =
+    let kept = admin-keeps s.world queues k s.window t.entry in
+    subst (λ (x : Answer). HasSameExtents s.world x.left.world) (sym h) kept.extents
+answer-extents false tells queues k t s a h =
+    let r = spec.execution_keeps_the_rest tells k t.entry t.marked s a.left a.outcome h.1 in
+    let l = r.layout in
+    record { hosts = l.hosts; extents = l.extents }
+
+answer-size : (admin : Bool) (queues : Queues) (k : ℕ) (t : FetchedCommand) (s : Scene) (a : Answer) → IsLaidOut s.world s.device.content → AnswersAs admin true queues k t s a
+    → length a.left.device.content ≡ length s.device.content
+answer-size true queues k t s a laid h = ap (λ (x : Answer). length x.left.device.content) h
+answer-size false queues k t s a laid h = let r = spec.layout_stays k t.entry t.marked s a.left a.outcome laid h.1 in r.0
+
+answer-bytes : (admin : Bool) (queues : Queues) (k : ℕ) (t : FetchedCommand) (s : Scene) (a : Answer) (n : ℕ) → (t.queue == 0) ≡ admin → IsLaidOut s.world s.device.content → AnswersAs admin true queues k t s a
+    → (bytes_of a.left.world a.left.device.content n ≡ bytes_of s.world s.device.content n) ⊎ AllowsOne altering k t s n
+answer-bytes true queues k t s a n io laid h =
+    let kept = answer-extents true true queues k t s a h in
+    inl (ap (λ x. bytes_at a.left.device.content x) (kept.extents n) ∙ ap (λ (x : Answer). bytes_at x.left.device.content (extent_of s.world n)) h)
+answer-bytes false queues k t s a n io laid h = elim (spec.only_allowed_writes_write k t.entry t.marked s a.left a.outcome n laid h.1) [
+  | inl same ↦ inl same
+  | inr x ↦ inr (record { named = named-so n t io x.0; allowed = x.1 })
+]
+
+answer-fenced : (admin : Bool) (queues : Queues) (k : ℕ) (t : FetchedCommand) (s : Scene) (a : Answer) (n : ℕ) → IsLaidOut s.world s.device.content → AnswersAs admin true queues k t s a
+    → may_write s.world k n ≡ false → bytes_of a.left.world a.left.device.content n ≡ bytes_of s.world s.device.content n
+answer-fenced true queues k t s a n laid h fenced =
+    let kept = answer-extents true true queues k t s a h in
+    ap (λ x. bytes_at a.left.device.content x) (kept.extents n) ∙ ap (λ (x : Answer). bytes_at x.left.device.content (extent_of s.world n)) h
+answer-fenced false queues k t s a n laid h fenced = spec.fenced_commands_write_nothing k t.entry t.marked s a.left a.outcome n laid h.1 fenced
+
+answer-reserves : (admin : Bool) (tells : Bool) (queues : Queues) (k : ℕ) (t : FetchedCommand) (s : Scene) (a : Answer) (n : ℕ) → (t.queue == 0) ≡ admin → AnswersAs admin tells queues k t s a
+    → (reservation_of a.left.world n ≡ reservation_of s.world n) ⊎ AllowsOne reserving k t s n
+answer-reserves true tells queues k t s a n io h =
+    let kept = admin-keeps s.world queues k s.window t.entry in
+    inl (ap (λ (x : Answer). reservation_of x.left.world n) h ∙ kept.reservations n)
+answer-reserves false tells queues k t s a n io h = elim (spec.only_allowed_actions_reserve tells k t.entry t.marked s a.left a.outcome n h.1) [
+  | inl same ↦ inl same
+  | inr x ↦ inr (record { named = named-so n t io x.0; allowed = x.1 })
+]
+
+-- What an event leaves: the answer of the command that it executes, or what was there.
+pub data Leaves (tells : Bool) (old new : Subsystem) (event : Event) : Type 0 where
+  AsItWas : new.world ≡ old.world → new.device ≡ old.device → Leaves tells old new event
+  Answered : (k i : ℕ) → event ≡ Execute k i → (c : Controller) → (t : FetchedCommand) → (a : Answer) → controller_at old k ≡ Some c → slice_get c.fetched i ≡ Some t
+      → Answers tells (queues_of c) k t (scene_of old c) a → new.world ≡ a.left.world → new.device ≡ a.left.device → Leaves tells old new event
+
+whole : (tells : Bool) (old new : Subsystem) (event : Event) → new ≡ old → Leaves tells old new event
+whole tells old new event e = AsItWas (ap (λ (s : Subsystem). s.world) e) (ap (λ (s : Subsystem). s.device) e)
+
+reacts : (o : Option Controller) (tells : Bool) (old new : Subsystem) (event : Event) (k : ℕ) (f : Controller → Reaction) (seen : Seen) → ReactsAs o old k f seen new → Leaves tells old new event
+unfolding with_controller
+reacts None tells old new event k f seen h = whole tells old new event h.1
+reacts (Some c) tells old new event k f seen h = AsItWas (ap (λ (s : Subsystem). s.world) h.1) (ap (λ (s : Subsystem). s.device) h.1)
+
+over : (o : Option QueuePair) (tells : Bool) (old new : Subsystem) (k : ℕ) (c : Controller) (i : ℕ) (t : FetchedCommand) (seen : Seen) → controller_at old k ≡ Some c → slice_get c.fetched i ≡ Some t
+    → ExecutesOver o tells old k c i t seen new → Leaves tells old new (Execute k i)
+unfolding after_execution
+over None tells old new k c i t seen at found h = whole tells old new (Execute k i) h.1
+over (Some p) tells old new k c i t seen at found h =
+    Answered k i refl c t h.answer at found h.answers (ap (λ (s : Subsystem). s.world) h.leaves) (ap (λ (s : Subsystem). s.device) h.leaves)
+
+one : (o : Option FetchedCommand) (tells : Bool) (old new : Subsystem) (k : ℕ) (c : Controller) (i : ℕ) (seen : Seen) → controller_at old k ≡ Some c → slice_get c.fetched i ≡ o
+    → ExecutesOne o tells old k c i seen new → Leaves tells old new (Execute k i)
+one None tells old new k c i seen at found h = whole tells old new (Execute k i) h.1
+one (Some t) tells old new k c i seen at found h = over (open_pair c t) tells old new k c i t seen at found h
+
+executes : (o : Option Controller) (tells : Bool) (old new : Subsystem) (k i : ℕ) (seen : Seen) → controller_at old k ≡ o → ExecutesAt o tells old k i seen new → Leaves tells old new (Execute k i)
+executes None tells old new k i seen at h = whole tells old new (Execute k i) h.1
+executes (Some c) tells old new k i seen at h = one (slice_get c.fetched i) tells old new k c i seen at refl h
+
+pub leaves : (tells : Bool) (old new : Subsystem) (event : Event) (seen : Seen) → Step tells old event seen new → Leaves tells old new event
+leaves tells old new (Store k address bytes) seen h = reacts (controller_at old k) tells old new _ k _ seen h
+leaves tells old new (Write32 k offset v) seen h = reacts (controller_at old k) tells old new _ k _ seen h
+leaves tells old new (Read32 k offset) seen h = reacts (controller_at old k) tells old new _ k _ seen h
+leaves tells old new (Fetch k q) seen h = reacts (controller_at old k) tells old new _ k _ seen h
+leaves tells old new (Execute k i) seen h = executes (controller_at old k) tells old new k i seen refl h
+
+extents-left : (tells : Bool) (old new : Subsystem) (event : Event) → Leaves tells old new event → HasSameExtents old.world new.world
+unfolding Answers
+extents-left tells old new event (AsItWas world device) = same-extents old.world new.world world
+extents-left tells old new event (Answered k i is c t a at found answers world device) =
+    subst (λ w. HasSameExtents old.world w) (sym world) (answer-extents (t.queue == 0) tells (queues_of c) k t (scene_of old c) a answers)
+
+pub step-extents : (tells : Bool) (old new : Subsystem) (event : Event) (seen : Seen) → Step tells old event seen new → HasSameExtents old.world new.world
+step-extents tells old new event seen h = extents-left tells old new event (leaves tells old new event seen h)
+
+size-left : (old new : Subsystem) (event : Event) → IsLaidOut old.world old.device.content → Leaves true old new event → length new.device.content ≡ length old.device.content
+unfolding Answers
+size-left old new event laid (AsItWas world device) = ap (λ d. length d.content) device
+size-left old new event laid (Answered k i is c t a at found answers world device) =
+    ap (λ d. length d.content) device ∙ answer-size (t.queue == 0) (queues_of c) k t (scene_of old c) a laid answers
+
+pub layout_stays : LayoutStays
+layout_stays old new event seen laid step =
+    let same = step-extents true old new event seen step in
+    let size = size-left old new event laid (leaves true old new event seen step) in
+    record {
+      within = λ n x is. let fits = laid.within n x (sym (same.extents n) ∙ is) in omega (arith, fits, size);
+      apart = λ n m x y other p q. laid.apart n m x y other (sym (same.extents n) ∙ p) (sym (same.extents m) ∙ q);
+    }
+
+-- the bytes of a namespace as an answer leaves them
+same-bytes : (new : Subsystem) (a : Answer) (n : ℕ) → new.world ≡ a.left.world → new.device ≡ a.left.device → namespace_bytes new n ≡ bytes_of a.left.world a.left.device.content n
+same-bytes new a n world device = ap (λ w. bytes_of w new.device.content n) world ∙ ap (λ d. bytes_of a.left.world d.content n) device
+
+unchanged : (old new : Subsystem) (n : ℕ) → new.world ≡ old.world → new.device ≡ old.device → namespace_bytes new n ≡ namespace_bytes old n
+unchanged old new n world device = ap (λ w. bytes_of w new.device.content n) world ∙ ap (λ d. bytes_of old.world d.content n) device
+
+allows : (commands : List Command) (old : Subsystem) (event : Event) (n k i : ℕ) → event ≡ Execute k i → IsAllowedAt commands old k i n → Allows commands old event n
+allows commands old event n k i is h = subst (λ e. Allows commands old e n) (sym is) h
+
+writes-left : (old new : Subsystem) (event : Event) (n : ℕ) → IsLaidOut old.world old.device.content → Leaves true old new event
+    → (namespace_bytes new n ≡ namespace_bytes old n) ⊎ Allows altering old event n
+unfolding Answers
+writes-left old new event n laid (AsItWas world device) = inl (unchanged old new n world device)
+writes-left old new event n laid (Answered k i is c t a at found answers world device) =
+    elim (answer-bytes (t.queue == 0) (queues_of c) k t (scene_of old c) a n refl laid answers) [
+      | inl same ↦ inl (same-bytes new a n world device ∙ same)
+      | inr x ↦ inr (allows altering old event n k i is (record { controller = c; command = t; at = at; found = found; named = x.named; allowed = x.allowed }))
+    ]
+
+pub only_allowed_writes_write : OnlyAllowedWritesWrite
+only_allowed_writes_write old new event seen n laid step = writes-left old new event n laid (leaves true old new event seen step)
+
+reserves-left : (tells : Bool) (old new : Subsystem) (event : Event) (n : ℕ) → Leaves tells old new event
+    → (reservation_of new.world n ≡ reservation_of old.world n) ⊎ Allows reserving old event n
+unfolding Answers
+reserves-left tells old new event n (AsItWas world device) = inl (ap (λ w. reservation_of w n) world)
+reserves-left tells old new event n (Answered k i is c t a at found answers world device) =
+    elim (answer-reserves (t.queue == 0) tells (queues_of c) k t (scene_of old c) a n refl answers) [
+      | inl same ↦ inl (ap (λ w. reservation_of w n) world ∙ same)
+      | inr x ↦ inr (allows reserving old event n k i is (record { controller = c; command = t; at = at; found = found; named = x.named; allowed = x.allowed }))
+    ]
+
+pub only_allowed_actions_reserve : OnlyAllowedActionsReserve
+only_allowed_actions_reserve tells old new event seen n step = reserves-left tells old new event n (leaves tells old new event seen step)
+
+fenced-left : (old new : Subsystem) (event : Event) (n : ℕ) → IsLaidOut old.world old.device.content → may_write old.world (controller_of event) n ≡ false → Leaves true old new event
+    → namespace_bytes new n ≡ namespace_bytes old n
+unfolding Answers
+fenced-left old new event n laid fenced (AsItWas world device) = unchanged old new n world device
+fenced-left old new event n laid fenced (Answered k i is c t a at found answers world device) =
+    same-bytes new a n world device
+    ∙ answer-fenced (t.queue == 0) (queues_of c) k t (scene_of old c) a n laid answers (ap (λ e. may_write old.world (controller_of e) n) (sym is) ∙ fenced)
+
+pub fenced_events_write_nothing : FencedEventsWriteNothing
+fenced_events_write_nothing old new event seen n laid step fenced = fenced-left old new event n laid fenced (leaves true old new event seen step)

@@ -1,0 +1,9 @@
+pub mod Denials
+pub mod AdminWorlds
+pub mod Layouts
+pub mod Determined
+pub mod Fencing
+pub mod Others
+pub mod Staying
+pub mod Wirings
+pub mod Marking

@@ -1,0 +1,448 @@
+-- Every fetched command has its queues, whatever happens.
+use Rattle.std.proofs.Common.{◌≡◌, ◌≢◌, ◌⊎◌, inl, inr, ℕ, zero, suc, ◌+◌, ◌==◌, nat_lt, Bool, true, false, cond, not, ◌||◌, ◌&&◌, List, [], ◌∷◌, ◌++◌, length, map, filter, Option, None, Some, refl, sym, ap, subst, ◌∙◌, arith}
+use Rattle.std.specs.Prelude.{if◌then◌else◌, slice_get, slice_set, slice_index_or, remove, option_map, is_some, nat_le}
+use Rattle.std.specs.List.{list_any}
+use Rattle.std.proofs.lemmas.Bool.{eqb-false, false≢true, ltb-false}
+use Rattle.nvme_wire.specs.declared.status.Status.{Status}
+use Rattle.nvme_spec.specs.declared.queues.QueueChange.{QueueChange}
+use Rattle.nvme_spec.specs.declared.queues.QueueChange.TheVariants.{Keep, MakeCq, MakeSq, DropCq, DropSq}
+use Rattle.nvme_spec.specs.declared.registers.RegEffect.{RegEffect}
+use Rattle.nvme_spec.specs.declared.registers.RegEffect.TheVariants.{Nothing, Enable, Disable, Shutdown, SqTail, CqHead}
+use Rattle.nvme_spec.specs.declared.registers.AdminQueues.{AdminQueues}
+use Rattle.nvme_spec.specs.declared.config.ControllerConfig.{ControllerConfig}
+use Rattle.nvme_spec.specs.declared.outcome.Marks.{Marks}
+use Rattle.nvme_spec.specs.Bytes.{with_bytes}
+use Rattle.nvme_spec.specs.World.{World}
+use Rattle.nvme_spec.specs.Queues.{completion_room, after_post as posted_one, after_fetch as fetched_one, empty_completion_tail, empty_submission_head}
+use Rattle.nvme_spec.specs.ExistingQueues.{completes_to}
+use Rattle.nvme_spec.specs.QueueChanges.{Suits}
+use Rattle.nvme_spec.specs.AdminEffects.{admin_execution}
+use Rattle.nvme_spec.specs.Memory.{window_size}
+use Rattle.nvme_spec.specs.Registers as register
+use Rattle.nvme_spec.specs.Registers.{after_write}
+use Rattle.nvme_spec.specs.Execution.{Scene}
+use Rattle.nvme_spec.proofs.QueueChanges.{admin_changes_suit}
+use Rattle.nvme_machine.specs.declared.event.Event.TheVariants.{Store, Write32, Read32, Fetch, Execute}
+use Rattle.nvme_machine.specs.declared.fetched.FetchedCommand.{FetchedCommand}
+use Rattle.nvme_machine.specs.declared.seen.Seen.{Seen}
+use Rattle.nvme_machine.specs.declared.seen.Seen.TheVariants.{Stored, Outside}
+use Rattle.nvme_machine.specs.Answers.{Answer, Answers}
+use Rattle.nvme_machine.specs.Subsystems.{opening, after_answer, Subsystem, ReactsAs, Completes, ExecutesAt, ExecutesOne, ExecutesOver, controller_at, with_controller, after_execution, scene_of, numbered, replaced, marked_from}
+use Rattle.nvme_machine.specs.Controllers.{new_controller, Reaction, no_submission_queues, without_queues, admin_submission_queue, admin_completion_queue, with_admin_queues, with_tail, with_head, taking_effect, fetchable, may_fetch, if_waiting, fetched_from, head_entry, reaction, after_store, after_write32, wrote, has_read, after_fetch, Controller, SubmissionQueue, CompletionQueue, QueuePair, names, with_mark, with_marks, queues_of, submission_at, completion_at, pair_of, if_room, open_pair, after_queue_change, after_posting}
+use Rattle.nvme_machine.specs.Wiring.{IsWired, AreWired, OpeningIsWired, WiringStays, WaitsWhereFull}
+use Rattle.nvme_machine.proofs.Others.{marks-numbered}
+use Rattle.nvme_machine.proofs.Staying.{changing}
+
+-- Lists of optional queues.
+
+set-either : {A : Type 0} (xs : List (Option A)) (q r : ℕ) (y : Option A) (s : A) → slice_index_or (slice_set xs q y) r None ≡ Some s → (y ≡ Some s) ⊎ (slice_index_or xs r None ≡ Some s)
+set-either [] q r y s h = inr h
+set-either (x ∷ xs) zero zero y s h = inl h
+set-either (x ∷ xs) zero (suc r) y s h = inr h
+set-either (x ∷ xs) (suc q) zero y s h = inr h
+set-either (x ∷ xs) (suc q) (suc r) y s h = set-either xs q r y s h
+
+set-some : {A : Type 0} (xs : List (Option A)) (q r : ℕ) (z s : A) → slice_index_or xs r None ≡ Some s → (x : A) × (slice_index_or (slice_set xs q (Some z)) r None ≡ Some x)
+set-some [] q r z s h = (s, h)
+set-some (x ∷ xs) zero zero z s h = (z, refl)
+set-some (x ∷ xs) zero (suc r) z s h = (s, h)
+set-some (x ∷ xs) (suc q) zero z s h = (s, h)
+set-some (x ∷ xs) (suc q) (suc r) z s h = set-some xs q r z s h
+
+set-other : {A : Type 0} (xs : List (Option A)) (q r : ℕ) (y : Option A) → r ≢ q → slice_index_or (slice_set xs q y) r None ≡ slice_index_or xs r None
+set-other [] q r y other = refl
+set-other (x ∷ xs) zero zero y other = absurd (other refl)
+set-other (x ∷ xs) zero (suc r) y other = refl
+set-other (x ∷ xs) (suc q) zero y other = refl
+set-other (x ∷ xs) (suc q) (suc r) y other = set-other xs q r y (λ e. other (ap suc e))
+
+exists-at : {A : Type 0} (xs : List (Option A)) (q : ℕ) → slice_index_or (map (λ (o : Option A). is_some o) xs) q false ≡ true → (x : A) × (slice_index_or xs q None ≡ Some x)
+exists-at [] q h = absurd (false≢true h)
+exists-at (None ∷ xs) zero h = absurd (false≢true h)
+exists-at (Some x ∷ xs) zero h = (x, refl)
+exists-at (x ∷ xs) (suc q) h = exists-at xs q h
+
+or_left : (a b : Bool) → (a || b) ≡ false → a ≡ false
+or_left true b h = absurd (cc)
+or_left false b h = refl
+
+or_right : (a b : Bool) → (a || b) ≡ false → b ≡ false
+or_right true b h = absurd (cc)
+or_right false b h = h
+
+unused-at : (qid : ℕ) (xs : List (Option SubmissionQueue)) (q : ℕ) (s : SubmissionQueue)
+    → list_any (completes_to qid) (map (λ (o : Option SubmissionQueue). option_map (λ (x : SubmissionQueue). x.cqid) o) xs) ≡ false → slice_index_or xs q None ≡ Some s → (s.cqid == qid) ≡ false
+unused-at qid [] q s h is = absurd (cc)
+unused-at qid (None ∷ xs) zero s h is = absurd (cc)
+unused-at qid (Some x ∷ xs) zero s h is = let same : x ≡ s = cc in ap (λ (y : SubmissionQueue). y.cqid == qid) (sym same) ∙ or_left (x.cqid == qid) _ h
+unused-at qid (x ∷ xs) (suc q) s h is = unused-at qid xs q s (or_right (completes_to qid (option_map (λ (y : SubmissionQueue). y.cqid) x)) _ h) is
+
+got-behind : {A : Type 0} (xs : List A) (i l : ℕ) (x : A) → slice_get (remove xs i) l ≡ Some x → (m : ℕ) × (slice_get xs m ≡ Some x)
+got-behind [] zero l x h = absurd (cc)
+got-behind [] (suc i) l x h = absurd (cc)
+got-behind (y ∷ xs) zero l x h = (suc l, h)
+got-behind (y ∷ xs) (suc i) zero x h = (zero, h)
+got-behind (y ∷ xs) (suc i) (suc l) x h = let r = got-behind xs i l x h in (suc r.0, r.1)
+
+-- what is known of a change of the queues
+abbrev Allows : Controller → QueueChange → Type 0
+Allows c Keep = Unit {0}
+Allows c (MakeCq qid size at) = Unit {0}
+Allows c (MakeSq qid size at to) = (x : CompletionQueue) × (completion_at c to ≡ Some x)
+Allows c (DropCq qid) = (q : ℕ) → (s : SubmissionQueue) → submission_at c q ≡ Some s → (s.cqid == qid) ≡ false
+Allows c (DropSq qid) = Unit {0}
+
+suits-allows : (c : Controller) (change : QueueChange) → Suits (queues_of c) change → Allows c change
+suits-allows c Keep h = tt
+suits-allows c (MakeCq qid size at) h = tt
+suits-allows c (MakeSq qid size at to) h = exists-at c.completion to h.2
+suits-allows c (DropCq qid) h = λ q s is. unused-at qid c.submission q s h.2 is
+suits-allows c (DropSq qid) h = tt
+
+pub admin-allowed : (w : World) (k : ℕ) (c : Controller) (e window : List ℕ) → Allows c (admin_execution w (queues_of c) k e window).change
+admin-allowed w k c e window = suits-allows c _ (admin_changes_suit w (queues_of c) k e window)
+
+-- A queue with no room is full.
+
+room-none : (p : Option QueuePair) → if_room p ≡ None → (x : QueuePair) → p ≡ Some x → completion_room x.completion.tail ≡ 0
+room-none None h x is = absurd (cc)
+room-none (Some y) h x is =
+    let same : y ≡ x = cc in
+    ap (λ (z : QueuePair). completion_room z.completion.tail) (sym same) ∙ by (nat_lt 0 (completion_room y.completion.tail)) refl h
+  where
+    by : (b : Bool) → nat_lt 0 (completion_room y.completion.tail) ≡ b → (if b then Some y else None) ≡ None → completion_room y.completion.tail ≡ 0
+    by true e f = absurd (cc)
+    by false e f = let none = ltb-false 0 (completion_room y.completion.tail) e in omega (arith, none)
+
+pub waits_where_full : WaitsWhereFull
+unfolding open_pair
+waits_where_full c wired i t found none =
+    let s = wired.fetched i t found in
+    let x = wired.completes t.queue s.0 s.1 in
+    let pair : pair_of c (submission_at c t.queue) ≡ Some (record { submission = s.0; completion = x.0 }) = ap (pair_of c) s.1 ∙ ap (option_map (λ (z : CompletionQueue). record { submission = s.0; completion = z })) x.1 in
+    (s.0, x.0, s.1, x.1, room-none (pair_of c (submission_at c t.queue)) none (record { submission = s.0; completion = x.0 }) pair)
+
+-- What keeps a controller wired.
+
+abbrev cqid_of : Option SubmissionQueue → ℕ
+cqid_of None = 0
+cqid_of (Some q) = q.cqid
+
+none_is_some : {A : Type 0} {x : A} → None ≡ Some x → ⊥
+none_is_some h = absurd (cc)
+
+some_same : {A : Type 0} {x y : A} → Some x ≡ Some y → x ≡ y
+some_same h = cc
+
+some_waiting : (b : Bool) (x s : SubmissionQueue) → (if b then Some x else None) ≡ Some s → Some x ≡ Some s
+some_waiting true x s g = g
+some_waiting false x s g = absurd (cc)
+
+-- the queues as they were, some of the commands
+fewer : (c d : Controller) → IsWired c → d.submission ≡ c.submission → d.completion ≡ c.completion → ((i : ℕ) → (t : FetchedCommand) → slice_get d.fetched i ≡ Some t → (m : ℕ) × (u : FetchedCommand) × (slice_get c.fetched m ≡ Some u) × (t.queue ≡ u.queue)) → IsWired d
+fewer c d w s x sub = record {
+  fetched = λ i t found.
+      let r = sub i t found in
+      let q = w.fetched r.0 r.1 r.2 in
+      (q.0, ap (λ xs. slice_index_or xs t.queue None) s ∙ ap (λ n. submission_at c n) r.3 ∙ q.1);
+  completes = λ q y is.
+      let r = w.completes q y (sym (ap (λ xs. slice_index_or xs q None) s) ∙ is) in
+      (r.0, ap (λ xs. slice_index_or xs y.cqid None) x ∙ r.1);
+}
+
+marked-queue : (n : ℕ) (u : FetchedCommand) → (with_mark n u).queue ≡ u.queue
+marked-queue n u = elim (names n u) as (λ b. (if b then record u { marked = true } else u).queue ≡ u.queue) [
+  | true ↦ refl
+  | false ↦ refl
+]
+
+from-map : (n : ℕ) (ts : List FetchedCommand) (i : ℕ) (t : FetchedCommand) → slice_get (map (with_mark n) ts) i ≡ Some t → (m : ℕ) × (u : FetchedCommand) × (slice_get ts m ≡ Some u) × (t.queue ≡ u.queue)
+from-map n [] i t h = absurd (cc)
+from-map n (u ∷ ts) zero t h = let same : with_mark n u ≡ t = cc in (zero, u, refl, ap (λ (x : FetchedCommand). x.queue) (sym same) ∙ marked-queue n u)
+from-map n (u ∷ ts) (suc i) t h = let r = from-map n ts i t h in (suc r.0, r.1, r.2, r.3)
+
+wired-marked : (n : ℕ) (c : Controller) → IsWired c → IsWired (with_marks n c)
+wired-marked n c w = fewer c (with_marks n c) w refl refl (λ i t found. from-map n c.fetched i t found)
+
+-- the queues are replaced one by one
+posted : (i : ℕ) (t : FetchedCommand) (p : QueuePair) (why : Status) (first : ℕ) (c : Controller) → IsWired c → IsWired (after_posting i t p why first c)
+unfolding after_posting
+posted i t p why first c w = record {
+  fetched = λ l u found. let r = got-behind c.fetched i l u found in w.fetched r.0 u r.1;
+  completes = λ q s is. let r = w.completes q s is in set-some c.completion p.submission.cqid s.cqid (record p.completion { tail = posted_one p.completion.tail }) r.0 r.1;
+}
+
+filter-step : {A : Type 0} (p : A → Bool) (y : A) (xs : List A) (x : A) → ((l : ℕ) → slice_get (filter p xs) l ≡ Some x → (m : ℕ) × (slice_get xs m ≡ Some x) × (p x ≡ true))
+    → (b : Bool) → p y ≡ b → (l : ℕ) → slice_get (cond b (y ∷ filter p xs) (filter p xs)) l ≡ Some x → (m : ℕ) × (slice_get (y ∷ xs) m ≡ Some x) × (p x ≡ true)
+filter-step p y xs x rest true e zero g = let same : y ≡ x = cc in (zero, g, ap p (sym same) ∙ e)
+filter-step p y xs x rest true e (suc l) g = let r = rest l g in (suc r.0, r.1, r.2)
+filter-step p y xs x rest false e l g = let r = rest l g in (suc r.0, r.1, r.2)
+
+from-filter : {A : Type 0} (p : A → Bool) (xs : List A) (i : ℕ) (x : A) → slice_get (filter p xs) i ≡ Some x → (m : ℕ) × (slice_get xs m ≡ Some x) × (p x ≡ true)
+from-filter p [] i x h = absurd (cc)
+from-filter p (y ∷ xs) i x h = filter-step p y xs x (λ l g. from-filter p xs l x g) (p y) refl i h
+
+not_true : (b : Bool) → not b ≡ true → b ≡ false
+not_true true h = absurd (cc)
+not_true false h = refl
+
+changed : (change : QueueChange) (c : Controller) → IsWired c → Allows c change → IsWired (after_queue_change change c)
+unfolding after_queue_change
+changed Keep c w a = w
+changed (MakeCq qid size at) c w a = record {
+  fetched = w.fetched;
+  completes = λ q s is. let r = w.completes q s is in set-some c.completion qid s.cqid (record { base = at; tail = empty_completion_tail size }) r.0 r.1;
+}
+changed (MakeSq qid size at to) c w a = record {
+  fetched = λ i t found. let r = w.fetched i t found in set-some c.submission qid t.queue (record { base = at; cqid = to; head = empty_submission_head size }) r.0 r.1;
+  completes = λ q s is. elim (set-either c.submission qid q (Some (record { base = at; cqid = to; head = empty_submission_head size })) s is) [
+    | inl new ↦ (let same : to ≡ s.cqid = ap cqid_of new in (a.0, ap (λ n. completion_at c n) (sym same) ∙ a.1))
+    | inr old ↦ w.completes q s old
+  ];
+}
+changed (DropCq qid) c w a = record {
+  fetched = w.fetched;
+  completes = λ q s is.
+      let r = w.completes q s is in
+      (r.0, set-other c.completion qid s.cqid None (eqb-false s.cqid qid (a q s is)) ∙ r.1);
+}
+changed (DropSq qid) c w a = record {
+  fetched = λ i t found.
+      let f = from-filter (λ (u : FetchedCommand). not (u.queue == qid)) c.fetched i t found in
+      let r = w.fetched f.0 t f.1 in
+      (r.0, set-other c.submission qid t.queue None (eqb-false t.queue qid (not_true (t.queue == qid) f.2)) ∙ r.1);
+  completes = λ q s is. elim (set-either c.submission qid q None s is) [
+    | inl none ↦ absurd (cc)
+    | inr old ↦ w.completes q s old
+  ];
+}
+
+allows-posted : (change : QueueChange) (i : ℕ) (t : FetchedCommand) (p : QueuePair) (why : Status) (first : ℕ) (c : Controller) → Allows c change → Allows (after_posting i t p why first c) change
+unfolding after_posting
+allows-posted Keep i t p why first c a = tt
+allows-posted (MakeCq qid size at) i t p why first c a = tt
+allows-posted (MakeSq qid size at to) i t p why first c a = set-some c.completion p.submission.cqid to (record p.completion { tail = posted_one p.completion.tail }) a.0 a.1
+allows-posted (DropCq qid) i t p why first c a = a
+allows-posted (DropSq qid) i t p why first c a = tt
+
+-- the same, where only the window differs
+allows-window : (change : QueueChange) (c : Controller) (window : List ℕ) → Allows c change → Allows (record c { window = window }) change
+allows-window Keep c window a = tt
+allows-window (MakeCq qid size at) c window a = tt
+allows-window (MakeSq qid size at to) c window a = a
+allows-window (DropCq qid) c window a = a
+allows-window (DropSq qid) c window a = tt
+
+with-window : (c : Controller) (window : List ℕ) → IsWired c → IsWired (record c { window = window })
+with-window c window w = record { fetched = w.fetched; completes = w.completes }
+
+allows-answer : (tells : Bool) (s : Scene) (k : ℕ) (c : Controller) (u : FetchedCommand) (a : Answer) → (a.change ≡ Keep) ⊎ (((u.queue == 0) ≡ true) × (a.change ≡ (admin_execution s.world (queues_of c) k u.entry s.window).change)) → Allows c a.change
+allows-answer tells s k c u a (inl keeps) = subst (Allows c) (sym keeps) tt
+allows-answer tells s k c u a (inr admin) = subst (Allows c) (sym admin.1) (admin-allowed s.world k c u.entry s.window)
+
+finishes : (tells : Bool) (s : Scene) (k : ℕ) (c : Controller) (i : ℕ) (u : FetchedCommand) (p : QueuePair) (a : Answer) → Answers tells (queues_of c) k u s a → IsWired c → IsWired (after_answer i u p a c)
+unfolding after_answer
+finishes tells s k c i u p a answers w =
+    let allows = allows-answer tells s k c u a (changing tells s (queues_of c) k u a answers) in
+    let d : Controller = record c { window = a.left.window } in
+    changed a.change (after_posting i u p a.outcome.status a.outcome.dw0 d) (posted i u p a.outcome.status a.outcome.dw0 d (with-window c a.left.window w))
+    (allows-posted a.change i u p a.outcome.status a.outcome.dw0 d (allows-window a.change c a.left.window allows))
+
+-- Register writes.
+
+set-mapped : {A : Type 0} (f : A → A) (xs : List (Option A)) (q r : ℕ) (s : A) → slice_index_or xs r None ≡ Some s → (x : A) × (slice_index_or (slice_set xs q (option_map f (slice_index_or xs q None))) r None ≡ Some x)
+set-mapped f [] q r s h = (s, h)
+set-mapped f (o ∷ xs) zero zero s h = (f s, ap (option_map f) h)
+set-mapped f (o ∷ xs) zero (suc r) s h = (s, h)
+set-mapped f (o ∷ xs) (suc q) zero s h = (s, h)
+set-mapped f (o ∷ xs) (suc q) (suc r) s h = set-mapped f xs q r s h
+
+mapped-back : {A : Type 0} (f : A → A) (xs : List (Option A)) (q r : ℕ) (s : A) → slice_index_or (slice_set xs q (option_map f (slice_index_or xs q None))) r None ≡ Some s
+    → (z : A) × (slice_index_or xs r None ≡ Some z) × ((s ≡ z) ⊎ (s ≡ f z))
+mapped-back f [] q r s h = (s, h, inl refl)
+mapped-back f (None ∷ xs) zero zero s h = absurd (cc)
+mapped-back f (Some z ∷ xs) zero zero s h = let same : f z ≡ s = cc in (z, refl, inr (sym same))
+mapped-back f (o ∷ xs) zero (suc r) s h = (s, h, inl refl)
+mapped-back f (o ∷ xs) (suc q) zero s h = (s, h, inl refl)
+mapped-back f (o ∷ xs) (suc q) (suc r) s h = mapped-back f xs q r s h
+
+first-alone : {A : Type 0} (x : A) (q : ℕ) (s : A) → slice_index_or (Some x ∷ None ∷ None ∷ None ∷ None ∷ []) q None ≡ Some s → x ≡ s
+first-alone x zero s h = cc
+first-alone x (suc zero) s h = absurd (cc)
+first-alone x (suc (suc zero)) s h = absurd (cc)
+first-alone x (suc (suc (suc zero))) s h = absurd (cc)
+first-alone x (suc (suc (suc (suc zero)))) s h = absurd (cc)
+first-alone x (suc (suc (suc (suc (suc q))))) s h = absurd (cc)
+
+none-alone : (q : ℕ) (s : SubmissionQueue) → slice_index_or no_submission_queues q None ≡ Some s → ⊥
+none-alone zero s h = none_is_some h
+none-alone (suc zero) s h = none_is_some h
+none-alone (suc (suc zero)) s h = none_is_some h
+none-alone (suc (suc (suc zero))) s h = none_is_some h
+none-alone (suc (suc (suc (suc zero)))) s h = none_is_some h
+none-alone (suc (suc (suc (suc (suc q))))) s h = none_is_some h
+
+without : (c : Controller) → IsWired (without_queues c)
+without c = record { fetched = λ i t h. absurd (none_is_some h); completes = λ q s h. absurd (none-alone q s h) }
+
+with-admin : (o : Option AdminQueues) (c : Controller) → IsWired (with_admin_queues o c)
+with-admin None c = without c
+with-admin (Some a) c = record {
+  fetched = λ i t h. absurd (none_is_some h);
+  completes = λ q s h.
+      let same = first-alone (admin_submission_queue a) q s h in
+      let at : 0 ≡ s.cqid = ap (λ (x : SubmissionQueue). x.cqid) same in
+      (admin_completion_queue a, ap (λ n. completion_at (with_admin_queues (Some a) c) n) (sym at));
+}
+
+effects : (effect : RegEffect) (c : Controller) → IsWired c → IsWired (taking_effect effect c)
+unfolding taking_effect
+effects Nothing c w = w
+effects Shutdown c w = w
+effects Disable c w = without c
+effects Enable c w = with-admin (register.admin_queues c.registers) c
+effects (SqTail q v) c w = record {
+  fetched = λ i t h. let r = w.fetched i t h in set-mapped (with_tail v) c.submission q t.queue r.0 r.1;
+  completes = λ m s h.
+      let z = mapped-back (with_tail v) c.submission q m s h in
+      let r = w.completes m z.0 z.1 in
+      let same : s.cqid ≡ z.0.cqid = elim z.2 [
+        | inl e ↦ ap (λ (x : SubmissionQueue). x.cqid) e
+        | inr e ↦ ap (λ (x : SubmissionQueue). x.cqid) e
+      ] in
+      (r.0, ap (λ n. completion_at c n) same ∙ r.1);
+}
+effects (CqHead q v) c w = record {
+  fetched = w.fetched;
+  completes = λ m s h. let r = w.completes m s h in set-mapped (with_head v) c.completion q s.cqid r.0 r.1;
+}
+
+-- Fetches.
+
+fetchable-at : (c : Controller) (q : ℕ) (s : SubmissionQueue) → fetchable c q ≡ Some s → submission_at c q ≡ Some s
+unfolding fetchable
+fetchable-at c q s h = by (may_fetch c.registers.state && nat_lt (length c.fetched) 64) h
+  where
+    waiting : (o : Option SubmissionQueue) → if_waiting o ≡ Some s → o ≡ Some s
+    waiting None g = g
+    waiting (Some x) g = some_waiting (nat_lt 0 x.head.waiting) x s g
+
+    by : (b : Bool) → (if b then if_waiting (submission_at c q) else None) ≡ Some s → submission_at c q ≡ Some s
+    by true g = waiting (submission_at c q) g
+    by false g = absurd (none_is_some g)
+
+last-or : (xs : List FetchedCommand) (x : FetchedCommand) (i : ℕ) (t : FetchedCommand) → slice_get (xs ++ x ∷ []) i ≡ Some t → (slice_get xs i ≡ Some t) ⊎ (x ≡ t)
+last-or [] x zero t h = inr cc
+last-or [] x (suc i) t h = inl h
+last-or (y ∷ xs) x zero t h = inl h
+last-or (y ∷ xs) x (suc i) t h = last-or xs x i t h
+
+took : (q : ℕ) (c : Controller) → IsWired c → (o : Option SubmissionQueue) → fetchable c q ≡ o → IsWired (fetched_from q c o).controller
+took q c w None is = w
+took q c w (Some queue) is =
+    let here = fetchable-at c q queue is in
+    let next : SubmissionQueue = record queue { head = fetched_one queue.head } in
+    record {
+      fetched = λ i t h. elim (last-or c.fetched (record { entry = head_entry c queue; queue = q; marked = false }) i t h) [
+        | inl old ↦ (let r = w.fetched i t old in set-some c.submission q t.queue next r.0 r.1)
+        | inr new ↦ set-some c.submission q t.queue next queue (ap (λ (x : FetchedCommand). submission_at c x.queue) (sym new) ∙ here)
+      ];
+      completes = λ m s h. elim (set-either c.submission q m (Some next) s h) [
+        | inl new ↦ (let same : next.cqid ≡ s.cqid = ap cqid_of new in let r = w.completes q queue here in (r.0, ap (λ n. completion_at c n) (sym same) ∙ r.1))
+        | inr old ↦ w.completes m s old
+      ];
+    }
+
+pub action-fetch : (q : ℕ) (c : Controller) → IsWired c → IsWired (after_fetch q c).controller
+unfolding after_fetch
+action-fetch q c w = took q c w (fetchable c q) refl
+
+pub action-write : (offset v : ℕ) (c : Controller) → IsWired c → IsWired (after_write32 offset v c)
+unfolding after_write32
+action-write offset v c w = effects (after_write c.registers offset v).effect (record c { registers = (after_write c.registers offset v).registers }) (record { fetched = w.fetched; completes = w.completes })
+
+pub action-read : (offset : ℕ) (c : Controller) → IsWired c → IsWired (has_read offset c).controller
+action-read offset c w = w
+
+pub action-store : (address : ℕ) (bytes : List ℕ) (c : Controller) → IsWired c → IsWired (after_store address bytes c).controller
+unfolding after_store
+action-store address bytes c w = elim (nat_le (address + length bytes) window_size) as (λ b. IsWired (if b then reaction (record c { window = with_bytes c.window address bytes }) Stored else reaction c Outside).controller) [
+  | true ↦ with-window c (with_bytes c.window address bytes) w
+  | false ↦ w
+]
+
+-- All controllers.
+
+abbrev All : List Controller → Type 0
+All cs = (k : ℕ) → (c : Controller) → numbered cs k ≡ Some c → IsWired c
+
+got-set : (cs : List Controller) (i j : ℕ) (x d : Controller) → slice_get (slice_set cs i x) j ≡ Some d → (x ≡ d) ⊎ (slice_get cs j ≡ Some d)
+got-set [] i j x d h = inr h
+got-set (c ∷ cs) zero zero x d h = inl cc
+got-set (c ∷ cs) zero (suc j) x d h = inr h
+got-set (c ∷ cs) (suc i) zero x d h = inr h
+got-set (c ∷ cs) (suc i) (suc j) x d h = got-set cs i j x d h
+
+all-replaced : (cs : List Controller) (k : ℕ) (x : Controller) → All cs → IsWired x → All (replaced cs k x)
+all-replaced cs zero x all w j d h = all j d h
+all-replaced cs (suc i) x all w zero d h = all zero d h
+all-replaced cs (suc i) x all w (suc j) d h = elim (got-set cs i j x d h) [
+  | inl same ↦ subst IsWired same w
+  | inr old ↦ all (suc j) d old
+]
+
+is-marked : (n : ℕ) (o : Option Controller) (d : Controller) → ((c : Controller) → o ≡ Some c → IsWired c) → option_map (with_marks n) o ≡ Some d → IsWired d
+is-marked n None d all h = absurd (none_is_some h)
+is-marked n (Some c) d all h = subst IsWired (some_same h) (wired-marked n c (all c refl))
+
+all-marked : (w : World) (m : Marks) (cs : List Controller) → All cs → All (marked_from w m 1 cs)
+all-marked w m cs all k d h = elim (marks-numbered w m cs k) [
+  | inl same ↦ all k d (sym same ∙ h)
+  | inr x ↦ is-marked m.nsid (numbered cs k) d (all k) (sym x.marked ∙ h)
+]
+
+reacts : (o : Option Controller) (old new : Subsystem) (k : ℕ) (f : Controller → Reaction) (seen : Seen) → controller_at old k ≡ o → ReactsAs o old k f seen new → ((c : Controller) → IsWired c → IsWired (f c).controller) → AreWired old → AreWired new
+unfolding with_controller controller_at
+reacts None old new k f seen at h keeps all = subst AreWired (sym h.1) all
+reacts (Some c) old new k f seen at h keeps all = subst AreWired (sym h.1) (all-replaced old.controllers k (f c).controller all (keeps c (all k c at)))
+
+completes-wired : (tells : Bool) (old new : Subsystem) (k : ℕ) (c : Controller) (i : ℕ) (t : FetchedCommand) (p : QueuePair) (seen : Seen) → controller_at old k ≡ Some c → Completes tells old k c i t p seen new → AreWired old → AreWired new
+unfolding after_execution controller_at
+completes-wired tells old new k c i t p seen at h all =
+    let a : Answer = h.answer in
+    subst AreWired (sym h.leaves) (all-marked a.left.world a.outcome.marks (replaced old.controllers k (after_answer i t p a c))
+    (all-replaced old.controllers k (after_answer i t p a c) all (finishes tells (scene_of old c) k c i t p a h.answers (all k c at))))
+
+over-wired : (o : Option QueuePair) (tells : Bool) (old new : Subsystem) (k : ℕ) (c : Controller) (i : ℕ) (t : FetchedCommand) (seen : Seen) → controller_at old k ≡ Some c → ExecutesOver o tells old k c i t seen new → AreWired old → AreWired new
+over-wired None tells old new k c i t seen at h all = subst AreWired (sym h.1) all
+over-wired (Some p) tells old new k c i t seen at h all = completes-wired tells old new k c i t p seen at h all
+
+one-wired : (o : Option FetchedCommand) (tells : Bool) (old new : Subsystem) (k : ℕ) (c : Controller) (i : ℕ) (seen : Seen) → controller_at old k ≡ Some c → ExecutesOne o tells old k c i seen new → AreWired old → AreWired new
+one-wired None tells old new k c i seen at h all = subst AreWired (sym h.1) all
+one-wired (Some t) tells old new k c i seen at h all = over-wired (open_pair c t) tells old new k c i t seen at h all
+
+executes-wired : (o : Option Controller) (tells : Bool) (old new : Subsystem) (k i : ℕ) (seen : Seen) → controller_at old k ≡ o → ExecutesAt o tells old k i seen new → AreWired old → AreWired new
+executes-wired None tells old new k i seen at h all = subst AreWired (sym h.1) all
+executes-wired (Some c) tells old new k i seen at h all = one-wired (slice_get c.fetched i) tells old new k c i seen at h all
+
+pub wiring_stays : WiringStays
+wiring_stays tells old new (Store k address bytes) seen h all = reacts (controller_at old k) old new k (after_store address bytes.now) seen refl h (action-store address bytes.now) all
+wiring_stays tells old new (Write32 k offset v) seen h all = reacts (controller_at old k) old new k (wrote offset v) seen refl h (action-write offset v) all
+wiring_stays tells old new (Read32 k offset) seen h all = reacts (controller_at old k) old new k (has_read offset) seen refl h (action-read offset) all
+wiring_stays tells old new (Fetch k q) seen h all = reacts (controller_at old k) old new k (after_fetch q) seen refl h (action-fetch q) all
+wiring_stays tells old new (Execute k i) seen h all = executes-wired (controller_at old k) tells old new k i seen refl h all
+
+-- The opening.
+
+new_is_wired : (k : ℕ) → IsWired (new_controller k)
+new_is_wired k = record { fetched = λ i t h. absurd (none_is_some h); completes = λ q s h. absurd (none-alone q s h) }
+
+all-new : (ks : List ControllerConfig) (i : ℕ) (d : Controller) → slice_get (map (λ (k : ControllerConfig). new_controller k.cntlid) ks) i ≡ Some d → IsWired d
+all-new [] i d h = absurd (none_is_some h)
+all-new (k ∷ ks) zero d h = subst IsWired (some_same h) (new_is_wired k.cntlid)
+all-new (k ∷ ks) (suc i) d h = all-new ks i d h
+
+pub opening_is_wired : OpeningIsWired
+unfolding opening controller_at
+opening_is_wired c m zero d h = absurd (none_is_some h)
+opening_is_wired c m (suc i) d h = all-new c.controllers i d h

@@ -1,0 +1,45 @@
+-- The execution of a fetched command as its controller sees it, with the access state and the medium of its subsystem at hand.
+use Rattle.std.specs.Prelude.{◌≡◌, ℕ, Bool, List, Option, None, Some, slice_get}
+use Rattle.nvme_spec.specs.Blocks.{Device}
+use Rattle.nvme_spec.specs.World.{World}
+use Rattle.nvme_spec.specs.Execution.{Scene}
+use Rattle.nvme_machine.specs.declared.fetched.FetchedCommand.{FetchedCommand}
+use Rattle.nvme_machine.specs.declared.seen.Executed.{Executed}
+use Rattle.nvme_machine.specs.declared.seen.Executed.TheVariants.{Posted, NoSuch, CqFull}
+use Rattle.nvme_machine.specs.Controllers.{Controller, QueuePair, queues_of, open_pair}
+use Rattle.nvme_machine.specs.Answers.{Answer, Answers}
+use Rattle.nvme_machine.specs.Subsystems.{after_answer}
+
+-- a controller, with what its commands may change besides
+pub record Setting : Type 0 where
+  pub controller : Controller
+  pub world : World
+  pub device : Device
+
+abbrev pub setting : Controller → World → Device → Setting
+setting c w d = record { controller = c; world = w; device = d }
+
+abbrev pub scene_in : Setting → Scene
+scene_in s = record { world = s.world; window = s.controller.window; device = s.device }
+
+-- the i-th command has an answer, and all is as that says
+pub record Finishes (tells : Bool) (i : ℕ) (t : FetchedCommand) (p : QueuePair) (old : Setting) (executed : Executed) (new : Setting) : Type 0 where
+  pub answer : Answer
+  pub answers : Answers tells (queues_of old.controller) old.controller.cntlid t (scene_in old) answer
+  pub gives : executed ≡ Posted answer.outcome
+  pub controller : new.controller ≡ after_answer i t p answer old.controller
+  pub world : new.world ≡ answer.left.world
+  pub device : new.device ≡ answer.left.device
+
+-- its completion queue may be full; then all stays
+abbrev pub FinishesOver : Option QueuePair → Bool → ℕ → FetchedCommand → Setting → Executed → Setting → Type 0
+FinishesOver None tells i t old executed new = (executed ≡ CqFull) × (new ≡ old)
+FinishesOver (Some p) tells i t old executed new = Finishes tells i t p old executed new
+
+abbrev pub FinishesOne : Option FetchedCommand → Bool → ℕ → Setting → Executed → Setting → Type 0
+FinishesOne None tells i old executed new = (executed ≡ NoSuch) × (new ≡ old)
+FinishesOne (Some t) tells i old executed new = FinishesOver (open_pair old.controller t) tells i t old executed new
+
+-- a controller executes the i-th of its fetched commands
+abbrev pub ExecutesNth : Bool → ℕ → Setting → Executed → Setting → Type 0
+ExecutesNth tells i old executed new = FinishesOne (slice_get old.controller.fetched i) tells i old executed new

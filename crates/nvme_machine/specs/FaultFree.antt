@@ -1,0 +1,69 @@
+-- Steps and runs over a medium none of whose calls fails, as functions.
+use Rattle.std.specs.Prelude.{◌==◌, ℕ, if◌then◌else◌, List, [], ◌∷◌, Option, None, Some, slice_get}
+use Rattle.nvme_spec.specs.declared.queues.Queues.{Queues}
+use Rattle.nvme_spec.specs.declared.queues.QueueChange.TheVariants.{Keep}
+use Rattle.nvme_spec.specs.Execution.{Scene}
+use Rattle.nvme_spec.specs.FaultFree.{Execution, fault_free_execution}
+use Rattle.nvme_spec.specs.AdminEffects.{admin_execution}
+use Rattle.nvme_machine.specs.declared.event.Event.{Event}
+use Rattle.nvme_machine.specs.declared.event.Event.TheVariants.{Store, Write32, Read32, Fetch, Execute}
+use Rattle.nvme_machine.specs.declared.fetched.FetchedCommand.{FetchedCommand}
+use Rattle.nvme_machine.specs.declared.seen.Executed.TheVariants.{Posted, NoSuch, CqFull}
+use Rattle.nvme_machine.specs.declared.seen.Seen.{Seen}
+use Rattle.nvme_machine.specs.declared.seen.Seen.TheVariants.{Executed, NoController}
+use Rattle.nvme_machine.specs.Controllers.{Controller, QueuePair, Reaction, queues_of, after_store, wrote, has_read, after_fetch, open_pair}
+use Rattle.nvme_machine.specs.Answers.{Answer, admin_answer}
+use Rattle.nvme_machine.specs.Subsystems.{Subsystem, controller_at, with_controller, scene_of, after_execution}
+
+abbrev pub io_answer : Execution → Answer
+io_answer x = record { outcome = x.outcome; change = Keep; left = x.left }
+
+unfoldable pub fault_free_answer : Queues → ℕ → FetchedCommand → Scene → Answer
+fault_free_answer queues cntlid t s =
+    if t.queue == 0
+    then admin_answer s (admin_execution s.world queues cntlid t.entry s.window)
+    else io_answer (fault_free_execution cntlid t.entry t.marked s)
+
+-- What an event gives, and the subsystem after it.
+pub record Moment : Type 0 where
+  pub seen : Seen
+  pub left : Subsystem
+
+abbrev pub moment : Seen → Subsystem → Moment
+moment what s = record { seen = what; left = s }
+
+abbrev pub reacting : Option Controller → Subsystem → ℕ → (Controller → Reaction) → Moment
+reacting None s k f = moment NoController s
+reacting (Some c) s k f = moment (f c).seen (with_controller s k (f c).controller)
+
+abbrev pub answered : Subsystem → ℕ → Controller → ℕ → FetchedCommand → QueuePair → Answer → Moment
+answered s k c i t p a = moment (Executed (Posted a.outcome)) (after_execution s k c i t p a)
+
+abbrev pub executing_over : Option QueuePair → Subsystem → ℕ → Controller → ℕ → FetchedCommand → Moment
+executing_over None s k c i t = moment (Executed CqFull) s
+executing_over (Some p) s k c i t = answered s k c i t p (fault_free_answer (queues_of c) k t (scene_of s c))
+
+abbrev pub executing_one : Option FetchedCommand → Subsystem → ℕ → Controller → ℕ → Moment
+executing_one None s k c i = moment (Executed NoSuch) s
+executing_one (Some t) s k c i = executing_over (open_pair c t) s k c i t
+
+abbrev pub executing : Option Controller → Subsystem → ℕ → ℕ → Moment
+executing None s k i = moment NoController s
+executing (Some c) s k i = executing_one (slice_get c.fetched i) s k c i
+
+abbrev pub fault_free_step : Subsystem → Event → Moment
+fault_free_step s (Store k address bytes) = reacting (controller_at s k) s k (after_store address bytes.now)
+fault_free_step s (Write32 k offset v) = reacting (controller_at s k) s k (wrote offset v)
+fault_free_step s (Read32 k offset) = reacting (controller_at s k) s k (has_read offset)
+fault_free_step s (Fetch k q) = reacting (controller_at s k) s k (after_fetch q)
+fault_free_step s (Execute k i) = executing (controller_at s k) s k i
+
+-- what the events give, one after the other
+abbrev pub fault_free_seen : Subsystem → List Event → List Seen
+fault_free_seen s [] = []
+fault_free_seen s (event ∷ events) = (fault_free_step s event).seen ∷ fault_free_seen (fault_free_step s event).left events
+
+-- the subsystem after them
+abbrev pub fault_free_left : Subsystem → List Event → Subsystem
+fault_free_left s [] = s
+fault_free_left s (event ∷ events) = fault_free_left (fault_free_step s event).left events

@@ -1,0 +1,9 @@
+pub mod Controllers
+pub mod Answers
+pub mod Subsystems
+pub mod FaultFree
+pub mod Runs
+pub mod Fencing
+pub mod Wiring
+pub mod Marking
+pub mod Executing

@@ -1,0 +1,16 @@
+//! What can happen to a subsystem.
+
+/// One event, of one controller, which is named by its identifier (CNTLID).
+#[derive(Clone, Copy, Debug)]
+pub enum Event<'a> {
+    /// Its host stores bytes in the memory that it shares with the controller, from this address on.
+    Store(u16, u64, &'a [u8]),
+    /// Its host writes a register: the offset, and the value.
+    Write32(u16, u64, u32),
+    /// Its host reads a register.
+    Read32(u16, u64),
+    /// It fetches a command from the submission queue of this identifier.
+    Fetch(u16, u16),
+    /// It executes the command at this place, from 0, of those that it has fetched.
+    Execute(u16, usize),
+}

@@ -1,0 +1,13 @@
+//! The machine: what controllers and their subsystem are, and what each event makes of them. `specs` has the definitions
+//! (NVM Express Base Specification 2.0: Controller Registers, Queues, Command Fetching, Controller Reset), `laws` what
+//! follows from them over every run of events; beside them stand the plain types that both speak of.
+#![tactic(auto)]
+
+mod event;
+mod fetched;
+mod laws;
+mod seen;
+
+pub use event::Event;
+pub use fetched::FetchedCommand;
+pub use seen::{Executed, Fetched, Seen};
