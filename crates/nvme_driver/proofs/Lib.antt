@@ -1,0 +1,9 @@
+pub mod Spelling
+pub mod Areas
+pub mod PageEntries
+pub mod PageLists
+pub mod SlotPointers
+pub mod Placing
+pub mod Risen
+pub mod Once
+pub mod Moving

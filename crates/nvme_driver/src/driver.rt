@@ -1,0 +1,119 @@
+//! A host's driver.
+
+ghost use Rattle.std.specs.Prelude.{◌≡◌, is_ok};
+ghost use Rattle.nvme_driver.specs.Calls.{Calls};
+ghost use Rattle.nvme_driver.specs.Drivers.{new_driver, is_up as up, ends as ends_of, with_ends, ring_calls, after_reset, reset_calls};
+
+use crate::ends::Ends;
+use crate::faults::NotUp;
+use crate::lane::Lane;
+use crate::layout::SLOTS;
+use crate::port::Port;
+use crate::register;
+use crate::slots::{Waiting, abort_all};
+use crate::state::State;
+use crate::ticket::Tickets;
+use std::marker::Model;
+
+mod bring_up;
+mod place;
+mod poll;
+
+/// A host's driver: it places requests in a window that it shares with a controller, and hands up each one's answer
+/// once. Contracts see it as the record `Driver` of its state, the next ticket, its slots and its ends of the queues.
+#[derive(Drop)]
+pub struct Driver {
+    state: State,
+    tickets: Tickets,
+    slots: [Option<Waiting>; 24],
+    admin: Ends,
+    io: Ends,
+}
+
+impl Model for Driver {
+    ghost use Rattle.nvme_driver.specs.Drivers.{Driver as Record};
+
+    ghost Value = { Record };
+
+    ghost view = { λ d. record { state = d.state; next = d.tickets; slots = d.slots; admin = d.admin; io = d.io } };
+}
+
+impl Driver {
+    /// A driver that is down, whose first ticket is 1.
+    pub fn new() -> Driver
+        ensures { result ≡ new_driver 1 }
+    {
+        Driver::starting_at(1)
+    }
+
+    /// A driver that is down, with this first ticket.
+    pub fn starting_at(first: u64) -> Driver
+        ensures { result ≡ new_driver first }
+    {
+        Driver {
+            state: State::Down,
+            tickets: Tickets::starting_at(first),
+            slots: [None; SLOTS],
+            admin: Ends::new(),
+            io: Ends::new(),
+        }
+    }
+
+    /// Whether the driver is up.
+    fn is_up(&self) -> bool
+        ensures { result ≡ up self.now.state }
+    {
+        matches!(self.state, State::Up)
+    }
+
+    /// The ends of a lane.
+    fn ends(&self, lane: Lane) -> Ends
+        ensures { result ≡ ends_of lane self.now }
+    {
+        match lane {
+            Lane::Admin => self.admin,
+            Lane::Io => self.io,
+        }
+    }
+
+    /// Replaces the ends of a lane.
+    fn set_ends(&mut self, lane: Lane, ends: Ends)
+        ensures { self.new ≡ with_ends lane ends self.old }
+    {
+        match lane {
+            Lane::Admin => self.admin = ends,
+            Lane::Io => self.io = ends,
+        }
+    }
+
+    /// Writes both lanes' tails to their doorbells, so that the controller sees what was placed.
+    ///
+    /// # Errors
+    /// `NotUp` where the driver is not up. The port is then not called.
+    pub fn ring<P: Port>(&mut self, port: &mut P) -> Result<(), NotUp>
+        ensures driver { self.new ≡ self.old }
+        ensures up { is_ok result ≡ up self.old.state }
+        ensures calls { Calls P.step port.old (ring_calls self.old) port.new }
+        ensures links { P.links port.new ≡ P.links port.old }
+    {
+        if !self.is_up() {
+            return Err(NotUp);
+        }
+        port.write32(Lane::Admin.tail_doorbell(), u32::from(self.admin.tail()));
+        port.write32(Lane::Io.tail_doorbell(), u32::from(self.io.tail()));
+        Ok(())
+    }
+
+    /// Resets the controller. The driver is then down, and all requests that were not handed up are aborted.
+    pub fn reset<P: Port>(&mut self, port: &mut P)
+        ensures driver { self.new ≡ after_reset self.old }
+        ensures calls { Calls P.step port.old reset_calls port.new }
+        ensures links { P.links port.new ≡ P.links port.old }
+    {
+        port.write32(register::CC, 0);
+        abort_all(&mut self.slots);
+        self.state = State::Down;
+        self.admin = Ends::new();
+        self.io = Ends::new();
+    }
+}

@@ -1,0 +1,150 @@
+//! Handing up answers.
+
+ghost use Rattle.std.specs.Prelude.{◌≡◌, ◌<◌, ◌≤◌, ◌+◌, IfSome, Some, None, length, take, MatchOption, slice_range};
+ghost use Rattle.nvme_wire.specs.Completion.{cid, sq_head};
+ghost use Rattle.nvme_spec.specs.Limits.{most_bytes};
+ghost use Rattle.nvme_driver.specs.Calls.{Calls};
+ghost use Rattle.nvme_driver.specs.Layout.{slot_count, data_area as area};
+ghost use Rattle.nvme_driver.specs.Drivers.{ends as ends_of};
+ghost use Rattle.nvme_driver.specs.Polls.{IsPolled, found as spec_found, answered as spec_answered, answer_len as spec_answer_len, consumed_ends, entry_poll};
+
+use super::Driver;
+use crate::answer::Answer;
+use crate::ends::Ends;
+use crate::faults::PollFault;
+use crate::found::{Found, is_success, new_in};
+use crate::lane::Lane;
+use crate::layout::data_area;
+use crate::length::Length;
+use crate::port::Port;
+use crate::slots::{Waiting, live_in, oldest_aborted};
+use crate::state::State;
+use nvme_mem::Window;
+use nvme_spec::Piece;
+use nvme_wire::{Cqe, Status};
+
+/// How many bytes come with the answer of a request.
+fn answer_len(received: Length, status: Status) -> usize
+    ensures len { result ≡ spec_answer_len received status }
+    ensures most { result ≤ most_bytes }
+{
+    if is_success(status) {
+        received.bytes()
+    } else {
+        0
+    }
+}
+
+/// Copies the first `len` bytes of a slot's data to the front of a buffer.
+fn copy_data(window: &Window, slot: usize, len: usize, buffer: &mut [u8])
+    requires slot { slot < slot_count }
+    requires most { len ≤ most_bytes }
+    requires room { len ≤ length buffer.old }
+    ensures { take len buffer.new ≡ slice_range window.now (area slot) (area slot + len) }
+{
+    let piece = Piece {
+        address: data_area(slot),
+        len: len as u64,
+    };
+    buffer[..len].copy_from_slice(window.bytes(piece));
+}
+
+impl Driver {
+    /// The first new completion: of the admin lane, then of the I/O lane.
+    fn found(&self, window: &Window) -> Option<Found>
+        ensures { result ≡ spec_found self.now window.now }
+    {
+        if let Some(entry) = new_in(Lane::Admin, self.admin, window) {
+            return Some(Found {
+                lane: Lane::Admin,
+                entry,
+            });
+        }
+        let entry = new_in(Lane::Io, self.io, window)?;
+        Some(Found {
+            lane: Lane::Io,
+            entry,
+        })
+    }
+
+    /// The request that a completion answers, and the ends of its lane once the completion is consumed.
+    fn answered(&self, lane: Lane, entry: Cqe) -> Option<(Waiting, Ends)>
+        ensures request { MatchOption result (spec_answered self.now lane entry ≡ None) (λ r. spec_answered self.now lane entry ≡ Some r.0) }
+        ensures ends { IfSome result (λ r. r.1 ≡ consumed_ends (ends_of lane self.now) (sq_head entry)) }
+        ensures slot { IfSome result (λ r. cid entry < slot_count) }
+    {
+        if entry.sq_id() != lane.queue_id() {
+            return None;
+        }
+        let mut ends = self.ends(lane);
+        if !ends.consume(entry.sq_head()) {
+            return None;
+        }
+        let waiting = live_in(&self.slots, lane, usize::from(entry.cid()))?;
+        Some((waiting, ends))
+    }
+
+    /// Hands up the answer in a new completion.
+    fn hand_up<P: Port>(
+        &mut self,
+        port: &mut P,
+        lane: Lane,
+        entry: Cqe,
+        buffer: &mut [u8],
+    ) -> Result<Option<Answer>, PollFault>
+        requires { most_bytes ≤ length buffer.old }
+        ensures answer { result ≡ (entry_poll self.old (P.bytes port.old) lane entry).answer }
+        ensures driver { self.new ≡ (entry_poll self.old (P.bytes port.old) lane entry).driver }
+        ensures calls { Calls P.step port.old (entry_poll self.old (P.bytes port.old) lane entry).calls port.new }
+        ensures bytes { take (length (entry_poll self.old (P.bytes port.old) lane entry).bytes) buffer.new ≡ (entry_poll self.old (P.bytes port.old) lane entry).bytes }
+        ensures links { P.links port.new ≡ P.links port.old }
+    {
+        let Some((waiting, ends)) = self.answered(lane, entry) else {
+            self.state = State::Failed;
+            return Err(PollFault::UnknownCommand);
+        };
+        let slot = usize::from(entry.cid());
+        let status = entry.status();
+        let len = answer_len(waiting.received, status);
+        copy_data(port.window(), slot, len, buffer);
+        self.slots[slot] = None;
+        self.set_ends(lane, ends);
+        port.write32(lane.head_doorbell(), u32::from(ends.head()));
+        Ok(Some(Answer::Done {
+            ticket: waiting.ticket,
+            status,
+            dw0: entry.dw0(),
+            len,
+        }))
+    }
+
+    /// Hands up the next answer, with its data at the front of the buffer, or `None` where there is no new one. An
+    /// aborted request comes first, in every state, the one with the lowest ticket before the others; then a completion
+    /// of the admin lane, then one of the I/O lane. That the buffer has at least 131,072 bytes is the caller's
+    /// condition; its bytes behind the answer's are not said.
+    ///
+    /// # Errors
+    /// `NotUp` where the driver is not up. `UnknownCommand` where the new completion is of another queue, answers no
+    /// request that waits in its lane, or carries a head that cannot be: it is not consumed, and the driver has failed.
+    pub fn poll_into<P: Port>(
+        &mut self,
+        port: &mut P,
+        buffer: &mut [u8],
+    ) -> Result<Option<Answer>, PollFault>
+        requires { most_bytes ≤ length buffer.old }
+        ensures polls { IsPolled P.step self.old (P.bytes port.old) port.old result self.new port.new buffer.new }
+        ensures links { P.links port.new ≡ P.links port.old }
+    {
+        if let Some((slot, ticket)) = oldest_aborted(&self.slots) {
+            self.slots[slot] = None;
+            return Ok(Some(Answer::Aborted { ticket }));
+        }
+        if !self.is_up() {
+            return Err(PollFault::NotUp);
+        }
+        let Some(Found { lane, entry }) = self.found(port.window()) else {
+            return Ok(None);
+        };
+        self.hand_up(port, lane, entry, buffer)
+    }
+}

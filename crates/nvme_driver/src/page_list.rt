@@ -1,0 +1,77 @@
+//! The PRP list of a slot.
+
+ghost use Rattle.std.specs.Prelude.{◌≡◌, ◌+◌, ◌-◌, ◌*◌, ◌++◌, ◌^◌, ◌≤◌, ◌<◌, replicate};
+ghost use Rattle.nvme_spec.specs.Limits.{most_bytes};
+ghost use Rattle.nvme_driver.specs.Layout.{slot_count};
+ghost use Rattle.nvme_driver.specs.Pointers.{page_entries, listed_pages as pages_listed, stored_list};
+
+use crate::bytes::put_bytes;
+use crate::layout::{PAGE, data_area};
+use std::marker::Model;
+
+/// A PRP list: the addresses of the second and the later pages of a slot's data, or no bytes where PRP entry 2 does
+/// not name a list. Contracts see its bytes.
+#[derive(Drop)]
+pub struct PageList {
+    bytes: [u8; 248],
+    len: usize,
+}
+
+impl Model for PageList {
+    ghost use Rattle.std.specs.Prelude.{ℕ, List, take, ◌≤◌};
+
+    ghost Value = { List ℕ };
+
+    ghost view = { λ l. take l.len l.bytes };
+
+    ghost invariant = { λ l. l.len ≤ 248 };
+}
+
+/// How many pages a list names for so many bytes: none where two PRP entries name them all.
+fn listed_pages(moved: usize) -> usize
+    requires { moved ≤ most_bytes }
+    ensures pages { result ≡ pages_listed moved }
+    ensures most { result ≤ 31 }
+{
+    if moved <= 2 * PAGE {
+        0
+    } else {
+        (moved - 1) / PAGE
+    }
+}
+
+/// The addresses of so many pages that lie one after the other from `first` on, eight bytes each, and zeros.
+fn spell(first: u64, pages: usize) -> [u8; 248]
+    requires few { pages ≤ 31 }
+    requires fits { first < 2 ^ 32 }
+    ensures { result ≡ page_entries first pages ++ replicate (248 - 8 * pages) 0 }
+{
+    let mut bytes = [0; 248];
+    for index in 0..pages {
+        let page = first + (PAGE * index) as u64;
+        put_bytes(&mut bytes, 8 * index, &page.to_le_bytes());
+    }
+    bytes
+}
+
+impl PageList {
+    /// The list of a slot for so many bytes.
+    pub fn new(slot: usize, moved: usize) -> PageList
+        requires slot { slot < slot_count }
+        requires moved { moved ≤ most_bytes }
+        ensures { result ≡ stored_list slot moved }
+    {
+        let pages = listed_pages(moved);
+        PageList {
+            bytes: spell(data_area(slot) + PAGE as u64, pages),
+            len: 8 * pages,
+        }
+    }
+
+    /// The bytes of the list.
+    pub fn as_slice(&self) -> &[u8]
+        ensures { result.now ≡ self.now }
+    {
+        &self.bytes[..self.len]
+    }
+}
