@@ -1,0 +1,26 @@
+use Rattle.nvme_spec.proofs.StatusLaws.{execution_fits}
+use Rattle.nvme_ctrl.proofs.Executions.{admin-answers, admin-fits, admin-placed, admin-ready, admin-controllers, io-answers}
+use Rattle.nvme_ctrl.proofs.controller.Controller.perform.Goals as goal
+
+pub returns-then-command-eq0-clause-answers : goal.returns-then-command-eq0-clause-answers
+returns-then-command-eq0-clause-answers g c =
+    admin-answers g.M.Medium.tells _ _ c.args.command.now _ c.perform_admin.result.outcome c.perform_admin.result.change _ _ c.if-command-eq0.true c.perform_admin.ensures.executed c.perform_admin.ensures.marks
+
+pub returns-then-command-eq0-clause-fits : goal.returns-then-command-eq0-clause-fits
+returns-then-command-eq0-clause-fits g c = admin-fits _ _ _ _ _ _ c.perform_admin.ensures.executed
+
+pub returns-then-command-eq0-clause-placed : goal.returns-then-command-eq0-clause-placed
+returns-then-command-eq0-clause-placed g c = admin-placed _ _ _ _ _ _ c.perform_admin.ensures.executed
+
+pub returns-then-command-eq0-clause-ready : goal.returns-then-command-eq0-clause-ready
+returns-then-command-eq0-clause-ready g c =
+    rw c.perform_admin.ensures.rest (admin-ready _ (g.M.Medium.size c.args.medium.now) _ _ _ _ _ c.perform_admin.ensures.executed c.requires.ready)
+
+pub returns-then-command-eq0-clause-controllers : goal.returns-then-command-eq0-clause-controllers
+returns-then-command-eq0-clause-controllers g c = admin-controllers _ _ _ _ _ _ c.perform_admin.ensures.executed
+
+pub returns-clause-answers : goal.returns-clause-answers
+returns-clause-answers g c = rw (← c.self.view_is) (io-answers g.M.Medium.tells _ _ c.args.command.now _ c.execute-outcome.result _ c.if-command-eq0.false c.execute-outcome.ensures.executed)
+
+pub returns-clause-fits : goal.returns-clause-fits
+returns-clause-fits g c = execution_fits g.M.Medium.tells _ _ c.args.command.now.marked _ _ _ c.execute-outcome.ensures.executed

@@ -1,0 +1,19 @@
+-- What an executed command of a controller comes to.
+use Rattle.nvme_spec.specs.declared.queues.QueueChange.{QueueChange}
+use Rattle.nvme_spec.specs.declared.queues.QueueChange.TheVariants.{Keep, MakeCq, MakeSq, DropCq, DropSq}
+use Rattle.nvme_spec.specs.RegisterLaws.{IsQueuePlace}
+use Rattle.nvme_spec.specs.Execution.{Scene}
+use Rattle.nvme_machine.specs.Answers.{Answer}
+use Rattle.nvme_ctrl.specs.declared.execution.Answered.{Answered}
+
+-- a new queue lies in host memory
+abbrev pub IsPlaced : QueueChange → Type 0
+IsPlaced Keep = Unit {0}
+IsPlaced (MakeCq qid size base) = IsQueuePlace base size 16
+IsPlaced (MakeSq qid size base cqid) = IsQueuePlace base size 64
+IsPlaced (DropCq qid) = Unit {0}
+IsPlaced (DropSq qid) = Unit {0}
+
+-- what was answered, and what is left
+abbrev pub answer_of : Answered → Scene → Answer
+answer_of a left = record { outcome = a.outcome; change = a.change; left = left }

@@ -1,0 +1,82 @@
+//! A completion queue at its controller.
+
+ghost use Rattle.std.specs.Prelude.{◌≡◌, ◌<◌, ◌≤◌, ◌+◌, ◌↔◌, IsTrue};
+ghost use Rattle.nvme_spec.specs.Memory.{window_size};
+ghost use Rattle.nvme_spec.specs.Queues.{completion_room, phase_tag, empty_completion_tail, after_post};
+ghost use Rattle.nvme_spec.specs.RegisterLaws.{IsQueuePlace};
+ghost use Rattle.nvme_machine.specs.Controllers.{completion_slot, with_head};
+
+use nvme_ring::CqTail;
+use std::marker::Model;
+
+/// A completion queue: its address in host memory, and its tail. It lies in host memory. Contracts see it as the record of
+/// these.
+#[derive(Clone, Copy, Debug)]
+pub struct CompletionQueue {
+    base: u64,
+    tail: CqTail,
+}
+
+impl Model for CompletionQueue {
+    ghost use Rattle.nvme_machine.specs.Controllers.{CompletionQueue as Queue};
+    ghost use Rattle.nvme_spec.specs.RegisterLaws.{IsQueuePlace};
+
+    ghost Value = { Queue };
+
+    ghost view = { λ q. record { base = q.base; tail = q.tail } };
+
+    ghost invariant = { λ q. IsQueuePlace q.base q.tail.size 16 };
+
+    ghost inverse = { λ q. record { base = q.base; tail = q.tail } };
+}
+
+impl CompletionQueue {
+    /// An empty queue of `size` entries at `base`. That it begins a page, lies in host memory and has 2 to 64 entries is the
+    /// caller's condition.
+    pub fn new(base: u64, size: u16) -> Self
+        requires { IsQueuePlace base size 16 }
+        ensures { result ≡ record { base = base; tail = empty_completion_tail size } }
+    {
+        CompletionQueue {
+            base,
+            tail: CqTail::new(size),
+        }
+    }
+
+    /// Whether a completion can be posted.
+    pub fn has_room(&self) -> bool
+        ensures { IsTrue result ↔ (0 < completion_room self.now.tail) }
+    {
+        self.tail.room() > 0
+    }
+
+    /// The address of the next completion.
+    pub fn place(&self) -> u64
+        ensures place { result ≡ completion_slot self.now }
+        ensures inside { result + 16 ≤ window_size }
+    {
+        self.base + 16 * u64::from(self.tail.slot())
+    }
+
+    /// The phase tag of the next completion.
+    pub fn phase(&self) -> bool
+        ensures { result ≡ phase_tag self.now.tail.size self.now.tail.posted }
+    {
+        self.tail.phase()
+    }
+
+    /// The next completion is posted. That there is room is the caller's condition.
+    pub fn advance(&mut self)
+        requires { 0 < completion_room self.old.tail }
+        ensures { self.new ≡ record self.old { tail = after_post self.old.tail } }
+    {
+        self.tail.advance();
+    }
+
+    /// The host writes its head to the doorbell.
+    pub fn set_head(&mut self, head: u16)
+        ensures { self.new ≡ with_head head self.old }
+    {
+        self.tail.set_doorbell(head);
+    }
+}

@@ -1,0 +1,121 @@
+//! Executing a fetched command.
+
+ghost use Rattle.std.specs.Prelude.{◌≡◌, ◌<◌, slice_get};
+ghost use Rattle.nvme_spec.specs.Execution.{scene, no_marks};
+ghost use Rattle.nvme_spec.specs.AdminEffects as admin;
+ghost use Rattle.nvme_exec.specs.Carrying.{CanExecute};
+ghost use Rattle.nvme_machine.specs.Controllers.{queues_of};
+ghost use Rattle.nvme_machine.specs.Answers.{Answers};
+ghost use Rattle.nvme_machine.specs.Executing.{setting, ExecutesNth};
+ghost use Rattle.nvme_ctrl.specs.Executions.{IsPlaced, answer_of};
+
+use crate::controller::Controller;
+use nvme_admin::execute_admin;
+use nvme_exec::execute;
+use nvme_machine::{Executed, FetchedCommand};
+use nvme_medium::Medium;
+use nvme_ns::Spaces;
+use nvme_spec::{Marks, Outcome, QueueChange};
+
+/// What an executed command is answered, and what is to become of the queues.
+#[derive(Drop)]
+pub struct Answered {
+    outcome: Outcome,
+    change: QueueChange,
+}
+
+/// The i-th of the fetched commands.
+fn command_at(commands: &[FetchedCommand], i: usize) -> Option<FetchedCommand>
+    ensures { result ≡ slice_get commands.now i }
+{
+    commands.get(i).copied()
+}
+
+impl Controller {
+    /// Executes the i-th of its fetched commands, in the access state and over the medium as they are now, and posts its
+    /// completion; or answers that there is no such command, or that its completion queue has no room, and changes nothing.
+    /// The data that go to the host stand in its memory before the completion.
+    ///
+    /// That the controller is configured, that all namespaces lie within the medium, and that every registrant is a
+    /// controller's host are the caller's conditions; they hold again afterwards.
+    pub fn execute<M: Medium>(&mut self, i: usize, spaces: &mut Spaces, medium: &mut M) -> Executed
+        requires ready { CanExecute spaces.old (M.size medium.old) self.old.cntlid }
+        ensures executed { ExecutesNth M.tells i
+            (setting self.old spaces.old (M.device medium.old)) result (setting self.new spaces.new (M.device medium.new)) }
+        ensures ready { CanExecute spaces.new (M.size medium.new) self.new.cntlid }
+        ensures controllers { spaces.new.controllers ≡ spaces.old.controllers }
+        ensures size { M.size medium.new ≡ M.size medium.old }
+        ensures cntlid { self.new.cntlid ≡ self.old.cntlid }
+    {
+        let Some(command) = command_at(&self.fetched, i) else {
+            return Executed::NoSuch;
+        };
+        let Some(pair) = self.open_pair(&command) else {
+            return Executed::CqFull;
+        };
+        let Answered { outcome, change } = self.perform(&command, spaces, medium);
+        self.post(i, &command, pair, outcome.status, outcome.dw0);
+        self.change_queues(change);
+        Executed::Posted(outcome)
+    }
+
+    /// Executes a command by the queue that it came from.
+    fn perform<M: Medium>(
+        &mut self,
+        command: &FetchedCommand,
+        spaces: &mut Spaces,
+        medium: &mut M,
+    ) -> Answered
+        requires ready { CanExecute spaces.old (M.size medium.old) self.old.cntlid }
+        ensures answers { Answers M.tells (queues_of self.old) self.old.cntlid command.now
+            (scene spaces.old self.old.window (M.device medium.old))
+            (answer_of result (scene spaces.new self.new.window (M.device medium.new))) }
+        ensures rest { self.new ≡ record self.old { window = self.new.window } }
+        ensures fits { result.outcome.status.sct < 8 }
+        ensures placed { IsPlaced result.change }
+        ensures ready { CanExecute spaces.new (M.size medium.new) self.new.cntlid }
+        ensures controllers { spaces.new.controllers ≡ spaces.old.controllers }
+        ensures size { M.size medium.new ≡ M.size medium.old }
+    {
+        if command.queue == 0 {
+            return self.perform_admin(command, spaces);
+        }
+        let outcome = execute(
+            spaces,
+            medium,
+            &mut self.window,
+            self.cntlid,
+            &command.entry,
+            command.marked,
+        );
+        Answered {
+            outcome,
+            change: QueueChange::Keep,
+        }
+    }
+
+    /// Executes an admin command.
+    fn perform_admin(&mut self, command: &FetchedCommand, spaces: &mut Spaces) -> Answered
+        ensures executed { admin.admin_execution spaces.old (queues_of self.old) self.old.cntlid command.now.entry self.old.window
+            ≡ record { status = result.outcome.status; dw0 = result.outcome.dw0; rule = result.outcome.rule; change = result.change; world = spaces.new; window = self.new.window } }
+        ensures marks { result.outcome.marks ≡ no_marks }
+        ensures rest { self.new ≡ record self.old { window = self.new.window } }
+    {
+        let answer = execute_admin(
+            spaces,
+            &self.queues(),
+            &mut self.window,
+            self.cntlid,
+            &command.entry,
+        );
+        Answered {
+            outcome: Outcome {
+                status: answer.status,
+                dw0: answer.dw0,
+                rule: answer.rule,
+                marks: Marks::none(),
+            },
+            change: answer.change,
+        }
+    }
+}

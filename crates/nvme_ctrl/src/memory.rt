@@ -1,0 +1,30 @@
+//! The memory that a host shares with its controller.
+
+ghost use Rattle.std.specs.Prelude.{◌≡◌, OnOk, OnErr};
+ghost use Rattle.nvme_machine.specs.declared.seen.Seen.TheVariants.{Stored, Outside};
+ghost use Rattle.nvme_machine.specs.Controllers.{after_store, reaction};
+
+use crate::controller::Controller;
+use nvme_mem::{OutsideWindow, Window};
+
+impl Controller {
+    /// The window of host memory.
+    pub fn window(&self) -> &Window
+        ensures { result.now ≡ self.now.window }
+    {
+        &self.window
+    }
+
+    /// Its host stores bytes.
+    ///
+    /// # Errors
+    ///
+    /// `OutsideWindow` where they do not all lie in the window; nothing is stored then.
+    #[tactic(auto, unfolding(nvme_machine::specs::Controllers::after_store))]
+    pub fn store(&mut self, address: u64, bytes: &[u8]) -> Result<(), OutsideWindow>
+        ensures ok { OnOk result (after_store address bytes.now self.old ≡ reaction self.new Stored) }
+        ensures err { OnErr result (after_store address bytes.now self.old ≡ reaction self.new Outside) }
+    {
+        self.window.store(address, bytes)
+    }
+}
