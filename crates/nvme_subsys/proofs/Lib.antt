@@ -1,0 +1,4 @@
+pub mod Numbers
+pub mod Sound
+pub mod Openings
+pub mod Runs

@@ -1,0 +1,15 @@
+//! The subsystem: several controllers over one access state and one medium, and what every interleaving of events on them
+//! does (NVM Express Base Specification 2.0: NVM Subsystem, Controllers, Namespaces).
+#![tactic(auto)]
+
+mod marking;
+mod opening;
+mod reacting;
+mod subsystem;
+
+pub use nvme_machine::{Event, Executed, Fetched, Seen};
+pub use opening::NewFault;
+pub use subsystem::Subsystem;
+
+#[cfg(test)]
+mod tests;

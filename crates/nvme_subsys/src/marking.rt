@@ -1,0 +1,58 @@
+//! Marking what the hosts have fetched that a Preempt and Abort has removed.
+
+ghost use Rattle.std.specs.Prelude.{◌≡◌, ◌==◌, ◌≤◌, length};
+ghost use Rattle.std.specs.List.{list_any};
+ghost use Rattle.nvme_machine.specs.Subsystems.{is_host_among, marked_from};
+ghost use Rattle.nvme_subsys.specs.Marked.{marked_for, marks_after};
+
+use nvme_ctrl::Controller;
+use nvme_machine::Executed;
+use nvme_ns::Spaces;
+use nvme_spec::Marks;
+
+/// Whether a host is one of these.
+fn is_one_of(hosts: &[u64], host: u64) -> bool
+    ensures { result ≡ list_any (λ h. h == host) hosts.now }
+{
+    hosts.iter().any(|h| *h == host)
+}
+
+/// Whether a controller's host is one of these.
+fn is_among(hosts: &[u64], host: Option<u64>) -> bool
+    ensures { result ≡ is_host_among hosts.now host }
+{
+    match host {
+        Some(host) => is_one_of(hosts, host),
+        None => false,
+    }
+}
+
+/// Marks controller `cntlid` where its host is among the removed ones.
+fn mark_one(controller: &mut Controller, cntlid: u16, spaces: &Spaces, marks: &Marks)
+    ensures { controller.new ≡ marked_for spaces.now marks.now cntlid controller.old }
+{
+    if is_among(marks.hosts.as_slice(), spaces.host_of(cntlid)) {
+        controller.mark(marks.nsid);
+    }
+}
+
+/// Marks the controllers of the removed hosts. Controller k stands at place k - 1.
+fn mark_all(controllers: &mut [Controller], spaces: &Spaces, marks: &Marks)
+    requires { length controllers.old ≤ 16 }
+    ensures { controllers.new ≡ marked_from spaces.now marks.now 1 controllers.old }
+{
+    for i in 0..controllers.len() {
+        mark_one(&mut controllers[i], i as u16 + 1, spaces, marks);
+    }
+}
+
+/// Marks what an execution says.
+pub fn mark_after(controllers: &mut [Controller], spaces: &Spaces, executed: &Executed)
+    requires { length controllers.old ≤ 16 }
+    ensures { controllers.new ≡ marks_after spaces.now executed.now controllers.old }
+{
+    match executed {
+        Executed::Posted(outcome) => mark_all(controllers, spaces, &outcome.marks),
+        Executed::NoSuch | Executed::CqFull => {}
+    }
+}

@@ -1,0 +1,177 @@
+//! The subsystem, one event of it, and a run of events.
+
+ghost use Rattle.std.specs.Prelude.{◌≡◌, ◌<◌, ◌+◌, length, Some, IfOk, IfErr, OnErr, IfSome, IfNone, None};
+ghost use Rattle.nvme_ns.specs.Configured.{configuration};
+ghost use Rattle.nvme_machine.specs.Controllers.{after_store, wrote, has_read, after_fetch};
+ghost use Rattle.nvme_machine.specs.Subsystems.{opening, controller_at, Reacts, ExecutesAt, Step, Run};
+
+use crate::marking::mark_after;
+use crate::opening::{NewFault, controllers_of};
+use crate::reacting;
+use nvme_ctrl::Controller;
+use nvme_machine::{Event, Seen};
+use nvme_medium::Medium;
+use nvme_ns::Spaces;
+use nvme_spec::{Config, ConfigFault};
+use nvme_wire::NoMemory;
+use std::alloc::Global;
+use std::marker::Model;
+
+/// Controllers over one access state and one medium. Contracts see it as the record of these.
+#[derive(Drop)]
+pub struct Subsystem<M: Medium> {
+    spaces: Spaces,
+    medium: M,
+    controllers: Vec<Controller>,
+}
+
+impl<M: Medium> Model for Subsystem<M> {
+    ghost use Rattle.nvme_machine.specs.Subsystems.{Subsystem as State};
+    ghost use Rattle.nvme_subsys.specs.Sound.{IsSound};
+
+    ghost Value = { State };
+
+    ghost view = { λ s. record { world = s.spaces; device = M.device s.medium; controllers = s.controllers.items } };
+
+    ghost invariant = { λ s. IsSound s.spaces (M.size s.medium) s.controllers.items };
+}
+
+impl<M: Medium> Subsystem<M> {
+    /// Opens a configuration over a medium: nobody has registered, nothing is reserved or write protected, no controller was
+    /// ever enabled, and every window is of zeros. Memory is asked for last.
+    ///
+    /// # Errors
+    ///
+    /// The first fault of the configuration, or `NoMemory`, with the medium as it was.
+    pub fn new(alloc: Global, config: &Config, medium: M) -> Result<Subsystem<M>, NewFault<M>>
+        ensures opened { IfOk result (λ subsystem. subsystem ≡ opening (configuration config.now) (M.device medium)) }
+        ensures kept { IfErr result (λ refused. refused.medium ≡ medium) }
+    {
+        let spaces = match Spaces::new(config, medium.blocks()) {
+            Ok(spaces) => spaces,
+            Err(fault) => return Err(NewFault { fault, medium }),
+        };
+        match controllers_of(alloc, &config.controllers) {
+            Ok(controllers) => Ok(Subsystem {
+                spaces,
+                medium,
+                controllers,
+            }),
+            Err(NoMemory) => Err(NewFault {
+                fault: ConfigFault::NoMemory,
+                medium,
+            }),
+        }
+    }
+
+    /// The medium, with the content that the commands have left.
+    pub fn into_medium(self) -> M
+        ensures { M.device result ≡ self.device }
+    {
+        self.medium
+    }
+
+    /// The controller of an identifier, if there is one.
+    pub fn controller(&self, cntlid: u16) -> Option<&Controller>
+        ensures none { IfNone result (controller_at self.now cntlid ≡ None) }
+        ensures some { IfSome result (λ controller. controller_at self.now cntlid ≡ Some controller.now) }
+    {
+        let Some(place) = self.place_of(cntlid) else {
+            return None;
+        };
+        Some(&self.controllers[place])
+    }
+
+    /// The place of a controller.
+    fn place_of(&self, cntlid: u16) -> Option<usize>
+        ensures none { IfNone result (controller_at self.now cntlid ≡ None) }
+        ensures some { IfSome result (λ place. (cntlid ≡ place + 1) × (place < length self.now.controllers)) }
+    {
+        if cntlid == 0 {
+            return None;
+        }
+        let place = usize::from(cntlid - 1);
+        if place >= self.controllers.len() {
+            return None;
+        }
+        Some(place)
+    }
+
+    /// One event of the controller that it names; where there is no such controller, nothing happens.
+    pub fn apply(&mut self, event: Event) -> Seen
+        ensures { Step M.tells self.old event.entry result self.new }
+    {
+        match event {
+            Event::Store(cntlid, address, bytes) => self.store(cntlid, address, bytes),
+            Event::Write32(cntlid, offset, value) => self.write32(cntlid, offset, value),
+            Event::Read32(cntlid, offset) => self.read32(cntlid, offset),
+            Event::Fetch(cntlid, qid) => self.fetch(cntlid, qid),
+            Event::Execute(cntlid, i) => self.execute(cntlid, i),
+        }
+    }
+
+    fn store(&mut self, cntlid: u16, address: u64, bytes: &[u8]) -> Seen
+        ensures { Reacts self.old cntlid (after_store address bytes.now) result self.new }
+    {
+        let Some(place) = self.place_of(cntlid) else {
+            return Seen::NoController;
+        };
+        reacting::store(&mut self.controllers[place], address, bytes)
+    }
+
+    fn write32(&mut self, cntlid: u16, offset: u64, value: u32) -> Seen
+        ensures { Reacts self.old cntlid (wrote offset value) result self.new }
+    {
+        let Some(place) = self.place_of(cntlid) else {
+            return Seen::NoController;
+        };
+        reacting::write32(&mut self.controllers[place], offset, value)
+    }
+
+    fn read32(&self, cntlid: u16, offset: u64) -> Seen
+        ensures { Reacts self.now cntlid (has_read offset) result self.now }
+    {
+        let Some(place) = self.place_of(cntlid) else {
+            return Seen::NoController;
+        };
+        reacting::read32(&self.controllers[place], offset)
+    }
+
+    fn fetch(&mut self, cntlid: u16, qid: u16) -> Seen
+        ensures { Reacts self.old cntlid (after_fetch qid) result self.new }
+    {
+        let Some(place) = self.place_of(cntlid) else {
+            return Seen::NoController;
+        };
+        reacting::fetch(&mut self.controllers[place], qid)
+    }
+
+    fn execute(&mut self, cntlid: u16, i: usize) -> Seen
+        ensures { ExecutesAt (controller_at self.old cntlid) M.tells self.old cntlid i result self.new }
+    {
+        let Some(place) = self.place_of(cntlid) else {
+            return Seen::NoController;
+        };
+        let executed = self.controllers[place].execute(i, &mut self.spaces, &mut self.medium);
+        mark_after(&mut self.controllers, &self.spaces, &executed);
+        Seen::Executed(executed)
+    }
+}
+
+impl<M: Medium> Subsystem<M> {
+    /// Events, one after the other, and what each gave. Memory is asked for first, so that without it nothing happens.
+    ///
+    /// # Errors
+    ///
+    /// `NoMemory` where the allocator has no room for what the events give.
+    pub fn run(&mut self, alloc: Global, events: &[Event]) -> Result<Vec<Seen>, NoMemory>
+        ensures ran { IfOk result (λ seen. Run M.tells self.old events.now seen.items self.new) }
+        ensures unchanged { OnErr result (self.new ≡ self.old) }
+    {
+        let mut seen = Vec::with_capacity(alloc, events.len())?;
+        for event in events {
+            seen.push_reserved(self.apply(*event));
+        }
+        Ok(seen)
+    }
+}
