@@ -5,7 +5,7 @@ use Rattle.std.specs.List.{AllByRecursion, filter_map, cons_option}
 use Rattle.std.specs.Str.{bytes_eq}
 use Rattle.std.proofs.lemmas.Bool.{leb-true}
 use Rattle.script_text.specs.Numbers.{number_at}
-use Rattle.script_text.specs.Words.{line_words}
+use Rattle.script_text.specs.Words.{line_words, is_line_text}
 use Rattle.script_text.specs.Data.{data_at}
 use Rattle.script_text.proofs.DataLengths.{data_at-length}
 use Rattle.nvme_grammar.specs.Arity.{◌>>=◌, two, three, four}
@@ -126,7 +126,7 @@ sentence_line (word ∷ words) =
 
 says_transfer : (bytes : List ℕ) → IfSome (line.line_at bytes) IsLine
 unfolding line.line_at
-says_transfer bytes = branch IsLine (line.is_comment bytes) _ _ tt (branch IsLine (line.is_line_text bytes) _ None (sentence_line (line_words bytes)) tt)
+says_transfer bytes = branch IsLine (line.is_comment bytes) _ _ tt (branch IsLine (is_line_text bytes) _ None (sentence_line (line_words bytes)) tt)
 
 said_transfers : (raw : List (List ℕ)) → AllByRecursion IsLine (said raw)
 said_transfers [] = tt

@@ -1,9 +1,8 @@
 -- What one line of a script says.
-use Rattle.std.specs.Prelude.{ℕ, nat_le, Bool, true, false, ◌&&◌, ◌||◌, ◌==◌, List, [], ◌∷◌, codes, Option, Some, None, if◌then◌else◌}
+use Rattle.std.specs.Prelude.{ℕ, nat_le, Bool, true, false, ◌&&◌, ◌==◌, List, [], ◌∷◌, codes, Option, Some, None, if◌then◌else◌}
 use Rattle.std.specs.Str.{bytes_eq}
-use Rattle.std.specs.List.{list_all}
 use Rattle.script_text.specs.Numbers.{number_at}
-use Rattle.script_text.specs.Words.{line_words, is_separator}
+use Rattle.script_text.specs.Words.{line_words, is_line_text}
 use Rattle.script_text.specs.Data.{data_at}
 use Rattle.nvme_grammar.specs.Arity.{◌>>=◌, two, three, four}
 use Rattle.nvme_grammar.specs.declared.line.Line.{Line}
@@ -91,10 +90,6 @@ sentence (word ∷ words) =
 abbrev pub is_comment : List ℕ → Bool
 is_comment [] = false
 is_comment (b ∷ bs) = b == 35
-
--- each byte stands between words or is a visible character
-abbrev pub is_line_text : List ℕ → Bool
-is_line_text bytes = list_all (λ b. is_separator b || (nat_le 33 b && nat_le b 126)) bytes
 
 -- what a line says, without the line feed that ends it, or nothing where it is outside the grammar
 unfoldable pub line_at : List ℕ → Option Line

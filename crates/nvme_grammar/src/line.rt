@@ -1,11 +1,11 @@
 //! What one line of a script says.
 
 ghost use Rattle.std.specs.Prelude.{◌≡◌, map, IfOk};
-ghost use Rattle.nvme_grammar.specs.Line.{controller, namespace, attached, start, sharing, transfer_blocks, place_at, read_command, write_command, command, sentence, is_comment, is_line_text, line_at};
+ghost use Rattle.nvme_grammar.specs.Line.{controller, namespace, attached, start, sharing, transfer_blocks, place_at, read_command, write_command, command, sentence, is_comment, line_at};
 
 use nvme_spec::{ControllerConfig, NsConfig};
 use nvme_wire::NoMemory;
-use script_text::{Payload, is_separator_byte, number_u16, number_u32, number_u64, words_of};
+use script_text::{Payload, number_u16, number_u32, number_u64, words_of};
 use std::alloc::Global;
 
 /// The blocks that a command transfers.
@@ -230,25 +230,17 @@ fn is_comment_line(bytes: &[u8]) -> bool
     bytes.first() == Some(&b'#')
 }
 
-/// Whether each byte of a line stands between words or is a visible character.
-fn is_text(bytes: &[u8]) -> bool
-    ensures { result ≡ is_line_text bytes.now }
-{
-    bytes.iter().all(|byte| is_separator_byte(*byte) || (33 <= *byte && *byte <= 126))
-}
-
 /// What a line says, without the line feed that ends it: `None` where it is outside the grammar. `NoMemory`
 /// where memory is refused.
-#[tactic(auto, unfolding(crate::specs::Line::line_at))]
+#[tactic(auto, using(crate::proofs::ArityLemmas::many_words), unfolding(crate::specs::Line::line_at))]
 pub fn parse_line(alloc: Global, bytes: &[u8]) -> Result<Option<Line>, NoMemory>
     ensures line { IfOk result (λ line. line ≡ line_at bytes.now) }
 {
     if is_comment_line(bytes) {
         return Ok(Some(Line::Blank));
     }
-    if !is_text(bytes) {
-        return Ok(None);
+    match words_of(bytes) {
+        Some(words) => sentence_of(alloc, words.as_slice()),
+        None => Ok(None),
     }
-    let words = words_of(alloc, bytes)?;
-    sentence_of(alloc, words.as_slice())
 }

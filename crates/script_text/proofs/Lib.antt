@@ -1,6 +1,8 @@
+mod DecodeLemmas
 mod FillLemmas
 mod HexTextLemmas
 pub mod OnLiterals
 mod NumberLemmas
 mod TrimLemmas
 pub mod DataLengths
+mod WordLemmas

@@ -3,9 +3,16 @@ use Rattle.std.specs.Prelude.{ℕ, List, [], ◌∷◌, false, ◌/◌, ◌%◌,
 use Rattle.std.specs.Fmt.{digit_glyph}
 use Rattle.std.specs.List.{flat_map, list_all}
 
+-- the two digits of a byte
+abbrev pub high_digit : ℕ → ℕ
+high_digit b = digit_glyph false (b / 16)
+
+abbrev pub low_digit : ℕ → ℕ
+low_digit b = digit_glyph false (b % 16)
+
 -- a byte as two hexadecimal digits in lower case
 abbrev pub hex_pair : ℕ → List ℕ
-hex_pair b = digit_glyph false (b / 16) ∷ digit_glyph false (b % 16) ∷ []
+hex_pair b = high_digit b ∷ low_digit b ∷ []
 
 -- a list as far as its last element that is not zero
 abbrev pub without_trailing_zeros : List ℕ → List ℕ

@@ -1,20 +1,39 @@
 //! Data in a transcript: hexadecimal, without the zero bytes at the end.
 
-ghost use Rattle.std.specs.Prelude.{◌≡◌, Some};
-ghost use Rattle.script_text.specs.HexText.{hex_or_dash, without_trailing_zeros};
+ghost use Rattle.std.specs.Prelude.{◌≡◌, ◌<◌, ◌≤◌, false, length, map, take, Some};
+ghost use Rattle.std.specs.Fmt.{digit_glyph};
+ghost use Rattle.std.specs.List.{flat_map};
+ghost use Rattle.script_text.specs.HexText.{hex_pair, high_digit, low_digit, hex_or_dash, without_trailing_zeros};
 
 use std::fmt;
+
+/// How many bytes are put into digits at a time.
+const CHUNK: usize = 128;
 
 /// Bytes that are shown in lower-case hexadecimal without their trailing zero bytes, as `-` where nothing
 /// is left.
 #[derive(Clone, Copy)]
 pub struct HexText<'a>(pub &'a [u8]);
 
+/// The bytes without zeros at their end, taken away 16 at a time.
+fn without_zero_chunks(bytes: &[u8]) -> &[u8]
+    ensures { without_trailing_zeros result.now ≡ without_trailing_zeros bytes.now }
+{
+    let mut rest = bytes;
+    while let Some((front, last)) = rest.split_last_chunk::<16>() {
+        if u128::from_le_bytes(*last) != 0 {
+            break;
+        }
+        rest = front;
+    }
+    rest
+}
+
 /// The bytes up to the last that is not zero.
 fn trimmed(bytes: &[u8]) -> &[u8]
     ensures { result.now ≡ without_trailing_zeros bytes.now }
 {
-    let mut rest = bytes;
+    let mut rest = without_zero_chunks(bytes);
     while let Some((last, front)) = rest.split_last() {
         if *last != 0 {
             break;
@@ -24,17 +43,80 @@ fn trimmed(bytes: &[u8]) -> &[u8]
     rest
 }
 
+/// The hexadecimal digit of a number.
+fn digit_of(number: u8) -> u8
+    requires { number < 16 }
+    ensures { result ≡ digit_glyph false number }
+{
+    number + if number < 10 { 48 } else { 87 }
+}
+
+/// The first digit of each byte.
+fn high_digits(bytes: &[u8; CHUNK]) -> [u8; CHUNK]
+    ensures { result ≡ map high_digit bytes.now }
+{
+    let mut digits = [0; CHUNK];
+    for i in 0..CHUNK {
+        digits[i] = digit_of(bytes[i] >> 4);
+    }
+    digits
+}
+
+/// The second digit of each byte.
+fn low_digits(bytes: &[u8; CHUNK]) -> [u8; CHUNK]
+    ensures { result ≡ map low_digit bytes.now }
+{
+    let mut digits = [0; CHUNK];
+    for i in 0..CHUNK {
+        digits[i] = digit_of(bytes[i] & 15);
+    }
+    digits
+}
+
+/// Bytes as hexadecimal digits. All first digits come before all second ones, so that a processor does many at once.
+fn encode(bytes: &[u8; CHUNK], digits: &mut [u8; 2 * CHUNK])
+    ensures { digits.new ≡ flat_map hex_pair bytes.now }
+{
+    let high = high_digits(bytes);
+    let low = low_digits(bytes);
+    for i in 0..CHUNK {
+        digits[2 * i] = high[i];
+        digits[2 * i + 1] = low[i];
+    }
+}
+
+/// A chunk's bytes, and zeros behind them.
+fn padded(chunk: &[u8]) -> [u8; CHUNK]
+    requires { length chunk.now ≤ 128 }
+    ensures { take (length chunk.now) result ≡ chunk.now }
+{
+    let mut bytes = [0; CHUNK];
+    bytes[..chunk.len()].copy_from_slice(chunk);
+    bytes
+}
+
+/// A chunk's bytes as text in hexadecimal.
+fn text_of<'a>(chunk: &[u8], digits: &'a mut [u8; 2 * CHUNK]) -> &'a str
+    requires { length chunk.now ≤ 128 }
+    ensures { result.now ≡ flat_map hex_pair chunk.now }
+{
+    encode(&padded(chunk), digits);
+    str::from_utf8(&digits[..2 * chunk.len()]).unwrap()
+}
+
 impl fmt::Display for HexText<'_> {
     ghost output = { λ t. Some (hex_or_dash (without_trailing_zeros t.0.now)) };
 
-    #[tactic(auto, using(crate::proofs::HexTextLemmas::written_text))]
     fn fmt<W: fmt::Write>(&self, f: &mut fmt::Formatter<W>) -> fmt::Result {
-        let bytes = trimmed(self.0);
-        if bytes.is_empty() {
-            return write!(f, "-");
+        let mut rest = trimmed(self.0);
+        if rest.is_empty() {
+            return f.write_str("-");
         }
-        for byte in bytes {
-            write!(f, "{byte:02x}")?;
+        let mut digits = [0; 2 * CHUNK];
+        while !rest.is_empty() {
+            let (chunk, behind) = rest.split_at(rest.len().min(CHUNK));
+            f.write_str(text_of(chunk, &mut digits))?;
+            rest = behind;
         }
         Ok(())
     }

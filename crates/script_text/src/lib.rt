@@ -2,6 +2,7 @@
 //! data that a transcript shows.
 #![tactic(auto)]
 
+mod decoding;
 mod examples;
 mod hex_text;
 mod number;
@@ -11,7 +12,7 @@ mod words;
 pub use hex_text::HexText;
 pub use number::{number_u8, number_u16, number_u32, number_u64};
 pub use payload::Payload;
-pub use words::{is_separator_byte, words_of};
+pub use words::{MOST_WORDS, words_of};
 
 #[cfg(test)]
 mod tests;

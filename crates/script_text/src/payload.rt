@@ -4,7 +4,7 @@ ghost use Rattle.std.specs.Prelude.{◌≡◌, ◌≤◌, ◌-◌, ◌++◌, ℕ
 ghost use Rattle.script_text.specs.Data.{transfer_len, fill_data, hex_data, data_at};
 ghost use Rattle.hex.specs.Hex.{decode_of};
 
-use hex::FromHexError;
+use super::decoding::decode;
 use std::alloc::{AllocError, Global};
 use std::marker::Model;
 
@@ -72,11 +72,13 @@ impl Payload {
     ) -> Result<Option<Payload>, AllocError>
         ensures { IfOk result (λ payload. payload ≡ hex_data len (decode_of digits.now)) }
     {
-        let front = match hex::decode(alloc, digits) {
-            Ok(front) => front,
-            Err(FromHexError::OutOfMemory) => return Err(AllocError),
-            Err(_) => return Ok(None),
-        };
+        if digits.len() % 2 != 0 {
+            return Ok(None);
+        }
+        let mut front = vec![in alloc; 0; digits.len() / 2]?;
+        if !decode(digits, front.as_mut_slice()) {
+            return Ok(None);
+        }
         if front.is_empty() {
             return Ok(None);
         }

@@ -5,7 +5,7 @@ use std::test::Fail;
 
 #[test]
 fn words_of_a_line(rt: HostRuntime) -> Result<(), Fail> {
-    let words = words_of(rt.alloc(), b" write\t1 0x1F \r")?;
+    let words = words_of(b" write\t1 0x1F \r").ok_or("words")?;
     assert_eq!(rt; words.len(), 3);
     assert_eq!(rt; words[0], b"write".as_slice());
     assert_eq!(rt; number_u8(words[1]), Some(1));

@@ -1,11 +1,11 @@
-use Rattle.std.proofs.Common.{ℕ, take, get_or, Fits, w8}
+use Rattle.std.proofs.Common.{◌≡◌, ◌++◌, List, ℕ, length}
 use Rattle.std.specs.List.{flat_map}
 use Rattle.std.specs.Fmt.{HasWritten, IsPlainFormatter}
-use Rattle.script_text.proofs.HexTextLemmas.{written}
+use Rattle.script_text.specs.HexText.{hex_pair}
 use Rattle.script_text.proofs.hex_text.HexTextDisplay.fmt.Given as goal
 
-abbrev pub invariant-loop-byte : goal.invariant-loop-byte
-invariant-loop-byte g l = record {
-  shown : IsPlainFormatter l.initial.f → HasWritten g.W.Write.write_str_gives l.initial.f (flat_map written (take l.byte-index l.bytes)) l.f;
-  bytes : (i : ℕ) → Fits w8 (get_or l.bytes i 0);
-}
+abbrev pub invariant-loop-rest : goal.invariant-loop-rest
+invariant-loop-rest g l = IsPlainFormatter l.initial.f → (text : List ℕ) × HasWritten g.W.Write.write_str_gives l.initial.f text l.f × (text ++ flat_map hex_pair l.rest ≡ flat_map hex_pair l.initial.rest)
+
+abbrev pub decreases-loop-rest : goal.decreases-loop-rest
+decreases-loop-rest g l = length l.rest

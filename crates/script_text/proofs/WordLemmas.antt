@@ -1,0 +1,67 @@
+-- A line taken apart at its front.
+use Rattle.std.proofs.Common.{◌≡◌, ℕ, suc, ◌<◌, ◌+◌, List, [], ◌∷◌, length, take, drop, true, false, Bool, refl, ap, sym, ◌∙◌, not, arith}
+use Rattle.std.specs.Prelude.{◌||◌, ◌&&◌, if◌then◌else◌, filter}
+use Rattle.std.specs.List.{prefix_len, slice_split}
+use Rattle.std.proofs.lemmas.Bool.{false≢true}
+use Rattle.script_text.specs.Words.{is_separator, is_visible, is_line_text, is_nonempty, line_words, starts_apart}
+
+-- a separator at the front says nothing
+pub separator-words : (b : ℕ) (bs : List ℕ) → is_separator b ≡ true → line_words (b ∷ bs) ≡ line_words bs
+separator-words b bs h = rw h refl
+
+pub separator-text : (b : ℕ) (bs : List ℕ) → is_separator b ≡ true → is_line_text (b ∷ bs) ≡ is_line_text bs
+separator-text b bs h = rw h refl
+
+-- what may stand in a word is no separator
+visible-apart : (b : ℕ) → is_visible b ≡ true → is_separator b ≡ false
+visible-apart b h = grind (arith)
+
+-- where neither a visible character nor a separator stands at the front, the line is no text
+pub invisible : (bs : List ℕ) → starts_apart bs ≡ true → 0 < length bs → prefix_len is_visible bs ≡ 0 → is_line_text bs ≡ false
+invisible [] apart some none = absurd (omega arith)
+invisible (b ∷ bs) apart some none = by (is_visible b) (is_separator b) none apart
+  where
+    by : (v s : Bool) → (if v then 1 + prefix_len is_visible bs else 0) ≡ 0 → not s ≡ true → ((s || v) && is_line_text bs) ≡ false
+    by true s e a = absurd (omega arith)
+    by false true e a = absurd (false≢true a)
+    by false false e a = refl
+
+one-more : (n : ℕ) → 1 + n ≡ suc n
+one-more n = omega arith
+
+-- the text of a line is that behind its first visible characters
+pub behind-text : (bs : List ℕ) → is_line_text (drop (prefix_len is_visible bs) bs) ≡ is_line_text bs
+behind-text [] = refl
+behind-text (b ∷ bs) = by (is_visible b) refl (behind-text bs)
+  where
+    by : (v : Bool) → is_visible b ≡ v → is_line_text (drop (prefix_len is_visible bs) bs) ≡ is_line_text bs → is_line_text (drop (prefix_len is_visible (b ∷ bs)) (b ∷ bs)) ≡ is_line_text (b ∷ bs)
+    by true e rest = rw (e, visible-apart b e, one-more (prefix_len is_visible bs)) rest
+    by false e rest = ap (λ v. is_line_text (drop (if v then 1 + prefix_len is_visible bs else 0) (b ∷ bs))) e
+
+-- The first visible characters of a text, and what its other parts have.
+abbrev Parted : List ℕ → Type 0
+Parted bs = (parts : List (List ℕ)) × (slice_split is_separator bs ≡ take (prefix_len is_visible bs) bs ∷ parts)
+    × (filter is_nonempty parts ≡ line_words (drop (prefix_len is_visible bs) bs))
+
+parted : (bs : List ℕ) → is_line_text bs ≡ true → Parted bs
+parted [] text = ([], refl, refl)
+parted (b ∷ bs) text = by (is_visible b) (is_separator b) refl refl text (parted bs)
+  where
+    by : (v s : Bool) → is_visible b ≡ v → is_separator b ≡ s → ((s || v) && is_line_text bs) ≡ true → (is_line_text bs ≡ true → Parted bs) → Parted (b ∷ bs)
+    by true true e f h rest = absurd (false≢true (sym (visible-apart b e) ∙ f))
+    by true false e f h rest =
+        let r = rest h in
+        (r.0, rw (e, f, r.1, one-more (prefix_len is_visible bs)) refl, rw (e, one-more (prefix_len is_visible bs)) r.2)
+    by false true e f h rest = (slice_split is_separator bs, rw (e, f) refl, rw (e, f) refl)
+    by false false e f h rest = absurd (false≢true h)
+
+-- a line that begins with a visible character begins with a word, and its other words stand behind that
+pub front-words : (bs : List ℕ) → is_line_text bs ≡ true → 0 < length (take (prefix_len is_visible bs) bs)
+    → line_words bs ≡ take (prefix_len is_visible bs) bs ∷ line_words (drop (prefix_len is_visible bs) bs)
+front-words bs text some =
+    let p = parted bs text in
+    ap (filter is_nonempty) p.1 ∙ by (take (prefix_len is_visible bs) bs) p.0 some ∙ ap (λ t. take (prefix_len is_visible bs) bs ∷ t) p.2
+  where
+    by : (word : List ℕ) (parts : List (List ℕ)) → 0 < length word → filter is_nonempty (word ∷ parts) ≡ word ∷ filter is_nonempty parts
+    by [] parts h = absurd (omega arith)
+    by (b ∷ word) parts h = refl

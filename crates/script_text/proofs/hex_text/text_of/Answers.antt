@@ -1,0 +1,20 @@
+use Rattle.std.proofs.Common.{◌≡◌, ◌*◌, length, take, ap, ◌∙◌}
+use Rattle.std.specs.List.{flat_map}
+use Rattle.std.proofs.lemmas.Str.{IsUtf8-from_ascii}
+use Rattle.std.proofs.lemmas.Result.{MatchResult-at_ok}
+use Rattle.script_text.specs.HexText.{hex_pair}
+use Rattle.script_text.proofs.HexTextLemmas.{pairs-take, pairs-ascii, read-text}
+use Rattle.script_text.proofs.hex_text.text_of.Goals as goal
+
+pub unwrap-requires : goal.unwrap-requires
+unwrap-requires c =
+    let chunk = c.args.chunk.now in
+    let shown : take (2 * length chunk) c.encode.new.digits ≡ flat_map hex_pair chunk =
+    ap (take (2 * length chunk)) c.encode.ensures ∙ pairs-take (length chunk) c.padded.result ∙ ap (flat_map hex_pair) c.padded.ensures in
+    read-text c.from_utf8.result _ _ _ c.from_utf8.ensures.cases (rw shown (IsUtf8-from_ascii _ (pairs-ascii chunk c.type_inv.chunk)))
+
+pub returns : goal.returns
+returns c =
+    let chunk = c.args.chunk.now in
+    (MatchResult-at_ok _ _ _ c.unwrap.ensures c.from_utf8.ensures.cases).0
+    ∙ ap (take (2 * length chunk)) c.encode.ensures ∙ pairs-take (length chunk) c.padded.result ∙ ap (flat_map hex_pair) c.padded.ensures
