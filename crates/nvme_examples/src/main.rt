@@ -1,25 +1,61 @@
-//! Runs each script of the folder that it is started in, and compares the transcript with the one that lies beside it.
+//! Runs each script that the file `examples` lists, in the folder that it is started in, and compares the transcript with
+//! the one that lies beside it.
 #![tactic(auto)]
 
 use nvme_script::run_program;
 use std::alloc::{AllocError, Global};
+use std::process::ExitCode;
 use std::rt::Files;
 use std::{fs, io};
 
-/// The names of the examples: the script is `NAME.nvme`, its transcript `NAME.out`.
-const EXAMPLES: [&str; 3] = ["first-steps", "refusals", "two-hosts"];
+/// The file with the names of the examples, one a line: the script is `NAME.nvme`, its transcript `NAME.out`.
+const LIST: &str = "examples";
 
-fn main(rt: HostRuntime) -> io::Result<()> {
-    for name in EXAMPLES {
-        let expected = fs::read(&rt, format!(in rt.alloc(); "{name}.out")?)?;
-        let transcript = transcript_of(&rt, name)?;
-        if transcript == expected {
-            println!(rt; "{name}: as expected")?;
-        } else {
-            println!(rt; "{name}: the transcript differs from {name}.out")?;
+fn main(rt: HostRuntime) -> io::Result<ExitCode> {
+    let names = fs::read_to_string(&rt, LIST)?;
+    let mut all_match = true;
+    for name in names.lines() {
+        let outcome = compare(&rt, name)?;
+        println!(rt; "{name}: {}", outcome.text())?;
+        all_match = all_match && outcome == Outcome::AsExpected;
+    }
+    Ok(if all_match {
+        ExitCode::SUCCESS
+    } else {
+        ExitCode::FAILURE
+    })
+}
+
+/// How a transcript compares with the one that is kept.
+#[derive(Clone, Copy, Debug, PartialEq, Eq)]
+enum Outcome {
+    AsExpected,
+    Differs,
+    NothingKept,
+}
+
+impl Outcome {
+    fn text(self) -> &'static str {
+        match self {
+            Outcome::AsExpected => "as expected",
+            Outcome::Differs => "the transcript differs from the one that is kept",
+            Outcome::NothingKept => "no transcript is kept",
         }
     }
-    Ok(())
+}
+
+/// Runs an example and compares its transcript.
+fn compare<R: Files + AllocGlobal>(rt: &R, name: &str) -> io::Result<Outcome> {
+    let path = format!(in rt.alloc(); "{name}.out")?;
+    if !fs::exists(rt, path.as_str())? {
+        return Ok(Outcome::NothingKept);
+    }
+    let kept = fs::read(rt, path.as_str())?;
+    if transcript_of(rt, name)? == kept {
+        Ok(Outcome::AsExpected)
+    } else {
+        Ok(Outcome::Differs)
+    }
 }
 
 /// What the program prints for an example, over a medium in memory: the transcript, and behind it what goes to standard

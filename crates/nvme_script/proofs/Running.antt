@@ -9,10 +9,11 @@ use Rattle.nvme_spec.specs.World.{World}
 use Rattle.nvme_spec.specs.Blocks.{Device}
 use Rattle.nvme_grammar.specs.declared.line.Direct.{Direct}
 use Rattle.nvme_script.specs.Direct.{Reply, Runs, Step}
-use Rattle.nvme_script.specs.Faults.{Transcribes, RunsSome}
+use Rattle.nvme_script.specs.Faults.{Transcribes, StopsAt}
+use Rattle.nvme_script.specs.Writing.{Cuts}
 use Rattle.nvme_script.specs.Transcript.{reply_line}
 
-Appends-more : (x y z : Option (List ℕ)) (p q : List ℕ) → Appends x y p → Appends y z q → Appends x z (p ++ q)
+pub Appends-more : (x y z : Option (List ℕ)) (p q : List ℕ) → Appends x y p → Appends y z q → Appends x z (p ++ q)
 Appends-more None y z p q h k = tt
 Appends-more (Some xs) None z p q h k = absurd h
 Appends-more (Some xs) (Some ys) None p q h k = absurd k
@@ -43,6 +44,15 @@ module _ (tells : Bool) (w : World) where
       flat_map-append reply_line h.0 (r ∷ []) ∙ ap (λ t. flat_map reply_line h.0 ++ t) (append-nil (reply_line r)) in
       rw (take_more ds i d below, ← is) (h.0 ++ r ∷ [], Runs-push (take i ds) h.0 a b c d r h.1 s, rw text (Appends-more x y z _ _ h.2 wrote))
 
-  pub RunsSome-next : (ds : List Direct) (i : ℕ) (d : Direct) (a b c : Device) (x y : Option (List ℕ)) (r : Reply) → i < length ds → d ≡ get_or ds i d → Transcribes tells w (take i ds) a b x y
-      → Step tells w d b c r → RunsSome tells w ds a c
-  RunsSome-next ds i d a b c x y r below is h s = (i, below, h.0 ++ r ∷ [], rw (take_more ds i d below, ← is) (Runs-push (take i ds) h.0 a b c d r h.1 s))
+  pub StopsAt-next : (ds : List Direct) (i : ℕ) (d : Direct) (a b c : Device) (x y z : Option (List ℕ)) (r : Reply) → i < length ds → d ≡ get_or ds i d → Transcribes tells w (take i ds) a b x y
+      → Step tells w d b c r → Cuts y z (reply_line r) → StopsAt tells w ds a c x z
+  StopsAt-next ds i d a b c x y z r below is h s cut = record {
+    index = i;
+    below = below;
+    told = h.0;
+    cut = r;
+    ran = rw (take_more ds i d below, ← is) (Runs-push (take i ds) h.0 a b c d r h.1 s);
+    bytes = cut.0;
+    part = cut.1;
+    wrote = Appends-more x y z _ _ h.2 cut.2;
+  }

@@ -1,5 +1,5 @@
 -- What a script's run gives, and what each fault says.
-use Rattle.std.specs.Prelude.{◌≡◌, ℕ, Bool, ◌+◌, ◌<◌, ◌≤◌, List, length, take, Option, None, Some, IfSome}
+use Rattle.std.specs.Prelude.{◌≡◌, ℕ, Bool, ◌+◌, ◌<◌, ◌≤◌, List, [], ◌∷◌, ◌++◌, length, take, Option, None, Some, IfSome}
 use Rattle.std.specs.Io.KnownBytes.{Appends}
 use Rattle.std.specs.List.{flat_map}
 use Rattle.nvme_spec.specs.Blocks.{Device}
@@ -36,9 +36,17 @@ commands_in text = commands_of (text_lines text)
 abbrev pub Transcribes : Bool → World → List Direct → Device → Device → Option (List ℕ) → Option (List ℕ) → Type 0
 Transcribes tells w ds old new before after = (replies : List Reply) × Runs tells w ds old new replies × Appends before after (flat_map reply_line replies)
 
--- the first commands ran, one at least
-abbrev pub RunsSome : Bool → World → List Direct → Device → Device → Type 0
-RunsSome tells w ds old new = (k : ℕ) × (k < length ds) × (replies : List Reply) × Runs tells w (take (k + 1) ds) old new replies
+-- The line of a command, and no other, was cut: the commands up to and including that one ran and no later one did; the
+-- lines before it were written, and of its own the first bytes, not all.
+pub record StopsAt (tells : Bool) (w : World) (ds : List Direct) (old new : Device) (before after : Option (List ℕ)) : Type 0 where
+  pub index : ℕ
+  pub below : index < length ds
+  pub told : List Reply
+  pub cut : Reply
+  pub ran : Runs tells w (take (index + 1) ds) old new (told ++ cut ∷ [])
+  pub bytes : ℕ
+  pub part : bytes < length (reply_line cut)
+  pub wrote : Appends before after (flat_map reply_line told ++ take bytes (reply_line cut))
 
 -- a text that is a script, whose configuration is accepted over a medium of so many blocks
 pub record IsScript (text : List ℕ) (medium_blocks : ℕ) : Type 0 where
@@ -73,10 +81,10 @@ IsEarlyFault NoMemory text medium_blocks = Unit {0}
 IsEarlyFault Read text medium_blocks = Unit {0}
 IsEarlyFault Write text medium_blocks = ⊥
 
--- what a fault says of the text, and of the medium before and after
-abbrev pub IsFault : Bool → ScriptFault → List ℕ → ℕ → Device → Device → Type 0
-IsFault tells Write text medium_blocks old new = IsScript text medium_blocks × RunsSome tells (world_of text) (commands_in text) old new
-IsFault tells fault text medium_blocks old new = IsEarlyFault fault text medium_blocks
+-- what a fault says of the text, of the medium before and after, and of what was written before and after
+abbrev pub IsFault : Bool → ScriptFault → List ℕ → ℕ → Device → Device → Option (List ℕ) → Option (List ℕ) → Type 0
+IsFault tells Write text medium_blocks old new before after = IsScript text medium_blocks × StopsAt tells (world_of text) (commands_in text) old new before after
+IsFault tells fault text medium_blocks old new before after = IsEarlyFault fault text medium_blocks
 
 abbrev pub IsWrite : ScriptFault → Type 0
 IsWrite Write = Unit {0}

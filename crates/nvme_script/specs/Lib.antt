@@ -5,5 +5,6 @@ pub use Rattle.nvme_spec.specs.Configuration
 pub use Rattle.nvme_grammar.specs.Script
 pub mod Direct
 pub mod Transcript
+pub mod Writing
 pub mod Faults
 pub mod Replies

@@ -6,6 +6,7 @@ mod program;
 mod reading;
 mod reply;
 mod run;
+mod writing;
 
 pub use program::run_program;
 pub use run::{ScriptFault, run_script};

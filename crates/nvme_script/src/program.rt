@@ -8,8 +8,7 @@ ghost use Rattle.nvme_script.specs.declared.program.Failure.TheVariants.{File as
 use crate::run::{ScriptFault, run_script};
 use clap::error::ErrorKind;
 use clap::{Arg, ArgAction, Command};
-use nvme_medium::MemMedium;
-use nvme_wire::NoMemory;
+use nvme_medium::{BLOCK, MemMedium};
 use std::alloc::{AllocError, Global};
 use std::fs::OpenOptions;
 use std::io::{BufWriter, Read, Seek, SeekFrom, Write};
@@ -18,7 +17,7 @@ use std::{fs, io};
 use thiserror::Error;
 
 /// How many bytes the medium in memory has where no image is named: 1,024 blocks.
-const SCRATCH_BYTES: usize = 1024 * 512;
+const SCRATCH_BYTES: usize = 1024 * BLOCK;
 
 /// Why the program ends with a status other than 0. Its text is what the program prints.
 #[derive(Clone, Copy, Debug, Error, PartialEq, Eq)]
@@ -64,14 +63,6 @@ impl From<AllocError> for Failure {
     ghost from_gives = { λ _ e. e ≡ MemoryRefused };
 
     fn from(_: AllocError) -> Failure {
-        Failure::Memory
-    }
-}
-
-impl From<NoMemory> for Failure {
-    ghost from_gives = { λ _ e. e ≡ MemoryRefused };
-
-    fn from(_: NoMemory) -> Failure {
         Failure::Memory
     }
 }
@@ -155,8 +146,9 @@ fn run_named<R: Files + AllocGlobal, I: Read, O: Write>(
     }
 }
 
-/// Runs a script over an image. The image is opened for reading and writing and read whole; its blocks are written back
-/// where the script ran, also where its transcript could not be written. What stands behind its last whole block stays.
+/// Runs a script over an image, a regular file, which is opened for reading and writing and read whole. Its blocks are
+/// written back where the script ran, also where its transcript could not be written. What stands behind its last whole
+/// block stays.
 fn run_image<R: Files + AllocGlobal, I: Read, O: Write>(
     rt: &R,
     image: &str,
@@ -164,8 +156,9 @@ fn run_image<R: Files + AllocGlobal, I: Read, O: Write>(
     input: &mut I,
     output: &mut O,
 ) -> Result<(), Failure> {
+    let bytes = image_bytes(rt, image)?;
     let mut file = OpenOptions::new().read(true).write(true).open(rt, image)?;
-    let medium = read_image(rt.alloc(), &mut file)?;
+    let medium = read_image(rt.alloc(), &mut file, bytes)?;
     let ran = run_named(rt, script, input, output, medium)?;
     if matches!(ran.outcome, Ok(()) | Err(ScriptFault::Write)) {
         file.seek(SeekFrom::Start(0))?;
@@ -174,11 +167,22 @@ fn run_image<R: Files + AllocGlobal, I: Read, O: Write>(
     Ok(ran.outcome.map_err(Failure::Script)?)
 }
 
-/// The blocks of an image.
-fn read_image<F: Read>(alloc: Global, file: &mut F) -> Result<MemMedium, Failure> {
-    let mut bytes = Vec::new(alloc);
-    file.read_to_end(&mut bytes)?;
-    Ok(MemMedium::new(alloc, bytes.as_slice())?)
+/// How many bytes the whole blocks of an image have. What is no regular file, once its links are followed, is no image:
+/// to open a pipe or a device may wait, or do something.
+fn image_bytes<R: Files>(rt: &R, image: &str) -> Result<usize, Failure> {
+    let metadata = fs::metadata(rt, image)?;
+    if !metadata.is_file() {
+        return Err(Failure::File);
+    }
+    let bytes = metadata.len();
+    usize::try_from(bytes - bytes % BLOCK as u64).map_err(|_| Failure::Memory)
+}
+
+/// The first bytes of an image, read into the medium's own memory. An image that became shorter can't be read.
+fn read_image<F: Read>(alloc: Global, file: &mut F, bytes: usize) -> Result<MemMedium, Failure> {
+    let mut blocks = vec![in alloc; 0; bytes]?;
+    file.read_exact(blocks.as_mut_slice())?;
+    Ok(MemMedium::of(blocks))
 }
 
 /// Runs a script over zeros in memory.
@@ -188,8 +192,7 @@ fn run_scratch<R: Files + AllocGlobal, I: Read, O: Write>(
     input: &mut I,
     output: &mut O,
 ) -> Result<(), Failure> {
-    let zeros = vec![in rt.alloc(); 0; SCRATCH_BYTES]?;
-    let medium = MemMedium::new(rt.alloc(), zeros.as_slice())?;
+    let medium = MemMedium::of(vec![in rt.alloc(); 0; SCRATCH_BYTES]?);
     let ran = run_named(rt, script, input, output, medium)?;
     Ok(ran.outcome.map_err(Failure::Script)?)
 }

@@ -4,12 +4,13 @@ ghost use Rattle.std.specs.Prelude.{◌≡◌, ◌≤◌, ◌⊎◌, IfOk, IfErr
 ghost use Rattle.std.specs.List.{AllByRecursion};
 ghost use Rattle.nvme_spec.specs.World.{LiesWithin};
 ghost use Rattle.nvme_grammar.specs.Transfers.{IsTransfer};
-ghost use Rattle.nvme_script.specs.Faults.{IsScript, IsReady, Transcribes, RunsSome, IsEarlyFault, IsFault, IsWrite, world_of, commands_in, of_reading, of_grammar};
+ghost use Rattle.nvme_script.specs.Faults.{IsScript, IsReady, Transcribes, StopsAt, IsEarlyFault, IsFault, IsWrite, world_of, commands_in, of_reading, of_grammar};
 ghost use Rattle.nvme_script.specs.declared.run.ScriptFault.TheVariants.{NoMemory as MemoryRefused};
 
 use crate::direct::execute;
 use crate::reading::{ReadFault, read_text};
 use crate::reply::Reply;
+use crate::writing::{LONGEST_LINE, write_line};
 use nvme_grammar::{Direct, ParseFault, parse};
 use nvme_medium::Medium;
 use nvme_ns::Spaces;
@@ -76,13 +77,33 @@ impl From<AllocError> for ScriptFault {
     }
 }
 
+/// The memory that commands work in.
+#[derive(Drop)]
+struct Room {
+    /// The data of one command.
+    data: Vec<u8>,
+    /// One line of the transcript.
+    line: String,
+}
+
+impl Room {
+    /// Room for the largest command and the longest line.
+    fn new(alloc: Global) -> Result<Room, AllocError>
+        ensures { IfOk result (λ room. vec_len room.data ≡ 131072) }
+    {
+        Ok(Room {
+            data: vec![in alloc; 0; LARGEST_TRANSFER]?,
+            line: String::with_capacity(alloc, LONGEST_LINE)?,
+        })
+    }
+}
+
 /// All that a script needs before its first command: no memory is taken after it.
 #[derive(Drop)]
 struct Ready {
     spaces: Spaces,
     commands: Vec<Direct>,
-    /// Room for the data of one command.
-    buffer: Vec<u8>,
+    room: Room,
 }
 
 /// Reads a script and opens its configuration over a medium of so many blocks.
@@ -90,7 +111,7 @@ fn prepare<R: Read>(alloc: Global, reader: &mut R, medium_blocks: u64) -> Result
     ensures ready { IfOk result (λ ready. IfSome (R.remaining reader.old) (λ text. IsReady text medium_blocks ready.spaces ready.commands.items)) }
     ensures transfers { IfOk result (λ ready. AllByRecursion IsTransfer ready.commands.items) }
     ensures within { IfOk result (λ ready. LiesWithin medium_blocks ready.spaces.namespaces) }
-    ensures room { IfOk result (λ ready. vec_len ready.buffer ≡ 131072) }
+    ensures room { IfOk result (λ ready. vec_len ready.room.data ≡ 131072) }
     ensures fault { IfErr result (λ fault. IfSome (R.remaining reader.old) (λ text. IsEarlyFault fault text medium_blocks)) }
     ensures early { IfErr result (λ fault. ¬ IsWrite fault) }
 {
@@ -100,19 +121,20 @@ fn prepare<R: Read>(alloc: Global, reader: &mut R, medium_blocks: u64) -> Result
         Ok(spaces) => spaces,
         Err(fault) => return Err(ScriptFault::Config(script.start.unwrap_or(0), fault)),
     };
-    let buffer = vec![in alloc; 0; LARGEST_TRANSFER]?;
+    let room = Room::new(alloc)?;
     Ok(Ready {
         spaces,
         commands: script.commands,
-        buffer,
+        room,
     })
 }
 
-/// Runs commands in their order, and writes a line for each. It takes no memory.
+/// Runs commands in their order, and writes the line of each before the next one. The line has room in what is lent.
 fn run_commands<W: Write, M: Medium>(
     spaces: &Spaces,
     commands: &[Direct],
     buffer: &mut [u8],
+    line: &mut String,
     writer: &mut W,
     medium: &mut M,
 ) -> io::Result<()>
@@ -120,7 +142,7 @@ fn run_commands<W: Write, M: Medium>(
     requires room { length buffer.old ≡ 131072 }
     requires within { LiesWithin (M.size medium.old) spaces.now.namespaces }
     ensures ok { OnOk result (Transcribes M.tells spaces.now commands.now (M.device medium.old) (M.device medium.new) (W.contents writer.old) (W.contents writer.new)) }
-    ensures err { OnErr result (RunsSome M.tells spaces.now commands.now (M.device medium.old) (M.device medium.new)) }
+    ensures err { OnErr result (StopsAt M.tells spaces.now commands.now (M.device medium.old) (M.device medium.new) (W.contents writer.old) (W.contents writer.new)) }
 {
     for command in commands {
         let data = &mut buffer[..512 * command.place.blocks as usize];
@@ -131,7 +153,7 @@ fn run_commands<W: Write, M: Medium>(
             rule: answer.rule,
             bytes: answer.data(data),
         };
-        writeln!(writer, "{reply}")?;
+        write_line(writer, line, &reply)?;
     }
     Ok(())
 }
@@ -142,8 +164,8 @@ fn run_commands<W: Write, M: Medium>(
 /// A text that tells its bytes is answered exactly as the definitions say. Faults are found in the order reading
 /// (`Read`, `TooLong`), grammar (`Syntax`), configuration (`Config`), writing (`Write`). `NoMemory` may come at any
 /// point before the first command, and never later. After all but `Write` nothing was written and the medium is as it
-/// was; after `Write` the commands up to and including the one whose line could not be written were carried out, and
-/// how much of the text went out is not said.
+/// was; after `Write` exactly the commands up to and including the one whose line could not be written were carried out,
+/// the lines before that one were written whole, and of its own line not all.
 pub fn run_script<R: Read, W: Write, M: Medium>(
     alloc: Global,
     reader: &mut R,
@@ -155,7 +177,7 @@ pub fn run_script<R: Read, W: Write, M: Medium>(
         × Transcribes M.tells (world_of text) (commands_in text) (M.device medium) (M.device after) (W.contents writer.old) (W.contents writer.new))) }
     // What each fault says.
     ensures fault { IfErr result (λ e. IfSome (R.remaining reader.old) (λ text.
-        IsFault M.tells e.0 text (M.size medium) (M.device medium) (M.device e.1))) }
+        IsFault M.tells e.0 text (M.size medium) (M.device medium) (M.device e.1) (W.contents writer.old) (W.contents writer.new))) }
     // Each fault but one of the writer comes before the first command.
     ensures early { IfErr result (λ e. IsWrite e.0 ⊎ ((e.1 ≡ medium) × (writer.new ≡ writer.old))) }
 {
@@ -167,7 +189,8 @@ pub fn run_script<R: Read, W: Write, M: Medium>(
     let outcome = run_commands(
         &ready.spaces,
         ready.commands.as_slice(),
-        &mut ready.buffer,
+        &mut ready.room.data,
+        &mut ready.room.line,
         writer,
         &mut medium,
     );

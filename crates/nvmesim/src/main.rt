@@ -2,9 +2,14 @@
 #![tactic(auto)]
 
 use nvme_script::run_program;
+use std::fs::{File, OpenOptions};
+use std::os::fd::AsFd;
 use std::process::ExitCode;
 use std::rt::Env;
 use std::{env, io};
+
+/// The exit status for a stream that could not be held.
+const FILE_FAULT: u8 = 2;
 
 /// The exit status for a refused command line.
 const BAD_COMMAND_LINE: u8 = 3;
@@ -13,6 +18,14 @@ const BAD_COMMAND_LINE: u8 = 3;
 const OUT_OF_MEMORY: u8 = 4;
 
 fn main(rt: HostRuntime) -> io::Result<ExitCode> {
+    // In this order: what is opened gets the lowest number that is free.
+    let (Ok(_input), Ok(_output), Ok(_errors)) = (
+        held(&rt, &rt.stdin()),
+        held(&rt, &rt.stdout()),
+        held(&rt, &rt.stderr()),
+    ) else {
+        return Ok(ExitCode::from(FILE_FAULT));
+    };
     let words = match words_of(&rt) {
         Ok(words) => words,
         Err(error) => return Ok(refused(&rt, error.kind())),
@@ -25,6 +38,20 @@ fn main(rt: HostRuntime) -> io::Result<ExitCode> {
         &mut rt.stderr(),
     );
     Ok(ExitCode::from(status))
+}
+
+/// Holds the number of a standard stream that the program was started without: until what is given here is dropped it
+/// is `/dev/null`, so that no file which is opened later can become that stream.
+fn held<S: AsFd>(rt: &HostRuntime, stream: &S) -> io::Result<Option<File>> {
+    match stream.as_fd().try_clone_to_owned() {
+        Ok(_) => Ok(None),
+        Err(_) => Ok(Some(
+            OpenOptions::new()
+                .read(true)
+                .write(true)
+                .open(rt, "/dev/null")?,
+        )),
+    }
 }
 
 /// The words of the command line, the first of which is the program's name. They are pushed one by one, since a

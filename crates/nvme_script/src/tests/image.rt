@@ -106,8 +106,10 @@ fn leaves_the_image_where_the_script_cannot_be_read(rt: HostRuntime) -> Result<(
 
 #[test]
 fn faults_of_files_come_first(rt: HostRuntime) -> Result<(), Fail> {
-    let faults: [&[&str]; 7] = [
+    let faults: [&[&str]; 9] = [
         &["no-such-image"],
+        &["/dev/zero"],
+        &["/dev/null", "no-such-script"],
         &["no-such-image", "no-such-script"],
         &[""],
         &["."],
