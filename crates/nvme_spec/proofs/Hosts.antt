@@ -87,7 +87,7 @@ room ks xs host r a h few =
 
 -- Actions bring no other host in.
 
-keeps-if : (P : Reservation → Type 0) (b : Bool) (x y : Outcome) → Keeps x P → Keeps y P → Keeps (if b then x else y) P
+pub keeps-if : (P : Reservation → Type 0) (b : Bool) (x y : Outcome) → Keeps x P → Keeps y P → Keeps (if b then x else y) P
 keeps-if P true x y h k = h
 keeps-if P false x y h k = k
 

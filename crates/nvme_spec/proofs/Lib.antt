@@ -22,3 +22,7 @@ pub mod QueueChanges
 pub mod StatusLaws
 pub mod Judgements
 pub mod AdminLaws
+pub mod SoundReservations
+pub mod SoundWorlds
+pub mod SoundAttachments
+pub mod SoundOpenings

@@ -32,6 +32,7 @@ pub record HasPassed (w : World) (k : ℕ) (e : List ℕ) (command : Command) : 
   pub attached : (is_some (namespace_of w (nsid e)) && is_attached w k (nsid e)) ≡ true
   pub permitted : ((is_one_of (Some command) readers && not (permits_group (namespace_of w (nsid e)) (host_of w k) Reading))
       || (is_one_of (Some command) writers && not (permits_group (namespace_of w (nsid e)) (host_of w k) Writing))) ≡ false
+  pub fields : judgement_by (field_rule (Some command) e) ≡ Ok tt
   pub fits : (is_one_of (Some command) ranged && not (has_blocks_below (namespace_of w (nsid e)) (starting_lba e + block_count e))) ≡ false
 
 pub record IsPlanned (j : Judgement) (command : Option Command) (plan : Plan) : Type 0 where
@@ -68,6 +69,7 @@ passes w k e marked window command h named =
       attached = not_false _ (passed 5 _ _ f.0);
       permitted = ap (λ o. (is_one_of o readers && not (permits_group (namespace_of w (nsid e)) (host_of w k) Reading))
           || (is_one_of o writers && not (permits_group (namespace_of w (nsid e)) (host_of w k) Writing))) (sym named) ∙ passed 7 _ _ i.0;
+      fields = ap (λ o. judgement_by (field_rule o e)) (sym named) ∙ g.0;
       fits = ap (λ o. is_one_of o ranged && not (has_blocks_below (namespace_of w (nsid e)) (starting_lba e + block_count e))) (sym named)
           ∙ passed 9 _ _ l.0;
     }

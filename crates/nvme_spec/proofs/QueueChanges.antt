@@ -20,15 +20,15 @@ use Rattle.nvme_spec.specs.QueueChanges.{IsIoQueue, Suits, AdminChangesSuit}
 use Rattle.nvme_spec.proofs.Passing.{both, not_false}
 
 -- a rule that passes: no test of its fails
-no-failure : (number : ℕ) (o : Option Status) → denial_by number o ≡ Ok tt → o ≡ None
+pub no-failure : (number : ℕ) (o : Option Status) → denial_by number o ≡ Ok tt → o ≡ None
 no-failure number None h = refl
 no-failure number (Some why) h = absurd (cc)
 
-next-test : (b : Bool) (why : Status) (rest : List Test) → first_failure (test b why ∷ rest) ≡ None → (b ≡ false) × (first_failure rest ≡ None)
+pub next-test : (b : Bool) (why : Status) (rest : List Test) → first_failure (test b why ∷ rest) ≡ None → (b ≡ false) × (first_failure rest ≡ None)
 next-test true why rest h = absurd (cc)
 next-test false why rest h = (refl, h)
 
-neither : (a b : Bool) → (a || b) ≡ false → (a ≡ false) × (b ≡ false)
+pub neither : (a b : Bool) → (a || b) ≡ false → (a ≡ false) × (b ≡ false)
 neither true b h = absurd (cc)
 neither false b h = (refl, h)
 
@@ -40,7 +40,7 @@ io-queue n h =
     let two = neither (n == 0) _ h in
     (above n two.0, ltb-false _ _ two.1)
 
-field-passes : (w : World) (queues : Queues) (k : ℕ) (e window : List ℕ) (command : AdminCommand) → admin_judgement w queues k e window ≡ Ok tt → command_of (opcode e) ≡ Some command
+pub field-passes : (w : World) (queues : Queues) (k : ℕ) (e window : List ℕ) (command : AdminCommand) → admin_judgement w queues k e window ≡ Ok tt → command_of (opcode e) ≡ Some command
     → judgement_by (field_rule (Some command) queues (namespace_of w (nsid e)) e) ≡ Ok tt
 unfolding admin_judgement
 field-passes w queues k e window command h named =

@@ -98,7 +98,7 @@ taken-held xs host type h =
     ]
 
 -- what is left of a hold
-remaining_hold-held : (hold : Hold) (xs : List Registrant) → IsHoldOf (remaining_hold hold xs) xs
+pub remaining_hold-held : (hold : Hold) (xs : List Registrant) → IsHoldOf (remaining_hold hold xs) xs
 remaining_hold-held Free xs = tt
 remaining_hold-held (One type holder) xs =
     elim (is_registered xs holder) as (λ b. is_registered xs holder ≡ b → IsHoldOf (if b then One type holder else Free) xs) [

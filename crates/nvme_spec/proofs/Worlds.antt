@@ -24,7 +24,7 @@ pub of_named : (P : Namespace → Type 0) (w : World) (nsid : ℕ) (n : Namespac
 unfolding namespace_of
 of_named P w nsid n h e = found P (λ m. m.nsid == nsid) w.namespaces n h e
 
-changed-all : (P : Namespace → Type 0) (change : Namespace → Namespace) (nsid : ℕ) (ns : List Namespace) → ((n : Namespace) → P n → P (change n)) → AllByRecursion P ns → AllByRecursion P (with_namespace change nsid ns)
+pub changed-all : (P : Namespace → Type 0) (change : Namespace → Namespace) (nsid : ℕ) (ns : List Namespace) → ((n : Namespace) → P n → P (change n)) → AllByRecursion P ns → AllByRecursion P (with_namespace change nsid ns)
 changed-all P change nsid [] f h = tt
 changed-all P change nsid (n ∷ ns) f h =
     elim (n.nsid == nsid) as (λ b. AllByRecursion P (if b then change n ∷ ns else n ∷ with_namespace change nsid ns)) [

@@ -41,5 +41,6 @@ pub mod AdminEffects
 pub mod QueueChanges
 pub mod StatusLaws
 pub mod AdminLaws
+pub mod Sound
 pub mod AdminExamples
 pub mod ClusterExamples

@@ -1,6 +1,7 @@
 //! What follows from the definition of an execution.
 
 ghost use Rattle.nvme_spec.specs.Layout.{OpeningIsLaidOut};
+ghost use Rattle.nvme_spec.specs.Sound.{OpeningIsSound, ExecutionKeepsItSound, AdminExecutionKeepsItSound};
 ghost use Rattle.nvme_spec.specs.StatusLaws.{ExecutionFits, AdminExecutionFits};
 ghost use Rattle.nvme_spec.specs.ExecutionLaws.{FailuresNeverFall, FaultFreeExecutes, ExecutesAlone, ExecutionKeepsTheRest, OnlyAllowedWritesWrite, OnlyAllowedActionsReserve, FencedCommandsWriteNothing, LayoutStays};
 
@@ -33,4 +34,12 @@ fn fenced()
 fn answered()
     ensures io { ExecutionFits }
     ensures admin { AdminExecutionFits }
+{}
+
+/// A world opens well formed, and every command keeps it so.
+#[tactic(auto, using(crate::proofs::SoundOpenings::opening_is_sound, crate::proofs::SoundWorlds::execution_keeps_it_sound, crate::proofs::SoundAttachments::admin_execution_keeps_it_sound))]
+fn sound()
+    ensures opening { OpeningIsSound }
+    ensures io { ExecutionKeepsItSound }
+    ensures admin { AdminExecutionKeepsItSound }
 {}
