@@ -4,6 +4,7 @@ pub use Rattle.nvme_spec.specs.Effects
 pub use Rattle.nvme_spec.specs.Configuration
 pub use Rattle.nvme_grammar.specs.Script
 pub mod Direct
+pub mod RunLaws
 pub mod Transcript
 pub mod Writing
 pub mod Faults

@@ -2,6 +2,7 @@
 #![tactic(auto)]
 
 mod direct;
+mod laws;
 mod program;
 mod reading;
 mod reply;
