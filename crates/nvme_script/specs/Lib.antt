@@ -9,3 +9,4 @@ pub mod Transcript
 pub mod Writing
 pub mod Faults
 pub mod Replies
+pub mod Statuses

@@ -4,6 +4,7 @@ ghost use Rattle.std.specs.Prelude.{◌≡◌, ◌≢◌, ◌≤◌};
 ghost use Rattle.std.specs.IoError.{error_kind};
 ghost use Rattle.std.specs.declared.io.ErrorKind.TheVariants.{OutOfMemory};
 ghost use Rattle.nvme_script.specs.declared.program.Failure.TheVariants.{File as FileFault, Memory as MemoryRefused};
+ghost use Rattle.nvme_script.specs.Statuses.{exit_status};
 
 use crate::run::{ScriptFault, run_script};
 use clap::error::ErrorKind;
@@ -35,7 +36,8 @@ enum Failure {
 impl Failure {
     /// The exit status.
     fn status(self) -> u8
-        ensures { result ≤ 4 }
+        ensures table { result ≡ exit_status self }
+        ensures last { result ≤ 4 }
     {
         match self {
             Failure::Script(
