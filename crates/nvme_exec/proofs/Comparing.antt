@@ -1,29 +1,8 @@
 -- Blocks that are compared, one after the other.
-use Rattle.std.proofs.Common.{◌≡◌, ℕ, ◌+◌, ◌*◌, ◌≤◌, ◌<◌, Bool, true, false, not, List, ◌++◌, length, take, rules, arith, refl, sym, ap, ◌∙◌}
-use Rattle.std.specs.Str.{bytes_eq}
+use Rattle.std.proofs.Common.{◌≡◌, ℕ, ◌+◌, ◌*◌, ◌≤◌, ◌<◌, List, ◌++◌, length, take, rules, arith, refl, sym, ap, ◌∙◌}
 use Rattle.std.proofs.lemmas.List.{same_lists, places}
-use Rattle.std.proofs.lemmas.Slice.Eq.{bytes_eq-Decides}
 use Rattle.nvme_spec.specs.Blocks.{block_at, blocks_from}
 use Rattle.nvme_spec.proofs.Splices.{blocks_from-more}
-
-not-true : (b : Bool) → not b ≡ true → b ≡ false
-not-true true h = absurd (cc)
-not-true false h = refl
-
-not-false : (b : Bool) → not b ≡ false → b ≡ true
-not-false true h = refl
-not-false false h = absurd (cc)
-
--- the test found no difference
-pub equal : (r : Bool) (xs ys : List ℕ) → r ≡ not (bytes_eq xs ys) → r ≡ false → xs ≡ ys
-equal r xs ys is passed = (bytes_eq-Decides xs ys).0 (not-false (bytes_eq xs ys) (sym is ∙ passed))
-
--- the test found a difference
-pub differ : (r : Bool) (xs ys : List ℕ) → r ≡ not (bytes_eq xs ys) → r ≡ true → xs ≡ ys → ⊥
-differ r xs ys is failed same =
-    let one : bytes_eq xs ys ≡ false = not-true (bytes_eq xs ys) (sym is ∙ failed) in
-    let other : bytes_eq xs ys ≡ true = (bytes_eq-Decides xs ys).1 same in
-    absurd (cc)
 
 front-and-block : (bytes : List ℕ) (j : ℕ) → 512 * (j + 1) ≤ length bytes → take (512 * (j + 1)) bytes ≡ take (512 * j) bytes ++ block_at bytes j
 front-and-block bytes j fits = same_lists _ _ (search (rules, places)) (λ k d h. grind (arith, places))

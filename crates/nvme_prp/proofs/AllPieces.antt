@@ -1,7 +1,7 @@
 -- How a whole transfer is gathered and scattered, one piece after another.
-use Rattle.std.proofs.Common.{◌≡◌, ℕ, ◌+◌, ◌-◌, ◌<◌, ◌≤◌, List, [], ◌++◌, length, take, drop, get_or, refl, sym, ap, subst, ◌∙◌, arith, length-append, length-drop}
-use Rattle.std.specs.Prelude.{slice_range, slice_index}
-use Rattle.std.proofs.lemmas.List.{map-append, drop_more, drop_all, take_all, drop-drop, length-take-le, append-nil, append_assoc, take_at}
+use Rattle.std.proofs.Common.{◌≡◌, ℕ, ◌+◌, ◌-◌, ◌<◌, ◌≤◌, min, rules, List, [], ◌++◌, length, take, drop, get_or, refl, sym, ap, subst, ◌∙◌, arith, length-append, length-drop}
+use Rattle.std.specs.Prelude.{slice_range, slice_index, replicate}
+use Rattle.std.proofs.lemmas.List.{same_lists, places, length-replicate, map-append, drop_more, drop_all, take_all, drop-drop, length-take-le, append-nil, append_assoc, take_at}
 use Rattle.std.proofs.lemmas.List.FromFn.{length-range_with_len}
 use borrow.Rule.Slice.PartMut.{put_mid}
 use Rattle.nvme_spec.specs.declared.pointer.Piece.{Piece}
@@ -114,3 +114,25 @@ scattering-fits old ps xs i with_bytes w bytes d e g h =
 pub piece-fits : (ps xs : List Piece) (i : ℕ) (d : Piece) → xs ≡ ps → ArePages ps → i < length xs → (get_or xs i d).address + (get_or xs i d).len ≤ 4194304
 piece-fits ps xs i d e pages h =
     subst (λ ys. (get_or ys i d).address + (get_or ys i d).len ≤ 4194304) (sym e) (front-fits ps i d pages (omega (arith, ap length e)))
+
+-- so many bytes, and zeros up to the end of the transfer
+abbrev pub padded : List ℕ → List ℕ → List ℕ
+padded front at = front ++ replicate (length at - length front) 0
+
+pub length-padded : (front at : List ℕ) → length front ≤ length at → length (padded front at) ≡ length at
+length-padded front at fits = omega (arith, length-append front (replicate (length at - length front) 0), length-replicate {A = ℕ} (length at - length front) 0)
+
+pub padded-part : (front at : List ℕ) (s n : ℕ) → length front ≤ length at → s + n ≤ length at
+    → take n (drop s (padded front at))
+    ≡ slice_range front (min s (length front)) (min (s + n) (length front))
+    ++ replicate (n - length (slice_range front (min s (length front)) (min (s + n) (length front)))) 0
+padded-part front at s n fits within = same_lists _ _ (search (rules, places)) (λ k d h. grind (arith, places))
+
+-- the part that a piece takes of it
+pub padded-turn : (front at part : List ℕ) (s n a b m : ℕ) → length front ≤ length at → s + n ≤ length at → a ≡ min s (length front) → b ≡ min (s + n) (length front)
+    → m ≡ n → part ≡ slice_range front a b ++ replicate (m - length (slice_range front a b)) 0 → part ≡ take n (drop s (padded front at))
+padded-turn front at part s n a b m fits within from to width is =
+    is ∙ ap (λ k. slice_range front a b ++ replicate (k - length (slice_range front a b)) 0) width
+    ∙ ap (λ k. slice_range front k b ++ replicate (n - length (slice_range front k b)) 0) from
+    ∙ ap (λ k. slice_range front (min s (length front)) k ++ replicate (n - length (slice_range front (min s (length front)) k)) 0) to
+    ∙ sym (padded-part front at s n fits within)

@@ -3,3 +3,4 @@ pub mod Judged
 pub mod PageBlocks
 pub mod AllPieces
 pub mod Placing
+pub mod BlockPlaces

@@ -141,8 +141,8 @@ lies-far p later at h far enough =
     let left : skip + 512 ≤ length (addresses (drop i later)) = (let e = ap length (drop-pages i later both.0 both.1) in omega arith) in
     record {
       index = omega arith;
-      skip_fits = λ d. subst (λ q. skip ≤ q.len) (get_or-drop i later 0 d ∙ ap (λ n. get_or later n d) (omega arith))
-          (front-room d (drop i later) skip (drop-are_pages i later both.0) (drop-starts i later both.0 both.1) (omega (arith, length-drop i later)) (omega arith) (omega arith));
+      skip_fits = λ d. subst (λ q. skip < q.len) (get_or-drop i later 0 d ∙ ap (λ n. get_or later n d) (omega arith))
+          (front-room d (drop i later) (suc skip) (drop-are_pages i later both.0) (drop-starts i later both.0 both.1) (omega (arith, length-drop i later)) (omega arith) (omega arith));
       same = same;
     }
 
@@ -158,7 +158,7 @@ block-at ps j i skip n d h a n-is enough =
     let next : get_or (drop (i + 1) ps) 0 d ≡ get_or ps (i + 1) d = get_or-drop (i + 1) ps 0 d ∙ ap (λ k. get_or ps k d) (omega arith) in
     ap (λ k. take k (drop (512 * j) (addresses ps))) width
     ∙ ap (take 512) (a.same ∙ ap (λ xs. drop skip (addresses xs)) split)
-    ∙ block-split (get_or ps i d) d (drop (i + 1) ps) skip n pages (a.skip_fits d) n-is (omega arith)
+    ∙ block-split (get_or ps i d) d (drop (i + 1) ps) skip n pages (let f = a.skip_fits d in omega arith) n-is (omega arith)
     ∙ ap (λ q. range_with_len ((get_or ps i d).address + skip) n ++ range_with_len q.address (512 - n)) next
 
 -- the part in piece i lies in the window
@@ -210,7 +210,7 @@ lies-behind (p ∷ later) xs d at e h far enough =
 -- What the code needs of the piece in which block j begins.
 pub record Begins (xs : List Piece) (i skip : ℕ) (d : Piece) : Type 0 where
   pub index : i < length xs
-  pub skip_fits : skip ≤ (get_or xs i d).len
+  pub skip_fits : skip < (get_or xs i d).len
   pub inside : (get_or xs i d).address + (get_or xs i d).len ≤ 4194304
 
 pub begins : (ps xs : List Piece) (at i skip : ℕ) (d : Piece) → xs ≡ ps → ArePages ps → LiesAt ps at i skip → Begins xs i skip d

@@ -6,3 +6,4 @@ pub use Rattle.nvme_spec.specs.DataRules
 pub mod Walk
 pub mod Places
 pub mod Pages
+pub mod BlockPlaces

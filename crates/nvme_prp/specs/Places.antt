@@ -1,11 +1,11 @@
 -- Where a byte lies among the pieces of a transfer.
-use Rattle.std.specs.Prelude.{ℕ, ◌≡◌, ◌<◌, ◌≤◌, List, length, drop}
+use Rattle.std.specs.Prelude.{ℕ, ◌≡◌, ◌<◌, List, length, drop}
 use Rattle.std.specs.List.{slice_index_or}
 use Rattle.nvme_spec.specs.declared.pointer.Piece.{Piece}
 use Rattle.nvme_spec.specs.Transfers.{addresses}
 
--- Byte `at` lies so many bytes behind the front of piece i.
+-- Byte `at` lies in piece i, so many bytes behind its front.
 pub record LiesAt (ps : List Piece) (at i skip : ℕ) : Type 0 where
   pub index : i < length ps
-  pub skip_fits : (d : Piece) → skip ≤ (slice_index_or ps i d).len
+  pub skip_fits : (d : Piece) → skip < (slice_index_or ps i d).len
   pub same : drop at (addresses ps) ≡ drop skip (addresses (drop i ps))

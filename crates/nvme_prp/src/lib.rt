@@ -6,11 +6,11 @@ mod data;
 mod walking;
 mod whole;
 
-pub use block::{gather_block, scatter_block};
+pub use block::{BlockPlace, gather_block, lend_block, scatter_block};
 pub use data::locate;
 pub use nvme_spec::{DataFault, Piece};
 pub use walking::{Pieces, walk};
-pub use whole::{gather, scatter};
+pub use whole::{gather, scatter, scatter_padded};
 
 #[cfg(test)]
 mod tests;

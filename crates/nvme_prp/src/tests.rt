@@ -1,4 +1,6 @@
-use crate::{DataFault, Piece, gather, gather_block, scatter, scatter_block, walk};
+use crate::{
+    BlockPlace, DataFault, Piece, gather, gather_block, lend_block, scatter, scatter_block, walk,
+};
 use nvme_mem::Window;
 use std::test::Fail;
 
@@ -135,5 +137,21 @@ fn a_record_in_two_pages(rt: HostRuntime) -> Result<(), Fail> {
     let mut bytes = [0; 16];
     gather(&window, &pieces, &mut bytes);
     assert_eq!(rt; bytes, record);
+    Ok(())
+}
+
+/// The first page has 508 bytes of the block, and the page behind it the others.
+#[test]
+fn places_of_blocks(rt: HostRuntime) -> Result<(), Fail> {
+    let mut window = Window::new(rt.alloc())?;
+    let two = walk(&window, 0x5e04, 0x6000, 512)?;
+    assert_eq!(rt; two.block(0), BlockPlace::Two(0x5e04, 508, 0x6000));
+    let one = walk(&window, 0x5000, 0, 1024)?;
+    assert_eq!(rt; one.block(1), BlockPlace::One(0x5200));
+    window.store(0x5fff, &[1, 2])?;
+    let mut buffer = [0; 512];
+    let block = lend_block(&window, &two, 0, &mut buffer);
+    assert_eq!(rt; block[507], 1);
+    assert_eq!(rt; block[508], 2);
     Ok(())
 }

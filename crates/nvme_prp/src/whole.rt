@@ -1,4 +1,6 @@
-ghost use Rattle.std.specs.Prelude.{◌≡◌, ◌+◌, ◌≤◌, length};
+//! Whole transfers, gathered and scattered.
+
+ghost use Rattle.std.specs.Prelude.{◌≡◌, ◌+◌, ◌-◌, ◌≤◌, ◌++◌, length, replicate};
 ghost use Rattle.nvme_spec.specs.Transfers.{addresses, gathered_bytes, with_scattered};
 
 use crate::walking::Pieces;
@@ -28,6 +30,32 @@ pub fn scatter(window: &mut Window, pieces: &Pieces, bytes: &[u8])
     for piece in pieces.parts.as_slice() {
         let end = sent + piece.len as usize;
         window.bytes_mut(*piece).copy_from_slice(&bytes[sent..end]);
+        sent = end;
+    }
+}
+
+/// Copies bytes to the front of a slice, and zeros behind them.
+fn copy_padded(part: &mut [u8], front: &[u8])
+    requires fits { length front.now ≤ length part.old }
+    ensures { part.new ≡ front.now ++ replicate (length part.old - length front.now) 0 }
+{
+    let (first, rest) = part.split_at_mut(front.len());
+    first.copy_from_slice(front);
+    rest.fill(0);
+}
+
+/// Copies bytes into the window as the front of a transfer, and zeros as its rest, by rising byte: where two have one
+/// address, the later is kept. That there are at most as many bytes as in the pieces is the caller's condition.
+pub fn scatter_padded(window: &mut Window, pieces: &Pieces, front: &[u8])
+    requires size { length front.now ≤ length (addresses pieces.now.parts.items) }
+    ensures window { window.new ≡ with_scattered window.old (addresses pieces.now.parts.items)
+        (front.now ++ replicate (length (addresses pieces.now.parts.items) - length front.now) 0) }
+{
+    let mut sent = 0;
+    for piece in pieces.parts.as_slice() {
+        let end = sent + piece.len as usize;
+        let part = &front[sent.min(front.len())..end.min(front.len())];
+        copy_padded(window.bytes_mut(*piece), part);
         sent = end;
     }
 }
