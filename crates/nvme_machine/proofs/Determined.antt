@@ -23,7 +23,7 @@ use Rattle.nvme_machine.proofs.Layouts.{layout_stays}
 
 -- The count of failures never falls.
 
-answer-counts : (admin : Bool) (tells : Bool) (queues : Queues) (k : ℕ) (t : FetchedCommand) (s : Scene) (a : Answer) → AnswersAs admin tells queues k t s a
+pub answer-counts : (admin : Bool) (tells : Bool) (queues : Queues) (k : ℕ) (t : FetchedCommand) (s : Scene) (a : Answer) → AnswersAs admin tells queues k t s a
     → s.device.failures ≤ a.left.device.failures
 answer-counts true tells queues k t s a h = let e = ap (λ (x : Answer). x.left.device.failures) h in omega (arith, e)
 answer-counts false tells queues k t s a h = spec.failures_never_fall tells k t.entry t.marked s a.left a.outcome h.1
@@ -82,7 +82,7 @@ as-alone false queues k t s a h f below =
     let r = spec.executes_alone k t.entry t.marked s a.left a.outcome h.1 f below in
     same-answer a (io_answer (fault_free_execution k t.entry t.marked s)) r.1 h.0 r.0
 
-answer-alone : (queues : Queues) (k : ℕ) (t : FetchedCommand) (s : Scene) (a : Answer) → Answers true queues k t s a
+pub answer-alone : (queues : Queues) (k : ℕ) (t : FetchedCommand) (s : Scene) (a : Answer) → Answers true queues k t s a
     → a.left.device.failures ≡ s.device.failures → s.device.failures < 2 ^ 64 - 1 → a ≡ fault_free_answer queues k t s
 unfolding Answers fault_free_answer
 answer-alone queues k t s a h f below = as-alone (t.queue == 0) queues k t s a h f below
@@ -143,7 +143,7 @@ answers-as : (admin : Bool) (queues : Queues) (k : ℕ) (t : FetchedCommand) (s 
 answers-as true queues k t s laid = refl
 answers-as false queues k t s laid = (refl, spec.fault_free_executes k t.entry t.marked s laid)
 
-answers : (queues : Queues) (k : ℕ) (t : FetchedCommand) (s : Scene) → IsLaidOut s.world s.device.content → Answers true queues k t s (fault_free_answer queues k t s)
+pub answers : (queues : Queues) (k : ℕ) (t : FetchedCommand) (s : Scene) → IsLaidOut s.world s.device.content → Answers true queues k t s (fault_free_answer queues k t s)
 unfolding Answers fault_free_answer
 answers queues k t s laid = answers-as (t.queue == 0) queues k t s laid
 
@@ -172,7 +172,7 @@ calm-as : (admin : Bool) (queues : Queues) (k : ℕ) (t : FetchedCommand) (s : S
 calm-as true queues k t s = refl
 calm-as false queues k t s = spec.calm-execution k t.entry t.marked s
 
-calm-answer : (queues : Queues) (k : ℕ) (t : FetchedCommand) (s : Scene) → (fault_free_answer queues k t s).left.device.failures ≡ s.device.failures
+pub calm-answer : (queues : Queues) (k : ℕ) (t : FetchedCommand) (s : Scene) → (fault_free_answer queues k t s).left.device.failures ≡ s.device.failures
 unfolding fault_free_answer
 calm-answer queues k t s = calm-as (t.queue == 0) queues k t s
 

@@ -53,7 +53,7 @@ compare-count first bytes old new answer tells (same, inl done) = completes-coun
 compare-count first bytes old new answer tells (same, inr (inl differ)) = completes-count old new answer _ differ.0
 compare-count first bytes old new answer tells (same, inr (inr failed)) = faults-count old new answer _ failed.0
 
-performs-count : (tells : Bool) (command : Command) (k : ℕ) (e sent : List ℕ) (old new : Scene) (answer : Status) (returned : List ℕ)
+pub performs-count : (tells : Bool) (command : Command) (k : ℕ) (e sent : List ℕ) (old new : Scene) (answer : Status) (returned : List ℕ)
     → Performs tells command k e sent old new answer returned → old.device.failures ≤ new.device.failures
 performs-count tells Flush k e sent old new answer returned h = let f = h.effect in flush-count old.device new.device answer tells f.0
 performs-count tells Write k e sent old new answer returned h = let f = h.effect in write-count _ _ old.device new.device answer tells f.0
@@ -75,20 +75,20 @@ failures_never_fall tells k e marked old new o h = by-count (io_verdict old.worl
 -- Without a fault all is as the function says.
 
 -- what is left and answered of a performance
-record IsSo (p : Performance) (new : Scene) (answer : Status) (returned : List ℕ) : Type 0 where
-  status : answer ≡ p.status
-  returned_so : returned ≡ p.returned
-  world : new.world ≡ p.world
-  content : new.device.content ≡ p.content
+pub record IsSo (p : Performance) (new : Scene) (answer : Status) (returned : List ℕ) : Type 0 where
+  pub status : answer ≡ p.status
+  pub returned_so : returned ≡ p.returned
+  pub world : new.world ≡ p.world
+  pub content : new.device.content ≡ p.content
 
 -- no fault, where the count stays below its top
-abbrev IsCalm : Scene → Scene → Type 0
+abbrev pub IsCalm : Scene → Scene → Type 0
 IsCalm old new = HasFailed old.device.failures new.device.failures → ⊥
 
 not_risen : (top f g : ℕ) → g ≡ f → f < top → min (f + 1) top ≤ g → ⊥
 not_risen top f g same below risen = omega arith
 
-calm : (old new : Scene) → new.device.failures ≡ old.device.failures → old.device.failures < 2 ^ 64 - 1 → IsCalm old new
+pub calm : (old new : Scene) → new.device.failures ≡ old.device.failures → old.device.failures < 2 ^ 64 - 1 → IsCalm old new
 calm old new same below h = not_risen (2 ^ 64 - 1) old.device.failures new.device.failures same below h.risen
 
 wrote : (first : ℕ) (bytes : List ℕ) (old new : Scene) (answer : Status) → IsCalm old new → WriteEffect true first bytes old.device new.device answer
@@ -123,7 +123,7 @@ has_compared first bytes old new answer none (same, inr (inl differ)) =
     (let c = differ.0 in c.answered ∙ ap compared (sym (other-bytes _ _ (differ.1 refl))), same refl)
 has_compared first bytes old new answer none (same, inr (inr failed)) = absurd (let f = failed.0 in none f.failures)
 
-is-so : (command : Command) (k : ℕ) (e sent : List ℕ) (old new : Scene) (answer : Status) (returned : List ℕ) → IsCalm old new
+pub is-so : (command : Command) (k : ℕ) (e sent : List ℕ) (old new : Scene) (answer : Status) (returned : List ℕ) → IsCalm old new
     → Performs true command k e sent old new answer returned → IsSo (performance_as (kind_of command) command k e sent old) new answer returned
 is-so Flush k e sent old new answer returned none h =
     let f = h.effect in let r = flushed old new answer none f.0 in
@@ -198,7 +198,7 @@ range-fits w content k e laid attached below =
     omega (arith, at, inside, fits)
 
 -- what a performance leaves, whatever becomes of host memory
-abbrev left-by : Performance → List ℕ → Scene → Scene
+abbrev pub left-by : Performance → List ℕ → Scene → Scene
 left-by p window s = record { world = p.world; window = window; device = record { content = p.content; failures = s.device.failures } }
 
 done-so : (old new : Device) (why : Status) → new.failures ≡ old.failures → Completes old new why why
@@ -210,7 +210,7 @@ compares : (xs ys : List ℕ) (b : Bool) → bytes_eq xs ys ≡ b → (old new :
 compares xs ys true is old new failed f = let d = bytes_eq-Decides xs ys in inl (done-so old new _ f, λ told. d.0 is)
 compares xs ys false is old new failed f = let d = bytes_eq-Decides xs ys in inr (inl (done-so old new _ f, λ told e. false≢true (sym is ∙ d.1 e)))
 
-performs : (command : Command) (k : ℕ) (e sent window : List ℕ) (s : Scene) → IsLaidOut s.world s.device.content → HasPassed s.world k e command
+pub performs : (command : Command) (k : ℕ) (e sent window : List ℕ) (s : Scene) → IsLaidOut s.world s.device.content → HasPassed s.world k e command
     → Performs true command k e sent s (left-by (performance_as (kind_of command) command k e sent s) window s)
     (performance_as (kind_of command) command k e sent s).status (performance_as (kind_of command) command k e sent s).returned
 performs Flush k e sent window s laid p = record { world = refl; effect = (((λ told. refl), inl (done-so s.device s.device _ refl)), refl) }

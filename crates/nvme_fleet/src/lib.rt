@@ -1,0 +1,14 @@
+//! The fleet: hosts over one subsystem. Most have a driver, which its controller and the memory between them stand
+//! beside; a raw host has none, and its controller is used by single stores and register writes. `specs` says what a
+//! host may rely on, in terms of a mailbox for each driver: what it has asked for and where that stands, with nothing of
+//! queues, phase tags, identifiers of commands or addresses.
+#![tactic(auto)]
+
+mod event;
+mod laws;
+mod seen;
+
+pub use event::FleetEvent;
+pub use nvme_driver::{Answer, NotUp, PlaceRefusal, PollFault, Request, Ticket, UpFault};
+pub use nvme_machine::{Executed, Fetched};
+pub use seen::FleetSeen;
