@@ -5,3 +5,4 @@ pub mod Executions
 pub mod Fleets
 pub mod FaultFree
 pub mod Determined
+pub mod Examples

@@ -5,6 +5,7 @@
 #![tactic(auto)]
 
 mod event;
+mod examples;
 mod laws;
 mod seen;
 
