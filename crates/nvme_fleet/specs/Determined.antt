@@ -1,5 +1,6 @@
 -- What a list of events gives is determined, but for faults of the medium.
 use Rattle.std.specs.Prelude.{◌≡◌, ◌<◌, ◌≤◌, ◌-◌, ◌^◌, ℕ, Bool, true, List}
+use Rattle.nvme_spec.specs.Layout.{IsLaidOut}
 use Rattle.nvme_fleet.specs.declared.event.FleetEvent.{FleetEvent}
 use Rattle.nvme_fleet.specs.Deliveries.{Reply}
 use Rattle.nvme_fleet.specs.Fleets.{Fleet, Run}
@@ -21,3 +22,10 @@ RunIsUnique =
     (old new : Fleet) → (events : List FleetEvent) → (replies : List Reply) → Run true old events replies new
     → failures_in new ≡ failures_in old → failures_in old < 2 ^ 64 - 1
     → (replies ≡ fault_free_replies old events) × (new ≡ fault_free_left old events)
+
+-- And there is one, from each fleet whose namespaces lie on its medium.
+abbrev pub RunExists : Type 0
+RunExists =
+    (old : Fleet) → (events : List FleetEvent) → IsLaidOut old.site.world old.site.device.content
+    → Run true old events (fault_free_replies old events) (fault_free_left old events)
+    × (failures_in (fault_free_left old events) ≡ failures_in old)

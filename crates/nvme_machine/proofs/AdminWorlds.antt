@@ -56,7 +56,7 @@ unless-becomes : (w : World) (x : Option Status) (list : List (ℕ × ℕ)) → 
 unless-becomes w None list = Attached _ list refl
 unless-becomes w (Some why) list = Same _ refl
 
-command-becomes : (w : World) (e sent : List ℕ) (command : AdminCommand) → Becomes w (world_after w command e sent)
+pub command-becomes : (w : World) (e sent : List ℕ) (command : AdminCommand) → Becomes w (world_after w command e sent)
 unfolding world_after attach detach
 command-becomes w e sent DeleteSubmissionQueue = Same _ refl
 command-becomes w e sent CreateSubmissionQueue = Same _ refl
@@ -84,7 +84,7 @@ pub admin-becomes : (w : World) (queues : Queues) (k : ℕ) (window e : List ℕ
 unfolding admin_execution
 admin-becomes w queues k window e = executed w k window e (admin_judgement w queues k e window) (command_of (opcode e))
 
-still : (old new : World) → Becomes old new → HasSameReservations old new
+pub still : (old new : World) → Becomes old new → HasSameReservations old new
 still old new (Same n is) = same-reservations old new is
 still old new (Attached n list is) = subst (HasSameReservations old) (sym is) (attached old list)
 still old new (Protected n a b is) = subst (HasSameReservations old) (sym is) (protected old a b)

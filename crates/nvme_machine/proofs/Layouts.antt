@@ -30,7 +30,7 @@ pub record AllowsOne (commands : List Command) (k : ℕ) (t : FetchedCommand) (s
 named-so : (n : ℕ) (t : FetchedCommand) → (t.queue == 0) ≡ false → nsid t.entry ≡ n → names n t ≡ true
 named-so n t io is = ap (λ b. not b && (nsid t.entry == n)) io ∙ eq-eqb (nsid t.entry) n is
 
-answer-extents : (admin : Bool) (tells : Bool) (queues : Queues) (k : ℕ) (t : FetchedCommand) (s : Scene) (a : Answer) → AnswersAs admin tells queues k t s a → HasSameExtents s.world a.left.world
+pub answer-extents : (admin : Bool) (tells : Bool) (queues : Queues) (k : ℕ) (t : FetchedCommand) (s : Scene) (a : Answer) → AnswersAs admin tells queues k t s a → HasSameExtents s.world a.left.world
 answer-extents true tells queues k t s a h =
     let kept = admin-keeps s.world queues k s.window t.entry in
     subst (λ (x : Answer). HasSameExtents s.world x.left.world) (sym h) kept.extents
@@ -39,7 +39,7 @@ answer-extents false tells queues k t s a h =
     let l = r.layout in
     record { hosts = l.hosts; extents = l.extents }
 
-answer-size : (admin : Bool) (queues : Queues) (k : ℕ) (t : FetchedCommand) (s : Scene) (a : Answer) → IsLaidOut s.world s.device.content → AnswersAs admin true queues k t s a
+pub answer-size : (admin : Bool) (queues : Queues) (k : ℕ) (t : FetchedCommand) (s : Scene) (a : Answer) → IsLaidOut s.world s.device.content → AnswersAs admin true queues k t s a
     → length a.left.device.content ≡ length s.device.content
 answer-size true queues k t s a laid h = ap (λ (x : Answer). length x.left.device.content) h
 answer-size false queues k t s a laid h = let r = spec.layout_stays k t.entry t.marked s a.left a.outcome laid h.1 in r.0

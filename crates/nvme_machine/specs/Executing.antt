@@ -1,5 +1,5 @@
 -- The execution of a fetched command as its controller sees it, with the access state and the medium of its subsystem at hand.
-use Rattle.std.specs.Prelude.{◌≡◌, ℕ, Bool, List, Option, None, Some, slice_get}
+use Rattle.std.specs.Prelude.{◌≡◌, ℕ, Bool, Option, None, Some, slice_get}
 use Rattle.nvme_spec.specs.Blocks.{Device}
 use Rattle.nvme_spec.specs.World.{World}
 use Rattle.nvme_spec.specs.Execution.{Scene}

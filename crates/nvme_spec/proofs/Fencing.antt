@@ -29,7 +29,7 @@ use Rattle.nvme_spec.proofs.FaultFree.{extent-known}
 
 -- The world.
 
-performs-rest : (tells : Bool) (command : Command) (k : ℕ) (e sent : List ℕ) (old new : Scene) (answer : Status) (returned : List ℕ)
+pub performs-rest : (tells : Bool) (command : Command) (k : ℕ) (e sent : List ℕ) (old new : Scene) (answer : Status) (returned : List ℕ)
     → Performs tells command k e sent old new answer returned → IsReserved (nsid e) old.world new.world
 performs-rest tells Flush k e sent old new answer returned h = is-same _ _ _ h.world
 performs-rest tells Write k e sent old new answer returned h = is-same _ _ _ h.world

@@ -1,5 +1,5 @@
 -- What is known of an I/O command that all rules let pass.
-use Rattle.std.proofs.Common.{◌≡◌, ℕ, ◌+◌, ◌||◌, ◌&&◌, Bool, true, false, not, List, Option, None, Some, Ok, Err, refl, sym, ap, ◌∙◌}
+use Rattle.std.proofs.Common.{◌≡◌, ℕ, ◌+◌, ◌||◌, ◌&&◌, ◌++◌, Bool, true, false, not, List, [], ◌∷◌, Option, None, Some, Ok, Err, refl, sym, ap, ◌∙◌}
 use Rattle.std.specs.Prelude.{is_some}
 use Rattle.nvme_wire.specs.Submission.{opcode, nsid}
 use Rattle.nvme_wire.specs.declared.status.Status.{Status}
@@ -8,10 +8,11 @@ use Rattle.nvme_spec.specs.declared.command.Command.{Command}
 use Rattle.nvme_spec.specs.declared.verdict.Plan.{Plan}
 use Rattle.nvme_spec.specs.declared.verdict.Verdict.TheVariants.{Allowed}
 use Rattle.nvme_spec.specs.World.{World, host_of, namespace_of, is_attached}
-use Rattle.nvme_spec.specs.Commands.{command_of, is_one_of, readers, writers, ranged, plan_of, starting_lba, block_count}
-use Rattle.nvme_spec.specs.Rules.{Judgement, rule, judgement_by, else_by, first_failing}
-use Rattle.nvme_spec.specs.IoRules.{mark_rule, opcode_rule, form_rule, nsid_rule, attachment_rule, field_rule, reservation_rule, protection_rule, range_rule, conclusion, permits_group, has_blocks_below}
-use Rattle.nvme_spec.specs.IoData.{io_rules, io_judgement, io_verdict}
+use Rattle.nvme_spec.specs.Commands.{command_of, is_one_of, readers, writers, ranged, plan_of, starting_lba, block_count, data_length_of}
+use Rattle.nvme_spec.specs.Rules.{Rule, Judgement, rule, judgement_by, else_by, first_failing}
+use Rattle.nvme_spec.specs.IoRules.{mark_rule, opcode_rule, form_rule, nsid_rule, attachment_rule, field_rule, reservation_rule, protection_rule, range_rule, access_rules, conclusion, permits_group, has_blocks_below}
+use Rattle.nvme_spec.specs.DataRules.{pointer_rule}
+use Rattle.nvme_spec.specs.IoData.{io_rules, io_judgement, io_verdict, action_rule, reservation_outcome, data_of}
 
 pub both : (j later : Judgement) → else_by j later ≡ Ok tt → (j ≡ Ok tt) × (later ≡ Ok tt)
 both (Ok u) later h = (refl, h)
@@ -39,7 +40,7 @@ pub record IsPlanned (j : Judgement) (command : Option Command) (plan : Plan) : 
   pub passed : j ≡ Ok tt
   pub named : command ≡ Some plan.kind
 
-planned : (j : Judgement) (command : Option Command) (e : List ℕ) (plan : Plan) → conclusion j command e ≡ Allowed plan → IsPlanned j command plan
+pub planned : (j : Judgement) (command : Option Command) (e : List ℕ) (plan : Plan) → conclusion j command e ≡ Allowed plan → IsPlanned j command plan
 planned (Err d) command e plan h = absurd (cc)
 planned (Ok u) None e plan h = absurd (cc)
 planned (Ok u) (Some command) e plan h =
@@ -51,10 +52,10 @@ judged : (w : World) (k : ℕ) (e : List ℕ) (marked : Bool) (window : List ℕ
 unfolding io_judgement
 judged w k e marked window plan h = planned (first_failing (io_rules w k e marked window)) (command_of (opcode e)) e plan h
 
-passes : (w : World) (k : ℕ) (e : List ℕ) (marked : Bool) (window : List ℕ) (command : Command)
-    → first_failing (io_rules w k e marked window) ≡ Ok tt → command_of (opcode e) ≡ Some command → HasPassed w k e command
+pub passes : (w : World) (k : ℕ) (e : List ℕ) (marked : Bool) (later : List Rule) (command : Command)
+    → first_failing (access_rules w k e marked ++ later) ≡ Ok tt → command_of (opcode e) ≡ Some command → HasPassed w k e command
 unfolding attachment_rule reservation_rule range_rule
-passes w k e marked window command h named =
+passes w k e marked later command h named =
     let a = both (judgement_by (mark_rule marked)) _ h in
     let b = both (judgement_by (opcode_rule (command_of (opcode e)))) _ a.1 in
     let c = both (judgement_by (form_rule e)) _ b.1 in
@@ -79,7 +80,9 @@ pub has-passed : (w : World) (k : ℕ) (e : List ℕ) (marked : Bool) (window : 
     → HasPassed w k e plan.kind
 has-passed w k e marked window plan h =
     let p = judged w k e marked window plan h in
-    passes w k e marked window plan.kind p.passed p.named
+    let pointer = pointer_rule (data_length_of (command_of (opcode e)) e) window e in
+    let action = action_rule (reservation_outcome w k e (data_of window e)) in
+    passes w k e marked (pointer ∷ action ∷ []) plan.kind p.passed p.named
 
 -- the namespace of a command that passed
 pub some_of : {X : Type 0} (o : Option X) (b : Bool) → (is_some o && b) ≡ true → (x : X) × (o ≡ Some x)

@@ -1,0 +1,244 @@
+-- Without a fault there is a run over each list of events, from each fleet whose namespaces lie on its medium.
+use Rattle.std.proofs.Common.{◌≡◌, ℕ, ◌+◌, ◌*◌, ◌≤◌, ◌==◌, Bool, true, List, [], ◌∷◌, ◌++◌, length, take, drop, Option, None, Some, Ok, Err, refl, sym, ap, ◌∙◌, arith, length-append, length-drop}
+use Rattle.std.specs.Prelude.{slice_get, replicate}
+use Rattle.std.proofs.lemmas.List.{length-take-le}
+use Rattle.nvme_wire.specs.Submission.{opcode}
+use Rattle.nvme_spec.specs.declared.command.Command.{Command}
+use Rattle.nvme_spec.specs.declared.command.Command.TheVariants.{Flush, Write, Read, Compare, WriteZeroes, ReservationRegister, ReservationReport, ReservationAcquire, ReservationRelease}
+use Rattle.nvme_spec.specs.declared.command.AdminCommand.{AdminCommand}
+use Rattle.nvme_spec.specs.declared.verdict.Plan.{Plan}
+use Rattle.nvme_spec.specs.declared.verdict.Verdict.{Verdict}
+use Rattle.nvme_spec.specs.declared.verdict.Verdict.TheVariants.{Allowed, Denied}
+use Rattle.nvme_spec.specs.Bytes.{with_bytes}
+use Rattle.nvme_spec.specs.Commands as io_commands
+use Rattle.nvme_spec.specs.AdminCommands as admin_commands
+use Rattle.nvme_spec.specs.Rules.{Judgement}
+use Rattle.nvme_spec.specs.IoData.{action_rule}
+use Rattle.nvme_spec.specs.Execution.{medium_block}
+use Rattle.nvme_spec.specs.Layout.{IsLaidOut, extent_of}
+use Rattle.nvme_spec.proofs.Passing.{HasPassed, planned, passes}
+use Rattle.nvme_spec.proofs.FaultFree as spec
+use Rattle.nvme_spec.proofs.Fencing.{performs-rest}
+use Rattle.nvme_driver.specs.declared.lane.Lane.{Lane}
+use Rattle.nvme_driver.specs.declared.lane.Lane.TheVariants.{Admin, Io}
+use Rattle.nvme_driver.specs.Requests.{Asked}
+use Rattle.nvme_machine.specs.declared.fetched.FetchedCommand.{FetchedCommand}
+use Rattle.nvme_machine.specs.Controllers.{Controller, QueuePair, queues_of, open_pair}
+use Rattle.nvme_machine.specs.Executing.{Setting, FinishesOne, FinishesOver, scene_in}
+use Rattle.nvme_machine.specs.Answers as machine
+use Rattle.nvme_machine.specs.FaultFree.{fault_free_answer}
+use Rattle.nvme_machine.proofs.AdminWorlds.{command-becomes, still}
+use Rattle.nvme_machine.proofs.Layouts.{answer-extents, answer-size}
+use Rattle.nvme_machine.proofs.Determined as machine_proofs
+use Rattle.nvme_fleet.specs.declared.event.FleetEvent.{FleetEvent}
+use Rattle.nvme_fleet.specs.declared.event.FleetEvent.TheVariants.{BringUp, Place, Ring, Fetch, Execute, Poll, Reset, RawStore, RawWrite32}
+use Rattle.nvme_fleet.specs.declared.seen.FleetSeen.{FleetSeen}
+use Rattle.nvme_fleet.specs.Mailboxes.{FetchedItem, Mailbox, lane_of}
+use Rattle.nvme_fleet.specs.Deliveries.{Reaction}
+use Rattle.nvme_fleet.specs.Executions.{Site, Response, scene_at, IsServed, AnswersIo, AnswersAs, Answers, action_of, io_judgement, io_verdict, admin_judgement, admin_response_by, admin_response, command_entry}
+use Rattle.nvme_fleet.specs.Fleets.{Host, WithDriver, Raw, Fleet, Step, host_at, with_host, settled, called_at, raw_at, fetched_at, ExecutesItem, ExecutesAt, setting_of}
+use Rattle.nvme_fleet.specs.FaultFree.{served, performance_of, io_response, response_as, response, executing_item, raw_over, raw_one, raw_execution, executing, fault_free_step}
+use Rattle.nvme_fleet.specs.Determined.{failures_in, RunExists}
+use Rattle.nvme_fleet.proofs.Determined.{admin-calm}
+
+-- The namespaces lie on the medium as before, which is at least as long.
+record StillLies (old new : Site) : Type 0 where
+  extents : (n : ℕ) → extent_of new.world n ≡ extent_of old.world n
+  size : length old.device.content ≤ length new.device.content
+
+lies-still : (old new : Site) → StillLies old new → IsLaidOut old.world old.device.content → IsLaidOut new.world new.device.content
+lies-still old new same laid = record {
+  within = λ n x is. let fits = laid.within n x (sym (same.extents n) ∙ is) in let size = same.size in omega (arith, fits, size);
+  apart = λ n m x y other p q. laid.apart n m x y other (sym (same.extents n) ∙ p) (sym (same.extents m) ∙ q);
+}
+
+lies-same : (old new : Site) → new ≡ old → StillLies old new
+lies-same old new e = record {
+  extents = λ n. ap (λ (s : Site). extent_of s.world n) e;
+  size = let f = ap (λ (s : Site). length s.device.content) e in omega (arith, f);
+}
+
+-- bytes that are put in where a medium has some leave it no shorter
+put-in : (content : List ℕ) (at : ℕ) (bytes : List ℕ) → at ≤ length content → length content ≤ length (with_bytes content at bytes)
+put-in content at bytes fits =
+    let a = length-append (take at content ++ bytes) (drop (at + length bytes) content) in
+    let b = length-append (take at content) bytes in
+    let c = length-take-le at content fits in
+    let d = length-drop (at + length bytes) content in
+    omega (arith, a, b, c, d)
+
+-- what an allowed I/O command is known to have passed
+allowed-passes : (s : Site) (k : ℕ) (a : Asked) (marked : Bool) (plan : Plan) → io_verdict s.world k a marked ≡ Allowed plan → HasPassed s.world k (command_entry a) plan.kind
+unfolding io_judgement
+allowed-passes s k a marked plan is =
+    let p = planned (io_judgement s.world k a marked) (io_commands.command_of (opcode (command_entry a))) (command_entry a) plan is in
+    passes s.world k (command_entry a) marked (action_rule (action_of s.world k a) ∷ []) plan.kind p.passed p.named
+
+served-size : (command : Command) (k : ℕ) (a : Asked) (s : Site) → IsLaidOut s.world s.device.content → HasPassed s.world k (command_entry a) command
+    → length s.device.content ≤ length (performance_of command k a s).content
+served-size Flush k a s laid p = omega arith
+served-size Read k a s laid p = omega arith
+served-size Compare k a s laid p = omega arith
+served-size ReservationRegister k a s laid p = omega arith
+served-size ReservationAcquire k a s laid p = omega arith
+served-size ReservationRelease k a s laid p = omega arith
+served-size ReservationReport k a s laid p = omega arith
+served-size Write k a s laid p =
+    let fits = spec.range-fits s.world s.device.content k (command_entry a) laid p.attached p.fits in
+    put-in s.device.content (512 * medium_block s.world (command_entry a)) a.sent (omega (arith, fits))
+served-size WriteZeroes k a s laid p =
+    let fits = spec.range-fits s.world s.device.content k (command_entry a) laid p.attached p.fits in
+    put-in s.device.content (512 * medium_block s.world (command_entry a)) (replicate (512 * io_commands.block_count (command_entry a)) 0) (omega (arith, fits))
+
+served-is : (command : Command) (k : ℕ) (a : Asked) (s : Site) → IsLaidOut s.world s.device.content → HasPassed s.world k (command_entry a) command
+    → IsServed true command k a s (served command k a s (performance_of command k a s))
+served-is command k a s laid p = record {
+  returned = (performance_of command k a s).returned;
+  effect = spec.performs command k (command_entry a) a.sent [] (scene_at s) laid p;
+  dw0 = refl;
+  rule = refl;
+  marks = refl;
+  data_back = refl;
+}
+
+served-lies : (command : Command) (k : ℕ) (a : Asked) (s : Site) → IsLaidOut s.world s.device.content → HasPassed s.world k (command_entry a) command
+    → StillLies s (served command k a s (performance_of command k a s)).left
+served-lies command k a s laid p =
+    let r = served command k a s (performance_of command k a s) in
+    let same = performs-rest true command k (command_entry a) a.sent (scene_at s) (scene_at r.left) r.outcome.status _ (spec.performs command k (command_entry a) a.sent [] (scene_at s) laid p) in
+    let l = same.layout in
+    record { extents = l.extents; size = served-size command k a s laid p }
+
+-- a response that is there, and what it leaves
+record Responds (lane : Lane) (k : ℕ) (a : Asked) (marked : Bool) (s : Site) (r : Response) : Type 0 where
+  answers : AnswersAs lane true k a marked s r
+  lies : StillLies s r.left
+  calm : r.left.device.failures ≡ s.device.failures
+
+io-responds : (v : Verdict) (k : ℕ) (a : Asked) (marked : Bool) (s : Site) → IsLaidOut s.world s.device.content → io_verdict s.world k a marked ≡ v
+    → AnswersIo v true k a s (io_response v k a s) × StillLies s (io_response v k a s).left × ((io_response v k a s).left.device.failures ≡ s.device.failures)
+io-responds (Denied number why) k a marked s laid is = (refl, lies-same s s refl, refl)
+io-responds (Allowed plan) k a marked s laid is =
+    let p = allowed-passes s k a marked plan is in
+    (served-is plan.kind k a s laid p, served-lies plan.kind k a s laid p, refl)
+
+admin-by-lies : (j : Judgement) (command : Option AdminCommand) (s : Site) (k : ℕ) (a : Asked) → StillLies s (admin_response_by j command s k a).left
+admin-by-lies (Err d) command s k a = lies-same s s refl
+admin-by-lies (Ok u) None s k a = lies-same s s refl
+admin-by-lies (Ok u) (Some command) s k a =
+    let kept = still s.world _ (command-becomes s.world (command_entry a) a.sent command) in
+    let e = kept.extents in
+    record { extents = e.extents; size = omega arith }
+
+admin-lies : (s : Site) (k : ℕ) (a : Asked) → StillLies s (admin_response s k a).left
+unfolding admin_response
+admin-lies s k a = admin-by-lies (admin_judgement s.world k a) (admin_commands.command_of (opcode (command_entry a))) s k a
+
+responds : (lane : Lane) (k : ℕ) (a : Asked) (marked : Bool) (s : Site) → IsLaidOut s.world s.device.content
+    → Responds lane k a marked s (response_as lane k a marked s)
+responds Admin k a marked s laid = record { answers = refl; lies = admin-lies s k a; calm = admin-calm s k a }
+responds Io k a marked s laid =
+    let r = io-responds (io_verdict s.world k a marked) k a marked s laid refl in
+    record { answers = r.0; lies = r.1; calm = r.2 }
+
+-- what a step is to be: there, and with this left
+record Steps (f : Fleet) (event : FleetEvent) : Type 0 where
+  step : Step true f event (fault_free_step f event).reply (fault_free_step f event).fleet
+  lies : StillLies f.site (fault_free_step f event).fleet.site
+  calm : failures_in (fault_free_step f event).fleet ≡ failures_in f
+
+-- the same of an execution
+record Executes (o : Option Host) (f : Fleet) (k i : ℕ) : Type 0 where
+  step : ExecutesAt o true f k i (executing o f k i).reply (executing o f k i).fleet
+  lies : StillLies f.site (executing o f k i).fleet.site
+  calm : failures_in (executing o f k i).fleet ≡ failures_in f
+
+item-executes : (o : Option FetchedItem) (f : Fleet) (k : ℕ) (m : Mailbox) (i : ℕ) → IsLaidOut f.site.world f.site.device.content
+    → ExecutesItem o true f k m i (executing_item o f k m i).reply (executing_item o f k m i).fleet
+    × StillLies f.site (executing_item o f k m i).fleet.site × (failures_in (executing_item o f k m i).fleet ≡ failures_in f)
+unfolding Answers response settled
+item-executes None f k m i laid = ((refl, refl), lies-same f.site f.site refl, refl)
+item-executes (Some x) f k m i laid =
+    let r = responds (lane_of x.item) k x.item.asked x.marked f.site laid in
+    (record { response = response_as (lane_of x.item) k x.item.asked x.marked f.site; answers = r.answers; gives = refl; leaves = refl }, r.lies, r.calm)
+
+raw-over : (o : Option QueuePair) (i : ℕ) (t : FetchedCommand) (s : Setting) → IsLaidOut s.world s.device.content
+    → FinishesOver o true i t s (raw_over o i t s).executed (raw_over o i t s).left
+    × StillLies (record { world = s.world; device = s.device }) (record { world = (raw_over o i t s).left.world; device = (raw_over o i t s).left.device })
+    × ((raw_over o i t s).left.device.failures ≡ s.device.failures)
+unfolding machine.Answers
+raw-over None i t s laid = ((refl, refl), lies-same _ _ refl, refl)
+raw-over (Some p) i t s laid =
+    let a = fault_free_answer (queues_of s.controller) s.controller.cntlid t (scene_in s) in
+    let is = machine_proofs.answers (queues_of s.controller) s.controller.cntlid t (scene_in s) laid in
+    let e = answer-extents (t.queue == 0) true (queues_of s.controller) s.controller.cntlid t (scene_in s) a is in
+    let z = answer-size (t.queue == 0) (queues_of s.controller) s.controller.cntlid t (scene_in s) a laid is in (
+      record { answer = a; answers = is; gives = refl; controller = refl; world = refl; device = refl },
+      record { extents = e.extents; size = omega (arith, z) },
+      machine_proofs.calm-answer (queues_of s.controller) s.controller.cntlid t (scene_in s),
+    )
+
+raw-one : (o : Option FetchedCommand) (i : ℕ) (s : Setting) → IsLaidOut s.world s.device.content
+    → FinishesOne o true i s (raw_one o i s).executed (raw_one o i s).left
+    × StillLies (record { world = s.world; device = s.device }) (record { world = (raw_one o i s).left.world; device = (raw_one o i s).left.device })
+    × ((raw_one o i s).left.device.failures ≡ s.device.failures)
+raw-one None i s laid = ((refl, refl), lies-same _ _ refl, refl)
+raw-one (Some t) i s laid = raw-over (open_pair s.controller t) i t s laid
+
+executes : (o : Option Host) (f : Fleet) (k i : ℕ) → IsLaidOut f.site.world f.site.device.content → Executes o f k i
+unfolding settled
+executes None f k i laid = record { step = (refl, refl); lies = lies-same f.site f.site refl; calm = refl }
+executes (Some (WithDriver m)) f k i laid =
+    let r = item-executes (slice_get m.fetched i) f k m i laid in
+    record { step = r.0; lies = r.1; calm = r.2 }
+executes (Some (Raw c)) f k i laid =
+    let r = raw-one (slice_get c.fetched i) i (setting_of f c) laid in
+    record {
+      step = record { executed = (raw_execution i (setting_of f c)).executed; left = (raw_execution i (setting_of f c)).left; executes = r.0; gives = refl; leaves = refl };
+      lies = r.1;
+      calm = r.2;
+    }
+
+-- every other event leaves the medium and the world
+called-site : (o : Option Host) (f : Fleet) (k : ℕ) (call : Mailbox → Reaction) → (called_at o f k call).fleet.site ≡ f.site
+unfolding with_host
+called-site None f k call = refl
+called-site (Some (WithDriver m)) f k call = refl
+called-site (Some (Raw c)) f k call = refl
+
+raw-site : (o : Option Host) (f : Fleet) (k : ℕ) (change : Controller → Controller) (what : FleetSeen) → (raw_at o f k change what).fleet.site ≡ f.site
+unfolding with_host
+raw-site None f k change what = refl
+raw-site (Some (WithDriver m)) f k change what = refl
+raw-site (Some (Raw c)) f k change what = refl
+
+fetched-site : (o : Option Host) (f : Fleet) (k q : ℕ) → (fetched_at o f k q).fleet.site ≡ f.site
+unfolding with_host
+fetched-site None f k q = refl
+fetched-site (Some (WithDriver m)) f k q = refl
+fetched-site (Some (Raw c)) f k q = refl
+
+abbrev Calm : Fleet → Fleet → Type 0
+Calm f g = StillLies f.site g.site × (failures_in g ≡ failures_in f)
+
+calm-site : (f g : Fleet) → g.site ≡ f.site → Calm f g
+calm-site f g e = (lies-same f.site g.site e, ap (λ (s : Site). s.device.failures) e)
+
+steps : (f : Fleet) (event : FleetEvent) → IsLaidOut f.site.world f.site.device.content → Steps f event
+steps f (BringUp k) laid = let r = calm-site f (fault_free_step f (BringUp k)).fleet (called-site (host_at f k) f k _) in record { step = (refl, refl); lies = r.0; calm = r.1 }
+steps f (Place k request) laid = let r = calm-site f (fault_free_step f (Place k request)).fleet (called-site (host_at f k) f k _) in record { step = (refl, refl); lies = r.0; calm = r.1 }
+steps f (Ring k) laid = let r = calm-site f (fault_free_step f (Ring k)).fleet (called-site (host_at f k) f k _) in record { step = (refl, refl); lies = r.0; calm = r.1 }
+steps f (Fetch k q) laid = let r = calm-site f (fault_free_step f (Fetch k q)).fleet (fetched-site (host_at f k) f k q) in record { step = (refl, refl); lies = r.0; calm = r.1 }
+steps f (Execute k i) laid = let r = executes (host_at f k) f k i laid in record { step = r.step; lies = r.lies; calm = r.calm }
+steps f (Poll k) laid = let r = calm-site f (fault_free_step f (Poll k)).fleet (called-site (host_at f k) f k _) in record { step = (refl, refl); lies = r.0; calm = r.1 }
+steps f (Reset k) laid = let r = calm-site f (fault_free_step f (Reset k)).fleet (called-site (host_at f k) f k _) in record { step = (refl, refl); lies = r.0; calm = r.1 }
+steps f (RawStore k address bytes) laid = let r = calm-site f (fault_free_step f (RawStore k address bytes)).fleet (raw-site (host_at f k) f k _ _) in record { step = (refl, refl); lies = r.0; calm = r.1 }
+steps f (RawWrite32 k offset v) laid = let r = calm-site f (fault_free_step f (RawWrite32 k offset v)).fleet (raw-site (host_at f k) f k _ _) in record { step = (refl, refl); lies = r.0; calm = r.1 }
+
+pub run_exists : RunExists
+run_exists old [] laid = (refl, refl)
+run_exists old (event ∷ events) laid =
+    let one = steps old event laid in
+    let next : Fleet = (fault_free_step old event).fleet in
+    let rest = run_exists next events (lies-still old.site next.site one.lies laid) in
+    ((next, one.step, rest.0), rest.1 ∙ one.calm)
