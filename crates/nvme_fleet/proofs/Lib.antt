@@ -1,2 +1,14 @@
 pub mod Determined
 pub mod Existing
+pub mod Totals
+pub mod Windows
+pub mod Slots
+pub mod Keeps
+pub mod Queues
+pub mod Places
+pub mod Fetches
+pub mod Executes
+pub mod Polls
+pub mod Empties
+pub mod Resets
+pub mod Ups

@@ -6,3 +6,4 @@ pub mod Fleets
 pub mod FaultFree
 pub mod Determined
 pub mod Examples
+pub mod Views

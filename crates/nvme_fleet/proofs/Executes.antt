@@ -1,0 +1,256 @@
+use Rattle.std.proofs.Common.{◌≡◌, ℕ, ◌+◌, ◌-◌, ◌%◌, ◌<◌, ◌≤◌, List, [], ◌∷◌, ◌++◌, length, map, refl, ap, sym, ◌∙◌, arith, true, false, not, cond, eqb, Bool, Some, inl, inr, take, slice_get}
+use Rattle.std.proofs.lemmas.List.{take-take, length-set}
+use Rattle.std.proofs.lemmas.List.Edits.{length-remove}
+use Rattle.std.proofs.lemmas.Option.{slice_get_within}
+use Rattle.std.proofs.lemmas.Bool.{cases_Bool, eqb-true, ne_eqb, lt-ltb, cases_eq}
+use Rattle.std.proofs.lemmas.Grind.{common_steps}
+use Rattle.std.specs.Prelude.{nat_lt, remove}
+use Rattle.nvme_wire.specs.Submission.{cid}
+use Rattle.nvme_wire.specs.Completion.{Completion, completion_of}
+use Rattle.nvme_driver.specs.Layout.{queue_id}
+use Rattle.nvme_driver.specs.Polls.{answer_len}
+use Rattle.nvme_fleet.specs.Mailboxes.{PostedAnswer}
+use Rattle.nvme_fleet.specs.Views.{Effect, Host, State, Slot, finished, finished_bytes, executed, executed_state, completion_bytes, phase_of, ticket_in, received_in, AreOf, in_flight, commands, completions, item, answer, box, Running, Holds, Heads, last_head, heard, unread, since, steps, commands_of, answers_of, live_at, slot_at, answers, holds, total, odd, suits, bears, replies, Carried, Phases}
+use Rattle.nvme_fleet.proofs.Totals.{total-append, total-removed, live-within, live-small, live-set, slot-same}
+use Rattle.nvme_fleet.proofs.Slots.{few, Apart, apart-set, same-items, same-odd, same-answers}
+use Rattle.nvme_fleet.proofs.Keeps.{Answers, answered, commands-same, completions-kept}
+use Rattle.nvme_fleet.proofs.Queues.{flight-total, completions-append, same-box, self-eqb, same-entry, same-turn}
+use Rattle.nvme_fleet.proofs.Places.{no-way}
+
+last-more : (h : ℕ) (es : List Completion) (e : Completion) → last_head h (es ++ e ∷ []) ≡ e.sq_head
+last-more h [] e = refl
+last-more h (x ∷ es) e = last-more x.sq_head es e
+
+steps-more : (h : ℕ) (es : List Completion) (e : Completion) → steps h (es ++ e ∷ []) ≡ steps h es + (e.sq_head + 8 - last_head h es) % 8
+steps-more h [] e = omega arith
+steps-more h (x ∷ es) e = omega (arith, steps-more x.sq_head es e)
+
+heads-more : (es : List Completion) (e : Completion) → Heads es → e.sq_head < 8 → Heads (es ++ e ∷ [])
+heads-more [] e h l = (l, tt)
+heads-more (x ∷ es) e h l = (h.0, heads-more es e h.1 l)
+
+answers-more : (f : ℕ → Slot) (h : ℕ) (es : List Completion) (e : Completion) → answers f h (es ++ e ∷ []) ≡ answers f h es ++ answer f (last_head h es) e ∷ []
+answers-more f h [] e = refl
+answers-more f h (x ∷ es) e = ap (λ t. answer f h x ∷ t) (answers-more f x.sq_head es e)
+
+of-more : (q : ℕ) (es : List Completion) (e : Completion) → AreOf q es → e.sq_id ≡ q → AreOf q (es ++ e ∷ [])
+of-more q [] e h l = (l, tt)
+of-more q (x ∷ es) e h l = (h.0, of-more q es e h.1 l)
+
+-- what holds of the i-th command that was fetched
+pub record Fetched (d : Host) (c : State) (i : ℕ) (x : List ℕ) : Type 0 where
+  pub running : Running d c
+  pub there : slice_get c.taken i ≡ Some x
+  pub live : live_at d.slots (cid x) ≡ 1
+  pub within : cid x < 24
+  pub suits_it : suits (slot_at d.slots (cid x)) x ≡ true
+  pub room : c.unread < 24
+  pub rest : commands_of (cid x) (remove c.taken i) ≡ 0
+  pub flight : commands_of (cid x) (commands c.window c.fetched (in_flight d c)) ≡ 0
+  pub others : answers_of (cid x) (unread d c) ≡ 0
+
+odd-suits : (b : Bool) (n m : ℕ) → cond b 0 1 + n ≡ m → m ≡ 0 → b ≡ true
+odd-suits true n m h z = refl
+odd-suits false n m h z = let b : ⊥ = omega (arith, h, z) in absurd b
+
+pub fetched : (d : Host) (c : State) (i : ℕ) (x : List ℕ) → Running d c → slice_get c.taken i ≡ Some x → Fetched d c i x
+fetched d c i x s g =
+    let b : bears (cid x) x ≡ 1 = ap (λ b. cond b 1 0) (self-eqb (cid x) (cid x) refl) in
+    let r : bears (cid x) x + commands_of (cid x) (remove c.taken i) ≡ commands_of (cid x) c.taken = total-removed (bears (cid x)) c.taken i x g in
+    let l : live_at d.slots (cid x) ≡ 1 = omega (arith, s.carried (cid x), b, r, live-small (slot_at d.slots (cid x))) in
+    let z : total (odd (holds d)) c.taken ≡ 0 = omega (arith, s.suited) in
+    let t : suits (holds d (cid x)) x ≡ true = odd-suits (suits (holds d (cid x)) x) (total (odd (holds d)) (remove c.taken i)) (total (odd (holds d)) c.taken) (total-removed (odd (holds d)) c.taken i x g) z in
+    record {
+      running = s;
+      there = g;
+      live = l;
+      within = omega (arith, live-within d.slots (cid x) l, s.slots);
+      suits_it = t;
+      room = omega (arith, few d c s, length-remove c.taken i (slice_get_within c.taken i x g));
+      rest = omega (arith, s.carried (cid x), b, r, l);
+      flight = omega (arith, s.carried (cid x), b, r, l);
+      others = omega (arith, s.carried (cid x), b, r, l);
+    }
+
+-- what holds where it is executed with this answer, whose data stand at the front of the slot's data, by a completion of
+-- 16 bytes that is read back
+pub record Executes (d : Host) (c : State) (ans : Effect) (i : ℕ) (x bytes : List ℕ) : Type 0 where
+  pub fetched : Fetched d c i x
+  pub size : length (finished_bytes c ans x) ≡ 16
+  pub reads : completion_of (finished_bytes c ans x) ≡ finished c ans x
+  pub fits : answer_len (received_in (slot_at d.slots (cid x)).waiting) ans.status ≤ length ans.bytes
+  pub gets : take (length ans.bytes) bytes ≡ ans.bytes
+
+written : (d : Host) (c : State) (ans : Effect) (i : ℕ) (x bytes : List ℕ) → Executes d c ans i x bytes →
+    Answers c.window (executed_state c i x ans).window (c.posted % 32) (finished_bytes c ans x)
+written d c ans i x bytes h = answered c.window (finished_bytes c ans x) (c.posted % 32) ((h.fetched).running).window (omega arith) h.size
+
+apart : (d : Host) (x bytes : List ℕ) → Apart (cid x) (holds d) (holds (executed d x bytes))
+apart d x bytes = apart-set d.slots (cid x) (record (slot_at d.slots (cid x)) { bytes = bytes })
+
+posted-small : (d : Host) (c : State) → Running d c → c.posted < 64
+posted-small d c s = omega (arith, s.posted)
+
+-- the slot keeps its request, and gets the data
+here : (d : Host) (x bytes : List ℕ) → cid x < length d.slots → holds (executed d x bytes) (cid x) ≡ record (slot_at d.slots (cid x)) { bytes = bytes }
+here d x bytes l = slot-same d.slots (cid x) (record (slot_at d.slots (cid x)) { bytes = bytes }) l
+
+-- one completion more is unread
+unread-more : (d : Host) (c : State) (ans : Effect) (i : ℕ) (x bytes : List ℕ) → Executes d c ans i x bytes → unread (executed d x bytes) (executed_state c i x ans) ≡ unread d c ++ finished c ans x ∷ []
+unread-more d c ans i x bytes h =
+    let s : Running d c = (h.fetched).running in
+    let k = written d c ans i x bytes h in
+    let p : (d.consumed + c.unread) % 64 ≡ c.posted = sym s.posted in
+    let g : c.unread ≤ (c.posted % 32 + 32 - d.consumed % 32) % 32 = omega (arith, s.posted, s.consumed, (h.fetched).room) in
+    let e : completion_of (completion_bytes (executed_state c i x ans).window c.posted) ≡ finished c ans x =
+    ap completion_of k.last ∙ h.reads in
+    completions-append (executed_state c i x ans).window d.consumed c.unread 1 s.consumed ∙
+    ap (λ t. t ++ completions (executed_state c i x ans).window ((d.consumed + c.unread) % 64) 1) (completions-kept c.window (executed_state c i x ans).window 8 (c.posted % 32) d.consumed c.unread k.keeps (omega arith) s.consumed (omega (arith, (h.fetched).room)) g) ∙
+    ap (λ n. unread d c ++ completions (executed_state c i x ans).window n 1) p ∙
+    ap (λ t. unread d c ++ t ∷ []) e
+
+flight-same : (d : Host) (c : State) (ans : Effect) (i from n : ℕ) (x bytes : List ℕ) → Executes d c ans i x bytes → from < 8 → commands (executed_state c i x ans).window from n ≡ commands c.window from n
+flight-same d c ans i from n x bytes h b = commands-same c.window (executed_state c i x ans).window (c.posted % 32) from n (written d c ans i x bytes h).keeps b
+
+-- the answer that a command is given
+abbrev pub given : Host → State → Effect → List ℕ → PostedAnswer
+given d c ans x = record {
+  ticket = ticket_in (slot_at d.slots (cid x)).waiting;
+  status = ans.status;
+  dw0 = ans.dw0;
+  bytes = take (answer_len (received_in (slot_at d.slots (cid x)).waiting) ans.status) ans.bytes;
+  step = since d c;
+}
+
+front-of : (n m : ℕ) (bytes front : List ℕ) → n ≤ m → take m bytes ≡ front → take n bytes ≡ take n front
+front-of n m bytes front h e = sym (take-take n m bytes h) ∙ ap (take n) e
+
+-- the answer that is posted
+given-is : (d : Host) (c : State) (ans : Effect) (i : ℕ) (x bytes : List ℕ) → Executes d c ans i x bytes →
+    answer (holds (executed d x bytes)) (last_head (heard d) (unread d c)) (finished c ans x) ≡ given d c ans x
+given-is d c ans i x bytes h =
+    let k = here d x bytes (omega (arith, (h.fetched).within, ((h.fetched).running).slots)) in
+    rw (k, front-of (answer_len (received_in (slot_at d.slots (cid x)).waiting) ans.status) (length ans.bytes) bytes ans.bytes h.fits h.gets) refl
+
+posted-item : (d : Host) (c : State) (ans : Effect) (i : ℕ) (x bytes : List ℕ) → Executes d c ans i x bytes →
+    answers (holds (executed d x bytes)) (heard d) (unread (executed d x bytes) (executed_state c i x ans)) ≡
+    answers (holds d) (heard d) (unread d c) ++ given d c ans x ∷ []
+posted-item d c ans i x bytes h =
+    ap (answers (holds (executed d x bytes)) (heard d)) (unread-more d c ans i x bytes h) ∙
+    answers-more (holds (executed d x bytes)) (heard d) (unread d c) (finished c ans x) ∙
+    ap (λ t. t ++ answer (holds (executed d x bytes)) (last_head (heard d) (unread d c)) (finished c ans x) ∷ []) (same-answers (holds d) _ (cid x) (apart d x bytes) (heard d) (unread d c) (h.fetched).others) ∙
+    ap (λ t. answers (holds d) (heard d) (unread d c) ++ t ∷ []) (given-is d c ans i x bytes h)
+
+last-done : (d : Host) (c : State) (ans : Effect) (i : ℕ) (x bytes : List ℕ) → Executes d c ans i x bytes → last_head (heard d) (unread (executed d x bytes) (executed_state c i x ans)) ≡ c.fetched
+last-done d c ans i x bytes h = ap (last_head (heard d)) (unread-more d c ans i x bytes h) ∙ last-more (heard d) (unread d c) (finished c ans x)
+
+since-zero : (f : ℕ) → f < 8 → (f + 8 - f) % 8 ≡ 0
+since-zero f h = omega arith
+
+since-done : (d : Host) (c : State) (ans : Effect) (i : ℕ) (x bytes : List ℕ) → Executes d c ans i x bytes → since (executed d x bytes) (executed_state c i x ans) ≡ 0
+since-done d c ans i x bytes h = ap (λ l. (c.fetched + 8 - l) % 8) (last-done d c ans i x bytes h) ∙ since-zero c.fetched ((h.fetched).running).fetched
+
+-- Execute puts the answer behind those that are posted
+pub execute-box : (d : Host) (c : State) (ans : Effect) (i : ℕ) (x bytes : List ℕ) → Executes d c ans i x bytes →
+    box (executed d x bytes) (executed_state c i x ans) ≡ record (box d c) { posted = (box d c).posted ++ given d c ans x ∷ []; since = 0 }
+unfolding box
+execute-box d c ans i x bytes h =
+    let s : Running d c = (h.fetched).running in
+    let f = flight-total (bears (cid x)) d c s in
+    same-box _ _ _ _ _ _ _ _ _ _
+    (ap (map (item (holds (executed d x bytes)))) (flight-same d c ans i _ _ x bytes h (omega arith)) ∙ same-items (holds d) _ (cid x) (apart d x bytes) _ (omega (arith, f, (h.fetched).flight)))
+    (ap (map (item (holds (executed d x bytes)))) (flight-same d c ans i _ _ x bytes h s.fetched) ∙ same-items (holds d) _ (cid x) (apart d x bytes) _ (omega (arith, f, (h.fetched).flight)))
+    (posted-item d c ans i x bytes h)
+    refl
+    (since-done d c ans i x bytes h)
+
+phases-done : (d : Host) (c : State) (ans : Effect) (i : ℕ) (x bytes : List ℕ) → Executes d c ans i x bytes → Phases (executed d x bytes) (executed_state c i x ans)
+phases-done d c ans i x bytes h k l =
+    let s : Running d c = (h.fetched).running in
+    let w = written d c ans i x bytes h in
+    elim (cases_eq k c.unread) [
+      | inl e ↦
+          let m : (d.consumed + k) % 32 ≡ c.posted % 32 = omega (arith, s.posted, e) in
+          let n : (d.consumed + k) % 64 ≡ c.posted % 64 = omega (arith, s.posted, e) in
+          let t : nat_lt k (c.unread + 1) ≡ true = lt-ltb k (c.unread + 1) (omega (arith, e)) in
+          let p : completion_of (completion_bytes (executed_state c i x ans).window (d.consumed + k)) ≡ finished c ans x =
+          ap completion_of (same-entry (executed_state c i x ans).window (d.consumed + k) c.posted m ∙ w.last) ∙ h.reads in
+          ap (λ (e : Completion). e.phase) p ∙ sym (same-turn (d.consumed + k) c.posted n) ∙ sym (ap (λ b. cond b (phase_of (d.consumed + k)) (not (phase_of (d.consumed + k)))) t)
+      | inr e ↦
+          let q : eqb ((d.consumed + k) % 32) (c.posted % 32) ≡ false = ne_eqb _ _ (λ m. omega (arith, s.posted, (h.fetched).room, l, e, m)) in
+          let t : nat_lt k (c.unread + 1) ≡ nat_lt k c.unread = grind (arith, common_steps, e) in
+          ap (λ b. (completion_of b).phase) (w.keeps.completions (d.consumed + k) q) ∙ s.phases k l ∙
+          sym (ap (λ b. cond b (phase_of (d.consumed + k)) (not (phase_of (d.consumed + k)))) t)
+    ]
+
+-- a sum over the commands loses what the executed one brought
+execute-total : (f : List ℕ → ℕ) (d : Host) (c : State) (ans : Effect) (i : ℕ) (x bytes : List ℕ) → Executes d c ans i x bytes →
+    f x + total f (remove c.taken i) + total f (commands (executed_state c i x ans).window c.fetched (in_flight d c)) ≡
+    total f c.taken + total f (commands c.window c.fetched (in_flight d c))
+execute-total f d c ans i x bytes h =
+    omega (arith, total-removed f c.taken i x (h.fetched).there, ap (total f) (flight-same d c ans i c.fetched (in_flight d c) x bytes h ((h.fetched).running).fetched))
+
+-- the slots keep their requests
+pending-done : (d : Host) (x bytes : List ℕ) → cid x < length d.slots → (k : ℕ) → (holds (executed d x bytes) k).waiting ≡ (slot_at d.slots k).waiting
+pending-done d x bytes l k =
+    elim (cases_Bool (eqb k (cid x))) [
+      | inl t ↦ rw (eqb-true k (cid x) t, here d x bytes l) refl
+      | inr t ↦ rw (apart d x bytes k t) refl
+    ]
+
+carried-done : (d : Host) (c : State) (ans : Effect) (i : ℕ) (x bytes : List ℕ) → Executes d c ans i x bytes → Carried (executed d x bytes) (executed_state c i x ans)
+carried-done d c ans i x bytes h k =
+    let u : answers_of k (unread (executed d x bytes) (executed_state c i x ans)) ≡ answers_of k (unread d c) + bears k x =
+    ap (answers_of k) (unread-more d c ans i x bytes h) ∙ total-append (replies k) (unread d c) (finished c ans x ∷ []) ∙ ap (λ n. answers_of k (unread d c) + n) (omega arith) in
+    rw (pending-done d x bytes (omega (arith, (h.fetched).within, ((h.fetched).running).slots)) k)
+    (omega (arith, ((h.fetched).running).carried k, u, execute-total (bears k) d c ans i x bytes h))
+
+pub execute-running : (d : Host) (c : State) (ans : Effect) (i : ℕ) (x bytes : List ℕ) → Executes d c ans i x bytes → Running (executed d x bytes) (executed_state c i x ans)
+execute-running d c ans i x bytes h =
+    let s : Running d c = (h.fetched).running in
+    let w = written d c ans i x bytes h in
+    let l : cid x < length d.slots = omega (arith, (h.fetched).within, s.slots) in
+    let u : steps (heard d) (unread (executed d x bytes) (executed_state c i x ans)) ≡ steps (heard d) (unread d c) + since d c =
+    ap (steps (heard d)) (unread-more d c ans i x bytes h) ∙ steps-more (heard d) (unread d c) (finished c ans x) in
+    record {
+      ready = s.ready;
+      window = w.keeps.size ∙ s.window;
+      slots = length-set d.slots (cid x) (record (slot_at d.slots (cid x)) { bytes = bytes }) ∙ s.slots;
+      put = s.put;
+      fetched = s.fetched;
+      consumed = s.consumed;
+      posted = omega (arith, s.posted);
+      waiting = s.waiting;
+      unheard = omega (arith, u, since-done d c ans i x bytes h, s.unheard);
+      room = s.room;
+      heads = rw (unread-more d c ans i x bytes h) (heads-more (unread d c) (finished c ans x) s.heads s.fetched);
+      of_lane = rw (unread-more d c ans i x bytes h) (of-more (queue_id c.lane) (unread d c) (finished c ans x) s.of_lane refl);
+      phases = phases-done d c ans i x bytes h;
+      carried = carried-done d c ans i x bytes h;
+      held = omega (
+        arith,
+        s.held,
+        length-remove c.taken i (slice_get_within c.taken i x (h.fetched).there),
+        live-set d.slots (cid x) (record (slot_at d.slots (cid x)) { bytes = bytes }) l,
+      );
+      suited = omega (
+        arith,
+        s.suited,
+        execute-total (odd (holds d)) d c ans i x bytes h,
+        same-odd (holds d) _ (cid x) (apart d x bytes) (remove c.taken i) (h.fetched).rest,
+        same-odd (holds d) _ (cid x) (apart d x bytes) (commands c.window c.fetched (in_flight d c)) (h.fetched).flight,
+        ap (total (odd (holds (executed d x bytes)))) (flight-same d c ans i c.fetched (in_flight d c) x bytes h s.fetched),
+      );
+    }
+
+-- the lane whose command was executed holds
+pub execute-holds : (first : ℕ) (d : Host) (c : State) (ans : Effect) (i : ℕ) (x bytes : List ℕ) → Holds first d c → d.up ≡ true → Executes d c ans i x bytes →
+    Holds first (executed d x bytes) (executed_state c i x ans)
+execute-holds first d c ans i x bytes s u h =
+    record {
+      failed = s.failed;
+      begun = s.begun;
+      ages = λ k. rw (pending-done d x bytes (omega (arith, (h.fetched).within, ((h.fetched).running).slots)) k) (s.ages k);
+      up = λ e. execute-running d c ans i x bytes h;
+      down = λ e. absurd (no-way d.up e u);
+    }

@@ -1,0 +1,152 @@
+use Rattle.std.proofs.Common.{◌≡◌, ℕ, ◌+◌, ◌-◌, ◌%◌, ◌<◌, ◌≤◌, List, [], ◌∷◌, ◌++◌, map, refl, ap, ◌∙◌, arith, zero, suc, true, length-append}
+use Rattle.std.proofs.lemmas.List.{map-append}
+use Rattle.std.proofs.lemmas.Bool.{lt-ltb}
+use Rattle.nvme_wire.specs.Completion.{Completion}
+use Rattle.nvme_fleet.specs.Mailboxes.{Item}
+use Rattle.nvme_fleet.specs.Views.{command_at, Host, State, box, after_fetch, rung, with_tail, in_flight, commands, item, Running, Holds, holds, total, odd, bears, Suited, Heads, last_head, heard, unread, since, commands_of, answers_of, live_at}
+use Rattle.nvme_fleet.proofs.Totals.{total-append}
+use Rattle.nvme_fleet.proofs.Queues.{same-box, commands-append}
+use Rattle.nvme_fleet.proofs.Places.{no-way}
+
+pub last-small : (h : ℕ) (es : List Completion) → h < 8 → Heads es → last_head h es < 8
+last-small h [] p q = p
+last-small h (e ∷ es) p q = last-small e.sq_head es q.0 q.1
+
+-- one entry fewer is in flight
+flight-fetch : (p f w : ℕ) → p < 8 → f < 8 → 0 < w → w ≤ (p + 8 - f) % 8 → (p + 8 - (f + 1) % 8) % 8 ≡ (p + 8 - f) % 8 - 1
+flight-fetch p f w a b d e = omega arith
+
+-- one more was fetched since
+since-fetch : (f l : ℕ) → f < 8 → l < 8 → (f + 8 - l) % 8 < 7 → ((f + 1) % 8 + 8 - l) % 8 ≡ (f + 8 - l) % 8 + 1
+since-fetch f l a b h = omega arith
+
+-- what was placed stays where it lay
+start-fetch : (f w : ℕ) → 0 < w → ((f + 1) % 8 + (w - 1)) % 8 ≡ (f + w) % 8
+start-fetch f w h = omega arith
+
+more : (d : Host) (c : State) → Running d c → 0 < c.waiting → since d (after_fetch c) ≡ since d c + 1
+more d c s p =
+    let h : heard d < 8 = omega arith in
+    let l : last_head (heard d) (unread d c) < 8 = last-small (heard d) (unread d c) h s.heads in
+    let e : since d c < 7 = omega (arith, s.unheard, s.room, s.waiting, p) in
+    since-fetch c.fetched (last_head (heard d) (unread d c)) s.fetched l e
+
+fewer : (d : Host) (c : State) → Running d c → 0 < c.waiting → in_flight d (after_fetch c) ≡ in_flight d c - 1
+fewer d c s p = flight-fetch d.put c.fetched c.waiting s.put s.fetched p s.waiting
+
+rung-first : (w : List ℕ) (s n : ℕ) (f : List ℕ → Item) → 0 < n → map f (commands w s n) ≡ f (command_at w s) ∷ map f (commands w ((s + 1) % 8) (n - 1))
+rung-first w s zero f p = let b : ⊥ = omega (arith, p) in absurd b
+rung-first w s (suc n) f p = let e : suc n - 1 ≡ n = omega arith in rw e refl
+
+placed-same : (d : Host) (c : State) → Running d c → 0 < c.waiting → (f : List ℕ → Item) →
+    map f (commands c.window (((c.fetched + 1) % 8 + (c.waiting - 1)) % 8) (in_flight d (after_fetch c) - (c.waiting - 1))) ≡
+    map f (commands c.window ((c.fetched + c.waiting) % 8) (in_flight d c - c.waiting))
+placed-same d c s p f =
+    let e : in_flight d (after_fetch c) - (c.waiting - 1) ≡ in_flight d c - c.waiting = omega (arith, fewer d c s p, p, s.waiting) in
+    rw (start-fetch c.fetched c.waiting p, e) refl
+
+-- Fetch takes the first request that is rung
+pub fetch-rung : (d : Host) (c : State) → 0 < c.waiting →
+    (box d c).rung ≡ item (holds d) (command_at c.window c.fetched) ∷ (box d (after_fetch c)).rung
+unfolding box
+fetch-rung d c p = rung-first c.window c.fetched c.waiting (item (holds d)) p
+
+pub fetch-box : (d : Host) (c : State) → Running d c → 0 < c.waiting →
+    box d (after_fetch c) ≡ record (box d c) { rung = (box d (after_fetch c)).rung; since = (box d c).since + 1 }
+unfolding box
+fetch-box d c s p = same-box _ _ _ _ _ _ _ _ _ _ (placed-same d c s p (item (holds d))) refl refl refl (more d c s p)
+
+pub idle-rung : (d : Host) (c : State) → c.waiting ≡ 0 → (box d c).rung ≡ []
+unfolding box
+idle-rung d c z = ap (λ n. map (item (holds d)) (commands c.window c.fetched n)) z
+
+-- Ring moves what was placed behind what was rung
+rung-all : (d : Host) (c : State) (f : List ℕ → Item) → Running d c →
+    map f (commands c.window c.fetched (in_flight d c)) ≡
+    map f (commands c.window c.fetched c.waiting) ++ map f (commands c.window ((c.fetched + c.waiting) % 8) (in_flight d c - c.waiting))
+rung-all d c f s =
+    let e : in_flight d c ≡ c.waiting + (in_flight d c - c.waiting) = omega (arith, s.waiting) in
+    ap (λ n. map f (commands c.window c.fetched n)) e ∙
+    ap (map f) (commands-append c.window c.fetched c.waiting (in_flight d c - c.waiting) s.fetched) ∙
+    map-append f (commands c.window c.fetched c.waiting) _
+
+placed-none : (d : Host) (c : State) (f : List ℕ → Item) (n : ℕ) → map f (commands c.window n (in_flight d c - in_flight d c)) ≡ []
+placed-none d c f n =
+    let e : in_flight d c - in_flight d c ≡ 0 = omega arith in
+    ap (λ k. map f (commands c.window n k)) e
+
+pub ring-box : (d : Host) (c : State) → Running d c → box d (rung d c) ≡ record (box d c) { rung = (box d c).rung ++ (box d c).placed; placed = [] }
+unfolding box
+ring-box d c s = rw (rung-all d c (item (holds d)) s, placed-none d c (item (holds d)) ((c.fetched + in_flight d c) % 8)) refl
+
+pub ring-running : (d : Host) (c : State) → Running d c → Running d (rung d c)
+ring-running d c s =
+    record {
+      ready = s.ready;
+      window = s.window;
+      slots = s.slots;
+      put = s.put;
+      fetched = s.fetched;
+      consumed = s.consumed;
+      posted = s.posted;
+      waiting = omega arith;
+      unheard = s.unheard;
+      room = s.room;
+      heads = s.heads;
+      of_lane = s.of_lane;
+      phases = s.phases;
+      carried = s.carried;
+      held = s.held;
+      suited = s.suited;
+    }
+
+-- a lane whose driver stays
+pub same-up : (first : ℕ) (d : Host) (c c' : State) → Holds first d c → d.up ≡ true → Running d c' → Holds first d c'
+same-up first d c c' s u r = record { failed = s.failed; begun = s.begun; ages = s.ages; up = λ e. r; down = λ e. absurd (no-way d.up e u) }
+
+-- a sum over the entries in flight, the first of them apart
+first-total : (f : List ℕ → ℕ) (w : List ℕ) (s n : ℕ) → 0 < n →
+    total f (commands w s n) ≡ f (command_at w s) + total f (commands w ((s + 1) % 8) (n - 1))
+first-total f w s zero p = let b : ⊥ = omega (arith, p) in absurd b
+first-total f w s (suc n) p = let e : suc n - 1 ≡ n = omega arith in rw e refl
+
+-- what is fetched leaves the entries in flight and joins the list: a sum over both stays
+moved-fetch : (f : List ℕ → ℕ) (d : Host) (c : State) → Running d c → 0 < c.waiting →
+    total f (after_fetch c).taken + total f (commands c.window ((c.fetched + 1) % 8) (in_flight d (after_fetch c))) ≡
+    total f c.taken + total f (commands c.window c.fetched (in_flight d c))
+moved-fetch f d c s p =
+    let q : 0 < in_flight d c = omega (arith, s.waiting, p) in
+    rw (fewer d c s p)
+    (omega (arith, first-total f c.window c.fetched (in_flight d c) q, total-append f c.taken (command_at c.window c.fetched ∷ [])))
+
+carried-fetch : (d : Host) (c : State) → Running d c → 0 < c.waiting → (slot : ℕ) →
+    commands_of slot (after_fetch c).taken + commands_of slot (commands c.window ((c.fetched + 1) % 8) (in_flight d (after_fetch c))) + answers_of slot (unread d c) ≡ live_at d.slots slot
+carried-fetch d c s p slot = omega (arith, s.carried slot, moved-fetch (bears slot) d c s p)
+
+suited-fetch : (d : Host) (c : State) → Running d c → 0 < c.waiting → Suited d (after_fetch c)
+suited-fetch d c s p = moved-fetch (odd (holds d)) d c s p ∙ s.suited
+
+pub fetch-running : (d : Host) (c : State) → Running d c → 0 < c.waiting → Running d (after_fetch c)
+fetch-running d c s p =
+    record {
+      ready = s.ready;
+      window = s.window;
+      slots = s.slots;
+      put = s.put;
+      fetched = omega arith;
+      consumed = s.consumed;
+      posted = s.posted;
+      waiting = omega (arith, fewer d c s p, p, s.waiting);
+      unheard = omega (arith, fewer d c s p, more d c s p, s.unheard, p, s.waiting);
+      room = s.room;
+      heads = s.heads;
+      of_lane = s.of_lane;
+      phases = s.phases;
+      carried = λ slot. carried-fetch d c s p slot;
+      held = omega (arith, fewer d c s p, s.held, p, s.waiting, length-append c.taken (command_at c.window c.fetched ∷ []));
+      suited = suited-fetch d c s p;
+    }
+
+-- the tail's doorbell leaves waiting what was put and not fetched
+pub tail-written : (d : Host) (c : State) → c.ready ≡ true → d.put < 8 → with_tail c d.put ≡ rung d c
+tail-written d c r h = rw (r, lt-ltb d.put 8 h) refl

@@ -1,0 +1,94 @@
+use Rattle.std.proofs.Common.{◌≡◌, ℕ, ◌+◌, ◌-◌, ◌*◌, ◌%◌, ◌<◌, ◌≤◌, List, length, refl, arith, zero, suc, false, eqb, take, drop, ◌⊎◌, inl, inr, subst, sym}
+use Rattle.std.proofs.lemmas.Bool.{cases_lt, eqb-false, ne_eqb}
+use Rattle.nvme_spec.specs.Bytes.{with_bytes}
+use Rattle.nvme_fleet.specs.Views.{command_at, completion_bytes, commands, completions}
+use Rattle.nvme_fleet.proofs.Windows.{stored-length, stored-apart, stored-in}
+
+-- two queue pages that differ in the p-th submission entry and the m-th completion entry at most
+pub record Keeps (w w' : List ℕ) (p m : ℕ) : Type 0 where
+  pub size : length w' ≡ length w
+  pub commands : (k : ℕ) → k < 8 → eqb k p ≡ false → command_at w' k ≡ command_at w k
+  pub completions : (n : ℕ) → eqb (n % 32) m ≡ false → completion_bytes w' n ≡ completion_bytes w n
+
+apart-entries : (k p n : ℕ) → eqb k p ≡ false → n ≤ 64 → (64 * k + 64 ≤ 64 * p) ⊎ (64 * p + n ≤ 64 * k)
+apart-entries k p n q h =
+    elim (cases_lt k p) [
+      | inl l ↦ inl (omega (arith, l))
+      | inr g ↦ inr (let e = eqb-false k p q in omega (arith, g, e, h))
+    ]
+
+apart-16 : (base k s : ℕ) → eqb k s ≡ false → (base + 16 * k + 16 ≤ base + 16 * s) ⊎ (base + 16 * s + 16 ≤ base + 16 * k)
+apart-16 base k s q =
+    elim (cases_lt k s) [
+      | inl l ↦ inl (omega (arith, l))
+      | inr g ↦ inr (let e = eqb-false k s q in omega (arith, g, e))
+    ]
+
+-- a new submission entry
+pub record Enters (w w' : List ℕ) (p : ℕ) (entry : List ℕ) : Type 0 where
+  pub keeps : Keeps w w' p 32
+  pub last : command_at w' p ≡ entry
+
+pub enters : (w entry : List ℕ) (p : ℕ) → length w ≡ 8192 → p < 8 → length entry ≡ 64 → Enters w (with_bytes w (64 * p) entry) p entry
+enters w entry p l h b =
+    let i : 64 * p + length entry ≤ length w = omega (arith, l, h, b) in
+    record {
+      keeps =
+          record {
+            size = stored-length w entry (64 * p) i;
+            commands = λ k g q. stored-apart w entry (64 * p) (64 * k) 64 i (apart-entries k p (length entry) q (omega (arith, b)));
+            completions = λ n q. stored-apart w entry (64 * p) (4096 + 16 * (n % 32)) 16 i (inr (omega (arith, h, b)));
+          };
+      last = subst (λ n. take n (drop (64 * p) (with_bytes w (64 * p) entry)) ≡ entry) b (stored-in w entry (64 * p) (omega (arith, l, h)));
+    }
+
+-- a new completion entry
+pub record Answers (w w' : List ℕ) (m : ℕ) (entry : List ℕ) : Type 0 where
+  pub keeps : Keeps w w' 8 m
+  pub last : take 16 (drop (4096 + 16 * m) w') ≡ entry
+
+pub answered : (w entry : List ℕ) (m : ℕ) → length w ≡ 8192 → m < 32 → length entry ≡ 16 → Answers w (with_bytes w (4096 + 16 * m) entry) m entry
+answered w entry m l h b =
+    let i : 4096 + 16 * m + length entry ≤ length w = omega (arith, l, h, b) in
+    record {
+      keeps =
+          record {
+            size = stored-length w entry (4096 + 16 * m) i;
+            commands = λ k g q. stored-apart w entry (4096 + 16 * m) (64 * k) 64 i (inl (omega (arith, g)));
+            completions = λ n q. stored-apart w entry (4096 + 16 * m) (4096 + 16 * (n % 32)) 16 i (subst (λ x. (4096 + 16 * (n % 32) + 16 ≤ 4096 + 16 * m) ⊎ (4096 + 16 * m + x ≤ 4096 + 16 * (n % 32))) (sym b) (apart-16 4096 (n % 32) m q));
+          };
+      last = subst (λ n. take n (drop (4096 + 16 * m) (with_bytes w (4096 + 16 * m) entry)) ≡ entry) b (stored-in w entry (4096 + 16 * m) (omega (arith, l, h)));
+    }
+
+-- a stretch of entries up to the p-th, which alone differs
+pub commands-kept : (w w' : List ℕ) (p m from n : ℕ) → Keeps w w' p m → p < 8 → from < 8 → n ≤ (p + 8 - from) % 8 → commands w' from n ≡ commands w from n
+commands-kept w w' p m from zero k a b h = refl
+commands-kept w w' p m from (suc n) k a b h =
+    let q : eqb from p ≡ false = ne_eqb from p (λ e. omega (arith, e, h, b)) in
+    let r : (from + 1) % 8 < 8 = omega arith in
+    let g : n ≤ (p + 8 - (from + 1) % 8) % 8 = omega (arith, h, a, b) in
+    rw (k.commands from b q, commands-kept w w' p m ((from + 1) % 8) n k a r g) refl
+
+-- where no submission entry differs
+pub commands-same : (w w' : List ℕ) (m from n : ℕ) → Keeps w w' 8 m → from < 8 → commands w' from n ≡ commands w from n
+commands-same w w' m from zero k b = refl
+commands-same w w' m from (suc n) k b =
+    let q : eqb from 8 ≡ false = ne_eqb from 8 (λ e. omega (arith, e, b)) in
+    let r : (from + 1) % 8 < 8 = omega arith in
+    rw (k.commands from b q, commands-same w w' m ((from + 1) % 8) n k r) refl
+
+-- a stretch of completions up to the m-th, which alone differs
+pub completions-kept : (w w' : List ℕ) (p m n k : ℕ) → Keeps w w' p m → m < 32 → n < 64 → k < 32 → k ≤ (m + 32 - n % 32) % 32 → completions w' n k ≡ completions w n k
+completions-kept w w' p m n zero h a b l g = refl
+completions-kept w w' p m n (suc k) h a b l g =
+    let q : eqb (n % 32) m ≡ false = ne_eqb (n % 32) m (λ e. omega (arith, e, g)) in
+    let r : (n + 1) % 64 < 64 = omega arith in
+    let f : k ≤ (m + 32 - (n + 1) % 64 % 32) % 32 = omega (arith, g, a, b, l) in
+    rw (h.completions n q, completions-kept w w' p m ((n + 1) % 64) k h a r (omega (arith, l)) f) refl
+
+-- where no completion entry differs
+pub completions-same : (w w' : List ℕ) (p n k : ℕ) → Keeps w w' p 32 → completions w' n k ≡ completions w n k
+completions-same w w' p n zero h = refl
+completions-same w w' p n (suc k) h =
+    let q : eqb (n % 32) 32 ≡ false = ne_eqb (n % 32) 32 (λ e. omega (arith, e)) in
+    rw (h.completions n q, completions-same w w' p ((n + 1) % 64) k h) refl

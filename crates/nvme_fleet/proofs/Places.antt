@@ -1,0 +1,250 @@
+use Rattle.std.proofs.Common.{◌≡◌, ℕ, ◌+◌, ◌-◌, ◌%◌, ◌<◌, ◌≤◌, List, [], ◌∷◌, ◌++◌, length, map, refl, ap, sym, ◌∙◌, arith, true, false, cond, eqb, Option, Some, None, inl, inr, slice_set, Bool}
+use Rattle.std.proofs.lemmas.List.{map-append, length-set}
+use Rattle.std.proofs.lemmas.Bool.{cases_Bool, eqb-true, ne_eqb}
+use Rattle.std.proofs.lemmas.Grind.{common_steps}
+use Rattle.nvme_driver.specs.declared.slots.Waiting.{Waiting}
+use Rattle.nvme_wire.specs.Submission.{cid}
+use Rattle.nvme_fleet.specs.Views.{live_in, suits, item_in, Host, State, filled, placed, placed_state, in_flight, commands, item, box, Running, Holds, Ages, AgeIn, last_head, heard, unread, since, commands_of, answers_of, live_at, slot_at, answers, holds, total, odd, bears, Carried}
+use Rattle.nvme_fleet.proofs.Totals.{total-append, live-set, slot-same, slot-other}
+use Rattle.nvme_fleet.proofs.Slots.{Apart, apart-set, same-items, same-odd, same-answers}
+use Rattle.nvme_fleet.proofs.Keeps.{Enters, enters, commands-kept, completions-same}
+use Rattle.nvme_fleet.proofs.Queues.{commands-append, flight-total, same-box, eqb-sym}
+
+-- what holds where a request is placed in a slot that is not live, by this command
+pub record Places (d : Host) (c : State) (x : List ℕ) (w : Waiting) (slot : ℕ) (bytes list : List ℕ) : Type 0 where
+  pub running : Running d c
+  pub free : live_at d.slots slot ≡ 0
+  pub within : slot < 24
+  pub room : d.unheard < 7
+  pub size : length x ≡ 64
+  pub named : cid x ≡ slot
+  pub live : w.live ≡ true
+  pub ticket : w.ticket.0 ≡ d.next
+  pub suits_it : suits (filled w bytes list) x ≡ true
+
+entered : (d : Host) (c : State) (x : List ℕ) (w : Waiting) (slot : ℕ) (bytes list : List ℕ) → Places d c x w slot bytes list →
+    Enters c.window (placed_state d c x).window d.put x
+entered d c x w slot bytes list h = enters c.window x d.put (h.running).window (h.running).put h.size
+
+-- only the slot changes
+apart : (d : Host) (w : Waiting) (slot : ℕ) (bytes list : List ℕ) → Apart slot (holds d) (holds (placed d w slot bytes list))
+apart d w slot bytes list = apart-set d.slots slot (filled w bytes list)
+
+more-flight : (d : Host) (c : State) (x : List ℕ) (w : Waiting) (slot : ℕ) (bytes list : List ℕ) → Places d c x w slot bytes list →
+    in_flight (placed d w slot bytes list) (placed_state d c x) ≡ in_flight d c + 1
+more-flight d c x w slot bytes list h =
+    let s : Running d c = h.running in
+    let n : in_flight d c < 7 = omega (arith, s.unheard, h.room) in
+    omega (arith, s.put, s.fetched, n)
+
+-- entries up to the tail stay, and the new one is the last
+stretch : (d : Host) (c : State) (x : List ℕ) (w : Waiting) (slot from n : ℕ) (bytes list : List ℕ) → Places d c x w slot bytes list → from < 8 → n ≡ (d.put + 8 - from) % 8 →
+    commands (placed_state d c x).window from (n + 1) ≡ commands c.window from n ++ x ∷ []
+stretch d c x w slot from n bytes list h b e =
+    let s : Running d c = h.running in
+    let p : (from + n) % 8 ≡ d.put = omega (arith, s.put, b, e) in
+    let k = entered d c x w slot bytes list h in
+    let z : commands (placed_state d c x).window ((from + n) % 8) 1 ≡ x ∷ [] =
+    ap (λ i. commands (placed_state d c x).window i 1) p ∙ ap (λ x. x ∷ []) k.last in
+    commands-append (placed_state d c x).window from n 1 b ∙
+    ap (λ t. t ++ commands (placed_state d c x).window ((from + n) % 8) 1) (commands-kept c.window (placed_state d c x).window d.put 32 from n k.keeps s.put b (omega (arith, e))) ∙
+    ap (λ t. commands c.window from n ++ t) z
+
+same-unread : (d : Host) (c : State) (x : List ℕ) (w : Waiting) (slot : ℕ) (bytes list : List ℕ) → Places d c x w slot bytes list →
+    unread (placed d w slot bytes list) (placed_state d c x) ≡ unread d c
+same-unread d c x w slot bytes list h = completions-same c.window (placed_state d c x).window d.put d.consumed c.unread (entered d c x w slot bytes list h).keeps
+
+heard-placed : (p u : ℕ) → p < 8 → u < 7 → ((p + 1) % 8 + 8 - (u + 1)) % 8 ≡ (p + 8 - u) % 8
+heard-placed p u a b = omega arith
+
+same-since : (d : Host) (c : State) (x : List ℕ) (w : Waiting) (slot : ℕ) (bytes list : List ℕ) → Places d c x w slot bytes list →
+    since (placed d w slot bytes list) (placed_state d c x) ≡ since d c
+same-since d c x w slot bytes list h =
+    ap (λ n. (c.fetched + 8 - last_head n (unread (placed d w slot bytes list) (placed_state d c x))) % 8) (heard-placed d.put d.unheard (h.running).put h.room) ∙
+    ap (λ es. (c.fetched + 8 - last_head (heard d) es) % 8) (same-unread d c x w slot bytes list h)
+
+-- nobody bears a slot that is not live
+pub record Bare (d : Host) (c : State) (slot : ℕ) : Type 0 where
+  pub taken : commands_of slot c.taken ≡ 0
+  pub flight : commands_of slot (commands c.window c.fetched (in_flight d c)) ≡ 0
+  pub rung : commands_of slot (commands c.window c.fetched c.waiting) ≡ 0
+  pub placed : commands_of slot (commands c.window ((c.fetched + c.waiting) % 8) (in_flight d c - c.waiting)) ≡ 0
+  pub unread : answers_of slot (unread d c) ≡ 0
+
+pub bare : (d : Host) (c : State) (slot : ℕ) → Running d c → live_at d.slots slot ≡ 0 → Bare d c slot
+bare d c slot s z =
+    let f = flight-total (bears slot) d c s in
+    record {
+      taken = omega (arith, s.carried slot, z);
+      flight = omega (arith, s.carried slot, z);
+      rung = omega (arith, s.carried slot, z, f);
+      placed = omega (arith, s.carried slot, z, f);
+      unread = omega (arith, s.carried slot, z);
+    }
+
+-- the slot of the new command
+here : (d : Host) (c : State) (x : List ℕ) (w : Waiting) (slot : ℕ) (bytes list : List ℕ) → Places d c x w slot bytes list →
+    holds (placed d w slot bytes list) (cid x) ≡ filled w bytes list
+here d c x w slot bytes list h =
+    ap (holds (placed d w slot bytes list)) h.named ∙ slot-same d.slots slot (filled w bytes list) (omega (arith, h.within, (h.running).slots))
+
+-- its request
+new-item : (d : Host) (c : State) (x : List ℕ) (w : Waiting) (slot : ℕ) (bytes list : List ℕ) → Places d c x w slot bytes list →
+    item (holds (placed d w slot bytes list)) x ≡ item_in (filled w bytes list) x
+new-item d c x w slot bytes list h = ap (λ s. item_in s x) (here d c x w slot bytes list h)
+
+placed-more : (d : Host) (c : State) (x : List ℕ) (w : Waiting) (slot : ℕ) (bytes list : List ℕ) → Places d c x w slot bytes list →
+    map (item (holds (placed d w slot bytes list)))
+    (commands (placed_state d c x).window ((c.fetched + c.waiting) % 8) (in_flight (placed d w slot bytes list) (placed_state d c x) - c.waiting)) ≡
+    map (item (holds d)) (commands c.window ((c.fetched + c.waiting) % 8) (in_flight d c - c.waiting)) ++
+    item_in (filled w bytes list) x ∷ []
+placed-more d c x w slot bytes list h =
+    let s : Running d c = h.running in
+    let n : in_flight (placed d w slot bytes list) (placed_state d c x) - c.waiting ≡ (in_flight d c - c.waiting) + 1 = omega (arith, more-flight d c x w slot bytes list h, s.waiting) in
+    let b : (c.fetched + c.waiting) % 8 < 8 = omega arith in
+    let e : in_flight d c - c.waiting ≡ (d.put + 8 - (c.fetched + c.waiting) % 8) % 8 = omega (arith, s.put, s.fetched, s.waiting) in
+    ap (λ k. map (item (holds (placed d w slot bytes list))) (commands (placed_state d c x).window ((c.fetched + c.waiting) % 8) k)) n ∙
+    ap (map (item (holds (placed d w slot bytes list)))) (stretch d c x w slot ((c.fetched + c.waiting) % 8) (in_flight d c - c.waiting) bytes list h b e) ∙
+    map-append (item (holds (placed d w slot bytes list))) (commands c.window ((c.fetched + c.waiting) % 8) (in_flight d c - c.waiting)) (x ∷ []) ∙
+    ap (λ t. t ++ item (holds (placed d w slot bytes list)) x ∷ []) (same-items (holds d) _ slot (apart d w slot bytes list) _ (bare d c slot s h.free).placed) ∙
+    ap (λ x. map (item (holds d)) (commands c.window ((c.fetched + c.waiting) % 8) (in_flight d c - c.waiting)) ++ x ∷ []) (new-item d c x w slot bytes list h)
+
+rung-same : (d : Host) (c : State) (x : List ℕ) (w : Waiting) (slot : ℕ) (bytes list : List ℕ) → Places d c x w slot bytes list →
+    commands (placed_state d c x).window c.fetched c.waiting ≡ commands c.window c.fetched c.waiting
+rung-same d c x w slot bytes list h =
+    let s : Running d c = h.running in
+    commands-kept c.window (placed_state d c x).window d.put 32 c.fetched c.waiting (entered d c x w slot bytes list h).keeps s.put s.fetched s.waiting
+
+posted-same : (d : Host) (c : State) (x : List ℕ) (w : Waiting) (slot : ℕ) (bytes list : List ℕ) → Places d c x w slot bytes list →
+    answers (holds (placed d w slot bytes list)) (heard (placed d w slot bytes list)) (unread (placed d w slot bytes list) (placed_state d c x)) ≡
+    answers (holds d) (heard d) (unread d c)
+posted-same d c x w slot bytes list h =
+    ap (answers (holds (placed d w slot bytes list)) (heard (placed d w slot bytes list))) (same-unread d c x w slot bytes list h) ∙
+    ap (λ n. answers (holds (placed d w slot bytes list)) n (unread d c)) (heard-placed d.put d.unheard (h.running).put h.room) ∙
+    same-answers (holds d) _ slot (apart d w slot bytes list) (heard d) (unread d c) (bare d c slot h.running h.free).unread
+
+-- Place appends the request to those that are placed
+pub place-box : (d : Host) (c : State) (x : List ℕ) (w : Waiting) (slot : ℕ) (bytes list : List ℕ) → Places d c x w slot bytes list →
+    box (placed d w slot bytes list) (placed_state d c x) ≡
+    record (box d c) {
+      placed = (box d c).placed ++ item_in (filled w bytes list) x ∷ [];
+      unheard = (box d c).unheard + 1;
+    }
+unfolding box
+place-box d c x w slot bytes list h =
+    same-box _ _ _ _ _ _ _ _ _ _
+    (placed-more d c x w slot bytes list h)
+    (ap (map (item (holds (placed d w slot bytes list)))) (rung-same d c x w slot bytes list h) ∙ same-items (holds d) _ slot (apart d w slot bytes list) _ (bare d c slot h.running h.free).rung)
+    (posted-same d c x w slot bytes list h)
+    refl
+    (same-since d c x w slot bytes list h)
+
+-- what a sum over the entries in flight gains
+flight-more : (f : List ℕ → ℕ) (d : Host) (c : State) (x : List ℕ) (w : Waiting) (slot : ℕ) (bytes list : List ℕ) → Places d c x w slot bytes list →
+    total f (commands (placed_state d c x).window c.fetched (in_flight (placed d w slot bytes list) (placed_state d c x))) ≡
+    total f (commands c.window c.fetched (in_flight d c)) + f x
+flight-more f d c x w slot bytes list h =
+    let s : Running d c = h.running in
+    let t : total f (x ∷ []) ≡ f x = omega arith in
+    ap (λ n. total f (commands (placed_state d c x).window c.fetched n)) (more-flight d c x w slot bytes list h) ∙
+    ap (total f) (stretch d c x w slot c.fetched (in_flight d c) bytes list h s.fetched refl) ∙
+    total-append f (commands c.window c.fetched (in_flight d c)) (x ∷ []) ∙
+    ap (λ n. total f (commands c.window c.fetched (in_flight d c)) + n) t
+
+-- the new request is live, and bears its slot
+new-live : (w : Waiting) (bytes list : List ℕ) → w.live ≡ true → live_in (filled w bytes list) ≡ 1
+new-live w bytes list h = ap (λ b. cond b 1 0) h
+
+new-bears : (x : List ℕ) (slot k : ℕ) (b : Bool) → cid x ≡ slot → eqb slot k ≡ b → bears k x ≡ cond b 1 0
+new-bears x slot k b named t = ap (λ n. cond (eqb n k) 1 0) named ∙ ap (λ b. cond b 1 0) t
+
+carried-place : (d : Host) (c : State) (x : List ℕ) (w : Waiting) (slot : ℕ) (bytes list : List ℕ) → Places d c x w slot bytes list → Carried (placed d w slot bytes list) (placed_state d c x)
+carried-place d c x w slot bytes list h k =
+    let s : Running d c = h.running in
+    let f = flight-more (bears k) d c x w slot bytes list h in
+    let u : answers_of k (unread (placed d w slot bytes list) (placed_state d c x)) ≡ answers_of k (unread d c) = ap (answers_of k) (same-unread d c x w slot bytes list h) in
+    elim (cases_Bool (eqb slot k)) [
+      | inl t ↦
+          let e : slot ≡ k = eqb-true slot k t in
+          let p : slot_at (slice_set d.slots slot (filled w bytes list)) k ≡ filled w bytes list =
+          ap (slot_at (slice_set d.slots slot (filled w bytes list))) (sym e) ∙ slot-same d.slots slot (filled w bytes list) (omega (arith, h.within, s.slots)) in
+          let v : live_at d.slots k ≡ 0 = ap (live_at d.slots) (sym e) ∙ h.free in
+          let b : bears k x ≡ 1 = new-bears x slot k true h.named t in
+          let q = ap live_in p ∙ new-live w bytes list h.live in
+          omega (arith, s.carried k, v, f, u, b, q)
+      | inr t ↦
+          let q : eqb k slot ≡ false = eqb-sym slot k t in
+          let b : bears k x ≡ 0 = new-bears x slot k false h.named t in
+          rw (slot-other d.slots slot (filled w bytes list) k q) (omega (arith, s.carried k, f, u, b))
+    ]
+
+new-suits : (d : Host) (c : State) (x : List ℕ) (w : Waiting) (slot : ℕ) (bytes list : List ℕ) → Places d c x w slot bytes list → odd (holds (placed d w slot bytes list)) x ≡ 0
+new-suits d c x w slot bytes list h =
+    ap (λ s. cond (suits s x) 0 1) (here d c x w slot bytes list h) ∙ ap (λ b. cond b 0 1) h.suits_it
+
+never : (n : ℕ) → eqb (n % 32) 32 ≡ false
+never n = ne_eqb (n % 32) 32 (λ e. omega (arith, e))
+
+pub place-running : (d : Host) (c : State) (x : List ℕ) (w : Waiting) (slot : ℕ) (bytes list : List ℕ) → Places d c x w slot bytes list → Running (placed d w slot bytes list) (placed_state d c x)
+place-running d c x w slot bytes list h =
+    let s : Running d c = h.running in
+    let b : Bare d c slot = bare d c slot s h.free in
+    let m = more-flight d c x w slot bytes list h in
+    let k = entered d c x w slot bytes list h in
+    record {
+      ready = s.ready;
+      window = k.keeps.size ∙ s.window;
+      slots = length-set d.slots slot (filled w bytes list) ∙ s.slots;
+      put = omega arith;
+      fetched = s.fetched;
+      consumed = s.consumed;
+      posted = s.posted;
+      waiting = omega (arith, m, s.waiting);
+      unheard = rw (heard-placed d.put d.unheard s.put h.room, same-unread d c x w slot bytes list h) (omega (arith, m, s.unheard));
+      room = omega (arith, h.room);
+      heads = rw (same-unread d c x w slot bytes list h) s.heads;
+      of_lane = rw (same-unread d c x w slot bytes list h) s.of_lane;
+      phases = λ i l. rw (k.keeps.completions (d.consumed + i) (never (d.consumed + i))) (s.phases i l);
+      carried = carried-place d c x w slot bytes list h;
+      held = omega (arith, m, s.held, live-set d.slots slot (filled w bytes list) (omega (arith, h.within, s.slots)), h.free, new-live w bytes list h.live);
+      suited = omega (
+        arith,
+        s.suited,
+        flight-more (odd (holds (placed d w slot bytes list))) d c x w slot bytes list h,
+        same-odd (holds d) _ slot (apart d w slot bytes list) c.taken b.taken,
+        same-odd (holds d) _ slot (apart d w slot bytes list) (commands c.window c.fetched (in_flight d c)) b.flight,
+        new-suits d c x w slot bytes list h,
+      );
+    }
+
+-- a request may be older than a later next one
+pub age-later : (first n m : ℕ) (o : Option Waiting) → n ≤ m → AgeIn first n o → AgeIn first m o
+age-later first n m None h a = tt
+age-later first n m (Some p) h a = (a.0, omega (arith, h, a.1))
+
+ages-place : (first : ℕ) (d : Host) (w : Waiting) (slot : ℕ) (bytes list : List ℕ) → slot < length d.slots → w.live ≡ true → w.ticket.0 ≡ d.next → first ≤ d.next → Ages first d.next d.slots →
+    Ages first (d.next + 1) (slice_set d.slots slot (filled w bytes list))
+ages-place first d w slot bytes list h l e' b a k =
+    elim (cases_Bool (eqb k slot)) [
+      | inl t ↦
+          let e : slot ≡ k = sym (eqb-true k slot t) in
+          let p : slot_at (slice_set d.slots slot (filled w bytes list)) k ≡ filled w bytes list =
+          ap (slot_at (slice_set d.slots slot (filled w bytes list))) (sym e) ∙ slot-same d.slots slot (filled w bytes list) h in
+          rw (p, l, e') (b, omega arith)
+      | inr t ↦ rw (slot-other d.slots slot (filled w bytes list) k t) (age-later first d.next (d.next + 1) (slot_at d.slots k).waiting (omega arith) (a k))
+    ]
+
+pub no-way : (b : Bool) → b ≡ false → b ≡ true → ⊥
+no-way b e f = grind (arith, common_steps, e, f)
+
+-- the lane where a request is placed holds
+pub place-holds : (first : ℕ) (d : Host) (c : State) (x : List ℕ) (w : Waiting) (slot : ℕ) (bytes list : List ℕ) → Holds first d c → d.up ≡ true → Places d c x w slot bytes list →
+    Holds first (placed d w slot bytes list) (placed_state d c x)
+place-holds first d c x w slot bytes list s u h =
+    record {
+      failed = s.failed;
+      begun = omega (arith, s.begun);
+      ages = ages-place first d w slot bytes list (omega (arith, h.within, (h.running).slots)) h.live h.ticket s.begun s.ages;
+      up = λ e. place-running d c x w slot bytes list h;
+      down = λ e. absurd (no-way d.up e u);
+    }

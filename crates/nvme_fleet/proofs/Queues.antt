@@ -1,0 +1,91 @@
+use Rattle.std.proofs.Common.{◌≡◌, ℕ, ◌+◌, ◌-◌, ◌%◌, ◌<◌, List, [], ◌∷◌, ◌++◌, length, map, refl, ap, ◌∙◌, arith, zero, suc, true, false, eqb, take, drop, ◌*◌}
+use Rattle.std.specs.Prelude.{nat_lt}
+use Rattle.std.proofs.lemmas.List.{length-map}
+use Rattle.std.proofs.lemmas.Grind.{common_steps}
+use Rattle.nvme_wire.specs.Completion.{Completion}
+use Rattle.nvme_fleet.specs.Mailboxes.{Item, PostedAnswer, LaneBox}
+use Rattle.nvme_wire.specs.Completion.{completion_of}
+use Rattle.nvme_fleet.specs.Views.{command_at, completion_bytes, phase_of, Host, State, Slot, in_flight, commands, completions, item, answers, box, Running, holds, heard, unread, total, live_in}
+use Rattle.nvme_fleet.proofs.Totals.{total-append}
+
+-- a step round the ring
+turn : (s a : ℕ) → ((s + 1) % 8 + a) % 8 ≡ (s + suc a) % 8
+turn s a = omega arith
+
+-- the entries of two stretches, one behind the other
+pub commands-append : (w : List ℕ) (s : ℕ) (a b : ℕ) → s < 8 → commands w s (a + b) ≡ commands w s a ++ commands w ((s + a) % 8) b
+commands-append w s zero b h =
+    let e : (s + 0) % 8 ≡ s = omega arith in
+    let z : 0 + b ≡ b = omega arith in
+    rw (e, z) refl
+commands-append w s (suc a) b h =
+    let e : suc a + b ≡ suc (a + b) = omega arith in
+    let r : (s + 1) % 8 < 8 = omega arith in
+    rw e (ap (λ t. command_at w s ∷ t) (rw (turn s a) at (commands-append w ((s + 1) % 8) a b r)))
+
+pub completions-append : (w : List ℕ) (n a b : ℕ) → n < 64 → completions w n (a + b) ≡ completions w n a ++ completions w ((n + a) % 64) b
+completions-append w n zero b h =
+    let e : (n + 0) % 64 ≡ n = omega arith in
+    let z : 0 + b ≡ b = omega arith in
+    rw (e, z) refl
+completions-append w n (suc a) b h =
+    let e : suc a + b ≡ suc (a + b) = omega arith in
+    let r : (n + 1) % 64 < 64 = omega arith in
+    let t : ((n + 1) % 64 + a) % 64 ≡ (n + suc a) % 64 = omega arith in
+    rw e (ap (λ t. completion_of (completion_bytes w n) ∷ t) (rw t at (completions-append w ((n + 1) % 64) a b r)))
+
+pub length-commands : (w : List ℕ) (s n : ℕ) → length (commands w s n) ≡ n
+length-commands w s zero = refl
+length-commands w s (suc n) = omega (arith, length-commands w ((s + 1) % 8) n)
+
+pub length-completions : (w : List ℕ) (n k : ℕ) → length (completions w n k) ≡ k
+length-completions w n zero = refl
+length-completions w n (suc k) = omega (arith, length-completions w ((n + 1) % 64) k)
+
+pub length-answers : (f : ℕ → Slot) (h : ℕ) (es : List Completion) → length (answers f h es) ≡ length es
+length-answers f h [] = refl
+length-answers f h (e ∷ es) = omega (arith, length-answers f e.sq_head es)
+
+length-items : (f : List ℕ → Item) (w : List ℕ) (s n : ℕ) → length (map f (commands w s n)) ≡ n
+length-items f w s n = length-map (commands w s n) f ∙ length-commands w s n
+
+-- a lane of a mailbox, with what was fetched, holds a request for each live slot
+pub box-live : (d : Host) (c : State) → Running d c →
+    length (box d c).placed + length (box d c).rung + length c.taken + length (box d c).posted ≡ total live_in d.slots
+unfolding box
+box-live d c s =
+    omega (
+      arith,
+      s.held,
+      s.waiting,
+      length-items (item (holds d)) c.window ((c.fetched + c.waiting) % 8) (in_flight d c - c.waiting),
+      length-items (item (holds d)) c.window c.fetched c.waiting,
+      length-answers (holds d) (heard d) (unread d c),
+      length-completions c.window d.consumed c.unread,
+    )
+
+-- a sum over the entries in flight, by those that are rung and those that are placed
+pub flight-total : (f : List ℕ → ℕ) (d : Host) (c : State) → Running d c →
+    total f (commands c.window c.fetched (in_flight d c)) ≡
+    total f (commands c.window c.fetched c.waiting) + total f (commands c.window ((c.fetched + c.waiting) % 8) (in_flight d c - c.waiting))
+flight-total f d c s =
+    let e : in_flight d c ≡ c.waiting + (in_flight d c - c.waiting) = omega (arith, s.waiting) in
+    ap (λ n. total f (commands c.window c.fetched n)) e ∙
+    ap (total f) (commands-append c.window c.fetched c.waiting (in_flight d c - c.waiting) s.fetched) ∙
+    total-append f (commands c.window c.fetched c.waiting) _
+
+pub same-box : (p p' r r' : List Item) (q q' : List PostedAnswer) (u u' s s' : ℕ) → p ≡ p' → r ≡ r' → q ≡ q' → u ≡ u' → s ≡ s' →
+    ◌≡◌ {A = LaneBox} (record { placed = p; rung = r; posted = q; unheard = u; since = s }) (record { placed = p'; rung = r'; posted = q'; unheard = u'; since = s' })
+same-box p p' r r' q q' u u' s s' h1 h2 h3 h4 h5 = rw (h1, h2, h3, h4, h5) refl
+
+pub eqb-sym : (a b : ℕ) → eqb a b ≡ false → eqb b a ≡ false
+eqb-sym a b h = grind (arith, common_steps, h)
+
+pub self-eqb : (n m : ℕ) → n ≡ m → eqb n m ≡ true
+self-eqb n m h = grind (arith, common_steps, h)
+
+pub same-entry : (w : List ℕ) (a b : ℕ) → a % 32 ≡ b % 32 → completion_bytes w a ≡ completion_bytes w b
+same-entry w a b e = ap (λ i. take 16 (drop (4096 + 16 * i) w)) e
+
+pub same-turn : (a b : ℕ) → a % 64 ≡ b % 64 → phase_of a ≡ phase_of b
+same-turn a b e = ap (λ i. nat_lt i 32) e

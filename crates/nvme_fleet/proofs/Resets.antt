@@ -1,0 +1,132 @@
+use Rattle.std.proofs.Common.{◌≡◌, ℕ, ◌+◌, ◌-◌, ◌%◌, ◌<◌, ◌≤◌, List, [], ◌∷◌, length, map, refl, ap, ◌∙◌, arith, zero, suc, false, Option, Some, None, inl, inr}
+use Rattle.std.proofs.lemmas.List.{length-map}
+use Rattle.std.proofs.lemmas.Bool.{cases_Bool}
+use Rattle.nvme_wire.specs.Submission.{cid}
+use Rattle.nvme_fleet.specs.Mailboxes.{Item, PostedAnswer}
+use Rattle.nvme_wire.specs.Completion.{Completion}
+use Rattle.nvme_driver.specs.declared.slots.Waiting.{Waiting}
+use Rattle.nvme_fleet.specs.Views.{Host, State, Slot, slot_at, abort, abort_slot, reset, off, box, item, item_in, answers, ticket_in, in_flight, commands, commands_of, unread, live_waiting, Carried, Running, Resting, Holds, AgeIn}
+use Rattle.nvme_fleet.proofs.Totals.{total-append}
+use Rattle.nvme_fleet.proofs.Queues.{commands-append}
+use Rattle.nvme_fleet.proofs.Empties.{bare-off}
+use Rattle.nvme_fleet.proofs.Places.{no-way, Bare}
+use Rattle.nvme_fleet.specs.Views.{bears}
+
+slot-abort : (slots : List Slot) (k : ℕ) → slot_at (map abort_slot slots) k ≡ abort_slot (slot_at slots k)
+slot-abort [] k = refl
+slot-abort (x ∷ xs) zero = refl
+slot-abort (x ∷ xs) (suc k) = slot-abort xs k
+
+abort-idle : (o : Option Waiting) → live_waiting (abort o) ≡ 0
+abort-idle None = refl
+abort-idle (Some p) = refl
+
+abort-age : (first next : ℕ) (o : Option Waiting) → AgeIn first next o → AgeIn next next (abort o)
+abort-age first next None h = tt
+abort-age first next (Some p) h = (h.1, h.1)
+
+window-of : (first : ℕ) (d : Host) (c : State) → Holds first d c → length c.window ≡ 8192
+window-of first d c s = elim (cases_Bool d.up) [
+  | inl u ↦ (s.up u).window
+  | inr u ↦ (s.down u).window
+]
+
+slots-of : (first : ℕ) (d : Host) (c : State) → Holds first d c → length d.slots ≡ 24
+slots-of first d c s = elim (cases_Bool d.up) [
+  | inl u ↦ (s.up u).slots
+  | inr u ↦ (s.down u).slots
+]
+
+-- a lane that was reset rests
+pub reset-holds : (first : ℕ) (d : Host) (c : State) → Holds first d c → Holds d.next (reset d) (off c)
+reset-holds first d c s =
+    record {
+      failed = refl;
+      begun = omega arith;
+      ages = λ k. rw (slot-abort d.slots k) (abort-age first d.next (slot_at d.slots k).waiting (s.ages k));
+      up = λ u. absurd (no-way false refl u);
+      down =
+          λ u. record {
+            window = window-of first d c s;
+            slots = length-map d.slots abort_slot ∙ slots-of first d c s;
+            put = refl;
+            unheard = refl;
+            consumed = refl;
+            off = refl;
+            idle = λ k. rw (slot-abort d.slots k) (abort-idle (slot_at d.slots k).waiting);
+          };
+    }
+
+pub reset-box : (d : Host) (c : State) → box (reset d) (off c) ≡ record { placed = []; rung = []; posted = []; unheard = 0; since = 0 }
+unfolding box
+reset-box d c = refl
+
+-- what holds of the queues of a driver, up or down
+pub record Whole (d : Host) (c : State) : Type 0 where
+  pub fetched : c.fetched < 8
+  pub waiting : c.waiting ≤ in_flight d c
+  pub carried : Carried d c
+
+whole-off : (d : Host) (c : State) → Resting d c → Whole d c
+whole-off d c r =
+    let f : c.fetched ≡ 0 = ap (λ (s : State). s.fetched) r.off in
+    let w : c.waiting ≡ 0 = ap (λ (s : State). s.waiting) r.off in
+    record {
+      fetched = omega (arith, f);
+      waiting = omega (arith, w);
+      carried = λ k. let b : Bare d c k = bare-off d c k r in omega (arith, b.taken, b.flight, b.unread, r.idle k);
+    }
+
+pub whole-of : (first : ℕ) (d : Host) (c : State) → Holds first d c → Whole d c
+whole-of first d c s = elim (cases_Bool d.up) [
+  | inl u ↦ let r : Running d c = s.up u in record { fetched = r.fetched; waiting = r.waiting; carried = r.carried }
+  | inr u ↦ whole-off d c (s.down u)
+]
+
+-- the commands that wait, those that were placed alone before those that were rung
+abbrev pub placed-part : Host → State → List (List ℕ)
+placed-part d c = commands c.window ((c.fetched + c.waiting) % 8) (in_flight d c - c.waiting)
+
+abbrev pub rung-part : State → List (List ℕ)
+rung-part c = commands c.window c.fetched c.waiting
+
+pub parts : (d : Host) (c : State) (slot : ℕ) → Whole d c →
+    commands_of slot (commands c.window c.fetched (in_flight d c)) ≡ commands_of slot (rung-part c) + commands_of slot (placed-part d c)
+parts d c slot w =
+    let e : in_flight d c ≡ c.waiting + (in_flight d c - c.waiting) = omega (arith, w.waiting) in
+    ap (λ n. commands_of slot (commands c.window c.fetched n)) e ∙
+    ap (commands_of slot) (commands-append c.window c.fetched c.waiting (in_flight d c - c.waiting) w.fetched) ∙
+    total-append (bears slot) (rung-part c) _
+
+abbrev pub slots_of : List (List ℕ) → List ℕ
+slots_of [] = []
+slots_of (x ∷ xs) = cid x ∷ slots_of xs
+
+abbrev pub cids_of : List Completion → List ℕ
+cids_of [] = []
+cids_of (e ∷ es) = e.cid ∷ cids_of es
+
+abbrev pub ticket_slot : List Slot → ℕ → ℕ
+ticket_slot slots k = ticket_in (slot_at slots k).waiting
+
+pub item-tickets : (slots : List Slot) (xs : List (List ℕ)) → map (λ (i : Item). i.ticket) (map (item (slot_at slots)) xs) ≡ map (ticket_slot slots) (slots_of xs)
+unfolding item_in
+item-tickets slots [] = refl
+item-tickets slots (x ∷ xs) = ap (λ ts. ticket_slot slots (cid x) ∷ ts) (item-tickets slots xs)
+
+pub answer-tickets : (slots : List Slot) (h : ℕ) (es : List Completion) → map (λ (p : PostedAnswer). p.ticket) (answers (slot_at slots) h es) ≡ map (ticket_slot slots) (cids_of es)
+answer-tickets slots h [] = refl
+answer-tickets slots h (e ∷ es) = ap (λ ts. ticket_slot slots e.cid ∷ ts) (answer-tickets slots e.sq_head es)
+
+-- the tickets of a lane of the mailbox
+pub placed-tickets : (d : Host) (c : State) → map (λ (i : Item). i.ticket) (box d c).placed ≡ map (ticket_slot d.slots) (slots_of (placed-part d c))
+unfolding box
+placed-tickets d c = item-tickets d.slots (placed-part d c)
+
+pub rung-tickets : (d : Host) (c : State) → map (λ (i : Item). i.ticket) (box d c).rung ≡ map (ticket_slot d.slots) (slots_of (rung-part c))
+unfolding box
+rung-tickets d c = item-tickets d.slots (rung-part c)
+
+pub posted-tickets : (d : Host) (c : State) → map (λ (p : PostedAnswer). p.ticket) (box d c).posted ≡ map (ticket_slot d.slots) (cids_of (unread d c))
+unfolding box
+posted-tickets d c = answer-tickets d.slots _ (unread d c)

@@ -1,0 +1,44 @@
+use Rattle.std.proofs.Common.{◌≡◌, ℕ, ◌+◌, ◌≤◌, List, [], ◌∷◌, length, map, refl, arith, true, false, cond, eqb, Bool, slice_set}
+use Rattle.nvme_wire.specs.Submission.{cid}
+use Rattle.nvme_wire.specs.Completion.{Completion}
+use Rattle.nvme_fleet.specs.Views.{Host, State, Slot, slot_at, item, answers, total, odd, commands_of, answers_of, Running, in_flight}
+use Rattle.nvme_fleet.proofs.Totals.{live-few, slot-other}
+
+-- the slots other than the i-th hold the same
+abbrev pub Apart : ℕ → (ℕ → Slot) → (ℕ → Slot) → Type 0
+Apart i f g = (k : ℕ) → eqb k i ≡ false → g k ≡ f k
+
+pub cond-zero : (b : Bool) (n : ℕ) → cond b 1 0 + n ≡ 0 → b ≡ false
+cond-zero true n h = let b : ⊥ = omega (arith, h) in absurd b
+cond-zero false n h = refl
+
+-- a slot that no command bears may change
+pub same-items : (f g : ℕ → Slot) (i : ℕ) → Apart i f g → (xs : List (List ℕ)) → commands_of i xs ≡ 0 → map (item g) xs ≡ map (item f) xs
+same-items f g i a [] h = refl
+same-items f g i a (x ∷ xs) h =
+    let q : eqb (cid x) i ≡ false = cond-zero (eqb (cid x) i) (commands_of i xs) h in
+    let r : commands_of i xs ≡ 0 = omega (arith, h) in
+    rw (a (cid x) q, same-items f g i a xs r) refl
+
+pub same-odd : (f g : ℕ → Slot) (i : ℕ) → Apart i f g → (xs : List (List ℕ)) → commands_of i xs ≡ 0 → total (odd g) xs ≡ total (odd f) xs
+same-odd f g i a [] h = refl
+same-odd f g i a (x ∷ xs) h =
+    let q : eqb (cid x) i ≡ false = cond-zero (eqb (cid x) i) (commands_of i xs) h in
+    let r : commands_of i xs ≡ 0 = omega (arith, h) in
+    rw (a (cid x) q, same-odd f g i a xs r) refl
+
+-- a slot that no completion bears may change
+pub same-answers : (f g : ℕ → Slot) (i : ℕ) → Apart i f g → (heard : ℕ) (es : List Completion) → answers_of i es ≡ 0 → answers g heard es ≡ answers f heard es
+same-answers f g i a heard [] h = refl
+same-answers f g i a heard (e ∷ es) h =
+    let q : eqb e.cid i ≡ false = cond-zero (eqb e.cid i) (answers_of i es) h in
+    let r : answers_of i es ≡ 0 = omega (arith, h) in
+    rw (a e.cid q, same-answers f g i a e.sq_head es r) refl
+
+-- another slot in a place
+pub apart-set : (slots : List Slot) (i : ℕ) (s : Slot) → Apart i (slot_at slots) (slot_at (slice_set slots i s))
+apart-set slots i s k h = slot-other slots i s k h
+
+-- at most 24 requests are not handed up
+pub few : (d : Host) (c : State) → Running d c → length c.taken + in_flight d c + c.unread ≤ 24
+few d c s = omega (arith, s.held, s.slots, live-few d.slots)

@@ -1,0 +1,263 @@
+use Rattle.std.proofs.Common.{◌≡◌, ℕ, ◌+◌, ◌-◌, ◌*◌, ◌%◌, ◌<◌, ◌≤◌, List, [], ◌∷◌, ◌++◌, length, refl, ap, sym, ◌∙◌, arith, suc, true, false, not, cond, eqb, Bool, Option, Some, None, inl, inr, take, drop, get_or, subst, length-drop}
+use Rattle.std.proofs.lemmas.List.{get_or-take, get_or-drop, get_or-append-add, get_or-replicate, length-replicate, length-take-le, length-append, same_lists}
+use Rattle.std.proofs.Math.ListN.{get_or-append}
+use Rattle.std.proofs.lemmas.Bool.{cases_Bool, cases_lt, le-ltb, ne_eqb}
+use Rattle.std.proofs.lemmas.Grind.{common_steps}
+use Rattle.std.specs.Prelude.{nat_lt, replicate}
+use Rattle.nvme_spec.specs.Bytes.{with_bytes}
+use Rattle.nvme_driver.specs.Layout.{queue_id}
+use Rattle.nvme_wire.specs.Completion.{completion_of, phase}
+use Rattle.nvme_driver.specs.declared.slots.Waiting.{Waiting}
+use Rattle.nvme_fleet.specs.Views.{AreOf, completion_bytes, phase_of, command_at, Host, State, Slot, slot_at, zeros, fresh_host, fresh_state, own_host, own_state, in_flight, commands, completions, commands_of, answers_of, unread, heard, steps, since, last_head, total, odd, holds, live_waiting, live_in, live_at, AgeIn, Heads, Phases, Running, Resting, Holds, next_completion, box}
+use Rattle.nvme_fleet.proofs.Windows.{stored-length}
+use Rattle.nvme_fleet.proofs.Keeps.{Enters, enters, Answers, answered}
+use Rattle.nvme_fleet.proofs.Queues.{same-entry, same-turn}
+use Rattle.nvme_fleet.proofs.Places.{no-way}
+
+-- a lane that is up, where nothing is on its way
+pub record Quiet (d : Host) (c : State) : Type 0 where
+  pub ready : c.ready ≡ true
+  pub window : length c.window ≡ 8192
+  pub slots : length d.slots ≡ 24
+  pub put : d.put < 8
+  pub fetched : c.fetched ≡ d.put
+  pub consumed : d.consumed < 64
+  pub posted : c.posted ≡ d.consumed
+  pub waiting : c.waiting ≡ 0
+  pub unread : c.unread ≡ 0
+  pub unheard : d.unheard ≡ 0
+  pub taken : c.taken ≡ []
+  pub phases : Phases d c
+  pub idle : (slot : ℕ) → live_at d.slots slot ≡ 0
+
+idle-total : (slots : List Slot) → ((k : ℕ) → live_at slots k ≡ 0) → total live_in slots ≡ 0
+idle-total [] h = refl
+idle-total (x ∷ xs) h = let a : live_in x ≡ 0 = h 0 in omega (arith, a, idle-total xs (λ k. h (suc k)))
+
+pub quiet-running : (d : Host) (c : State) → Quiet d c → Running d c
+quiet-running d c s =
+    let u : unread d c ≡ [] = ap (λ k. completions c.window d.consumed k) s.unread in
+    let f : in_flight d c ≡ 0 = omega (arith, s.fetched, s.put) in
+    let e : commands c.window c.fetched (in_flight d c) ≡ [] = ap (λ k. commands c.window c.fetched k) f in
+    let l : last_head (heard d) (unread d c) ≡ heard d = ap (last_head (heard d)) u in
+    let z : steps (heard d) (unread d c) ≡ 0 = ap (steps (heard d)) u in
+    let h : heard d ≡ d.put = omega (arith, s.unheard, s.put) in
+    let n : since d c ≡ 0 = omega (arith, l, h, s.fetched, s.put) in
+    record {
+      ready = s.ready;
+      window = s.window;
+      slots = s.slots;
+      put = s.put;
+      fetched = omega (arith, s.fetched, s.put);
+      consumed = s.consumed;
+      posted = omega (arith, s.posted, s.unread, s.consumed);
+      waiting = omega (arith, s.waiting);
+      unheard = omega (arith, z, n, f, s.unheard);
+      room = omega (arith, s.unheard);
+      heads = subst Heads (sym u) tt;
+      of_lane = subst (AreOf (queue_id c.lane)) (sym u) tt;
+      phases = s.phases;
+      carried = λ k. omega (arith, ap (commands_of k) s.taken, ap (commands_of k) e, ap (answers_of k) u, s.idle k);
+      held = omega (arith, ap length s.taken, f, s.unread, idle-total d.slots s.idle);
+      suited = omega (arith, ap (total (odd (holds d))) s.taken, ap (total (odd (holds d))) e);
+    }
+
+other-turn : (n k : ℕ) → k < 32 → 31 ≤ k → phase_of ((n + 1) % 64 + k) ≡ not (phase_of n)
+other-turn n k h g = grind (arith, common_steps)
+
+twice : (b : Bool) → b ≡ not (not b)
+twice true = refl
+twice false = refl
+
+old-phase : (b : Bool) (k n : ℕ) → n ≡ 0 → cond (nat_lt k n) b (not b) ≡ not b
+old-phase b k n e = ap (λ t. cond t b (not b)) (le-ltb k n (omega (arith, e)))
+
+-- what an own command and its completion store
+record Own (w w' : List ℕ) (p m : ℕ) (entry completion : List ℕ) : Type 0 where
+  size : length w' ≡ length w
+  completions : (n : ℕ) → eqb (n % 32) m ≡ false → completion_bytes w' n ≡ completion_bytes w n
+  last : take 16 (drop (4096 + 16 * m) w') ≡ completion
+
+never : (n : ℕ) → eqb (n % 32) 32 ≡ false
+never n = ne_eqb (n % 32) 32 (λ e. omega (arith, e))
+
+owns : (w entry completion : List ℕ) (p m : ℕ) → length w ≡ 8192 → p < 8 → m < 32 → length entry ≡ 64 → length completion ≡ 16 →
+    Own w (with_bytes (with_bytes w (64 * p) entry) (4096 + 16 * m) completion) p m entry completion
+owns w entry completion p m l a b e f =
+    let one : Enters w (with_bytes w (64 * p) entry) p entry = enters w entry p l a e in
+    let two : Answers (with_bytes w (64 * p) entry) (with_bytes (with_bytes w (64 * p) entry) (4096 + 16 * m) completion) m completion = answered (with_bytes w (64 * p) entry) completion m (one.keeps.size ∙ l) b f in
+    record {
+      size = two.keeps.size ∙ one.keeps.size;
+      completions = λ n q. two.keeps.completions n q ∙ one.keeps.completions n (never n);
+      last = two.last;
+    }
+
+own-phases : (d : Host) (c : State) (entry completion : List ℕ) → Quiet d c → length entry ≡ 64 → length completion ≡ 16 → (completion_of completion).phase ≡ phase_of c.posted →
+    Phases (own_host d) (own_state c entry completion)
+own-phases d c entry completion s e f p k h =
+    let o : Own c.window (own_state c entry completion).window c.fetched (c.posted % 32) entry completion =
+    owns c.window entry completion c.fetched (c.posted % 32) s.window (omega (arith, s.fetched, s.put)) (omega arith) e f in
+    elim (cases_lt k 31) [
+      | inl lt ↦
+          let q : eqb (((d.consumed + 1) % 64 + k) % 32) (c.posted % 32) ≡ false = ne_eqb _ _ (λ m. omega (arith, s.posted, s.consumed, lt, m)) in
+          let a : ((d.consumed + 1) % 64 + k) % 32 ≡ (d.consumed + (k + 1)) % 32 = omega arith in
+          let b : ((d.consumed + 1) % 64 + k) % 64 ≡ (d.consumed + (k + 1)) % 64 = omega arith in
+          ap (λ x. (completion_of x).phase) (o.completions ((d.consumed + 1) % 64 + k) q ∙ same-entry c.window _ _ a) ∙
+          s.phases (k + 1) (omega (arith, lt)) ∙
+          old-phase (phase_of (d.consumed + (k + 1))) (k + 1) c.unread s.unread ∙
+          ap not (sym (same-turn _ _ b)) ∙
+          sym (old-phase (phase_of ((d.consumed + 1) % 64 + k)) k c.unread s.unread)
+      | inr ge ↦
+          let a : ((d.consumed + 1) % 64 + k) % 32 ≡ c.posted % 32 = omega (arith, h, ge, s.posted, s.consumed) in
+          ap (λ x. (completion_of x).phase) (same-entry (own_state c entry completion).window ((d.consumed + 1) % 64 + k) c.posted a ∙ o.last) ∙
+          p ∙ ap phase_of s.posted ∙ twice (phase_of d.consumed) ∙ ap not (sym (other-turn d.consumed k h ge)) ∙
+          sym (old-phase (phase_of ((d.consumed + 1) % 64 + k)) k c.unread s.unread)
+    ]
+
+-- one more of the driver's own commands leaves the lane quiet
+pub own-quiet : (d : Host) (c : State) (entry completion : List ℕ) → Quiet d c → length entry ≡ 64 → length completion ≡ 16 → (completion_of completion).phase ≡ phase_of c.posted →
+    Quiet (own_host d) (own_state c entry completion)
+own-quiet d c entry completion s e f p =
+    let o : Own c.window (own_state c entry completion).window c.fetched (c.posted % 32) entry completion =
+    owns c.window entry completion c.fetched (c.posted % 32) s.window (omega (arith, s.fetched, s.put)) (omega arith) e f in
+    record {
+      ready = s.ready;
+      window = o.size ∙ s.window;
+      slots = s.slots;
+      put = omega arith;
+      fetched = omega (arith, s.fetched);
+      consumed = omega arith;
+      posted = omega (arith, s.posted);
+      waiting = s.waiting;
+      unread = s.unread;
+      unheard = s.unheard;
+      taken = s.taken;
+      phases = own-phases d c entry completion s e f p;
+      idle = s.idle;
+    }
+
+same-phase : (b x : Bool) → x ≡ b → cond x b (not b) ≡ true
+same-phase true x e = rw e refl
+same-phase false x e = rw e refl
+
+-- the controller fetches this command, and the driver then finds this completion
+pub own-fetch : (d : Host) (c : State) (entry : List ℕ) → Quiet d c → length entry ≡ 64 → command_at (with_bytes c.window (64 * d.put) entry) c.fetched ≡ entry
+own-fetch d c entry s e = ap (command_at (with_bytes c.window (64 * d.put) entry)) s.fetched ∙ (enters c.window entry d.put s.window s.put e).last
+
+pub own-look : (d : Host) (c : State) (entry completion : List ℕ) → Quiet d c → length entry ≡ 64 → length completion ≡ 16 → (completion_of completion).phase ≡ phase_of c.posted →
+    next_completion d (own_state c entry completion).window ≡ Some (completion_of completion)
+own-look d c entry completion s e f p =
+    let o : Own c.window (own_state c entry completion).window c.fetched (c.posted % 32) entry completion =
+    owns c.window entry completion c.fetched (c.posted % 32) s.window (omega (arith, s.fetched, s.put)) (omega arith) e f in
+    let a : d.consumed % 32 ≡ c.posted % 32 = omega (arith, s.posted) in
+    let b : completion_bytes (own_state c entry completion).window d.consumed ≡ completion = same-entry (own_state c entry completion).window d.consumed c.posted a ∙ o.last in
+    let q : (completion_of completion).phase ≡ phase_of d.consumed = p ∙ ap phase_of s.posted in
+    ap (λ x. cond (cond (completion_of x).phase (phase_of d.consumed) (not (phase_of d.consumed))) (Some (completion_of x)) None) b ∙
+    ap (λ t. cond t (Some (completion_of completion)) None) (same-phase (phase_of d.consumed) (completion_of completion).phase q)
+
+-- a page of zeros
+pub record Zeros (z : List ℕ) : Type 0 where
+  pub long : length z ≡ 4096
+  pub each : (i d : ℕ) → i < 4096 → get_or z i d ≡ 0
+
+pub zeros-are : Zeros zeros
+unfolding zeros
+zeros-are = record { long = length-replicate {A = ℕ} 4096 0; each = λ i d h. get_or-replicate 4096 i 0 d h }
+
+stored-within : (w z : List ℕ) (at i n : ℕ) → at ≤ length w → i < length z → get_or (with_bytes w at z) (at + i) n ≡ get_or z i n
+stored-within w z at i n p q =
+    let l : length (take at w) ≡ at = length-take-le at w p in
+    let a : at + i ≡ length (take at w) + i = omega (arith, l) in
+    let b : length (take at w) + i < length (take at w ++ z) = omega (arith, q, length-append (take at w) z) in
+    ap (λ k. get_or (with_bytes w at z) k n) a ∙
+    get_or-append (take at w ++ z) (drop (at + length z) w) n (length (take at w) + i) b ∙
+    get_or-append-add (take at w) z i n
+
+byte-of : (w : List ℕ) (at i n d : ℕ) → i < n → get_or (take n (drop at w)) i d ≡ get_or w (at + i) d
+byte-of w at i n d p = get_or-take n (drop at w) i d p ∙ get_or-drop at w i d
+
+-- 16 zeros are a completion whose phase tag is clear
+no-phase : phase (replicate 16 0) ≡ false
+unfolding phase
+no-phase = refl
+
+-- a completion in the zeroed page
+zero-entry : (w : List ℕ) (j : ℕ) → length w ≡ 8192 → j + 16 ≤ 4096 → take 16 (drop (4096 + j) (with_bytes w 4096 zeros)) ≡ replicate 16 0
+zero-entry w j l h =
+    let z : length zeros ≡ 4096 = zeros-are.long in
+    let size = stored-length w zeros 4096 (omega (arith, l, z)) in
+    let d = length-drop (4096 + j) (with_bytes w 4096 zeros) in
+    let n : length (take 16 (drop (4096 + j) (with_bytes w 4096 zeros))) ≡ 16 = length-take-le 16 _ (omega (arith, d, size, l, h)) in
+    same_lists _ _ (n ∙ sym (length-replicate {A = ℕ} 16 0)) (λ k x inside.
+    let b : k < 16 = omega (arith, inside, n) in
+    let e : (4096 + j) + k ≡ 4096 + (j + k) = omega arith in
+    byte-of (with_bytes w 4096 zeros) (4096 + j) k 16 x b
+    ∙ ap (λ m. get_or (with_bytes w 4096 zeros) m x) e
+    ∙ stored-within w zeros 4096 (j + k) x (omega (arith, l)) (omega (arith, z, h, b))
+    ∙ zeros-are.each (j + k) x (omega (arith, h, b))
+    ∙ sym (get_or-replicate 16 k 0 x b))
+
+turn-of : (k : ℕ) → k < 32 → phase_of (0 + k) ≡ true
+turn-of k h = grind (arith, common_steps)
+
+fresh-phases : (d : Host) (c : State) → length c.window ≡ 8192 → Phases (fresh_host d) (fresh_state c)
+fresh-phases d c w k q =
+    let z : length zeros ≡ 4096 = zeros-are.long in
+    let a : length (with_bytes c.window 0 zeros) ≡ 8192 = stored-length c.window zeros 0 (omega (arith, w, z)) ∙ w in
+    let e = zero-entry (with_bytes c.window 0 zeros) (16 * ((0 + k) % 32)) a (omega arith) in
+    rw (le-ltb k 0 (omega arith), turn-of k q) (ap phase e ∙ no-phase)
+
+-- a lane that was just turned on is quiet
+pub fresh-quiet : (d : Host) (c : State) → Resting d c → Quiet (fresh_host d) (fresh_state c)
+fresh-quiet d c r =
+    let z : length zeros ≡ 4096 = zeros-are.long in
+    let a : length (with_bytes c.window 0 zeros) ≡ length c.window = stored-length c.window zeros 0 (omega (arith, r.window, z)) in
+    record {
+      ready = refl;
+      window = stored-length (with_bytes c.window 0 zeros) zeros 4096 (omega (arith, a, r.window, z)) ∙ a ∙ r.window;
+      slots = r.slots;
+      put = omega arith;
+      fetched = refl;
+      consumed = omega arith;
+      posted = refl;
+      waiting = refl;
+      unread = refl;
+      unheard = refl;
+      taken = refl;
+      phases = fresh-phases d c r.window;
+      idle = r.idle;
+    }
+
+idle-age : (first next : ℕ) (o : Option Waiting) → live_waiting o ≡ 0 → AgeIn first next o → AgeIn next next o
+idle-age first next None l h = tt
+idle-age first next (Some p) l h =
+    elim (cases_Bool p.live) [
+      | inl t ↦ let b : live_waiting (Some p) ≡ 1 = ap (λ b. cond {A = ℕ} b 1 0) t in let z : ⊥ = omega (arith, b, l) in absurd z
+      | inr t ↦ rw t (h.1, h.1)
+    ]
+
+-- a lane that has come up holds
+pub risen-holds : (first : ℕ) (d d' : Host) (c c' : State) → Holds first d c → Resting d c → d'.up ≡ true → d'.failed ≡ d.failed → d'.next ≡ d.next → d'.slots ≡ d.slots → Quiet d' c' → Holds d.next d' c'
+risen-holds first d d' c c' s r u f n e q =
+    record {
+      failed = f ∙ s.failed;
+      begun = rw n (omega arith);
+      ages = rw (n, e) (λ k. idle-age first d.next (slot_at d.slots k).waiting (r.idle k) (s.ages k));
+      up = λ t. quiet-running d' c' q;
+      down = λ t. absurd (no-way d'.up t u);
+    }
+
+-- the lane of the mailbox is empty before and after
+pub resting-box : (d : Host) (c : State) → Resting d c → box d c ≡ record { placed = []; rung = []; posted = []; unheard = 0; since = 0 }
+unfolding box
+resting-box d c r = rw (r.off, r.put, r.unheard) refl
+
+quiet-since : (p : ℕ) → p < 8 → (p + 8 - (p + 8 - 0) % 8) % 8 ≡ 0
+quiet-since p h = omega arith
+
+quiet-flight : (p : ℕ) → p < 8 → (p + 8 - p) % 8 ≡ 0
+quiet-flight p h = omega arith
+
+pub quiet-box : (d : Host) (c : State) → Quiet d c → box d c ≡ record { placed = []; rung = []; posted = []; unheard = 0; since = 0 }
+unfolding box
+quiet-box d c s = rw (s.unread, s.waiting, s.fetched, s.unheard, quiet-flight d.put s.put, quiet-since d.put s.put) refl
