@@ -12,3 +12,13 @@ pub mod Polls
 pub mod Empties
 pub mod Resets
 pub mod Ups
+pub mod LanePages
+pub mod LaneWindows
+pub mod LaneSlots
+pub mod Placing
+pub mod Fetching
+pub mod Doorbells
+pub mod Ranks
+pub mod Executing
+pub mod Orders
+pub mod Polling

@@ -1,3 +1,4 @@
+use Rattle.nvme_driver.specs.Drivers.{abort}
 use Rattle.std.proofs.Common.{◌≡◌, ℕ, ◌+◌, ◌-◌, ◌%◌, ◌<◌, ◌≤◌, List, [], ◌∷◌, length, map, refl, ap, ◌∙◌, arith, zero, suc, false, Option, Some, None, inl, inr}
 use Rattle.std.proofs.lemmas.List.{length-map}
 use Rattle.std.proofs.lemmas.Bool.{cases_Bool}
@@ -5,7 +6,7 @@ use Rattle.nvme_wire.specs.Submission.{cid}
 use Rattle.nvme_fleet.specs.Mailboxes.{Item, PostedAnswer}
 use Rattle.nvme_wire.specs.Completion.{Completion}
 use Rattle.nvme_driver.specs.declared.slots.Waiting.{Waiting}
-use Rattle.nvme_fleet.specs.Views.{Host, State, Slot, slot_at, abort, abort_slot, reset, off, box, item, item_in, answers, ticket_in, in_flight, commands, commands_of, unread, live_waiting, Carried, Running, Resting, Holds, AgeIn}
+use Rattle.nvme_fleet.specs.Views.{Host, State, Slot, slot_at, abort_slot, reset, off, box, item, item_in, answers, ticket_in, in_flight, commands, commands_of, unread, live_waiting, Carried, Running, Resting, Holds, AgeIn}
 use Rattle.nvme_fleet.proofs.Totals.{total-append}
 use Rattle.nvme_fleet.proofs.Queues.{commands-append}
 use Rattle.nvme_fleet.proofs.Empties.{bare-off}

@@ -7,3 +7,4 @@ pub mod FaultFree
 pub mod Determined
 pub mod Examples
 pub mod Views
+pub mod Lanes

@@ -14,7 +14,7 @@ use Rattle.nvme_driver.specs.declared.slots.Waiting.{Waiting}
 use Rattle.nvme_driver.specs.Requests.{Asked}
 use Rattle.nvme_driver.specs.Layout.{queue_id}
 use Rattle.nvme_driver.specs.Pointers.{stored_list}
-use Rattle.nvme_driver.specs.Drivers.{entry_fields, entry_length}
+use Rattle.nvme_driver.specs.Drivers.{entry_fields, entry_length, abort}
 use Rattle.nvme_driver.specs.Polls.{answer_len}
 use Rattle.nvme_fleet.specs.Mailboxes.{Item, PostedAnswer, LaneBox}
 
@@ -389,11 +389,7 @@ with_head c v = cond (c.ready && nat_lt v 32) (record c { unread = (c.posted + 3
 
 -- Resetting.
 
--- a request once its controller was reset, its slot, and the lane
-abbrev pub abort : Option Waiting → Option Waiting
-abort None = None
-abort (Some w) = Some (record w { live = false })
-
+-- a slot once its request's controller was reset, and the lane
 abbrev pub abort_slot : Slot → Slot
 abort_slot s = record s { waiting = abort s.waiting }
 

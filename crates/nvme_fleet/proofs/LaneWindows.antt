@@ -1,0 +1,127 @@
+use Rattle.nvme_driver.specs.Layout.{list_page}
+use Rattle.nvme_driver.specs.Layout.{data_area}
+use Rattle.std.proofs.Common.{◌≡◌, ℕ, ◌+◌, ◌*◌, ◌<◌, ◌≤◌, List, length, ap, ◌∙◌, arith, false, eqb, take, drop, ◌⊎◌, inl, inr, subst}
+use Rattle.std.proofs.lemmas.List.{take-take, length-drop}
+use Rattle.std.proofs.lemmas.Bool.{cases_lt, eqb-false}
+use Rattle.nvme_spec.specs.Bytes.{with_bytes}
+use Rattle.nvme_fleet.proofs.Windows.{stored-length, stored-apart, stored-in}
+use Rattle.nvme_driver.specs.declared.lane.Lane.{Lane}
+use Rattle.nvme_driver.specs.declared.lane.Lane.TheVariants.{Admin, Io}
+use Rattle.nvme_fleet.specs.Lanes.{other, base, pages_of, area, listed}
+use Rattle.nvme_fleet.proofs.LanePages.{first-here, second-here}
+
+-- a slot whose area and list two windows share
+pub record Same (w w' : List ℕ) (k : ℕ) : Type 0 where
+  pub areas : area w' k ≡ area w k
+  pub lists : listed w' k ≡ listed w k
+
+pub same-both : (w v u : List ℕ) (k : ℕ) → Same w v k → Same v u k → Same w u k
+same-both w v u k a b = record { areas = b.areas ∙ a.areas; lists = b.lists ∙ a.lists }
+
+-- windows that differ in the s-th slot at most
+pub record Leaves (w w' : List ℕ) (s : ℕ) : Type 0 where
+  pub size : length w' ≡ length w
+  pub slots : (k : ℕ) → k < 24 → eqb k s ≡ false → Same w w' k
+  pub pages : (lane : Lane) → pages_of lane w' ≡ pages_of lane w
+
+pub leaves-both : (w v u : List ℕ) (s : ℕ) → Leaves w v s → Leaves v u s → Leaves w u s
+leaves-both w v u s a b =
+    record {
+      size = b.size ∙ a.size;
+      slots = λ k l q. same-both w v u k (a.slots k l q) (b.slots k l q);
+      pages = λ lane. b.pages lane ∙ a.pages lane;
+    }
+
+area-apart : (w bytes : List ℕ) (at k : ℕ) → at + length bytes ≤ length w → (data_area k + 131072 ≤ at) ⊎ (at + length bytes ≤ data_area k) → area (with_bytes w at bytes) k ≡ area w k
+unfolding area
+area-apart w bytes at k i h = stored-apart w bytes at (data_area k) 131072 i h
+
+list-apart : (w bytes : List ℕ) (at k : ℕ) → at + length bytes ≤ length w → (list_page k + 4096 ≤ at) ⊎ (at + length bytes ≤ list_page k) → listed (with_bytes w at bytes) k ≡ listed w k
+unfolding listed
+list-apart w bytes at k i h = stored-apart w bytes at (list_page k) 4096 i h
+
+base-small : (lane : Lane) → base lane ≤ 8192
+base-small Admin = omega arith
+base-small Io = omega arith
+
+pages-apart : (lane : Lane) (w bytes : List ℕ) (at : ℕ) → at + length bytes ≤ length w → (base lane + 8192 ≤ at) ⊎ (at + length bytes ≤ base lane) → pages_of lane (with_bytes w at bytes) ≡ pages_of lane w
+unfolding pages_of
+pages-apart lane w bytes at i h = stored-apart w bytes at (base lane) 8192 i h
+
+apart-data : (base k s n : ℕ) → eqb k s ≡ false → n ≤ 131072 → (base + 131072 * k + 131072 ≤ base + 131072 * s) ⊎ (base + 131072 * s + n ≤ base + 131072 * k)
+apart-data base k s n q h =
+    elim (cases_lt k s) [
+      | inl l ↦ inl (omega (arith, l))
+      | inr g ↦ inr (let e = eqb-false k s q in omega (arith, g, e, h))
+    ]
+
+apart-list : (base k s n : ℕ) → eqb k s ≡ false → n ≤ 4096 → (base + 4096 * k + 4096 ≤ base + 4096 * s) ⊎ (base + 4096 * s + n ≤ base + 4096 * k)
+apart-list base k s n q h =
+    elim (cases_lt k s) [
+      | inl l ↦ inl (omega (arith, l))
+      | inr g ↦ inr (let e = eqb-false k s q in omega (arith, g, e, h))
+    ]
+
+-- a store in a slot's data area, or in its list
+pub leaves-data : (w bytes : List ℕ) (s : ℕ) → length w ≡ 4194304 → s < 24 → length bytes ≤ 131072 → Leaves w (with_bytes w (data_area s) bytes) s
+leaves-data w bytes s l h b =
+    let i : data_area s + length bytes ≤ length w = omega (arith, l, h, b) in
+    record {
+      size = stored-length w bytes (data_area s) i;
+      slots = λ k g q. record { areas = area-apart w bytes (data_area s) k i (apart-data 1048576 k s (length bytes) q b); lists = list-apart w bytes (data_area s) k i (inl (omega (arith, g))) };
+      pages = λ lane. pages-apart lane w bytes (data_area s) i (inl (omega (arith, base-small lane)));
+    }
+
+pub lists-data : (w bytes : List ℕ) (s : ℕ) → length w ≡ 4194304 → s < 24 → length bytes ≤ 131072 → listed (with_bytes w (data_area s) bytes) s ≡ listed w s
+lists-data w bytes s l h b = list-apart w bytes (data_area s) s (omega (arith, l, h, b)) (inl (omega (arith, h)))
+
+pub leaves-list : (w bytes : List ℕ) (s : ℕ) → length w ≡ 4194304 → s < 24 → length bytes ≤ 4096 → Leaves w (with_bytes w (list_page s) bytes) s
+leaves-list w bytes s l h b =
+    let i : list_page s + length bytes ≤ length w = omega (arith, l, h, b) in
+    record {
+      size = stored-length w bytes (list_page s) i;
+      slots = λ k g q. record { areas = area-apart w bytes (list_page s) k i (inr (omega (arith, h, b))); lists = list-apart w bytes (list_page s) k i (apart-list 65536 k s (length bytes) q b) };
+      pages = λ lane. pages-apart lane w bytes (list_page s) i (inl (omega (arith, base-small lane)));
+    }
+
+pub areas-list : (w bytes : List ℕ) (s : ℕ) → length w ≡ 4194304 → s < 24 → length bytes ≤ 4096 → area (with_bytes w (list_page s) bytes) s ≡ area w s
+areas-list w bytes s l h b = area-apart w bytes (list_page s) s (omega (arith, l, h, b)) (inr (omega (arith, h, b)))
+
+-- a store in a lane's pages
+pub record Pages (lane : Lane) (w w' : List ℕ) (at : ℕ) (bytes : List ℕ) : Type 0 where
+  pub size : length w' ≡ length w
+  pub slots : (k : ℕ) → k < 24 → Same w w' k
+  pub here : pages_of lane w' ≡ with_bytes (pages_of lane w) at bytes
+  pub there : pages_of (other lane) w' ≡ pages_of (other lane) w
+
+page-here : (b : ℕ) (w bytes : List ℕ) (at : ℕ) → at + length bytes ≤ 8192 → b + 8192 ≤ length w → take 8192 (drop b (with_bytes w (b + at) bytes)) ≡ with_bytes (take 8192 (drop b w)) at bytes
+page-here b w bytes at p q =
+    ap (take 8192) (second-here w bytes at b (omega (arith, p, q))) ∙
+    first-here (drop b w) bytes at 8192 p (omega (arith, length-drop b w, q))
+
+here-of : (lane : Lane) (w bytes : List ℕ) (at : ℕ) → at + length bytes ≤ 8192 → base lane + 8192 ≤ length w → pages_of lane (with_bytes w (base lane + at) bytes) ≡ with_bytes (pages_of lane w) at bytes
+unfolding pages_of
+here-of lane w bytes at p q = page-here (base lane) w bytes at p q
+
+there-of : (lane : Lane) (w bytes : List ℕ) (at : ℕ) → at + length bytes ≤ 8192 → length w ≡ 4194304 → pages_of (other lane) (with_bytes w (base lane + at) bytes) ≡ pages_of (other lane) w
+there-of Admin w bytes at p q = pages-apart Io w bytes (0 + at) (omega (arith, p, q)) (inr (omega (arith, p)))
+there-of Io w bytes at p q = pages-apart Admin w bytes (8192 + at) (omega (arith, p, q)) (inl (omega arith))
+
+pub pages : (lane : Lane) (w bytes : List ℕ) (at : ℕ) → length w ≡ 4194304 → at + length bytes ≤ 8192 → Pages lane w (with_bytes w (base lane + at) bytes) at bytes
+pages lane w bytes at l p =
+    let i : base lane + at + length bytes ≤ length w = omega (arith, base-small lane, l, p) in
+    record {
+      size = stored-length w bytes (base lane + at) i;
+      slots = λ k g. record { areas = area-apart w bytes (base lane + at) k i (inr (omega (arith, base-small lane, p))); lists = list-apart w bytes (base lane + at) k i (inr (omega (arith, base-small lane, p))) };
+      here = here-of lane w bytes at p (omega (arith, base-small lane, l));
+      there = there-of lane w bytes at p l;
+    }
+
+-- what was with_bytes at the front of an area, and in a list
+pub area-front : (w bytes : List ℕ) (s : ℕ) → data_area s ≤ length w → length bytes ≤ 131072 → take (length bytes) (area (with_bytes w (data_area s) bytes) s) ≡ bytes
+unfolding area
+area-front w bytes s h b = take-take (length bytes) 131072 (drop (data_area s) (with_bytes w (data_area s) bytes)) b ∙ stored-in w bytes (data_area s) h
+
+pub list-front : (w bytes : List ℕ) (s : ℕ) → list_page s ≤ length w → length bytes ≤ 4096 → take (length bytes) (listed (with_bytes w (list_page s) bytes) s) ≡ bytes
+unfolding listed
+list-front w bytes s h b = take-take (length bytes) 4096 (drop (list_page s) (with_bytes w (list_page s) bytes)) b ∙ stored-in w bytes (list_page s) h

@@ -1,0 +1,59 @@
+use Rattle.std.proofs.Common.{◌≡◌, ℕ, List, [], ◌∷◌, refl, ap, arith, zero, suc, true, false, cond, Some, None, inl, inr, slice_get}
+use Rattle.std.proofs.lemmas.Bool.{cases_Bool}
+use Rattle.std.proofs.lemmas.Grind.{common_steps}
+use Rattle.std.specs.Prelude.{remove}
+use Rattle.nvme_driver.specs.declared.lane.Lane.{Lane}
+use Rattle.nvme_driver.specs.declared.lane.Lane.TheVariants.{Admin, Io}
+use Rattle.nvme_fleet.specs.Lanes.{same, Taken, commands_in}
+
+-- how many of a lane's commands stand before the i-th
+abbrev pub rank : Lane → List Taken → ℕ → ℕ
+rank lane [] i = 0
+rank lane (x ∷ xs) zero = 0
+rank lane (x ∷ xs) (suc i) = cond (same x.lane lane) (suc (rank lane xs i)) (rank lane xs i)
+
+not-some : (t : Taken) → None ≡ Some t → ⊥
+not-some t h = grind (arith, common_steps, h)
+
+the-some : (x t : Taken) → Some x ≡ Some t → x ≡ t
+the-some x t h = grind (arith, common_steps, h)
+
+-- the i-th command is its lane's command of that rank
+pub rank-here : (lane : Lane) (ts : List Taken) (i : ℕ) (t : Taken) → slice_get ts i ≡ Some t → same t.lane lane ≡ true → slice_get (commands_in lane ts) (rank lane ts i) ≡ Some t.command
+rank-here lane [] i t h e = absurd (not-some t h)
+rank-here lane (x ∷ xs) zero t h e =
+    let q : x ≡ t = the-some x t h in
+    rw (q, e) refl
+rank-here lane (x ∷ xs) (suc i) t h e =
+    elim (cases_Bool (same x.lane lane)) [
+      | inl f ↦ rw f (rank-here lane xs i t h e)
+      | inr f ↦ rw f (rank-here lane xs i t h e)
+    ]
+
+-- and is taken out of it there
+pub remove-here : (lane : Lane) (ts : List Taken) (i : ℕ) (t : Taken) → slice_get ts i ≡ Some t → same t.lane lane ≡ true → commands_in lane (remove ts i) ≡ remove (commands_in lane ts) (rank lane ts i)
+remove-here lane [] i t h e = absurd (not-some t h)
+remove-here lane (x ∷ xs) zero t h e =
+    let q : x ≡ t = the-some x t h in
+    rw (q, e) refl
+remove-here lane (x ∷ xs) (suc i) t h e =
+    elim (cases_Bool (same x.lane lane)) [
+      | inl f ↦ rw f (ap (λ l. x.command ∷ l) (remove-here lane xs i t h e))
+      | inr f ↦ rw f (remove-here lane xs i t h e)
+    ]
+
+-- the other lane stays
+pub remove-there : (lane : Lane) (ts : List Taken) (i : ℕ) (t : Taken) → slice_get ts i ≡ Some t → same t.lane lane ≡ false → commands_in lane (remove ts i) ≡ commands_in lane ts
+remove-there lane [] i t h e = absurd (not-some t h)
+remove-there lane (x ∷ xs) zero t h e =
+    let q : x ≡ t = the-some x t h in
+    rw (q, e) refl
+remove-there lane (x ∷ xs) (suc i) t h e =
+    elim (cases_Bool (same x.lane lane)) [
+      | inl f ↦ rw f (ap (λ l. x.command ∷ l) (remove-there lane xs i t h e))
+      | inr f ↦ rw f (remove-there lane xs i t h e)
+    ]
+
+pub same-self : (l : Lane) → same l l ≡ true
+same-self Admin = refl
+same-self Io = refl
