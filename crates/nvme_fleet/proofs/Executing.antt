@@ -5,16 +5,14 @@ use Rattle.nvme_fleet.specs.Mailboxes.{LaneBox}
 use Rattle.nvme_wire.specs.Completion.{completion_of}
 use Rattle.nvme_wire.specs.Submission.{cid}
 use Rattle.nvme_driver.specs.Layout.{data_area}
-use Rattle.std.proofs.Common.{◌≡◌, ℕ, ◌+◌, ◌*◌, ◌%◌, ◌<◌, ◌≤◌, List, [], ◌∷◌, ◌++◌, length, map, refl, ap, sym, ◌∙◌, arith, true, false, cond, eqb, Some, None, inl, inr, slice_get, slice_set, take, drop, subst}
-use Rattle.std.proofs.lemmas.List.{take-take, drop-drop}
-use Rattle.std.proofs.Math.Seq.{take-add}
+use Rattle.std.proofs.Common.{◌≡◌, ℕ, ◌+◌, ◌*◌, ◌%◌, ◌<◌, ◌≤◌, List, [], ◌∷◌, ◌++◌, length, map, refl, ap, sym, ◌∙◌, arith, true, false, eqb, Some, None, inl, inr, slice_get, slice_set, take}
 use Rattle.std.proofs.lemmas.Option.{slice_get-map}
-use Rattle.std.proofs.lemmas.Bool.{cases_Bool, le-leb}
+use Rattle.std.proofs.lemmas.Bool.{cases_Bool}
 use Rattle.std.proofs.lemmas.Grind.{common_steps}
 use Rattle.std.specs.Prelude.{remove, Bool}
 use Rattle.std.specs.Option.{option_map}
 use Rattle.nvme_spec.specs.Bytes.{with_bytes}
-use Rattle.nvme_fleet.specs.Views.{Host, State, Slot, box, item, finished, finished_bytes, received_in, Effect, Resting, Holds, live_in, slot_at, commands_of, holds, executed as executed_one, executed_state}
+use Rattle.nvme_fleet.specs.Views.{Host, State, Slot, box, finished, finished_bytes, received_in, Effect, Resting, Holds, live_in, slot_at, commands_of, holds, executed as executed_one, executed_state}
 use Rattle.nvme_fleet.proofs.Totals.{map-removed}
 use Rattle.nvme_fleet.proofs.Slots.{apart-set}
 use Rattle.nvme_fleet.proofs.Executes.{Fetched as FetchedOne, fetched as fetched_one, Executes, given, execute-box, execute-holds}
@@ -22,7 +20,7 @@ use Rattle.nvme_driver.specs.declared.lane.Lane.{Lane}
 use Rattle.nvme_driver.specs.declared.lane.Lane.TheVariants.{Admin, Io}
 use Rattle.nvme_fleet.specs.Lanes.{other, Taken, HostSide, DeviceSide, Both, pair, base, pages_of, area, listed, slot_in, slots_in, commands_in, host, state, fetched_by, held_by, mail, executed_window, executed_at}
 use Rattle.nvme_fleet.proofs.LaneWindows.{Same, same-both, Leaves, leaves-data, lists-data, Pages, pages, area-front}
-use Rattle.nvme_fleet.proofs.LaneSlots.{slots-set, slot-in, set-slot, set-waiting, slot-here, slot-there, list-of, bytes-of, same-fetched}
+use Rattle.nvme_fleet.proofs.LaneSlots.{slots-set, slot-in, set-slot, set-waiting, slot-here, slot-there, same-fetched}
 use Rattle.nvme_fleet.proofs.Ranks.{rank, rank-here, remove-here, remove-there, same-self}
 use Rattle.nvme_fleet.proofs.Placing.{each-lane, same-holds, step-of}
 

@@ -4,7 +4,7 @@ use Rattle.nvme_fleet.specs.Views.{command_at}
 use Rattle.nvme_fleet.specs.Mailboxes.{box_at}
 use Rattle.nvme_fleet.specs.Mailboxes.{Item}
 use Rattle.nvme_fleet.specs.Deliveries.{ring_lane}
-use Rattle.std.proofs.Common.{◌≡◌, ℕ, ◌+◌, ◌<◌, ◌≤◌, List, [], ◌∷◌, ◌++◌, length, refl, ap, ◌∙◌, arith, true, false, inl, inr}
+use Rattle.std.proofs.Common.{◌≡◌, ℕ, ◌+◌, ◌<◌, ◌≤◌, List, [], ◌∷◌, ◌++◌, length, refl, ap, ◌∙◌, arith, true, inl, inr}
 use Rattle.std.proofs.lemmas.List.{map-append}
 use Rattle.std.proofs.lemmas.Bool.{cases_Bool}
 use Rattle.nvme_fleet.specs.Views.{Host, State, box, Resting, Holds, after_fetch, rung, item}

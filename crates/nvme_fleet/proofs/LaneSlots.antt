@@ -3,7 +3,6 @@ use Rattle.nvme_wire.specs.Submission.{cid}
 use Rattle.nvme_driver.specs.declared.slots.Waiting.{Waiting}
 use Rattle.std.proofs.Common.{◌≡◌, ℕ, ◌+◌, ◌<◌, ◌≤◌, List, [], ◌∷◌, length, map, refl, ap, sym, arith, zero, suc, true, false, cond, eqb, Option, Some, None, slice_set, inl, inr}
 use Rattle.std.proofs.lemmas.Bool.{cases_Bool, ne_eqb}
-
 use Rattle.nvme_fleet.specs.Views.{Slot, slot_at, live_in, item, commands_of}
 use Rattle.nvme_fleet.proofs.Slots.{Apart, cond-zero}
 use Rattle.nvme_driver.specs.declared.lane.Lane.{Lane}

@@ -1,6 +1,6 @@
 use Rattle.nvme_driver.specs.Layout.{list_page}
 use Rattle.nvme_driver.specs.Layout.{data_area}
-use Rattle.std.proofs.Common.{◌≡◌, ℕ, ◌+◌, ◌*◌, ◌<◌, ◌≤◌, List, length, ap, ◌∙◌, arith, false, eqb, take, drop, ◌⊎◌, inl, inr, subst}
+use Rattle.std.proofs.Common.{◌≡◌, ℕ, ◌+◌, ◌*◌, ◌<◌, ◌≤◌, List, length, ap, ◌∙◌, arith, false, eqb, take, drop, ◌⊎◌, inl, inr}
 use Rattle.std.proofs.lemmas.List.{take-take, length-drop}
 use Rattle.std.proofs.lemmas.Bool.{cases_lt, eqb-false}
 use Rattle.nvme_spec.specs.Bytes.{with_bytes}

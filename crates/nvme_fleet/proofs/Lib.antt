@@ -22,3 +22,5 @@ pub mod Ranks
 pub mod Executing
 pub mod Orders
 pub mod Polling
+pub mod Resetting
+pub mod Rising

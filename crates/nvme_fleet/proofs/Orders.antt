@@ -3,8 +3,6 @@ use Rattle.std.proofs.lemmas.Bool.{cases_Bool, eqb-true}
 use Rattle.std.proofs.lemmas.Grind.{common_steps}
 use Rattle.std.specs.Prelude.{nat_le}
 use Rattle.nvme_fleet.specs.Views.{ticket_in, live_waiting, AgeIn}
-use Rattle.nvme_driver.specs.declared.lane.Lane.{Lane}
-use Rattle.nvme_driver.specs.declared.lane.Lane.TheVariants.{Admin, Io}
 use Rattle.nvme_fleet.specs.Lanes.{aborted_number, ranked_too, in_order}
 use Rattle.nvme_fleet.specs.Mailboxes.{ranked, rising}
 use Rattle.nvme_driver.specs.declared.slots.Waiting.{Waiting}

@@ -15,12 +15,12 @@ use Rattle.nvme_fleet.specs.Mailboxes.{ranked}
 use Rattle.nvme_driver.specs.declared.slots.Waiting.{Waiting}
 use Rattle.nvme_driver.specs.Layout.{data_area}
 use Rattle.nvme_fleet.specs.Deliveries.{with_placed}
-use Rattle.std.proofs.Common.{◌≡◌, ℕ, ◌+◌, ◌*◌, ◌<◌, ◌≤◌, List, [], ◌∷◌, length, map, refl, ap, sym, ◌∙◌, arith, true, false, Bool, cond, eqb, not, Option, Some, None, Result, Ok, Err, inl, inr, slice_set, zero, suc, take}
+use Rattle.std.proofs.Common.{◌≡◌, ℕ, ◌+◌, ◌*◌, ◌<◌, ◌≤◌, List, [], ◌∷◌, length, map, refl, ap, sym, ◌∙◌, arith, true, false, Bool, cond, eqb, Option, Some, None, inl, inr, slice_set, zero, suc, take}
 use Rattle.std.proofs.lemmas.List.{length-set, length-map}
 use Rattle.std.proofs.lemmas.Bool.{cases_Bool, lt-ltb, le-ltb, cases_lt}
 use Rattle.std.proofs.lemmas.Grind.{common_steps}
 use Rattle.std.specs.List.{position, position_or_len}
-use Rattle.std.specs.Prelude.{IfErr, OnErr, IfOk, OnOk, is_none, nat_le}
+use Rattle.std.specs.Prelude.{is_none, nat_le}
 use Rattle.nvme_spec.specs.Bytes.{with_bytes}
 use Rattle.nvme_fleet.specs.Views.{Host, State, empty, box, Running, Resting, Holds, live_in, slot_at, total, holds, placed as placed_one, placed_state}
 use Rattle.nvme_fleet.proofs.Slots.{apart-set}

@@ -9,11 +9,11 @@ use Rattle.nvme_driver.specs.Layout.{data_area}
 use Rattle.nvme_fleet.specs.Mailboxes.{LaneBox}
 use Rattle.nvme_driver.specs.Polls.{waiting_at}
 use Rattle.nvme_driver.specs.declared.slots.Waiting.{Waiting}
-use Rattle.std.proofs.Common.{◌≡◌, ℕ, ◌-◌, ◌<◌, ◌≤◌, List, [], ◌∷◌, length, map, refl, ap, sym, ◌∙◌, arith, zero, suc, true, false, Bool, cond, Option, Some, None, inl, inr, slice_set, take, drop, subst}
-use Rattle.std.proofs.lemmas.List.{length-set, map-set, take-take}
+use Rattle.std.proofs.Common.{◌≡◌, ℕ, ◌-◌, ◌<◌, ◌≤◌, List, [], ◌∷◌, length, map, refl, ap, sym, ◌∙◌, arith, zero, suc, true, false, Bool, cond, Option, Some, None, inl, inr, slice_set, take, drop}
+use Rattle.std.proofs.lemmas.List.{length-set, take-take}
 use Rattle.std.proofs.lemmas.Bool.{cases_Bool, cases_lt}
 use Rattle.std.proofs.lemmas.Grind.{common_steps}
-use Rattle.nvme_wire.specs.Completion.{Completion, completion_of}
+use Rattle.nvme_wire.specs.Completion.{Completion}
 use Rattle.nvme_fleet.specs.Views.{Host, empty, slot_at, box, answer, front, heard, consumed as consumed_one, less, live_waiting, live_in, live_at as live_slot, holds, Running, Holds}
 use Rattle.nvme_fleet.proofs.Slots.{apart-set}
 use Rattle.nvme_fleet.proofs.Polls.{poll-posted, poll-box, poll-holds, none-posted, next-none, next-some, hears, front-of-lane, front-live, bare as bare_front}

@@ -1,19 +1,16 @@
 -- A driver and its controller as two lanes over one window: of each side what a mailbox stands for, of the window the queue
 -- pages of both lanes and the data and the list page of each slot.
-use Rattle.std.specs.Prelude.{◌≡◌, ◌≤◌, ℕ, suc, ◌+◌, ◌-◌, ◌*◌, ◌%◌, ◌==◌, nat_lt, nat_le, Bool, true, false, ◌&&◌, cond, List, [], ◌∷◌, ◌++◌, length, map, take, drop, remove, replicate, position, is_none, Option, None, Some, slice_get, slice_set}
-use Rattle.std.specs.Option.{option_flatten}
+use Rattle.std.specs.Prelude.{◌≡◌, ℕ, suc, ◌+◌, ◌-◌, ◌*◌, ◌%◌, nat_lt, Bool, true, false, ◌&&◌, cond, List, [], ◌∷◌, ◌++◌, length, map, take, drop, remove, Option, None, Some, slice_set}
 use Rattle.nvme_wire.specs.Submission.{cid}
 use Rattle.nvme_wire.specs.Completion.{Completion}
 use Rattle.nvme_spec.specs.Bytes.{with_bytes}
-use Rattle.nvme_spec.specs.Limits.{memory_page, most_bytes}
 use Rattle.nvme_spec.specs.Memory.{window_size}
 use Rattle.nvme_driver.specs.declared.lane.Lane.{Lane}
 use Rattle.nvme_driver.specs.declared.lane.Lane.TheVariants.{Admin, Io}
 use Rattle.nvme_driver.specs.declared.slots.Waiting.{Waiting}
-use Rattle.nvme_driver.specs.Layout.{queue_id, submission_queue, list_page, data_area}
+use Rattle.nvme_driver.specs.Layout.{list_page, data_area}
 use Rattle.nvme_driver.specs.Drivers.{abort}
-use Rattle.nvme_driver.specs.Polls.{waiting_at, answer_len}
-use Rattle.nvme_fleet.specs.Mailboxes.{Item, FetchedItem, PostedAnswer, LaneBox, Mailbox, ranked}
+use Rattle.nvme_fleet.specs.Mailboxes.{FetchedItem, Mailbox, ranked}
 use Rattle.nvme_fleet.specs.Views.{Slot, empty, Host, State, Effect, box, item, holds, Holds, finished_bytes, zeros, next_completion, command_at}
 
 abbrev pub same : Lane → Lane → Bool
@@ -271,6 +268,32 @@ abbrev pub zeroed_all : List ℕ → List ℕ
 zeroed_all w =
     with_bytes (with_bytes (with_bytes (with_bytes w (base Admin + 0) zeros) (base Admin + 4096) zeros) (base Io + 0) zeros)
     (base Io + 4096) zeros
+
+-- The driver's own commands: the n-th, from 0, in the admin lane, with its completion.
+pub record OwnCommand : Type 0 where
+  pub command : List ℕ
+  pub completion : List ℕ
+
+abbrev pub own_window : ℕ → List ℕ → OwnCommand → List ℕ
+own_window n w o =
+    with_bytes (with_bytes w (base Admin + 64 * n) o.command) (base Admin + (4096 + 16 * n)) o.completion
+
+-- the window once a driver came up by two of them
+abbrev pub up_window : List ℕ → OwnCommand → OwnCommand → List ℕ
+up_window w first second = own_window 1 (own_window 0 (zeroed_all w) first) second
+
+abbrev pub come_up : HostSide → HostSide
+come_up d = record d { up = true; admin = record { put = 2; unheard = 0; consumed = 2 }; io = no_ends }
+
+abbrev pub brought_up : DeviceSide → OwnCommand → OwnCommand → DeviceSide
+brought_up c first second = record {
+  window = up_window c.window first second;
+  ready = true;
+  made = true;
+  admin = record no_pair { fetched = 2; posted = 2 };
+  io = no_pair;
+  taken = [];
+}
 
 -- the doorbells of a controller: a tail below the size makes what lies before it wait, a head below the size leaves unread
 -- what lies behind it
