@@ -1,8 +1,10 @@
 //! The memory that a host shares with its controller.
 
 ghost use Rattle.std.specs.Prelude.{◌≡◌, OnOk, OnErr};
+ghost use Rattle.std.specs.Borrow.{sem};
 ghost use Rattle.nvme_machine.specs.declared.seen.Seen.TheVariants.{Stored, Outside};
 ghost use Rattle.nvme_machine.specs.Controllers.{after_store, reaction};
+ghost use Rattle.nvme_ctrl.specs.Lending.{LendsWindow};
 
 use crate::controller::Controller;
 use nvme_mem::{OutsideWindow, Window};
@@ -13,6 +15,14 @@ impl Controller {
         ensures { result.now ≡ self.now.window }
     {
         &self.window
+    }
+
+    /// The window of host memory, to be written. Nothing else changes, and it keeps its length.
+    pub fn window_mut(&mut self) -> &mut Window
+        ensures* writes_back { sem 𝓛 (LendsWindow self.entry result) }
+        ensures bytes { result.now ≡ self.old.window }
+    {
+        &mut self.window
     }
 
     /// Its host stores bytes.
