@@ -1,37 +1,53 @@
 -- Fencing holds over runs.
-use Rattle.std.proofs.Common.{◌≡◌, inl, inr, ℕ, true, false, List, [], ◌∷◌, Option, None, Some, refl, ap, ◌∙◌}
+use Rattle.std.proofs.Common.{◌≡◌, inl, inr, ℕ, Bool, true, false, List, [], ◌∷◌, Option, None, Some, refl, ap, ◌∙◌}
 use Rattle.std.specs.Prelude.{option_map}
 use Rattle.std.specs.List.{AllByRecursion}
-use Rattle.nvme_spec.specs.declared.access.Group.TheVariants.{Write as Writing}
+use Rattle.nvme_spec.specs.declared.access.Group.{Group}
+use Rattle.nvme_spec.specs.declared.access.Group.TheVariants.{Read as Reading, Write as Writing}
 use Rattle.nvme_spec.specs.declared.access.Role.TheVariants.{Outsider}
 use Rattle.nvme_spec.specs.Access.{is_permitted}
 use Rattle.nvme_spec.specs.Reservation as resv
 use Rattle.nvme_spec.specs.World.{World, Namespace, host_of, namespace_of}
 use Rattle.nvme_spec.specs.IoRules.{permits_group}
-use Rattle.nvme_spec.specs.Layout.{reservation_of, may_write}
+use Rattle.nvme_spec.specs.Layout.{reservation_of, may_write, may_read}
 use Rattle.nvme_machine.specs.declared.event.Event.{Event}
-use Rattle.nvme_machine.specs.Subsystems.{controller_of}
-use Rattle.nvme_machine.specs.Fencing.{namespace_bytes, PermissionsStay, FencingHolds}
+use Rattle.nvme_machine.specs.declared.seen.Seen.{Seen}
+use Rattle.nvme_machine.specs.Subsystems.{Subsystem, Step, controller_of}
+use Rattle.nvme_machine.specs.Fencing.{namespace_bytes, LeavesReservation, PermissionsStay, FencingHolds}
 use Rattle.nvme_machine.proofs.Layouts.{step-extents, layout_stays, only_allowed_actions_reserve, fenced_events_write_nothing}
 
 -- what a host may depends on the reservation alone
-permits-by : (o p : Option Namespace) (host : Option ℕ) → option_map (λ (m : Namespace). m.reservation) o ≡ option_map (λ (m : Namespace). m.reservation) p
-    → permits_group o host Writing ≡ permits_group p host Writing
-permits-by None None host e = refl
-permits-by None (Some b) host e = absurd (cc)
-permits-by (Some a) None host e = absurd (cc)
-permits-by (Some a) (Some b) None e = let same : a.reservation ≡ b.reservation = cc in ap (λ (r : resv.Reservation). is_permitted r.hold Outsider Writing) same
-permits-by (Some a) (Some b) (Some host) e = let same : a.reservation ≡ b.reservation = cc in ap (λ (r : resv.Reservation). is_permitted r.hold (resv.role_of r host) Writing) same
+permits-by : (o p : Option Namespace) (host : Option ℕ) (group : Group) → option_map (λ (m : Namespace). m.reservation) o ≡ option_map (λ (m : Namespace). m.reservation) p
+    → permits_group o host group ≡ permits_group p host group
+permits-by None None host group e = refl
+permits-by None (Some b) host group e = absurd (cc)
+permits-by (Some a) None host group e = absurd (cc)
+permits-by (Some a) (Some b) None group e = let same : a.reservation ≡ b.reservation = cc in ap (λ (r : resv.Reservation). is_permitted r.hold Outsider group) same
+permits-by (Some a) (Some b) (Some host) group e = let same : a.reservation ≡ b.reservation = cc in ap (λ (r : resv.Reservation). is_permitted r.hold (resv.role_of r host) group) same
 
 may-still : (old new : World) (n k : ℕ) → host_of new k ≡ host_of old k → reservation_of new n ≡ reservation_of old n → may_write new k n ≡ may_write old k n
 unfolding may_write reservation_of
-may-still old new n k hosts same = ap (λ h. permits_group (namespace_of new n) h Writing) hosts ∙ permits-by (namespace_of new n) (namespace_of old n) (host_of old k) same
+may-still old new n k hosts same = ap (λ h. permits_group (namespace_of new n) h Writing) hosts ∙ permits-by (namespace_of new n) (namespace_of old n) (host_of old k) Writing same
+
+read-still : (old new : World) (n k : ℕ) → host_of new k ≡ host_of old k → reservation_of new n ≡ reservation_of old n → may_read new k n ≡ may_read old k n
+unfolding may_read reservation_of
+read-still old new n k hosts same = ap (λ h. permits_group (namespace_of new n) h Reading) hosts ∙ permits-by (namespace_of new n) (namespace_of old n) (host_of old k) Reading same
 
 pub permissions_stay : PermissionsStay
 permissions_stay tells old new event seen n step quiet k =
     let same = step-extents tells old new event seen step in
     elim (only_allowed_actions_reserve tells old new event seen n step) [
       | inl reservation ↦ may-still old.world new.world n k (same.hosts k) reservation
+      | inr allowed ↦ absurd (quiet allowed)
+    ]
+
+-- so of reading
+pub reading-stays : (tells : Bool) (old new : Subsystem) (event : Event) (seen : Seen) (n : ℕ) → Step tells old event seen new → LeavesReservation n old event
+    → (k : ℕ) → may_read new.world k n ≡ may_read old.world k n
+reading-stays tells old new event seen n step quiet k =
+    let same = step-extents tells old new event seen step in
+    elim (only_allowed_actions_reserve tells old new event seen n step) [
+      | inl reservation ↦ read-still old.world new.world n k (same.hosts k) reservation
       | inr allowed ↦ absurd (quiet allowed)
     ]
 

@@ -7,3 +7,5 @@ pub mod Others
 pub mod Staying
 pub mod Wirings
 pub mod Marking
+pub mod Agreeing
+pub mod Secrecy

@@ -7,3 +7,4 @@ pub mod Fencing
 pub mod Wiring
 pub mod Marking
 pub mod Executing
+pub mod Secrecy

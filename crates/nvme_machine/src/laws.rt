@@ -4,11 +4,12 @@
 ghost use Rattle.nvme_machine.specs.Runs.{FailuresNeverFall, RunExists, RunIsUnique, DeniedChangesItsEntryAlone, AllowedDoesItsEffect, OthersChangeInMarksAlone, FetchedStays};
 ghost use Rattle.nvme_machine.specs.Wiring.{OpeningIsWired, WiringStays, WaitsWhereFull};
 ghost use Rattle.nvme_machine.specs.Marking.{MarkedIsAborted, PreemptedCommandsAreMarked};
+ghost use Rattle.nvme_machine.specs.Secrecy.{FencedReading, FencedReadingIsSame};
 ghost use Rattle.nvme_machine.specs.Fencing.{OnlyAllowedWritesWrite, OnlyAllowedActionsReserve, LayoutStays, FencedEventsWriteNothing, PermissionsStay, FencingHolds};
 
 /// Without a fault of the medium there is one run over each list of events, and one alone.
 #[tactic(auto, using(crate::proofs::Determined::failures_never_fall, crate::proofs::Determined::run_is_unique))]
-fn run_is_determined()
+pub fn run_is_determined()
     ensures count { FailuresNeverFall }
     ensures exists { RunExists }
     ensures unique { RunIsUnique }
@@ -17,14 +18,14 @@ fn run_is_determined()
 /// Every executed command is judged by the rules on the world of its execution: denied, it changes its completion entry,
 /// the counts of its completion queue and its list; allowed, it does exactly its effect.
 #[tactic(auto, using(crate::proofs::Denials::allowed_does_its_effect))]
-fn executed_as_the_policy_allows()
+pub fn executed_as_the_policy_allows()
     ensures denied { DeniedChangesItsEntryAlone }
     ensures allowed { AllowedDoesItsEffect }
 {}
 
 /// Bytes of a namespace change only by allowed writes, and its reservation only by allowed reservation commands.
 #[tactic(auto, using(crate::proofs::Layouts::only_allowed_writes_write, crate::proofs::Layouts::only_allowed_actions_reserve, crate::proofs::Layouts::layout_stays))]
-fn only_allowed_commands_change()
+pub fn only_allowed_commands_change()
     ensures writes { OnlyAllowedWritesWrite }
     ensures reserves { OnlyAllowedActionsReserve }
     ensures layout { LayoutStays }
@@ -33,23 +34,31 @@ fn only_allowed_commands_change()
 /// A host that may not write a namespace changes none of its bytes, until a reservation command on it is executed that all
 /// rules let pass.
 #[tactic(auto, using(crate::proofs::Layouts::fenced_events_write_nothing, crate::proofs::Fencing::permissions_stay, crate::proofs::Fencing::fencing_holds))]
-fn fencing_is_kept()
+pub fn fencing_is_kept()
     ensures event { FencedEventsWriteNothing }
     ensures permissions { PermissionsStay }
     ensures run { FencingHolds }
 {}
 
+/// Hosts that may not read a namespace learn nothing of its bytes, until a reservation command on it is executed that all
+/// rules let pass.
+#[tactic(auto, using(crate::proofs::Secrecy::fenced_reading, crate::proofs::Secrecy::fenced_reading_is_same))]
+pub fn fenced_hosts_read_nothing()
+    ensures possible { FencedReading }
+    ensures same { FencedReadingIsSame }
+{}
+
 /// An event on one controller changes of the others at most marks, and those only where it removed their host's
 /// registration.
 #[tactic(auto, using(crate::proofs::Others::others_change_in_marks_alone))]
-fn others_are_untouched()
+pub fn others_are_untouched()
     ensures { OthersChangeInMarksAlone }
 {}
 
 /// A fetched command leaves its list only by its execution, the deletion of its queue or a reset; it has its queues, so that
 /// it waits only where its completion queue is full.
 #[tactic(auto, using(crate::proofs::Staying::fetched_stays, crate::proofs::Wirings::opening_is_wired, crate::proofs::Wirings::wiring_stays, crate::proofs::Wirings::waits_where_full))]
-fn nothing_is_lost()
+pub fn nothing_is_lost()
     ensures fetched { FetchedStays }
     ensures opening { OpeningIsWired }
     ensures stays { WiringStays }
@@ -58,7 +67,7 @@ fn nothing_is_lost()
 
 /// Preempt and Abort marks what the hosts have fetched that it removes; what is marked is aborted.
 #[tactic(auto, using(crate::proofs::Marking::preempted_commands_are_marked))]
-fn preempted_is_aborted()
+pub fn preempted_is_aborted()
     ensures marks { PreemptedCommandsAreMarked }
     ensures aborts { MarkedIsAborted }
 {}

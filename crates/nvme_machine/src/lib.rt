@@ -5,7 +5,7 @@
 
 mod event;
 mod fetched;
-mod laws;
+pub mod laws;
 mod seen;
 
 pub use event::Event;

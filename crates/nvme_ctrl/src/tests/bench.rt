@@ -1,6 +1,6 @@
 //! Two controllers of two hosts over one access state and one medium.
 
-ghost use Rattle.std.specs.Prelude.{◌≡◌, IfOk};
+ghost use Rattle.std.specs.Prelude.{IfOk};
 ghost use Rattle.nvme_spec.specs.World.{LiesWithin};
 ghost use Rattle.nvme_spec.specs.Execution.{HasKnownRegistrants};
 

@@ -1,6 +1,5 @@
 //! Commands of two hosts, and the completions that their controllers post.
 
-ghost use Rattle.std.specs.Prelude.{◌≡◌, IfOk};
 ghost use Rattle.nvme_spec.specs.World.{LiesWithin};
 ghost use Rattle.nvme_spec.specs.Execution.{HasKnownRegistrants};
 

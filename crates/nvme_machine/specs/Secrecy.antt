@@ -1,0 +1,43 @@
+-- What hosts that may not read a namespace learn of its bytes, over runs: nothing.
+use Rattle.std.specs.Prelude.{◌≡◌, ◌≢◌, ◌<◌, ◌-◌, ◌^◌, ℕ, true, false, List, length}
+use Rattle.std.specs.List.{AllByRecursion}
+use Rattle.nvme_spec.specs.Blocks.{Device}
+use Rattle.nvme_spec.specs.World.{World}
+use Rattle.nvme_spec.specs.Layout.{IsLaidOut, bytes_of, may_read}
+use Rattle.nvme_machine.specs.declared.event.Event.{Event}
+use Rattle.nvme_machine.specs.declared.seen.Seen.{Seen}
+use Rattle.nvme_machine.specs.Subsystems.{Subsystem, Run, controller_of}
+use Rattle.nvme_machine.specs.Fencing.{RunWhere, LeavesReservation}
+
+-- a subsystem over another medium
+abbrev pub over : Device → Subsystem → Subsystem
+over d s = record s { device = d }
+
+-- two media have as many bytes and have counted as many failures, and the bytes of every namespace but this one are the same
+pub record DifferIn (n : ℕ) (w : World) (d e : Device) : Type 0 where
+  pub failures : e.failures ≡ d.failures
+  pub size : length e.content ≡ length d.content
+  pub others : (m : ℕ) → m ≢ n → bytes_of w e.content m ≡ bytes_of w d.content m
+
+-- the controllers of all these events belong to hosts that may not read the namespace
+abbrev pub MayNotRead : World → ℕ → List Event → Type 0
+MayNotRead w n events = AllByRecursion (λ event. may_read w (controller_of event) n ≡ false) events
+
+-- Fenced reading: while no reservation command on a namespace is executed but denied ones, whatever hosts that may not read
+-- it see and find in their memory, they can see and find as well where its bytes are others.
+abbrev pub FencedReading : Type 0
+FencedReading =
+    (old new : Subsystem) → (medium : Device) → (events : List Event) → (seen : List Seen) → (n : ℕ) → IsLaidOut old.world old.device.content
+    → DifferIn n old.world old.device medium
+    → RunWhere (LeavesReservation n) old events seen new → MayNotRead old.world n events
+    → (left : Device) × RunWhere (LeavesReservation n) (over medium old) events seen (over left new) × DifferIn n new.world new.device left
+
+-- And without a fault of the medium they do see and find the same: all answers, windows and controllers are equal.
+abbrev pub FencedReadingIsSame : Type 0
+FencedReadingIsSame =
+    (old new other : Subsystem) → (medium : Device) → (events : List Event) → (seen others : List Seen) → (n : ℕ) → IsLaidOut old.world old.device.content
+    → DifferIn n old.world old.device medium
+    → RunWhere (LeavesReservation n) old events seen new → MayNotRead old.world n events
+    → Run true (over medium old) events others other
+    → new.device.failures ≡ old.device.failures → other.device.failures ≡ old.device.failures → old.device.failures < 2 ^ 64 - 1
+    → (others ≡ seen) × (other ≡ over other.device new) × DifferIn n new.world new.device other.device
