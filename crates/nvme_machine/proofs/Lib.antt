@@ -9,3 +9,4 @@ pub mod Wirings
 pub mod Marking
 pub mod Agreeing
 pub mod Secrecy
+pub mod Preempted

@@ -101,7 +101,7 @@ among-marks n [] None h = absurd (false≢true h)
 among-marks n [] (Some x) h = absurd (false≢true h)
 among-marks n (y ∷ ys) host h = (h, refl)
 
-io_name : (n : ℕ) (t : FetchedCommand) → names n t ≡ true → ((t.queue == 0) ≡ false) × (nsid t.entry ≡ n)
+pub io_name : (n : ℕ) (t : FetchedCommand) → names n t ≡ true → ((t.queue == 0) ≡ false) × (nsid t.entry ≡ n)
 io_name n t h = by (t.queue == 0) h
   where
     by : (b : Bool) → (not b && (nsid t.entry == n)) ≡ true → (b ≡ false) × (nsid t.entry ≡ n)

@@ -27,12 +27,12 @@ stands : (t : FetchedCommand) (d : Controller) (m : ℕ) → slice_get d.fetched
 stands t d m found = record { place = m; found_as = t; found = found; still = record { entry = refl; queue = refl; marked = λ h. h } }
 
 -- marking
-got-map : {A B : Type 0} (f : A → B) (xs : List A) (i : ℕ) → slice_get (map f xs) i ≡ option_map f (slice_get xs i)
+pub got-map : {A B : Type 0} (f : A → B) (xs : List A) (i : ℕ) → slice_get (map f xs) i ≡ option_map f (slice_get xs i)
 got-map f [] i = refl
 got-map f (x ∷ xs) zero = refl
 got-map f (x ∷ xs) (suc i) = got-map f xs i
 
-still-marked : (n : ℕ) (t u : FetchedCommand) → IsStill t u → IsStill t (with_mark n u)
+pub still-marked : (n : ℕ) (t u : FetchedCommand) → IsStill t u → IsStill t (with_mark n u)
 still-marked n t u s = elim (names n u) as (λ b. IsStill t (if b then record u { marked = true } else u)) [
   | true ↦ record { entry = s.entry; queue = s.queue; marked = λ h. refl }
   | false ↦ s
@@ -52,7 +52,7 @@ pub stands-marked-at : (n : ℕ) (t : FetchedCommand) (o p : Option Controller) 
 stands-marked-at n t o p d marked is s = (with_marks n d, marked ∙ ap (option_map (with_marks n)) is, stands-marked n t d s)
 
 -- lists
-got-front : {A : Type 0} (xs ys : List A) (i : ℕ) (x : A) → slice_get xs i ≡ Some x → slice_get (xs ++ ys) i ≡ Some x
+pub got-front : {A : Type 0} (xs ys : List A) (i : ℕ) (x : A) → slice_get xs i ≡ Some x → slice_get (xs ++ ys) i ≡ Some x
 got-front [] ys i x h = absurd (cc)
 got-front (y ∷ xs) ys zero x h = h
 got-front (y ∷ xs) ys (suc i) x h = got-front xs ys i x h
@@ -81,7 +81,7 @@ set-same [] i c d h = absurd (cc)
 set-same (x ∷ cs) zero c d h = refl
 set-same (x ∷ cs) (suc i) c d h = set-same cs i c d h
 
-replaced-same : (cs : List Controller) (k : ℕ) (c d : Controller) → numbered cs k ≡ Some c → numbered (replaced cs k d) k ≡ Some d
+pub replaced-same : (cs : List Controller) (k : ℕ) (c d : Controller) → numbered cs k ≡ Some c → numbered (replaced cs k d) k ≡ Some d
 replaced-same cs zero c d h = absurd (cc)
 replaced-same cs (suc i) c d h = set-same cs i c d h
 
@@ -119,7 +119,7 @@ wrote : (offset v : ℕ) (c : Controller) (t : FetchedCommand) (m : ℕ) → sli
 unfolding after_write32
 wrote offset v c t m found = effects (after_write c.registers offset v).effect (record c { registers = (after_write c.registers offset v).registers }) t m found
 
-reacts-at : (old new : Subsystem) (k : ℕ) (c : Controller) (f : Controller → Reaction) (seen : Seen) (t : FetchedCommand) → ReactsAs (controller_at old k) old k f seen new → controller_at old k ≡ Some c → StandsIn t (f c).controller
+pub reacts-at : (old new : Subsystem) (k : ℕ) (c : Controller) (f : Controller → Reaction) (seen : Seen) (t : FetchedCommand) → ReactsAs (controller_at old k) old k f seen new → controller_at old k ≡ Some c → StandsIn t (f c).controller
     → (d : Controller) × (controller_at new k ≡ Some d) × StandsIn t d
 unfolding controller_at with_controller
 reacts-at old new k c f seen t h at s =
@@ -168,7 +168,7 @@ finishes tells s k c i m u t p a answers here found other =
 abbrev Stands : Subsystem → ℕ → FetchedCommand → Type 0
 Stands s j t = (d : Controller) × (controller_at s j ≡ Some d) × StandsIn t d
 
-unchanged : (old new : Subsystem) (k : ℕ) (c : Controller) (t : FetchedCommand) (m : ℕ) → new ≡ old → controller_at old k ≡ Some c → slice_get c.fetched m ≡ Some t → Stands new k t
+pub unchanged : (old new : Subsystem) (k : ℕ) (c : Controller) (t : FetchedCommand) (m : ℕ) → new ≡ old → controller_at old k ≡ Some c → slice_get c.fetched m ≡ Some t → Stands new k t
 unchanged old new k c t m same at found = (c, ap (λ s. controller_at s k) same ∙ at, stands t c m found)
 
 completed : (tells : Bool) (old new : Subsystem) (k : ℕ) (c : Controller) (i m : ℕ) (u t : FetchedCommand) (p : QueuePair) (seen : Seen) → Completes tells old k c i u p seen new → controller_at old k ≡ Some c
@@ -187,7 +187,7 @@ completed tells old new k c i m u t p seen h at here found other =
       | inr d ↦ inr d
     ]
 
-same_place : (i m : ℕ) → (i ≡ m) ⊎ (i ≢ m)
+pub same_place : (i m : ℕ) → (i ≡ m) ⊎ (i ≢ m)
 same_place i m = elim (cases_Bool (i == m)) [
   | inl e ↦ inl (eqb-true i m e)
   | inr e ↦ inr (eqb-false i m e)
@@ -223,7 +223,7 @@ elsewhere tells old new event seen step j m c t at found other = elim (others_ch
   | inr x ↦ stands-marked-at x.outcome.marks.nsid t (controller_at old j) (controller_at new j) c x.marked at (stands t c m found)
 ]
 
-moved : (s : Subsystem) (k j : ℕ) (t : FetchedCommand) → k ≡ j → Stands s k t → Stands s j t
+pub moved : (s : Subsystem) (k j : ℕ) (t : FetchedCommand) → k ≡ j → Stands s k t → Stands s j t
 moved s k j t same r = (r.0, ap (λ x. controller_at s x) (sym same) ∙ r.1, r.2)
 
 pub fetched_stays : FetchedStays

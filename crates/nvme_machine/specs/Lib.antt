@@ -8,3 +8,4 @@ pub mod Wiring
 pub mod Marking
 pub mod Executing
 pub mod Secrecy
+pub mod Preempted

@@ -4,6 +4,7 @@
 ghost use Rattle.nvme_machine.specs.Runs.{FailuresNeverFall, RunExists, RunIsUnique, DeniedChangesItsEntryAlone, AllowedDoesItsEffect, OthersChangeInMarksAlone, FetchedStays};
 ghost use Rattle.nvme_machine.specs.Wiring.{OpeningIsWired, WiringStays, WaitsWhereFull};
 ghost use Rattle.nvme_machine.specs.Marking.{MarkedIsAborted, PreemptedCommandsAreMarked};
+ghost use Rattle.nvme_machine.specs.Preempted.{CommandsAreFollowed, PreemptedStaysOut};
 ghost use Rattle.nvme_machine.specs.Secrecy.{FencedReading, FencedReadingIsSame};
 ghost use Rattle.nvme_machine.specs.Fencing.{OnlyAllowedWritesWrite, OnlyAllowedActionsReserve, LayoutStays, FencedEventsWriteNothing, PermissionsStay, FencingHolds};
 
@@ -70,4 +71,12 @@ pub fn nothing_is_lost()
 pub fn preempted_is_aborted()
     ensures marks { PreemptedCommandsAreMarked }
     ensures aborts { MarkedIsAborted }
+{}
+
+/// After a Preempt and Abort each command on the namespace that a controller of a removed host had fetched before is
+/// aborted, whenever it is executed. A command is followed through a run by its place in the list.
+#[tactic(auto, using(crate::proofs::Preempted::commands_are_followed, crate::proofs::Preempted::preempted_stays_out))]
+pub fn preempted_hosts_stay_out()
+    ensures followed { CommandsAreFollowed }
+    ensures run { PreemptedStaysOut }
 {}
