@@ -10,3 +10,5 @@ pub mod Marking
 pub mod Agreeing
 pub mod Secrecy
 pub mod Preempted
+pub mod Everywhere
+pub mod Placing

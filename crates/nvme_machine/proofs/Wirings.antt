@@ -10,7 +10,6 @@ use Rattle.nvme_spec.specs.declared.registers.RegEffect.{RegEffect}
 use Rattle.nvme_spec.specs.declared.registers.RegEffect.TheVariants.{Nothing, Enable, Disable, Shutdown, SqTail, CqHead}
 use Rattle.nvme_spec.specs.declared.registers.AdminQueues.{AdminQueues}
 use Rattle.nvme_spec.specs.declared.config.ControllerConfig.{ControllerConfig}
-use Rattle.nvme_spec.specs.declared.outcome.Marks.{Marks}
 use Rattle.nvme_spec.specs.Bytes.{with_bytes}
 use Rattle.nvme_spec.specs.World.{World}
 use Rattle.nvme_spec.specs.Queues.{completion_room, after_post as posted_one, after_fetch as fetched_one, empty_completion_tail, empty_submission_head}
@@ -22,34 +21,32 @@ use Rattle.nvme_spec.specs.Registers as register
 use Rattle.nvme_spec.specs.Registers.{after_write}
 use Rattle.nvme_spec.specs.Execution.{Scene}
 use Rattle.nvme_spec.proofs.QueueChanges.{admin_changes_suit}
-use Rattle.nvme_machine.specs.declared.event.Event.TheVariants.{Store, Write32, Read32, Fetch, Execute}
 use Rattle.nvme_machine.specs.declared.fetched.FetchedCommand.{FetchedCommand}
-use Rattle.nvme_machine.specs.declared.seen.Seen.{Seen}
 use Rattle.nvme_machine.specs.declared.seen.Seen.TheVariants.{Stored, Outside}
 use Rattle.nvme_machine.specs.Answers.{Answer, Answers}
-use Rattle.nvme_machine.specs.Subsystems.{opening, after_answer, Subsystem, ReactsAs, Completes, ExecutesAt, ExecutesOne, ExecutesOver, controller_at, with_controller, after_execution, scene_of, numbered, replaced, marked_from}
-use Rattle.nvme_machine.specs.Controllers.{new_controller, Reaction, no_submission_queues, without_queues, admin_submission_queue, admin_completion_queue, with_admin_queues, with_tail, with_head, taking_effect, fetchable, may_fetch, if_waiting, fetched_from, head_entry, reaction, after_store, after_write32, wrote, has_read, after_fetch, Controller, SubmissionQueue, CompletionQueue, QueuePair, names, with_mark, with_marks, queues_of, submission_at, completion_at, pair_of, if_room, open_pair, after_queue_change, after_posting}
-use Rattle.nvme_machine.specs.Wiring.{IsWired, AreWired, OpeningIsWired, WiringStays, WaitsWhereFull}
-use Rattle.nvme_machine.proofs.Others.{marks-numbered}
+use Rattle.nvme_machine.specs.Subsystems.{opening, after_answer, controller_at}
+use Rattle.nvme_machine.specs.Controllers.{new_controller, no_submission_queues, without_queues, admin_submission_queue, admin_completion_queue, with_admin_queues, with_tail, with_head, taking_effect, fetchable, may_fetch, if_waiting, fetched_from, head_entry, reaction, after_store, after_write32, has_read, after_fetch, Controller, SubmissionQueue, CompletionQueue, QueuePair, names, with_mark, with_marks, queues_of, submission_at, completion_at, pair_of, if_room, open_pair, after_queue_change, after_posting}
+use Rattle.nvme_machine.specs.Wiring.{IsWired, OpeningIsWired, WiringStays, WaitsWhereFull}
+use Rattle.nvme_machine.proofs.Everywhere.{Keeps, step-keeps}
 use Rattle.nvme_machine.proofs.Staying.{changing}
 
 -- Lists of optional queues.
 
-set-either : {A : Type 0} (xs : List (Option A)) (q r : ℕ) (y : Option A) (s : A) → slice_index_or (slice_set xs q y) r None ≡ Some s → (y ≡ Some s) ⊎ (slice_index_or xs r None ≡ Some s)
+pub set-either : {A : Type 0} (xs : List (Option A)) (q r : ℕ) (y : Option A) (s : A) → slice_index_or (slice_set xs q y) r None ≡ Some s → (y ≡ Some s) ⊎ (slice_index_or xs r None ≡ Some s)
 set-either [] q r y s h = inr h
 set-either (x ∷ xs) zero zero y s h = inl h
 set-either (x ∷ xs) zero (suc r) y s h = inr h
 set-either (x ∷ xs) (suc q) zero y s h = inr h
 set-either (x ∷ xs) (suc q) (suc r) y s h = set-either xs q r y s h
 
-set-some : {A : Type 0} (xs : List (Option A)) (q r : ℕ) (z s : A) → slice_index_or xs r None ≡ Some s → (x : A) × (slice_index_or (slice_set xs q (Some z)) r None ≡ Some x)
+pub set-some : {A : Type 0} (xs : List (Option A)) (q r : ℕ) (z s : A) → slice_index_or xs r None ≡ Some s → (x : A) × (slice_index_or (slice_set xs q (Some z)) r None ≡ Some x)
 set-some [] q r z s h = (s, h)
 set-some (x ∷ xs) zero zero z s h = (z, refl)
 set-some (x ∷ xs) zero (suc r) z s h = (s, h)
 set-some (x ∷ xs) (suc q) zero z s h = (s, h)
 set-some (x ∷ xs) (suc q) (suc r) z s h = set-some xs q r z s h
 
-set-other : {A : Type 0} (xs : List (Option A)) (q r : ℕ) (y : Option A) → r ≢ q → slice_index_or (slice_set xs q y) r None ≡ slice_index_or xs r None
+pub set-other : {A : Type 0} (xs : List (Option A)) (q r : ℕ) (y : Option A) → r ≢ q → slice_index_or (slice_set xs q y) r None ≡ slice_index_or xs r None
 set-other [] q r y other = refl
 set-other (x ∷ xs) zero zero y other = absurd (other refl)
 set-other (x ∷ xs) zero (suc r) y other = refl
@@ -70,7 +67,7 @@ or_right : (a b : Bool) → (a || b) ≡ false → b ≡ false
 or_right true b h = absurd (cc)
 or_right false b h = h
 
-unused-at : (qid : ℕ) (xs : List (Option SubmissionQueue)) (q : ℕ) (s : SubmissionQueue)
+pub unused-at : (qid : ℕ) (xs : List (Option SubmissionQueue)) (q : ℕ) (s : SubmissionQueue)
     → list_any (completes_to qid) (map (λ (o : Option SubmissionQueue). option_map (λ (x : SubmissionQueue). x.cqid) o) xs) ≡ false → slice_index_or xs q None ≡ Some s → (s.cqid == qid) ≡ false
 unused-at qid [] q s h is = absurd (cc)
 unused-at qid (None ∷ xs) zero s h is = absurd (cc)
@@ -128,13 +125,13 @@ abbrev cqid_of : Option SubmissionQueue → ℕ
 cqid_of None = 0
 cqid_of (Some q) = q.cqid
 
-none_is_some : {A : Type 0} {x : A} → None ≡ Some x → ⊥
+pub none_is_some : {A : Type 0} {x : A} → None ≡ Some x → ⊥
 none_is_some h = absurd (cc)
 
-some_same : {A : Type 0} {x y : A} → Some x ≡ Some y → x ≡ y
+pub some_same : {A : Type 0} {x y : A} → Some x ≡ Some y → x ≡ y
 some_same h = cc
 
-some_waiting : (b : Bool) (x s : SubmissionQueue) → (if b then Some x else None) ≡ Some s → Some x ≡ Some s
+pub some_waiting : (b : Bool) (x s : SubmissionQueue) → (if b then Some x else None) ≡ Some s → Some x ≡ Some s
 some_waiting true x s g = g
 some_waiting false x s g = absurd (cc)
 
@@ -257,7 +254,7 @@ set-mapped f (o ∷ xs) zero (suc r) s h = (s, h)
 set-mapped f (o ∷ xs) (suc q) zero s h = (s, h)
 set-mapped f (o ∷ xs) (suc q) (suc r) s h = set-mapped f xs q r s h
 
-mapped-back : {A : Type 0} (f : A → A) (xs : List (Option A)) (q r : ℕ) (s : A) → slice_index_or (slice_set xs q (option_map f (slice_index_or xs q None))) r None ≡ Some s
+pub mapped-back : {A : Type 0} (f : A → A) (xs : List (Option A)) (q r : ℕ) (s : A) → slice_index_or (slice_set xs q (option_map f (slice_index_or xs q None))) r None ≡ Some s
     → (z : A) × (slice_index_or xs r None ≡ Some z) × ((s ≡ z) ⊎ (s ≡ f z))
 mapped-back f [] q r s h = (s, h, inl refl)
 mapped-back f (None ∷ xs) zero zero s h = absurd (cc)
@@ -266,7 +263,7 @@ mapped-back f (o ∷ xs) zero (suc r) s h = (s, h, inl refl)
 mapped-back f (o ∷ xs) (suc q) zero s h = (s, h, inl refl)
 mapped-back f (o ∷ xs) (suc q) (suc r) s h = mapped-back f xs q r s h
 
-first-alone : {A : Type 0} (x : A) (q : ℕ) (s : A) → slice_index_or (Some x ∷ None ∷ None ∷ None ∷ None ∷ []) q None ≡ Some s → x ≡ s
+pub first-alone : {A : Type 0} (x : A) (q : ℕ) (s : A) → slice_index_or (Some x ∷ None ∷ None ∷ None ∷ None ∷ []) q None ≡ Some s → x ≡ s
 first-alone x zero s h = cc
 first-alone x (suc zero) s h = absurd (cc)
 first-alone x (suc (suc zero)) s h = absurd (cc)
@@ -353,18 +350,18 @@ took q c w (Some queue) is =
       ];
     }
 
-pub action-fetch : (q : ℕ) (c : Controller) → IsWired c → IsWired (after_fetch q c).controller
+action-fetch : (q : ℕ) (c : Controller) → IsWired c → IsWired (after_fetch q c).controller
 unfolding after_fetch
 action-fetch q c w = took q c w (fetchable c q) refl
 
-pub action-write : (offset v : ℕ) (c : Controller) → IsWired c → IsWired (after_write32 offset v c)
+action-write : (offset v : ℕ) (c : Controller) → IsWired c → IsWired (after_write32 offset v c)
 unfolding after_write32
 action-write offset v c w = effects (after_write c.registers offset v).effect (record c { registers = (after_write c.registers offset v).registers }) (record { fetched = w.fetched; completes = w.completes })
 
-pub action-read : (offset : ℕ) (c : Controller) → IsWired c → IsWired (has_read offset c).controller
+action-read : (offset : ℕ) (c : Controller) → IsWired c → IsWired (has_read offset c).controller
 action-read offset c w = w
 
-pub action-store : (address : ℕ) (bytes : List ℕ) (c : Controller) → IsWired c → IsWired (after_store address bytes c).controller
+action-store : (address : ℕ) (bytes : List ℕ) (c : Controller) → IsWired c → IsWired (after_store address bytes c).controller
 unfolding after_store
 action-store address bytes c w = elim (nat_le (address + length bytes) window_size) as (λ b. IsWired (if b then reaction (record c { window = with_bytes c.window address bytes }) Stored else reaction c Outside).controller) [
   | true ↦ with-window c (with_bytes c.window address bytes) w
@@ -373,64 +370,17 @@ action-store address bytes c w = elim (nat_le (address + length bytes) window_si
 
 -- All controllers.
 
-abbrev All : List Controller → Type 0
-All cs = (k : ℕ) → (c : Controller) → numbered cs k ≡ Some c → IsWired c
-
-got-set : (cs : List Controller) (i j : ℕ) (x d : Controller) → slice_get (slice_set cs i x) j ≡ Some d → (x ≡ d) ⊎ (slice_get cs j ≡ Some d)
-got-set [] i j x d h = inr h
-got-set (c ∷ cs) zero zero x d h = inl cc
-got-set (c ∷ cs) zero (suc j) x d h = inr h
-got-set (c ∷ cs) (suc i) zero x d h = inr h
-got-set (c ∷ cs) (suc i) (suc j) x d h = got-set cs i j x d h
-
-all-replaced : (cs : List Controller) (k : ℕ) (x : Controller) → All cs → IsWired x → All (replaced cs k x)
-all-replaced cs zero x all w j d h = all j d h
-all-replaced cs (suc i) x all w zero d h = all zero d h
-all-replaced cs (suc i) x all w (suc j) d h = elim (got-set cs i j x d h) [
-  | inl same ↦ subst IsWired same w
-  | inr old ↦ all (suc j) d old
-]
-
-is-marked : (n : ℕ) (o : Option Controller) (d : Controller) → ((c : Controller) → o ≡ Some c → IsWired c) → option_map (with_marks n) o ≡ Some d → IsWired d
-is-marked n None d all h = absurd (none_is_some h)
-is-marked n (Some c) d all h = subst IsWired (some_same h) (wired-marked n c (all c refl))
-
-all-marked : (w : World) (m : Marks) (cs : List Controller) → All cs → All (marked_from w m 1 cs)
-all-marked w m cs all k d h = elim (marks-numbered w m cs k) [
-  | inl same ↦ all k d (sym same ∙ h)
-  | inr x ↦ is-marked m.nsid (numbered cs k) d (all k) (sym x.marked ∙ h)
-]
-
-reacts : (o : Option Controller) (old new : Subsystem) (k : ℕ) (f : Controller → Reaction) (seen : Seen) → controller_at old k ≡ o → ReactsAs o old k f seen new → ((c : Controller) → IsWired c → IsWired (f c).controller) → AreWired old → AreWired new
-unfolding with_controller controller_at
-reacts None old new k f seen at h keeps all = subst AreWired (sym h.1) all
-reacts (Some c) old new k f seen at h keeps all = subst AreWired (sym h.1) (all-replaced old.controllers k (f c).controller all (keeps c (all k c at)))
-
-completes-wired : (tells : Bool) (old new : Subsystem) (k : ℕ) (c : Controller) (i : ℕ) (t : FetchedCommand) (p : QueuePair) (seen : Seen) → controller_at old k ≡ Some c → Completes tells old k c i t p seen new → AreWired old → AreWired new
-unfolding after_execution controller_at
-completes-wired tells old new k c i t p seen at h all =
-    let a : Answer = h.answer in
-    subst AreWired (sym h.leaves) (all-marked a.left.world a.outcome.marks (replaced old.controllers k (after_answer i t p a c))
-    (all-replaced old.controllers k (after_answer i t p a c) all (finishes tells (scene_of old c) k c i t p a h.answers (all k c at))))
-
-over-wired : (o : Option QueuePair) (tells : Bool) (old new : Subsystem) (k : ℕ) (c : Controller) (i : ℕ) (t : FetchedCommand) (seen : Seen) → controller_at old k ≡ Some c → ExecutesOver o tells old k c i t seen new → AreWired old → AreWired new
-over-wired None tells old new k c i t seen at h all = subst AreWired (sym h.1) all
-over-wired (Some p) tells old new k c i t seen at h all = completes-wired tells old new k c i t p seen at h all
-
-one-wired : (o : Option FetchedCommand) (tells : Bool) (old new : Subsystem) (k : ℕ) (c : Controller) (i : ℕ) (seen : Seen) → controller_at old k ≡ Some c → ExecutesOne o tells old k c i seen new → AreWired old → AreWired new
-one-wired None tells old new k c i seen at h all = subst AreWired (sym h.1) all
-one-wired (Some t) tells old new k c i seen at h all = over-wired (open_pair c t) tells old new k c i t seen at h all
-
-executes-wired : (o : Option Controller) (tells : Bool) (old new : Subsystem) (k i : ℕ) (seen : Seen) → controller_at old k ≡ o → ExecutesAt o tells old k i seen new → AreWired old → AreWired new
-executes-wired None tells old new k i seen at h all = subst AreWired (sym h.1) all
-executes-wired (Some c) tells old new k i seen at h all = one-wired (slice_get c.fetched i) tells old new k c i seen at h all
+keeps_wired : Keeps IsWired
+keeps_wired = record {
+  marks = λ n c w. wired-marked n c w;
+  store = λ address bytes c w. action-store address bytes c w;
+  write = λ offset v c w. action-write offset v c w;
+  fetch = λ q c w. action-fetch q c w;
+  finish = λ tells w d k i c t p a room answers wired. finishes tells (record { world = w; window = c.window; device = d }) k c i t p a answers wired;
+}
 
 pub wiring_stays : WiringStays
-wiring_stays tells old new (Store k address bytes) seen h all = reacts (controller_at old k) old new k (after_store address bytes.now) seen refl h (action-store address bytes.now) all
-wiring_stays tells old new (Write32 k offset v) seen h all = reacts (controller_at old k) old new k (wrote offset v) seen refl h (action-write offset v) all
-wiring_stays tells old new (Read32 k offset) seen h all = reacts (controller_at old k) old new k (has_read offset) seen refl h (action-read offset) all
-wiring_stays tells old new (Fetch k q) seen h all = reacts (controller_at old k) old new k (after_fetch q) seen refl h (action-fetch q) all
-wiring_stays tells old new (Execute k i) seen h all = executes-wired (controller_at old k) tells old new k i seen refl h all
+wiring_stays tells old new event seen step wired = step-keeps IsWired keeps_wired tells old new event seen step wired
 
 -- The opening.
 

@@ -9,3 +9,4 @@ pub mod Marking
 pub mod Executing
 pub mod Secrecy
 pub mod Preempted
+pub mod Placing

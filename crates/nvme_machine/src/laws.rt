@@ -3,6 +3,7 @@
 
 ghost use Rattle.nvme_machine.specs.Runs.{FailuresNeverFall, RunExists, RunIsUnique, DeniedChangesItsEntryAlone, AllowedDoesItsEffect, OthersChangeInMarksAlone, FetchedStays};
 ghost use Rattle.nvme_machine.specs.Wiring.{OpeningIsWired, WiringStays, WaitsWhereFull};
+ghost use Rattle.nvme_machine.specs.Placing.{OpeningIsPlaced, WindowsKeepTheirLength};
 ghost use Rattle.nvme_machine.specs.Marking.{MarkedIsAborted, PreemptedCommandsAreMarked};
 ghost use Rattle.nvme_machine.specs.Preempted.{CommandsAreFollowed, PreemptedStaysOut};
 ghost use Rattle.nvme_machine.specs.Secrecy.{FencedReading, FencedReadingIsSame};
@@ -64,6 +65,12 @@ pub fn nothing_is_lost()
     ensures opening { OpeningIsWired }
     ensures stays { WiringStays }
     ensures full { WaitsWhereFull }
+{}
+
+/// Whatever happens, each controller's window has all its bytes, and its completion queues lie in it.
+pub fn windows_keep_their_bytes()
+    ensures opening { OpeningIsPlaced }
+    ensures run { WindowsKeepTheirLength }
 {}
 
 /// Preempt and Abort marks what the hosts have fetched that it removes; what is marked is aborted.

@@ -1,0 +1,34 @@
+-- Windows keep their bytes, and completion queues lie in them.
+use Rattle.std.specs.Prelude.{◌≡◌, ℕ, Bool, List, length, Some}
+use Rattle.nvme_spec.specs.Blocks.{Device}
+use Rattle.nvme_spec.specs.Configuration.{Configuration}
+use Rattle.nvme_spec.specs.Memory.{window_size}
+use Rattle.nvme_spec.specs.Queues.{FitsCompletionTail}
+use Rattle.nvme_spec.specs.RegisterLaws.{IsQueuePlace, IsConsistent}
+use Rattle.nvme_machine.specs.declared.event.Event.{Event}
+use Rattle.nvme_machine.specs.declared.seen.Seen.{Seen}
+use Rattle.nvme_machine.specs.Controllers.{Controller, CompletionQueue, completion_at}
+use Rattle.nvme_machine.specs.Subsystems.{Subsystem, Run, controller_at, opening}
+
+-- a completion queue lies in the window, and its counts are within its size
+abbrev pub LiesInside : CompletionQueue → Type 0
+LiesInside x = IsQueuePlace x.base x.tail.size 16 × FitsCompletionTail x.tail
+
+-- a controller has its whole window, registers that agree with their state, and its completion queues in the window
+pub record IsPlaced (c : Controller) : Type 0 where
+  pub window : length c.window ≡ window_size
+  pub registers : IsConsistent c.registers
+  pub completion : (q : ℕ) → (x : CompletionQueue) → completion_at c q ≡ Some x → LiesInside x
+
+abbrev pub AreAllPlaced : Subsystem → Type 0
+AreAllPlaced s = (k : ℕ) → (c : Controller) → controller_at s k ≡ Some c → IsPlaced c
+
+-- it is so at the opening
+abbrev pub OpeningIsPlaced : Type 0
+OpeningIsPlaced = (c : Configuration) → (d : Device) → AreAllPlaced (opening c d)
+
+-- and stays so over every run: no window ever has a byte more or less
+abbrev pub WindowsKeepTheirLength : Type 0
+WindowsKeepTheirLength =
+    (tells : Bool) → (old new : Subsystem) → (events : List Event) → (seen : List Seen)
+    → Run tells old events seen new → AreAllPlaced old → AreAllPlaced new
