@@ -134,7 +134,7 @@ admin-window w k e window (Err d) o = refl
 admin-window w k e window (Ok u) None = refl
 admin-window w k e window (Ok u) (Some command) = length-with_scattered window _ _
 
-answer-window : (tells : Bool) (queues : Queues) (k : ℕ) (t : FetchedCommand) (s : Scene) (a : Answer) → Answers tells queues k t s a → length a.left.window ≡ length s.window
+pub answer-window : (tells : Bool) (queues : Queues) (k : ℕ) (t : FetchedCommand) (s : Scene) (a : Answer) → Answers tells queues k t s a → length a.left.window ≡ length s.window
 unfolding Answers admin_execution
 answer-window tells queues k t s a h = by (t.queue == 0) h
   where

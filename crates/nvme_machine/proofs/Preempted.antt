@@ -101,7 +101,7 @@ posted-at change i m l t u p a c is found place =
     ap (λ x. slice_get (after_queue_change x before).fetched l) is
     ∙ ap (λ x. slice_get (after_queue_change change before).fetched x) (sym r.2) ∙ done
 
-change-is : (tells : Bool) (s : Subsystem) (k : ℕ) (c : Controller) (u : FetchedCommand) (a : Answer) → Answers tells (queues_of c) k u (scene_of s c) a → a.change ≡ change_of s k c u
+pub change-is : (tells : Bool) (s : Subsystem) (k : ℕ) (c : Controller) (u : FetchedCommand) (a : Answer) → Answers tells (queues_of c) k u (scene_of s c) a → a.change ≡ change_of s k c u
 unfolding Answers
 change-is tells s k c u a h = by (u.queue == 0) h
   where

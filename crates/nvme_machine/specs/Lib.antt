@@ -10,3 +10,4 @@ pub mod Executing
 pub mod Secrecy
 pub mod Preempted
 pub mod Placing
+pub mod Posted

@@ -4,6 +4,7 @@
 ghost use Rattle.nvme_machine.specs.Runs.{FailuresNeverFall, RunExists, RunIsUnique, DeniedChangesItsEntryAlone, AllowedDoesItsEffect, OthersChangeInMarksAlone, FetchedStays};
 ghost use Rattle.nvme_machine.specs.Wiring.{OpeningIsWired, WiringStays, WaitsWhereFull};
 ghost use Rattle.nvme_machine.specs.Placing.{OpeningIsPlaced, WindowsKeepTheirLength};
+ghost use Rattle.nvme_machine.specs.Posted.{PostedIsUnread, UnreadStands, UnreadStandsOverRuns};
 ghost use Rattle.nvme_machine.specs.Marking.{MarkedIsAborted, PreemptedCommandsAreMarked};
 ghost use Rattle.nvme_machine.specs.Preempted.{CommandsAreFollowed, PreemptedStaysOut};
 ghost use Rattle.nvme_machine.specs.Secrecy.{FencedReading, FencedReadingIsSame};
@@ -71,6 +72,14 @@ pub fn nothing_is_lost()
 pub fn windows_keep_their_bytes()
     ensures opening { OpeningIsPlaced }
     ensures run { WindowsKeepTheirLength }
+{}
+
+/// A completion that was posted stands unread in its queue, and no later one takes its slot, until its host's doorbell says
+/// that it has consumed it; what else may take it is named, all of it its own host's doing.
+pub fn completions_stand()
+    ensures posted { PostedIsUnread }
+    ensures event { UnreadStands }
+    ensures run { UnreadStandsOverRuns }
 {}
 
 /// Preempt and Abort marks what the hosts have fetched that it removes; what is marked is aborted.
