@@ -1,6 +1,7 @@
 -- What each event keeps of a controller holds of every controller, whatever happens.
 use Rattle.std.proofs.Common.{◌≡◌, ◌⊎◌, inl, inr, ℕ, zero, suc, Bool, List, [], ◌∷◌, Option, None, Some, refl, sym, subst, ◌∙◌}
 use Rattle.std.specs.Prelude.{slice_get, slice_set, option_map}
+use Rattle.std.proofs.lemmas.Option.{none-some, same_Some}
 use Rattle.nvme_spec.specs.declared.outcome.Marks.{Marks}
 use Rattle.nvme_spec.specs.Blocks.{Device}
 use Rattle.nvme_spec.specs.World.{World}
@@ -29,12 +30,6 @@ All P cs = (k : ℕ) → (c : Controller) → numbered cs k ≡ Some c → P c
 abbrev pub Everywhere : (Controller → Type 0) → Subsystem → Type 0
 Everywhere P s = (k : ℕ) → (c : Controller) → controller_at s k ≡ Some c → P c
 
-none_is_some : {A : Type 0} {x : A} → None ≡ Some x → ⊥
-none_is_some h = absurd (cc)
-
-some_same : {A : Type 0} {x y : A} → Some x ≡ Some y → x ≡ y
-some_same h = cc
-
 got-set : (cs : List Controller) (i j : ℕ) (x d : Controller) → slice_get (slice_set cs i x) j ≡ Some d → (x ≡ d) ⊎ (slice_get cs j ≡ Some d)
 got-set [] i j x d h = inr h
 got-set (c ∷ cs) zero zero x d h = inl cc
@@ -51,8 +46,8 @@ all-replaced P cs (suc i) x all w (suc j) d h = elim (got-set cs i j x d h) [
 ]
 
 is-marked : (P : Controller → Type 0) → Keeps P → (n : ℕ) (o : Option Controller) (d : Controller) → ((c : Controller) → o ≡ Some c → P c) → option_map (with_marks n) o ≡ Some d → P d
-is-marked P keeps n None d all h = absurd (none_is_some h)
-is-marked P keeps n (Some c) d all h = subst P (some_same h) (keeps.marks n c (all c refl))
+is-marked P keeps n None d all h = absurd (none-some _ h)
+is-marked P keeps n (Some c) d all h = subst P (same_Some _ _ h) (keeps.marks n c (all c refl))
 
 all-marked : (P : Controller → Type 0) → Keeps P → (w : World) (m : Marks) (cs : List Controller) → All P cs → All P (marked_from w m 1 cs)
 all-marked P keeps w m cs all k d h = elim (marks-numbered w m cs k) [

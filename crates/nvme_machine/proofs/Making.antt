@@ -1,5 +1,6 @@
 -- A completion queue is made only where there is none.
 use Rattle.std.proofs.Common.{◌≡◌, ℕ, Bool, true, false, not, ◌||◌, zero, suc, List, [], ◌∷◌, map, Option, None, Some, Ok, Err, refl, ap, subst}
+use Rattle.std.proofs.lemmas.Bool.{or_parts}
 use Rattle.std.specs.Prelude.{slice_index_or, is_some}
 use Rattle.nvme_wire.specs.Submission.{opcode, nsid}
 use Rattle.nvme_wire.specs.declared.status.Status.{Status}
@@ -35,10 +36,6 @@ next-test : (b : Bool) (why : Status) (rest : List Test) → first_failure (test
 next-test true why rest h = absurd (cc)
 next-test false why rest h = (refl, h)
 
-second-false : (a b : Bool) → (a || b) ≡ false → b ≡ false
-second-false true b h = absurd (cc)
-second-false false b h = h
-
 field-passes : (w : World) (queues : Queues) (k : ℕ) (e window : List ℕ) (command : AdminCommand) → admin_judgement w queues k e window ≡ Ok tt → command_of (opcode e) ≡ Some command
     → judgement_by (field_rule (Some command) queues (namespace_of w (nsid e)) e) ≡ Ok tt
 unfolding admin_judgement
@@ -57,7 +54,7 @@ makes-new queues e h =
     let a = next-test (not (pc e)) status.invalid_field_in_command
     (test (is_foreign (qid e) || has_completion_queue queues (qid e)) status.invalid_queue_identifier ∷ size_test e ∷ base_tests 16 e) none in
     let b = next-test (is_foreign (qid e) || has_completion_queue queues (qid e)) status.invalid_queue_identifier (size_test e ∷ base_tests 16 e) a.1 in
-    second-false (is_foreign (qid e)) _ b.0
+    (or_parts (is_foreign (qid e)) _ b.0).1
 
 by-command : (w : World) (queues : Queues) (e : List ℕ) (command : AdminCommand) → judgement_by (field_rule (Some command) queues (namespace_of w (nsid e)) e) ≡ Ok tt → MakesNew queues (queue_change command e)
 unfolding queue_change

@@ -2,6 +2,7 @@
 use Rattle.std.proofs.Common.{◌≡◌, ℕ, zero, suc, ◌+◌, ◌==◌, ◌&&◌, not, Bool, true, false, List, [], ◌∷◌, map, Option, None, Some, Ok, Err, refl, sym, ap, subst, ◌∙◌, arith}
 use Rattle.std.specs.Prelude.{if◌then◌else◌, slice_get}
 use Rattle.std.proofs.lemmas.Bool.{eqb-true, eq-eqb, false≢true}
+use Rattle.std.proofs.lemmas.Option.{same_Some}
 use Rattle.nvme_wire.specs.Submission.{opcode, nsid}
 use Rattle.nvme_spec.specs.declared.command.Command.{Command}
 use Rattle.nvme_spec.specs.declared.command.Command.TheVariants.{ReservationAcquire}
@@ -40,9 +41,6 @@ pub marked_is_aborted : MarkedIsAborted
 marked_is_aborted tells old new k i c t p seen step waits marked io =
     denied_changes_its_entry_alone tells old new k i c t p _ seen step waits (io-judged (scene_of old c) (queues_of c) k t io ∙ aborted (scene_of old c) k t marked)
 
-some_same : {A : Type 0} {x y : A} → Some x ≡ Some y → x ≡ y
-some_same e = cc
-
 -- Marks stand on all that they name.
 
 mark-one : (n : ℕ) (x t : FetchedCommand) → with_mark n x ≡ t → names n t ≡ true → t.marked ≡ true
@@ -63,7 +61,7 @@ mark-at w m [] j i h d at is one = absurd (cc)
 mark-at w m (c ∷ cs) j zero h d at is one =
     let same : h ≡ j = omega (arith, at) in
     let this : is_host_among m.hosts.items (host_of w j) ≡ true = sym (ap (λ x. is_host_among m.hosts.items (host_of w x)) same) ∙ one in
-    let c_is : with_marks m.nsid c ≡ d = some_same (ap (λ b. Some (if b then with_marks m.nsid c else c)) (sym this) ∙ is) in
+    let c_is : with_marks m.nsid c ≡ d = same_Some _ _ (ap (λ b. Some (if b then with_marks m.nsid c else c)) (sym this) ∙ is) in
     subst (AllMarked m.nsid) c_is (λ i t at named. mark-list m.nsid c.fetched i t at named)
 mark-at w m (c ∷ cs) j (suc i) h d at is one = mark-at w m cs (j + 1) i h d (omega (arith, at)) is one
 
@@ -88,7 +86,7 @@ marks-by tells (Denied number why) s left k t o is h passed named =
     absurd (let same : Allowed p.0 ≡ Denied number why = sym p.1 ∙ is in cc)
 marks-by tells (Allowed plan) s left k t o is h passed named =
     let p = has-passed s.world k t.entry t.marked s.window plan is in
-    let kind : plan.kind ≡ ReservationAcquire = some_same (sym p.named ∙ named) in
+    let kind : plan.kind ≡ ReservationAcquire = same_Some _ _ (sym p.named ∙ named) in
     h.marks ∙ ap (λ (x : Command). marks_of x t.entry (reservation_outcome s.world k t.entry (data_of s.window t.entry))) kind
 
 preempts : (e : List ℕ) (o : Option _) → action e ≡ 2 → marks_of ReservationAcquire e o ≡ marks_on (nsid e) (removed_by o)

@@ -3,6 +3,7 @@ use Rattle.std.proofs.Common.{◌≡◌, inl, inr, ℕ, zero, suc, ◌+◌, ◌<
 use Rattle.std.specs.Prelude.{if◌then◌else◌, slice_get, slice_index_or, option_map, nat_le, IfSome}
 use Rattle.std.proofs.lemmas.List.{length-replicate}
 use Rattle.std.proofs.lemmas.Bool.{leb-true, ltb-true}
+use Rattle.std.proofs.lemmas.Option.{none-some, same_Some}
 use Rattle.nvme_wire.specs.Completion.{completion_entry}
 use Rattle.nvme_wire.specs.Submission.{opcode}
 use Rattle.nvme_wire.specs.declared.status.Status.{Status}
@@ -41,7 +42,7 @@ use Rattle.nvme_machine.specs.Subsystems.{opening, controller_at, after_answer}
 use Rattle.nvme_machine.specs.Placing.{LiesInside, IsPlaced, OpeningIsPlaced, WindowsKeepTheirLength}
 use Rattle.nvme_machine.proofs.Everywhere.{Keeps, run-keeps}
 use Rattle.nvme_machine.proofs.Staying.{changing}
-use Rattle.nvme_machine.proofs.Wirings.{set-either, mapped-back, first-alone, none_is_some, some_same}
+use Rattle.nvme_machine.proofs.Wirings.{set-either, mapped-back, first-alone}
 
 -- the same queues
 same-queues : (c d : Controller) → length d.window ≡ window_size → d.registers ≡ c.registers → d.completion ≡ c.completion → IsPlaced c → IsPlaced d
@@ -69,12 +70,12 @@ took q c (Some s) p = same-queues c (fetched_from q c (Some s)).controller p.win
 -- Register writes.
 
 none-completes : (q : ℕ) (x : CompletionQueue) → slice_index_or no_completion_queues q None ≡ Some x → ⊥
-none-completes zero x h = none_is_some h
-none-completes (suc zero) x h = none_is_some h
-none-completes (suc (suc zero)) x h = none_is_some h
-none-completes (suc (suc (suc zero))) x h = none_is_some h
-none-completes (suc (suc (suc (suc zero)))) x h = none_is_some h
-none-completes (suc (suc (suc (suc (suc q))))) x h = none_is_some h
+none-completes zero x h = none-some _ h
+none-completes (suc zero) x h = none-some _ h
+none-completes (suc (suc zero)) x h = none-some _ h
+none-completes (suc (suc (suc zero))) x h = none-some _ h
+none-completes (suc (suc (suc (suc zero)))) x h = none-some _ h
+none-completes (suc (suc (suc (suc (suc q))))) x h = none-some _ h
 
 empty-fits : (size : ℕ) → IsQueueSize size → FitsCompletionTail (empty_completion_tail size)
 empty-fits size fits = record { size = fits; posted = omega (arith, fits.0); unread = omega (arith, fits.0) }
@@ -157,22 +158,22 @@ pub record IsOpen (c : Controller) (t : FetchedCommand) (p : QueuePair) : Type 0
   pub room : 0 < completion_room p.completion.tail
 
 room-of : (o : Option QueuePair) (p : QueuePair) → if_room o ≡ Some p → (o ≡ Some p) × (0 < completion_room p.completion.tail)
-room-of None p h = absurd (none_is_some h)
+room-of None p h = absurd (none-some _ h)
 room-of (Some x) p h = by (nat_lt 0 (completion_room x.completion.tail)) refl h
   where
     by : (b : Bool) → nat_lt 0 (completion_room x.completion.tail) ≡ b → (if b then Some x else None) ≡ Some p → (Some x ≡ Some p) × (0 < completion_room p.completion.tail)
-    by true e g = (g, subst (λ (y : QueuePair). 0 < completion_room y.completion.tail) (some_same g) (ltb-true _ _ e))
-    by false e g = absurd (none_is_some g)
+    by true e g = (g, subst (λ (y : QueuePair). 0 < completion_room y.completion.tail) (same_Some _ _ g) (ltb-true _ _ e))
+    by false e g = absurd (none-some _ g)
 
 with-completion : (s : SubmissionQueue) (o : Option CompletionQueue) (p : QueuePair) → option_map (λ (x : CompletionQueue). record { submission = s; completion = x }) o ≡ Some p
     → (p.submission ≡ s) × (o ≡ Some p.completion)
-with-completion s None p h = absurd (none_is_some h)
+with-completion s None p h = absurd (none-some _ h)
 with-completion s (Some x) p h =
-    let same = some_same h in
+    let same = same_Some _ _ h in
     (sym (ap (λ (y : QueuePair). y.submission) same), ap (λ (y : QueuePair). Some y.completion) same)
 
 pair-parts : (c : Controller) (o : Option SubmissionQueue) (p : QueuePair) → pair_of c o ≡ Some p → (o ≡ Some p.submission) × (completion_at c p.submission.cqid ≡ Some p.completion)
-pair-parts c None p h = absurd (none_is_some h)
+pair-parts c None p h = absurd (none-some _ h)
 pair-parts c (Some s) p h =
     let r = with-completion s (completion_at c s.cqid) p h in
     (ap Some (sym r.0), ap (λ (x : SubmissionQueue). completion_at c x.cqid) r.0 ∙ r.1)
@@ -210,7 +211,7 @@ posts i t p why first c opened placed =
           length-with_bytes c.window (completion_slot p.completion) (completion_of t p why first) (omega (arith, size, inside, length-entry t p why first)) ∙ size);
       registers = placed.registers;
       completion = λ q x h. elim (set-either c.completion p.submission.cqid q (Some (record p.completion { tail = after_post p.completion.tail })) x h) [
-        | inl new ↦ subst LiesInside (some_same new) (posted-queue p.completion at opened.room)
+        | inl new ↦ subst LiesInside (same_Some _ _ new) (posted-queue p.completion at opened.room)
         | inr old ↦ placed.completion q x old
       ];
     }
@@ -224,7 +225,7 @@ changes (MakeCq qid size at) queues c suits p = record {
   window = p.window;
   registers = p.registers;
   completion = λ q x h. elim (set-either c.completion qid q (Some (record { base = at; tail = empty_completion_tail size })) x h) [
-    | inl new ↦ subst LiesInside (some_same new) (placed-queue at size suits.1)
+    | inl new ↦ subst LiesInside (same_Some _ _ new) (placed-queue at size suits.1)
     | inr old ↦ p.completion q x old
   ];
 }
@@ -232,7 +233,7 @@ changes (DropCq qid) queues c suits p = record {
   window = p.window;
   registers = p.registers;
   completion = λ q x h. elim (set-either c.completion qid q None x h) [
-    | inl none ↦ absurd (none_is_some none)
+    | inl none ↦ absurd (none-some _ none)
     | inr old ↦ p.completion q x old
   ];
 }
@@ -272,11 +273,11 @@ new-is-placed : (k : ℕ) → IsPlaced (new_controller k)
 new-is-placed k = record { window = length-zeros; registers = begins_consistent; completion = λ q x h. absurd (none-completes q x h) }
 
 all-new : (ks : List ControllerConfig) (i : ℕ) (d : Controller) → slice_get (map (λ (k : ControllerConfig). new_controller k.cntlid) ks) i ≡ Some d → IsPlaced d
-all-new [] i d h = absurd (none_is_some h)
-all-new (k ∷ ks) zero d h = subst IsPlaced (some_same h) (new-is-placed k.cntlid)
+all-new [] i d h = absurd (none-some _ h)
+all-new (k ∷ ks) zero d h = subst IsPlaced (same_Some _ _ h) (new-is-placed k.cntlid)
 all-new (k ∷ ks) (suc i) d h = all-new ks i d h
 
 pub opening_is_placed : OpeningIsPlaced
 unfolding opening controller_at
-opening_is_placed c m zero d h = absurd (none_is_some h)
+opening_is_placed c m zero d h = absurd (none-some _ h)
 opening_is_placed c m (suc i) d h = all-new c.controllers i d h

@@ -2,6 +2,7 @@
 use Rattle.std.proofs.Common.{◌≡◌, ◌≢◌, ◌⊎◌, inl, inr, ℕ, zero, suc, ◌+◌, ◌≤◌, ◌==◌, nat_lt, Bool, true, false, List, [], ◌∷◌, length, take, slice_range, Option, None, Some, Ok, Err, refl, sym, ap, subst, ◌∙◌, arith}
 use Rattle.std.specs.Prelude.{if◌then◌else◌, slice_get, slice_set, slice_index_or, option_map, nat_le}
 use Rattle.std.proofs.lemmas.Bool.{cases_Bool, leb-true, cases_lt, false≢true, eqb-false}
+use Rattle.std.proofs.lemmas.Option.{none-some, same_Some}
 use Rattle.nvme_wire.specs.Submission.{opcode}
 use Rattle.nvme_wire.specs.declared.status.Status.{Status}
 use Rattle.nvme_spec.specs.declared.command.AdminCommand.{AdminCommand}
@@ -50,7 +51,7 @@ use Rattle.nvme_machine.proofs.Placing.{keeps_placed, answer-window, change-suit
 use Rattle.nvme_machine.proofs.Preempted.{change-is}
 use Rattle.nvme_machine.proofs.Slots.{unread-next, posted-unread, untouched-take, scattered-apart, overlaps-or, stored-apart, stored-there}
 use Rattle.nvme_machine.proofs.Staying.{replaced-same, same_place, changing}
-use Rattle.nvme_machine.proofs.Wirings.{set-other, unused-at, none_is_some, some_same}
+use Rattle.nvme_machine.proofs.Wirings.{set-other, unused-at}
 
 -- it stands in the window of controller j
 abbrev Stands : PostedEntry → Option Controller → Type 0
@@ -109,7 +110,7 @@ unmoved o p e same s = (s.0, same ∙ s.1, s.2)
 -- Register writes.
 
 mapped-same : {A : Type 0} (f : A → A) (xs : List (Option A)) (q : ℕ) (x : A) → slice_index_or xs q None ≡ Some x → slice_index_or (slice_set xs q (option_map f (slice_index_or xs q None))) q None ≡ Some (f x)
-mapped-same f [] q x h = absurd (none_is_some h)
+mapped-same f [] q x h = absurd (none-some _ h)
 mapped-same f (o ∷ xs) zero x h = ap (option_map f) h
 mapped-same f (o ∷ xs) (suc q) x h = mapped-same f xs q x h
 
@@ -207,7 +208,7 @@ data-apart tells w d k c t a x h clear fits = by (t.queue == 0) h clear
 -- The completion.
 
 set-there : {A : Type 0} (xs : List (Option A)) (q : ℕ) (x y : A) → slice_index_or xs q None ≡ Some x → slice_index_or (slice_set xs q (Some y)) q None ≡ Some y
-set-there [] q x y h = absurd (none_is_some h)
+set-there [] q x y h = absurd (none-some _ h)
 set-there (o ∷ xs) zero x y h = refl
 set-there (o ∷ xs) (suc q) x y h = set-there xs q x y h
 
@@ -231,7 +232,7 @@ posts-here : (i : ℕ) (t : FetchedCommand) (p : QueuePair) (why : Status) (firs
 unfolding after_posting
 posts-here i t p why first c e placed opened u same =
     let x : CompletionQueue = p.completion in
-    let here : x ≡ u.found_in = some_same (sym opened.completion ∙ ap (λ n. completion_at c n) same ∙ u.at) in
+    let here : x ≡ u.found_in = same_Some _ _ (sym opened.completion ∙ ap (λ n. completion_at c n) same ∙ u.at) in
     let lies = placed.completion p.submission.cqid x opened.completion in
     let unread : IsUnread x.tail e.slot = subst (λ (y : CompletionQueue). IsUnread y.tail e.slot) (sym here) u.unread in
     let base : x.base ≡ e.base = ap (λ (y : CompletionQueue). y.base) here ∙ u.base in

@@ -2,6 +2,7 @@
 use Rattle.std.proofs.Common.{◌≡◌, ◌≢◌, inl, inr, ℕ, zero, suc, ◌+◌, ◌-◌, ◌<◌, ◌≤◌, ◌==◌, ◌||◌, ◌&&◌, nat_lt, Bool, true, false, cond, not, List, [], ◌∷◌, length, filter, take, Option, None, Some, refl, sym, ap, subst, ◌∙◌, arith}
 use Rattle.std.specs.Prelude.{if◌then◌else◌, slice_get, remove, option_map, nat_le}
 use Rattle.std.proofs.lemmas.Bool.{eqb-true, eqb-false, eq-eqb, cases_Bool, ltb-true, ltb-false}
+use Rattle.std.proofs.lemmas.Option.{none-some, same_Some}
 use Rattle.nvme_spec.specs.declared.queues.QueueChange.{QueueChange}
 use Rattle.nvme_spec.specs.declared.queues.QueueChange.TheVariants.{Keep, MakeCq, MakeSq, DropCq, DropSq}
 use Rattle.nvme_spec.specs.declared.registers.RegEffect.{RegEffect}
@@ -67,12 +68,6 @@ filtered-at p (y ∷ xs) (suc m) x kept h = put (p y) (filtered-at p xs m x kept
     put true r = r
     put false r = r
 
-some_same : {A : Type 0} {x y : A} → Some x ≡ Some y → x ≡ y
-some_same e = cc
-
-none_is_some : {A : Type 0} {x : A} → None ≡ Some x → ⊥
-none_is_some h = absurd (cc)
-
 -- An execution.
 
 changed-at : (change : QueueChange) (c : Controller) (t : FetchedCommand) (m : ℕ) → slice_get c.fetched m ≡ Some t → is_dropped change (Some t) ≡ false
@@ -85,9 +80,9 @@ changed-at (DropCq qid) c t m found stays = found
 changed-at (DropSq qid) c t m found stays = filtered-at (λ (u : FetchedCommand). not (u.queue == qid)) c.fetched m t (ap not stays) found
 
 unless : (b d : Bool) (x l : ℕ) → (if b || d then None else Some x) ≡ Some l → (b ≡ false) × (d ≡ false) × (x ≡ l)
-unless true d x l h = absurd (none_is_some h)
-unless false true x l h = absurd (none_is_some h)
-unless false false x l h = (refl, refl, some_same h)
+unless true d x l h = absurd (none-some _ h)
+unless false true x l h = absurd (none-some _ h)
+unless false false x l h = (refl, refl, same_Some _ _ h)
 
 posted-at : (change : QueueChange) (i m l : ℕ) (t u : FetchedCommand) (p : QueuePair) (a : Answer) (c : Controller) → a.change ≡ change → slice_get c.fetched m ≡ Some t → place_posted change i c.fetched m ≡ Some l
     → slice_get (after_answer i u p a c).fetched l ≡ Some t
@@ -137,7 +132,7 @@ completed tells old new k c i m l u t p seen h at found place =
 -- where nothing happens
 unchanged-at : (old new : Subsystem) (k : ℕ) (c : Controller) (t : FetchedCommand) (m l : ℕ) → new ≡ old → controller_at old k ≡ Some c → slice_get c.fetched m ≡ Some t → Some m ≡ Some l → AtOf (controller_at new k) t l
 unchanged-at old new k c t m l same at found place =
-    (c, ap (λ s. controller_at s k) same ∙ at, as-it-is t c.fetched l (ap (slice_get c.fetched) (sym (some_same place)) ∙ found))
+    (c, ap (λ s. controller_at s k) same ∙ at, as-it-is t c.fetched l (ap (slice_get c.fetched) (sym (same_Some _ _ place)) ∙ found))
 
 over-at : (o : Option QueuePair) (tells : Bool) (old new : Subsystem) (k : ℕ) (c : Controller) (i m l : ℕ) (u t : FetchedCommand) (seen : Seen) → ExecutesOver o tells old k c i u seen new → controller_at old k ≡ Some c
     → slice_get c.fetched m ≡ Some t → place_over o (change_of old k c u) i c.fetched m ≡ Some l → AtOf (controller_at new k) t l
@@ -204,14 +199,14 @@ elsewhere tells old new event seen step j m c t at found other =
     ]
 
 moved-at : (s : Subsystem) (k j : ℕ) (t : FetchedCommand) (m l : ℕ) → k ≡ j → Some m ≡ Some l → AtOf (controller_at s k) t m → AtOf (controller_at s j) t l
-moved-at s k j t m l same place r = subst (λ x. AtOf (controller_at s x) t l) same (subst (λ x. AtOf (controller_at s k) t x) (some_same place) r)
+moved-at s k j t m l same place r = subst (λ x. AtOf (controller_at s x) t l) same (subst (λ x. AtOf (controller_at s k) t x) (same_Some _ _ place) r)
 
 replaced-at : (s : Subsystem) (j : ℕ) (t : FetchedCommand) (m l : ℕ) → Some m ≡ Some l → AtOf (controller_at s j) t m → AtOf (controller_at s j) t l
-replaced-at s j t m l place r = subst (λ x. AtOf (controller_at s j) t x) (some_same place) r
+replaced-at s j t m l place r = subst (λ x. AtOf (controller_at s j) t x) (same_Some _ _ place) r
 
 -- the condition of a write, for its own controller and for another
 own-write : (b : Bool) (m l : ℕ) → (if b then None else Some m) ≡ Some l → (b ≡ false) × (Some m ≡ Some l)
-own-write true m l h = absurd (none_is_some h)
+own-write true m l h = absurd (none-some _ h)
 own-write false m l h = (refl, h)
 
 pub commands_are_followed : CommandsAreFollowed
@@ -268,8 +263,8 @@ preempted_stays_out tells n old mid new k i c t preempts j m d u at found named 
     let all = preempted_commands_are_marked tells old mid k i n c t preempts.pair preempts.seen preempts.step preempts.waits preempts.named preempts.acquires preempts.aborts preempts.allowed j d at removed in
     let end = followed tells j mid new m l events seen u run (d, at, as-it-is u d.fetched m found) in
     let stood = end.2 in
-    let controller : end.0 ≡ e = some_same (sym end.1 ∙ waits.at) in
-    let command : stood.found_as ≡ v = some_same (sym stood.found ∙ ap (λ (x : Controller). slice_get x.fetched l) controller ∙ waits.found) in
+    let controller : end.0 ≡ e = same_Some _ _ (sym end.1 ∙ waits.at) in
+    let command : stood.found_as ≡ v = same_Some _ _ (sym stood.found ∙ ap (λ (x : Controller). slice_get x.fetched l) controller ∙ waits.found) in
     let still : IsStill u v = subst (IsStill u) command stood.still in
     let io = io_name n u named in
     marked_is_aborted tells new last j l e v q answer step waits (still.marked (all m u found named)) (ap (λ x. x == 0) still.queue ∙ io.0)

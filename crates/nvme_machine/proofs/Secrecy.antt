@@ -1,7 +1,7 @@
 -- Hosts that may not read a namespace learn nothing of its bytes.
-use Rattle.std.proofs.Common.{◌≡◌, ◌≢◌, inl, inr, ℕ, ◌+◌, ◌-◌, ◌^◌, ◌*◌, ◌<◌, ◌≤◌, ◌==◌, ◌&&◌, ◌||◌, not, Bool, true, false, List, [], ◌∷◌, length, take, Option, None, Some, refl, sym, ap, subst, ◌∙◌, arith}
+use Rattle.std.proofs.Common.{◌≡◌, ◌≢◌, inl, inr, ℕ, ◌+◌, ◌-◌, ◌^◌, ◌*◌, ◌<◌, ◌≤◌, ◌==◌, ◌&&◌, not, Bool, true, false, List, [], ◌∷◌, length, take, Option, None, Some, refl, sym, ap, subst, ◌∙◌, arith}
 use Rattle.std.specs.Prelude.{if◌then◌else◌, is_some, replicate, slice_get}
-use Rattle.std.proofs.lemmas.Bool.{false≢true, leb-true}
+use Rattle.std.proofs.lemmas.Bool.{or_parts, false≢true, leb-true}
 use Rattle.std.proofs.lemmas.List.{length-replicate, length-take-le}
 use Rattle.nvme_wire.specs.Submission.{opcode, nsid}
 use Rattle.nvme_wire.specs.declared.status.Status.{Status}
@@ -94,10 +94,6 @@ permitted w k m group = permits_group (namespace_of w m) (host_of w k) group
 
 elsewhere : (w : World) (k n m : ℕ) (group : Group) → permitted w k m group ≡ true → permitted w k n group ≡ false → m ≢ n
 elsewhere w k n m group granted denied same = false≢true (sym denied ∙ ap (λ l. permitted w k l group) (sym same) ∙ granted)
-
-first-of : (a b : Bool) → (a || b) ≡ false → a ≡ false
-first-of true b h = impossible h
-first-of false b h = refl
 
 -- a command that reads, or writes, was let pass by the reservation
 not-read : (w : World) (k n m : ℕ) → may_read w k n ≡ false → not (permitted w k m Reading) ≡ false → m ≢ n
@@ -295,13 +291,13 @@ performs n s k e Flush new d answer returned laid differ fenced p h =
     let m = flushes n s.world s.device new.device d answer differ f.0 in
     on-blocks n s new d Flush e (data_of s.window e) answer returned h.world (m.0, (m.1, f.1), m.2)
 performs n s k e Read new d answer returned laid differ fenced p h =
-    let other = not-read s.world k n (nsid e) fenced (first-of _ _ p.permitted) in
+    let other = not-read s.world k n (nsid e) fenced ((or_parts _ _ p.permitted).0) in
     let l = lies s.world k e p.attached p.fits in
     on-blocks n s new d Read e (data_of s.window e) answer returned h.world
     (reads n s.world s.device new.device d (medium_block s.world e) (512 * block_count e) answer returned differ (reads-same n s.world k e s.device d (512 * block_count e) laid differ other l.0 l.1 (omega arith)) h.effect)
 performs n s k e Compare new d answer returned laid differ fenced p h =
     let f = h.effect in
-    let other = not-read s.world k n (nsid e) fenced (first-of _ _ p.permitted) in
+    let other = not-read s.world k n (nsid e) fenced ((or_parts _ _ p.permitted).0) in
     let l = lies s.world k e p.attached p.fits in
     let whole = whole-data Compare s.window e p.named in
     let m = compares n s.world s.device new.device d (medium_block s.world e) (data_of s.window e) answer differ

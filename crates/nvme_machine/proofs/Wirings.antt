@@ -1,8 +1,9 @@
 -- Every fetched command has its queues, whatever happens.
-use Rattle.std.proofs.Common.{◌≡◌, ◌≢◌, ◌⊎◌, inl, inr, ℕ, zero, suc, ◌+◌, ◌==◌, nat_lt, Bool, true, false, cond, not, ◌||◌, ◌&&◌, List, [], ◌∷◌, ◌++◌, length, map, filter, Option, None, Some, refl, sym, ap, subst, ◌∙◌, arith}
+use Rattle.std.proofs.Common.{◌≡◌, ◌≢◌, ◌⊎◌, inl, inr, ℕ, zero, suc, ◌+◌, ◌==◌, nat_lt, Bool, true, false, cond, not, ◌&&◌, List, [], ◌∷◌, ◌++◌, length, map, filter, Option, None, Some, refl, sym, ap, subst, ◌∙◌, arith}
 use Rattle.std.specs.Prelude.{if◌then◌else◌, slice_get, slice_set, slice_index_or, remove, option_map, is_some, nat_le}
 use Rattle.std.specs.List.{list_any}
-use Rattle.std.proofs.lemmas.Bool.{eqb-false, false≢true, ltb-false}
+use Rattle.std.proofs.lemmas.Bool.{or_parts, eqb-false, false≢true, ltb-false}
+use Rattle.std.proofs.lemmas.Option.{none-some, same_Some}
 use Rattle.nvme_wire.specs.declared.status.Status.{Status}
 use Rattle.nvme_spec.specs.declared.queues.QueueChange.{QueueChange}
 use Rattle.nvme_spec.specs.declared.queues.QueueChange.TheVariants.{Keep, MakeCq, MakeSq, DropCq, DropSq}
@@ -59,20 +60,12 @@ exists-at (None ∷ xs) zero h = absurd (false≢true h)
 exists-at (Some x ∷ xs) zero h = (x, refl)
 exists-at (x ∷ xs) (suc q) h = exists-at xs q h
 
-or_left : (a b : Bool) → (a || b) ≡ false → a ≡ false
-or_left true b h = absurd (cc)
-or_left false b h = refl
-
-or_right : (a b : Bool) → (a || b) ≡ false → b ≡ false
-or_right true b h = absurd (cc)
-or_right false b h = h
-
 pub unused-at : (qid : ℕ) (xs : List (Option SubmissionQueue)) (q : ℕ) (s : SubmissionQueue)
     → list_any (completes_to qid) (map (λ (o : Option SubmissionQueue). option_map (λ (x : SubmissionQueue). x.cqid) o) xs) ≡ false → slice_index_or xs q None ≡ Some s → (s.cqid == qid) ≡ false
 unused-at qid [] q s h is = absurd (cc)
 unused-at qid (None ∷ xs) zero s h is = absurd (cc)
-unused-at qid (Some x ∷ xs) zero s h is = let same : x ≡ s = cc in ap (λ (y : SubmissionQueue). y.cqid == qid) (sym same) ∙ or_left (x.cqid == qid) _ h
-unused-at qid (x ∷ xs) (suc q) s h is = unused-at qid xs q s (or_right (completes_to qid (option_map (λ (y : SubmissionQueue). y.cqid) x)) _ h) is
+unused-at qid (Some x ∷ xs) zero s h is = let same : x ≡ s = cc in ap (λ (y : SubmissionQueue). y.cqid == qid) (sym same) ∙ (or_parts (x.cqid == qid) _ h).0
+unused-at qid (x ∷ xs) (suc q) s h is = unused-at qid xs q s (or_parts (completes_to qid (option_map (λ (y : SubmissionQueue). y.cqid) x)) _ h).1 is
 
 got-behind : {A : Type 0} (xs : List A) (i l : ℕ) (x : A) → slice_get (remove xs i) l ≡ Some x → (m : ℕ) × (slice_get xs m ≡ Some x)
 got-behind [] zero l x h = absurd (cc)
@@ -124,12 +117,6 @@ waits_where_full c wired i t found none =
 abbrev cqid_of : Option SubmissionQueue → ℕ
 cqid_of None = 0
 cqid_of (Some q) = q.cqid
-
-pub none_is_some : {A : Type 0} {x : A} → None ≡ Some x → ⊥
-none_is_some h = absurd (cc)
-
-pub some_same : {A : Type 0} {x y : A} → Some x ≡ Some y → x ≡ y
-some_same h = cc
 
 pub some_waiting : (b : Bool) (x s : SubmissionQueue) → (if b then Some x else None) ≡ Some s → Some x ≡ Some s
 some_waiting true x s g = g
@@ -272,20 +259,20 @@ first-alone x (suc (suc (suc (suc zero)))) s h = absurd (cc)
 first-alone x (suc (suc (suc (suc (suc q))))) s h = absurd (cc)
 
 none-alone : (q : ℕ) (s : SubmissionQueue) → slice_index_or no_submission_queues q None ≡ Some s → ⊥
-none-alone zero s h = none_is_some h
-none-alone (suc zero) s h = none_is_some h
-none-alone (suc (suc zero)) s h = none_is_some h
-none-alone (suc (suc (suc zero))) s h = none_is_some h
-none-alone (suc (suc (suc (suc zero)))) s h = none_is_some h
-none-alone (suc (suc (suc (suc (suc q))))) s h = none_is_some h
+none-alone zero s h = none-some _ h
+none-alone (suc zero) s h = none-some _ h
+none-alone (suc (suc zero)) s h = none-some _ h
+none-alone (suc (suc (suc zero))) s h = none-some _ h
+none-alone (suc (suc (suc (suc zero)))) s h = none-some _ h
+none-alone (suc (suc (suc (suc (suc q))))) s h = none-some _ h
 
 without : (c : Controller) → IsWired (without_queues c)
-without c = record { fetched = λ i t h. absurd (none_is_some h); completes = λ q s h. absurd (none-alone q s h) }
+without c = record { fetched = λ i t h. absurd (none-some _ h); completes = λ q s h. absurd (none-alone q s h) }
 
 with-admin : (o : Option AdminQueues) (c : Controller) → IsWired (with_admin_queues o c)
 with-admin None c = without c
 with-admin (Some a) c = record {
-  fetched = λ i t h. absurd (none_is_some h);
+  fetched = λ i t h. absurd (none-some _ h);
   completes = λ q s h.
       let same = first-alone (admin_submission_queue a) q s h in
       let at : 0 ≡ s.cqid = ap (λ (x : SubmissionQueue). x.cqid) same in
@@ -326,7 +313,7 @@ fetchable-at c q s h = by (may_fetch c.registers.state && nat_lt (length c.fetch
 
     by : (b : Bool) → (if b then if_waiting (submission_at c q) else None) ≡ Some s → submission_at c q ≡ Some s
     by true g = waiting (submission_at c q) g
-    by false g = absurd (none_is_some g)
+    by false g = absurd (none-some _ g)
 
 last-or : (xs : List FetchedCommand) (x : FetchedCommand) (i : ℕ) (t : FetchedCommand) → slice_get (xs ++ x ∷ []) i ≡ Some t → (slice_get xs i ≡ Some t) ⊎ (x ≡ t)
 last-or [] x zero t h = inr cc
@@ -385,14 +372,14 @@ wiring_stays tells old new event seen step wired = step-keeps IsWired keeps_wire
 -- The opening.
 
 new_is_wired : (k : ℕ) → IsWired (new_controller k)
-new_is_wired k = record { fetched = λ i t h. absurd (none_is_some h); completes = λ q s h. absurd (none-alone q s h) }
+new_is_wired k = record { fetched = λ i t h. absurd (none-some _ h); completes = λ q s h. absurd (none-alone q s h) }
 
 all-new : (ks : List ControllerConfig) (i : ℕ) (d : Controller) → slice_get (map (λ (k : ControllerConfig). new_controller k.cntlid) ks) i ≡ Some d → IsWired d
-all-new [] i d h = absurd (none_is_some h)
-all-new (k ∷ ks) zero d h = subst IsWired (some_same h) (new_is_wired k.cntlid)
+all-new [] i d h = absurd (none-some _ h)
+all-new (k ∷ ks) zero d h = subst IsWired (same_Some _ _ h) (new_is_wired k.cntlid)
 all-new (k ∷ ks) (suc i) d h = all-new ks i d h
 
 pub opening_is_wired : OpeningIsWired
 unfolding opening controller_at
-opening_is_wired c m zero d h = absurd (none_is_some h)
+opening_is_wired c m zero d h = absurd (none-some _ h)
 opening_is_wired c m (suc i) d h = all-new c.controllers i d h
