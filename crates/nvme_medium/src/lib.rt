@@ -2,14 +2,20 @@
 #![tactic(auto)]
 
 mod failing;
+mod file;
+mod host;
 mod medium;
 mod memory;
+mod raw_file;
 mod source;
 mod transfer;
 
 pub use failing::Failing;
+pub use file::FileMedium;
+pub use host::{FileFault, HostFile};
 pub use medium::{BLOCK, Medium, MediumFault};
 pub use memory::MemMedium;
+pub use raw_file::RawFile;
 pub use source::{Lent, Source, Zeros};
 pub use transfer::{read_blocks, write_blocks};
 

@@ -1,3 +1,7 @@
+//! That calls succeed, and what each of a run of calls leaves.
+
+mod files;
+
 use super::*;
 use std::test::Fail;
 

@@ -1,0 +1,141 @@
+//! Media over files: one that moves a few bytes a call, and one of the system.
+
+ghost use Rattle.std.specs.Prelude.{◌≡◌, length};
+
+use crate::{FileFault, FileMedium, HostFile, Medium, MediumFault, RawFile};
+use std::fs;
+use std::test::Fail;
+
+/// A file of 1,100 bytes that moves at most 200 in a call. Its syncs are counted, and each fails.
+#[derive(Drop)]
+struct Slow {
+    bytes: [u8; 1100],
+    syncs: u64,
+    failures: u64,
+    ghost whole: { length bytes ≡ 1100 },
+}
+
+impl Slow {
+    fn new() -> Slow {
+        Slow {
+            bytes: [0; 1100],
+            syncs: 0,
+            failures: 0,
+        }
+    }
+}
+
+impl RawFile for Slow {
+    ghost use Rattle.std.specs.Prelude.{true};
+    ghost use Rattle.std.proofs.Common.{rules};
+
+    ghost tells = { true };
+
+    ghost bytes = { λ file. file.bytes };
+
+    ghost failures = { λ file. file.failures };
+
+    ghost size = { λ _. 1100 };
+
+    ghost countable = { λ _. Prim.search rules };
+
+    ghost whole = { λ file _. file.whole };
+
+    fn len(&self) -> u64 {
+        1100
+    }
+
+    fn read_at(&mut self, offset: u64, part: &mut [u8]) -> Result<usize, MediumFault> {
+        let n = part.len().min(200);
+        let at = offset as usize;
+        part[..n].copy_from_slice(&self.bytes[at..at + n]);
+        Ok(n)
+    }
+
+    fn write_at(&mut self, offset: u64, part: &[u8]) -> Result<usize, MediumFault> {
+        let n = part.len().min(200);
+        let at = offset as usize;
+        self.bytes[at..at + n].copy_from_slice(&part[..n]);
+        Ok(n)
+    }
+
+    fn sync(&mut self) -> Result<(), MediumFault> {
+        self.syncs = self.syncs.saturating_add(1);
+        self.failures = self.failures.saturating_add(1);
+        Err(MediumFault)
+    }
+}
+
+/// Reads a block, and gives its last byte.
+pub(crate) fn read<M: Medium>(medium: &mut M, i: u64) -> Result<u8, &'static str> {
+    let mut block = [9; 512];
+    if i >= medium.blocks() {
+        return Err("no such block");
+    }
+    match medium.read(i, &mut block) {
+        Ok(()) => Ok(block[511]),
+        Err(MediumFault) => Err("fault"),
+    }
+}
+
+/// Fills a block with a byte.
+pub(crate) fn write<M: Medium>(medium: &mut M, i: u64, byte: u8) -> Result<(), &'static str> {
+    if i >= medium.blocks() {
+        return Err("no such block");
+    }
+    match medium.write(i, &[byte; 512]) {
+        Ok(()) => Ok(()),
+        Err(MediumFault) => Err("fault"),
+    }
+}
+
+#[test]
+fn moves_a_block_in_parts(rt: HostRuntime) -> Result<(), Fail> {
+    let mut medium = FileMedium::over(Slow::new());
+    assert_eq!(rt; medium.blocks(), 2);
+    assert_eq!(rt; write(&mut medium, 1, 0x5a), Ok(()));
+    assert_eq!(rt; read(&mut medium, 1), Ok(0x5a));
+    assert_eq!(rt; read(&mut medium, 0), Ok(0));
+    let file = medium.into_file();
+    assert_eq!(rt; &file.bytes[..512], [0; 512].as_slice());
+    assert_eq!(rt; &file.bytes[512..1024], [0x5a; 512].as_slice());
+    assert_eq!(rt; &file.bytes[1024..], [0; 76].as_slice());
+    Ok(())
+}
+
+#[test]
+fn a_flush_syncs_the_file(rt: HostRuntime) -> Result<(), Fail> {
+    let mut medium = FileMedium::over(Slow::new());
+    assert!(rt; medium.flush().is_err());
+    let file = medium.into_file();
+    assert_eq!(rt; file.syncs, 1);
+    assert_eq!(rt; file.failures, 1);
+    Ok(())
+}
+
+#[test]
+fn a_file_is_written_in_place(rt: HostRuntime) -> Result<(), Fail> {
+    let path = "in-place.img";
+    let mut bytes = [7; 1100];
+    fs::write(&rt, path, bytes.as_slice())?;
+    let mut medium: FileMedium<HostFile> = FileMedium::open(&rt, path).ok().ok_or("no file")?;
+    assert_eq!(rt; medium.blocks(), 2);
+    assert_eq!(rt; read(&mut medium, 1), Ok(7));
+    assert_eq!(rt; write(&mut medium, 1, 0x5a), Ok(()));
+    assert!(rt; medium.flush().is_ok());
+    bytes[512..1024].fill(0x5a);
+    assert_eq!(rt; fs::read(&rt, path)?.as_slice(), bytes.as_slice());
+    fs::write(&rt, path, [].as_slice())?;
+    assert_eq!(rt; read(&mut medium, 1), Err("fault"));
+    fs::remove_file(&rt, path)?;
+    Ok(())
+}
+
+#[test]
+fn what_cannot_be_opened_is_no_medium(rt: HostRuntime) -> Result<(), Fail> {
+    for path in ["no-such-file", ".", ""] {
+        let opened: Result<FileMedium<HostFile>, FileFault> = FileMedium::open(&rt, path);
+        assert_eq!(rt; opened.err(), Some(FileFault::NoFile));
+    }
+    Ok(())
+}
