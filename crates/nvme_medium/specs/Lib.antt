@@ -6,3 +6,4 @@ pub mod Failing
 pub mod Torn
 pub mod Whole
 pub mod Files
+pub mod Cached

@@ -1,6 +1,7 @@
 //! Block media: logical blocks of 512 bytes that are read and written whole, by calls of which each may fail.
 #![tactic(auto)]
 
+mod cached;
 mod failing;
 mod file;
 mod host;
@@ -10,6 +11,7 @@ mod raw_file;
 mod source;
 mod transfer;
 
+pub use cached::Cached;
 pub use failing::Failing;
 pub use file::FileMedium;
 pub use host::{FileFault, HostFile};

@@ -1,5 +1,6 @@
 //! That calls succeed, and what each of a run of calls leaves.
 
+mod cached;
 mod files;
 
 use super::*;

@@ -8,15 +8,15 @@ use std::test::Fail;
 
 /// A file of 1,100 bytes that moves at most 200 in a call. Its syncs are counted, and each fails.
 #[derive(Drop)]
-struct Slow {
+pub(crate) struct Slow {
     bytes: [u8; 1100],
-    syncs: u64,
+    pub(crate) syncs: u64,
     failures: u64,
     ghost whole: { length bytes ≡ 1100 },
 }
 
 impl Slow {
-    fn new() -> Slow {
+    pub(crate) fn new() -> Slow {
         Slow {
             bytes: [0; 1100],
             syncs: 0,

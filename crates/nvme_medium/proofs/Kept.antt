@@ -1,0 +1,102 @@
+-- Blocks that are kept beside a medium.
+use Rattle.std.proofs.Common.{◌≡◌, ◌≢◌, ℕ, zero, suc, ◌-◌, true, false, cond, List, [], ◌∷◌, take, Option, Some, None, option_map, nat_eq, eq-eqb, IsSome, IsOk, OnOk, OnErr, Result, Ok, Err, ◌+◌, ◌*◌, ◌≤◌, length, refl, sym, ap, ◌∙◌, subst, arith}
+use Rattle.std.proofs.lemmas.Bool.Decides.{nat_tests, Decides-eqb}
+use Rattle.std.specs.Option.{option_map_or}
+use Rattle.std.specs.Map.{lookup, lookup_entry, remove_entry, keys_of}
+use Rattle.std.specs.List.{IsDistinct}
+use Rattle.std.specs.Cmp.{nat_eq_equiv}
+use Rattle.std.proofs.lemmas.Map.{lookup-remove_entry}
+use Rattle.lru.specs.LruCache.{LruCache, lru_cache, promoted, put_entries}
+use Rattle.lru.proofs.CallerLemmas.{Contains-lookup_entry}
+use Rattle.lru.proofs.Pairs.{lookup-lookup_entry}
+use Rattle.nvme_spec.specs.Blocks.{block_at}
+use Rattle.nvme_spec.specs.Bytes.{with_bytes}
+use Rattle.nvme_spec.proofs.Splices.{block_at-overwritten_other}
+use Rattle.nvme_medium.specs.Cached.{Keeps}
+
+abbrev Entries : Type 0
+Entries = List (ℕ × List ℕ)
+
+differs : (i j k : ℕ) → nat_eq i k ≡ true → j ≢ i → nat_eq j k ≡ false
+differs i j k t ne = grind (arith, nat_tests)
+
+apart : (i j k : ℕ) → k ≡ i → nat_eq j k ≡ false → j ≢ i
+apart i j k same f = grind (arith, nat_tests)
+
+-- taking a block out leaves the others
+pub lookup-remove_other : (i j : ℕ) (es : Entries) → j ≢ i → lookup (nat_eq j) (remove_entry (nat_eq i) es) ≡ lookup (nat_eq j) es
+lookup-remove_other i j [] ne = refl
+lookup-remove_other i j (e ∷ es) ne = (elim (nat_eq i e.0) as (λ y. nat_eq i e.0 ≡ y → lookup (nat_eq j) (cond y es (e ∷ remove_entry (nat_eq i) es)) ≡ lookup (nat_eq j) (e ∷ es)) [
+  | true ↦ λ t. let no = differs i j e.0 t ne in rw no refl
+  | false ↦ λ t. ap (λ o. cond (nat_eq j e.0) (Some e.1) o) (lookup-remove_other i j es ne)
+]) refl
+
+lookup-take : (n j : ℕ) (es : Entries) (b : List ℕ) → lookup (nat_eq j) (take n es) ≡ Some b → lookup (nat_eq j) es ≡ Some b
+lookup-take zero j es b found = cc
+lookup-take (suc n) j [] b found = found
+lookup-take (suc n) j (e ∷ es) b found = (elim (nat_eq j e.0) as (λ y. cond y (Some e.1) (lookup (nat_eq j) (take n es)) ≡ Some b → cond y (Some e.1) (lookup (nat_eq j) es) ≡ Some b) [
+  | true ↦ λ h. h
+  | false ↦ λ h. lookup-take n j es b h
+]) found
+
+-- the other blocks are those of the content
+abbrev pub KeepsBut : ℕ → Entries → List ℕ → Type 0
+KeepsBut i es content = (j : ℕ) (b : List ℕ) → j ≢ i → lookup (nat_eq j) es ≡ Some b → b ≡ block_at content j
+
+-- with block i in front
+Keeps-cons : (k i : ℕ) (v : List ℕ) (es : Entries) (content : List ℕ) → k ≡ i → v ≡ block_at content i → KeepsBut i es content → Keeps ((k, v) ∷ es) content
+Keeps-cons k i v es content same is others j b found = (elim (nat_eq j k) as (λ y. nat_eq j k ≡ y → cond y (Some v) (lookup (nat_eq j) es) ≡ Some b → b ≡ block_at content j) [
+  | true ↦ λ t h. let here : j ≡ k = (Decides-eqb j k).0 t in let value : v ≡ b = cc in sym value ∙ (is ∙ ap (block_at content) (sym (here ∙ same)))
+  | false ↦ λ t h. others j b (apart i j k same t) h
+]) refl found
+
+-- the key that was found
+key_is : (i : ℕ) (es : Entries) (e : ℕ × List ℕ) → lookup_entry (nat_eq i) es ≡ Some e → e.0 ≡ i
+key_is i es e h = sym ((Decides-eqb i e.0).0 (Contains-lookup_entry (nat_eq i) es e h).1)
+
+pub KeepsBut-remove : (i : ℕ) (es : Entries) (content : List ℕ) → KeepsBut i es content → KeepsBut i (remove_entry (nat_eq i) es) content
+KeepsBut-remove i es content others j b ne found = others j b ne (sym (lookup-remove_other i j es ne) ∙ found)
+
+pub Keeps-promoted : (i : ℕ) (es : Entries) (content : List ℕ) → Keeps es content → Keeps (promoted (nat_eq i) es) content
+Keeps-promoted i es content all = at (lookup_entry (nat_eq i) es) refl where
+  at : (o : Option (ℕ × List ℕ)) → lookup_entry (nat_eq i) es ≡ o → Keeps (option_map_or (λ e. e ∷ remove_entry (nat_eq i) es) o es) content
+  at None h = all
+  at (Some e) h =
+      let value : lookup (nat_eq i) es ≡ Some e.1 = sym (lookup-lookup_entry (nat_eq i) es) ∙ ap (λ o. option_map (λ f. f.1) o) h in
+      Keeps-cons e.0 i e.1 (remove_entry (nat_eq i) es) content (key_is i es e h) (all i e.1 value) (KeepsBut-remove i es content (λ j b ne. all j b))
+
+pub Keeps-put : (c : LruCache ℕ (List ℕ)) (i : ℕ) (v content : List ℕ) → v ≡ block_at content i → KeepsBut i c.entries content → Keeps (put_entries nat_eq c i v) content
+Keeps-put c i v content is others = at (lookup_entry (nat_eq i) c.entries) refl where
+  at : (o : Option (ℕ × List ℕ)) → lookup_entry (nat_eq i) c.entries ≡ o → Keeps (option_map_or (λ e. (e.0, v) ∷ remove_entry (nat_eq i) c.entries) o ((i, v) ∷ take (c.cap - 1) c.entries)) content
+  at None h = Keeps-cons i i v (take (c.cap - 1) c.entries) content refl is (λ j b ne found. others j b ne (lookup-take (c.cap - 1) j c.entries b found))
+  at (Some e) h = Keeps-cons e.0 i v (remove_entry (nat_eq i) c.entries) content (key_is i c.entries e h) is (KeepsBut-remove i c.entries content others)
+
+-- with block i taken out
+pub Keeps-without : (i : ℕ) (es fs : Entries) (content : List ℕ) → KeepsBut i es content → lookup (nat_eq i) fs ≡ None → ((j : ℕ) → j ≢ i → lookup (nat_eq j) fs ≡ lookup (nat_eq j) es) → Keeps fs content
+Keeps-without i es fs content others gone same j b found = (elim (nat_eq j i) as (λ y. nat_eq j i ≡ y → b ≡ block_at content j) [
+  | true ↦ λ t. let here : j ≡ i = (Decides-eqb j i).0 t in let e : lookup (nat_eq j) fs ≡ None = subst (λ k. lookup (nat_eq k) fs ≡ None) (sym here) gone in cc
+  | false ↦ λ t. let ne = apart i j i refl t in others j b ne (sym (same j ne) ∙ found)
+]) refl
+
+absent : {A : Type 0} (o : Option A) → (IsSome o → ⊥) → o ≡ None
+absent None never = refl
+absent (Some x) never = absurd (never refl)
+
+-- after a put, which may be refused
+pub Keeps-after_put : {T E : Type 0} (result : Result T E) (old new : LruCache ℕ (List ℕ)) (i : ℕ) (v content : List ℕ) → OnOk result (new ≡ lru_cache (put_entries nat_eq old i v) old.cap) → OnErr result (new ≡ old)
+    → (IsSome (lookup (nat_eq i) old.entries) → IsOk result) → v ≡ block_at content i → KeepsBut i old.entries content → Keeps new.entries content
+Keeps-after_put (Ok r) old new i v content put same succeeds is others = subst (λ (c : LruCache ℕ (List ℕ)). Keeps c.entries content) (sym put) (Keeps-put old i v content is others)
+Keeps-after_put (Err e) old new i v content put same succeeds is others =
+    let none : lookup (nat_eq i) old.entries ≡ None = absent (lookup (nat_eq i) old.entries) (λ s. let no = succeeds s in cc) in
+    subst (λ (c : LruCache ℕ (List ℕ)). Keeps c.entries content) (sym same) (Keeps-without i old.entries old.entries content others none (λ j ne. refl))
+
+-- after block i has changed in the content
+pub KeepsBut-written : (es : Entries) (old new : List ℕ) (i : ℕ) (block : List ℕ) → Keeps es old → new ≡ with_bytes old (512 * i) block → length block ≡ 512 → 512 * i + 512 ≤ length old → KeepsBut i es new
+KeepsBut-written es old new i block all is whole fits j b ne found =
+    all j b found ∙ (sym (block_at-overwritten_other old i j block whole fits (λ e. ne (sym e))) ∙ ap (λ x. block_at x j) (sym is))
+
+pub lookup-remove_same : (i : ℕ) (es : Entries) → IsDistinct nat_eq (keys_of es) → lookup (nat_eq i) (remove_entry (nat_eq i) es) ≡ None
+lookup-remove_same i es distinct =
+    let e = lookup-remove_entry nat_eq_equiv (nat_eq i) (λ x y t. let same : i ≡ x = (Decides-eqb i x).0 t in ap (λ z. nat_eq z y) same) i es distinct in
+    let here : nat_eq i i ≡ true = eq-eqb i i refl in
+    rw here at e

@@ -1,0 +1,94 @@
+//! Caches: what they keep, and what they forget.
+
+use super::files::{Slow, read, write};
+use crate::{Cached, Failing, FileMedium, HostFile, Medium, MemMedium};
+use std::alloc::Global;
+use std::fs;
+use std::num::NonZeroUsize;
+use std::test::Fail;
+
+/// A cache of two blocks before a medium.
+fn cached_twice<M: Medium + Drop>(alloc: Global, inner: M) -> Result<Cached<M>, &'static str> {
+    let two = NonZeroUsize::new(2).ok_or("not 0")?;
+    Cached::new(alloc, inner, two)
+        .ok()
+        .ok_or("memory was refused")
+}
+
+/// A medium of 8 blocks of zeros, one call of which fails.
+fn failing_once(alloc: Global, calls: u64) -> Result<Failing<MemMedium>, Fail> {
+    Ok(Failing::new(MemMedium::new(alloc, &[0; 4096])?, calls))
+}
+
+#[test]
+fn a_block_whose_write_failed_is_read_anew(rt: HostRuntime) -> Result<(), Fail> {
+    let mut cached = cached_twice(rt.alloc(), failing_once(rt.alloc(), 1)?)?;
+    assert_eq!(rt; write(&mut cached, 0, 0x5a), Ok(()));
+    assert_eq!(rt; write(&mut cached, 0, 0x33), Err("fault"));
+    assert_eq!(rt; read(&mut cached, 0), Ok(0x5a));
+    Ok(())
+}
+
+#[test]
+fn kept_blocks_are_read_without_a_call(rt: HostRuntime) -> Result<(), Fail> {
+    let cases: [(u64, &[u64], u64); 2] = [(1, &[0, 0], 1), (3, &[0, 1, 0, 2, 0], 1)];
+    for (calls, kept, forgotten) in cases {
+        let mut cached = cached_twice(rt.alloc(), failing_once(rt.alloc(), calls)?)?;
+        for i in kept {
+            assert_eq!(rt;
+                read(&mut cached, *i),
+                Ok(0),
+                "block {i} behind {calls} calls"
+            );
+        }
+        assert_eq!(rt; read(&mut cached, forgotten), Err("fault"));
+    }
+    Ok(())
+}
+
+/// Writes three blocks by way of a cache of two, reads the first, and hands the medium back.
+fn write_three<M: Medium + Drop>(alloc: Global, inner: M) -> Result<M, &'static str> {
+    let mut cached = cached_twice(alloc, inner)?;
+    for i in 0..3 {
+        write(&mut cached, i, i as u8 + 1)?;
+    }
+    match read(&mut cached, 0)? {
+        1 => Ok(cached.into_inner()),
+        _ => Err("block 0 is another"),
+    }
+}
+
+#[test]
+fn writes_reach_the_medium(rt: HostRuntime) -> Result<(), Fail> {
+    let mut medium = write_three(rt.alloc(), MemMedium::new(rt.alloc(), &[0; 4096])?)?;
+    let path = "cached.img";
+    fs::write(&rt, path, [0_u8; 4096].as_slice())?;
+    let opened: FileMedium<HostFile> = FileMedium::open(&rt, path).ok().ok_or("no file")?;
+    let _ = write_three(rt.alloc(), opened)?;
+    let mut file: FileMedium<HostFile> = FileMedium::open(&rt, path).ok().ok_or("no file")?;
+    for (i, byte) in [(0, 1), (1, 2), (2, 3), (3, 0)] {
+        assert_eq!(rt; read(&mut medium, i), Ok(byte));
+        assert_eq!(rt; read(&mut file, i), Ok(byte));
+    }
+    fs::remove_file(&rt, path)?;
+    Ok(())
+}
+
+#[test]
+fn a_flush_reaches_the_medium(rt: HostRuntime) -> Result<(), Fail> {
+    let mut cached = cached_twice(rt.alloc(), FileMedium::over(Slow::new()))?;
+    assert!(rt; cached.flush().is_err());
+    let file = cached.into_inner().into_file();
+    assert_eq!(rt; file.syncs, 1);
+    Ok(())
+}
+
+#[test]
+fn a_refused_cache_hands_the_medium_back(rt: HostRuntime) -> Result<(), Fail> {
+    let medium = MemMedium::new(rt.alloc(), &[7; 1024])?;
+    let (medium, _) = Cached::new(rt.alloc(), medium, NonZeroUsize::MAX)
+        .err()
+        .ok_or("a cache of all memory")?;
+    assert_eq!(rt; medium.as_bytes(), [7; 1024].as_slice());
+    Ok(())
+}
