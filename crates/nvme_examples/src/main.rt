@@ -4,6 +4,7 @@
 
 use nvme_script::run_program;
 use std::alloc::{AllocError, Global};
+use std::fs::File;
 use std::process::ExitCode;
 use std::rt::Files;
 use std::{fs, io};
@@ -45,7 +46,7 @@ impl Outcome {
 }
 
 /// Runs an example and compares its transcript.
-fn compare<R: Files + AllocGlobal>(rt: &R, name: &str) -> io::Result<Outcome> {
+fn compare<R: Files<File = File> + AllocGlobal>(rt: &R, name: &str) -> io::Result<Outcome> {
     let path = format!(in rt.alloc(); "{name}.out")?;
     if !fs::exists(rt, path.as_str())? {
         return Ok(Outcome::NothingKept);
@@ -60,7 +61,7 @@ fn compare<R: Files + AllocGlobal>(rt: &R, name: &str) -> io::Result<Outcome> {
 
 /// What the program prints for an example, over a medium in memory: the transcript, and behind it what goes to standard
 /// error.
-fn transcript_of<R: Files + AllocGlobal>(rt: &R, name: &str) -> Result<Vec<u8>, AllocError> {
+fn transcript_of<R: Files<File = File> + AllocGlobal>(rt: &R, name: &str) -> Result<Vec<u8>, AllocError> {
     let words = words_of(rt.alloc(), name)?;
     let mut shown: Vec<u8> = Vec::new(rt.alloc());
     let mut errors: Vec<u8> = Vec::new(rt.alloc());

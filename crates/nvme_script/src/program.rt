@@ -3,19 +3,25 @@
 ghost use Rattle.std.specs.Prelude.{◌≡◌, ◌≢◌, ◌≤◌};
 ghost use Rattle.std.specs.IoError.{error_kind};
 ghost use Rattle.std.specs.declared.io.ErrorKind.TheVariants.{OutOfMemory};
-ghost use Rattle.nvme_script.specs.declared.program.Failure.TheVariants.{File as FileFault, Memory as MemoryRefused};
+ghost use Rattle.nvme_script.specs.declared.program.Failure.TheVariants.{File as FileRefused, Memory as MemoryRefused};
 ghost use Rattle.nvme_script.specs.Statuses.{exit_status};
+ghost use Rattle.nvme_medium.specs.declared.host.FileFault.TheVariants.{NoMemory as NoFileMemory};
 
 use crate::run::{ScriptFault, run_script};
 use clap::error::ErrorKind;
 use clap::{Arg, ArgAction, Command};
-use nvme_medium::{BLOCK, MemMedium};
+use nvme_medium::{BLOCK, Cached, FileFault, FileMedium, HostFile, Medium, MemMedium};
+use nvme_wire::NoMemory;
 use std::alloc::{AllocError, Global};
-use std::fs::OpenOptions;
-use std::io::{BufWriter, Read, Seek, SeekFrom, Write};
+use std::fs::File;
+use std::io::{BufWriter, Read, Write};
+use std::num::NonZeroUsize;
 use std::rt::Files;
 use std::{fs, io};
 use thiserror::Error;
+
+/// How many blocks of an image are kept in memory at most.
+const KEPT_BLOCKS: usize = 256;
 
 /// How many bytes the medium in memory has where no image is named: 1,024 blocks.
 const SCRATCH_BYTES: usize = 1024 * BLOCK;
@@ -51,12 +57,23 @@ impl Failure {
 }
 
 impl From<io::Error> for Failure {
-    ghost from_gives = { λ error e. (error_kind error ≡ OutOfMemory → e ≡ MemoryRefused) × (error_kind error ≢ OutOfMemory → e ≡ FileFault) };
+    ghost from_gives = { λ error e. (error_kind error ≡ OutOfMemory → e ≡ MemoryRefused) × (error_kind error ≢ OutOfMemory → e ≡ FileRefused) };
 
     fn from(error: io::Error) -> Failure {
         match error.kind() {
             io::ErrorKind::OutOfMemory => Failure::Memory,
             _ => Failure::File,
+        }
+    }
+}
+
+impl From<FileFault> for Failure {
+    ghost from_gives = { λ fault e. (fault ≡ NoFileMemory → e ≡ MemoryRefused) × (fault ≢ NoFileMemory → e ≡ FileRefused) };
+
+    fn from(fault: FileFault) -> Failure {
+        match fault {
+            FileFault::NoFile | FileFault::NoLength => Failure::File,
+            FileFault::NoMemory => Failure::Memory,
         }
     }
 }
@@ -100,91 +117,56 @@ fn paths_of<'a>(alloc: Global, words: &'a [String]) -> Result<Paths<'a>, Failure
     }
 }
 
-/// What a run left: the medium, where there is one to be kept, and whether all went well.
-#[derive(Drop)]
-struct Ran {
-    medium: MemMedium,
-    outcome: Result<(), ScriptFault>,
-}
-
 /// Runs a script over a medium, and writes its transcript through a buffer.
-fn run_over<I: Read, O: Write>(
+fn run_over<I: Read, O: Write, M: Medium + Drop>(
     alloc: Global,
     input: &mut I,
     output: &mut O,
-    medium: MemMedium,
-) -> Result<Ran, Failure> {
+    medium: M,
+) -> Result<(), Failure> {
     let mut buffered = BufWriter::new(alloc, output)?;
-    let ran = match run_script(alloc, input, &mut buffered, medium) {
-        Ok(medium) => Ran {
-            medium,
-            outcome: Ok(()),
-        },
-        Err((fault, medium)) => Ran {
-            medium,
-            outcome: Err(fault),
-        },
-    };
-    if ran.outcome.is_ok() && buffered.flush().is_err() {
-        return Ok(Ran {
-            medium: ran.medium,
-            outcome: Err(ScriptFault::Write),
-        });
+    if let Err((fault, _)) = run_script(alloc, input, &mut buffered, medium) {
+        return Err(Failure::Script(fault));
     }
-    Ok(ran)
+    match buffered.flush() {
+        Ok(()) => Ok(()),
+        Err(_) => Err(Failure::Script(ScriptFault::Write)),
+    }
 }
 
 /// Runs the script that the command line names, or else the input, over a medium.
-fn run_named<R: Files + AllocGlobal, I: Read, O: Write>(
+fn run_named<R: Files + AllocGlobal, I: Read, O: Write, M: Medium + Drop>(
     rt: &R,
     script: Option<&str>,
     input: &mut I,
     output: &mut O,
-    medium: MemMedium,
-) -> Result<Ran, Failure> {
+    medium: M,
+) -> Result<(), Failure> {
     match script {
         Some(path) => run_over(rt.alloc(), &mut fs::open(rt, path)?, output, medium),
         None => run_over(rt.alloc(), input, output, medium),
     }
 }
 
-/// Runs a script over an image, a regular file, which is opened for reading and writing and read whole. Its blocks are
-/// written back where the script ran, also where its transcript could not be written. What stands behind its last whole
-/// block stays.
-fn run_image<R: Files + AllocGlobal, I: Read, O: Write>(
+/// Runs a script over an image, a regular file, whose blocks are read and written in place: each Write has reached the
+/// file when its line is written, and nothing else is ever written there. What is no regular file, once its links are
+/// followed, is no image: to open a pipe or a device may wait, or do something.
+fn run_image<R: Files<File = File> + AllocGlobal, I: Read, O: Write>(
     rt: &R,
     image: &str,
     script: Option<&str>,
     input: &mut I,
     output: &mut O,
 ) -> Result<(), Failure> {
-    let bytes = image_bytes(rt, image)?;
-    let mut file = OpenOptions::new().read(true).write(true).open(rt, image)?;
-    let medium = read_image(rt.alloc(), &mut file, bytes)?;
-    let ran = run_named(rt, script, input, output, medium)?;
-    if matches!(ran.outcome, Ok(()) | Err(ScriptFault::Write)) {
-        file.seek(SeekFrom::Start(0))?;
-        file.write_all(ran.medium.as_bytes())?;
-    }
-    Ok(ran.outcome.map_err(Failure::Script)?)
-}
-
-/// How many bytes the whole blocks of an image have. What is no regular file, once its links are followed, is no image:
-/// to open a pipe or a device may wait, or do something.
-fn image_bytes<R: Files>(rt: &R, image: &str) -> Result<usize, Failure> {
-    let metadata = fs::metadata(rt, image)?;
-    if !metadata.is_file() {
+    if !fs::metadata(rt, image)?.is_file() {
         return Err(Failure::File);
     }
-    let bytes = metadata.len();
-    usize::try_from(bytes - bytes % BLOCK as u64).map_err(|_| Failure::Memory)
-}
-
-/// The first bytes of an image, read into the medium's own memory. An image that became shorter can't be read.
-fn read_image<F: Read>(alloc: Global, file: &mut F, bytes: usize) -> Result<MemMedium, Failure> {
-    let mut blocks = vec![in alloc; 0; bytes]?;
-    file.read_exact(blocks.as_mut_slice())?;
-    Ok(MemMedium::of(blocks))
+    let file: FileMedium<HostFile> = FileMedium::open(rt, image)?;
+    let kept = NonZeroUsize::new(KEPT_BLOCKS).unwrap();
+    match Cached::new(rt.alloc(), file, kept) {
+        Ok(medium) => run_named(rt, script, input, output, medium),
+        Err((_, NoMemory)) => Err(Failure::Memory),
+    }
 }
 
 /// Runs a script over zeros in memory.
@@ -195,14 +177,13 @@ fn run_scratch<R: Files + AllocGlobal, I: Read, O: Write>(
     output: &mut O,
 ) -> Result<(), Failure> {
     let medium = MemMedium::of(vec![in rt.alloc(); 0; SCRATCH_BYTES]?);
-    let ran = run_named(rt, script, input, output, medium)?;
-    Ok(ran.outcome.map_err(Failure::Script)?)
+    run_named(rt, script, input, output, medium)
 }
 
 /// The program over the streams that it is handed: its words, the first of which is its name, its standard input, output
 /// and error. The answer is its exit status: 0 done; 1 a fault of the script; 2 a file or stream that can't be opened,
 /// read or written; 3 a refused command line; 4 want of memory. For all but 0 one line goes to standard error.
-pub fn run_program<R: Files + AllocGlobal, I: Read, O: Write, E: Write>(
+pub fn run_program<R: Files<File = File> + AllocGlobal, I: Read, O: Write, E: Write>(
     rt: &R,
     words: &[String],
     input: &mut I,

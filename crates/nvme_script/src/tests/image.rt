@@ -3,16 +3,19 @@
 use super::program::{SETUP, Shown, run, with_setup, words_of};
 use super::streams::{FailingReader, FailingWriter};
 use crate::run_program;
-use std::fs;
+use std::fs::File;
 use std::io::{Read, Write};
+use std::os::unix::fs::MetadataExt;
 use std::rt::Files;
 use std::test::Fail;
+use std::time::UNIX_EPOCH;
+use std::{fs, io};
 
 /// A Write of a block, and a Read of it.
 const HELLO: &[u8] = b"do 1 write 1 0 1 hex:48656c6c6f\ndo 1 read 1 0 1\n";
 
 /// Runs the program over an image of these bytes, and gives what the image has then.
-fn run_over_image<R: Files + AllocGlobal, I: Read, O: Write>(
+fn run_over_image<R: Files<File = File> + AllocGlobal, I: Read, O: Write>(
     rt: &R,
     path: &str,
     image: &[u8],
@@ -72,7 +75,29 @@ fn keeps_what_stands_behind_the_last_block(rt: HostRuntime) -> Result<(), Fail> 
 }
 
 #[test]
-fn writes_the_image_back_where_the_transcript_fails(rt: HostRuntime) -> Result<(), Fail> {
+fn is_written_in_place(rt: HostRuntime) -> Result<(), Fail> {
+    let text = with_setup(rt.alloc(), HELLO)?;
+    let mut output: Vec<u8> = Vec::new(rt.alloc());
+    let (status, left) = run_over_image(
+        &rt,
+        "in-place.img",
+        &[0; 32768],
+        &mut text.as_slice(),
+        &mut output,
+    )?;
+    assert_eq!(rt; status, 0);
+    assert_eq!(rt;
+        output.as_slice(),
+        b"did 1 0:00 0\ndid 1 0:00 0 512 48656c6c6f\n".as_slice()
+    );
+    let mut wanted = [0; 32768];
+    wanted[..5].copy_from_slice(b"Hello");
+    assert_eq!(rt; left.as_slice(), wanted.as_slice());
+    Ok(())
+}
+
+#[test]
+fn has_what_was_written_where_the_transcript_fails(rt: HostRuntime) -> Result<(), Fail> {
     let text = with_setup(rt.alloc(), HELLO)?;
     let writers = [
         FailingWriter::at_write(rt.alloc(), 0),
@@ -81,7 +106,7 @@ fn writes_the_image_back_where_the_transcript_fails(rt: HostRuntime) -> Result<(
     for mut writer in writers {
         let (status, left) = run_over_image(
             &rt,
-            "back.img",
+            "no-transcript.img",
             &[0; 32768],
             &mut text.as_slice(),
             &mut writer,
@@ -89,6 +114,79 @@ fn writes_the_image_back_where_the_transcript_fails(rt: HostRuntime) -> Result<(
         assert_eq!(rt; status, 2);
         assert!(rt; left.starts_with(b"Hello\x00"));
     }
+    Ok(())
+}
+
+/// Runs the program over a file of 64 blocks that holds nothing and was changed long ago. Says whether that is still so.
+fn is_left_alone<R: Files<File = File> + AllocGlobal>(
+    rt: &R,
+    path: &str,
+    lines: &[u8],
+) -> Result<bool, Fail> {
+    let file = fs::create(rt, path)?;
+    file.set_len(32768)?;
+    file.set_modified(UNIX_EPOCH)?;
+    let words = words_of(rt.alloc(), &[path])?;
+    let text = with_setup(rt.alloc(), lines)?;
+    let mut output: Vec<u8> = Vec::new(rt.alloc());
+    let mut errors: Vec<u8> = Vec::new(rt.alloc());
+    let status = run_program(
+        rt,
+        words.as_slice(),
+        &mut text.as_slice(),
+        &mut output,
+        &mut errors,
+    );
+    let metadata = file.metadata()?;
+    fs::remove_file(rt, path)?;
+    Ok(status == 0 && metadata.modified()? == UNIX_EPOCH && metadata.blocks() == 0)
+}
+
+#[test]
+fn is_left_alone_where_nothing_was_written(rt: HostRuntime) -> Result<(), Fail> {
+    let cases = [
+        (b"".as_slice(), true),
+        (b"do 1 read 1 0 64\ndo 1 read 1 0 64\n", true),
+        (b"do 1 write 1 64 1 hex:01\ndo 1 write 2 0 1 hex:01\n", true),
+        (b"do 1 write 1 63 1 fill:00\n", false),
+    ];
+    for (lines, wanted) in cases {
+        assert_eq!(rt; is_left_alone(&rt, "alone.img", lines)?, wanted);
+    }
+    Ok(())
+}
+
+/// Gives its text, and cuts a file to nothing at each read.
+#[derive(Drop)]
+struct CuttingReader<'a> {
+    text: &'a [u8],
+    file: File,
+}
+
+impl Read for CuttingReader<'_> {
+    fn read(&mut self, buf: &mut [u8]) -> io::Result<usize> {
+        self.file.set_len(0)?;
+        self.text.read(buf)
+    }
+}
+
+#[test]
+fn a_fault_of_the_image_is_an_answer(rt: HostRuntime) -> Result<(), Fail> {
+    let text = with_setup(rt.alloc(), b"do 1 read 1 0 1\ndo 1 read 1 64 1\n")?;
+    let path = "cut.img";
+    let file = fs::create(&rt, path)?;
+    file.set_len(32768)?;
+    let mut reader = CuttingReader {
+        text: text.as_slice(),
+        file,
+    };
+    let shown = run(&rt, &[path], &mut reader)?;
+    fs::remove_file(&rt, path)?;
+    assert_eq!(rt;
+        shown.output.as_slice(),
+        b"did 1 2:81 0\ndid 1 0:80 9\n".as_slice()
+    );
+    assert_eq!(rt; shown.status, 0);
     Ok(())
 }
 

@@ -2,6 +2,7 @@
 
 use crate::run_program;
 use std::alloc::{AllocError, Global};
+use std::fs::File;
 use std::io::Read;
 use std::rt::Files;
 use std::test::Fail;
@@ -29,7 +30,7 @@ pub(crate) fn words_of(alloc: Global, arguments: &[&str]) -> Result<Vec<String>,
 }
 
 /// Runs the program on arguments and an input.
-pub(crate) fn run<R: Files + AllocGlobal, I: Read>(
+pub(crate) fn run<R: Files<File = File> + AllocGlobal, I: Read>(
     rt: &R,
     arguments: &[&str],
     input: &mut I,
