@@ -61,7 +61,10 @@ fn compare<R: Files<File = File> + AllocGlobal>(rt: &R, name: &str) -> io::Resul
 
 /// What the program prints for an example, over a medium in memory: the transcript, and behind it what goes to standard
 /// error.
-fn transcript_of<R: Files<File = File> + AllocGlobal>(rt: &R, name: &str) -> Result<Vec<u8>, AllocError> {
+fn transcript_of<R: Files<File = File> + AllocGlobal>(
+    rt: &R,
+    name: &str,
+) -> Result<Vec<u8>, AllocError> {
     let words = words_of(rt.alloc(), name)?;
     let mut shown: Vec<u8> = Vec::new(rt.alloc());
     let mut errors: Vec<u8> = Vec::new(rt.alloc());
