@@ -140,7 +140,8 @@ placed d request slot =
 -- A request was placed: in the lowest free slot, by these stores.
 abbrev pub IsPlaced : {S : Type 0} → (S → Call → S → Type 0) → Driver → Request → S → Driver → S → Type 0
 IsPlaced step d request old d' new =
-    (slot : ℕ) × (free_slot d ≡ Some slot) × (d' ≡ placed d request slot) × Calls step old (stores_of d request slot) new
+    (slot : ℕ) × (free_slot d ≡ Some slot) × (d' ≡ placed d request slot)
+    × Calls step old (stores_of d request slot) new
 
 -- What a placing leaves of the window: the entry says what the request asks, the data are there, and where the request
 -- moves some, the entry's pointer has no fault and names the slot's data, byte after byte.

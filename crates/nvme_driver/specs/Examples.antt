@@ -29,4 +29,5 @@ io_completion head identifier =
 abbrev pub registers_set : Registers
 registers_set =
     after_writes initial_registers
-    ((aqa, admin_sizes) ∷ (asq_low, submission_queue Admin) ∷ (asq_high, 0) ∷ (acq_low, completion_queue Admin) ∷ (acq_high, 0) ∷ [])
+    ((aqa, admin_sizes) ∷ (asq_low, submission_queue Admin) ∷ (asq_high, 0) ∷ (acq_low, completion_queue Admin)
+    ∷ (acq_high, 0) ∷ [])

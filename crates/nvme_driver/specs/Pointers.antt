@@ -107,6 +107,7 @@ StoresKeepLists =
 -- so does the list of another slot
 abbrev pub ListsKeepOthers : Type 0
 ListsKeepOthers =
-    (window : List ℕ) (slot bytes other others : ℕ) → IsRequest window slot bytes → other < slot_count → others ≤ most_bytes
+    (window : List ℕ) (slot bytes other others : ℕ) → IsRequest window slot bytes → other < slot_count
+    → others ≤ most_bytes
     → slot ≢ other → HasList window slot bytes
     → HasList (with_bytes window (list_page other) (stored_list other others)) slot bytes

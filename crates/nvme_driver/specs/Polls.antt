@@ -148,7 +148,8 @@ polled d None window =
 -- A poll of a driver over a window, by its calls of the port: some request, or none, is the oldest aborted one, and what
 -- the poll then comes to is the answer, the driver after it, the calls, and the front of the buffer.
 abbrev pub IsPolled :
-    {S : Type 0} → (S → Call → S → Type 0) → Driver → List ℕ → S → Result (Option Answer) PollFault → Driver → S → List ℕ
+    {S : Type 0} → (S → Call → S → Type 0) → Driver → List ℕ → S → Result (Option Answer) PollFault → Driver → S
+    → List ℕ
     → Type 0
 IsPolled step d window old result d' new buffer =
     (oldest : Option ℕ) × IsOldest d.slots oldest

@@ -31,16 +31,19 @@ fn entries()
 /// The driver's own commands, and the registers that it writes.
 fn bringing_up()
     ensures completions { submission_entry create_completion_queue ≡ command_entry 0x00180005 0 0x3000 0x001f0001 1 }
-    ensures commands { submission_entry create_submission_queue ≡ command_entry 0x00180001 0 0x2000 0x00070001 0x00010001 }
+    ensures commands { submission_entry create_submission_queue
+        ≡ command_entry 0x00180001 0 0x2000 0x00070001 0x00010001 }
     ensures enables { (after_write registers_set cc enabling).effect ≡ RegEffect.Enable }
-    ensures queues { admin_queues (after_writes registers_set ((cc, enabling) ∷ [])) ≡ Some (record { sq_base = 0; sq_size = 8; cq_base = 0x1000; cq_size = 32 }) }
+    ensures queues { admin_queues (after_writes registers_set ((cc, enabling) ∷ []))
+        ≡ Some (record { sq_base = 0; sq_size = 8; cq_base = 0x1000; cq_size = 32 }) }
     ensures ready { is_ready (value_at (after_writes registers_set ((cc, enabling) ∷ [])) csts) ≡ true }
 {}
 
 /// A request is answered by its own identifier, lane and a head that can be, and by nothing else.
 fn answers()
     ensures slot { free_slot reading_driver ≡ Some 1 }
-    ensures its_own { answered reading_driver Lane.Io (io_completion 1 0) ≡ Some (waiting_of (new_driver 1) small_read) }
+    ensures its_own { answered reading_driver Lane.Io (io_completion 1 0)
+        ≡ Some (waiting_of (new_driver 1) small_read) }
     ensures new { is_new reading_driver.io (io_completion 1 0) ≡ true }
     ensures no_such_slot { answered reading_driver Lane.Io (io_completion 1 5) ≡ None }
     ensures no_such_head { answered reading_driver Lane.Io (io_completion 3 0) ≡ None }

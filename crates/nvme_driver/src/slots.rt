@@ -66,7 +66,8 @@ fn is_older(ticket: Ticket, oldest: Option<(usize, Ticket)>) -> bool
 /// The slot and the ticket of the aborted request with the lowest one.
 pub fn oldest_aborted(slots: &[Option<Waiting>]) -> Option<(usize, Ticket)>
     ensures none { result ≡ None → IsOldest slots.now None }
-    ensures some { IfSome result (λ r. (r.0 < length slots.now) × IsOldest slots.now (Some r.0) × (spec_aborted_at slots.now r.0 ≡ Some r.1)) }
+    ensures some { IfSome result (λ r. (r.0 < length slots.now) × IsOldest slots.now (Some r.0)
+        × (spec_aborted_at slots.now r.0 ≡ Some r.1)) }
 {
     let mut oldest: Option<(usize, Ticket)> = None;
     for slot in 0..slots.len() {

@@ -64,7 +64,8 @@ FollowsSome (Some outcome) old result new = Follows outcome old result new
 abbrev pub Settles : Option resv.Outcome → ℕ → World → Result Change Status → World → Type 0
 Settles None n old result new = ⊥
 Settles (Some (Ok transition)) n old result new =
-    (result ≡ Ok (record { removed = record { items = transition.removed } })) × (new ≡ with_reservation old n transition.next)
+    (result ≡ Ok (record { removed = record { items = transition.removed } }))
+    × (new ≡ with_reservation old n transition.next)
 Settles (Some (Err refusal)) n old result new = (result ≡ Err refusal) × (new ≡ old)
 
 -- the reservation does not refuse the command, and what it removes is this

@@ -38,7 +38,8 @@ pub fn carry_out<M: Medium>(
     requires within { admission.now.extent.first + admission.now.extent.blocks ≤ M.size medium.old }
     ensures done { IfOk result (IsCarriedOut M.tells admission.now.plan.kind cntlid sqe.now
         (scene spaces.old window.old (M.device medium.old)) (scene spaces.new window.new (M.device medium.new))) }
-    ensures flushed { IfOk result (λ outcome. admission.now.plan.kind ≡ Flush → IsFlushed M.flushes medium.old medium.new outcome.status) }
+    ensures flushed { IfOk result (λ outcome. admission.now.plan.kind ≡ Flush
+        → IsFlushed M.flushes medium.old medium.new outcome.status) }
     ensures refused { IfErr result (IsRefused cntlid sqe.now (scene spaces.old window.old (M.device medium.old))) }
     ensures unchanged { OnErr result ((spaces.new ≡ spaces.old) × (window.new ≡ window.old) × (medium.new ≡ medium.old)) }
     ensures size { M.size medium.new ≡ M.size medium.old }

@@ -25,7 +25,12 @@ example_commands =
 -- what they say
 abbrev pub example_done : List Direct
 example_done =
-    record { cntlid = 1; place = record { nsid = 1; slba = 0; blocks = 1 }; action = Write (codes "Hello" ++ replicate 507 0) }
+    record {
+      cntlid = 1;
+      place = record { nsid = 1; slba = 0; blocks = 1 };
+      action = Write (codes "Hello"
+          ++ replicate 507 0);
+    }
     ∷ record { cntlid = 1; place = record { nsid = 1; slba = 0; blocks = 1 }; action = Read }
     ∷ record { cntlid = 1; place = record { nsid = 1; slba = 64; blocks = 1 }; action = Read }
     ∷ record { cntlid = 1; place = record { nsid = 2; slba = 0; blocks = 1 }; action = Read }

@@ -19,7 +19,8 @@ controller = three (λ c keyword h. if bytes_eq keyword (codes "host") then (do
 
 -- `shared` or `private`
 abbrev pub sharing : List ℕ → Option Bool
-sharing word = if bytes_eq word (codes "shared") then Some true else if bytes_eq word (codes "private") then Some false else None
+sharing word =
+    if bytes_eq word (codes "shared") then Some true else if bytes_eq word (codes "private") then Some false else None
 
 -- `namespace N blocks B shared`, or `private`
 abbrev pub namespace : List (List ℕ) → Option Line

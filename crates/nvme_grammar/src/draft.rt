@@ -54,7 +54,8 @@ impl Draft {
 
     /// Takes the next line, which has this number.
     pub fn add(&mut self, number: usize, line: Line) -> Result<(), AllocError>
-        ensures { OnOk result ((lines : List Line) → Reads self.old lines → number ≡ length lines + 1 → fits_behind lines line ≡ true → Reads self.new (lines ++ line ∷ [])) }
+        ensures { OnOk result ((lines : List Line) → Reads self.old lines → number ≡ length lines + 1
+            → fits_behind lines line ≡ true → Reads self.new (lines ++ line ∷ [])) }
     {
         match line {
             Line::Blank => {}

@@ -10,12 +10,16 @@ ghost use Rattle.nvme_spec.specs.Configuration.{empty_configuration};
 
 #[tactic(auto, unfolding(crate::proofs::OnLiterals::lines_on_literals))]
 pub fn lines()
-    ensures controller { line_at (codes "controller 1 host 0xa1") ≡ Some (Controller (record { cntlid = 1; host = 161 })) }
-    ensures shared { line_at (codes "namespace 1 blocks 64 shared") ≡ Some (Namespace (record { nsid = 1; blocks = 64; shared = true })) }
-    ensures private { line_at (codes "namespace 2 blocks 8 private") ≡ Some (Namespace (record { nsid = 2; blocks = 8; shared = false })) }
+    ensures controller { line_at (codes "controller 1 host 0xa1")
+        ≡ Some (Controller (record { cntlid = 1; host = 161 })) }
+    ensures shared { line_at (codes "namespace 1 blocks 64 shared")
+        ≡ Some (Namespace (record { nsid = 1; blocks = 64; shared = true })) }
+    ensures private { line_at (codes "namespace 2 blocks 8 private")
+        ≡ Some (Namespace (record { nsid = 2; blocks = 8; shared = false })) }
     ensures attached { line_at (codes "attached 1 2") ≡ Some (Attached 1 2) }
     ensures start { line_at (codes " start " ++ 13 ∷ []) ≡ Some Start }
-    ensures read { line_at (codes "do 1 read 2 0x40 256") ≡ Some (Do (record { cntlid = 1; place = record { nsid = 2; slba = 64; blocks = 256 }; action = Read })) }
+    ensures read { line_at (codes "do 1 read 2 0x40 256")
+        ≡ Some (Do (record { cntlid = 1; place = record { nsid = 2; slba = 64; blocks = 256 }; action = Read })) }
     ensures fill { line_at (codes "do 1 write 2 7 2 fill:5A") ≡ Some (Do (record { cntlid = 1; place = record { nsid = 2; slba = 7; blocks = 2 }; action = Write (replicate 1024 90) })) }
     ensures hex { line_at (codes "do 1 write 1 0 1 hex:48656c6c6f") ≡ Some (Do (record { cntlid = 1; place = record { nsid = 1; slba = 0; blocks = 1 }; action = Write (codes "Hello" ++ replicate 507 0) })) }
     ensures comment { line_at (codes "# " ++ 11 ∷ 0 ∷ 255 ∷ []) ≡ Some Blank }
@@ -54,8 +58,10 @@ pub fn no_data()
 #[tactic(auto, unfolding(crate::proofs::OnLiterals::lines_on_literals))]
 pub fn scripts()
     ensures begins { Begins (example_setup ++ example_commands) }
-    ensures controllers { (configuration_of (example_setup ++ example_commands)).controllers ≡ (record { cntlid = 1; host = 161 }) ∷ [] }
-    ensures namespaces { (configuration_of (example_setup ++ example_commands)).namespaces ≡ (record { nsid = 1; blocks = 64; shared = true }) ∷ [] }
+    ensures controllers { (configuration_of (example_setup ++ example_commands)).controllers
+        ≡ (record { cntlid = 1; host = 161 }) ∷ [] }
+    ensures namespaces { (configuration_of (example_setup ++ example_commands)).namespaces
+        ≡ (record { nsid = 1; blocks = 64; shared = true }) ∷ [] }
     ensures attached { (configuration_of (example_setup ++ example_commands)).attached ≡ (1, 1) ∷ [] }
     ensures start { start_of (example_setup ++ example_commands) ≡ Some 4 }
     ensures commands { commands_of (example_setup ++ example_commands) ≡ example_done }

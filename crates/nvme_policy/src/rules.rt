@@ -172,7 +172,8 @@ pub fn check_protection(command: Command, namespace: &Namespace) -> Result<(), D
 #[tactic(auto, unfolding(nvme_spec::specs::IoRules::range_rule))]
 pub fn check_range(command: Command, namespace: &Namespace, sqe: &Sqe) -> Result<(), Denial>
     ensures judged { result ≡ judgement_by (policy.range_rule (Some command) (Some namespace.now) sqe.now) }
-    ensures in_range { OnOk result ((commands.plan_of command sqe.now).first + (commands.plan_of command sqe.now).blocks ≤ namespace.now.blocks) }
+    ensures in_range { OnOk result ((commands.plan_of command sqe.now).first + (commands.plan_of command sqe.now).blocks
+        ≤ namespace.now.blocks) }
 {
     let end = u128::from(fields::starting_lba(sqe)) + u128::from(fields::block_count(sqe));
     deny_if(

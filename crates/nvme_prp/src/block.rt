@@ -64,7 +64,8 @@ fn gather_two(window: &Window, front: Piece, back: Piece, block: &mut [u8; 512])
     requires front_inside { LiesInWindow front }
     requires back_inside { LiesInWindow back }
     requires whole { front.len + back.len ≡ 512 }
-    ensures { block.new ≡ gathered_bytes window.now (range_with_len front.address front.len ++ range_with_len back.address back.len) }
+    ensures { block.new ≡ gathered_bytes window.now (range_with_len front.address front.len
+        ++ range_with_len back.address back.len) }
 {
     let (first, second) = block.split_at_mut(front.len as usize);
     first.copy_from_slice(window.bytes(front));

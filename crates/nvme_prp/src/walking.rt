@@ -130,7 +130,8 @@ pub fn walk(window: &Window, prp1: u64, prp2: u64, len: u64) -> Result<Pieces, D
     // Each page has its piece.
     ensures pieces { IfOk result (λ pieces. pieces.parts.items ≡ pieces_of (transfer window.now prp1 prp2 len)) }
     // The pieces joined are the addresses of the bytes.
-    ensures joined { IfOk result (λ pieces. addresses pieces.parts.items ≡ map (address (transfer window.now prp1 prp2 len)) (range_with_len 0 len)) }
+    ensures joined { IfOk result (λ pieces. addresses pieces.parts.items
+        ≡ map (address (transfer window.now prp1 prp2 len)) (range_with_len 0 len)) }
     ensures size { IfOk result (λ pieces. length (addresses pieces.parts.items) ≡ len) }
     ensures fault { IfErr result (λ e. pointer_fault (transfer window.now prp1 prp2 len) ≡ Some e) }
 {

@@ -11,4 +11,5 @@ pub record IsPlaceOf (registrants : List Registrant) (host i : ℕ) : Type 0 whe
 pub record IsGapFor (registrants : List Registrant) (host i : ℕ) : Type 0 where
   pub in_range : i ≤ length registrants
   pub lower_before : (k : ℕ) (d : Registrant) → k < i → (slice_index_or registrants k d).host < host
-  pub higher_after : (k : ℕ) (d : Registrant) → i ≤ k → k < length registrants → host < (slice_index_or registrants k d).host
+  pub higher_after : (k : ℕ) (d : Registrant) → i ≤ k → k < length registrants
+      → host < (slice_index_or registrants k d).host

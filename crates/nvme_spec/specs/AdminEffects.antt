@@ -48,7 +48,8 @@ identify_data w cntlid e =
 -- the data that go to the host
 unfoldable pub data_out : World → ℕ → AdminCommand → List ℕ → List ℕ
 data_out w cntlid Identify e = identify_data w cntlid e
-data_out w cntlid GetFeatures e = if fid e == host_identifier then to_le_bytes w64 (unwrap_or (host_of w cntlid) 0) else []
+data_out w cntlid GetFeatures e =
+    if fid e == host_identifier then to_le_bytes w64 (unwrap_or (host_of w cntlid) 0) else []
 data_out w cntlid command e = []
 
 -- what becomes of the queues
@@ -101,4 +102,5 @@ execution_by (Ok u) (Some command) w cntlid e window = performance w cntlid wind
 
 -- an admin command of a controller, with the queues that it has and its host's memory
 unfoldable pub admin_execution : World → Queues → ℕ → List ℕ → List ℕ → AdminExecution
-admin_execution w queues cntlid e window = execution_by (admin_judgement w queues cntlid e window) (command_of (opcode e)) w cntlid e window
+admin_execution w queues cntlid e window =
+    execution_by (admin_judgement w queues cntlid e window) (command_of (opcode e)) w cntlid e window

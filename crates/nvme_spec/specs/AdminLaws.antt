@@ -22,7 +22,8 @@ pub record KeepsAllBut (w next : World) : Type 0 where
 
 abbrev pub ChangesOnlyProtection : Type 0
 ChangesOnlyProtection =
-    (w : World) → (queues : Queues) → (cntlid : ℕ) → (e window : List ℕ) → KeepsAllBut w (admin_execution w queues cntlid e window).world
+    (w : World) → (queues : Queues) → (cntlid : ℕ) → (e window : List ℕ)
+    → KeepsAllBut w (admin_execution w queues cntlid e window).world
 
 -- so no reservation changes
 abbrev pub KeepsReservations : Type 0
@@ -46,5 +47,6 @@ pub record ChangesNothing (w : World) (window : List ℕ) (x : AdminExecution) :
 
 abbrev pub DenialsChangeNothing : Type 0
 DenialsChangeNothing =
-    (w : World) → (queues : Queues) → (cntlid : ℕ) → (e window : List ℕ) → (d : Denial) → admin_judgement w queues cntlid e window ≡ Err d
+    (w : World) → (queues : Queues) → (cntlid : ℕ) → (e window : List ℕ) → (d : Denial)
+    → admin_judgement w queues cntlid e window ≡ Err d
     → ChangesNothing w window (admin_execution w queues cntlid e window)

@@ -27,7 +27,8 @@ opcode_rule command = rule 2 (is_none command) status.invalid_command_opcode
 -- the command names one namespace
 abbrev pub names_namespace : Option AdminCommand → List ℕ → Bool
 names_namespace command e =
-    is_one_of command (NamespaceAttachment ∷ []) || names_feature command write_protection e || asks_for command namespace_structure e
+    is_one_of command (NamespaceAttachment ∷ []) || names_feature command write_protection e
+    || asks_for command namespace_structure e
 
 -- 4: no namespace can have this identifier, or no list of namespaces can begin above it
 unfoldable pub nsid_rule : Option AdminCommand → List ℕ → Rule
@@ -35,14 +36,16 @@ nsid_rule command e = record {
   number = 4;
   tests =
       test (names_namespace command e && is_no_nsid (nsid e)) status.invalid_namespace_or_format
-      ∷ test (asks_for command namespace_list_structure e && nat_le 0xfffffffe (nsid e)) status.invalid_namespace_or_format
+      ∷ test (asks_for command namespace_list_structure e
+      && nat_le 0xfffffffe (nsid e)) status.invalid_namespace_or_format
       ∷ [];
 }
 
 -- 5: the identifier names no namespace that is attached to the controller
 unfoldable pub attachment_rule : Option AdminCommand → World → ℕ → List ℕ → Rule
 attachment_rule command w cntlid e =
-    rule 5 (names_feature command write_protection e && not (is_some (namespace_of w (nsid e)) && is_attached w cntlid (nsid e))) status.invalid_field_in_command
+    rule 5 (names_feature command write_protection e
+    && not (is_some (namespace_of w (nsid e)) && is_attached w cntlid (nsid e))) status.invalid_field_in_command
 
 -- 6, of each command: a field has a value that the command does not take.
 
@@ -58,7 +61,8 @@ base_tests width e =
     ∷ []
 
 abbrev pub size_test : List ℕ → Test
-size_test e = test (nat_lt (queue_size e) fewest_entries || nat_lt most_entries (queue_size e)) status.invalid_queue_size
+size_test e =
+    test (nat_lt (queue_size e) fewest_entries || nat_lt most_entries (queue_size e)) status.invalid_queue_size
 
 unfoldable pub completion_queue_rule : Queues → List ℕ → Rule
 completion_queue_rule queues e = record {
@@ -117,7 +121,8 @@ unfoldable pub get_features_rule : List ℕ → Rule
 get_features_rule e = record {
   number = 6;
   tests =
-      test (not ((fid e == number_of_queues) || (fid e == write_protection) || (fid e == host_identifier))) status.invalid_field_in_command
+      test (not ((fid e == number_of_queues) || (fid e == write_protection)
+      || (fid e == host_identifier))) status.invalid_field_in_command
       ∷ test ((fid e == host_identifier) && exhid e) status.invalid_field_in_command
       ∷ [];
 }
@@ -125,7 +130,8 @@ get_features_rule e = record {
 unfoldable pub selection_rule : Option Namespace → List ℕ → Rule
 selection_rule namespace e = record {
   number = 6;
-  tests = test (nat_lt 1 (sel e)) status.invalid_field_in_command ∷ test (is_none namespace) status.invalid_field_in_command ∷ [];
+  tests = test (nat_lt 1 (sel e)) status.invalid_field_in_command
+      ∷ test (is_none namespace) status.invalid_field_in_command ∷ [];
 }
 
 abbrev pub field_rule : Option AdminCommand → Queues → Option Namespace → List ℕ → Rule
@@ -142,7 +148,8 @@ field_rule (Some NamespaceAttachment) queues namespace e = selection_rule namesp
 -- 7: the reservation does not permit the issuing host to write
 unfoldable pub reservation_rule : Option AdminCommand → Option Namespace → Option ℕ → Rule
 reservation_rule command namespace host =
-    rule 7 (is_one_of command (NamespaceAttachment ∷ []) && not (permits_group namespace host Writing)) status.reservation_conflict
+    rule 7 (is_one_of command (NamespaceAttachment ∷ [])
+    && not (permits_group namespace host Writing)) status.reservation_conflict
 
 -- the rules before those that look at the data
 abbrev pub admin_access_rules : World → Queues → ℕ → List ℕ → List Rule

@@ -13,10 +13,12 @@ is_one_of cntlid controllers = list_any (λ c. c == cntlid) controllers
 abbrev pub AddsTheListed : Type 0
 AddsTheListed =
     (w : World) → (nsid : ℕ) → (controllers : List ℕ) → (cntlid n : ℕ)
-    → is_attached (with_attached w nsid controllers) cntlid n ≡ (is_attached w cntlid n || (is_one_of cntlid controllers && nsid == n))
+    → is_attached (with_attached w nsid controllers) cntlid n
+    ≡ (is_attached w cntlid n || (is_one_of cntlid controllers && nsid == n))
 
 -- those of before, without the listed ones
 abbrev pub RemovesTheListed : Type 0
 RemovesTheListed =
     (w : World) → (nsid : ℕ) → (controllers : List ℕ) → (cntlid n : ℕ)
-    → is_attached (without_attached w nsid controllers) cntlid n ≡ (is_attached w cntlid n && not (n == nsid && is_one_of cntlid controllers))
+    → is_attached (without_attached w nsid controllers) cntlid n
+    ≡ (is_attached w cntlid n && not (n == nsid && is_one_of cntlid controllers))

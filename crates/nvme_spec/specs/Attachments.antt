@@ -17,7 +17,8 @@ are_controllers_above w before (cntlid ∷ rest) =
 -- a list names 1 to 2,047 controllers, by rising identifier
 unfoldable pub list_tests : World → List ℕ → List Test
 list_tests w controllers =
-    test ((length controllers == 0) || nat_lt longest_controller_list (length controllers)) status.controller_list_invalid
+    test ((length controllers == 0)
+    || nat_lt longest_controller_list (length controllers)) status.controller_list_invalid
     ∷ test (not (are_controllers_above w 0 controllers)) status.controller_list_invalid
     ∷ []
 
@@ -58,11 +59,15 @@ unless_refused None next = Ok next
 unless_refused (Some why) next = Err why
 
 abbrev pub with_attached : World → ℕ → List ℕ → World
-with_attached w nsid controllers = record w { attachments = w.attachments ++ map (λ cntlid. (cntlid, nsid)) controllers }
+with_attached w nsid controllers =
+    record w { attachments = w.attachments ++ map (λ cntlid. (cntlid, nsid)) controllers }
 
 abbrev pub without_attached : World → ℕ → List ℕ → World
 without_attached w nsid controllers =
-    record w { attachments = filter (λ (a : ℕ × ℕ). not ((a.1 == nsid) && list_any (λ cntlid. cntlid == a.0) controllers)) w.attachments }
+    record w {
+      attachments = filter (λ (a : ℕ
+          × ℕ). not ((a.1 == nsid) && list_any (λ cntlid. cntlid == a.0) controllers)) w.attachments;
+    }
 
 -- the namespace is attached to these controllers
 unfoldable pub attach : World → ℕ → List ℕ → Outcome
@@ -73,4 +78,5 @@ attach w nsid controllers =
 -- it is detached from them
 unfoldable pub detach : World → ℕ → List ℕ → Outcome
 detach w nsid controllers =
-    unless_refused (first_failure (list_tests w controllers ++ detach_each w nsid controllers)) (without_attached w nsid controllers)
+    unless_refused (first_failure (list_tests w controllers
+    ++ detach_each w nsid controllers)) (without_attached w nsid controllers)

@@ -46,8 +46,10 @@ medium_block w e = start_of (namespace_of w (nsid e)) + starting_lba e
 -- that return to the host.
 abbrev pub BlockEffect : Bool → Command → ℕ → ℕ → List ℕ → Device → Device → Status → List ℕ → Type 0
 BlockEffect tells Flush first blocks sent old new answer returned = FlushEffect tells old new answer × (returned ≡ [])
-BlockEffect tells Write first blocks sent old new answer returned = WriteEffect tells first sent old new answer × (returned ≡ [])
-BlockEffect tells Read first blocks sent old new answer returned = ReadEffect tells first (512 * blocks) old new answer returned
+BlockEffect tells Write first blocks sent old new answer returned =
+    WriteEffect tells first sent old new answer × (returned ≡ [])
+BlockEffect tells Read first blocks sent old new answer returned =
+    ReadEffect tells first (512 * blocks) old new answer returned
 BlockEffect tells Compare first blocks sent old new answer returned =
     CompareEffect tells first sent old new answer × (returned ≡ [])
 BlockEffect tells WriteZeroes first blocks sent old new answer returned =
@@ -82,11 +84,14 @@ pub record Reports (e : List ℕ) (old new : Scene) (answer : Status) (returned 
   pub answered : answer ≡ status.successful_completion
   pub world : new.world ≡ old.world
   pub device : new.device ≡ old.device
-  pub data_back : returned ≡ report_of (namespace_of old.world (nsid e)) old.world.controllers (data_length ReservationReport e)
+  pub data_back : returned
+      ≡ report_of (namespace_of old.world (nsid e)) old.world.controllers (data_length ReservationReport e)
 
 abbrev pub PerformsAs : CommandKind → Bool → Command → ℕ → List ℕ → List ℕ → Scene → Scene → Status → List ℕ → Type 0
-PerformsAs OnBlocks tells command cntlid e sent old new answer returned = ActsOnBlocks tells command e sent old new answer returned
-PerformsAs OnReservation tells command cntlid e sent old new answer returned = ActsOnReservation cntlid e sent old new answer returned
+PerformsAs OnBlocks tells command cntlid e sent old new answer returned =
+    ActsOnBlocks tells command e sent old new answer returned
+PerformsAs OnReservation tells command cntlid e sent old new answer returned =
+    ActsOnReservation cntlid e sent old new answer returned
 PerformsAs OnReport tells command cntlid e sent old new answer returned = Reports e old new answer returned
 
 -- What an allowed command of a controller does to the access state and the medium, by the data that its host has sent;
@@ -142,7 +147,8 @@ ExecutesBy (Allowed plan) tells cntlid e old new outcome = IsPerformed tells pla
 
 -- an I/O command of a controller is executed, marked or not
 abbrev pub Executes : Bool → ℕ → List ℕ → Bool → Scene → Scene → Outcome → Type 0
-Executes tells cntlid e marked old new outcome = ExecutesBy (io_verdict old.world cntlid e marked old.window) tells cntlid e old new outcome
+Executes tells cntlid e marked old new outcome =
+    ExecutesBy (io_verdict old.world cntlid e marked old.window) tells cntlid e old new outcome
 
 -- every registrant of every namespace is the host of a controller
 abbrev pub HasKnownRegistrants : World → Type 0

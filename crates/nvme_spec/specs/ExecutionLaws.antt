@@ -32,7 +32,8 @@ ExecutesAlone =
     (cntlid : ℕ) → (e : List ℕ) → (marked : Bool) → (old new : Scene) → (outcome : Outcome)
     → Executes true cntlid e marked old new outcome
     → new.device.failures ≡ old.device.failures → old.device.failures < 2 ^ 64 - 1
-    → (new ≡ (fault_free_execution cntlid e marked old).left) × (outcome ≡ (fault_free_execution cntlid e marked old).outcome)
+    → (new ≡ (fault_free_execution cntlid e marked old).left)
+    × (outcome ≡ (fault_free_execution cntlid e marked old).outcome)
 
 -- Whatever a medium tells, an execution leaves controllers, attachments, namespaces but for one's reservation, and the
 -- length of host memory.

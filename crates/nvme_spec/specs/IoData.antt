@@ -44,7 +44,8 @@ outcome_in None n host e keys = None
 
 -- the same of a command of a controller, by the data that its host's memory holds
 unfoldable pub reservation_outcome : World → ℕ → List ℕ → List ℕ → Option resv.Outcome
-reservation_outcome w cntlid e brought = outcome_in (command_of (opcode e)) (namespace_of w (nsid e)) (host_of w cntlid) e brought
+reservation_outcome w cntlid e brought =
+    outcome_in (command_of (opcode e)) (namespace_of w (nsid e)) (host_of w cntlid) e brought
 
 abbrev pub outcome_tests : Option resv.Outcome → List Test
 outcome_tests None = []

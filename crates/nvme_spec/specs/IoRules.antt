@@ -43,21 +43,26 @@ nsid_rule n = rule 4 (is_no_nsid n) status.invalid_namespace_or_format
 
 -- 5: the identifier names no namespace that is attached to the controller
 unfoldable pub attachment_rule : World → ℕ → ℕ → Rule
-attachment_rule w cntlid n = rule 5 (not (is_some (namespace_of w n) && is_attached w cntlid n)) status.invalid_field_in_command
+attachment_rule w cntlid n =
+    rule 5 (not (is_some (namespace_of w n) && is_attached w cntlid n)) status.invalid_field_in_command
 
 -- 6: a field has a value that the command does not take
 unfoldable pub field_rule : Option Command → List ℕ → Rule
 field_rule command e = record {
   number = 6;
   tests =
-      test (is_one_of command (Read ∷ Write ∷ Compare ∷ []) && nat_lt most_blocks (block_count e)) status.invalid_field_in_command
+      test (is_one_of command (Read ∷ Write ∷ Compare ∷ [])
+      && nat_lt most_blocks (block_count e)) status.invalid_field_in_command
       ∷ test (is_one_of command (ReservationRegister ∷ []) && (nat_lt 2 (action e) || (cptpl e == 1) || (cptpl e == 3)))
       status.invalid_field_in_command
-      ∷ test (is_one_of command (ReservationAcquire ∷ []) && (nat_lt 2 (action e) || iekey e || (rtype e == 0) || nat_lt 6 (rtype e)))
+      ∷ test (is_one_of command (ReservationAcquire ∷ [])
+      && (nat_lt 2 (action e) || iekey e || (rtype e == 0) || nat_lt 6 (rtype e)))
       status.invalid_field_in_command
-      ∷ test (is_one_of command (ReservationRelease ∷ []) && (nat_lt 1 (action e) || iekey e)) status.invalid_field_in_command
+      ∷ test (is_one_of command (ReservationRelease ∷ [])
+      && (nat_lt 1 (action e) || iekey e)) status.invalid_field_in_command
       ∷ test (is_one_of command (ReservationReport ∷ []) && eds e) status.host_identifier_inconsistent_format
-      ∷ test (is_one_of command (ReservationReport ∷ []) && nat_lt most_bytes (report_length e)) status.invalid_field_in_command
+      ∷ test (is_one_of command (ReservationReport ∷ [])
+      && nat_lt most_bytes (report_length e)) status.invalid_field_in_command
       ∷ [];
 }
 
@@ -83,7 +88,8 @@ is_protected (Some n) = n.protected
 
 -- 8: the command would change a namespace that is write protected
 unfoldable pub protection_rule : Option Command → Option Namespace → Rule
-protection_rule command namespace = rule 8 (is_one_of command altering && is_protected namespace) status.namespace_is_write_protected
+protection_rule command namespace =
+    rule 8 (is_one_of command altering && is_protected namespace) status.namespace_is_write_protected
 
 abbrev pub has_blocks_below : Option Namespace → ℕ → Bool
 has_blocks_below None end = true
@@ -92,7 +98,8 @@ has_blocks_below (Some n) end = nat_le end n.blocks
 -- 9: the range ends past the namespace
 unfoldable pub range_rule : Option Command → Option Namespace → List ℕ → Rule
 range_rule command namespace e =
-    rule 9 (is_one_of command ranged && not (has_blocks_below namespace (starting_lba e + block_count e))) status.lba_out_of_range
+    rule 9 (is_one_of command ranged
+    && not (has_blocks_below namespace (starting_lba e + block_count e))) status.lba_out_of_range
 
 abbrev pub access_rules : World → ℕ → List ℕ → Bool → List Rule
 access_rules w cntlid e marked =

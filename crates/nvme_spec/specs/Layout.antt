@@ -14,7 +14,8 @@ pub record Extent : Type 0 where
   pub blocks : ℕ
 
 unfoldable pub extent_of : World → ℕ → Option Extent
-extent_of w n = option_map (λ (space : Namespace). record { first = space.first; blocks = space.blocks }) (namespace_of w n)
+extent_of w n =
+    option_map (λ (space : Namespace). record { first = space.first; blocks = space.blocks }) (namespace_of w n)
 
 abbrev pub bytes_at : List ℕ → Option Extent → List ℕ
 bytes_at content None = []

@@ -18,7 +18,8 @@ IsIoQueue qid = (1 ≤ qid) × (qid ≤ 4)
 abbrev pub Suits : Queues → QueueChange → Type 0
 Suits queues Keep = Unit {0}
 Suits queues (MakeCq qid size base) = IsIoQueue qid × IsQueuePlace base size 16
-Suits queues (MakeSq qid size base cqid) = IsIoQueue qid × IsQueuePlace base size 64 × (has_completion_queue queues cqid ≡ true)
+Suits queues (MakeSq qid size base cqid) =
+    IsIoQueue qid × IsQueuePlace base size 64 × (has_completion_queue queues cqid ≡ true)
 Suits queues (DropCq qid) = (1 ≤ qid) × (has_completion_queue queues qid ≡ true) × (is_used queues qid ≡ false)
 Suits queues (DropSq qid) = (1 ≤ qid) × (has_submission_queue queues qid ≡ true)
 

@@ -34,12 +34,14 @@ reported_controllers r controllers = filter (λ c. is_registered r.registrants c
 -- bytes 0 to 3 the generation, 4 the reservation type, 5 and 6 the number of entries, 9 PTPLS, which is 0
 unfoldable pub header : Reservation → List ControllerHost → List ℕ
 header r controllers =
-    to_le_bytes w32 r.generation ++ type_of r.hold ∷ [] ++ to_le_bytes w16 (length (reported_controllers r controllers)) ++ replicate 17 0
+    to_le_bytes w32 r.generation ++ type_of r.hold ∷ [] ++ to_le_bytes w16 (length (reported_controllers r controllers))
+    ++ replicate 17 0
 
 -- bytes 0 and 1 the controller identifier, 2 the status with bit 0 set for a holder, 8 to 15 the host, 16 to 23 its key
 unfoldable pub entry_of : ℕ → Bool → ℕ → ℕ → List ℕ
 entry_of cntlid holds host key =
-    to_le_bytes w16 cntlid ++ (if holds then 1 else 0) ∷ [] ++ replicate 5 0 ++ to_le_bytes w64 host ++ to_le_bytes w64 key
+    to_le_bytes w16 cntlid ++ (if holds then 1 else 0) ∷ [] ++ replicate 5 0 ++ to_le_bytes w64 host
+    ++ to_le_bytes w64 key
 
 -- a registered host has a key
 abbrev pub entry : Reservation → ControllerHost → List ℕ

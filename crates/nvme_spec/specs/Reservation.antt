@@ -36,7 +36,8 @@ is_key_in_use registrants key = list_any (λ r. r.key == key) registrants
 -- the host's key becomes `key`, whether it had one or not
 abbrev pub with_key : List Registrant → ℕ → ℕ → List Registrant
 with_key registrants host key =
-    filter (λ r. nat_lt r.host host) registrants ++ record { host = host; key = key } ∷ filter (λ r. nat_lt host r.host) registrants
+    filter (λ r. nat_lt r.host host) registrants
+    ++ record { host = host; key = key } ∷ filter (λ r. nat_lt host r.host) registrants
 
 -- each registrant's host is above those before it
 abbrev pub IsRising : List Registrant → Type 0
@@ -51,7 +52,8 @@ is_held_by (All type) host = true
 
 -- what a host is to the namespace: each of its controllers is that too
 abbrev pub role_of : Reservation → ℕ → Role
-role_of r host = if is_registered r.registrants host then (if is_held_by r.hold host then Holder else OnlyRegistrant) else Outsider
+role_of r host =
+    if is_registered r.registrants host then (if is_held_by r.hold host then Holder else OnlyRegistrant) else Outsider
 
 abbrev pub is_holder : Reservation → ℕ → Bool
 is_holder r host = is_registered r.registrants host && is_held_by r.hold host
@@ -122,7 +124,8 @@ remaining r rest = next_generation r rest (remaining_hold r.hold rest)
 -- Reservation Register command, Register Reservation Key. A host that has another key already is denied.
 abbrev pub register : Reservation → ℕ → ℕ → Outcome
 register r host nrkey =
-    if is_registered r.registrants host && not (is_registered_with r.registrants host nrkey) then Err status.reservation_conflict
+    if is_registered r.registrants host
+    && not (is_registered_with r.registrants host nrkey) then Err status.reservation_conflict
     else becomes (next_generation r (with_key r.registrants host nrkey) r.hold)
 
 -- Reservation Register command, Unregister Reservation Key. With IEKEY the key that the host gives is not looked at.
@@ -157,7 +160,8 @@ preempt r host rtype crkey prkey =
     then preempts r (next_generation r (filter (λ x. x.host == host) r.registrants) (taken_by host rtype))
     else Err status.invalid_field_in_command)
     else (if is_holders_key r prkey
-    then preempts r (next_generation r (filter (λ x. (x.host == host) || not (x.key == prkey)) r.registrants) (taken_by host rtype))
+    then preempts r (next_generation r (filter (λ x. (x.host == host)
+    || not (x.key == prkey)) r.registrants) (taken_by host rtype))
     else (if is_key_in_use r.registrants prkey
     then preempts r (remaining r (filter (λ x. not (x.key == prkey)) r.registrants))
     else Err status.reservation_conflict)))

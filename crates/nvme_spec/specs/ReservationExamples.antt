@@ -29,7 +29,8 @@ reads_and_writes type role = (is_permitted_under type role Read, is_permitted_un
 
 -- what an outsider, a registrant and a holder may do under a type
 abbrev pub permissions : ℕ → List (Bool × Bool)
-permissions type = reads_and_writes type Outsider ∷ reads_and_writes type OnlyRegistrant ∷ reads_and_writes type Holder ∷ []
+permissions type =
+    reads_and_writes type Outsider ∷ reads_and_writes type OnlyRegistrant ∷ reads_and_writes type Holder ∷ []
 
 -- the registrants a1h, b2h and c3h, by their keys
 abbrev pub a1 : ℕ → Registrant

@@ -41,7 +41,8 @@ site_of n = record { nsid = n.nsid; first = n.first; blocks = n.blocks; shared =
 -- no two have one identifier, and each begins behind those before it
 abbrev pub AreInOrder : List Site → Type 0
 AreInOrder [] = Unit {0}
-AreInOrder (s ∷ rest) = AllByRecursion (λ (later : Site). (later.nsid ≢ s.nsid) × (s.first + s.blocks ≤ later.first)) rest × AreInOrder rest
+AreInOrder (s ∷ rest) =
+    AllByRecursion (λ (later : Site). (later.nsid ≢ s.nsid) × (s.first + s.blocks ≤ later.first)) rest × AreInOrder rest
 
 -- two attachments can't stand together: they are the same, or attach one private namespace
 abbrev pub clash : (ℕ → Bool) → ℕ × ℕ → ℕ × ℕ → Bool
@@ -83,4 +84,5 @@ ExecutionKeepsItSound =
 -- and every admin command
 abbrev pub AdminExecutionKeepsItSound : Type 0
 AdminExecutionKeepsItSound =
-    (w : World) → (queues : Queues) → (cntlid : ℕ) → (e window : List ℕ) → IsSound w → IsSound (admin_execution w queues cntlid e window).world
+    (w : World) → (queues : Queues) → (cntlid : ℕ) → (e window : List ℕ) → IsSound w
+    → IsSound (admin_execution w queues cntlid e window).world

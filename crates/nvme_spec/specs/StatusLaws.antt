@@ -18,4 +18,5 @@ ExecutionFits =
 
 abbrev pub AdminExecutionFits : Type 0
 AdminExecutionFits =
-    (w : World) → (queues : Queues) → (cntlid : ℕ) → (e window : List ℕ) → Fits (admin_execution w queues cntlid e window).status
+    (w : World) → (queues : Queues) → (cntlid : ℕ) → (e window : List ℕ)
+    → Fits (admin_execution w queues cntlid e window).status

@@ -42,7 +42,8 @@ abbrev pub SmallIsContiguous : Type 0
 SmallIsContiguous =
     (t : Transfer) → t.bytes ≤ room t.prp1 → t.prp1 + t.bytes ≤ length t.window
     → (map (address t) (range_with_len 0 t.bytes) ≡ range_with_len t.prp1 t.bytes)
-    × (gathered_bytes t.window (map (address t) (range_with_len 0 t.bytes)) ≡ slice_range t.window t.prp1 (t.prp1 + t.bytes))
+    × (gathered_bytes t.window (map (address t) (range_with_len 0 t.bytes))
+    ≡ slice_range t.window t.prp1 (t.prp1 + t.bytes))
 
 -- no address is named twice
 abbrev pub AreDistinct : List ℕ → Type 0

@@ -70,8 +70,10 @@ with_namespace change nsid (n ∷ rest) = if n.nsid == nsid then change n ∷ re
 
 -- the world, where the namespace with this identifier is reserved in this way
 abbrev pub with_reservation : World → ℕ → Reservation → World
-with_reservation w nsid r = record w { namespaces = with_namespace (λ n. record n { reservation = r }) nsid w.namespaces }
+with_reservation w nsid r =
+    record w { namespaces = with_namespace (λ n. record n { reservation = r }) nsid w.namespaces }
 
 -- the world, where the namespace with this identifier is write protected, or no longer is
 abbrev pub with_protection : World → ℕ → Bool → World
-with_protection w nsid protected = record w { namespaces = with_namespace (λ n. record n { protected = protected }) nsid w.namespaces }
+with_protection w nsid protected =
+    record w { namespaces = with_namespace (λ n. record n { protected = protected }) nsid w.namespaces }

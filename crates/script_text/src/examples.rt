@@ -30,7 +30,8 @@ pub fn no_numbers()
 {}
 
 pub fn words()
-    ensures separated { line_words (codes " do" ++ 9 ∷ codes "1  read" ++ 13 ∷ []) ≡ codes "do" ∷ codes "1" ∷ codes "read" ∷ [] }
+    ensures separated { line_words (codes " do" ++ 9 ∷ codes "1  read" ++ 13 ∷ [])
+        ≡ codes "do" ∷ codes "1" ∷ codes "read" ∷ [] }
     ensures vertical_tab { line_words (codes "a" ++ 11 ∷ codes "b") ≡ (codes "a" ++ 11 ∷ codes "b") ∷ [] }
     ensures form_feed { line_words (codes "a" ++ 12 ∷ codes "b") ≡ (codes "a" ++ 12 ∷ codes "b") ∷ [] }
     ensures none { line_words (32 ∷ 9 ∷ 13 ∷ []) ≡ [] }

@@ -183,7 +183,8 @@ impl Driver {
     /// `AlreadyUp` where the driver is up or has failed: nothing changes then. `NotReady`, `NoAnswer` or `Refused`
     /// where the controller does not become ready, or does not create the queues: the driver is then down.
     pub fn bring_up<P: Port>(&mut self, port: &mut P) -> Result<(), UpFault>
-        ensures already { down self.old.state ≡ false → (result ≡ Err UpFault.AlreadyUp) × (self.new ≡ self.old) × (port.new ≡ port.old) }
+        ensures already { down self.old.state ≡ false
+            → (result ≡ Err UpFault.AlreadyUp) × (self.new ≡ self.old) × (port.new ≡ port.old) }
         ensures rises { down self.old.state ≡ true → Rises P.step P.bytes self.old port.old result self.new port.new }
         ensures state { down self.old.state ≡ true → self.new.state ≡ risen_state result }
         ensures keeps { (self.new.slots ≡ self.old.slots) × (self.new.next ≡ self.old.next) }

@@ -72,9 +72,11 @@ impl Driver {
     /// The slot and the ticket of the next request, or the first reason to refuse this one.
     fn admit(&self, request: &Request<'_>) -> Result<(usize, Ticket), PlaceRefusal>
         ensures refused { IfErr result (λ refusal. place_refusal self.now request.now ≡ Some refusal) }
-        ensures admitted { IfOk result (λ p. (place_refusal self.now request.now ≡ None) × (free_slot self.now ≡ Some p.0) × (p.1 ≡ record { 0 = self.now.next })) }
+        ensures admitted { IfOk result (λ p. (place_refusal self.now request.now ≡ None) × (free_slot self.now ≡ Some p.0)
+            × (p.1 ≡ record { 0 = self.now.next })) }
         ensures good { OnOk result (bad request.now ≡ false) }
-        ensures room { OnOk result ((0 < submission_room (ends_of (lane_of request.now) self.now).tail) × (self.now.next < ticket_count)) }
+        ensures room { OnOk result ((0 < submission_room (ends_of (lane_of request.now) self.now).tail)
+            × (self.now.next < ticket_count)) }
         ensures slot { IfOk result (λ p. p.0 < slot_count) }
     {
         if !self.is_up() {
@@ -108,7 +110,8 @@ impl Driver {
     ) -> Result<Ticket, PlaceRefusal>
         ensures refused { IfErr result (λ refusal. place_refusal self.old request.now ≡ Some refusal) }
         ensures unchanged { OnErr result ((self.new ≡ self.old) × (port.new ≡ port.old)) }
-        ensures ticket { IfOk result (λ ticket. (place_refusal self.old request.now ≡ None) × (ticket ≡ record { 0 = self.old.next })) }
+        ensures ticket { IfOk result (λ ticket. (place_refusal self.old request.now ≡ None)
+            × (ticket ≡ record { 0 = self.old.next })) }
         ensures placed { OnOk result (IsPlaced P.step self.old request.now port.old self.new port.new) }
         ensures holds { OnOk result (HoldsItsRequest self.old (P.bytes port.old) (P.bytes port.new) request.now) }
         ensures links { P.links port.new ≡ P.links port.old }

@@ -69,7 +69,8 @@ impl Driver {
 
     /// The request that a completion answers, and the ends of its lane once the completion is consumed.
     fn answered(&self, lane: Lane, entry: Cqe) -> Option<(Waiting, Ends)>
-        ensures request { MatchOption result (spec_answered self.now lane entry ≡ None) (λ r. spec_answered self.now lane entry ≡ Some r.0) }
+        ensures request { MatchOption result (spec_answered self.now lane entry ≡ None) (λ r. spec_answered self.now lane entry
+            ≡ Some r.0) }
         ensures ends { IfSome result (λ r. r.1 ≡ consumed_ends (ends_of lane self.now) (sq_head entry)) }
         ensures slot { IfSome result (λ r. cid entry < slot_count) }
     {
@@ -96,7 +97,8 @@ impl Driver {
         ensures answer { result ≡ (entry_poll self.old (P.bytes port.old) lane entry).answer }
         ensures driver { self.new ≡ (entry_poll self.old (P.bytes port.old) lane entry).driver }
         ensures calls { Calls P.step port.old (entry_poll self.old (P.bytes port.old) lane entry).calls port.new }
-        ensures bytes { take (length (entry_poll self.old (P.bytes port.old) lane entry).bytes) buffer.new ≡ (entry_poll self.old (P.bytes port.old) lane entry).bytes }
+        ensures bytes { take (length (entry_poll self.old (P.bytes port.old) lane entry).bytes) buffer.new
+            ≡ (entry_poll self.old (P.bytes port.old) lane entry).bytes }
         ensures links { P.links port.new ≡ P.links port.old }
     {
         let Some((waiting, ends)) = self.answered(lane, entry) else {

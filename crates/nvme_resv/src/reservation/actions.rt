@@ -179,7 +179,8 @@ impl Reservation {
     /// Registers the host with this key, or gives it this key.
     fn give_key(&mut self, host: u64, key: u64) -> Change
         requires { HasRoomFor self.old host }
-        ensures next { self.new ≡ resv.next_generation self.old (resv.with_key self.old.registrants host key) self.old.hold }
+        ensures next { self.new
+            ≡ resv.next_generation self.old (resv.with_key self.old.registrants host key) self.old.hold }
         ensures removed { result.removed.items ≡ [] }
     {
         set_key(&mut self.registrants, host, key);

@@ -12,7 +12,8 @@ use crate::command::Command;
 
 /// A Write of one block with command identifier 7: each field of its bytes.
 fn write()
-    ensures bytes { command_entry 0x00070001 1 0x5000 0 0 ≡ 0x01 ∷ 0x00 ∷ 0x07 ∷ 0x00 ∷ 0x01 ∷ 0x00 ∷ 0x00 ∷ 0x00 ∷ replicate 16 0 ++ 0x00 ∷ 0x50 ∷ replicate 38 0 }
+    ensures bytes { command_entry 0x00070001 1 0x5000 0 0
+        ≡ 0x01 ∷ 0x00 ∷ 0x07 ∷ 0x00 ∷ 0x01 ∷ 0x00 ∷ 0x00 ∷ 0x00 ∷ replicate 16 0 ++ 0x00 ∷ 0x50 ∷ replicate 38 0 }
     ensures opcode { command_of (entry.opcode (command_entry 0x00070001 1 0x5000 0 0)) ≡ Some Command.Write }
     ensures fuse { entry.fuse (command_entry 0x00070001 1 0x5000 0 0) ≡ 0 }
     ensures psdt { entry.psdt (command_entry 0x00070001 1 0x5000 0 0) ≡ 0 }

@@ -9,7 +9,8 @@ ghost use Rattle.nvme_spec.specs.declared.pointer.DataFault.TheVariants.{Offset,
 #[tactic(auto, unfolding(crate::specs::Memory::qword, crate::specs::Pointer::fault_of, crate::specs::Pointer::first_fault, crate::specs::Pointer::slot, crate::specs::Pointer::entry_tests, crate::specs::ExampleWindows::linked))]
 fn last_slot_links()
     ensures sound { pointer_fault (transfer (linked 12288) 20480 12280 12288) ≡ None }
-    ensures parts { pieces_of (transfer (linked 12288) 20480 12280 12288) ≡ whole 20480 ∷ whole 24576 ∷ whole 28672 ∷ [] }
+    ensures parts { pieces_of (transfer (linked 12288) 20480 12280 12288)
+        ≡ whole 20480 ∷ whole 24576 ∷ whole 28672 ∷ [] }
     ensures last_byte { address (transfer (linked 12288) 20480 12280 12288) 12287 ≡ 32767 }
     // A list page is a multiple of 4,096.
     ensures link_offset { pointer_fault (transfer (linked 12296) 20480 12280 12288) ≡ Some Offset }
@@ -47,7 +48,8 @@ fn thirty_three_pages()
 #[tactic(auto, unfolding(crate::specs::Pointer::fault_of, crate::specs::Pointer::first_fault))]
 fn last_four_bytes_of_a_page()
     ensures sound { pointer_fault (transfer [] 24572 36864 512) ≡ None }
-    ensures parts { pieces_of (transfer [] 24572 36864 512) ≡ record { address = 24572; len = 4 } ∷ record { address = 36864; len = 508 } ∷ [] }
+    ensures parts { pieces_of (transfer [] 24572 36864 512)
+        ≡ record { address = 24572; len = 4 } ∷ record { address = 36864; len = 508 } ∷ [] }
     // PRP2 as a page is a multiple of 4,096.
     ensures prp2_offset { pointer_fault (transfer [] 24572 36868 512) ≡ Some Offset }
     // It is not used where the bytes fit into the first page.
@@ -57,6 +59,7 @@ fn last_four_bytes_of_a_page()
 /// A block may lie on two pages; the second block of a page begins 512 bytes behind the first.
 #[tactic(auto, unfolding(crate::specs::Transfers::addresses))]
 fn blocks()
-    ensures on_two_pages { pieces_of (transfer [] 24068 24576 512) ≡ record { address = 24068; len = 508 } ∷ record { address = 24576; len = 4 } ∷ [] }
+    ensures on_two_pages { pieces_of (transfer [] 24068 24576 512)
+        ≡ record { address = 24068; len = 508 } ∷ record { address = 24576; len = 4 } ∷ [] }
     ensures second { block_addresses (pieces_of (transfer [] 20480 0 1024)) 1 ≡ range_with_len 20992 512 }
 {}

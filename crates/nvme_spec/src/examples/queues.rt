@@ -8,9 +8,12 @@ fn tail_doorbells()
     ensures two { (after_tail_doorbell (record { size = 8; fetched = 3; waiting = 0 }) 5).waiting ≡ 2 }
     ensures one { (after_tail_doorbell (record { size = 8; fetched = 3; waiting = 2 }) 4).waiting ≡ 1 }
     ensures round_the_ring { (after_tail_doorbell (record { size = 8; fetched = 3; waiting = 1 }) 2).waiting ≡ 7 }
-    ensures no_slot { after_tail_doorbell (record { size = 8; fetched = 3; waiting = 7 }) 8 ≡ record { size = 8; fetched = 3; waiting = 7 } }
-    ensures fetched { after_fetch (record { size = 8; fetched = 7; waiting = 2 }) ≡ record { size = 8; fetched = 0; waiting = 1 } }
-    ensures first { after_fetch (after_tail_doorbell (empty_submission_head 8) 1) ≡ record { size = 8; fetched = 1; waiting = 0 } }
+    ensures no_slot { after_tail_doorbell (record { size = 8; fetched = 3; waiting = 7 }) 8
+        ≡ record { size = 8; fetched = 3; waiting = 7 } }
+    ensures fetched { after_fetch (record { size = 8; fetched = 7; waiting = 2 })
+        ≡ record { size = 8; fetched = 0; waiting = 1 } }
+    ensures first { after_fetch (after_tail_doorbell (empty_submission_head 8) 1)
+        ≡ record { size = 8; fetched = 1; waiting = 0 } }
 {}
 
 /// A completion queue of 2 entries has room for one completion at a time.
@@ -18,9 +21,12 @@ fn small_completion_queue()
     ensures room { completion_room (empty_completion_tail 2) ≡ 1 }
     ensures full { completion_room (after_post (empty_completion_tail 2)) ≡ 0 }
     ensures heard { completion_room (after_head_doorbell (after_post (empty_completion_tail 2)) 1) ≡ 1 }
-    ensures second { after_post (after_head_doorbell (after_post (empty_completion_tail 2)) 1) ≡ record { size = 2; posted = 2; unread = 1 } }
-    ensures third { after_post (after_head_doorbell (record { size = 2; posted = 2; unread = 1 }) 0) ≡ record { size = 2; posted = 3; unread = 1 } }
-    ensures two_turns { after_post (after_head_doorbell (record { size = 2; posted = 3; unread = 1 }) 1) ≡ record { size = 2; posted = 0; unread = 1 } }
+    ensures second { after_post (after_head_doorbell (after_post (empty_completion_tail 2)) 1)
+        ≡ record { size = 2; posted = 2; unread = 1 } }
+    ensures third { after_post (after_head_doorbell (record { size = 2; posted = 2; unread = 1 }) 0)
+        ≡ record { size = 2; posted = 3; unread = 1 } }
+    ensures two_turns { after_post (after_head_doorbell (record { size = 2; posted = 3; unread = 1 }) 1)
+        ≡ record { size = 2; posted = 0; unread = 1 } }
     ensures first_slot { slot_of 2 0 ≡ 0 }
     ensures first_phase { phase_tag 2 0 ≡ true }
     ensures second_slot { slot_of 2 1 ≡ 1 }
@@ -44,7 +50,8 @@ fn places()
 fn heads_heard()
     ensures one_put { after_put (empty_submission_tail 8) ≡ record { size = 8; put = 1; unheard = 1 } }
     ensures full { submission_room (record { size = 8; put = 7; unheard = 7 }) ≡ 0 }
-    ensures heard { after_head (record { size = 8; put = 7; unheard = 7 }) 3 ≡ record { size = 8; put = 7; unheard = 4 } }
+    ensures heard { after_head (record { size = 8; put = 7; unheard = 7 }) 3
+        ≡ record { size = 8; put = 7; unheard = 4 } }
     ensures room { submission_room (record { size = 8; put = 7; unheard = 4 }) ≡ 3 }
     ensures heard_before { can_be_heard (record { size = 8; put = 7; unheard = 4 }) 2 ≡ false }
     ensures past_the_tail { can_be_heard (record { size = 8; put = 1; unheard = 1 }) 3 ≡ false }

@@ -10,18 +10,23 @@ use crate::access::{Group, Hold, Role};
 
 /// A host that registers and unregisters with its key leaves the registrants as they were.
 fn unregister_undoes_register()
-    ensures { (r : Reservation) → (host key : ℕ) → IsRising r.registrants → is_registered r.registrants host ≡ false → Gives (register r host key) (λ next. Gives (unregister next host false key) (λ last. last.registrants ≡ r.registrants)) }
+    ensures { (r : Reservation) → (host key : ℕ) → IsRising r.registrants → is_registered r.registrants host ≡ false
+        → Gives (register r host key) (λ next. Gives (unregister next host false key) (λ last. last.registrants
+        ≡ r.registrants)) }
 {}
 
 /// Where the reservation is all registrants', each registrant is a holder; where it is one host's, no other host is.
 fn holders()
-    ensures all { (r : Reservation) → (host : ℕ) → is_of_all r.hold ≡ true → is_registered r.registrants host ≡ true → role_of r host ≡ Role.Holder }
-    ensures one { (r : Reservation) → (type holder host : ℕ) → r.hold ≡ Hold.One type holder → role_of r host ≡ Role.Holder → host ≡ holder }
+    ensures all { (r : Reservation) → (host : ℕ) → is_of_all r.hold ≡ true → is_registered r.registrants host ≡ true
+        → role_of r host ≡ Role.Holder }
+    ensures one { (r : Reservation) → (type holder host : ℕ) → r.hold ≡ Hold.One type holder
+        → role_of r host ≡ Role.Holder → host ≡ holder }
 {}
 
 /// Who may write may read.
 fn writers_read()
-    ensures { (hold : Hold) → (role : Role) → is_permitted hold role Group.Write ≡ true → is_permitted hold role Group.Read ≡ true }
+    ensures { (hold : Hold) → (role : Role) → is_permitted hold role Group.Write ≡ true
+        → is_permitted hold role Group.Read ≡ true }
 {}
 
 /// A holder may read and write.
@@ -31,18 +36,26 @@ fn holders_write()
 
 /// A report has as many bytes as are asked for, and its entries rise by controller where the controllers do.
 fn reports()
-    ensures size { (r : Reservation) → (controllers : List ControllerHost) → (size : ℕ) → length (report_data r controllers size) ≡ size }
-    ensures rising { (r : Reservation) → (controllers : List ControllerHost) → HasRisingIds controllers → HasRisingIds (reported_controllers r controllers) }
+    ensures size { (r : Reservation) → (controllers : List ControllerHost) → (size : ℕ)
+        → length (report_data r controllers size) ≡ size }
+    ensures rising { (r : Reservation) → (controllers : List ControllerHost) → HasRisingIds controllers
+        → HasRisingIds (reported_controllers r controllers) }
 {}
 
 /// From a new namespace on, the hold is never with a host that is not registered, whatever the actions are.
 fn held_by_registrants()
     ensures new { IsHeldByRegistrants unreserved }
-    ensures register { (r : Reservation) → (host key : ℕ) → IsHeldByRegistrants r → Keeps (register r host key) IsHeldByRegistrants }
-    ensures unregister { (r : Reservation) → (host : ℕ) → (iekey : Bool) → (crkey : ℕ) → Keeps (unregister r host iekey crkey) IsHeldByRegistrants }
-    ensures replace { (r : Reservation) → (host : ℕ) → (iekey : Bool) → (crkey nrkey : ℕ) → IsHeldByRegistrants r → Keeps (replace r host iekey crkey nrkey) IsHeldByRegistrants }
-    ensures acquire { (r : Reservation) → (host rtype crkey : ℕ) → IsHeldByRegistrants r → Keeps (acquire r host rtype crkey) IsHeldByRegistrants }
-    ensures preempt { (r : Reservation) → (host rtype crkey prkey : ℕ) → Keeps (preempt r host rtype crkey prkey) IsHeldByRegistrants }
-    ensures release { (r : Reservation) → (host rtype crkey : ℕ) → IsHeldByRegistrants r → Keeps (release r host rtype crkey) IsHeldByRegistrants }
+    ensures register { (r : Reservation) → (host key : ℕ) → IsHeldByRegistrants r
+        → Keeps (register r host key) IsHeldByRegistrants }
+    ensures unregister { (r : Reservation) → (host : ℕ) → (iekey : Bool) → (crkey : ℕ)
+        → Keeps (unregister r host iekey crkey) IsHeldByRegistrants }
+    ensures replace { (r : Reservation) → (host : ℕ) → (iekey : Bool) → (crkey nrkey : ℕ) → IsHeldByRegistrants r
+        → Keeps (replace r host iekey crkey nrkey) IsHeldByRegistrants }
+    ensures acquire { (r : Reservation) → (host rtype crkey : ℕ) → IsHeldByRegistrants r
+        → Keeps (acquire r host rtype crkey) IsHeldByRegistrants }
+    ensures preempt { (r : Reservation) → (host rtype crkey prkey : ℕ)
+        → Keeps (preempt r host rtype crkey prkey) IsHeldByRegistrants }
+    ensures release { (r : Reservation) → (host rtype crkey : ℕ) → IsHeldByRegistrants r
+        → Keeps (release r host rtype crkey) IsHeldByRegistrants }
     ensures clear { (r : Reservation) → (host crkey : ℕ) → Keeps (clear r host crkey) IsHeldByRegistrants }
 {}
