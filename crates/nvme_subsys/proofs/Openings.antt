@@ -1,9 +1,11 @@
 -- An opened subsystem is sound.
-use Rattle.std.proofs.Common.{◌≡◌, ℕ, zero, suc, ◌+◌, ◌≤◌, ◌==◌, ◌||◌, ◌&&◌, not, nat_lt, Bool, true, false, cond, List, [], ◌∷◌, length, map, Option, None, Some, refl, sym, ap, subst, ◌∙◌, arith}
+use Rattle.std.proofs.Common.{◌≡◌, ℕ, zero, suc, ◌+◌, ◌≤◌, ◌==◌, nat_lt, Bool, true, false, cond, List, [], ◌∷◌, length, map, Option, None, Some, refl, sym, ap, subst, ◌∙◌, arith}
 use Rattle.std.specs.Prelude.{slice_get, find, option_map, if◌then◌else◌, IsSome}
 use Rattle.std.specs.List.{list_all, enumerate_from}
-use Rattle.std.proofs.lemmas.Bool.{eqb-true, eq-eqb, ltb-false}
+use Rattle.std.proofs.lemmas.Bool.{and_parts, or_parts, eqb-true, eq-eqb, ltb-false}
 use Rattle.std.proofs.lemmas.List.{length-map}
+use Rattle.std.proofs.lemmas.Option.{same_Some}
+use Rattle.nvme_spec.proofs.Passing.{not_false}
 use Rattle.nvme_spec.specs.declared.config.ControllerConfig.{ControllerConfig}
 use Rattle.nvme_spec.specs.declared.config.ConfigFault.TheVariants.{TooMany, BadId, BadSize, DoesNotFit}
 use Rattle.nvme_spec.specs.Blocks.{Device}
@@ -25,34 +27,19 @@ accepted : (c : Configuration) (size : ℕ) → first_config_fault c size ≡ No
 unfolding first_config_fault
 accepted c size h = none_of (has_too_many c) (has_bad_id c) (has_bad_size c.namespaces) (nat_lt size (total_blocks c.namespaces)) h
 
-left_of : (a b : Bool) → (a || b) ≡ false → a ≡ false
-left_of true b h = absurd (cc)
-left_of false b h = refl
-
-not_false : (b : Bool) → not b ≡ false → b ≡ true
-not_false true h = refl
-not_false false h = absurd (cc)
-
-both : (a b : Bool) → (a && b) ≡ true → (a ≡ true) × (b ≡ true)
-both true b h = (refl, h)
-both false b h = absurd (cc)
-
-some_same : {A : Type 0} {x y : A} → Some x ≡ Some y → x ≡ y
-some_same e = cc
-
 numbered-from : (n : ℕ) (ks : List ControllerConfig) → list_all (λ p. p.1.cntlid == p.0 + 1) (enumerate_from n ks) ≡ true → (i : ℕ) (k : ControllerConfig) → slice_get ks i ≡ Some k → k.cntlid ≡ n + i + 1
 numbered-from n [] h i k at = absurd (cc)
 numbered-from n (x ∷ ks) h zero k at =
-    let two = both (x.cntlid == n + 1) _ h in
-    ap (λ (y : ControllerConfig). y.cntlid) (sym (some_same at)) ∙ eqb-true x.cntlid (n + 1) two.0 ∙ omega arith
+    let two = and_parts (x.cntlid == n + 1) _ h in
+    ap (λ (y : ControllerConfig). y.cntlid) (sym (same_Some _ _ at)) ∙ eqb-true x.cntlid (n + 1) two.0 ∙ omega arith
 numbered-from n (x ∷ ks) h (suc i) k at =
-    let two = both (x.cntlid == n + 1) _ h in
+    let two = and_parts (x.cntlid == n + 1) _ h in
     numbered-from (n + 1) ks two.1 i k at ∙ omega arith
 
 from-map : (ks : List ControllerConfig) (i : ℕ) (c : Controller) → slice_get (map (λ (k : ControllerConfig). new_controller k.cntlid) ks) i ≡ Some c
     → (k : ControllerConfig) × (slice_get ks i ≡ Some k) × (c.cntlid ≡ k.cntlid)
 from-map [] i c at = absurd (cc)
-from-map (k ∷ ks) zero c at = (k, refl, ap (λ (x : Controller). x.cntlid) (sym (some_same at)))
+from-map (k ∷ ks) zero c at = (k, refl, ap (λ (x : Controller). x.cntlid) (sym (same_Some _ _ at)))
 from-map (k ∷ ks) (suc i) c at = from-map ks i c at
 
 behind : (b : Bool) (x : ControllerConfig) (o : Option ControllerHost) → IsSome (option_map (λ (y : ControllerHost). y.1) o)
@@ -65,7 +52,7 @@ hosted : (ks : List ControllerConfig) (i : ℕ) (k : ControllerConfig) (n : ℕ)
 hosted [] i k n at same = absurd (cc)
 hosted (x ∷ ks) zero k n at same =
     subst (λ b. IsSome (option_map (λ (y : ControllerHost). y.1) (cond b (Some (controller_host x)) (find (λ (y : ControllerHost). y.0 == n) (map controller_host ks)))))
-    (sym (eq-eqb x.cntlid n (ap (λ (y : ControllerConfig). y.cntlid) (some_same at) ∙ same))) refl
+    (sym (eq-eqb x.cntlid n (ap (λ (y : ControllerConfig). y.cntlid) (same_Some _ _ at) ∙ same))) refl
 hosted (x ∷ ks) (suc i) k n at same = behind (x.cntlid == n) x _ (hosted ks i k n at same)
 
 numbers : (c : Configuration) (size : ℕ) → first_config_fault c size ≡ None → AreNumbered (opening_world c) (map (λ (k : ControllerConfig). new_controller k.cntlid) c.controllers)
@@ -73,7 +60,7 @@ unfolding host_of opening_world
 numbers c size good = record { identifier = λ k x at. by k x at; configured = λ k x at. there k x at }
   where
     all : list_all (λ p. p.1.cntlid == p.0 + 1) (enumerate_from 0 c.controllers) ≡ true
-    all = let a = accepted c size good in not_false _ (left_of _ _ (left_of _ _ (left_of _ _ (left_of _ _ a.1))))
+    all = let a = accepted c size good in not_false _ (or_parts _ _ (or_parts _ _ (or_parts _ _ (or_parts _ _ a.1).0).0).0).0
 
     by : (k : ℕ) (x : Controller) → numbered (map (λ (k : ControllerConfig). new_controller k.cntlid) c.controllers) k ≡ Some x → x.cntlid ≡ k
     by zero x at = absurd (cc)
@@ -86,7 +73,7 @@ numbers c size good = record { identifier = λ k x at. by k x at; configured = �
         hosted c.controllers i r.0 (suc i) r.1 (numbered-from 0 c.controllers all i r.0 r.1 ∙ omega arith)
 
 few : (c : Configuration) (size : ℕ) → first_config_fault c size ≡ None → length c.controllers ≤ 16
-few c size good = let a = accepted c size good in ltb-false _ _ (left_of _ _ (left_of _ _ a.0))
+few c size good = let a = accepted c size good in ltb-false _ _ (or_parts _ _ (or_parts _ _ a.0).0).0
 
 pub sound-opening : (c : Configuration) (size : ℕ) (w : World) (cs : List Controller) → w ≡ opening_world c → first_config_fault c size ≡ None → LiesWithin size w.namespaces
     → cs ≡ map (λ (k : ControllerConfig). new_controller k.cntlid) c.controllers → IsSound w size cs

@@ -3,6 +3,7 @@ use Rattle.std.proofs.Common.{◌≡◌, ◌⊎◌, inl, inr, ℕ, zero, suc, �
 use Rattle.nvme_spec.specs.Report.{ControllerHost}
 use Rattle.std.specs.Prelude.{find, option_map, slice_get, slice_set, if◌then◌else◌, IsSome, nat_le}
 use Rattle.std.proofs.lemmas.List.{length-set, length-take, get_or_at, set_at, drop_more, take_more, append_assoc}
+use Rattle.std.proofs.lemmas.Option.{same_Some}
 use Rattle.nvme_spec.specs.declared.outcome.Marks.{Marks}
 use Rattle.nvme_spec.specs.declared.registers.RegEffect.{RegEffect}
 use Rattle.nvme_spec.specs.declared.registers.RegEffect.TheVariants.{Nothing, Enable, Disable, Shutdown, SqTail, CqHead}
@@ -57,13 +58,10 @@ fetch-id q c = from-id q c (fetchable c q)
 
 -- Numbers.
 
-some_same : {A : Type 0} {x y : A} → Some x ≡ Some y → x ≡ y
-some_same e = cc
-
 -- what stands at a place of a list in which one place was set
 got-set : (cs : List Controller) (i j : ℕ) (x d : Controller) → slice_get (slice_set cs i x) j ≡ Some d → ((x ≡ d) × (i ≡ j) × ((c : Controller) × (slice_get cs i ≡ Some c))) ⊎ (slice_get cs j ≡ Some d)
 got-set [] i j x d h = inr h
-got-set (c ∷ cs) zero zero x d h = inl (some_same h, refl, (c, refl))
+got-set (c ∷ cs) zero zero x d h = inl (same_Some _ _ h, refl, (c, refl))
 got-set (c ∷ cs) zero (suc j) x d h = inr h
 got-set (c ∷ cs) (suc i) zero x d h = inr h
 got-set (c ∷ cs) (suc i) (suc j) x d h = elim (got-set cs i j x d h) [
@@ -98,7 +96,7 @@ mark-id w m k c = elim (is_host_among m.hosts.items (host_of w k)) as (λ b. (if
 got-marked : (w : World) (m : Marks) (k : ℕ) (cs : List Controller) (j : ℕ) (x : Controller) → slice_get (marked_from w m k cs) j ≡ Some x
     → (c : Controller) × (slice_get cs j ≡ Some c) × (x.cntlid ≡ c.cntlid)
 got-marked w m k [] j x h = absurd (cc)
-got-marked w m k (c ∷ cs) zero x h = (c, refl, ap (λ (y : Controller). y.cntlid) (sym (some_same h)) ∙ mark-id w m k c)
+got-marked w m k (c ∷ cs) zero x h = (c, refl, ap (λ (y : Controller). y.cntlid) (sym (same_Some _ _ h)) ∙ mark-id w m k c)
 got-marked w m k (c ∷ cs) (suc j) x h = got-marked w m (k + 1) cs j x h
 
 pub marked-numbered : (w : World) (m : Marks) (cs : List Controller) → AreNumbered w cs → AreNumbered w (marked_from w m 1 cs)

@@ -1,6 +1,8 @@
 //! The subsystem, one event of it, and a run of events.
 
-ghost use Rattle.std.specs.Prelude.{◌≡◌, ◌<◌, ◌+◌, length, Some, IfOk, IfErr, OnErr, IfSome, IfNone, None};
+ghost use Rattle.std.specs.Prelude.{◌≡◌, ◌<◌, ◌+◌, length, Some, IfOk, IfErr, OnErr, IfSome, IfNone, None, unwrap_or};
+ghost use Rattle.nvme_spec.specs.Configuration.{first_config_fault};
+ghost use Rattle.nvme_spec.specs.declared.config.ConfigFault.TheVariants.{NoMemory as WantOfMemory};
 ghost use Rattle.nvme_ns.specs.Configured.{configuration};
 ghost use Rattle.nvme_machine.specs.Controllers.{after_store, wrote, has_read, after_fetch};
 ghost use Rattle.nvme_machine.specs.Subsystems.{opening, controller_at, Reacts, ExecutesAt, Step, Run};
@@ -42,9 +44,11 @@ impl<M: Medium> Subsystem<M> {
     ///
     /// # Errors
     ///
-    /// The first fault of the configuration, or `NoMemory`, with the medium as it was.
+    /// The first fault of the configuration, or, where it has none, `NoMemory`; with the medium as it was.
     pub fn new(alloc: Global, config: &Config, medium: M) -> Result<Subsystem<M>, NewFault<M>>
         ensures opened { IfOk result (λ subsystem. subsystem ≡ opening (configuration config.now) (M.device medium)) }
+        ensures accepted { IfOk result (λ _. first_config_fault (configuration config.now) (M.size medium) ≡ None) }
+        ensures fault { IfErr result (λ refused. refused.fault ≡ unwrap_or (first_config_fault (configuration config.now) (M.size medium)) WantOfMemory) }
         ensures kept { IfErr result (λ refused. refused.medium ≡ medium) }
     {
         let spaces = match Spaces::new(config, medium.blocks()) {
