@@ -2,3 +2,4 @@ pub mod Numbers
 pub mod Sound
 pub mod Openings
 pub mod Runs
+pub mod Unmarked

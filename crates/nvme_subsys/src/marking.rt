@@ -46,13 +46,25 @@ fn mark_all(controllers: &mut [Controller], spaces: &Spaces, marks: &Marks)
     }
 }
 
+/// Marks the controllers of the removed hosts, where there are any, so that a command that removes none costs the same
+/// however many controllers there are.
+#[tactic(auto, using(crate::proofs::Unmarked::nobody_is_marked))]
+fn mark_removed(controllers: &mut [Controller], spaces: &Spaces, marks: &Marks)
+    requires { length controllers.old ≤ 16 }
+    ensures { controllers.new ≡ marked_from spaces.now marks.now 1 controllers.old }
+{
+    if !marks.hosts.is_empty() {
+        mark_all(controllers, spaces, marks);
+    }
+}
+
 /// Marks what an execution says.
 pub fn mark_after(controllers: &mut [Controller], spaces: &Spaces, executed: &Executed)
     requires { length controllers.old ≤ 16 }
     ensures { controllers.new ≡ marks_after spaces.now executed.now controllers.old }
 {
     match executed {
-        Executed::Posted(outcome) => mark_all(controllers, spaces, &outcome.marks),
+        Executed::Posted(outcome) => mark_removed(controllers, spaces, &outcome.marks),
         Executed::NoSuch | Executed::CqFull => {}
     }
 }
