@@ -24,3 +24,8 @@ pub mod Orders
 pub mod Polling
 pub mod Resetting
 pub mod Rising
+pub mod Registering
+pub mod Linking
+pub mod FetchStep
+pub mod RingStep
+pub mod ResetStep

@@ -8,3 +8,5 @@ pub mod Determined
 pub mod Examples
 pub mod Views
 pub mod Lanes
+pub mod Sound
+pub mod Steps

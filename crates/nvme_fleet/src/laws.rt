@@ -1,6 +1,7 @@
 //! What follows from the definitions. Each law is the contract of a function that does nothing.
 
 ghost use Rattle.nvme_fleet.specs.Determined.{FailuresNeverFall, RunExists, RunIsUnique};
+ghost use Rattle.nvme_fleet.specs.Steps.{RingIsAStep, FetchIsAStep, ResetIsAStep};
 
 /// A list of events has one run without a fault of the medium, and one alone: each reply, and what is left, is what the
 /// definitions compute.
@@ -9,4 +10,12 @@ pub fn run_is_determined()
     ensures count { FailuresNeverFall }
     ensures exists { RunExists }
     ensures unique { RunIsUnique }
+{}
+
+/// Each event of a driver and its controller is the step of the mailbox that they stand for, and keeps the fact that this
+/// rests on.
+pub fn events_are_steps()
+    ensures ring { RingIsAStep }
+    ensures fetch { FetchIsAStep }
+    ensures reset { ResetIsAStep }
 {}

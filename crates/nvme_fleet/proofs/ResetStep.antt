@@ -1,0 +1,62 @@
+-- A reset is a step of the mailbox.
+use Rattle.std.proofs.Common.{◌≡◌, false, refl, sym, ap, subst, ◌∙◌, inl, inr}
+use Rattle.std.proofs.lemmas.Bool.{cases_Bool}
+use Rattle.nvme_spec.specs.declared.registers.ControllerState.TheVariants.{Off}
+use Rattle.nvme_driver.specs.declared.lane.Lane.{Lane}
+use Rattle.nvme_driver.specs.declared.lane.Lane.TheVariants.{Admin, Io}
+use Rattle.nvme_driver.specs.Drivers.{Driver, is_up, ends, after_reset, reset_calls}
+use Rattle.nvme_machine.specs.Controllers.{Controller, without_queues}
+use Rattle.nvme_fleet.specs.Lanes.{Both, reset, turned_off}
+use Rattle.nvme_fleet.specs.Sound.{Sound, EndsFit, IsOff, host_side, device_side, mailbox}
+use Rattle.nvme_fleet.specs.Steps.{ResetIsAStep, after_calls}
+use Rattle.nvme_fleet.proofs.Places.{no-way}
+use Rattle.nvme_fleet.proofs.Registering.{disabled, disabled-off}
+use Rattle.nvme_fleet.proofs.Resetting.{reset-both, reset-mail}
+
+-- the controller once it was disabled
+abbrev off_now : Controller → Controller
+off_now c = without_queues (record c { registers = record c.registers { cc = 0; state = Off } })
+
+is-off : (c : Controller) → IsOff (off_now c)
+is-off c = record { submission = refl; completion = refl; fetched = refl; off = refl; disabled = refl }
+
+-- one that was off already
+same-off : (c : Controller) (o : IsOff c) → record c { registers = record c.registers { cc = 0 } } ≡ off_now c
+same-off c o =
+    let a = o.submission in
+    let b = o.completion in
+    let f = o.fetched in
+    let s = o.off in
+    λ i. record c { registers = record c.registers { cc = 0; state = s i }; submission = a i; completion = b i; fetched = f i }
+
+written : (d : Driver) (c : Controller) → Sound d c → after_calls reset_calls c ≡ off_now c
+written d c s = elim (cases_Bool (is_up d.state)) [
+  | inl u ↦ let p = s.up u in disabled c p.enabled
+  | inr u ↦ let o = s.down u in disabled-off c o.disabled ∙ same-off c o
+]
+
+side-off : (c : Controller) → device_side (off_now c) ≡ turned_off (device_side c)
+side-off c = refl
+
+side-reset : (d : Driver) → host_side (after_reset d) ≡ reset (host_side d)
+side-reset d = refl
+
+fits : (d : Driver) (lane : Lane) → EndsFit (ends lane (after_reset d))
+fits d Admin = record { tail = refl; head = refl }
+fits d Io = record { tail = refl; head = refl }
+
+pub reset_is_a_step : ResetIsAStep
+reset_is_a_step d c s =
+    let e = written d c s in
+    let b : Both (host_side d) (device_side c) = s.both in
+    let sound : Sound (after_reset d) (off_now c) = record {
+      both = reset-both (host_side d) (device_side c) b;
+      fits = fits d;
+      up = λ u. absurd (no-way false refl u);
+      down = λ u. is-off c;
+    } in
+    record {
+      sound = subst (Sound (after_reset d)) (sym e) sound;
+      mail = sym (reset-mail (host_side d) (device_side c) b) ∙ ap (mailbox (after_reset d)) (sym e);
+      gives = refl;
+    }

@@ -1,0 +1,13 @@
+use Rattle.nvme_fleet.proofs.FetchStep.{fetch_is_a_step}
+use Rattle.nvme_fleet.proofs.RingStep.{ring_is_a_step}
+use Rattle.nvme_fleet.proofs.ResetStep.{reset_is_a_step}
+use Rattle.nvme_fleet.proofs.laws.events_are_steps.Goals as goal
+
+pub returns-clause-ring : goal.returns-clause-ring
+returns-clause-ring c = ring_is_a_step
+
+pub returns-clause-fetch : goal.returns-clause-fetch
+returns-clause-fetch c = fetch_is_a_step
+
+pub returns-clause-reset : goal.returns-clause-reset
+returns-clause-reset c = reset_is_a_step
