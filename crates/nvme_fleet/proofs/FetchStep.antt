@@ -122,7 +122,7 @@ one-waits lane d c p s u some =
     let b : Both (host_side d) (device_side (taken_in lane c p)) = subst (Both (host_side d)) (sym v) (fetch-both lane (host_side d) (device_side c) s.both w) in
     let m = fetch-mail lane (host_side d) (device_side c) s.both w in
     let f = at-lane lane (mailbox d c) ∙ first-is lane (mailbox d c) _ m.0 in
-    let sound : Sound d (taken_in lane c p) = record { both = b; fits = s.fits; up = λ t. paired-taken lane c p; down = λ t. absurd (no-way (is_up d.state) t u) } in
+    let sound : Sound d (taken_in lane c p) = record { both = b; fits = s.fits; sizes = s.sizes; up = λ t. paired-taken lane c p; down = λ t. absurd (no-way (is_up d.state) t u) } in
     record {
       sound = subst (Sound d) (sym k) sound;
       mail = ap (λ (r : Reaction). r.mailbox) f ∙ sym (ap (mailbox d) k ∙ ap (mail (host_side d)) v ∙ m.1);

@@ -29,3 +29,4 @@ pub mod Linking
 pub mod FetchStep
 pub mod RingStep
 pub mod ResetStep
+pub mod PollStep

@@ -1,3 +1,10 @@
+use Rattle.std.proofs.Common.{◌≤◌, Option, None, Some}
+use Rattle.nvme_spec.specs.Limits.{most_bytes}
+use Rattle.nvme_driver.specs.declared.slots.Waiting.{Waiting}
+use Rattle.nvme_driver.specs.Drivers.{abort}
+use Rattle.nvme_driver.specs.Polls.{waiting_at}
+use Rattle.nvme_fleet.specs.Views.{received_in}
+use Rattle.nvme_fleet.proofs.Orders.{pending-abort}
 -- A reset is a step of the mailbox.
 use Rattle.std.proofs.Common.{◌≡◌, false, refl, sym, ap, subst, ◌∙◌, inl, inr}
 use Rattle.std.proofs.lemmas.Bool.{cases_Bool}
@@ -45,6 +52,10 @@ fits : (d : Driver) (lane : Lane) → EndsFit (ends lane (after_reset d))
 fits d Admin = record { tail = refl; head = refl }
 fits d Io = record { tail = refl; head = refl }
 
+abort-size : (o : Option Waiting) → received_in o ≤ most_bytes → received_in (abort o) ≤ most_bytes
+abort-size None h = h
+abort-size (Some w) h = h
+
 pub reset_is_a_step : ResetIsAStep
 reset_is_a_step d c s =
     let e = written d c s in
@@ -52,6 +63,7 @@ reset_is_a_step d c s =
     let sound : Sound (after_reset d) (off_now c) = record {
       both = reset-both (host_side d) (device_side c) b;
       fits = fits d;
+      sizes = λ k. rw (pending-abort d.slots k) (abort-size (waiting_at d.slots k) (s.sizes k));
       up = λ u. absurd (no-way false refl u);
       down = λ u. is-off c;
     } in

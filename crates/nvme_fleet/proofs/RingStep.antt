@@ -86,7 +86,7 @@ up-step d c s u =
     let x : tail_of d.io < 8 = omega arith in
     let q = paired-rung Io _ (paired-rung Admin c p (tail_of d.admin) w) (tail_of d.io) x in
     let k : Both (host_side d) (device_side (rung_both d c)) = subst (Both (host_side d)) (sym v) (ring-both (host_side d) (device_side c) b u) in
-    let sound : Sound d (rung_both d c) = record { both = k; fits = s.fits; up = λ t. q; down = λ t. absurd (no-way (is_up d.state) t u) } in
+    let sound : Sound d (rung_both d c) = record { both = k; fits = s.fits; sizes = s.sizes; up = λ t. q; down = λ t. absurd (no-way (is_up d.state) t u) } in
     let f : rung (mailbox d c) ≡ reaction (record (mailbox d c) { admin = ring_lane (mailbox d c).admin; io = ring_lane (mailbox d c).io }) (Rung (Ok tt)) =
     ap (λ t. if t then reaction (record (mailbox d c) { admin = ring_lane (mailbox d c).admin; io = ring_lane (mailbox d c).io }) (Rung (Ok tt)) else reaction (mailbox d c) (Rung (Err (record {})))) u in
     record {

@@ -1,5 +1,5 @@
 -- A driver and its controller, seen as two lanes: the mailbox that they stand for, and the one fact that is kept of them.
-use Rattle.std.specs.Prelude.{◌≡◌, ◌⊎◌, ℕ, ◌==◌, Bool, true, false, if◌then◌else◌, List, [], ◌∷◌, map, Option, None, Some, is_some}
+use Rattle.std.specs.Prelude.{◌≡◌, ◌≤◌, ◌⊎◌, ℕ, ◌==◌, Bool, true, false, if◌then◌else◌, List, [], ◌∷◌, map, Option, None, Some, is_some}
 use Rattle.std.specs.List.{AllByRecursion}
 use Rattle.nvme_spec.specs.declared.registers.ControllerState.TheVariants.{Off, Ready}
 use Rattle.nvme_spec.specs.Registers.{is_enabled}
@@ -12,6 +12,9 @@ use Rattle.nvme_driver.specs.Drivers.{Ends, Driver, is_up, ends}
 use Rattle.nvme_machine.specs.declared.fetched.FetchedCommand.{FetchedCommand}
 use Rattle.nvme_machine.specs.Controllers.{Controller, SubmissionQueue, CompletionQueue, submission_at, completion_at, no_submission_queues, no_completion_queues}
 use Rattle.nvme_fleet.specs.Mailboxes.{Mailbox}
+use Rattle.nvme_fleet.specs.Views.{received_in}
+use Rattle.nvme_driver.specs.Polls.{waiting_at}
+use Rattle.nvme_spec.specs.Limits.{most_bytes}
 use Rattle.nvme_fleet.specs.Lanes.{HostEnds, DeviceEnds, HostSide, DeviceSide, Taken, Both, mail}
 
 -- The driver's side.
@@ -127,5 +130,6 @@ pub record IsOff (c : Controller) : Type 0 where
 pub record Sound (d : Driver) (c : Controller) : Type 0 where
   pub both : Both (host_side d) (device_side c)
   pub fits : (lane : Lane) → EndsFit (ends lane d)
+  pub sizes : (slot : ℕ) → received_in (waiting_at d.slots slot) ≤ most_bytes
   pub up : is_up d.state ≡ true → IsPaired c
   pub down : is_up d.state ≡ false → IsOff c

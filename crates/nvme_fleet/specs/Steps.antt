@@ -1,9 +1,10 @@
 -- What each event of a host with a driver makes of the driver and its controller, and that it is the step of their mailbox.
-use Rattle.std.specs.Prelude.{◌≡◌, ℕ, Bool, true, false, List, [], ◌∷◌, Ok, Err}
+use Rattle.std.specs.Prelude.{◌≡◌, ℕ, Bool, true, false, List, [], ◌∷◌, Ok, Err, Option}
 use Rattle.nvme_driver.specs.Calls.{Call, Stores, Writes, Reads, Turns}
 use Rattle.nvme_driver.specs.Drivers as driver
+use Rattle.nvme_driver.specs.Polls as poll
 use Rattle.nvme_machine.specs.Controllers.{Controller, after_store, after_write32, after_fetch}
-use Rattle.nvme_fleet.specs.declared.seen.FleetSeen.TheVariants.{Rung, Fetched, Reset}
+use Rattle.nvme_fleet.specs.declared.seen.FleetSeen.TheVariants.{Polled, Rung, Fetched, Reset}
 use Rattle.nvme_fleet.specs.Deliveries as mail
 use Rattle.nvme_fleet.specs.Fleets.{raw_fetch}
 use Rattle.nvme_fleet.specs.Sound.{Sound, mailbox}
@@ -46,3 +47,11 @@ abbrev pub ResetIsAStep : Type 0
 ResetIsAStep =
     (d : driver.Driver) (c : Controller) → Sound d c
     → IsStep (mail.reset (mailbox d c)) (driver.after_reset d) (after_calls driver.reset_calls c) (mail.plain Reset)
+
+-- A poll, with the oldest aborted request, if there is one.
+abbrev pub PollIsAStep : Type 0
+PollIsAStep =
+    (d : driver.Driver) (c : Controller) (oldest : Option ℕ) → Sound d c → poll.IsOldest d.slots oldest
+    → IsStep (mail.polled (mailbox d c)) (poll.polled d oldest c.window).driver
+    (after_calls (poll.polled d oldest c.window).calls c)
+    (record { seen = Polled (poll.polled d oldest c.window).answer; bytes = (poll.polled d oldest c.window).bytes })

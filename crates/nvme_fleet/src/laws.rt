@@ -1,7 +1,7 @@
 //! What follows from the definitions. Each law is the contract of a function that does nothing.
 
 ghost use Rattle.nvme_fleet.specs.Determined.{FailuresNeverFall, RunExists, RunIsUnique};
-ghost use Rattle.nvme_fleet.specs.Steps.{RingIsAStep, FetchIsAStep, ResetIsAStep};
+ghost use Rattle.nvme_fleet.specs.Steps.{RingIsAStep, FetchIsAStep, PollIsAStep, ResetIsAStep};
 
 /// A list of events has one run without a fault of the medium, and one alone: each reply, and what is left, is what the
 /// definitions compute.
@@ -17,5 +17,6 @@ pub fn run_is_determined()
 pub fn events_are_steps()
     ensures ring { RingIsAStep }
     ensures fetch { FetchIsAStep }
+    ensures poll { PollIsAStep }
     ensures reset { ResetIsAStep }
 {}

@@ -1,5 +1,6 @@
 use Rattle.nvme_fleet.proofs.FetchStep.{fetch_is_a_step}
 use Rattle.nvme_fleet.proofs.RingStep.{ring_is_a_step}
+use Rattle.nvme_fleet.proofs.PollStep.{poll_is_a_step}
 use Rattle.nvme_fleet.proofs.ResetStep.{reset_is_a_step}
 use Rattle.nvme_fleet.proofs.laws.events_are_steps.Goals as goal
 
@@ -11,3 +12,6 @@ returns-clause-fetch c = fetch_is_a_step
 
 pub returns-clause-reset : goal.returns-clause-reset
 returns-clause-reset c = reset_is_a_step
+
+pub returns-clause-poll : goal.returns-clause-poll
+returns-clause-poll c = poll_is_a_step
