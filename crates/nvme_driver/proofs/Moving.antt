@@ -11,7 +11,7 @@ use Rattle.nvme_driver.specs.Requests.{are_whole_blocks}
 use Rattle.nvme_driver.specs.Drivers.{EntriesMoveTheirData}
 
 -- a count that is not refused
-within : (n most : ℕ) → ((n == 0) || nat_lt most n) ≡ false → (1 ≤ n) × (n ≤ most)
+pub within : (n most : ℕ) → ((n == 0) || nat_lt most n) ≡ false → (1 ≤ n) × (n ≤ most)
 within zero most e = absurd (cc (e))
 within (suc n) most e =
     ⊎_elim {C = (1 ≤ suc n) × (suc n ≤ most)}
@@ -28,7 +28,7 @@ both : (a b : Bool) → (a && b) ≡ true → (a ≡ true) × (b ≡ true)
 both true b e = (refl, e)
 both false b e = absurd (cc (e))
 
-not-over : (n most : ℕ) → not (nat_lt most n) ≡ true → n ≤ most
+pub not-over : (n most : ℕ) → not (nat_lt most n) ≡ true → n ≤ most
 not-over n most e =
     ⊎_elim {C = n ≤ most}
     (λ (over : most < n). (let t = lt-ltb most n over in absurd (cc (e, t))))
@@ -43,12 +43,12 @@ divided : (n : ℕ) → (n == 0) ≡ true → n ≡ 0
 divided zero e = refl
 divided (suc n) e = let z = ne_eqb (suc n) 0 (λ k. omega (arith, k)) in absurd (cc (e, z))
 
-record Whole (n : ℕ) : Type 0 where
-  some : 1 ≤ n
-  blocks : n % 512 ≡ 0
-  most : n ≤ 131072
+pub record Whole (n : ℕ) : Type 0 where
+  pub some : 1 ≤ n
+  pub blocks : n % 512 ≡ 0
+  pub most : n ≤ 131072
 
-whole : (bytes : List ℕ) → not (are_whole_blocks bytes) ≡ false → Whole (length bytes)
+pub whole : (bytes : List ℕ) → not (are_whole_blocks bytes) ≡ false → Whole (length bytes)
 whole bytes e =
     let n : ℕ = length bytes in
     let one = both (not (n == 0) && (n % 512 == 0)) (not (nat_lt 131072 n)) (not-true _ e) in

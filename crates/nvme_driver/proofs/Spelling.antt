@@ -26,10 +26,10 @@ part-put done part at n m e left =
     ∙ ap (λ k. (done ++ part) ++ replicate k 0) (sym left)
 
 -- numbers of two bytes
-abbrev words : List ℕ → List ℕ
+abbrev pub words : List ℕ → List ℕ
 words xs = flat_map (to_le_bytes w16) xs
 
-length-words : (xs : List ℕ) → length (words xs) ≡ 2 * length xs
+pub length-words : (xs : List ℕ) → length (words xs) ≡ 2 * length xs
 length-words [] = refl
 length-words (x ∷ xs) = length-append (to_le_bytes w16 x) (words xs) ∙ (let e = length-words xs in omega arith)
 

@@ -30,3 +30,5 @@ pub mod FetchStep
 pub mod RingStep
 pub mod ResetStep
 pub mod PollStep
+pub mod Sizes
+pub mod PlaceStep

@@ -91,7 +91,7 @@ first-none (Some p ∷ xs) h = omega (arith, first-none xs (omega (arith, h)))
 some-is : {A : Type 0} (x y : A) → Some x ≡ Some y → x ≡ y
 some-is x y h = cc
 
-free-some : (slots : List (Option Waiting)) (i : ℕ) → position is_none slots ≡ Some i → (i < length slots) × (waiting_at slots i ≡ None)
+pub free-some : (slots : List (Option Waiting)) (i : ℕ) → position is_none slots ≡ Some i → (i < length slots) × (waiting_at slots i ≡ None)
 free-some slots i h =
     elim (cases_lt (position_or_len is_none slots) (length slots)) [
       | inl l ↦

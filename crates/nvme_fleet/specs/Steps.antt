@@ -1,10 +1,14 @@
 -- What each event of a host with a driver makes of the driver and its controller, and that it is the step of their mailbox.
-use Rattle.std.specs.Prelude.{◌≡◌, ℕ, Bool, true, false, List, [], ◌∷◌, Ok, Err, Option}
+use Rattle.std.specs.Prelude.{◌≡◌, ℕ, Bool, true, false, List, [], ◌∷◌, Ok, Err, Option, Some, None}
+use Rattle.nvme_wire.specs.Submission.{submission_of}
+use Rattle.nvme_driver.specs.declared.request.Request.{Request}
+use Rattle.nvme_driver.specs.declared.faults.PlaceRefusal.{PlaceRefusal}
+use Rattle.nvme_driver.specs.Requests.{asked_of}
 use Rattle.nvme_driver.specs.Calls.{Call, Stores, Writes, Reads, Turns}
 use Rattle.nvme_driver.specs.Drivers as driver
 use Rattle.nvme_driver.specs.Polls as poll
 use Rattle.nvme_machine.specs.Controllers.{Controller, after_store, after_write32, after_fetch}
-use Rattle.nvme_fleet.specs.declared.seen.FleetSeen.TheVariants.{Polled, Rung, Fetched, Reset}
+use Rattle.nvme_fleet.specs.declared.seen.FleetSeen.TheVariants.{Placed, Polled, Rung, Fetched, Reset}
 use Rattle.nvme_fleet.specs.Deliveries as mail
 use Rattle.nvme_fleet.specs.Fleets.{raw_fetch}
 use Rattle.nvme_fleet.specs.Sound.{Sound, mailbox}
@@ -55,3 +59,18 @@ PollIsAStep =
     → IsStep (mail.polled (mailbox d c)) (poll.polled d oldest c.window).driver
     (after_calls (poll.polled d oldest c.window).calls c)
     (record { seen = Polled (poll.polled d oldest c.window).answer; bytes = (poll.polled d oldest c.window).bytes })
+
+-- A placing that is refused, and one in this slot, whose entry says what the request asks.
+abbrev pub RefusalIsAStep : Type 0
+RefusalIsAStep =
+    (d : driver.Driver) (c : Controller) (request : Request) (why : PlaceRefusal) → Sound d c
+    → driver.place_refusal d request ≡ Some why
+    → IsStep (mail.placed (mailbox d c) request) d c (mail.plain (Placed (Err why)))
+
+abbrev pub PlaceIsAStep : Type 0
+PlaceIsAStep =
+    (d : driver.Driver) (c : Controller) (request : Request) (slot : ℕ) → Sound d c
+    → driver.place_refusal d request ≡ None → driver.free_slot d ≡ Some slot
+    → submission_of (driver.entry_of request slot) ≡ driver.entry_fields (asked_of request) slot
+    → IsStep (mail.placed (mailbox d c) request) (driver.placed d request slot)
+    (after_calls (driver.stores_of d request slot) c) (mail.plain (Placed (Ok (record { 0 = d.next }))))

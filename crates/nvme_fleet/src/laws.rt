@@ -1,7 +1,7 @@
 //! What follows from the definitions. Each law is the contract of a function that does nothing.
 
 ghost use Rattle.nvme_fleet.specs.Determined.{FailuresNeverFall, RunExists, RunIsUnique};
-ghost use Rattle.nvme_fleet.specs.Steps.{RingIsAStep, FetchIsAStep, PollIsAStep, ResetIsAStep};
+ghost use Rattle.nvme_fleet.specs.Steps.{RefusalIsAStep, PlaceIsAStep, RingIsAStep, FetchIsAStep, PollIsAStep, ResetIsAStep};
 
 /// A list of events has one run without a fault of the medium, and one alone: each reply, and what is left, is what the
 /// definitions compute.
@@ -15,6 +15,8 @@ pub fn run_is_determined()
 /// Each event of a driver and its controller is the step of the mailbox that they stand for, and keeps the fact that this
 /// rests on.
 pub fn events_are_steps()
+    ensures refused { RefusalIsAStep }
+    ensures place { PlaceIsAStep }
     ensures ring { RingIsAStep }
     ensures fetch { FetchIsAStep }
     ensures poll { PollIsAStep }

@@ -1,6 +1,7 @@
 use Rattle.nvme_fleet.proofs.FetchStep.{fetch_is_a_step}
 use Rattle.nvme_fleet.proofs.RingStep.{ring_is_a_step}
 use Rattle.nvme_fleet.proofs.PollStep.{poll_is_a_step}
+use Rattle.nvme_fleet.proofs.PlaceStep.{place_is_a_step, refusal_is_a_step}
 use Rattle.nvme_fleet.proofs.ResetStep.{reset_is_a_step}
 use Rattle.nvme_fleet.proofs.laws.events_are_steps.Goals as goal
 
@@ -15,3 +16,9 @@ returns-clause-reset c = reset_is_a_step
 
 pub returns-clause-poll : goal.returns-clause-poll
 returns-clause-poll c = poll_is_a_step
+
+pub returns-clause-refused : goal.returns-clause-refused
+returns-clause-refused c = refusal_is_a_step
+
+pub returns-clause-place : goal.returns-clause-place
+returns-clause-place c = place_is_a_step

@@ -1,0 +1,62 @@
+-- How many bytes a request moves: those that it sends, or those that it receives, and never more than a transfer has.
+use Rattle.std.proofs.Common.{◌≡◌, ℕ, ◌-◌, ◌*◌, ◌≤◌, nat_lt, false, List, ◌++◌, length, refl, ap, ◌∙◌, arith, length-append, inl, inr}
+use Rattle.std.proofs.lemmas.Bool.{cases_lt, lt-ltb}
+use Rattle.std.proofs.lemmas.List.{length-replicate}
+use Rattle.std.specs.Prelude.{replicate}
+use Rattle.std.specs.Int.{w16, to_le_bytes}
+use Rattle.nvme_spec.specs.Limits.{most_bytes}
+use Rattle.nvme_driver.specs.declared.request.Request.{Request}
+use Rattle.nvme_driver.specs.declared.request.Request.TheVariants.{Read, Write, Compare, WriteZeroes, Flush, Register, Acquire, Release, Report, Identify, Protect, Protection, Attach, Detach}
+use Rattle.nvme_driver.specs.Requests.{Asked, asked_of, is_bad, key, controller_list}
+use Rattle.nvme_driver.proofs.Moving.{within, whole}
+use Rattle.nvme_driver.proofs.Spelling.{words, length-words}
+
+pub record Sizes (a : Asked) : Type 0 where
+  pub received : a.received ≤ a.moved
+  pub sent : length a.sent ≡ a.moved - a.received
+  pub most : a.moved ≤ most_bytes
+
+length-key : (k : ℕ) → length (key k) ≡ 8
+length-key k = refl
+
+length-keys : (a b : ℕ) → length (key a ++ key b) ≡ 16
+length-keys a b = length-append (key a) (key b) ∙ (let x = length-key a in let y = length-key b in omega arith)
+
+few-listed : (n : ℕ) → nat_lt 2047 n ≡ false → n ≤ 2047
+few-listed n e = elim (cases_lt 2047 n) [
+  | inl l ↦ (let t = lt-ltb 2047 n l in absurd (cc (e, t)))
+  | inr g ↦ omega (arith, g)
+]
+
+length-list : (xs : List ℕ) → length xs ≤ 2047 → length (controller_list xs) ≡ 4096
+unfolding controller_list
+length-list xs h =
+    let a = length-append (to_le_bytes w16 (length xs) ++ words xs) (replicate (4094 - 2 * length xs) 0) in
+    let b = length-append (to_le_bytes w16 (length xs)) (words xs) in
+    let c : length (to_le_bytes w16 (length xs)) ≡ 2 = refl in
+    let d = length-words xs in
+    let e = length-replicate {A = ℕ} (4094 - 2 * length xs) 0 in
+    omega (arith, a, b, c, d, e, h)
+
+sending-sizes : (n : ℕ) (xs : List ℕ) → length xs ≡ n → n ≤ most_bytes → (a : Asked) → a.received ≡ 0 → a.moved ≡ n → a.sent ≡ xs → Sizes a
+sending-sizes n xs h g a r m s = record {
+  received = omega (arith, r);
+  sent = ap length s ∙ h ∙ omega (arith, m, r);
+  most = omega (arith, m, g);
+}
+
+pub sizes : (request : Request) → is_bad request ≡ false → Sizes (asked_of request)
+sizes (Read nsid slba blocks) e = let w = within blocks 256 e in record { received = omega arith; sent = omega arith; most = omega (arith, w.1) }
+sizes (Write nsid slba bytes) e = let w = whole bytes.now e in sending-sizes (length bytes.now) bytes.now refl w.most _ refl refl refl
+sizes (Compare nsid slba bytes) e = let w = whole bytes.now e in sending-sizes (length bytes.now) bytes.now refl w.most _ refl refl refl
+sizes (WriteZeroes nsid slba blocks) e = record { received = omega arith; sent = refl; most = omega arith }
+sizes (Flush nsid) e = record { received = omega arith; sent = refl; most = omega arith }
+sizes (Register nsid action iekey cptpl crkey nrkey) e = sending-sizes 16 (key crkey ++ key nrkey) (length-keys crkey nrkey) (omega arith) _ refl refl refl
+sizes (Acquire nsid action rtype crkey prkey) e = sending-sizes 16 (key crkey ++ key prkey) (length-keys crkey prkey) (omega arith) _ refl refl refl
+sizes (Release nsid action rtype crkey) e = sending-sizes 8 (key crkey) (length-key crkey) (omega arith) _ refl refl refl
+sizes (Report nsid dwords) e = let w = within dwords 32768 e in record { received = omega arith; sent = omega arith; most = omega (arith, w.1) }
+sizes (Identify cns nsid) e = record { received = omega arith; sent = refl; most = omega arith }
+sizes (Protect nsid state) e = record { received = omega arith; sent = refl; most = omega arith }
+sizes (Protection nsid) e = record { received = omega arith; sent = refl; most = omega arith }
+sizes (Attach nsid list) e = sending-sizes 4096 (controller_list list.now) (length-list list.now (few-listed (length list.now) e)) (omega arith) _ refl refl refl
+sizes (Detach nsid list) e = sending-sizes 4096 (controller_list list.now) (length-list list.now (few-listed (length list.now) e)) (omega arith) _ refl refl refl
