@@ -1,5 +1,8 @@
-ghost use Rattle.std.specs.Prelude.{◌≡◌, ◌<◌, ◌^◌, Ok, IfOk};
+ghost use Rattle.std.specs.Prelude.{◌≡◌, ◌≢◌, ◌<◌, ◌^◌, Ok, IfOk};
+ghost use Rattle.std.specs.IoError.{error_kind};
+ghost use Rattle.std.specs.declared.io.ErrorKind.TheVariants.{OutOfMemory};
 ghost use Rattle.nvme_spec.specs.Blocks.{CountsFaults};
+ghost use Rattle.nvme_medium.specs.declared.host.FileFault.TheVariants.{NoMemory};
 
 use crate::{BLOCK, FileMedium, MediumFault, RawFile};
 use std::fs::{File, OpenOptions};
@@ -31,8 +34,11 @@ pub struct HostFile {
 }
 
 impl HostFile {
-    /// An open file.
-    fn new(file: File, len: u64) -> Self {
+    /// An open file of this length, no call of which has failed.
+    fn new(file: File, len: u64) -> Self
+        ensures len { result.len ≡ len }
+        ensures unfailed { result.failures ≡ 0 }
+    {
         HostFile {
             file,
             len,
@@ -122,7 +128,10 @@ impl FileMedium<HostFile> {
 }
 
 /// What an error of the system is told as: want of memory, or else this fault.
-fn fault_of(error: &io::Error, other: FileFault) -> FileFault {
+fn fault_of(error: &io::Error, other: FileFault) -> FileFault
+    ensures memory { error_kind error.now ≡ OutOfMemory → result ≡ NoMemory }
+    ensures other { error_kind error.now ≢ OutOfMemory → result ≡ other }
+{
     match error.kind() {
         ErrorKind::OutOfMemory => FileFault::NoMemory,
         _ => other,

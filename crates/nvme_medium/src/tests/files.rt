@@ -132,6 +132,19 @@ fn a_file_is_written_in_place(rt: HostRuntime) -> Result<(), Fail> {
 }
 
 #[test]
+fn a_flush_reaches_the_system(rt: HostRuntime) -> Result<(), Fail> {
+    let mut nothing: FileMedium<HostFile> = FileMedium::open(&rt, "/dev/null")
+        .ok()
+        .ok_or("no file")?;
+    assert_eq!(rt; nothing.blocks(), 0);
+    assert!(rt;
+        nothing.flush().is_err(),
+        "a device without a disk can't be synced"
+    );
+    Ok(())
+}
+
+#[test]
 fn what_cannot_be_opened_is_no_medium(rt: HostRuntime) -> Result<(), Fail> {
     for path in ["no-such-file", ".", ""] {
         let opened: Result<FileMedium<HostFile>, FileFault> = FileMedium::open(&rt, path);
