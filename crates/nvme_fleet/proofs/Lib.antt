@@ -32,3 +32,5 @@ pub mod ResetStep
 pub mod PollStep
 pub mod Sizes
 pub mod PlaceStep
+pub mod PostStep
+pub mod MarkStep

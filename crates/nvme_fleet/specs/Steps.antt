@@ -1,16 +1,28 @@
 -- What each event of a host with a driver makes of the driver and its controller, and that it is the step of their mailbox.
-use Rattle.std.specs.Prelude.{◌≡◌, ℕ, Bool, true, false, List, [], ◌∷◌, Ok, Err, Option, Some, None}
-use Rattle.nvme_wire.specs.Submission.{submission_of}
+use Rattle.std.specs.Prelude.{◌≡◌, ◌≤◌, length, take, slice_get, ℕ, Bool, true, false, List, [], ◌∷◌, Ok, Err, Option, Some, None}
+use Rattle.nvme_wire.specs.Submission.{submission_of, cid}
+use Rattle.nvme_wire.specs.Completion.{FitsCompletion}
+use Rattle.nvme_spec.specs.declared.queues.QueueChange.TheVariants.{Keep}
+use Rattle.nvme_spec.specs.Bytes.{with_bytes}
+use Rattle.nvme_spec.specs.Limits.{most_bytes}
+use Rattle.nvme_spec.specs.Queues.{phase_tag}
+use Rattle.nvme_driver.specs.Layout.{data_area}
+use Rattle.nvme_machine.specs.declared.fetched.FetchedCommand.{FetchedCommand}
+use Rattle.nvme_machine.specs.Answers.{Answer}
+use Rattle.nvme_machine.specs.Subsystems.{after_answer as after_machine_answer}
+use Rattle.nvme_fleet.specs.Mailboxes.{FetchedItem, with_marks as mark_mailbox}
+use Rattle.nvme_fleet.specs.Executions.{Response}
+use Rattle.nvme_fleet.specs.Views.{received_in}
 use Rattle.nvme_driver.specs.declared.request.Request.{Request}
 use Rattle.nvme_driver.specs.declared.faults.PlaceRefusal.{PlaceRefusal}
 use Rattle.nvme_driver.specs.Requests.{asked_of}
 use Rattle.nvme_driver.specs.Calls.{Call, Stores, Writes, Reads, Turns}
 use Rattle.nvme_driver.specs.Drivers as driver
 use Rattle.nvme_driver.specs.Polls as poll
-use Rattle.nvme_machine.specs.Controllers.{Controller, after_store, after_write32, after_fetch}
+use Rattle.nvme_machine.specs.Controllers.{Controller, QueuePair, with_marks, open_pair, after_store, after_write32, after_fetch}
 use Rattle.nvme_fleet.specs.declared.seen.FleetSeen.TheVariants.{Placed, Polled, Rung, Fetched, Reset}
 use Rattle.nvme_fleet.specs.Deliveries as mail
-use Rattle.nvme_fleet.specs.Fleets.{raw_fetch}
+use Rattle.nvme_fleet.specs.Fleets.{raw_fetch, after_answer}
 use Rattle.nvme_fleet.specs.Sound.{Sound, mailbox}
 
 -- A driver's calls of its port are events of its controller, one after the other. Only bringing up reads and grants turns.
@@ -74,3 +86,59 @@ PlaceIsAStep =
     → submission_of (driver.entry_of request slot) ≡ driver.entry_fields (asked_of request) slot
     → IsStep (mail.placed (mailbox d c) request) (driver.placed d request slot)
     (after_calls (driver.stores_of d request slot) c) (mail.plain (Placed (Ok (record { 0 = d.next }))))
+
+-- What an execution stores is in its request's slot: the data that come with the answer, from the slot's place on, as many
+-- as the request receives where it succeeded; the queues stay, and the completion's fields are within their width.
+pub record AnswersInItsSlot (d : driver.Driver) (c : Controller) (t : FetchedCommand) (p : QueuePair) (a : Answer) : Type 0 where
+  pub bytes : List ℕ
+  pub queues : a.change ≡ Keep
+  pub window : a.left.window ≡ with_bytes c.window (data_area (cid t.entry)) bytes
+  pub few : length bytes ≤ most_bytes
+  pub whole : poll.answer_len (received_in (poll.waiting_at d.slots (cid t.entry))) a.outcome.status ≤ length bytes
+  pub fits : FitsCompletion (record {
+    dw0 = a.outcome.dw0;
+    sq_head = p.submission.head.fetched;
+    sq_id = t.queue;
+    cid = cid t.entry;
+    phase = phase_tag p.completion.tail.size p.completion.tail.posted;
+    status = a.outcome.status;
+  })
+
+-- the answer as the mailbox has it
+abbrev pub response_with : driver.Driver → FetchedCommand → Answer → List ℕ → Response
+response_with d t a bytes = record {
+  outcome = a.outcome;
+  bytes = take (poll.answer_len (received_in (poll.waiting_at d.slots (cid t.entry))) a.outcome.status) bytes;
+  left = record { world = a.left.world; device = a.left.device };
+}
+
+pub record IsPosted (d : driver.Driver) (c : Controller) (i : ℕ) (t : FetchedCommand) (a : Answer) (bytes : List ℕ) (new : Controller) : Type 0 where
+  pub item : FetchedItem
+  pub found : slice_get (mailbox d c).fetched i ≡ Some item
+  pub sound : Sound d new
+  pub mail : mailbox d new ≡ after_answer i item (response_with d t a bytes) (mailbox d c)
+
+-- An answer that is posted stands at the end of its lane in the mailbox, whatever it is; and it can be posted.
+abbrev pub PostingIsAStep : Type 0
+PostingIsAStep =
+    (d : driver.Driver) (c : Controller) (i : ℕ) (t : FetchedCommand) (p : QueuePair) (a : Answer) → Sound d c
+    → slice_get c.fetched i ≡ Some t → open_pair c t ≡ Some p → (h : AnswersInItsSlot d c t p a)
+    → IsPosted d c i t a h.bytes (after_machine_answer i t p a c)
+
+abbrev pub PostingHasRoom : Type 0
+PostingHasRoom =
+    (d : driver.Driver) (c : Controller) (i : ℕ) (t : FetchedCommand) → Sound d c → slice_get c.fetched i ≡ Some t
+    → (p : QueuePair) × (open_pair c t ≡ Some p)
+
+-- there is no request to execute where there is no command
+abbrev pub NothingToExecute : Type 0
+NothingToExecute =
+    (d : driver.Driver) (c : Controller) (i : ℕ) → slice_get c.fetched i ≡ None → slice_get (mailbox d c).fetched i ≡ None
+
+-- Marks reach the mailbox where they reach its controller.
+pub record IsMarked (d : driver.Driver) (c : Controller) (n : ℕ) : Type 0 where
+  pub sound : Sound d (with_marks n c)
+  pub mail : mailbox d (with_marks n c) ≡ mark_mailbox n (mailbox d c)
+
+abbrev pub MarksAreSteps : Type 0
+MarksAreSteps = (d : driver.Driver) (c : Controller) (n : ℕ) → Sound d c → IsMarked d c n

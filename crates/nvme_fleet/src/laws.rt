@@ -1,7 +1,7 @@
 //! What follows from the definitions. Each law is the contract of a function that does nothing.
 
 ghost use Rattle.nvme_fleet.specs.Determined.{FailuresNeverFall, RunExists, RunIsUnique};
-ghost use Rattle.nvme_fleet.specs.Steps.{RefusalIsAStep, PlaceIsAStep, RingIsAStep, FetchIsAStep, PollIsAStep, ResetIsAStep};
+ghost use Rattle.nvme_fleet.specs.Steps.{NothingToExecute, PostingHasRoom, PostingIsAStep, RefusalIsAStep, PlaceIsAStep, RingIsAStep, FetchIsAStep, MarksAreSteps, PollIsAStep, ResetIsAStep};
 
 /// A list of events has one run without a fault of the medium, and one alone: each reply, and what is left, is what the
 /// definitions compute.
@@ -19,6 +19,15 @@ pub fn events_are_steps()
     ensures place { PlaceIsAStep }
     ensures ring { RingIsAStep }
     ensures fetch { FetchIsAStep }
+    ensures marks { MarksAreSteps }
     ensures poll { PollIsAStep }
     ensures reset { ResetIsAStep }
+{}
+
+/// What a controller answers to a command that it fetched from its driver stands at the end of the lane in the mailbox,
+/// whatever it is, where its data lie in the request's slot; there is room for it, and no answer without a request.
+pub fn postings_are_steps()
+    ensures none { NothingToExecute }
+    ensures room { PostingHasRoom }
+    ensures posts { PostingIsAStep }
 {}

@@ -2,6 +2,7 @@ use Rattle.nvme_fleet.proofs.FetchStep.{fetch_is_a_step}
 use Rattle.nvme_fleet.proofs.RingStep.{ring_is_a_step}
 use Rattle.nvme_fleet.proofs.PollStep.{poll_is_a_step}
 use Rattle.nvme_fleet.proofs.PlaceStep.{place_is_a_step, refusal_is_a_step}
+use Rattle.nvme_fleet.proofs.MarkStep.{marks_are_steps}
 use Rattle.nvme_fleet.proofs.ResetStep.{reset_is_a_step}
 use Rattle.nvme_fleet.proofs.laws.events_are_steps.Goals as goal
 
@@ -22,3 +23,6 @@ returns-clause-refused c = refusal_is_a_step
 
 pub returns-clause-place : goal.returns-clause-place
 returns-clause-place c = place_is_a_step
+
+pub returns-clause-marks : goal.returns-clause-marks
+returns-clause-marks c = marks_are_steps

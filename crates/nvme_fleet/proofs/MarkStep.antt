@@ -1,0 +1,113 @@
+-- Marks reach the mailbox where they reach its controller.
+use Rattle.std.proofs.Common.{◌≡◌, ℕ, suc, ◌==◌, ◌&&◌, not, Bool, true, false, List, [], ◌∷◌, map, Some, refl, sym, ap, ◌∙◌, slice_get}
+use Rattle.std.specs.Prelude.{if◌then◌else◌}
+use Rattle.std.specs.List.{AllByRecursion}
+use Rattle.nvme_wire.specs.Submission.{nsid}
+use Rattle.nvme_driver.specs.declared.lane.Lane.{Lane}
+use Rattle.nvme_driver.specs.declared.lane.Lane.TheVariants.{Admin, Io}
+use Rattle.nvme_driver.specs.Drivers.{Driver}
+use Rattle.nvme_machine.specs.declared.fetched.FetchedCommand.{FetchedCommand}
+use Rattle.nvme_machine.specs.Controllers as machine
+use Rattle.nvme_machine.specs.Controllers.{Controller}
+use Rattle.nvme_fleet.specs.Mailboxes as mail
+use Rattle.nvme_fleet.specs.Mailboxes.{FetchedItem, lane_of, is_io}
+use Rattle.nvme_fleet.specs.Views.{item_in, box}
+use Rattle.nvme_fleet.specs.Lanes.{Both, commands_in, host, state, held_by, fetched_by}
+use Rattle.nvme_fleet.specs.Sound.{Sound, IsOfLane, host_side, device_side, mailbox, taken_by, lane_of_queue}
+use Rattle.nvme_fleet.specs.Steps.{MarksAreSteps}
+use Rattle.nvme_fleet.proofs.Placing.{same-holds}
+use Rattle.nvme_fleet.proofs.PostStep.{item_at, known, seen, lane-of-item}
+
+abbrev marked : ℕ → FetchedCommand → FetchedCommand
+marked n t = machine.with_mark n t
+
+-- a mark leaves a command's lane and entry
+command-same : (n : ℕ) (t : FetchedCommand) → (taken_by (marked n t)).command ≡ t.entry
+command-same n t = elim (machine.names n t) as (λ b. (taken_by (if b then record t { marked = true } else t)).command ≡ t.entry) [
+  | true ↦ refl
+  | false ↦ refl
+]
+
+lane-same : (n : ℕ) (t : FetchedCommand) → (taken_by (marked n t)).lane ≡ lane_of_queue t.queue
+lane-same n t = elim (machine.names n t) as (λ b. (taken_by (if b then record t { marked = true } else t)).lane ≡ lane_of_queue t.queue) [
+  | true ↦ refl
+  | false ↦ refl
+]
+
+queue-same : (n : ℕ) (t : FetchedCommand) → (marked n t).queue ≡ t.queue
+queue-same n t = elim (machine.names n t) as (λ b. (if b then record t { marked = true } else t).queue ≡ t.queue) [
+  | true ↦ refl
+  | false ↦ refl
+]
+
+lanes-same : (lane : Lane) (n : ℕ) (ts : List FetchedCommand) → commands_in lane (map taken_by (map (marked n) ts)) ≡ commands_in lane (map taken_by ts)
+lanes-same lane n [] = refl
+lanes-same lane n (t ∷ ts) = rw (lane-same n t, command-same n t, lanes-same lane n ts) refl
+
+state-same : (lane : Lane) (n : ℕ) (c : Controller) → state lane (device_side (machine.with_marks n c)) ≡ state lane (device_side c)
+state-same Admin n c = rw (lanes-same Admin n c.fetched) refl
+state-same Io n c = rw (lanes-same Io n c.fetched) refl
+
+all-marked : (n : ℕ) (ts : List FetchedCommand) → AllByRecursion IsOfLane ts → AllByRecursion IsOfLane (map (marked n) ts)
+all-marked n [] a = tt
+all-marked n (t ∷ ts) a = (rw (queue-same n t) a.0, all-marked n ts a.1)
+
+-- the request of a marked command is marked
+record Reaches (d : Driver) (c : Controller) (t : FetchedCommand) : Type 0 where
+  lane : lane_of (item_at d c t).item ≡ lane_of_queue t.queue
+  space : (item_at d c t).item.asked.command.nsid ≡ nsid t.entry
+
+reaches : (d : Driver) (c : Controller) (i : ℕ) (t : FetchedCommand) → Sound d c → slice_get c.fetched i ≡ Some t → Reaches d c t
+unfolding item_in
+reaches d c i t s g =
+    let k = known d c i t s g in
+    record { lane = lane-of-item k.lane d c t k.of_lane (seen k.lane d c i t k.takes) ∙ sym k.of_lane; space = refl }
+
+io-is : (q : ℕ) → is_io (lane_of_queue q) ≡ not (q == 0)
+io-is q = elim (q == 0) as (λ b. is_io (if b then Admin else Io) ≡ not b) [
+  | true ↦ refl
+  | false ↦ refl
+]
+
+names-same : (d : Driver) (c : Controller) (n : ℕ) (t : FetchedCommand) → Reaches d c t → mail.names n (item_at d c t) ≡ machine.names n t
+names-same d c n t r =
+    ap (λ l. is_io l && ((item_at d c t).item.asked.command.nsid == n)) r.lane
+    ∙ ap (λ m. is_io (lane_of_queue t.queue) && (m == n)) r.space
+    ∙ ap (λ b. b && (nsid t.entry == n)) (io-is t.queue)
+
+item-marked : (d : Driver) (c : Controller) (n : ℕ) (t : FetchedCommand) → Reaches d c t → fetched_by (held_by (host_side d) c.window) (taken_by (marked n t)) ≡ mail.with_mark n (item_at d c t)
+item-marked d c n t r =
+    by (machine.names n t) ∙ ap (λ b. if b then record (item_at d c t) { marked = true } else item_at d c t) (sym (names-same d c n t r))
+  where
+    by : (b : Bool) → fetched_by (held_by (host_side d) c.window) (taken_by (if b then record t { marked = true } else t)) ≡ (if b then record (item_at d c t) { marked = true } else item_at d c t)
+    by true = refl
+    by false = refl
+
+items-marked : (d : Driver) (c : Controller) (n : ℕ) (ts : List FetchedCommand) → ((i : ℕ) (t : FetchedCommand) → slice_get ts i ≡ Some t → Reaches d c t)
+    → map (fetched_by (held_by (host_side d) c.window)) (map taken_by (map (marked n) ts)) ≡ map (mail.with_mark n) (map (fetched_by (held_by (host_side d) c.window)) (map taken_by ts))
+items-marked d c n [] h = refl
+items-marked d c n (t ∷ ts) h =
+    λ j. item-marked d c n t (h 0 t refl) j ∷ items-marked d c n ts (λ i u g. h (suc i) u g) j
+
+pub marks_are_steps : MarksAreSteps
+marks_are_steps d c n s =
+    let b : Both (host_side d) (device_side c) = s.both in
+    let both : Both (host_side d) (device_side (machine.with_marks n c)) = record {
+      first = b.first;
+      window = b.window;
+      slots = b.slots;
+      each = λ l. same-holds b.first _ _ _ _ (b.each l) refl (state-same l n c);
+    } in
+    let e = items-marked d c n c.fetched (λ i t g. reaches d c i t s g) in
+    let a = state-same Admin n c in
+    let o = state-same Io n c in
+    record {
+      sound = record {
+        both = both;
+        fits = s.fits;
+        sizes = s.sizes;
+        up = λ u. let p = s.up u in record { admin = p.admin; io = p.io; submission = p.submission; completion = p.completion; fetched = all-marked n c.fetched p.fetched; ready = p.ready; enabled = p.enabled };
+        down = λ u. let o = s.down u in record { submission = o.submission; completion = o.completion; fetched = ap (map (marked n)) o.fetched; off = o.off; disabled = o.disabled };
+      };
+      mail = λ j. record (mailbox d c) { admin = box (host Admin (host_side d) c.window) (a j); io = box (host Io (host_side d) c.window) (o j); fetched = e j };
+    }

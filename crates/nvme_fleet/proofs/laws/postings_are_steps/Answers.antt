@@ -1,0 +1,11 @@
+use Rattle.nvme_fleet.proofs.PostStep.{nothing_to_execute, posting_has_room, posting_is_a_step}
+use Rattle.nvme_fleet.proofs.laws.postings_are_steps.Goals as goal
+
+pub returns-clause-none : goal.returns-clause-none
+returns-clause-none c = nothing_to_execute
+
+pub returns-clause-room : goal.returns-clause-room
+returns-clause-room c = posting_has_room
+
+pub returns-clause-posts : goal.returns-clause-posts
+returns-clause-posts c = posting_is_a_step
