@@ -34,3 +34,7 @@ pub mod Sizes
 pub mod PlaceStep
 pub mod PostStep
 pub mod MarkStep
+pub mod Commands
+pub mod Judging
+pub mod Transferring
+pub mod JudgeStep

@@ -27,13 +27,13 @@ use Rattle.nvme_driver.proofs.Moving.{entries_move_their_data}
 use Rattle.nvme_machine.specs.Controllers.{Controller, after_store}
 use Rattle.nvme_fleet.specs.Mailboxes.{Item, Mailbox, box_at, with_box}
 use Rattle.nvme_fleet.specs.Deliveries.{Reaction, refusal, placed_by, new_item, with_placed}
-use Rattle.nvme_fleet.specs.Views.{Slot, asked_in, suits, item_in, received_in}
+use Rattle.nvme_fleet.specs.Views.{Slot, asked_in, is_plain, suits, item_in, received_in}
 use Rattle.nvme_fleet.specs.Lanes as lanes
 use Rattle.nvme_fleet.specs.Lanes.{HostSide, DeviceSide, Both, Placement, whole, area, listed, mail, placed, placed_device, placed_window, base}
 use Rattle.nvme_fleet.specs.Sound.{Sound, EndsFit, IsPaired, host_side, device_side, mailbox}
 use Rattle.nvme_fleet.specs.Steps.{PlaceIsAStep, RefusalIsAStep, after_calls}
 use Rattle.nvme_fleet.proofs.Places.{no-way}
-use Rattle.nvme_fleet.proofs.Sizes.{Sizes, sizes}
+use Rattle.nvme_fleet.proofs.Sizes.{Sizes, sizes, plain as plain_request}
 use Rattle.nvme_fleet.proofs.Placing.{Fills, fills, free-some, Goes, free-same, place-both, place-mail}
 
 -- The tests of a placing see the same in a mailbox and in its driver.
@@ -110,12 +110,12 @@ same-bytes : (xs ys : List ℕ) → xs ≡ ys → bytes_eq xs ys ≡ true
 same-bytes xs ys e = let d = bytes_eq-Decides xs ys in d.1 e
 
 suits-by : (s : Slot) (x : List ℕ) (a : Asked) (k : ℕ) → asked_in s x ≡ a → cid x ≡ k → x ≡ submission_entry (entry_fields a k)
-    → a.moved ≤ most_bytes → a.received ≤ a.moved → take (length (stored_list k a.moved)) s.list ≡ stored_list k a.moved → suits s x ≡ true
+    → a.moved ≤ most_bytes → a.received ≤ a.moved → take (length (stored_list k a.moved)) s.list ≡ stored_list k a.moved → is_plain a ≡ true → suits s x ≡ true
 unfolding suits
-suits-by s x a k is named spelled most less there =
-    ap (λ (b : Asked). bytes_eq x (submission_entry (entry_fields b (cid x))) && (nat_le b.moved most_bytes && (nat_le b.received b.moved && bytes_eq (take (length (stored_list (cid x) b.moved)) s.list) (stored_list (cid x) b.moved)))) is
-    ∙ ap (λ n. bytes_eq x (submission_entry (entry_fields a n)) && (nat_le a.moved most_bytes && (nat_le a.received a.moved && bytes_eq (take (length (stored_list n a.moved)) s.list) (stored_list n a.moved)))) named
-    ∙ rw (same-bytes x _ spelled, le-leb a.moved most_bytes most, le-leb a.received a.moved less, same-bytes _ _ there) refl
+suits-by s x a k is named spelled most less there plainly =
+    ap (λ (b : Asked). bytes_eq x (submission_entry (entry_fields b (cid x))) && (nat_le b.moved most_bytes && (nat_le b.received b.moved && (bytes_eq (take (length (stored_list (cid x) b.moved)) s.list) (stored_list (cid x) b.moved) && is_plain b)))) is
+    ∙ ap (λ n. bytes_eq x (submission_entry (entry_fields a n)) && (nat_le a.moved most_bytes && (nat_le a.received a.moved && (bytes_eq (take (length (stored_list n a.moved)) s.list) (stored_list n a.moved) && is_plain a)))) named
+    ∙ rw (same-bytes x _ spelled, le-leb a.moved most_bytes most, le-leb a.received a.moved less, same-bytes _ _ there, plainly) refl
 
 -- A placing, as its driver makes it.
 abbrev placement : Driver → Request → ℕ → Placement
@@ -220,7 +220,7 @@ goes-so d c request slot k =
       size = length-entry (entry_fields (asked_of request) slot);
       named = named;
       fills = f;
-      suits_it = suits-by (whole (window_then d c request slot) slot (waiting_of d request)) (entry_of request slot) (asked_of request) slot (asked-so d c request slot k) named refl z.most z.received f.list_in;
+      suits_it = suits-by (whole (window_then d c request slot) slot (waiting_of d request)) (entry_of request slot) (asked_of request) slot (asked-so d c request slot k) named refl z.most z.received f.list_in (plain_request request);
     }
 
 -- the driver's side, and the controller's

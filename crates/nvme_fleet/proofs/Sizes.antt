@@ -1,10 +1,14 @@
 -- How many bytes a request moves: those that it sends, or those that it receives, and never more than a transfer has.
-use Rattle.std.proofs.Common.{◌≡◌, ℕ, ◌-◌, ◌*◌, ◌≤◌, nat_lt, false, List, ◌++◌, length, refl, ap, ◌∙◌, arith, length-append, inl, inr}
+use Rattle.std.proofs.Common.{true, ◌≡◌, ℕ, ◌-◌, ◌*◌, ◌≤◌, nat_lt, false, List, ◌++◌, length, refl, ap, ◌∙◌, arith, length-append, inl, inr}
 use Rattle.std.proofs.lemmas.Bool.{cases_lt, lt-ltb}
 use Rattle.std.proofs.lemmas.List.{length-replicate}
 use Rattle.std.specs.Prelude.{replicate}
 use Rattle.std.specs.Int.{w16, to_le_bytes}
+use Rattle.std.specs.Prelude.{◌==◌}
 use Rattle.nvme_spec.specs.Limits.{most_bytes}
+use Rattle.nvme_spec.specs.Commands as io_commands
+use Rattle.nvme_fleet.specs.Views.{is_plain}
+use Rattle.nvme_fleet.proofs.Queues.{self-eqb}
 use Rattle.nvme_driver.specs.declared.request.Request.{Request}
 use Rattle.nvme_driver.specs.declared.request.Request.TheVariants.{Read, Write, Compare, WriteZeroes, Flush, Register, Acquire, Release, Report, Identify, Protect, Protection, Attach, Detach}
 use Rattle.nvme_driver.specs.Requests.{Asked, asked_of, is_bad, key, controller_list}
@@ -60,3 +64,24 @@ sizes (Protect nsid state) e = record { received = omega arith; sent = refl; mos
 sizes (Protection nsid) e = record { received = omega arith; sent = refl; most = omega arith }
 sizes (Attach nsid list) e = sending-sizes 4096 (controller_list list.now) (length-list list.now (few-listed (length list.now) e)) (omega arith) _ refl refl refl
 sizes (Detach nsid list) e = sending-sizes 4096 (controller_list list.now) (length-list list.now (few-listed (length list.now) e)) (omega arith) _ refl refl refl
+
+-- what a request asks is plain
+self : (n : ℕ) → (n == n) ≡ true
+self n = self-eqb n n refl
+
+pub plain : (request : Request) → is_plain (asked_of request) ≡ true
+unfolding is_plain io_commands.command_of
+plain (Read nsid slba blocks) = self (512 * blocks)
+plain (Write nsid slba bytes) = refl
+plain (Compare nsid slba bytes) = refl
+plain (WriteZeroes nsid slba blocks) = refl
+plain (Flush nsid) = refl
+plain (Register nsid action iekey cptpl crkey nrkey) = refl
+plain (Acquire nsid action rtype crkey prkey) = refl
+plain (Release nsid action rtype crkey) = refl
+plain (Report nsid dwords) = self (4 * dwords)
+plain (Identify cns nsid) = refl
+plain (Protect nsid state) = refl
+plain (Protection nsid) = refl
+plain (Attach nsid list) = refl
+plain (Detach nsid list) = refl

@@ -4,6 +4,8 @@ use Rattle.nvme_wire.specs.Submission.{submission_of, cid}
 use Rattle.nvme_wire.specs.Completion.{FitsCompletion}
 use Rattle.nvme_spec.specs.declared.queues.QueueChange.TheVariants.{Keep}
 use Rattle.nvme_spec.specs.Bytes.{with_bytes}
+use Rattle.nvme_spec.specs.World.{World}
+use Rattle.nvme_spec.specs.IoData as spec
 use Rattle.nvme_spec.specs.Limits.{most_bytes}
 use Rattle.nvme_spec.specs.Queues.{phase_tag}
 use Rattle.nvme_driver.specs.Layout.{data_area}
@@ -11,7 +13,7 @@ use Rattle.nvme_machine.specs.declared.fetched.FetchedCommand.{FetchedCommand}
 use Rattle.nvme_machine.specs.Answers.{Answer}
 use Rattle.nvme_machine.specs.Subsystems.{after_answer as after_machine_answer}
 use Rattle.nvme_fleet.specs.Mailboxes.{FetchedItem, with_marks as mark_mailbox}
-use Rattle.nvme_fleet.specs.Executions.{Response}
+use Rattle.nvme_fleet.specs.Executions.{Response, io_judgement}
 use Rattle.nvme_fleet.specs.Views.{received_in}
 use Rattle.nvme_driver.specs.declared.request.Request.{Request}
 use Rattle.nvme_driver.specs.declared.faults.PlaceRefusal.{PlaceRefusal}
@@ -142,3 +144,10 @@ pub record IsMarked (d : driver.Driver) (c : Controller) (n : ℕ) : Type 0 wher
 
 abbrev pub MarksAreSteps : Type 0
 MarksAreSteps = (d : driver.Driver) (c : Controller) (n : ℕ) → Sound d c → IsMarked d c n
+
+-- A fetched command of the I/O lane is judged as the request that the mailbox has in its place: its data pointer has no fault.
+abbrev pub JudgedAsItsRequest : Type 0
+JudgedAsItsRequest =
+    (d : driver.Driver) (c : Controller) (i : ℕ) (t : FetchedCommand) (x : FetchedItem) (w : World) (cntlid : ℕ) → Sound d c
+    → slice_get c.fetched i ≡ Some t → slice_get (mailbox d c).fetched i ≡ Some x → t.queue ≡ 1
+    → spec.io_judgement w cntlid t.entry t.marked c.window ≡ io_judgement w cntlid x.item.asked x.marked

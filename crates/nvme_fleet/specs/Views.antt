@@ -1,15 +1,20 @@
 -- One lane of a driver and its controller, as far as the requests of that lane go: the slots of the driver with the bytes
 -- that lie there, the lane's two queue pages, and the counts of its queues. Places count from the start of the pages: the
 -- submission queue lies in the first, the completion queue in the second.
-use Rattle.std.specs.Prelude.{◌≡◌, ℕ, zero, suc, ◌+◌, ◌-◌, ◌*◌, ◌%◌, ◌<◌, ◌≤◌, nat_lt, nat_le, ◌==◌, Bool, true, false, not, ◌&&◌, cond, List, [], ◌∷◌, ◌++◌, length, map, take, drop, remove, replicate, Option, None, Some, slice_get, slice_set}
+use Rattle.std.specs.Prelude.{◌≡◌, ℕ, zero, suc, ◌+◌, ◌-◌, ◌*◌, ◌%◌, ◌<◌, ◌≤◌, nat_lt, nat_le, ◌==◌, Bool, true, false, not, ◌&&◌, ◌||◌, is_some, if◌then◌else◌, cond, List, [], ◌∷◌, ◌++◌, length, map, take, drop, remove, replicate, Option, None, Some, slice_get, slice_set}
 use Rattle.std.specs.Str.{bytes_eq}
 use Rattle.nvme_wire.specs.Submission.{submission_entry, opcode, cid, nsid, cdw10, cdw11, cdw12}
 use Rattle.nvme_wire.specs.Completion.{Completion, completion_of, completion_entry}
+use Rattle.nvme_wire.specs.Entry.{bits}
 use Rattle.nvme_wire.specs.declared.status.Status.{Status}
+use Rattle.nvme_spec.specs.declared.command.Command.TheVariants.{Read, ReservationReport}
+use Rattle.nvme_spec.specs.declared.command.AdminCommand.TheVariants.{Identify, SetFeatures, GetFeatures, NamespaceAttachment}
+use Rattle.nvme_spec.specs.Commands as io_commands
+use Rattle.nvme_spec.specs.AdminCommands as admin_commands
 use Rattle.nvme_spec.specs.Bytes.{with_bytes}
 use Rattle.nvme_spec.specs.Limits.{most_bytes}
 use Rattle.nvme_driver.specs.declared.lane.Lane.{Lane}
-use Rattle.nvme_driver.specs.declared.lane.Lane.TheVariants.{Admin}
+use Rattle.nvme_driver.specs.declared.lane.Lane.TheVariants.{Admin, Io}
 use Rattle.nvme_driver.specs.declared.slots.Waiting.{Waiting}
 use Rattle.nvme_driver.specs.Requests.{Asked}
 use Rattle.nvme_driver.specs.Layout.{queue_id}
@@ -118,6 +123,27 @@ item_in s x = record { ticket = ticket_in s.waiting; asked = asked_in s x }
 abbrev pub item : (ℕ → Slot) → List ℕ → Item
 item slots x = item_in (slots (cid x)) x
 
+-- What some request asks for: of the I/O lane a command that receives all that it moves, or nothing, by its kind; of the
+-- admin lane Identify, the write protection state set or got, or a Namespace Attachment.
+abbrev pub received_by : ℕ → ℕ → ℕ
+received_by code moved =
+    if io_commands.is_one_of (io_commands.command_of code) (Read ∷ ReservationReport ∷ []) then moved else 0
+
+abbrev pub is_feature : Asked → Bool
+is_feature a = bits a.command.cdw10 7 0 == admin_commands.write_protection
+
+abbrev pub is_plain_in : Lane → Asked → Bool
+is_plain_in Io a =
+    is_some (io_commands.command_of a.command.opcode) && a.received == received_by a.command.opcode a.moved
+is_plain_in Admin a =
+    (a.command.opcode == admin_commands.opcode_of Identify && a.received == a.moved)
+    || ((a.command.opcode == admin_commands.opcode_of SetFeatures && (is_feature a && a.received == 0))
+    || ((a.command.opcode == admin_commands.opcode_of GetFeatures && (is_feature a && a.received == 0))
+    || (a.command.opcode == admin_commands.opcode_of NamespaceAttachment && a.received == 0)))
+
+unfoldable pub is_plain : Asked → Bool
+is_plain a = is_plain_in a.command.lane a
+
 -- A command is as the driver put it there: its fields and zeros elsewhere, its pointer names the slot's data, and the list
 -- is there where the pointer names it.
 unfoldable pub suits : Slot → List ℕ → Bool
@@ -125,7 +151,7 @@ suits s x =
     let a : Asked = asked_in s x in
     bytes_eq x (submission_entry (entry_fields a (cid x)))
     && (nat_le a.moved most_bytes && (nat_le a.received a.moved
-    && bytes_eq (take (length (stored_list (cid x) a.moved)) s.list) (stored_list (cid x) a.moved)))
+    && (bytes_eq (take (length (stored_list (cid x) a.moved)) s.list) (stored_list (cid x) a.moved) && is_plain a)))
 
 abbrev pub odd : (ℕ → Slot) → List ℕ → ℕ
 odd slots x = cond (suits (slots (cid x)) x) 0 1

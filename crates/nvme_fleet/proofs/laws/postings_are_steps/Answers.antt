@@ -1,3 +1,4 @@
+use Rattle.nvme_fleet.proofs.JudgeStep.{judged_as_its_request}
 use Rattle.nvme_fleet.proofs.PostStep.{nothing_to_execute, posting_has_room, posting_is_a_step}
 use Rattle.nvme_fleet.proofs.laws.postings_are_steps.Goals as goal
 
@@ -9,3 +10,6 @@ returns-clause-room c = posting_has_room
 
 pub returns-clause-posts : goal.returns-clause-posts
 returns-clause-posts c = posting_is_a_step
+
+pub returns-clause-judged : goal.returns-clause-judged
+returns-clause-judged c = judged_as_its_request
