@@ -1,3 +1,4 @@
+use Rattle.nvme_fleet.specs.Views.{received_in}
 -- A fetched I/O command is judged as the request that the mailbox has in its place.
 use Rattle.std.proofs.Common.{◌≡◌, ℕ, ◌-◌, ◌<◌, true, List, [], ◌∷◌, ◌++◌, length, map, take, drop, Option, None, Some, Ok, refl, sym, ap, subst, ◌∙◌, arith, slice_get}
 use Rattle.std.proofs.lemmas.Bool.{and_parts, eqb-true}
@@ -44,6 +45,7 @@ pub record IsIo (d : Driver) (c : Controller) (t : FetchedCommand) : Type 0 wher
   pub suited : IsSuited (slot_seen Io d c t) t.entry
   pub within : cid t.entry < 24
   pub io : lane_in (slot_seen Io d c t).waiting ≡ Io
+  pub received : (asked_in (slot_seen Io d c t) t.entry).received ≡ received_in (waiting_at d.slots (cid t.entry))
   pub bytes : (slot_seen Io d c t).bytes ≡ area c.window (cid t.entry)
   pub same : SameFields t.entry (command_entry (asked_in (slot_seen Io d c t) t.entry))
   pub moves : IsMoved c.window (cid t.entry) t.entry (asked_in (slot_seen Io d c t) t.entry).moved
@@ -63,6 +65,7 @@ io-takes d c t i s k =
       suited = h;
       within = (k.one).within;
       io = ap (λ (z : Slot). lane_in z.waiting) e ∙ o.of_lane;
+      received = ap (λ (z : Slot). received_in z.waiting) e ∙ sym (ap received_in o.is);
       bytes = ap (λ (z : Slot). z.bytes) e;
       same = same-fields (slot_seen Io d c t) t.entry h (k.one).within;
       moves = moved c.window (cid t.entry) t.entry (asked_in (slot_seen Io d c t) t.entry).moved b.window (k.one).within h.most there (ap (λ (z : SqeFields). z.prp1) r) (ap (λ (z : SqeFields). z.prp2) r);
@@ -101,14 +104,14 @@ keys-of None host n x keys sent received m there r e = refl
 keys-of (Some command) host n x keys sent received m there r e = keys-matter command host n x keys sent received m r e
 
 -- what a plain I/O command receives
-plain-io : (a : Asked) → a.command.lane ≡ Io → is_plain a ≡ true → (is_some (io_commands.command_of a.command.opcode) ≡ true) × (a.received ≡ received_by a.command.opcode a.moved)
+pub plain-io : (a : Asked) → a.command.lane ≡ Io → is_plain a ≡ true → (is_some (io_commands.command_of a.command.opcode) ≡ true) × (a.received ≡ received_by a.command.opcode a.moved)
 unfolding is_plain
 plain-io a e h =
     let p = and_parts _ _ (sym (ap (λ l. is_plain_in l a) e) ∙ h) in
     (p.0, eqb-true a.received (received_by a.command.opcode a.moved) p.1)
 
 -- the data that the command gathers are those of the request, where it receives none
-data-same : (d : Driver) (c : Controller) (t : FetchedCommand) (h : IsIo d c t) → (asked_in (slot_seen Io d c t) t.entry).received ≡ 0
+pub data-same : (d : Driver) (c : Controller) (t : FetchedCommand) (h : IsIo d c t) → (asked_in (slot_seen Io d c t) t.entry).received ≡ 0
     → data_in (asked_in (slot_seen Io d c t) t.entry).moved c.window t.entry ≡ (asked_in (slot_seen Io d c t) t.entry).sent
 unfolding area
 data-same d c t h z =
@@ -121,10 +124,10 @@ data-same d c t h z =
     ∙ ap (take ((asked_in (slot_seen Io d c t) t.entry).moved - (asked_in (slot_seen Io d c t) t.entry).received)) (sym h.bytes)
 
 -- so many bytes the command moves
-length-is : (d : Driver) (c : Controller) (t : FetchedCommand) (h : IsIo d c t) → (asked_in (slot_seen Io d c t) t.entry).moved ≡ io_commands.data_length_of (io_commands.command_of (opcode t.entry)) t.entry
+pub length-is : (d : Driver) (c : Controller) (t : FetchedCommand) (h : IsIo d c t) → (asked_in (slot_seen Io d c t) t.entry).moved ≡ io_commands.data_length_of (io_commands.command_of (opcode t.entry)) t.entry
 length-is d c t h = ap (λ l. entry_length l t.entry) h.io
 
-data-is : (d : Driver) (c : Controller) (t : FetchedCommand) (h : IsIo d c t) → data_of c.window t.entry ≡ data_in (asked_in (slot_seen Io d c t) t.entry).moved c.window t.entry
+pub data-is : (d : Driver) (c : Controller) (t : FetchedCommand) (h : IsIo d c t) → data_of c.window t.entry ≡ data_in (asked_in (slot_seen Io d c t) t.entry).moved c.window t.entry
 data-is d c t h = ap (λ n. data_in n c.window t.entry) (sym (length-is d c t h))
 
 -- what the command makes of its reservation

@@ -38,3 +38,5 @@ pub mod Commands
 pub mod Judging
 pub mod Transferring
 pub mod JudgeStep
+pub mod ServeStep
+pub mod Denying

@@ -6,6 +6,11 @@ use Rattle.nvme_spec.specs.declared.queues.QueueChange.TheVariants.{Keep}
 use Rattle.nvme_spec.specs.Bytes.{with_bytes}
 use Rattle.nvme_spec.specs.World.{World}
 use Rattle.nvme_spec.specs.IoData as spec
+use Rattle.nvme_spec.specs.Blocks.{Device}
+use Rattle.nvme_spec.specs.Execution.{scene, IsPerformed}
+use Rattle.nvme_spec.specs.declared.command.Command.{Command}
+use Rattle.nvme_spec.specs.declared.verdict.Plan.{Plan}
+use Rattle.nvme_spec.specs.declared.verdict.Verdict.TheVariants.{Allowed}
 use Rattle.nvme_spec.specs.Limits.{most_bytes}
 use Rattle.nvme_spec.specs.Queues.{phase_tag}
 use Rattle.nvme_driver.specs.Layout.{data_area}
@@ -13,7 +18,7 @@ use Rattle.nvme_machine.specs.declared.fetched.FetchedCommand.{FetchedCommand}
 use Rattle.nvme_machine.specs.Answers.{Answer}
 use Rattle.nvme_machine.specs.Subsystems.{after_answer as after_machine_answer}
 use Rattle.nvme_fleet.specs.Mailboxes.{FetchedItem, with_marks as mark_mailbox}
-use Rattle.nvme_fleet.specs.Executions.{Response, io_judgement}
+use Rattle.nvme_fleet.specs.Executions.{Response, io_judgement, IsServed}
 use Rattle.nvme_fleet.specs.Views.{received_in}
 use Rattle.nvme_driver.specs.declared.request.Request.{Request}
 use Rattle.nvme_driver.specs.declared.faults.PlaceRefusal.{PlaceRefusal}
@@ -151,3 +156,20 @@ JudgedAsItsRequest =
     (d : driver.Driver) (c : Controller) (i : ℕ) (t : FetchedCommand) (x : FetchedItem) (w : World) (cntlid : ℕ) → Sound d c
     → slice_get c.fetched i ≡ Some t → slice_get (mailbox d c).fetched i ≡ Some x → t.queue ≡ 1
     → spec.io_judgement w cntlid t.entry t.marked c.window ≡ io_judgement w cntlid x.item.asked x.marked
+
+-- What an allowed I/O command does to the access state and the medium is what its request does; the data that come with its
+-- answer lie in the request's slot, as many as the request receives where it succeeded.
+pub record IsServedInItsSlot (tells : Bool) (d : driver.Driver) (c : Controller) (t : FetchedCommand) (x : FetchedItem) (w : World) (device : Device) (cntlid : ℕ) (kind : Command) (a : Answer) : Type 0 where
+  pub bytes : List ℕ
+  pub window : a.left.window ≡ with_bytes c.window (data_area (cid t.entry)) bytes
+  pub few : length bytes ≤ most_bytes
+  pub whole : poll.answer_len (received_in (poll.waiting_at d.slots (cid t.entry))) a.outcome.status ≤ length bytes
+  pub served : IsServed tells kind cntlid x.item.asked (record { world = w; device = device }) (response_with d t a bytes)
+
+abbrev pub AllowedServesItsRequest : Type 0
+AllowedServesItsRequest =
+    (tells : Bool) (d : driver.Driver) (c : Controller) (i : ℕ) (t : FetchedCommand) (x : FetchedItem) (w : World) (device : Device) (cntlid : ℕ) (plan : Plan) (a : Answer)
+    → Sound d c → slice_get c.fetched i ≡ Some t → slice_get (mailbox d c).fetched i ≡ Some x → t.queue ≡ 1
+    → spec.io_verdict w cntlid t.entry t.marked c.window ≡ Allowed plan
+    → IsPerformed tells plan.kind cntlid t.entry (scene w c.window device) a.left a.outcome
+    → IsServedInItsSlot tells d c t x w device cntlid plan.kind a

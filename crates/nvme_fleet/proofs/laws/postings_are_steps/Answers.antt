@@ -1,5 +1,6 @@
 use Rattle.nvme_fleet.proofs.JudgeStep.{judged_as_its_request}
 use Rattle.nvme_fleet.proofs.PostStep.{nothing_to_execute, posting_has_room, posting_is_a_step}
+use Rattle.nvme_fleet.proofs.ServeStep.{allowed_serves_its_request}
 use Rattle.nvme_fleet.proofs.laws.postings_are_steps.Goals as goal
 
 pub returns-clause-none : goal.returns-clause-none
@@ -13,3 +14,6 @@ returns-clause-posts c = posting_is_a_step
 
 pub returns-clause-judged : goal.returns-clause-judged
 returns-clause-judged c = judged_as_its_request
+
+pub returns-clause-serves : goal.returns-clause-serves
+returns-clause-serves c = allowed_serves_its_request
