@@ -40,3 +40,4 @@ pub mod Transferring
 pub mod JudgeStep
 pub mod ServeStep
 pub mod Denying
+pub mod AnswerStep

@@ -142,7 +142,7 @@ enough why received returned h = elim (cases_Bool (is_success why)) [
 ]
 
 -- the request of a command, as it is read off its slot
-abbrev asked_by : Driver → Controller → FetchedCommand → Asked
+abbrev pub asked_by : Driver → Controller → FetchedCommand → Asked
 asked_by d c t = asked_in (slot_seen Io d c t) t.entry
 
 -- what is known of an allowed command

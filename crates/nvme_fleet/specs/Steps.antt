@@ -7,7 +7,7 @@ use Rattle.nvme_spec.specs.Bytes.{with_bytes}
 use Rattle.nvme_spec.specs.World.{World}
 use Rattle.nvme_spec.specs.IoData as spec
 use Rattle.nvme_spec.specs.Blocks.{Device}
-use Rattle.nvme_spec.specs.Execution.{scene, IsPerformed}
+use Rattle.nvme_spec.specs.Execution.{scene, IsPerformed, Executes}
 use Rattle.nvme_spec.specs.declared.command.Command.{Command}
 use Rattle.nvme_spec.specs.declared.verdict.Plan.{Plan}
 use Rattle.nvme_spec.specs.declared.verdict.Verdict.TheVariants.{Allowed}
@@ -18,7 +18,7 @@ use Rattle.nvme_machine.specs.declared.fetched.FetchedCommand.{FetchedCommand}
 use Rattle.nvme_machine.specs.Answers.{Answer}
 use Rattle.nvme_machine.specs.Subsystems.{after_answer as after_machine_answer}
 use Rattle.nvme_fleet.specs.Mailboxes.{FetchedItem, with_marks as mark_mailbox}
-use Rattle.nvme_fleet.specs.Executions.{Response, io_judgement, IsServed}
+use Rattle.nvme_fleet.specs.Executions.{Response, io_judgement, IsServed, Answers}
 use Rattle.nvme_fleet.specs.Views.{received_in}
 use Rattle.nvme_driver.specs.declared.request.Request.{Request}
 use Rattle.nvme_driver.specs.declared.faults.PlaceRefusal.{PlaceRefusal}
@@ -173,3 +173,19 @@ AllowedServesItsRequest =
     → spec.io_verdict w cntlid t.entry t.marked c.window ≡ Allowed plan
     → IsPerformed tells plan.kind cntlid t.entry (scene w c.window device) a.left a.outcome
     → IsServedInItsSlot tells d c t x w device cntlid plan.kind a
+
+-- What an I/O command may be answered, allowed or denied, its request may be answered; the data that come with the answer
+-- lie in the request's slot.
+pub record IsAnsweredInItsSlot (tells : Bool) (d : driver.Driver) (c : Controller) (t : FetchedCommand) (x : FetchedItem) (w : World) (device : Device) (cntlid : ℕ) (a : Answer) : Type 0 where
+  pub bytes : List ℕ
+  pub window : a.left.window ≡ with_bytes c.window (data_area (cid t.entry)) bytes
+  pub few : length bytes ≤ most_bytes
+  pub whole : poll.answer_len (received_in (poll.waiting_at d.slots (cid t.entry))) a.outcome.status ≤ length bytes
+  pub answers : Answers tells cntlid x (record { world = w; device = device }) (response_with d t a bytes)
+
+abbrev pub AnswersItsRequest : Type 0
+AnswersItsRequest =
+    (tells : Bool) (d : driver.Driver) (c : Controller) (i : ℕ) (t : FetchedCommand) (x : FetchedItem) (w : World) (device : Device) (cntlid : ℕ) (a : Answer)
+    → Sound d c → slice_get c.fetched i ≡ Some t → slice_get (mailbox d c).fetched i ≡ Some x → t.queue ≡ 1
+    → Executes tells cntlid t.entry t.marked (scene w c.window device) a.left a.outcome
+    → IsAnsweredInItsSlot tells d c t x w device cntlid a

@@ -1,6 +1,7 @@
 use Rattle.nvme_fleet.proofs.JudgeStep.{judged_as_its_request}
 use Rattle.nvme_fleet.proofs.PostStep.{nothing_to_execute, posting_has_room, posting_is_a_step}
 use Rattle.nvme_fleet.proofs.ServeStep.{allowed_serves_its_request}
+use Rattle.nvme_fleet.proofs.AnswerStep.{answers_its_request}
 use Rattle.nvme_fleet.proofs.laws.postings_are_steps.Goals as goal
 
 pub returns-clause-none : goal.returns-clause-none
@@ -17,3 +18,6 @@ returns-clause-judged c = judged_as_its_request
 
 pub returns-clause-serves : goal.returns-clause-serves
 returns-clause-serves c = allowed_serves_its_request
+
+pub returns-clause-answers : goal.returns-clause-answers
+returns-clause-answers c = answers_its_request

@@ -1,0 +1,100 @@
+-- What an I/O command may be answered is what its request may be answered.
+use Rattle.std.proofs.Common.{◌≡◌, ℕ, Bool, false, List, [], Option, None, Some, Ok, Err, refl, sym, ap, subst, ◌∙◌, arith, slice_get}
+use Rattle.std.specs.Prelude.{if◌then◌else◌}
+use Rattle.nvme_wire.specs.Submission.{cid, opcode}
+use Rattle.nvme_wire.specs.declared.status.Status.{Status}
+use Rattle.nvme_spec.specs.declared.command.Command.{Command}
+use Rattle.nvme_spec.specs.declared.verdict.Verdict.{Verdict}
+use Rattle.nvme_spec.specs.declared.verdict.Verdict.TheVariants.{Allowed, Denied}
+use Rattle.nvme_spec.specs.Blocks.{Device}
+use Rattle.nvme_spec.specs.World.{World}
+use Rattle.nvme_spec.specs.Commands.{command_of, plan_of, is_one_of, ranged}
+use Rattle.nvme_spec.specs.Rules.{Judgement}
+use Rattle.nvme_spec.specs.IoRules.{conclusion}
+use Rattle.nvme_spec.specs.IoData as spec
+use Rattle.nvme_spec.specs.Execution.{scene, ExecutesBy, denial_outcome}
+use Rattle.nvme_driver.specs.declared.lane.Lane.TheVariants.{Io}
+use Rattle.nvme_driver.specs.Layout.{data_area}
+use Rattle.nvme_driver.specs.Polls.{is_success}
+use Rattle.nvme_driver.specs.Drivers.{Driver}
+use Rattle.nvme_machine.specs.declared.fetched.FetchedCommand.{FetchedCommand}
+use Rattle.nvme_machine.specs.Answers.{Answer}
+use Rattle.nvme_machine.specs.Controllers.{Controller}
+use Rattle.nvme_fleet.specs.Mailboxes.{FetchedItem, lane_of}
+use Rattle.nvme_fleet.specs.Executions.{Site, Response, command_entry, io_judgement, io_verdict, denial_response, AnswersIo, AnswersAs, Answers}
+use Rattle.nvme_fleet.specs.Sound.{Sound, mailbox, lane_of_queue}
+use Rattle.nvme_fleet.specs.Steps.{IsServedInItsSlot, IsAnsweredInItsSlot, AnswersItsRequest, response_with}
+use Rattle.nvme_fleet.proofs.Windows.{stored-none}
+use Rattle.nvme_fleet.proofs.Commands.{SameFields}
+use Rattle.nvme_fleet.proofs.Judging.{length-same, count-same, lba-same}
+use Rattle.nvme_fleet.proofs.PostStep.{lane-of-item}
+use Rattle.nvme_fleet.proofs.JudgeStep.{io-known, item-is, asked-is, judged_as_its_request}
+use Rattle.nvme_fleet.proofs.ServeStep.{asked_by, allowed_serves_its_request}
+use Rattle.nvme_fleet.proofs.Denying.{VerdictRefuses, verdict-refuses}
+
+plan-same : (command : Command) (x y : List ℕ) → SameFields x y → plan_of command y ≡ plan_of command x
+plan-same command x y f i = record {
+  kind = command;
+  first = if is_one_of (Some command) ranged then lba-same x y f i else 0;
+  blocks = if is_one_of (Some command) ranged then count-same x y f i else 0;
+  bytes = length-same x y command f i;
+}
+
+conclusion-same : (j : Judgement) (o : Option Command) (x y : List ℕ) → SameFields x y → conclusion j o y ≡ conclusion j o x
+conclusion-same (Err d) o x y f = refl
+conclusion-same (Ok u) None x y f = refl
+conclusion-same (Ok u) (Some command) x y f = ap Allowed (plan-same command x y f)
+
+-- the verdict on the request
+verdict-is : (d : Driver) (c : Controller) (i : ℕ) (t : FetchedCommand) (x : FetchedItem) (w : World) (cntlid : ℕ) (s : Sound d c) (g : slice_get c.fetched i ≡ Some t)
+    (f : slice_get (mailbox d c).fetched i ≡ Some x) (q : t.queue ≡ 1) → io_verdict w cntlid x.item.asked x.marked ≡ spec.io_verdict w cntlid t.entry t.marked c.window
+verdict-is d c i t x w cntlid s g f q =
+    let k = io-known d c i t s g q in
+    let e : x.item.asked ≡ asked_by d c t = ap (λ (y : FetchedItem). y.item.asked) (item-is d c i t x g f) ∙ asked-is d c t q in
+    let m : SameFields t.entry (command_entry x.item.asked) = subst (λ a. SameFields t.entry (command_entry a)) (sym e) k.same in
+    conclusion-same (io_judgement w cntlid x.item.asked x.marked) (command_of (opcode (command_entry x.item.asked))) t.entry (command_entry x.item.asked) m
+    ∙ ap (λ n. conclusion (io_judgement w cntlid x.item.asked x.marked) (command_of n) t.entry) m.opcode
+    ∙ ap (λ j. conclusion j (command_of (opcode t.entry)) t.entry) (sym (judged_as_its_request d c i t x w cntlid s g f q))
+
+lane-is : (d : Driver) (c : Controller) (i : ℕ) (t : FetchedCommand) (x : FetchedItem) (s : Sound d c) (g : slice_get c.fetched i ≡ Some t)
+    (f : slice_get (mailbox d c).fetched i ≡ Some x) (q : t.queue ≡ 1) → lane_of x.item ≡ Io
+lane-is d c i t x s g f q =
+    let k = io-known d c i t s g q in
+    ap (λ (y : FetchedItem). lane_of y.item) (item-is d c i t x g f) ∙ lane-of-item Io d c t (ap lane_of_queue q) (record { received = k.received; of_lane = k.io })
+
+as-io : (tells : Bool) (cntlid : ℕ) (x : FetchedItem) (s : Site) (r : Response) (v : Verdict) → lane_of x.item ≡ Io → io_verdict s.world cntlid x.item.asked x.marked ≡ v
+    → AnswersIo v tells cntlid x.item.asked s r → Answers tells cntlid x s r
+unfolding Answers
+as-io tells cntlid x s r v l e h =
+    subst (λ n. AnswersAs n tells cntlid x.item.asked x.marked s r) (sym l) (subst (λ u. AnswersIo u tells cntlid x.item.asked s r) (sym e) h)
+
+-- nothing comes with a denial
+denied-with : (d : Driver) (t : FetchedCommand) (a : Answer) (w : World) (window : List ℕ) (device : Device) (number : ℕ) (why : Status) → is_success why ≡ false
+    → a.left ≡ scene w window device → a.outcome ≡ denial_outcome number why → response_with d t a [] ≡ denial_response (record { world = w; device = device }) number why
+denied-with d t a w window device number why n l o = rw (l, o, n) refl
+
+answered-by : (tells : Bool) (d : Driver) (c : Controller) (i : ℕ) (t : FetchedCommand) (x : FetchedItem) (w : World) (device : Device) (cntlid : ℕ) (a : Answer)
+    → Sound d c → slice_get c.fetched i ≡ Some t → slice_get (mailbox d c).fetched i ≡ Some x → t.queue ≡ 1
+    → (v : Verdict) → spec.io_verdict w cntlid t.entry t.marked c.window ≡ v → VerdictRefuses v → ExecutesBy v tells cntlid t.entry (scene w c.window device) a.left a.outcome
+    → IsAnsweredInItsSlot tells d c t x w device cntlid a
+answered-by tells d c i t x w device cntlid a s g f q (Denied number why) e n h = record {
+  bytes = [];
+  window = ap (λ z. z.window) h.0 ∙ sym (stored-none c.window (data_area (cid t.entry)));
+  few = omega arith;
+  whole = (let o = h.1 in rw (o, n) (omega arith));
+  answers = as-io tells cntlid x (record { world = w; device = device }) (response_with d t a []) (Denied number why) (lane-is d c i t x s g f q) (verdict-is d c i t x w cntlid s g f q ∙ e)
+      (denied-with d t a w c.window device number why n h.0 h.1);
+}
+answered-by tells d c i t x w device cntlid a s g f q (Allowed plan) e n h =
+    let r : IsServedInItsSlot tells d c t x w device cntlid plan.kind a = allowed_serves_its_request tells d c i t x w device cntlid plan a s g f q e h in
+    record {
+      bytes = r.bytes;
+      window = r.window;
+      few = r.few;
+      whole = r.whole;
+      answers = as-io tells cntlid x (record { world = w; device = device }) (response_with d t a r.bytes) (Allowed plan) (lane-is d c i t x s g f q) (verdict-is d c i t x w cntlid s g f q ∙ e) r.served;
+    }
+
+pub answers_its_request : AnswersItsRequest
+answers_its_request tells d c i t x w device cntlid a s g f q h =
+    answered-by tells d c i t x w device cntlid a s g f q (spec.io_verdict w cntlid t.entry t.marked c.window) refl (verdict-refuses w cntlid t.entry t.marked c.window) h
