@@ -30,7 +30,7 @@ use Rattle.nvme_fleet.proofs.Judging.{length-same, count-same, lba-same}
 use Rattle.nvme_fleet.proofs.PostStep.{lane-of-item}
 use Rattle.nvme_fleet.proofs.JudgeStep.{io-known, item-is, asked-is, judged_as_its_request}
 use Rattle.nvme_fleet.proofs.ServeStep.{asked_by, allowed_serves_its_request}
-use Rattle.nvme_fleet.proofs.Denying.{VerdictRefuses, verdict-refuses}
+use Rattle.nvme_fleet.proofs.Denying.{VerdictRefuses, verdict-refuses, refuses}
 
 plan-same : (command : Command) (x y : List ℕ) → SameFields x y → plan_of command y ≡ plan_of command x
 plan-same command x y f i = record {
@@ -81,9 +81,9 @@ answered-by tells d c i t x w device cntlid a s g f q (Denied number why) e n h 
   bytes = [];
   window = ap (λ z. z.window) h.0 ∙ sym (stored-none c.window (data_area (cid t.entry)));
   few = omega arith;
-  whole = (let o = h.1 in rw (o, n) (omega arith));
+  whole = (let o = h.1 in let m = (refuses why n).0 in rw (o, m) (omega arith));
   answers = as-io tells cntlid x (record { world = w; device = device }) (response_with d t a []) (Denied number why) (lane-is d c i t x s g f q) (verdict-is d c i t x w cntlid s g f q ∙ e)
-      (denied-with d t a w c.window device number why n h.0 h.1);
+      (denied-with d t a w c.window device number why (refuses why n).0 h.0 h.1);
 }
 answered-by tells d c i t x w device cntlid a s g f q (Allowed plan) e n h =
     let r : IsServedInItsSlot tells d c t x w device cntlid plan.kind a = allowed_serves_its_request tells d c i t x w device cntlid plan a s g f q e h in

@@ -1,5 +1,6 @@
--- A command that a rule denies is not answered with Successful Completion.
-use Rattle.std.proofs.Common.{◌≡◌, ℕ, ◌==◌, not, ◌&&◌, ◌||◌, filter, Bool, true, false, List, [], ◌∷◌, ◌++◌, Option, None, Some, Result, Ok, Err, refl}
+-- A command that a rule denies is not answered with Successful Completion; its status is within its width.
+use Rattle.std.proofs.Common.{◌≡◌, ℕ, nat_lt, ◌==◌, not, ◌&&◌, ◌||◌, filter, Bool, true, false, List, [], ◌∷◌, ◌++◌, Option, None, Some, Result, Ok, Err, refl}
+use Rattle.std.proofs.lemmas.Bool.{and_parts}
 use Rattle.std.specs.Prelude.{if◌then◌else◌}
 use Rattle.std.specs.List.{AllByRecursion}
 use Rattle.nvme_wire.specs.Submission.{opcode, nsid}
@@ -21,8 +22,12 @@ use Rattle.nvme_spec.specs.IoData.{current_key, other_key, action_outcome, outco
 use Rattle.nvme_spec.specs.Statuses as status
 use Rattle.nvme_driver.specs.Polls.{is_success}
 
+-- a status whose fields are within their width
+abbrev pub fits : Status → Bool
+fits s = nat_lt s.sct 8 && nat_lt s.sc 256
+
 abbrev pub Refuses : Status → Type 0
-Refuses s = is_success s ≡ false
+Refuses s = (not (is_success s) && fits s) ≡ true
 
 -- Tests, rules and judgements whose statuses are refusals.
 
@@ -222,6 +227,15 @@ conclusion-refuses : (j : Judgement) (o : Option Command) (e : List ℕ) → Jud
 conclusion-refuses (Err d) o e h = h
 conclusion-refuses (Ok u) None e h = refl
 conclusion-refuses (Ok u) (Some c) e h = tt
+
+pub refuses : (s : Status) → Refuses s → (is_success s ≡ false) × (fits s ≡ true)
+refuses s h =
+    let p = and_parts _ _ h in
+    (not-true (is_success s) p.0, p.1)
+  where
+    not-true : (b : Bool) → not b ≡ true → b ≡ false
+    not-true false e = refl
+    not-true true e = absurd (cc (e))
 
 pub verdict-refuses : (w : World) (k : ℕ) (e : List ℕ) (marked : Bool) (window : List ℕ) → VerdictRefuses (io_verdict w k e marked window)
 verdict-refuses w k e marked window = conclusion-refuses (io_judgement w k e marked window) (command_of (opcode e)) e (io-refuses w k e marked window)
