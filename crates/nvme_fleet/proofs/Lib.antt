@@ -41,3 +41,4 @@ pub mod JudgeStep
 pub mod ServeStep
 pub mod Denying
 pub mod AnswerStep
+pub mod ExecuteStep

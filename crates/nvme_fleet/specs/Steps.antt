@@ -16,6 +16,9 @@ use Rattle.nvme_spec.specs.Queues.{phase_tag}
 use Rattle.nvme_driver.specs.Layout.{data_area}
 use Rattle.nvme_machine.specs.declared.fetched.FetchedCommand.{FetchedCommand}
 use Rattle.nvme_machine.specs.Answers.{Answer}
+use Rattle.nvme_machine.specs.declared.seen.Executed.{Executed}
+use Rattle.nvme_machine.specs.declared.seen.Executed.TheVariants.{Posted}
+use Rattle.nvme_machine.specs.Executing.{Setting, ExecutesNth}
 use Rattle.nvme_machine.specs.Subsystems.{after_answer as after_machine_answer}
 use Rattle.nvme_fleet.specs.Mailboxes.{FetchedItem, with_marks as mark_mailbox}
 use Rattle.nvme_fleet.specs.Executions.{Response, io_judgement, IsServed, Answers}
@@ -189,3 +192,22 @@ AnswersItsRequest =
     → Sound d c → slice_get c.fetched i ≡ Some t → slice_get (mailbox d c).fetched i ≡ Some x → t.queue ≡ 1
     → Executes tells cntlid t.entry t.marked (scene w c.window device) a.left a.outcome
     → IsAnsweredInItsSlot tells d c t x w device cntlid a
+
+-- An execution of an I/O command, in the world and over the medium as they are, is the step of the mailbox: the request in its
+-- place has an answer, which stands at the end of the lane then.
+pub record IsExecuted (tells : Bool) (d : driver.Driver) (i : ℕ) (old : Setting) (executed : Executed) (new : Setting) : Type 0 where
+  pub item : FetchedItem
+  pub response : Response
+  pub found : slice_get (mailbox d old.controller).fetched i ≡ Some item
+  pub answers : Answers tells old.controller.cntlid item (record { world = old.world; device = old.device }) response
+  pub gives : executed ≡ Posted response.outcome
+  pub sound : Sound d new.controller
+  pub mail : mailbox d new.controller ≡ after_answer i item response (mailbox d old.controller)
+  pub world : new.world ≡ response.left.world
+  pub device : new.device ≡ response.left.device
+
+abbrev pub IoExecutionIsAStep : Type 0
+IoExecutionIsAStep =
+    (tells : Bool) (d : driver.Driver) (i : ℕ) (t : FetchedCommand) (old : Setting) (executed : Executed) (new : Setting) → Sound d old.controller
+    → slice_get old.controller.fetched i ≡ Some t → t.queue ≡ 1 → ExecutesNth tells i old executed new
+    → IsExecuted tells d i old executed new

@@ -1,7 +1,7 @@
 //! What follows from the definitions. Each law is the contract of a function that does nothing.
 
 ghost use Rattle.nvme_fleet.specs.Determined.{FailuresNeverFall, RunExists, RunIsUnique};
-ghost use Rattle.nvme_fleet.specs.Steps.{JudgedAsItsRequest, AllowedServesItsRequest, AnswersItsRequest, NothingToExecute, PostingHasRoom, PostingIsAStep, RefusalIsAStep, PlaceIsAStep, RingIsAStep, FetchIsAStep, MarksAreSteps, PollIsAStep, ResetIsAStep};
+ghost use Rattle.nvme_fleet.specs.Steps.{JudgedAsItsRequest, AllowedServesItsRequest, AnswersItsRequest, NothingToExecute, PostingHasRoom, PostingIsAStep, IoExecutionIsAStep, RefusalIsAStep, PlaceIsAStep, RingIsAStep, FetchIsAStep, MarksAreSteps, PollIsAStep, ResetIsAStep};
 
 /// A list of events has one run without a fault of the medium, and one alone: each reply, and what is left, is what the
 /// definitions compute.
@@ -27,7 +27,8 @@ pub fn events_are_steps()
 /// What a controller answers to a command that it fetched from its driver stands at the end of the lane in the mailbox,
 /// whatever it is, where its data lie in the request's slot; there is room for it, and no answer without a request. An I/O
 /// command is judged as its request, whose data pointer passes; an allowed one does what its request does, by the request's
-/// data, whatever a fault of the medium chooses; and what it may be answered, its request may be answered.
+/// data, whatever a fault of the medium chooses; and what it may be answered, its request may be
+/// answered. So an execution of an I/O command is the step of the mailbox.
 pub fn postings_are_steps()
     ensures judged { JudgedAsItsRequest }
     ensures serves { AllowedServesItsRequest }
@@ -35,4 +36,5 @@ pub fn postings_are_steps()
     ensures none { NothingToExecute }
     ensures room { PostingHasRoom }
     ensures posts { PostingIsAStep }
+    ensures executes { IoExecutionIsAStep }
 {}

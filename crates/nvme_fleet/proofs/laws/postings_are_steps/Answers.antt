@@ -1,3 +1,4 @@
+use Rattle.nvme_fleet.proofs.ExecuteStep.{io_execution_is_a_step}
 use Rattle.nvme_fleet.proofs.JudgeStep.{judged_as_its_request}
 use Rattle.nvme_fleet.proofs.PostStep.{nothing_to_execute, posting_has_room, posting_is_a_step}
 use Rattle.nvme_fleet.proofs.ServeStep.{allowed_serves_its_request}
@@ -21,3 +22,6 @@ returns-clause-serves c = allowed_serves_its_request
 
 pub returns-clause-answers : goal.returns-clause-answers
 returns-clause-answers c = answers_its_request
+
+pub returns-clause-executes : goal.returns-clause-executes
+returns-clause-executes c = io_execution_is_a_step

@@ -1,0 +1,162 @@
+-- An execution of an I/O command is the step of the mailbox.
+use Rattle.std.proofs.Common.{◌≡◌, ℕ, nat_lt, ◌<◌, ◌==◌, Bool, true, List, map, Some, refl, sym, ap, subst, ◌∙◌, arith, inl, inr, slice_get}
+use Rattle.std.proofs.lemmas.Bool.{and_parts, cases_lt, le-ltb}
+use Rattle.std.proofs.lemmas.Option.{slice_get-map}
+use Rattle.std.specs.Option.{option_map}
+use Rattle.nvme_wire.specs.Completion.{FitsCompletion}
+use Rattle.nvme_wire.specs.declared.status.Status.{Status}
+use Rattle.nvme_spec.specs.declared.outcome.Outcome.{Outcome}
+use Rattle.nvme_spec.specs.declared.command.Command.{Command}
+use Rattle.nvme_spec.specs.declared.command.Command.TheVariants as io
+use Rattle.nvme_spec.specs.declared.verdict.Verdict.{Verdict}
+use Rattle.nvme_spec.specs.declared.verdict.Verdict.TheVariants.{Allowed, Denied}
+use Rattle.nvme_spec.specs.Blocks.{Device}
+use Rattle.nvme_spec.specs.Effects.{ReadEffect, WriteEffect, CompareEffect, FlushEffect}
+use Rattle.nvme_spec.specs.Statuses as status
+use Rattle.nvme_spec.specs.IoData as spec
+use Rattle.nvme_spec.specs.Execution.{Scene, Performs, ExecutesBy}
+use Rattle.nvme_driver.specs.declared.lane.Lane.{Lane}
+use Rattle.nvme_driver.specs.Drivers.{Driver, is_up}
+use Rattle.nvme_machine.specs.declared.fetched.FetchedCommand.{FetchedCommand}
+use Rattle.nvme_machine.specs.declared.seen.Executed.{Executed}
+use Rattle.nvme_machine.specs.Controllers.{Controller, QueuePair, open_pair, queues_of}
+use Rattle.nvme_machine.specs.Answers.{Answer, AnswersAs, Answers, AnswersIo}
+use Rattle.nvme_machine.specs.Executing.{Setting, Finishes, FinishesOver, FinishesOne, scene_in}
+use Rattle.nvme_fleet.specs.Mailboxes.{FetchedItem}
+use Rattle.nvme_fleet.specs.Executions.{Answers as FleetAnswers}
+use Rattle.nvme_fleet.specs.Lanes.{DeviceSide, DeviceEnds, Both, pair, state, held_by, fetched_by}
+use Rattle.nvme_fleet.specs.Sound.{Sound, IsPaired, host_side, device_side, mailbox, taken_by}
+use Rattle.nvme_fleet.specs.Steps.{IsExecuted, response_with, IoExecutionIsAStep}
+use Rattle.nvme_fleet.proofs.Places.{no-way}
+use Rattle.nvme_fleet.proofs.Linking.{of, pair-is}
+use Rattle.nvme_fleet.proofs.PostStep.{known, up-of, open-is, pair_in, fields_of, item_at, posting_has_room, posting_is_a_step}
+use Rattle.nvme_fleet.proofs.JudgeStep.{io-known}
+use Rattle.nvme_fleet.proofs.AnswerStep.{answers_its_request}
+use Rattle.nvme_fleet.proofs.Denying.{fits, refuses, VerdictRefuses, verdict-refuses}
+
+-- Of a status that an allowed command may be answered.
+
+one : (answer s : Status) → answer ≡ s → fits s ≡ true → fits answer ≡ true
+one answer s e h = ap fits e ∙ h
+
+write-fits : (tells : Bool) (first : ℕ) (bytes : List ℕ) (old new : Device) (answer : Status) → WriteEffect tells first bytes old new answer → fits answer ≡ true
+write-fits tells first bytes old new answer (inl h) = let f = h.0 in one answer status.successful_completion f.answered refl
+write-fits tells first bytes old new answer (inr h) = let f = h.0 in one answer status.write_fault f.answered refl
+
+flush-fits : (tells : Bool) (old new : Device) (answer : Status) → FlushEffect tells old new answer → fits answer ≡ true
+flush-fits tells old new answer (same, inl h) = one answer status.successful_completion h.answered refl
+flush-fits tells old new answer (same, inr h) = one answer status.write_fault h.answered refl
+
+read-fits : (tells : Bool) (first n : ℕ) (old new : Device) (answer : Status) (returned : List ℕ) → ReadEffect tells first n old new answer returned → fits answer ≡ true
+read-fits tells first n old new answer returned (same, inl h) = let f = h.0 in one answer status.successful_completion f.answered refl
+read-fits tells first n old new answer returned (same, inr h) = let f = h.0 in one answer status.unrecovered_read_error f.answered refl
+
+compare-fits : (tells : Bool) (first : ℕ) (bytes : List ℕ) (old new : Device) (answer : Status) → CompareEffect tells first bytes old new answer → fits answer ≡ true
+compare-fits tells first bytes old new answer (same, inl h) = let f = h.0 in one answer status.successful_completion f.answered refl
+compare-fits tells first bytes old new answer (same, inr (inl h)) = let f = h.0 in one answer status.compare_failure f.answered refl
+compare-fits tells first bytes old new answer (same, inr (inr h)) = let f = h.0 in one answer status.unrecovered_read_error f.answered refl
+
+performs-fits : (tells : Bool) (command : Command) (k : ℕ) (x keys : List ℕ) (old new : Scene) (answer : Status) (returned : List ℕ) → Performs tells command k x keys old new answer returned → fits answer ≡ true
+performs-fits tells io.Flush k x keys old new answer returned h = let f = h.effect in flush-fits tells old.device new.device answer f.0
+performs-fits tells io.Write k x keys old new answer returned h = let f = h.effect in write-fits tells _ _ old.device new.device answer f.0
+performs-fits tells io.WriteZeroes k x keys old new answer returned h = let f = h.effect in write-fits tells _ _ old.device new.device answer f.0
+performs-fits tells io.Compare k x keys old new answer returned h = let f = h.effect in compare-fits tells _ _ old.device new.device answer f.0
+performs-fits tells io.Read k x keys old new answer returned h = read-fits tells _ _ old.device new.device answer returned h.effect
+performs-fits tells io.ReservationRegister k x keys old new answer returned h = one answer status.successful_completion h.answered refl
+performs-fits tells io.ReservationAcquire k x keys old new answer returned h = one answer status.successful_completion h.answered refl
+performs-fits tells io.ReservationRelease k x keys old new answer returned h = one answer status.successful_completion h.answered refl
+performs-fits tells io.ReservationReport k x keys old new answer returned h = one answer status.successful_completion h.answered refl
+
+executes-fits : (v : Verdict) (tells : Bool) (k : ℕ) (x : List ℕ) (old new : Scene) (o : Outcome) → VerdictRefuses v → ExecutesBy v tells k x old new o → (fits o.status ≡ true) × (o.dw0 ≡ 0)
+executes-fits (Denied number why) tells k x old new o n h = (ap (λ z. fits z.status) h.1 ∙ (refuses why n).1, ap (λ z. z.dw0) h.1)
+executes-fits (Allowed plan) tells k x old new o n h = (performs-fits tells plan.kind k x _ old new o.status h.returned h.effect, h.dw0)
+
+-- Of the queue's head.
+
+head-small : (lane : Lane) (d : Driver) (c : Controller) (p : IsPaired c) → Sound d c → is_up d.state ≡ true → (of lane c p).fetched < 8
+head-small lane d c p s u =
+    let b : Both (host_side d) (device_side c) = s.both in
+    let r = (b.each lane).up u in
+    subst (λ (x : DeviceEnds). x.fetched < 8) (pair-is lane c p) (state-fetched lane (device_side c) 8 r.fetched)
+  where
+    state-fetched : (l : Lane) (k : DeviceSide) (n : ℕ) → (state l k).fetched < n → (pair l k).fetched < n
+    state-fetched l k n h = h
+
+pair-head : (d : Driver) (c : Controller) (i : ℕ) (t : FetchedCommand) (p : QueuePair) → Sound d c → slice_get c.fetched i ≡ Some t → open_pair c t ≡ Some p → p.submission.head.fetched < 8
+pair-head d c i t p s g e =
+    let k = known d c i t s g in
+    let same : p ≡ pair_in k.lane c k.paired = some-is p (pair_in k.lane c k.paired) (sym e ∙ open-is k.lane c k.paired t k.queue k.room) in
+    subst (λ (z : QueuePair). z.submission.head.fetched < 8) (sym same) (head-small k.lane d c k.paired s (up-of d c i t s g))
+  where
+    some-is : (y z : QueuePair) → Some y ≡ Some z → y ≡ z
+    some-is y z h = cc
+
+lt-true : (a b : ℕ) → nat_lt a b ≡ true → a < b
+lt-true a b h = elim (cases_lt a b) [
+  | inl l ↦ l
+  | inr m ↦ absurd (no-way (nat_lt a b) (le-ltb a b m) h)
+]
+
+completion-fits : (d : Driver) (c : Controller) (i : ℕ) (t : FetchedCommand) (p : QueuePair) (a : Answer) → Sound d c → slice_get c.fetched i ≡ Some t → t.queue ≡ 1 → open_pair c t ≡ Some p
+    → fits a.outcome.status ≡ true → a.outcome.dw0 ≡ 0 → FitsCompletion (fields_of t p a)
+completion-fits d c i t p a s g q e f z =
+    let k = io-known d c i t s g q in
+    let head = pair-head d c i t p s g e in
+    let within = k.within in
+    let b = and_parts _ _ f in
+    record {
+      dw0 = omega (arith, z);
+      sq_head = omega (arith, head);
+      sq_id = omega (arith, q);
+      cid = omega (arith, within);
+      sct = lt-true a.outcome.status.sct 8 b.0;
+      sc = lt-true a.outcome.status.sc 256 b.1;
+    }
+
+found-at : (d : Driver) (c : Controller) (i : ℕ) (t : FetchedCommand) → slice_get c.fetched i ≡ Some t → slice_get (mailbox d c).fetched i ≡ Some (item_at d c t)
+found-at d c i t g =
+    slice_get-map (fetched_by (held_by (host_side d) c.window)) (map taken_by c.fetched) i
+    ∙ ap (option_map (fetched_by (held_by (host_side d) c.window))) (slice_get-map taken_by c.fetched i ∙ ap (option_map taken_by) g)
+
+io-answers : (tells : Bool) (d : Driver) (t : FetchedCommand) (old : Setting) (a : Answer) → t.queue ≡ 1
+    → Answers tells (queues_of old.controller) old.controller.cntlid t (scene_in old) a → AnswersIo tells old.controller.cntlid t (scene_in old) a
+unfolding Answers
+io-answers tells d t old a q h = subst (λ n. AnswersAs (n == 0) tells (queues_of old.controller) old.controller.cntlid t (scene_in old) a) q h
+
+finished : (tells : Bool) (d : Driver) (i : ℕ) (t : FetchedCommand) (p : QueuePair) (old : Setting) (executed : Executed) (new : Setting) → Sound d old.controller
+    → slice_get old.controller.fetched i ≡ Some t → t.queue ≡ 1 → open_pair old.controller t ≡ Some p → Finishes tells i t p old executed new → IsExecuted tells d i old executed new
+finished tells d i t p old executed new s g q e h =
+    let f = found-at d old.controller i t g in
+    let n = io-answers tells d t old h.answer q h.answers in
+    let y = answers_its_request tells d old.controller i t (item_at d old.controller t) old.world old.device old.controller.cntlid h.answer s g f q n.1 in
+    let w = executes-fits (spec.io_verdict old.world old.controller.cntlid t.entry t.marked old.controller.window) tells old.controller.cntlid t.entry (scene_in old) h.answer.left h.answer.outcome
+    (verdict-refuses old.world old.controller.cntlid t.entry t.marked old.controller.window) n.1 in
+    let r = posting_is_a_step d old.controller i t p h.answer s g e (record {
+      bytes = y.bytes;
+      queues = n.0;
+      window = y.window;
+      few = y.few;
+      whole = y.whole;
+      fits = completion-fits d old.controller i t p h.answer s g q e w.0 w.1;
+    }) in
+    let same : item_at d old.controller t ≡ r.item = some-is (item_at d old.controller t) r.item (sym f ∙ r.found) in
+    record {
+      item = r.item;
+      response = response_with d t h.answer y.bytes;
+      found = r.found;
+      answers = subst (λ (z : FetchedItem). FleetAnswers tells old.controller.cntlid z (record { world = old.world; device = old.device }) (response_with d t h.answer y.bytes)) same y.answers;
+      gives = h.gives;
+      sound = subst (Sound d) (sym h.controller) r.sound;
+      mail = ap (mailbox d) h.controller ∙ r.mail;
+      world = h.world;
+      device = h.device;
+    }
+  where
+    some-is : (y z : FetchedItem) → Some y ≡ Some z → y ≡ z
+    some-is y z h = cc
+
+pub io_execution_is_a_step : IoExecutionIsAStep
+io_execution_is_a_step tells d i t old executed new s g q h =
+    let over : FinishesOver (open_pair old.controller t) tells i t old executed new = subst (λ o. FinishesOne o tells i old executed new) g h in
+    let room = posting_has_room d old.controller i t s g in
+    finished tells d i t room.0 old executed new s g q room.1 (subst (λ o. FinishesOver o tells i t old executed new) room.1 over)
