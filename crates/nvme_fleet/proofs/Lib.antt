@@ -42,3 +42,7 @@ pub mod ServeStep
 pub mod Denying
 pub mod AnswerStep
 pub mod ExecuteStep
+pub mod StartStep
+pub mod OwnCommands
+pub mod TurnStep
+pub mod RiseStep

@@ -57,6 +57,9 @@ moves-zeros w l =
     let z : length zeros ≡ 4096 = zeros-are.long in
     moves-io w _ _ _ zeros 4096 (moves-io w _ _ _ zeros 0 (moves-admin w _ _ _ zeros 4096 (moves-admin w w (λ p. p) (λ p. p) zeros 0 (moves-none w l) (omega (arith, z))) (omega (arith, z))) (omega (arith, z))) (omega (arith, z))
 
+pub zeroed-size : (w : List ℕ) → length w ≡ 4194304 → length (zeroed_all w) ≡ 4194304
+zeroed-size w l = let m : Moves w (zeroed_all w) zeroed zeroed = moves-zeros w l in m.size
+
 moves-own : (n : ℕ) (w v : List ℕ) (o : OwnCommand) (f g : List ℕ → List ℕ) → Moves w v f g → n < 8 → IsOwn o → Moves w (own_window n v o) (λ p. own-page n (f p) o) g
 moves-own n w v o f g m h e =
     moves-admin w _ _ _ o.completion (4096 + 16 * n) (moves-admin w v f g o.command (64 * n) m (omega (arith, h, e.command))) (omega (arith, h, e.completion))

@@ -1,6 +1,7 @@
 //! What follows from the definitions. Each law is the contract of a function that does nothing.
 
 ghost use Rattle.nvme_fleet.specs.Determined.{FailuresNeverFall, RunExists, RunIsUnique};
+ghost use Rattle.nvme_fleet.specs.Links.{BringUpIsAStep};
 ghost use Rattle.nvme_fleet.specs.Steps.{JudgedAsItsRequest, AllowedServesItsRequest, AnswersItsRequest, NothingToExecute, PostingHasRoom, PostingIsAStep, IoExecutionIsAStep, RefusalIsAStep, PlaceIsAStep, RingIsAStep, FetchIsAStep, MarksAreSteps, PollIsAStep, ResetIsAStep};
 
 /// A list of events has one run without a fault of the medium, and one alone: each reply, and what is left, is what the
@@ -22,6 +23,13 @@ pub fn events_are_steps()
     ensures marks { MarksAreSteps }
     ensures poll { PollIsAStep }
     ensures reset { ResetIsAStep }
+{}
+
+/// A driver that is down, at its controller that is off, always comes up: each call of its port being an event of the
+/// controller, and each turn a fetch from the admin queue and an execution, both queues are created, and this is the step
+/// of the mailbox. Access state and medium stay.
+pub fn bringing_up_is_a_step()
+    ensures up { BringUpIsAStep }
 {}
 
 /// What a controller answers to a command that it fetched from its driver stands at the end of the lane in the mailbox,

@@ -1,0 +1,215 @@
+-- Bringing up is a step of the mailbox: two rounds of a command of the driver's own.
+use Rattle.std.proofs.Common.{◌≡◌, ℕ, ◌<◌, Bool, true, false, List, length, Option, None, Some, Result, Ok, refl, sym, ap, subst, ◌∙◌, arith}
+use Rattle.nvme_wire.specs.declared.sqe.fields.SqeFields.{SqeFields}
+use Rattle.nvme_wire.specs.declared.status.Status.{Status}
+use Rattle.nvme_wire.specs.Submission.{submission_entry, cid as command_cid}
+use Rattle.nvme_wire.specs.Completion.{completion_entry}
+use Rattle.nvme_spec.specs.Bytes.{with_bytes}
+use Rattle.nvme_spec.specs.Blocks.{Device}
+use Rattle.nvme_spec.specs.World.{World}
+use Rattle.nvme_spec.specs.Registers.{value_at}
+use Rattle.nvme_driver.specs.declared.lane.Lane.{Lane}
+use Rattle.nvme_driver.specs.declared.lane.Lane.TheVariants.{Admin, Io}
+use Rattle.nvme_driver.specs.declared.state.State.{State}
+use Rattle.nvme_driver.specs.declared.state.State.TheVariants.{Down, Up}
+use Rattle.nvme_driver.specs.declared.faults.UpFault.{UpFault}
+use Rattle.nvme_driver.specs.Calls.{Calls}
+use Rattle.nvme_driver.specs.Drivers.{Driver, ends, is_up}
+use Rattle.nvme_driver.specs.Rises.{Rises, Creates, CreatesBoth, CreatesSubmissions, create_completion_queue, create_submission_queue, csts, is_ready, fault_of, start_calls, started, Concludes}
+use Rattle.nvme_machine.specs.Controllers.{Controller, SubmissionQueue, CompletionQueue, after_queue_change}
+use Rattle.nvme_machine.specs.Executing.{Setting, setting}
+use Rattle.nvme_fleet.specs.Lanes.{OwnCommand, Both, zeroed_all, come_up}
+use Rattle.nvme_fleet.specs.Lanes as lanes
+use Rattle.nvme_fleet.specs.Deliveries.{brought_up, recounted}
+use Rattle.nvme_fleet.specs.Mailboxes.{Mailbox}
+use Rattle.nvme_fleet.specs.Sound.{Sound, IsOff, is_failed, EndsFit, IsPaired, host_side, device_side, mailbox}
+use Rattle.nvme_fleet.specs.Links.{LinkStep, BringUpIsAStep, with_controller, window_in}
+use Rattle.nvme_driver.proofs.PageLists.{part-there}
+use Rattle.nvme_fleet.proofs.Places.{no-way}
+use Rattle.nvme_fleet.proofs.Windows.{stored-length}
+use Rattle.nvme_fleet.proofs.Rising.{IsOwn, up-both, up-mail, zeroed-size}
+use Rattle.nvme_fleet.proofs.StartStep.{running, setting_calls, calls-are, value-is, started-is, ready-value}
+use Rattle.nvme_fleet.proofs.OwnCommands.{first_change, second_change, completions-made, submissions-made, first-cid, second-cid, first-size, second-size}
+use Rattle.nvme_fleet.proofs.TurnStep.{Round, round, own_completion, own-size, says-own, with_admin, ends_at, put_window}
+
+-- the queues that they create
+abbrev made_completions : Option CompletionQueue
+made_completions = Some (record { base = 0x3000; tail = record { size = 32; posted = 0; unread = 0 } })
+
+abbrev made_submissions : Option SubmissionQueue
+made_submissions = Some (record { base = 0x2000; cqid = 1; head = record { size = 8; fetched = 0; waiting = 0 } })
+
+-- the n-th such command, with its completion
+abbrev own : ℕ → SqeFields → OwnCommand
+own n f = record { command = submission_entry f; completion = completion_entry (own_completion n (submission_entry f)) }
+
+is-own : (n : ℕ) (f : SqeFields) → n < 32 → length (submission_entry f) ≡ 64 → command_cid (submission_entry f) ≡ 24 → IsOwn (own n f)
+is-own n f h size i = record {
+  command = size;
+  completion = own-size (own_completion n (submission_entry f));
+  phase = (says-own n (submission_entry f) h i).phase;
+}
+
+-- the window once it was answered
+abbrev answered_window : ℕ → SqeFields → List ℕ → List ℕ
+answered_window n f w = lanes.own_window n w (own n f)
+
+first-round : (tells : Bool) (k : ℕ) (w : List ℕ) (world : World) (device : Device) (d d' : Driver) (new : Setting) (result : Option Status) → length w ≡ 4194304
+    → Creates (LinkStep tells) window_in create_completion_queue (with_admin (ends_at 0) d) (setting (running k 0 0 None None 0 w) world device) result d' new
+    → Round 0 k None made_completions (put_window 0 w (submission_entry create_completion_queue)) (submission_entry create_completion_queue) d (setting (running k 0 0 None None 0 w) world device) result d' new
+unfolding after_queue_change
+first-round tells k w world device d d' new result long h =
+    let e : List ℕ = submission_entry create_completion_queue in
+    round tells 0 k None None None made_completions w world device create_completion_queue first_change d d' new result (omega arith) long first-size first-cid
+    (stored-length w e 0 (omega (arith, long, first-size)) ∙ long) (part-there w e 0 64 first-size (omega (arith, long))) refl (completions-made world k (put_window 0 w e)) refl h
+
+second-round : (tells : Bool) (k : ℕ) (w : List ℕ) (world : World) (device : Device) (d d' : Driver) (new : Setting) (result : Option Status) → length w ≡ 4194304
+    → Creates (LinkStep tells) window_in create_submission_queue (with_admin (ends_at 1) d) (setting (running k 1 0 None made_completions 0 w) world device) result d' new
+    → Round 1 k made_submissions made_completions (put_window 1 w (submission_entry create_submission_queue)) (submission_entry create_submission_queue) d (setting (running k 1 0 None made_completions 0 w) world device) result d' new
+unfolding after_queue_change
+second-round tells k w world device d d' new result long h =
+    let e : List ℕ = submission_entry create_submission_queue in
+    round tells 1 k None made_submissions made_completions made_completions w world device create_submission_queue second_change d d' new result (omega arith) long second-size second-cid
+    (stored-length w e 64 (omega (arith, long, second-size)) ∙ long) (part-there w e 64 64 second-size (omega (arith, long))) refl (submissions-made world k (put_window 1 w e)) refl h
+
+-- It is started: the queue pages are zeroed, and it is ready.
+record Started (k : ℕ) (old : Setting) (value : ℕ) (on : Setting) : Type 0 where
+  ready : value ≡ 1
+  setting_is : on ≡ setting (running k 0 0 None None 0 (zeroed_all old.controller.window)) old.world old.device
+
+started-setting : (tells : Bool) (value : ℕ) (old on : Setting) → IsOff old.controller → Calls (LinkStep tells) old (start_calls value) on → Started old.controller.cntlid old value on
+started-setting tells value old on o h = record {
+  ready = value-is tells setting_calls csts value old on tt h
+      ∙ ap (λ (c : Controller). value_at c.registers csts) (started-is old.controller o)
+      ∙ ready-value old.controller.cntlid 0 0 0 None None (zeroed_all old.controller.window);
+  setting_is = calls-are tells (start_calls value) old on tt h ∙ ap (with_controller old) (started-is old.controller o);
+}
+
+-- The controller and the driver, once both were answered.
+abbrev first_window : List ℕ → List ℕ
+first_window w = answered_window 0 create_completion_queue (zeroed_all w)
+
+abbrev last_window : List ℕ → List ℕ
+last_window w = answered_window 1 create_submission_queue (first_window w)
+
+abbrev risen_controller : ℕ → List ℕ → Controller
+risen_controller k w = running k 2 0 made_submissions made_completions 0 (last_window w)
+
+abbrev risen_driver : Driver → Driver
+risen_driver d = record (with_admin (ends_at 2) (started d)) { state = Up }
+
+-- both rounds, one behind the other
+record RoundsAre (k : ℕ) (d : Driver) (old : Setting) (result : Result (Unit {0}) UpFault) (d' : Driver) (new : Setting) : Type 0 where
+  answered : result ≡ Ok tt
+  driver : d' ≡ risen_driver d
+  setting_is : new ≡ setting (risen_controller k old.controller.window) old.world old.device
+
+first-size-of : (w : List ℕ) → length w ≡ 4194304 → length (first_window w) ≡ 4194304
+first-size-of w l =
+    let e : List ℕ = submission_entry create_completion_queue in
+    let b : List ℕ = completion_entry (own_completion 0 e) in
+    let z = zeroed-size w l in
+    let p : length (with_bytes (zeroed_all w) 0 e) ≡ 4194304 = stored-length (zeroed_all w) e 0 (omega (arith, z, first-size)) ∙ z in
+    stored-length (with_bytes (zeroed_all w) 0 e) b 4096 (omega (arith, p, own-size (own_completion 0 e))) ∙ p
+
+second-part : (tells : Bool) (k : ℕ) (d d' : Driver) (old mid new : Setting) (result : Result (Unit {0}) UpFault) (left : Driver) → length old.controller.window ≡ 4194304
+    → left ≡ with_admin (ends_at 1) (started d)
+    → mid ≡ setting (running k 1 0 None made_completions 0 (first_window old.controller.window)) old.world old.device
+    → CreatesSubmissions (LinkStep tells) window_in None left mid result d' new → RoundsAre k d old result d' new
+second-part tells k d d' old mid new result left long l m (answer, over, creates, concludes) =
+    let w : List ℕ = first_window old.controller.window in
+    let h = subst (λ z. Creates (LinkStep tells) window_in create_submission_queue z (setting (running k 1 0 None made_completions 0 w) old.world old.device) answer over new) l
+    (subst (λ z. Creates (LinkStep tells) window_in create_submission_queue left z answer over new) m creates) in
+    let r = second-round tells k w old.world old.device (started d) over new answer (first-size-of old.controller.window long) h in
+    let c = subst (λ z. Concludes (fault_of z) result over d') r.answered concludes in
+    record {
+      answered = c.0;
+      driver = c.1 ∙ ap (λ (z : Driver). record z { state = Up }) r.driver;
+      setting_is = r.setting_is;
+    }
+
+both-parts : (tells : Bool) (k : ℕ) (d d' : Driver) (old on new : Setting) (result : Result (Unit {0}) UpFault) → length old.controller.window ≡ 4194304
+    → on ≡ setting (running k 0 0 None None 0 (zeroed_all old.controller.window)) old.world old.device
+    → CreatesBoth (LinkStep tells) window_in true (started d) on result d' new → RoundsAre k d old result d' new
+both-parts tells k d d' old on new result long o (answer, left, mid, creates, submissions) =
+    let w : List ℕ = zeroed_all old.controller.window in
+    let h = subst (λ z. Creates (LinkStep tells) window_in create_completion_queue (started d) z answer left mid) o creates in
+    let r = first-round tells k w old.world old.device (started d) left mid answer (zeroed-size old.controller.window long) h in
+    second-part tells k d d' old mid new result left long r.driver r.setting_is
+    (subst (λ z. CreatesSubmissions (LinkStep tells) window_in (fault_of z) left mid result d' new) r.answered submissions)
+
+rises-are : (tells : Bool) (d d' : Driver) (old new : Setting) (result : Result (Unit {0}) UpFault) → IsOff old.controller → length old.controller.window ≡ 4194304
+    → Rises (LinkStep tells) window_in d old result d' new → RoundsAre old.controller.cntlid d old result d' new
+unfolding Rises
+rises-are tells d d' old new result o long (value, on, starts, both) =
+    let s = started-setting tells value old on o starts in
+    both-parts tells old.controller.cntlid d d' old on new result long s.setting_is
+    (subst (λ v. CreatesBoth (LinkStep tells) window_in (is_ready v) (started d) on result d' new) s.ready both)
+
+-- What this comes to.
+first-own : IsOwn (own 0 create_completion_queue)
+first-own = is-own 0 create_completion_queue (omega arith) first-size first-cid
+
+second-own : IsOwn (own 1 create_submission_queue)
+second-own = is-own 1 create_submission_queue (omega arith) second-size second-cid
+
+abbrev up_side : Driver → lanes.HostSide
+up_side d = come_up (host_side d)
+
+abbrev up_device : Controller → lanes.DeviceSide
+up_device c = lanes.brought_up (device_side c) (own 0 create_completion_queue) (own 1 create_submission_queue)
+
+side-is : (d : Driver) → d.state ≡ Down → host_side (risen_driver d) ≡ up_side d
+side-is d h = ap (λ (s : State). record (up_side d) { failed = is_failed s }) (sym h)
+
+device-is : (k : ℕ) (c : Controller) → device_side (risen_controller k c.window) ≡ up_device c
+device-is k c = refl
+
+risen-fits : (d : Driver) (lane : Lane) → EndsFit (ends lane (risen_driver d))
+risen-fits d Admin = record { tail = refl; head = refl }
+risen-fits d Io = record { tail = refl; head = refl }
+
+risen-paired : (k : ℕ) (w : List ℕ) → IsPaired (risen_controller k w)
+risen-paired k w = record {
+  admin = record { fetched = 2; waiting = 0; posted = 2; unread = 0 };
+  io = lanes.no_pair;
+  submission = refl;
+  completion = refl;
+  fetched = tt;
+  ready = refl;
+  enabled = refl;
+}
+
+risen-both : (d : Driver) (c : Controller) → Sound d c → d.state ≡ Down → Both (up_side d) (up_device c)
+risen-both d c s h = up-both (host_side d) (device_side c) (own 0 create_completion_queue) (own 1 create_submission_queue) s.both (ap is_up h) first-own second-own
+
+risen-sound : (k : ℕ) (d : Driver) (c : Controller) → Sound d c → d.state ≡ Down → Sound (risen_driver d) (risen_controller k c.window)
+risen-sound k d c s h = record {
+  both = rw (side-is d h, device-is k c) (risen-both d c s h);
+  fits = risen-fits d;
+  sizes = s.sizes;
+  up = λ u. risen-paired k c.window;
+  down = λ u. absurd (no-way true u refl);
+}
+
+came-up : (m : Mailbox) → m.up ≡ false → (brought_up m).mailbox ≡ record m { up = true; admin = recounted m.admin; io = recounted m.io }
+came-up m h = rw h refl
+
+risen-mail : (k : ℕ) (d : Driver) (c : Controller) → Sound d c → d.state ≡ Down → (brought_up (mailbox d c)).mailbox ≡ mailbox (risen_driver d) (risen_controller k c.window)
+risen-mail k d c s h =
+    let u : is_up d.state ≡ false = ap is_up h in
+    came-up (mailbox d c) u
+    ∙ sym (up-mail (host_side d) (device_side c) (own 0 create_completion_queue) (own 1 create_submission_queue) s.both u first-own second-own)
+    ∙ sym (ap (λ (x : lanes.HostSide). lanes.mail x (up_device c)) (side-is d h))
+
+pub bring_up_is_a_step : BringUpIsAStep
+bring_up_is_a_step tells d d' old new result s h rises =
+    let r = rises-are tells d d' old new result (s.down (ap is_up h)) s.both.window rises in
+    let k : ℕ = old.controller.cntlid in
+    record {
+      answered = r.answered;
+      sound = rw (r.driver, r.setting_is) (risen-sound k d old.controller s h);
+      mail = risen-mail k d old.controller s h ∙ sym (ap (mailbox (risen_driver d)) (ap (λ (q : Setting). q.controller) r.setting_is)) ∙ sym (ap (λ z. mailbox z new.controller) r.driver);
+      world = ap (λ (q : Setting). q.world) r.setting_is;
+      device = ap (λ (q : Setting). q.device) r.setting_is;
+    }

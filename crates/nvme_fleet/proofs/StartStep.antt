@@ -1,0 +1,188 @@
+-- A controller that is off, once a driver has set its registers and enabled it.
+use Rattle.std.proofs.Common.{◌≡◌, ℕ, ◌+◌, ◌^◌, ◌<◌, ◌≤◌, Bool, false, List, [], ◌∷◌, ◌++◌, length, Option, None, Some, refl, ap, ◌∙◌, arith}
+use Rattle.std.proofs.lemmas.Bool.{le-leb}
+use Rattle.nvme_spec.specs.Bytes.{with_bytes}
+use Rattle.nvme_spec.specs.declared.registers.ControllerState.TheVariants.{Off, Ready}
+use Rattle.nvme_spec.specs.Registers.{is_enabled, after_write, prepared, configured, can_enable, value_at, with_low, with_high}
+use Rattle.nvme_driver.specs.declared.lane.Lane.TheVariants.{Admin, Io}
+use Rattle.nvme_driver.specs.Calls.{Call, Stores, Writes, Reads, Turns, Calls}
+use Rattle.nvme_driver.specs.Layout.{submission_queue, completion_queue}
+use Rattle.nvme_driver.specs.Drivers.{cc}
+use Rattle.nvme_driver.specs.Rises.{csts, aqa, asq_low, asq_high, acq_low, acq_high, admin_sizes, enabling, zero_page}
+use Rattle.nvme_machine.specs.Controllers.{Controller, SubmissionQueue, CompletionQueue, after_store, after_write32, taking_effect, no_submission_queues, no_completion_queues}
+use Rattle.nvme_machine.specs.Executing.{Setting}
+use Rattle.nvme_fleet.specs.Views.{zeros}
+use Rattle.nvme_fleet.specs.Lanes.{zeroed_all}
+use Rattle.nvme_fleet.specs.Sound.{IsOff}
+use Rattle.nvme_fleet.specs.Steps.{after_calls}
+use Rattle.nvme_fleet.specs.Links.{LinkStep, with_controller}
+use Rattle.nvme_fleet.proofs.Ups.{zeros-are}
+
+-- Calls that grant no turn.
+abbrev IsPlain : List Call → Type 0
+IsPlain [] = Unit {0}
+IsPlain (Stores address bytes ∷ calls) = IsPlain calls
+IsPlain (Writes offset v ∷ calls) = IsPlain calls
+IsPlain (Reads offset v ∷ calls) = IsPlain calls
+IsPlain (Turns ∷ calls) = ⊥
+
+pub calls-are : (tells : Bool) (calls : List Call) (old new : Setting) → IsPlain calls → Calls (LinkStep tells) old calls new
+    → new ≡ with_controller old (after_calls calls old.controller)
+calls-are tells [] old new p h = h
+calls-are tells (Stores address bytes ∷ calls) old new p (mid, step, rest) =
+    calls-are tells calls mid new p rest ∙ ap (λ (s : Setting). with_controller s (after_calls calls s.controller)) step
+calls-are tells (Writes offset v ∷ calls) old new p (mid, step, rest) =
+    calls-are tells calls mid new p rest ∙ ap (λ (s : Setting). with_controller s (after_calls calls s.controller)) step
+calls-are tells (Reads offset v ∷ calls) old new p (mid, step, rest) =
+    calls-are tells calls mid new p rest ∙ ap (λ (s : Setting). with_controller s (after_calls calls s.controller)) step.1
+calls-are tells (Turns ∷ calls) old new p h = absurd p
+
+-- what is read behind some calls
+pub value-is : (tells : Bool) (calls : List Call) (offset v : ℕ) (old new : Setting) → IsPlain calls
+    → Calls (LinkStep tells) old (calls ++ Reads offset v ∷ []) new → v ≡ value_at (after_calls calls old.controller).registers offset
+value-is tells [] offset v old new p (mid, step, rest) = step.0
+value-is tells (Stores address bytes ∷ calls) offset v old new p (mid, step, rest) =
+    value-is tells calls offset v mid new p rest ∙ ap (λ (s : Setting). value_at (after_calls calls s.controller).registers offset) step
+value-is tells (Writes o u ∷ calls) offset v old new p (mid, step, rest) =
+    value-is tells calls offset v mid new p rest ∙ ap (λ (s : Setting). value_at (after_calls calls s.controller).registers offset) step
+value-is tells (Reads o u ∷ calls) offset v old new p (mid, step, rest) =
+    value-is tells calls offset v mid new p rest ∙ ap (λ (s : Setting). value_at (after_calls calls s.controller).registers offset) step.1
+value-is tells (Turns ∷ calls) offset v old new p h = absurd p
+
+-- A controller that is off, by its registers and its window.
+abbrev off_with : ℕ → ℕ → ℕ → ℕ → ℕ → List ℕ → Controller
+off_with k configuration sizes asq acq w = record {
+  cntlid = k;
+  registers = record { cc = configuration; state = Off; aqa = sizes; asq = asq; acq = acq };
+  submission = no_submission_queues;
+  completion = no_completion_queues;
+  fetched = [];
+  window = w;
+}
+
+off-is : (c : Controller) (o : IsOff c) → c ≡ off_with c.cntlid c.registers.cc c.registers.aqa c.registers.asq c.registers.acq c.window
+off-is c o =
+    let a = o.submission in
+    let b = o.completion in
+    let f = o.fetched in
+    let s = o.off in
+    λ i. record c { registers = record c.registers { state = s i }; submission = a i; completion = b i; fetched = f i }
+
+-- One that is enabled with the admin queues of a driver, which have counted so many commands; and these queues for I/O.
+abbrev pub running : ℕ → ℕ → ℕ → Option SubmissionQueue → Option CompletionQueue → ℕ → List ℕ → Controller
+running k n waiting io_submission io_completion unread w = record {
+  cntlid = k;
+  registers = record { cc = enabling; state = Ready; aqa = admin_sizes; asq = 0; acq = 0x1000 };
+  submission = Some (record { base = 0; cqid = 0; head = record { size = 8; fetched = n; waiting = waiting } }) ∷ io_submission ∷ None ∷ None ∷ None ∷ [];
+  completion = Some (record { base = 0x1000; tail = record { size = 32; posted = n; unread = unread } }) ∷ io_completion ∷ None ∷ None ∷ None ∷ [];
+  fetched = [];
+  window = w;
+}
+
+disabled : (k configuration sizes asq acq : ℕ) (w : List ℕ) → is_enabled configuration ≡ false
+    → after_write32 cc 0 (off_with k configuration sizes asq acq w) ≡ off_with k 0 sizes asq acq w
+unfolding after_write32 taking_effect after_write configured
+disabled k configuration sizes asq acq w e = rw e refl
+
+pub stored-at : (address : ℕ) (bytes : List ℕ) (c : Controller) → address + length bytes ≤ 4194304
+    → (after_store address bytes c).controller ≡ record c { window = with_bytes c.window address bytes }
+unfolding after_store
+stored-at address bytes c h = rw (le-leb (address + length bytes) 4194304 h) refl
+
+page-is : zero_page ≡ zeros
+unfolding zero_page zeros
+page-is = refl
+
+page-size : length zero_page ≡ 4096
+page-size = ap length page-is ∙ zeros-are.long
+
+set-sizes : (k sizes asq acq v : ℕ) (w : List ℕ) → after_write32 aqa v (off_with k 0 sizes asq acq w) ≡ off_with k 0 v asq acq w
+unfolding after_write32 taking_effect after_write prepared
+set-sizes k sizes asq acq v w = refl
+
+set-asq-low : (k sizes asq acq v : ℕ) (w : List ℕ) → after_write32 asq_low v (off_with k 0 sizes asq acq w) ≡ off_with k 0 sizes (with_low asq v) acq w
+unfolding after_write32 taking_effect after_write prepared
+set-asq-low k sizes asq acq v w = refl
+
+set-asq-high : (k sizes asq acq v : ℕ) (w : List ℕ) → after_write32 asq_high v (off_with k 0 sizes asq acq w) ≡ off_with k 0 sizes (with_high asq v) acq w
+unfolding after_write32 taking_effect after_write prepared
+set-asq-high k sizes asq acq v w = refl
+
+set-acq-low : (k sizes asq acq v : ℕ) (w : List ℕ) → after_write32 acq_low v (off_with k 0 sizes asq acq w) ≡ off_with k 0 sizes asq (with_low acq v) w
+unfolding after_write32 taking_effect after_write prepared
+set-acq-low k sizes asq acq v w = refl
+
+set-acq-high : (k sizes asq acq v : ℕ) (w : List ℕ) → after_write32 acq_high v (off_with k 0 sizes asq acq w) ≡ off_with k 0 sizes asq (with_high acq v) w
+unfolding after_write32 taking_effect after_write prepared
+set-acq-high k sizes asq acq v w = refl
+
+both-halves : (x v : ℕ) → v < 2 ^ 32 → with_high (with_low x v) 0 ≡ v
+both-halves x v h = omega arith
+
+enabled : (k : ℕ) (w : List ℕ) → after_write32 cc enabling (off_with k 0 admin_sizes 0 0x1000 w) ≡ running k 0 0 None None 0 w
+unfolding after_write32 taking_effect after_write configured can_enable
+enabled k w = refl
+
+-- the calls of a start but the last, and what they leave
+abbrev pub setting_calls : List Call
+setting_calls =
+    Writes cc 0
+    ∷ Stores (submission_queue Admin) zero_page
+    ∷ Stores (completion_queue Admin) zero_page
+    ∷ Stores (submission_queue Io) zero_page
+    ∷ Stores (completion_queue Io) zero_page
+    ∷ Writes aqa admin_sizes
+    ∷ Writes asq_low (submission_queue Admin)
+    ∷ Writes asq_high 0
+    ∷ Writes acq_low (completion_queue Admin)
+    ∷ Writes acq_high 0
+    ∷ Writes cc enabling
+    ∷ []
+
+abbrev zeroed_by : List ℕ → List ℕ
+zeroed_by w = with_bytes (with_bytes (with_bytes (with_bytes w 0 zero_page) 0x1000 zero_page) 0x2000 zero_page) 0x3000 zero_page
+
+zeroed-is : (w : List ℕ) → zeroed_by w ≡ zeroed_all w
+zeroed-is w = ap (λ z. with_bytes (with_bytes (with_bytes (with_bytes w 0 z) 0x1000 z) 0x2000 z) 0x3000 z) page-is
+
+page-at : (address : ℕ) (k configuration sizes asq acq : ℕ) (w : List ℕ) → address ≤ 0x3000
+    → (after_store address zero_page (off_with k configuration sizes asq acq w)).controller ≡ off_with k configuration sizes asq acq (with_bytes w address zero_page)
+page-at address k configuration sizes asq acq w h = stored-at address zero_page (off_with k configuration sizes asq acq w) (omega (arith, h, page-size))
+
+-- the writes behind the pages
+abbrev last_calls : List Call
+last_calls =
+    Writes aqa admin_sizes ∷ Writes asq_low 0 ∷ Writes asq_high 0 ∷ Writes acq_low 0x1000 ∷ Writes acq_high 0 ∷ Writes cc enabling ∷ []
+
+registers-set : (k sizes asq acq : ℕ) (w : List ℕ) → after_calls last_calls (off_with k 0 sizes asq acq w) ≡ running k 0 0 None None 0 w
+registers-set k sizes asq acq w =
+    let go : List Call → Controller → Controller = after_calls in
+    ap (go (Writes asq_low 0 ∷ Writes asq_high 0 ∷ Writes acq_low 0x1000 ∷ Writes acq_high 0 ∷ Writes cc enabling ∷ [])) (set-sizes k sizes asq acq admin_sizes w)
+    ∙ ap (go (Writes asq_high 0 ∷ Writes acq_low 0x1000 ∷ Writes acq_high 0 ∷ Writes cc enabling ∷ [])) (set-asq-low k admin_sizes asq acq 0 w)
+    ∙ ap (go (Writes acq_low 0x1000 ∷ Writes acq_high 0 ∷ Writes cc enabling ∷ [])) (set-asq-high k admin_sizes (with_low asq 0) acq 0 w)
+    ∙ ap (go (Writes acq_high 0 ∷ Writes cc enabling ∷ [])) (set-acq-low k admin_sizes (with_high (with_low asq 0) 0) acq 0x1000 w)
+    ∙ ap (go (Writes cc enabling ∷ [])) (set-acq-high k admin_sizes (with_high (with_low asq 0) 0) (with_low acq 0x1000) 0 w)
+    ∙ ap (λ n. after_write32 cc enabling (off_with k 0 admin_sizes n (with_high (with_low acq 0x1000) 0) w)) (both-halves asq 0 (omega arith))
+    ∙ ap (λ n. after_write32 cc enabling (off_with k 0 admin_sizes 0 n w)) (both-halves acq 0x1000 (omega arith))
+    ∙ enabled k w
+
+pub started-is : (c : Controller) → IsOff c → after_calls setting_calls c ≡ running c.cntlid 0 0 None None 0 (zeroed_all c.window)
+started-is c o =
+    let k : ℕ = c.cntlid in
+    let w : List ℕ = c.window in
+    let s : ℕ = c.registers.aqa in
+    let a : ℕ = c.registers.asq in
+    let b : ℕ = c.registers.acq in
+    let go : List Call → Controller → Controller = after_calls in
+    ap (after_calls setting_calls) (off-is c o)
+    ∙ ap (go (Stores 0 zero_page ∷ Stores 0x1000 zero_page ∷ Stores 0x2000 zero_page ∷ Stores 0x3000 zero_page ∷ last_calls)) (disabled k c.registers.cc s a b w o.disabled)
+    ∙ ap (go (Stores 0x1000 zero_page ∷ Stores 0x2000 zero_page ∷ Stores 0x3000 zero_page ∷ last_calls)) (page-at 0 k 0 s a b w (omega arith))
+    ∙ ap (go (Stores 0x2000 zero_page ∷ Stores 0x3000 zero_page ∷ last_calls)) (page-at 0x1000 k 0 s a b _ (omega arith))
+    ∙ ap (go (Stores 0x3000 zero_page ∷ last_calls)) (page-at 0x2000 k 0 s a b _ (omega arith))
+    ∙ ap (go last_calls) (page-at 0x3000 k 0 s a b _ (omega arith))
+    ∙ registers-set k s a b (zeroed_by w)
+    ∙ ap (running k 0 0 None None 0) (zeroed-is w)
+
+pub ready-value : (k n waiting unread : ℕ) (s : Option SubmissionQueue) (x : Option CompletionQueue) (w : List ℕ) → value_at (running k n waiting s x unread w).registers csts ≡ 1
+unfolding value_at
+ready-value k n waiting unread s x w = refl
