@@ -150,6 +150,8 @@ impl<M: Medium> Subsystem<M> {
         reacting::fetch(&mut self.controllers[place], qid)
     }
 
+    // Not inlined, so that the other events do not pay for the room of its locals.
+    #[inline(never)]
     fn execute(&mut self, cntlid: u16, i: usize) -> Seen
         ensures { ExecutesAt (controller_at self.old cntlid) M.tells self.old cntlid i result self.new }
     {
