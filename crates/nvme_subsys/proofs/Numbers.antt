@@ -1,7 +1,10 @@
 -- Controllers by their identifiers and by their places.
-use Rattle.std.proofs.Common.{◌≡◌, ℕ, zero, suc, ◌+◌, ◌≤◌, Bool, List, [], ◌∷◌, ◌++◌, length, take, drop, Option, None, Some, refl, sym, ap, subst, ◌∙◌, arith}
+use Rattle.std.proofs.Common.{◌≡◌, ℕ, zero, suc, ◌+◌, ◌≤◌, ◌<◌, get_or, Bool, List, [], ◌∷◌, ◌++◌, length, take, drop, Option, None, Some, refl, sym, ap, subst, ◌∙◌, arith}
 use Rattle.std.specs.Prelude.{slice_get, slice_set}
 use Rattle.std.proofs.lemmas.Grind.{common_steps}
+use Rattle.std.proofs.lemmas.Option.{slice_get_read}
+use Rattle.nvme_spec.specs.Blocks.{Device}
+use Rattle.nvme_spec.specs.World.{World}
 use Rattle.nvme_machine.specs.declared.fetched.FetchedCommand.{FetchedCommand}
 use Rattle.nvme_machine.specs.declared.seen.Executed as executed
 use Rattle.nvme_machine.specs.declared.seen.Executed.TheVariants.{NoSuch, CqFull}
@@ -31,6 +34,12 @@ nothing-at : (cs : List Controller) (i : ℕ) → length cs ≤ i → slice_get 
 nothing-at [] i h = refl
 nothing-at (c ∷ cs) zero h = absurd (omega arith)
 nothing-at (c ∷ cs) (suc i) h = nothing-at cs i (omega arith)
+
+-- what is read at a place of the controllers stands there
+pub found-at : (w : World) (d : Device) (items : List Controller) (s : Subsystem) (place : ℕ) (x : Controller) → (let t : Subsystem = record { world = w; device = d; controllers = items } in t) ≡ s
+    → place < length s.controllers → x ≡ get_or items place x → slice_get items place ≡ Some x
+found-at w d items s place x view inside is =
+    slice_get_read items (length items) place x refl (subst (λ (t : Subsystem). place < length t.controllers) (sym view) inside) is
 
 -- no controller has the identifier 0, or one past the last
 pub none-at-zero : (s : Subsystem) → controller_at s 0 ≡ None

@@ -1,28 +1,25 @@
-use Rattle.std.proofs.Common.{◌≡◌, ◌<◌, ◌++◌, ◌∙◌, refl, sym, subst, length, take, drop, arith, Some}
-use Rattle.std.specs.Prelude.{slice_get, slice_set}
-use Rattle.std.proofs.lemmas.Option.{slice_get_read}
+use Rattle.std.proofs.Common.{◌≡◌, ◌++◌, ◌∙◌, sym, subst, length, take, drop, arith}
+use Rattle.std.specs.Prelude.{slice_set}
 use Rattle.nvme_machine.specs.declared.seen.Seen.TheVariants.{Executed}
 use Rattle.nvme_machine.specs.Executing.{setting}
 use Rattle.nvme_machine.specs.Subsystems.{Subsystem, controller_at, ExecutesAt}
 use Rattle.nvme_subsys.specs.Sound.{IsSound}
 use Rattle.nvme_subsys.specs.Marked.{marks_after}
-use Rattle.nvme_subsys.proofs.Numbers.{executes, refill-all}
+use Rattle.nvme_subsys.proofs.Numbers.{executes, refill-all, found-at}
 use Rattle.nvme_subsys.proofs.Sound.{configured-at, named-at, sound-after}
 use Rattle.nvme_subsys.proofs.subsystem.Subsystem.execute.Goals as goal
 
 pub execute-executed-requires : goal.execute-executed-requires
 execute-executed-requires g c =
     let items = c.self.inside.controllers.items in
-    let inside : c.in-Some.place < length items = rw (← c.self.view_is) at c.in-Some.ensures.some.1 in
-    let found : slice_get items c.in-Some.place ≡ Some c.index_mut.result.now = slice_get_read items (length items) c.in-Some.place c.index_mut.result.now refl inside c.index_mut.ensures.value in
+    let found = found-at _ _ items c.args.self.now c.in-Some.place c.index_mut.result.now c.self.view_is c.in-Some.ensures.some.1 c.index_mut.ensures.value in
     let sound = c.self.invariant in
     record { ready = record { configured = configured-at _ _ items c.in-Some.place c.index_mut.result.now found sound; within = sound.within; known = sound.known } }
 
 pub invariant_of-self : goal.invariant_of-self
 invariant_of-self g c =
     let items = c.self.inside.controllers.items in
-    let inside : c.in-Some.place < length items = rw (← c.self.view_is) at c.in-Some.ensures.some.1 in
-    let found : slice_get items c.in-Some.place ≡ Some c.index_mut.result.now = slice_get_read items (length items) c.in-Some.place c.index_mut.result.now refl inside c.index_mut.ensures.value in
+    let found = found-at _ _ items c.args.self.now c.in-Some.place c.index_mut.result.now c.self.view_is c.in-Some.ensures.some.1 c.index_mut.ensures.value in
     let ms : c.mark_after.new.controllers ≡ marks_after c.execute-executed.new.spaces c.execute-executed.result (slice_set items c.in-Some.place c.execute-executed.new.self) = rw c.deref_mut.ensures.value at c.mark_after.ensures in
     let whole : take c.self.inside.controllers.len (c.mark_after.new.controllers ++ drop (length c.mark_after.new.controllers) (slice_set items c.in-Some.place c.execute-executed.new.self)) ≡ c.mark_after.new.controllers =
     refill-all c.self.inside.controllers.len _ c.mark_after.new.controllers (omega (arith, c.deref_mut.ensures.len, c.mark_after.auto.controllers)) in
@@ -34,8 +31,7 @@ invariant_of-self g c =
 pub returns : goal.returns
 returns g c =
     let items = c.self.inside.controllers.items in
-    let inside : c.in-Some.place < length items = rw (← c.self.view_is) at c.in-Some.ensures.some.1 in
-    let found : slice_get items c.in-Some.place ≡ Some c.index_mut.result.now = slice_get_read items (length items) c.in-Some.place c.index_mut.result.now refl inside c.index_mut.ensures.value in
+    let found = found-at _ _ items c.args.self.now c.in-Some.place c.index_mut.result.now c.self.view_is c.in-Some.ensures.some.1 c.index_mut.ensures.value in
     let ms : c.mark_after.new.controllers ≡ marks_after c.execute-executed.new.spaces c.execute-executed.result (slice_set items c.in-Some.place c.execute-executed.new.self) = rw c.deref_mut.ensures.value at c.mark_after.ensures in
     let whole : take c.self.inside.controllers.len (c.mark_after.new.controllers ++ drop (length c.mark_after.new.controllers) (slice_set items c.in-Some.place c.execute-executed.new.self)) ≡ c.mark_after.new.controllers =
     refill-all c.self.inside.controllers.len _ c.mark_after.new.controllers (omega (arith, c.deref_mut.ensures.len, c.mark_after.auto.controllers)) in
