@@ -1,4 +1,4 @@
--- Windows keep their bytes, and completion queues lie in them.
+-- Windows keep their bytes, and queues lie in them.
 use Rattle.std.proofs.Common.{◌≡◌, inl, inr, ℕ, zero, suc, ◌+◌, ◌<◌, ◌≤◌, ◌==◌, nat_lt, Bool, true, false, List, [], ◌∷◌, length, map, Option, None, Some, Ok, Err, refl, sym, ap, subst, ◌∙◌, arith}
 use Rattle.std.specs.Prelude.{if◌then◌else◌, slice_get, slice_index_or, option_map, nat_le, IfSome}
 use Rattle.std.proofs.lemmas.List.{length-replicate}
@@ -24,31 +24,42 @@ use Rattle.nvme_spec.specs.AdminCommands.{command_of}
 use Rattle.nvme_spec.specs.AdminRules.{admin_judgement}
 use Rattle.nvme_spec.specs.AdminEffects.{admin_execution, execution_by}
 use Rattle.nvme_spec.specs.Execution.{Scene}
-use Rattle.nvme_spec.specs.Queues.{CompletionTail, IsQueueSize, FitsCompletionTail, completion_room, empty_completion_tail, after_post, slot_of, ahead}
+use Rattle.nvme_spec.specs.Queues.{SubmissionHead, FitsSubmissionHead, empty_submission_head, after_fetch as fetched_one, CompletionTail, IsQueueSize, FitsCompletionTail, completion_room, empty_completion_tail, after_post, slot_of, ahead}
 use Rattle.nvme_spec.specs.QueueChanges.{Suits}
 use Rattle.nvme_spec.specs.RegisterLaws.{IsQueuePlace, IsConsistent, ArePlaced}
 use Rattle.nvme_spec.specs.Registers as register
 use Rattle.nvme_spec.proofs.Fencing.{execution_keeps_the_rest}
 use Rattle.nvme_spec.proofs.QueueChanges.{admin_changes_suit}
-use Rattle.nvme_spec.proofs.QueueLaws.{completion_tail_stays, entry_is_inside}
+use Rattle.nvme_spec.proofs.QueueLaws.{submission_head_stays, completion_tail_stays, entry_is_inside}
 use Rattle.nvme_spec.proofs.RegisterLaws.{begins_consistent, stays_consistent}
 use Rattle.nvme_spec.proofs.Splices.{length-with_bytes}
 use Rattle.nvme_spec.proofs.TransferLaws.{length-with_scattered}
 use Rattle.nvme_machine.specs.declared.fetched.FetchedCommand.{FetchedCommand}
 use Rattle.nvme_machine.specs.declared.seen.Seen.TheVariants.{Stored, Outside}
-use Rattle.nvme_machine.specs.Controllers.{Controller, SubmissionQueue, CompletionQueue, QueuePair, new_controller, no_completion_queues, queues_of, completion_at, submission_at, pair_of, if_room, open_pair, with_head, with_admin_queues, admin_completion_queue, taking_effect, fetchable, fetched_from, reaction, after_store, after_write32, after_fetch, after_posting, after_queue_change, completion_slot, completion_of, with_marks}
+use Rattle.nvme_machine.specs.Controllers.{Controller, SubmissionQueue, CompletionQueue, QueuePair, new_controller, no_submission_queues, no_completion_queues, queues_of, completion_at, submission_at, pair_of, if_room, open_pair, with_tail, with_head, with_admin_queues, admin_submission_queue, admin_completion_queue, taking_effect, fetchable, fetched_from, reaction, after_store, after_write32, after_fetch, after_posting, after_queue_change, completion_slot, completion_of, with_marks}
 use Rattle.nvme_machine.specs.Answers.{Answer, Answers, AnswersAs}
 use Rattle.nvme_machine.specs.Subsystems.{opening, controller_at, after_answer}
-use Rattle.nvme_machine.specs.Placing.{LiesInside, IsPlaced, OpeningIsPlaced, WindowsKeepTheirLength}
+use Rattle.nvme_machine.specs.Placing.{SubmitsInside, LiesInside, IsPlaced, OpeningIsPlaced, WindowsKeepTheirLength}
 use Rattle.nvme_machine.proofs.Everywhere.{Keeps, run-keeps}
 use Rattle.nvme_machine.proofs.Staying.{changing}
-use Rattle.nvme_machine.proofs.Wirings.{set-either, mapped-back, first-alone}
+use Rattle.nvme_machine.proofs.Wirings.{set-either, mapped-back, first-alone, none-alone, fetchable-at}
 
 -- the same queues
-same-queues : (c d : Controller) → length d.window ≡ window_size → d.registers ≡ c.registers → d.completion ≡ c.completion → IsPlaced c → IsPlaced d
-same-queues c d window registers completion p = record {
+same-queues : (c d : Controller) → length d.window ≡ window_size → d.registers ≡ c.registers → d.submission ≡ c.submission → d.completion ≡ c.completion → IsPlaced c → IsPlaced d
+same-queues c d window registers submission completion p = record {
   window = window;
   registers = subst IsConsistent (sym registers) p.registers;
+  submission = λ q x is. p.submission q x (ap (λ xs. slice_index_or xs q None) (sym submission) ∙ is);
+  completion = λ q x is. p.completion q x (ap (λ xs. slice_index_or xs q None) (sym completion) ∙ is);
+}
+
+-- the same completion queues, where the submission queues are placed too
+same-completion : (c d : Controller) → d.window ≡ c.window → d.registers ≡ c.registers → d.completion ≡ c.completion
+    → ((q : ℕ) → (x : SubmissionQueue) → submission_at d q ≡ Some x → SubmitsInside x) → IsPlaced c → IsPlaced d
+same-completion c d window registers completion submission p = record {
+  window = ap length window ∙ p.window;
+  registers = subst IsConsistent (sym registers) p.registers;
+  submission = submission;
   completion = λ q x is. p.completion q x (ap (λ xs. slice_index_or xs q None) (sym completion) ∙ is);
 }
 
@@ -60,12 +71,19 @@ stored address bytes c p = by (nat_le (address + length bytes) window_size) refl
     by true e =
         let fits = leb-true _ _ e in
         let size = p.window in
-        same-queues c (record c { window = with_bytes c.window address bytes }) (length-with_bytes c.window address bytes (omega (arith, fits, size)) ∙ size) refl refl p
+        same-queues c (record c { window = with_bytes c.window address bytes }) (length-with_bytes c.window address bytes (omega (arith, fits, size)) ∙ size) refl refl refl p
     by false e = p
 
-took : (q : ℕ) (c : Controller) (o : Option SubmissionQueue) → IsPlaced c → IsPlaced (fetched_from q c o).controller
-took q c None p = p
-took q c (Some s) p = same-queues c (fetched_from q c (Some s)).controller p.window refl refl p
+fetched-inside : (s : SubmissionQueue) → SubmitsInside s → SubmitsInside (record s { head = fetched_one s.head })
+fetched-inside s p = (p.0, submission_head_stays.1 s.head p.1)
+
+took : (q : ℕ) (c : Controller) (o : Option SubmissionQueue) → fetchable c q ≡ o → IsPlaced c → IsPlaced (fetched_from q c o).controller
+took q c None is p = p
+took q c (Some s) is p =
+    same-completion c (fetched_from q c (Some s)).controller refl refl refl (λ m x h. elim (set-either c.submission q m (Some (record s { head = fetched_one s.head })) x h) [
+      | inl new ↦ subst SubmitsInside (same_Some _ _ new) (fetched-inside s (p.submission q s (fetchable-at c q s is)))
+      | inr old ↦ p.submission m x old
+    ]) p
 
 -- Register writes.
 
@@ -77,6 +95,15 @@ none-completes (suc (suc (suc zero))) x h = none-some _ h
 none-completes (suc (suc (suc (suc zero)))) x h = none-some _ h
 none-completes (suc (suc (suc (suc (suc q))))) x h = none-some _ h
 
+none-submits : (q : ℕ) (s : SubmissionQueue) → slice_index_or no_submission_queues q None ≡ Some s → ⊥
+none-submits q s h = none-alone q s h
+
+empty-head-fits : (size : ℕ) → IsQueueSize size → FitsSubmissionHead (empty_submission_head size)
+empty-head-fits size fits = record { size = fits; fetched = omega (arith, fits.0); waiting = omega (arith, fits.0) }
+
+placed-submission : (at size to : ℕ) → IsQueuePlace at size 64 → SubmitsInside (record { base = at; cqid = to; head = empty_submission_head size })
+placed-submission at size to p = (p, empty-head-fits size p.size)
+
 empty-fits : (size : ℕ) → IsQueueSize size → FitsCompletionTail (empty_completion_tail size)
 empty-fits size fits = record { size = fits; posted = omega (arith, fits.0); unread = omega (arith, fits.0) }
 
@@ -84,10 +111,11 @@ placed-queue : (at size : ℕ) → IsQueuePlace at size 16 → LiesInside (recor
 placed-queue at size p = (p, empty-fits size p.size)
 
 enabled : (o : Option AdminQueues) (c : Controller) → length c.window ≡ window_size → IsConsistent c.registers → IfSome o ArePlaced → IsPlaced (with_admin_queues o c)
-enabled None c window registers p = record { window = window; registers = registers; completion = λ q x h. absurd (none-completes q x h) }
+enabled None c window registers p = record { window = window; registers = registers; submission = λ q x h. absurd (none-submits q x h); completion = λ q x h. absurd (none-completes q x h) }
 enabled (Some a) c window registers p = record {
   window = window;
   registers = registers;
+  submission = λ q x h. subst SubmitsInside (first-alone (admin_submission_queue a) q x h) (placed-submission a.sq_base a.sq_size 0 p.submission);
   completion = λ q x h. subst LiesInside (first-alone (admin_completion_queue a) q x h) (placed-queue a.cq_base a.cq_size p.completion);
 }
 
@@ -101,16 +129,30 @@ heard v x p = (
   completion_tail_stays.0 x.tail v p.1,
 )
 
+head-size-if : (b : Bool) (q : SubmissionHead) (n : ℕ) → (if b then record q { waiting = n } else q).size ≡ q.size
+head-size-if true q n = refl
+head-size-if false q n = refl
+
+told : (v : ℕ) (s : SubmissionQueue) → SubmitsInside s → SubmitsInside (with_tail v s)
+told v s p = (
+  subst (λ n. IsQueuePlace s.base n 64) (sym (head-size-if (nat_lt v s.head.size) s.head (ahead s.head.size v s.head.fetched))) p.0,
+  submission_head_stays.0 s.head v p.1,
+)
+
 effects : (effect : RegEffect) (c : Controller) → IsPlaced c → IsPlaced (taking_effect effect c)
 unfolding taking_effect
 effects Nothing c p = p
 effects Shutdown c p = p
-effects Disable c p = record { window = p.window; registers = p.registers; completion = λ q x h. absurd (none-completes q x h) }
+effects Disable c p = record { window = p.window; registers = p.registers; submission = λ q x h. absurd (none-submits q x h); completion = λ q x h. absurd (none-completes q x h) }
 effects Enable c p = let r = p.registers in enabled (register.admin_queues c.registers) c p.window r r.queues
-effects (SqTail q v) c p = same-queues c (taking_effect (SqTail q v) c) p.window refl refl p
+effects (SqTail q v) c p = same-completion c (taking_effect (SqTail q v) c) refl refl refl (λ m x h. (let z = mapped-back (with_tail v) c.submission q m x h in elim z.2 [
+  | inl same ↦ subst SubmitsInside (sym same) (p.submission m z.0 z.1)
+  | inr rung ↦ subst SubmitsInside (sym rung) (told v z.0 (p.submission m z.0 z.1))
+])) p
 effects (CqHead q v) c p = record {
   window = p.window;
   registers = p.registers;
+  submission = p.submission;
   completion = λ m x h. (let z = mapped-back (with_head v) c.completion q m x h in elim z.2 [
     | inl same ↦ subst LiesInside (sym same) (p.completion m z.0 z.1)
     | inr rung ↦ subst LiesInside (sym rung) (heard v z.0 (p.completion m z.0 z.1))
@@ -121,11 +163,11 @@ wrote-it : (offset v : ℕ) (c : Controller) → IsPlaced c → IsPlaced (after_
 unfolding after_write32
 wrote-it offset v c p =
     effects (register.after_write c.registers offset v).effect (record c { registers = (register.after_write c.registers offset v).registers })
-    (record { window = p.window; registers = stays_consistent c.registers offset v p.registers; completion = p.completion })
+    (record { window = p.window; registers = stays_consistent c.registers offset v p.registers; submission = p.submission; completion = p.completion })
 
 fetched-it : (q : ℕ) (c : Controller) → IsPlaced c → IsPlaced (after_fetch q c).controller
 unfolding after_fetch
-fetched-it q c p = took q c (fetchable c q) p
+fetched-it q c p = took q c (fetchable c q) refl p
 
 -- Executions.
 
@@ -210,6 +252,7 @@ posts i t p why first c opened placed =
       window = (let size = placed.window in let inside = slot-inside p.completion at in
           length-with_bytes c.window (completion_slot p.completion) (completion_of t p why first) (omega (arith, size, inside, length-entry t p why first)) ∙ size);
       registers = placed.registers;
+      submission = placed.submission;
       completion = λ q x h. elim (set-either c.completion p.submission.cqid q (Some (record p.completion { tail = after_post p.completion.tail })) x h) [
         | inl new ↦ subst LiesInside (same_Some _ _ new) (posted-queue p.completion at opened.room)
         | inr old ↦ placed.completion q x old
@@ -219,11 +262,20 @@ posts i t p why first c opened placed =
 changes : (change : QueueChange) (queues : Queues) (c : Controller) → Suits queues change → IsPlaced c → IsPlaced (after_queue_change change c)
 unfolding after_queue_change
 changes Keep queues c suits p = p
-changes (MakeSq qid size at to) queues c suits p = same-queues c (after_queue_change (MakeSq qid size at to) c) p.window refl refl p
-changes (DropSq qid) queues c suits p = same-queues c (after_queue_change (DropSq qid) c) p.window refl refl p
+changes (MakeSq qid size at to) queues c suits p =
+    same-completion c (after_queue_change (MakeSq qid size at to) c) refl refl refl (λ q x h. elim (set-either c.submission qid q (Some (record { base = at; cqid = to; head = empty_submission_head size })) x h) [
+      | inl new ↦ subst SubmitsInside (same_Some _ _ new) (placed-submission at size to suits.1)
+      | inr old ↦ p.submission q x old
+    ]) p
+changes (DropSq qid) queues c suits p =
+    same-completion c (after_queue_change (DropSq qid) c) refl refl refl (λ q x h. elim (set-either c.submission qid q None x h) [
+      | inl none ↦ absurd (none-some _ none)
+      | inr old ↦ p.submission q x old
+    ]) p
 changes (MakeCq qid size at) queues c suits p = record {
   window = p.window;
   registers = p.registers;
+  submission = p.submission;
   completion = λ q x h. elim (set-either c.completion qid q (Some (record { base = at; tail = empty_completion_tail size })) x h) [
     | inl new ↦ subst LiesInside (same_Some _ _ new) (placed-queue at size suits.1)
     | inr old ↦ p.completion q x old
@@ -232,6 +284,7 @@ changes (MakeCq qid size at) queues c suits p = record {
 changes (DropCq qid) queues c suits p = record {
   window = p.window;
   registers = p.registers;
+  submission = p.submission;
   completion = λ q x h. elim (set-either c.completion qid q None x h) [
     | inl none ↦ absurd (none-some _ none)
     | inr old ↦ p.completion q x old
@@ -240,7 +293,7 @@ changes (DropCq qid) queues c suits p = record {
 
 -- the same queues over another window, as long
 over-window : (c : Controller) (window : List ℕ) → length window ≡ length c.window → IsPlaced c → IsPlaced (record c { window = window })
-over-window c window size p = same-queues c (record c { window = window }) (size ∙ p.window) refl refl p
+over-window c window size p = same-queues c (record c { window = window }) (size ∙ p.window) refl refl refl p
 
 open-over : (c : Controller) (window : List ℕ) (t : FetchedCommand) (p : QueuePair) → IsOpen c t p → IsOpen (record c { window = window }) t p
 open-over c window t p o = record { submission = o.submission; completion = o.completion; room = o.room }
@@ -255,7 +308,7 @@ finishes tells w d k i c t p a room answers placed =
 
 pub keeps_placed : Keeps IsPlaced
 keeps_placed = record {
-  marks = λ n c p. same-queues c (with_marks n c) p.window refl refl p;
+  marks = λ n c p. same-queues c (with_marks n c) p.window refl refl refl p;
   store = λ address bytes c p. stored address bytes c p;
   write = λ offset v c p. wrote-it offset v c p;
   fetch = λ q c p. fetched-it q c p;
@@ -270,7 +323,7 @@ unfolding zeros
 length-zeros = length-replicate {A = ℕ} window_size 0
 
 new-is-placed : (k : ℕ) → IsPlaced (new_controller k)
-new-is-placed k = record { window = length-zeros; registers = begins_consistent; completion = λ q x h. absurd (none-completes q x h) }
+new-is-placed k = record { window = length-zeros; registers = begins_consistent; submission = λ q x h. absurd (none-submits q x h); completion = λ q x h. absurd (none-completes q x h) }
 
 all-new : (ks : List ControllerConfig) (i : ℕ) (d : Controller) → slice_get (map (λ (k : ControllerConfig). new_controller k.cntlid) ks) i ≡ Some d → IsPlaced d
 all-new [] i d h = absurd (none-some _ h)

@@ -299,7 +299,7 @@ open-over : (c : Controller) (window : List ℕ) (t : FetchedCommand) (p : Queue
 open-over c window t p o = record { submission = o.submission; completion = o.completion; room = o.room }
 
 placed-over : (c : Controller) (window : List ℕ) → length window ≡ length c.window → IsPlaced c → IsPlaced (record c { window = window })
-placed-over c window size p = record { window = size ∙ p.window; registers = p.registers; completion = p.completion }
+placed-over c window size p = record { window = size ∙ p.window; registers = p.registers; submission = p.submission; completion = p.completion }
 
 abbrev Takes : Subsystem → ℕ → Controller → FetchedCommand → QueuePair → PostedEntry → Type 0
 Takes s k c t p e = (is_touched (addresses_of c t) e ≡ true) ⊎ ((p.submission.cqid ≢ e.queue) × Overlaps (completion_slot p.completion) 16 e) ⊎ (change_of s k c t ≡ DropCq e.queue)

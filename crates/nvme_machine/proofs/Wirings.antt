@@ -258,7 +258,7 @@ first-alone x (suc (suc (suc zero))) s h = absurd (cc)
 first-alone x (suc (suc (suc (suc zero)))) s h = absurd (cc)
 first-alone x (suc (suc (suc (suc (suc q))))) s h = absurd (cc)
 
-none-alone : (q : ℕ) (s : SubmissionQueue) → slice_index_or no_submission_queues q None ≡ Some s → ⊥
+pub none-alone : (q : ℕ) (s : SubmissionQueue) → slice_index_or no_submission_queues q None ≡ Some s → ⊥
 none-alone zero s h = none-some _ h
 none-alone (suc zero) s h = none-some _ h
 none-alone (suc (suc zero)) s h = none-some _ h
@@ -303,7 +303,7 @@ effects (CqHead q v) c w = record {
 
 -- Fetches.
 
-fetchable-at : (c : Controller) (q : ℕ) (s : SubmissionQueue) → fetchable c q ≡ Some s → submission_at c q ≡ Some s
+pub fetchable-at : (c : Controller) (q : ℕ) (s : SubmissionQueue) → fetchable c q ≡ Some s → submission_at c q ≡ Some s
 unfolding fetchable
 fetchable-at c q s h = by (may_fetch c.registers.state && nat_lt (length c.fetched) 64) h
   where

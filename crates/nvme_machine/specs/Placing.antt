@@ -1,23 +1,28 @@
--- Windows keep their bytes, and completion queues lie in them.
+-- Windows keep their bytes, and queues lie in them.
 use Rattle.std.specs.Prelude.{◌≡◌, ℕ, Bool, List, length, Some}
 use Rattle.nvme_spec.specs.Blocks.{Device}
 use Rattle.nvme_spec.specs.Configuration.{Configuration}
 use Rattle.nvme_spec.specs.Memory.{window_size}
-use Rattle.nvme_spec.specs.Queues.{FitsCompletionTail}
+use Rattle.nvme_spec.specs.Queues.{FitsSubmissionHead, FitsCompletionTail}
 use Rattle.nvme_spec.specs.RegisterLaws.{IsQueuePlace, IsConsistent}
 use Rattle.nvme_machine.specs.declared.event.Event.{Event}
 use Rattle.nvme_machine.specs.declared.seen.Seen.{Seen}
-use Rattle.nvme_machine.specs.Controllers.{Controller, CompletionQueue, completion_at}
+use Rattle.nvme_machine.specs.Controllers.{Controller, SubmissionQueue, CompletionQueue, submission_at, completion_at}
 use Rattle.nvme_machine.specs.Subsystems.{Subsystem, Run, controller_at, opening}
 
--- a completion queue lies in the window, and its counts are within its size
+-- a submission queue lies in the window, and its counts are within its size
+abbrev pub SubmitsInside : SubmissionQueue → Type 0
+SubmitsInside s = IsQueuePlace s.base s.head.size 64 × FitsSubmissionHead s.head
+
+-- so does a completion queue
 abbrev pub LiesInside : CompletionQueue → Type 0
 LiesInside x = IsQueuePlace x.base x.tail.size 16 × FitsCompletionTail x.tail
 
--- a controller has its whole window, registers that agree with their state, and its completion queues in the window
+-- a controller has its whole window, registers that agree with their state, and its queues in the window
 pub record IsPlaced (c : Controller) : Type 0 where
   pub window : length c.window ≡ window_size
   pub registers : IsConsistent c.registers
+  pub submission : (q : ℕ) → (s : SubmissionQueue) → submission_at c q ≡ Some s → SubmitsInside s
   pub completion : (q : ℕ) → (x : CompletionQueue) → completion_at c q ≡ Some x → LiesInside x
 
 abbrev pub AreAllPlaced : Subsystem → Type 0

@@ -68,7 +68,7 @@ pub fn nothing_is_lost()
     ensures full { WaitsWhereFull }
 {}
 
-/// Whatever happens, each controller's window has all its bytes, and its completion queues lie in it.
+/// Whatever happens, each controller's window has all its bytes, and its queues lie in it.
 pub fn windows_keep_their_bytes()
     ensures opening { OpeningIsPlaced }
     ensures run { WindowsKeepTheirLength }
