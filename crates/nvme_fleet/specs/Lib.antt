@@ -11,3 +11,4 @@ pub mod Lanes
 pub mod Sound
 pub mod Steps
 pub mod Links
+pub mod Linked

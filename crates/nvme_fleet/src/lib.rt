@@ -7,9 +7,11 @@
 mod event;
 mod examples;
 mod laws;
+mod link;
 mod seen;
 
 pub use event::FleetEvent;
+pub use link::Link;
 pub use nvme_driver::{Answer, NotUp, PlaceRefusal, PollFault, Request, Ticket, UpFault};
 pub use nvme_machine::{Executed, Fetched};
 pub use seen::FleetSeen;
