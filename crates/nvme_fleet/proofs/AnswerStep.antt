@@ -28,7 +28,8 @@ use Rattle.nvme_fleet.proofs.Windows.{stored-none}
 use Rattle.nvme_fleet.proofs.Commands.{SameFields}
 use Rattle.nvme_fleet.proofs.Judging.{length-same, count-same, lba-same}
 use Rattle.nvme_fleet.proofs.PostStep.{lane-of-item}
-use Rattle.nvme_fleet.proofs.JudgeStep.{io-known, item-is, asked-is, judged_as_its_request}
+use Rattle.nvme_fleet.proofs.HeldStep.{item-is}
+use Rattle.nvme_fleet.proofs.JudgeStep.{io-known, asked-is, judged_as_its_request}
 use Rattle.nvme_fleet.proofs.ServeStep.{asked_by, allowed_serves_its_request}
 use Rattle.nvme_fleet.proofs.Denying.{VerdictRefuses, verdict-refuses, refuses}
 
@@ -60,7 +61,7 @@ lane-is : (d : Driver) (c : Controller) (i : ℕ) (t : FetchedCommand) (x : Fetc
     (f : slice_get (mailbox d c).fetched i ≡ Some x) (q : t.queue ≡ 1) → lane_of x.item ≡ Io
 lane-is d c i t x s g f q =
     let k = io-known d c i t s g q in
-    ap (λ (y : FetchedItem). lane_of y.item) (item-is d c i t x g f) ∙ lane-of-item Io d c t (ap lane_of_queue q) (record { received = k.received; of_lane = k.io })
+    ap (λ (y : FetchedItem). lane_of y.item) (item-is d c i t x g f) ∙ lane-of-item Io d c t (ap lane_of_queue q) (record { received = k.received; of_lane = k.of_lane })
 
 as-io : (tells : Bool) (cntlid : ℕ) (x : FetchedItem) (s : Site) (r : Response) (v : Verdict) → lane_of x.item ≡ Io → io_verdict s.world cntlid x.item.asked x.marked ≡ v
     → AnswersIo v tells cntlid x.item.asked s r → Answers tells cntlid x s r

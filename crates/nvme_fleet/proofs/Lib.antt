@@ -37,6 +37,7 @@ pub mod MarkStep
 pub mod Commands
 pub mod Judging
 pub mod Transferring
+pub mod HeldStep
 pub mod JudgeStep
 pub mod ServeStep
 pub mod Denying

@@ -36,7 +36,8 @@ use Rattle.nvme_fleet.proofs.Places.{no-way}
 use Rattle.nvme_fleet.proofs.Commands.{SameFields}
 use Rattle.nvme_fleet.proofs.Judging.{length-same, count-same, lba-same, action-same}
 use Rattle.nvme_fleet.proofs.PostStep.{slot_seen}
-use Rattle.nvme_fleet.proofs.JudgeStep.{IsIo, io-known, item-is, asked-is, action-is, plain-io, data-same, length-is, data-is}
+use Rattle.nvme_fleet.proofs.HeldStep.{item-is, data-same}
+use Rattle.nvme_fleet.proofs.JudgeStep.{IsIo, io-known, asked-is, action-is, plain-io, length-is, data-is}
 
 same-block : (w : World) (x y : List ℕ) → SameFields x y → medium_block w x ≡ medium_block w y
 same-block w x y h = sym (λ i. start_of (namespace_of w (h.nsid i)) + lba-same x y h i)
@@ -154,7 +155,7 @@ record IsAllowed (d : Driver) (c : Controller) (t : FetchedCommand) (kind : Comm
 allowed : (d : Driver) (c : Controller) (t : FetchedCommand) (w : World) (cntlid : ℕ) (kind : Command) → IsIo d c t → HasPassed w cntlid t.entry kind → IsAllowed d c t kind
 allowed d c t w cntlid kind h p =
     let u = h.suited in
-    let q = plain-io (asked_by d c t) h.io u.plain in
+    let q = plain-io (asked_by d c t) h.of_lane u.plain in
     record {
       known = h;
       moved = length-is d c t h ∙ ap (λ o. data_length_of o t.entry) p.named;
@@ -190,7 +191,7 @@ allowed_serves_its_request tells d c i t x w device cntlid plan a s g f q is h =
       served = served-by tells d c i t x w device cntlid plan.kind (response_with d t a h.returned) g f q (record {
         returned = h.returned;
         effect = performs-same tells plan.kind cntlid t.entry (command_entry (asked_by d c t)) (data_of c.window t.entry) (asked_by d c t).sent (scene w c.window device) a.left a.outcome.status h.returned
-            (asked_by d c t).received (asked_by d c t).moved k.same y.received (λ z. data-is d c t k ∙ data-same d c t k z) o h.effect;
+            (asked_by d c t).received (asked_by d c t).moved k.same y.received (λ z. data-is d c t k ∙ data-same Io d c t k z) o h.effect;
         dw0 = h.dw0;
         rule = h.rule;
         marks = h.marks ∙ marks-same plan.kind t.entry (command_entry (asked_by d c t)) (reservation_outcome w cntlid t.entry (data_of c.window t.entry)) (action_of w cntlid (asked_by d c t)) k.same o;

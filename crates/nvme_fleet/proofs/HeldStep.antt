@@ -1,0 +1,101 @@
+-- A fetched command of a lane, its slot, and the request that the mailbox has in its place.
+use Rattle.std.proofs.Common.{◌≡◌, ℕ, ◌-◌, ◌<◌, List, [], ◌∷◌, ◌++◌, length, map, take, drop, Some, Ok, refl, sym, ap, subst, ◌∙◌, arith, slice_get}
+use Rattle.std.proofs.lemmas.List.{take-take}
+use Rattle.std.proofs.lemmas.Option.{slice_get-map}
+use Rattle.std.specs.Option.{option_map}
+use Rattle.nvme_wire.specs.declared.sqe.fields.SqeFields.{SqeFields}
+use Rattle.nvme_wire.specs.Submission.{cid}
+use Rattle.nvme_spec.specs.Rules.{Rule, judgement_by, else_by, first_failing}
+use Rattle.nvme_spec.specs.DataRules.{pointer_rule, data_in}
+use Rattle.nvme_spec.proofs.Judgements.{first_failing-append}
+use Rattle.nvme_driver.specs.declared.lane.Lane.{Lane}
+use Rattle.nvme_driver.specs.Layout.{data_area}
+use Rattle.nvme_driver.specs.Pointers.{stored_list}
+use Rattle.nvme_driver.specs.Polls.{waiting_at}
+use Rattle.nvme_driver.specs.Drivers.{Driver}
+use Rattle.nvme_machine.specs.declared.fetched.FetchedCommand.{FetchedCommand}
+use Rattle.nvme_machine.specs.Controllers.{Controller}
+use Rattle.nvme_fleet.specs.Mailboxes.{FetchedItem}
+use Rattle.nvme_fleet.specs.Executions.{command_entry}
+use Rattle.nvme_fleet.specs.Views.{Slot, asked_in, item_in, lane_in, received_in}
+use Rattle.nvme_fleet.specs.Lanes.{Both, whole, area, listed, fetched_by, held_by}
+use Rattle.nvme_fleet.specs.Sound.{Sound, host_side, device_side, mailbox, taken_by, lane_of_queue}
+use Rattle.nvme_fleet.proofs.LaneSlots.{slot-in}
+use Rattle.nvme_fleet.proofs.Polling.{Own, own-is}
+use Rattle.nvme_fleet.proofs.Executing.{Takes}
+use Rattle.nvme_fleet.proofs.Commands.{IsSuited, is-suited, SameFields, same-fields, read-so}
+use Rattle.nvme_fleet.proofs.Transferring.{IsMoved, moved}
+use Rattle.nvme_fleet.proofs.PostStep.{known, slot_seen, item_at}
+
+-- What is known of a command of a lane and its slot.
+pub record IsHeld (lane : Lane) (d : Driver) (c : Controller) (t : FetchedCommand) : Type 0 where
+  pub suited : IsSuited (slot_seen lane d c t) t.entry
+  pub within : cid t.entry < 24
+  pub of_lane : lane_in (slot_seen lane d c t).waiting ≡ lane
+  pub received : (asked_in (slot_seen lane d c t) t.entry).received ≡ received_in (waiting_at d.slots (cid t.entry))
+  pub bytes : (slot_seen lane d c t).bytes ≡ area c.window (cid t.entry)
+  pub same : SameFields t.entry (command_entry (asked_in (slot_seen lane d c t) t.entry))
+  pub moves : IsMoved c.window (cid t.entry) t.entry (asked_in (slot_seen lane d c t) t.entry).moved
+
+held : (lane : Lane) (d : Driver) (c : Controller) (t : FetchedCommand) (i : ℕ) (s : Sound d c) → Takes lane (host_side d) (device_side c) i t.entry → IsHeld lane d c t
+held lane d c t i s k =
+    let b : Both (host_side d) (device_side c) = s.both in
+    let o : Own lane c.window (cid t.entry) (waiting_at d.slots (cid t.entry)) = own-is lane c.window (cid t.entry) (waiting_at d.slots (cid t.entry)) k.live in
+    let e : slot_seen lane d c t ≡ whole c.window (cid t.entry) o.waiting = slot-in lane c.window 0 d.slots (cid t.entry) (cid t.entry) (omega arith) ∙ o.slot in
+    let h = is-suited (slot_seen lane d c t) t.entry (k.one).suits_it in
+    let r = read-so (slot_seen lane d c t) t.entry h (k.one).within in
+    let l = h.there in
+    let there : take (length (stored_list (cid t.entry) (asked_in (slot_seen lane d c t) t.entry).moved)) (listed c.window (cid t.entry)) ≡ stored_list (cid t.entry) (asked_in (slot_seen lane d c t) t.entry).moved =
+    sym (ap (λ (z : Slot). take (length (stored_list (cid t.entry) (asked_in (slot_seen lane d c t) t.entry).moved)) z.list) e) ∙ l in
+    record {
+      suited = h;
+      within = (k.one).within;
+      of_lane = ap (λ (z : Slot). lane_in z.waiting) e ∙ o.of_lane;
+      received = ap (λ (z : Slot). received_in z.waiting) e ∙ sym (ap received_in o.is);
+      bytes = ap (λ (z : Slot). z.bytes) e;
+      same = same-fields (slot_seen lane d c t) t.entry h (k.one).within;
+      moves = moved c.window (cid t.entry) t.entry (asked_in (slot_seen lane d c t) t.entry).moved b.window (k.one).within h.most there (ap (λ (z : SqeFields). z.prp1) r) (ap (λ (z : SqeFields). z.prp2) r);
+    }
+
+-- the rule on the pointer passes
+pub pointer-passes : (window : List ℕ) (k : ℕ) (x : List ℕ) (n : ℕ) → IsMoved window k x n → judgement_by (pointer_rule n window x) ≡ Ok tt
+unfolding judgement_by pointer_rule
+pointer-passes window k x n m = rw m.fault refl
+
+pub without-pointer : (xs : List Rule) (p q : Rule) → judgement_by p ≡ Ok tt → first_failing (xs ++ p ∷ q ∷ []) ≡ first_failing (xs ++ q ∷ [])
+without-pointer xs p q h =
+    first_failing-append xs (p ∷ q ∷ []) ∙ ap (λ j. else_by (first_failing xs) (else_by j (first_failing (q ∷ [])))) h ∙ sym (first_failing-append xs (q ∷ []))
+
+pub held-known : (lane : Lane) (d : Driver) (c : Controller) (i : ℕ) (t : FetchedCommand) → Sound d c → slice_get c.fetched i ≡ Some t → lane_of_queue t.queue ≡ lane → IsHeld lane d c t
+held-known lane d c i t s g q =
+    let k = known d c i t s g in
+    let e : k.lane ≡ lane = sym k.of_lane ∙ q in
+    held lane d c t i s (subst (λ l. Takes l (host_side d) (device_side c) i t.entry) e k.takes)
+
+-- the data that the command gathers are those of the request, where it receives none
+pub data-same : (lane : Lane) (d : Driver) (c : Controller) (t : FetchedCommand) (h : IsHeld lane d c t) → (asked_in (slot_seen lane d c t) t.entry).received ≡ 0
+    → data_in (asked_in (slot_seen lane d c t) t.entry).moved c.window t.entry ≡ (asked_in (slot_seen lane d c t) t.entry).sent
+unfolding area
+data-same lane d c t h z =
+    let m = h.moves in
+    let u = h.suited in
+    let e : (asked_in (slot_seen lane d c t) t.entry).moved - (asked_in (slot_seen lane d c t) t.entry).received ≡ (asked_in (slot_seen lane d c t) t.entry).moved = omega (arith, z) in
+    m.gathers
+    ∙ sym (take-take (asked_in (slot_seen lane d c t) t.entry).moved 131072 (drop (data_area (cid t.entry)) c.window) u.most)
+    ∙ ap (λ n. take n (area c.window (cid t.entry))) (sym e)
+    ∙ ap (take ((asked_in (slot_seen lane d c t) t.entry).moved - (asked_in (slot_seen lane d c t) t.entry).received)) (sym h.bytes)
+
+-- the request that the mailbox has
+pub item-is : (d : Driver) (c : Controller) (i : ℕ) (t : FetchedCommand) (x : FetchedItem) → slice_get c.fetched i ≡ Some t → slice_get (mailbox d c).fetched i ≡ Some x → x ≡ item_at d c t
+item-is d c i t x g f =
+    let e : slice_get (mailbox d c).fetched i ≡ Some (item_at d c t) =
+    slice_get-map (fetched_by (held_by (host_side d) c.window)) (map taken_by c.fetched) i
+    ∙ ap (option_map (fetched_by (held_by (host_side d) c.window))) (slice_get-map taken_by c.fetched i ∙ ap (option_map taken_by) g) in
+    some-is x (item_at d c t) (sym f ∙ e)
+  where
+    some-is : (y z : FetchedItem) → Some y ≡ Some z → y ≡ z
+    some-is y z h = cc
+
+pub asked-in : (lane : Lane) (d : Driver) (c : Controller) (t : FetchedCommand) → lane_of_queue t.queue ≡ lane → (item_at d c t).item.asked ≡ asked_in (slot_seen lane d c t) t.entry
+unfolding item_in
+asked-in lane d c t q = ap (λ l. asked_in (slot_seen l d c t) t.entry) q
