@@ -31,17 +31,17 @@ Refuses s = (not (is_success s) && fits s) ≡ true
 
 -- Tests, rules and judgements whose statuses are refusals.
 
-abbrev TestsFit : List Test → Type 0
+abbrev pub TestsFit : List Test → Type 0
 TestsFit tests = AllByRecursion (λ (t : Test). Refuses t.status) tests
 
-abbrev RuleRefuses : Rule → Type 0
+abbrev pub RuleRefuses : Rule → Type 0
 RuleRefuses r = TestsFit r.tests
 
-abbrev JudgementRefuses : Judgement → Type 0
+abbrev pub JudgementRefuses : Judgement → Type 0
 JudgementRefuses (Ok u) = Unit {0}
 JudgementRefuses (Err d) = Refuses d.status
 
-abbrev FailureRefuses : Option Status → Type 0
+abbrev pub FailureRefuses : Option Status → Type 0
 FailureRefuses None = Unit {0}
 FailureRefuses (Some s) = Refuses s
 
@@ -49,7 +49,7 @@ if-refuses : (b : Bool) (s : Status) (o : Option Status) → Refuses s → Failu
 if-refuses true s o f g = f
 if-refuses false s o f g = g
 
-failure-refuses : (ts : List Test) → TestsFit ts → FailureRefuses (first_failure ts)
+pub failure-refuses : (ts : List Test) → TestsFit ts → FailureRefuses (first_failure ts)
 failure-refuses [] h = tt
 failure-refuses (t ∷ ts) h = if-refuses t.fails t.status (first_failure ts) h.0 (failure-refuses ts h.1)
 
@@ -69,21 +69,21 @@ pub rules-refuse : (rs : List Rule) → AllByRecursion RuleRefuses rs → Judgem
 rules-refuse [] h = tt
 rules-refuse (r ∷ rs) h = else-refuses (judgement_by r) (first_failing rs) (rule-refuses r h.0) (rules-refuse rs h.1)
 
-tests-joined : (xs ys : List Test) → TestsFit xs → TestsFit ys → TestsFit (xs ++ ys)
+pub tests-joined : (xs ys : List Test) → TestsFit xs → TestsFit ys → TestsFit (xs ++ ys)
 tests-joined [] ys f g = g
 tests-joined (x ∷ xs) ys f g = (f.0, tests-joined xs ys f.1 g)
 
 -- Results whose refusals are.
 
-unfoldable RefusalRefuses : {T : Type 0} → Result T Status → Type 0
+unfoldable pub RefusalRefuses : {T : Type 0} → Result T Status → Type 0
 RefusalRefuses (Ok next) = Unit {0}
 RefusalRefuses (Err s) = Refuses s
 
-if-refusal : {T : Type 0} (b : Bool) (x y : Result T Status) → RefusalRefuses x → RefusalRefuses y → RefusalRefuses (if b then x else y)
+pub if-refusal : {T : Type 0} (b : Bool) (x y : Result T Status) → RefusalRefuses x → RefusalRefuses y → RefusalRefuses (if b then x else y)
 if-refusal true x y f g = f
 if-refusal false x y f g = g
 
-refusal-refuses : {T : Type 0} (o : Result T Status) → RefusalRefuses o → TestsFit (refusal_tests o)
+pub refusal-refuses : {T : Type 0} (o : Result T Status) → RefusalRefuses o → TestsFit (refusal_tests o)
 unfolding RefusalRefuses
 refusal-refuses (Ok next) h = tt
 refusal-refuses (Err s) h = (h, tt)
@@ -173,7 +173,7 @@ action-tests : (o : Option resv.Outcome) → ActionRefuses o → TestsFit (outco
 action-tests None h = tt
 action-tests (Some o) h = refusal-refuses o h
 
-fault-refuses : (o : Option DataFault) → TestsFit (fault_tests o)
+pub fault-refuses : (o : Option DataFault) → TestsFit (fault_tests o)
 fault-refuses None = tt
 fault-refuses (Some Offset) = (refl, tt)
 fault-refuses (Some Outside) = (refl, tt)

@@ -104,3 +104,6 @@ lba-same x y h = same-lba x y h
 
 pub action-same : (x y : List ℕ) → SameFields x y → action y ≡ action x
 action-same x y h = same-action x y h
+
+pub form-same : (x y : List ℕ) → SameFields x y → form_rule y ≡ form_rule x
+form-same x y h = same-form x y h

@@ -41,6 +41,10 @@ pub mod HeldStep
 pub mod JudgeStep
 pub mod ServeStep
 pub mod Denying
+pub mod AdminDenying
+pub mod AdminJudging
+pub mod AdminData
+pub mod AdminKinds
 pub mod AnswerStep
 pub mod ExecuteStep
 pub mod StartStep

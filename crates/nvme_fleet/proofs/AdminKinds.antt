@@ -1,0 +1,179 @@
+-- The admin commands that a driver's requests ask for, what they move, and the fetched command of the admin lane.
+use Rattle.std.proofs.Common.{◌≡◌, ◌⊎◌, ℕ, ◌^◌, ◌<◌, ◌==◌, Bool, true, false, ◌||◌, List, length, Option, None, Some, refl, sym, ap, ◌∙◌, arith, inl, inr}
+use Rattle.std.proofs.lemmas.Bool.{and_parts, eqb-true}
+use Rattle.std.specs.Prelude.{if◌then◌else◌}
+use Rattle.nvme_wire.specs.Entry.{bits}
+use Rattle.nvme_wire.specs.Submission.{opcode, nsid, cdw10}
+use Rattle.nvme_spec.specs.declared.command.AdminCommand.{AdminCommand}
+use Rattle.nvme_spec.specs.declared.command.AdminCommand.TheVariants as admin
+use Rattle.nvme_spec.specs.declared.queues.QueueChange.TheVariants.{Keep}
+use Rattle.nvme_spec.specs.World.{World, Namespace, namespace_of}
+use Rattle.nvme_spec.specs.AdminCommands.{opcode_of, command_of, fid, number_of_queues, write_protection, data_length, data_length_of}
+use Rattle.nvme_spec.specs.Identify.{bit_of}
+use Rattle.nvme_spec.specs.AdminRules as rules
+use Rattle.nvme_spec.specs.AdminEffects.{protection_value, double_word_0, data_out, world_after, queue_change}
+use Rattle.nvme_driver.specs.declared.lane.Lane.TheVariants.{Admin}
+use Rattle.nvme_driver.specs.Drivers.{Driver, entry_length}
+use Rattle.nvme_driver.specs.Requests.{Asked}
+use Rattle.nvme_machine.specs.declared.fetched.FetchedCommand.{FetchedCommand}
+use Rattle.nvme_machine.specs.Controllers.{Controller}
+use Rattle.nvme_fleet.specs.Views.{Slot, asked_in, is_plain, is_plain_in, lane_in}
+use Rattle.nvme_fleet.proofs.AdminData.{length-identify_data}
+use Rattle.nvme_fleet.proofs.AdminJudging.{IsAsked}
+use Rattle.nvme_fleet.proofs.HeldStep.{IsHeld}
+use Rattle.nvme_fleet.proofs.PostStep.{slot_seen}
+
+-- Identify gives back all that it moves, the others nothing.
+abbrev pub MovesAs : AdminCommand → ℕ → ℕ → List ℕ → Type 0
+MovesAs admin.Identify received moved x = received ≡ moved
+MovesAs admin.GetFeatures received moved x = (received ≡ 0) × (fid x ≡ write_protection)
+MovesAs command received moved x = received ≡ 0
+
+-- the command of a plain request
+pub record IsPlainAdmin (received moved : ℕ) (x : List ℕ) : Type 0 where
+  pub command : AdminCommand
+  pub named : command_of (opcode x) ≡ Some command
+  pub asked : IsAsked command
+  pub moves : MovesAs command received moved x
+
+identify-named : (n : ℕ) → n ≡ opcode_of admin.Identify → command_of n ≡ Some admin.Identify
+unfolding command_of
+identify-named n e = rw e refl
+
+set-named : (n : ℕ) → n ≡ opcode_of admin.SetFeatures → command_of n ≡ Some admin.SetFeatures
+unfolding command_of
+set-named n e = rw e refl
+
+get-named : (n : ℕ) → n ≡ opcode_of admin.GetFeatures → command_of n ≡ Some admin.GetFeatures
+unfolding command_of
+get-named n e = rw e refl
+
+attachment-named : (n : ℕ) → n ≡ opcode_of admin.NamespaceAttachment → command_of n ≡ Some admin.NamespaceAttachment
+unfolding command_of
+attachment-named n e = rw e refl
+
+or-parts : (p q : Bool) → (p || q) ≡ true → (p ≡ true) ⊎ (q ≡ true)
+or-parts true q h = inl refl
+or-parts false q h = inr h
+
+feature-is : (x : List ℕ) → (bits (cdw10 x) 7 0 == write_protection) ≡ true → fid x ≡ write_protection
+unfolding fid
+feature-is x h = eqb-true (bits (cdw10 x) 7 0) write_protection h
+
+plain-admin : (s : Slot) (x : List ℕ) → lane_in s.waiting ≡ Admin → is_plain (asked_in s x) ≡ true → IsPlainAdmin (asked_in s x).received (asked_in s x).moved x
+unfolding is_plain
+plain-admin s x l h =
+    elim (or-parts _ _ (sym (ap (λ lane. is_plain_in lane (asked_in s x)) l) ∙ h)) [
+      | inl p ↦ (
+          let e = and_parts _ _ p in
+          record { command = admin.Identify; named = identify-named (opcode x) (eqb-true _ _ e.0); asked = tt; moves = eqb-true _ _ e.1 }
+          )
+      | inr others ↦ elim (or-parts _ _ others) [
+        | inl p ↦ (
+            let e = and_parts _ _ p in
+            let f = and_parts _ _ e.1 in
+            record { command = admin.SetFeatures; named = set-named (opcode x) (eqb-true _ _ e.0); asked = tt; moves = eqb-true _ _ f.1 }
+            )
+        | inr rest ↦ elim (or-parts _ _ rest) [
+          | inl p ↦ (
+              let e = and_parts _ _ p in
+              let f = and_parts _ _ e.1 in
+              record { command = admin.GetFeatures; named = get-named (opcode x) (eqb-true _ _ e.0); asked = tt; moves = (eqb-true _ _ f.1, feature-is x f.0) }
+              )
+          | inr p ↦ (
+              let e = and_parts _ _ p in
+              record { command = admin.NamespaceAttachment; named = attachment-named (opcode x) (eqb-true _ _ e.0); asked = tt; moves = eqb-true _ _ e.1 }
+              )
+        ]
+      ]
+    ]
+
+-- What such a command does.
+
+-- it gives back as many bytes as its request receives
+pub length-out : (w : World) (k : ℕ) (x : List ℕ) (command : AdminCommand) (received moved : ℕ) → IsAsked command → moved ≡ data_length command x → MovesAs command received moved x
+    → length (data_out w k command x) ≡ received
+unfolding data_out
+length-out w k x admin.Identify received moved a e m = length-identify_data w k x ∙ sym e ∙ sym m
+length-out w k x admin.SetFeatures received moved a e m = sym m
+length-out w k x admin.GetFeatures received moved a e m = rw m.1 (sym m.0)
+length-out w k x admin.NamespaceAttachment received moved a e m = sym m
+length-out w k x admin.DeleteSubmissionQueue received moved a e m = absurd a
+length-out w k x admin.CreateSubmissionQueue received moved a e m = absurd a
+length-out w k x admin.DeleteCompletionQueue received moved a e m = absurd a
+length-out w k x admin.CreateCompletionQueue received moved a e m = absurd a
+
+-- the queues stay
+pub keeps-queues : (x : List ℕ) (command : AdminCommand) → IsAsked command → queue_change command x ≡ Keep
+unfolding queue_change
+keeps-queues x admin.Identify a = refl
+keeps-queues x admin.SetFeatures a = refl
+keeps-queues x admin.GetFeatures a = refl
+keeps-queues x admin.NamespaceAttachment a = refl
+keeps-queues x admin.DeleteSubmissionQueue a = absurd a
+keeps-queues x admin.CreateSubmissionQueue a = absurd a
+keeps-queues x admin.DeleteCompletionQueue a = absurd a
+keeps-queues x admin.CreateCompletionQueue a = absurd a
+
+-- the data are the request's, where the command looks at them
+pub list-matters : (w : World) (x data_there sent : List ℕ) (command : AdminCommand) (received moved : ℕ) → MovesAs command received moved x → (received ≡ 0 → data_there ≡ sent)
+    → rules.list_rule (Some command) w x data_there ≡ rules.list_rule (Some command) w x sent
+unfolding rules.list_rule
+list-matters w x data_there sent admin.Identify received moved m h = refl
+list-matters w x data_there sent admin.SetFeatures received moved m h = refl
+list-matters w x data_there sent admin.GetFeatures received moved m h = refl
+list-matters w x data_there sent admin.NamespaceAttachment received moved m h = rw (h m) refl
+list-matters w x data_there sent admin.DeleteSubmissionQueue received moved m h = refl
+list-matters w x data_there sent admin.CreateSubmissionQueue received moved m h = refl
+list-matters w x data_there sent admin.DeleteCompletionQueue received moved m h = refl
+list-matters w x data_there sent admin.CreateCompletionQueue received moved m h = refl
+
+pub world-matters : (w : World) (x data_there sent : List ℕ) (command : AdminCommand) (received moved : ℕ) → MovesAs command received moved x → (received ≡ 0 → data_there ≡ sent)
+    → world_after w command x data_there ≡ world_after w command x sent
+unfolding world_after
+world-matters w x data_there sent admin.Identify received moved m h = refl
+world-matters w x data_there sent admin.SetFeatures received moved m h = refl
+world-matters w x data_there sent admin.GetFeatures received moved m h = refl
+world-matters w x data_there sent admin.NamespaceAttachment received moved m h = rw (h m) refl
+world-matters w x data_there sent admin.DeleteSubmissionQueue received moved m h = refl
+world-matters w x data_there sent admin.CreateSubmissionQueue received moved m h = refl
+world-matters w x data_there sent admin.DeleteCompletionQueue received moved m h = refl
+world-matters w x data_there sent admin.CreateCompletionQueue received moved m h = refl
+
+-- double word 0 is within its width
+if-below : (b : Bool) (x y n : ℕ) → x < n → y < n → (if b then x else y) < n
+if-below true x y n f g = f
+if-below false x y n f g = g
+
+bit-small : (b : Bool) → bit_of b < 2 ^ 32
+bit-small true = omega arith
+bit-small false = omega arith
+
+protection-small : (o : Option Namespace) → protection_value o < 2 ^ 32
+protection-small None = omega arith
+protection-small (Some n) = bit-small n.protected
+
+pub dw0-small : (w : World) (x : List ℕ) (command : AdminCommand) → double_word_0 w command x < 2 ^ 32
+unfolding double_word_0
+dw0-small w x admin.SetFeatures = if-below (fid x == number_of_queues) _ _ _ (omega arith) (omega arith)
+dw0-small w x admin.GetFeatures =
+    if-below (fid x == number_of_queues) _ _ _ (omega arith) (if-below (fid x == write_protection) _ _ _ (protection-small (namespace_of w (nsid x))) (omega arith))
+dw0-small w x admin.Identify = omega arith
+dw0-small w x admin.NamespaceAttachment = omega arith
+dw0-small w x admin.DeleteSubmissionQueue = omega arith
+dw0-small w x admin.CreateSubmissionQueue = omega arith
+dw0-small w x admin.DeleteCompletionQueue = omega arith
+dw0-small w x admin.CreateCompletionQueue = omega arith
+
+-- The command of the admin lane.
+
+-- the request of a command, as it is read off its slot
+abbrev pub asked_by : Driver → Controller → FetchedCommand → Asked
+asked_by d c t = asked_in (slot_seen Admin d c t) t.entry
+
+pub plain-held : (d : Driver) (c : Controller) (t : FetchedCommand) (h : IsHeld Admin d c t) → IsPlainAdmin (asked_by d c t).received (asked_by d c t).moved t.entry
+plain-held d c t h = let u = h.suited in plain-admin (slot_seen Admin d c t) t.entry h.of_lane u.plain
+
+-- so many bytes it moves
+pub moved-is : (d : Driver) (c : Controller) (t : FetchedCommand) (h : IsHeld Admin d c t) → (asked_by d c t).moved ≡ data_length_of (command_of (opcode t.entry)) t.entry
+moved-is d c t h = ap (λ l. entry_length l t.entry) h.of_lane
