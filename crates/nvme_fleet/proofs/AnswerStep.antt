@@ -70,7 +70,7 @@ as-io tells cntlid x s r v l e h =
     subst (λ n. AnswersAs n tells cntlid x.item.asked x.marked s r) (sym l) (subst (λ u. AnswersIo u tells cntlid x.item.asked s r) (sym e) h)
 
 -- nothing comes with a denial
-denied-with : (d : Driver) (t : FetchedCommand) (a : Answer) (w : World) (window : List ℕ) (device : Device) (number : ℕ) (why : Status) → is_success why ≡ false
+pub denied-with : (d : Driver) (t : FetchedCommand) (a : Answer) (w : World) (window : List ℕ) (device : Device) (number : ℕ) (why : Status) → is_success why ≡ false
     → a.left ≡ scene w window device → a.outcome ≡ denial_outcome number why → response_with d t a [] ≡ denial_response (record { world = w; device = device }) number why
 denied-with d t a w window device number why n l o = rw (l, o, n) refl
 

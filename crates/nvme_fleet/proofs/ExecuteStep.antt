@@ -1,5 +1,5 @@
--- An execution of an I/O command is the step of the mailbox.
-use Rattle.std.proofs.Common.{◌≡◌, ℕ, nat_lt, ◌<◌, ◌==◌, Bool, true, List, map, Some, refl, sym, ap, subst, ◌∙◌, arith, inl, inr, slice_get}
+-- An execution of a command of either lane is the step of the mailbox.
+use Rattle.std.proofs.Common.{◌≡◌, ℕ, ◌^◌, nat_lt, ◌<◌, ◌==◌, Bool, true, List, map, Some, refl, sym, ap, subst, ◌∙◌, arith, inl, inr, slice_get}
 use Rattle.std.proofs.lemmas.Bool.{and_parts, cases_lt, le-ltb}
 use Rattle.std.proofs.lemmas.Option.{slice_get-map}
 use Rattle.std.specs.Option.{option_map}
@@ -10,27 +10,32 @@ use Rattle.nvme_spec.specs.declared.command.Command.{Command}
 use Rattle.nvme_spec.specs.declared.command.Command.TheVariants as io
 use Rattle.nvme_spec.specs.declared.verdict.Verdict.{Verdict}
 use Rattle.nvme_spec.specs.declared.verdict.Verdict.TheVariants.{Allowed, Denied}
+use Rattle.nvme_spec.specs.declared.queues.QueueChange.TheVariants.{Keep}
 use Rattle.nvme_spec.specs.Blocks.{Device}
+use Rattle.nvme_spec.specs.AdminEffects.{admin_execution}
 use Rattle.nvme_spec.specs.Effects.{ReadEffect, WriteEffect, CompareEffect, FlushEffect}
 use Rattle.nvme_spec.specs.Statuses as status
 use Rattle.nvme_spec.specs.IoData as spec
 use Rattle.nvme_spec.specs.Execution.{Scene, Performs, ExecutesBy}
 use Rattle.nvme_driver.specs.declared.lane.Lane.{Lane}
+use Rattle.nvme_driver.specs.declared.lane.Lane.TheVariants.{Admin, Io}
+use Rattle.nvme_driver.specs.Layout.{queue_id}
 use Rattle.nvme_driver.specs.Drivers.{Driver, is_up}
 use Rattle.nvme_machine.specs.declared.fetched.FetchedCommand.{FetchedCommand}
 use Rattle.nvme_machine.specs.declared.seen.Executed.{Executed}
 use Rattle.nvme_machine.specs.Controllers.{Controller, QueuePair, open_pair, queues_of}
-use Rattle.nvme_machine.specs.Answers.{Answer, AnswersAs, Answers, AnswersIo}
-use Rattle.nvme_machine.specs.Executing.{Setting, Finishes, FinishesOver, FinishesOne, scene_in}
+use Rattle.nvme_machine.specs.Answers.{Answer, admin_answer, AnswersAs, Answers, AnswersIo}
+use Rattle.nvme_machine.specs.Executing.{Setting, ExecutesNth, Finishes, FinishesOver, FinishesOne, scene_in}
 use Rattle.nvme_fleet.specs.Mailboxes.{FetchedItem}
 use Rattle.nvme_fleet.specs.Executions.{Answers as FleetAnswers}
 use Rattle.nvme_fleet.specs.Lanes.{DeviceSide, DeviceEnds, Both, pair, state, held_by, fetched_by}
-use Rattle.nvme_fleet.specs.Sound.{Sound, IsPaired, host_side, device_side, mailbox, taken_by}
-use Rattle.nvme_fleet.specs.Steps.{IsExecuted, response_with, IoExecutionIsAStep}
+use Rattle.nvme_fleet.specs.Sound.{Sound, IsPaired, host_side, device_side, mailbox, taken_by, lane_of_queue}
+use Rattle.nvme_fleet.specs.Steps.{IsAnsweredInItsSlot, IsExecuted, response_with, IoExecutionIsAStep, AdminExecutionIsAStep}
 use Rattle.nvme_fleet.proofs.Places.{no-way}
 use Rattle.nvme_fleet.proofs.Linking.{of, pair-is}
 use Rattle.nvme_fleet.proofs.PostStep.{known, up-of, open-is, pair_in, fields_of, item_at, posting_has_room, posting_is_a_step}
-use Rattle.nvme_fleet.proofs.JudgeStep.{io-known}
+use Rattle.nvme_fleet.proofs.HeldStep.{held-known}
+use Rattle.nvme_fleet.proofs.AdminStep.{admin_answers_its_request, admin-fits}
 use Rattle.nvme_fleet.proofs.AnswerStep.{answers_its_request}
 use Rattle.nvme_fleet.proofs.Denying.{fits, refuses, VerdictRefuses, verdict-refuses}
 
@@ -97,21 +102,30 @@ lt-true a b h = elim (cases_lt a b) [
   | inr m ↦ absurd (no-way (nat_lt a b) (le-ltb a b m) h)
 ]
 
-completion-fits : (d : Driver) (c : Controller) (i : ℕ) (t : FetchedCommand) (p : QueuePair) (a : Answer) → Sound d c → slice_get c.fetched i ≡ Some t → t.queue ≡ 1 → open_pair c t ≡ Some p
-    → fits a.outcome.status ≡ true → a.outcome.dw0 ≡ 0 → FitsCompletion (fields_of t p a)
-completion-fits d c i t p a s g q e f z =
-    let k = io-known d c i t s g q in
+pub completion-fits : (lane : Lane) (d : Driver) (c : Controller) (i : ℕ) (t : FetchedCommand) (p : QueuePair) (a : Answer) → Sound d c → slice_get c.fetched i ≡ Some t → t.queue ≡ queue_id lane
+    → open_pair c t ≡ Some p → (fits a.outcome.status ≡ true) × (a.outcome.dw0 < 2 ^ 32) → FitsCompletion (fields_of t p a)
+completion-fits lane d c i t p a s g q e f =
+    let k = held-known lane d c i t s g (ap lane_of_queue q ∙ lane-back lane) in
     let head = pair-head d c i t p s g e in
     let within = k.within in
-    let b = and_parts _ _ f in
+    let b = and_parts _ _ f.0 in
+    let low = queue-small lane in
     record {
-      dw0 = omega (arith, z);
+      dw0 = f.1;
       sq_head = omega (arith, head);
-      sq_id = omega (arith, q);
+      sq_id = omega (arith, q, low);
       cid = omega (arith, within);
       sct = lt-true a.outcome.status.sct 8 b.0;
       sc = lt-true a.outcome.status.sc 256 b.1;
     }
+  where
+    queue-small : (l : Lane) → queue_id l < 2
+    queue-small Admin = omega arith
+    queue-small Io = omega arith
+
+    lane-back : (l : Lane) → lane_of_queue (queue_id l) ≡ l
+    lane-back Admin = refl
+    lane-back Io = refl
 
 found-at : (d : Driver) (c : Controller) (i : ℕ) (t : FetchedCommand) → slice_get c.fetched i ≡ Some t → slice_get (mailbox d c).fetched i ≡ Some (item_at d c t)
 found-at d c i t g =
@@ -123,22 +137,19 @@ io-answers : (tells : Bool) (d : Driver) (t : FetchedCommand) (old : Setting) (a
 unfolding Answers
 io-answers tells d t old a q h = subst (λ n. AnswersAs (n == 0) tells (queues_of old.controller) old.controller.cntlid t (scene_in old) a) q h
 
-finished : (tells : Bool) (d : Driver) (i : ℕ) (t : FetchedCommand) (p : QueuePair) (old : Setting) (executed : Executed) (new : Setting) → Sound d old.controller
-    → slice_get old.controller.fetched i ≡ Some t → t.queue ≡ 1 → open_pair old.controller t ≡ Some p → Finishes tells i t p old executed new → IsExecuted tells d i old executed new
-finished tells d i t p old executed new s g q e h =
+-- an answer that is in its slot, and fits its completion
+pub record IsPostable (tells : Bool) (d : Driver) (t : FetchedCommand) (p : QueuePair) (old : Setting) (x : FetchedItem) (a : Answer) : Type 0 where
+  pub keeps : a.change ≡ Keep
+  pub slot : IsAnsweredInItsSlot tells d old.controller t x old.world old.device old.controller.cntlid a
+  pub fits_so : FitsCompletion (fields_of t p a)
+
+pub finished : (tells : Bool) (d : Driver) (i : ℕ) (t : FetchedCommand) (p : QueuePair) (old : Setting) (executed : Executed) (new : Setting) → Sound d old.controller
+    → slice_get old.controller.fetched i ≡ Some t → open_pair old.controller t ≡ Some p → (h : Finishes tells i t p old executed new)
+    → IsPostable tells d t p old (item_at d old.controller t) h.answer → IsExecuted tells d i old executed new
+finished tells d i t p old executed new s g e h x =
     let f = found-at d old.controller i t g in
-    let n = io-answers tells d t old h.answer q h.answers in
-    let y = answers_its_request tells d old.controller i t (item_at d old.controller t) old.world old.device old.controller.cntlid h.answer s g f q n.1 in
-    let w = executes-fits (spec.io_verdict old.world old.controller.cntlid t.entry t.marked old.controller.window) tells old.controller.cntlid t.entry (scene_in old) h.answer.left h.answer.outcome
-    (verdict-refuses old.world old.controller.cntlid t.entry t.marked old.controller.window) n.1 in
-    let r = posting_is_a_step d old.controller i t p h.answer s g e (record {
-      bytes = y.bytes;
-      queues = n.0;
-      window = y.window;
-      few = y.few;
-      whole = y.whole;
-      fits = completion-fits d old.controller i t p h.answer s g q e w.0 w.1;
-    }) in
+    let y = x.slot in
+    let r = posting_is_a_step d old.controller i t p h.answer s g e (record { bytes = y.bytes; queues = x.keeps; window = y.window; few = y.few; whole = y.whole; fits = x.fits_so }) in
     let same : item_at d old.controller t ≡ r.item = some-is (item_at d old.controller t) r.item (sym f ∙ r.found) in
     record {
       item = r.item;
@@ -155,8 +166,55 @@ finished tells d i t p old executed new s g q e h =
     some-is : (y z : FetchedItem) → Some y ≡ Some z → y ≡ z
     some-is y z h = cc
 
-pub io_execution_is_a_step : IoExecutionIsAStep
-io_execution_is_a_step tells d i t old executed new s g q h =
+-- the command of a lane's execution, whose completion queue has room
+pub finishes : (tells : Bool) (d : Driver) (i : ℕ) (t : FetchedCommand) (old : Setting) (executed : Executed) (new : Setting) → (s : Sound d old.controller)
+    → (g : slice_get old.controller.fetched i ≡ Some t) → ExecutesNth tells i old executed new → (p : QueuePair) × (open_pair old.controller t ≡ Some p) × Finishes tells i t p old executed new
+finishes tells d i t old executed new s g h =
     let over : FinishesOver (open_pair old.controller t) tells i t old executed new = subst (λ o. FinishesOne o tells i old executed new) g h in
     let room = posting_has_room d old.controller i t s g in
-    finished tells d i t room.0 old executed new s g q room.1 (subst (λ o. FinishesOver o tells i t old executed new) room.1 over)
+    (room.0, room.1, subst (λ o. FinishesOver o tells i t old executed new) room.1 over)
+
+io-postable : (tells : Bool) (d : Driver) (i : ℕ) (t : FetchedCommand) (p : QueuePair) (old : Setting) (a : Answer) → Sound d old.controller → slice_get old.controller.fetched i ≡ Some t → t.queue ≡ 1
+    → open_pair old.controller t ≡ Some p → Answers tells (queues_of old.controller) old.controller.cntlid t (scene_in old) a → IsPostable tells d t p old (item_at d old.controller t) a
+io-postable tells d i t p old a s g q e h =
+    let n = io-answers tells d t old a q h in
+    let f = found-at d old.controller i t g in
+    let w = executes-fits (spec.io_verdict old.world old.controller.cntlid t.entry t.marked old.controller.window) tells old.controller.cntlid t.entry (scene_in old) a.left a.outcome
+    (verdict-refuses old.world old.controller.cntlid t.entry t.marked old.controller.window) n.1 in
+    let zero_word = w.1 in
+    record {
+      keeps = n.0;
+      slot = answers_its_request tells d old.controller i t (item_at d old.controller t) old.world old.device old.controller.cntlid a s g f q n.1;
+      fits_so = completion-fits Io d old.controller i t p a s g q e (w.0, omega (arith, zero_word));
+    }
+
+pub io_execution_is_a_step : IoExecutionIsAStep
+io_execution_is_a_step tells d i t old executed new s g q h =
+    let f = finishes tells d i t old executed new s g h in
+    let y = f.2 in
+    finished tells d i t f.0 old executed new s g f.1 y (io-postable tells d i t f.0 old y.answer s g q f.1 y.answers)
+
+-- Of the admin lane.
+
+admin-answers : (tells : Bool) (t : FetchedCommand) (old : Setting) (a : Answer) → t.queue ≡ 0 → Answers tells (queues_of old.controller) old.controller.cntlid t (scene_in old) a
+    → a ≡ admin_answer (scene_in old) (admin_execution old.world (queues_of old.controller) old.controller.cntlid t.entry old.controller.window)
+unfolding Answers
+admin-answers tells t old a q h = subst (λ n. AnswersAs (n == 0) tells (queues_of old.controller) old.controller.cntlid t (scene_in old) a) q h
+
+admin-postable : (tells : Bool) (d : Driver) (i : ℕ) (t : FetchedCommand) (p : QueuePair) (old : Setting) (a : Answer) → Sound d old.controller → slice_get old.controller.fetched i ≡ Some t → t.queue ≡ 0
+    → open_pair old.controller t ≡ Some p → Answers tells (queues_of old.controller) old.controller.cntlid t (scene_in old) a → IsPostable tells d t p old (item_at d old.controller t) a
+admin-postable tells d i t p old a s g q e h =
+    let n = admin-answers tells t old a q h in
+    let f = found-at d old.controller i t g in
+    let y = admin_answers_its_request tells d old.controller i t (item_at d old.controller t) old.world old.device old.controller.cntlid a s g f q n in
+    record {
+      keeps = y.0;
+      slot = y.1;
+      fits_so = completion-fits Admin d old.controller i t p a s g q e (admin-fits d old.controller i t old.world old.device old.controller.cntlid a s g q n);
+    }
+
+pub admin_execution_is_a_step : AdminExecutionIsAStep
+admin_execution_is_a_step tells d i t old executed new s g q h =
+    let f = finishes tells d i t old executed new s g h in
+    let y = f.2 in
+    finished tells d i t f.0 old executed new s g f.1 y (admin-postable tells d i t f.0 old y.answer s g q f.1 y.answers)

@@ -46,6 +46,7 @@ pub mod AdminJudging
 pub mod AdminData
 pub mod AdminKinds
 pub mod AnswerStep
+pub mod AdminStep
 pub mod ExecuteStep
 pub mod StartStep
 pub mod OwnCommands

@@ -7,6 +7,8 @@ use Rattle.nvme_spec.specs.Bytes.{with_bytes}
 use Rattle.nvme_spec.specs.World.{World}
 use Rattle.nvme_spec.specs.IoData as spec
 use Rattle.nvme_spec.specs.Blocks.{Device}
+use Rattle.nvme_spec.specs.AdminRules as admin
+use Rattle.nvme_spec.specs.AdminEffects.{admin_execution}
 use Rattle.nvme_spec.specs.Execution.{scene, IsPerformed, Executes}
 use Rattle.nvme_spec.specs.declared.command.Command.{Command}
 use Rattle.nvme_spec.specs.declared.verdict.Plan.{Plan}
@@ -15,13 +17,13 @@ use Rattle.nvme_spec.specs.Limits.{most_bytes}
 use Rattle.nvme_spec.specs.Queues.{phase_tag}
 use Rattle.nvme_driver.specs.Layout.{data_area}
 use Rattle.nvme_machine.specs.declared.fetched.FetchedCommand.{FetchedCommand}
-use Rattle.nvme_machine.specs.Answers.{Answer}
+use Rattle.nvme_machine.specs.Answers.{Answer, admin_answer}
 use Rattle.nvme_machine.specs.declared.seen.Executed.{Executed}
 use Rattle.nvme_machine.specs.declared.seen.Executed.TheVariants.{Posted}
 use Rattle.nvme_machine.specs.Executing.{Setting, ExecutesNth}
 use Rattle.nvme_machine.specs.Subsystems.{after_answer as after_machine_answer}
 use Rattle.nvme_fleet.specs.Mailboxes.{FetchedItem, with_marks as mark_mailbox}
-use Rattle.nvme_fleet.specs.Executions.{Response, io_judgement, IsServed, Answers}
+use Rattle.nvme_fleet.specs.Executions.{Response, io_judgement, admin_judgement, IsServed, Answers}
 use Rattle.nvme_fleet.specs.Views.{received_in}
 use Rattle.nvme_driver.specs.declared.request.Request.{Request}
 use Rattle.nvme_driver.specs.declared.faults.PlaceRefusal.{PlaceRefusal}
@@ -29,7 +31,7 @@ use Rattle.nvme_driver.specs.Requests.{asked_of}
 use Rattle.nvme_driver.specs.Calls.{Call, Stores, Writes, Reads, Turns}
 use Rattle.nvme_driver.specs.Drivers as driver
 use Rattle.nvme_driver.specs.Polls as poll
-use Rattle.nvme_machine.specs.Controllers.{Controller, QueuePair, with_marks, open_pair, after_store, after_write32, after_fetch}
+use Rattle.nvme_machine.specs.Controllers.{Controller, QueuePair, queues_of, with_marks, open_pair, after_store, after_write32, after_fetch}
 use Rattle.nvme_fleet.specs.declared.seen.FleetSeen.TheVariants.{Placed, Polled, Rung, Fetched, Reset}
 use Rattle.nvme_fleet.specs.Deliveries as mail
 use Rattle.nvme_fleet.specs.Fleets.{raw_fetch, after_answer}
@@ -193,6 +195,22 @@ AnswersItsRequest =
     → Executes tells cntlid t.entry t.marked (scene w c.window device) a.left a.outcome
     → IsAnsweredInItsSlot tells d c t x w device cntlid a
 
+-- A fetched command of the admin lane is judged as the request that the mailbox has in its place, by the two pairs of queues
+-- that the mailbox's driver has made: its data pointer has no fault.
+abbrev pub AdminJudgedAsItsRequest : Type 0
+AdminJudgedAsItsRequest =
+    (d : driver.Driver) (c : Controller) (i : ℕ) (t : FetchedCommand) (x : FetchedItem) (w : World) (cntlid : ℕ) → Sound d c
+    → slice_get c.fetched i ≡ Some t → slice_get (mailbox d c).fetched i ≡ Some x → t.queue ≡ 0
+    → admin.admin_judgement w (queues_of c) cntlid t.entry c.window ≡ admin_judgement w cntlid x.item.asked
+
+-- What an admin command is answered is what its request is answered, its data in the request's slot; the queues stay.
+abbrev pub AdminAnswersItsRequest : Type 0
+AdminAnswersItsRequest =
+    (tells : Bool) (d : driver.Driver) (c : Controller) (i : ℕ) (t : FetchedCommand) (x : FetchedItem) (w : World) (device : Device) (cntlid : ℕ) (a : Answer)
+    → Sound d c → slice_get c.fetched i ≡ Some t → slice_get (mailbox d c).fetched i ≡ Some x → t.queue ≡ 0
+    → a ≡ admin_answer (scene w c.window device) (admin_execution w (queues_of c) cntlid t.entry c.window)
+    → (a.change ≡ Keep) × IsAnsweredInItsSlot tells d c t x w device cntlid a
+
 -- An execution of an I/O command, in the world and over the medium as they are, is the step of the mailbox: the request in its
 -- place has an answer, which stands at the end of the lane then.
 pub record IsExecuted (tells : Bool) (d : driver.Driver) (i : ℕ) (old : Setting) (executed : Executed) (new : Setting) : Type 0 where
@@ -210,4 +228,11 @@ abbrev pub IoExecutionIsAStep : Type 0
 IoExecutionIsAStep =
     (tells : Bool) (d : driver.Driver) (i : ℕ) (t : FetchedCommand) (old : Setting) (executed : Executed) (new : Setting) → Sound d old.controller
     → slice_get old.controller.fetched i ≡ Some t → t.queue ≡ 1 → ExecutesNth tells i old executed new
+    → IsExecuted tells d i old executed new
+
+-- So is an execution of an admin command.
+abbrev pub AdminExecutionIsAStep : Type 0
+AdminExecutionIsAStep =
+    (tells : Bool) (d : driver.Driver) (i : ℕ) (t : FetchedCommand) (old : Setting) (executed : Executed) (new : Setting) → Sound d old.controller
+    → slice_get old.controller.fetched i ≡ Some t → t.queue ≡ 0 → ExecutesNth tells i old executed new
     → IsExecuted tells d i old executed new

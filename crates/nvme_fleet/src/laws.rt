@@ -2,7 +2,7 @@
 
 ghost use Rattle.nvme_fleet.specs.Determined.{FailuresNeverFall, RunExists, RunIsUnique};
 ghost use Rattle.nvme_fleet.specs.Links.{BringUpIsAStep};
-ghost use Rattle.nvme_fleet.specs.Steps.{JudgedAsItsRequest, AllowedServesItsRequest, AnswersItsRequest, NothingToExecute, PostingHasRoom, PostingIsAStep, IoExecutionIsAStep, RefusalIsAStep, PlaceIsAStep, RingIsAStep, FetchIsAStep, MarksAreSteps, PollIsAStep, ResetIsAStep};
+ghost use Rattle.nvme_fleet.specs.Steps.{JudgedAsItsRequest, AllowedServesItsRequest, AnswersItsRequest, NothingToExecute, PostingHasRoom, PostingIsAStep, IoExecutionIsAStep, AdminJudgedAsItsRequest, AdminAnswersItsRequest, AdminExecutionIsAStep, RefusalIsAStep, PlaceIsAStep, RingIsAStep, FetchIsAStep, MarksAreSteps, PollIsAStep, ResetIsAStep};
 
 /// A list of events has one run without a fault of the medium, and one alone: each reply, and what is left, is what the
 /// definitions compute.
@@ -33,10 +33,11 @@ pub fn bringing_up_is_a_step()
 {}
 
 /// What a controller answers to a command that it fetched from its driver stands at the end of the lane in the mailbox,
-/// whatever it is, where its data lie in the request's slot; there is room for it, and no answer without a request. An I/O
-/// command is judged as its request, whose data pointer passes; an allowed one does what its request does, by the request's
-/// data, whatever a fault of the medium chooses; and what it may be answered, its request may be
-/// answered. So an execution of an I/O command is the step of the mailbox.
+/// whatever it is, where its data lie in the request's slot; there is room for it, and no answer without a request. A
+/// command is judged as its request, whose data pointer passes. An allowed I/O command does what its request does, by the
+/// request's data, whatever a fault of the medium chooses; and what it may be answered, its request may be answered. An
+/// admin command is answered what its request is answered, and the queues stay. So an execution of a command of either
+/// lane is the step of the mailbox.
 pub fn postings_are_steps()
     ensures judged { JudgedAsItsRequest }
     ensures serves { AllowedServesItsRequest }
@@ -45,4 +46,7 @@ pub fn postings_are_steps()
     ensures room { PostingHasRoom }
     ensures posts { PostingIsAStep }
     ensures executes { IoExecutionIsAStep }
+    ensures admin_judged { AdminJudgedAsItsRequest }
+    ensures admin_answers { AdminAnswersItsRequest }
+    ensures admin_executes { AdminExecutionIsAStep }
 {}

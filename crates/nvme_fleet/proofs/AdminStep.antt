@@ -1,0 +1,226 @@
+-- An admin command is judged as its request, and what it is answered is what its request is answered.
+use Rattle.std.proofs.Common.{◌≡◌, ℕ, ◌^◌, ◌<◌, ◌≤◌, Bool, true, List, [], ◌∷◌, ◌++◌, length, take, Some, Ok, Err, refl, sym, ap, subst, ◌∙◌, arith, slice_get}
+use Rattle.std.proofs.lemmas.List.{take_all}
+use Rattle.nvme_wire.specs.Submission.{cid, opcode}
+use Rattle.nvme_spec.specs.declared.command.AdminCommand.{AdminCommand}
+use Rattle.nvme_spec.specs.declared.queues.Queues.{Queues}
+use Rattle.nvme_spec.specs.declared.queues.QueueChange.TheVariants.{Keep}
+use Rattle.nvme_spec.specs.Blocks.{Device}
+use Rattle.nvme_spec.specs.World.{World}
+use Rattle.nvme_spec.specs.Rules.{Judgement, judgement_by, first_failing}
+use Rattle.nvme_spec.specs.DataRules.{pointer_rule, data_in, data_addresses}
+use Rattle.nvme_spec.specs.Transfers.{with_scattered}
+use Rattle.nvme_spec.specs.Bytes.{with_bytes}
+use Rattle.nvme_spec.specs.AdminCommands.{command_of, data_length, data_length_of}
+use Rattle.nvme_spec.specs.AdminRules as rules
+use Rattle.nvme_spec.specs.AdminEffects.{admin_execution, execution_by, performance, data_out}
+use Rattle.nvme_spec.specs.Execution.{scene, no_marks}
+use Rattle.nvme_spec.specs.Statuses as status
+use Rattle.nvme_driver.specs.declared.lane.Lane.TheVariants.{Admin}
+use Rattle.nvme_driver.specs.Layout.{data_area}
+use Rattle.nvme_driver.specs.Drivers.{Driver}
+use Rattle.nvme_driver.specs.Requests.{Asked}
+use Rattle.nvme_machine.specs.declared.fetched.FetchedCommand.{FetchedCommand}
+use Rattle.nvme_machine.specs.Answers.{Answer, admin_answer}
+use Rattle.nvme_machine.specs.Controllers.{Controller, queues_of}
+use Rattle.nvme_fleet.specs.Mailboxes.{FetchedItem, lane_of}
+use Rattle.nvme_fleet.specs.Executions.{Site, Response, command_entry, queue_pairs, admin_judgement, admin_served, admin_response_by, admin_response, AnswersAs, Answers}
+use Rattle.nvme_fleet.specs.Sound.{Sound, IsPaired, mailbox, lane_of_queue}
+use Rattle.nvme_fleet.specs.Steps.{IsAnsweredInItsSlot, AdminJudgedAsItsRequest, AdminAnswersItsRequest, response_with}
+use Rattle.nvme_fleet.proofs.Windows.{stored-none}
+use Rattle.nvme_fleet.proofs.AdminJudging.{IsAsked, admin-access-same, list-same, dw0-same, data-out-same, world-same}
+use Rattle.nvme_fleet.proofs.AdminKinds.{dw0-small, MovesAs, IsPlainAdmin, asked_by, plain-held, moved-is, length-out, keeps-queues, list-matters, world-matters}
+use Rattle.nvme_fleet.proofs.AdminDenying.{admin-refuses}
+use Rattle.nvme_fleet.proofs.Denying.{fits, JudgementRefuses, refuses}
+use Rattle.nvme_fleet.proofs.HeldStep.{IsHeld, held-known, pointer-passes, without-pointer, data-same, item-is, asked-in}
+use Rattle.nvme_fleet.proofs.AnswerStep.{denied-with}
+use Rattle.nvme_fleet.proofs.PostStep.{lane-of-item, up-of}
+
+-- What is known of an admin command, its request and its slot.
+record IsAdmin (d : Driver) (c : Controller) (t : FetchedCommand) : Type 0 where
+  held : IsHeld Admin d c t
+  plain : IsPlainAdmin (asked_by d c t).received (asked_by d c t).moved t.entry
+  queues : queues_of c ≡ queue_pairs
+  -- so many bytes it moves
+  length_is : (asked_by d c t).moved ≡ data_length_of (command_of (opcode t.entry)) t.entry
+  -- the data that it gathers are those of the request, where it receives none
+  gathers : (asked_by d c t).received ≡ 0 → rules.data_of c.window t.entry ≡ (asked_by d c t).sent
+
+paired-queues : (c : Controller) → IsPaired c → queues_of c ≡ queue_pairs
+paired-queues c p = rw (p.completion, p.submission) refl
+
+admin-known : (d : Driver) (c : Controller) (i : ℕ) (t : FetchedCommand) → Sound d c → slice_get c.fetched i ≡ Some t → t.queue ≡ 0 → IsAdmin d c t
+admin-known d c i t s g q =
+    let h = held-known Admin d c i t s g (ap lane_of_queue q) in
+    let l = moved-is d c t h in
+    record {
+      held = h;
+      plain = plain-held d c t h;
+      queues = paired-queues c (s.up (up-of d c i t s g));
+      length_is = l;
+      gathers = λ z. ap (λ n. data_in n c.window t.entry) (sym l) ∙ data-same Admin d c t h z;
+    }
+
+-- the rule on the list, by the request
+list-is : (d : Driver) (c : Controller) (t : FetchedCommand) (w : World) (h : IsAdmin d c t)
+    → rules.list_rule (command_of (opcode t.entry)) w t.entry (rules.data_of c.window t.entry)
+    ≡ rules.list_rule (command_of (opcode (command_entry (asked_by d c t)))) w (command_entry (asked_by d c t)) (asked_by d c t).sent
+list-is d c t w h =
+    let p = h.plain in
+    let k = h.held in
+    let same = k.same in
+    ap (λ o. rules.list_rule o w t.entry (rules.data_of c.window t.entry)) p.named
+    ∙ list-matters w t.entry (rules.data_of c.window t.entry) (asked_by d c t).sent p.command (asked_by d c t).received (asked_by d c t).moved p.moves h.gathers
+    ∙ sym (list-same w t.entry (command_entry (asked_by d c t)) (asked_by d c t).sent p.command p.asked same)
+    ∙ sym (ap (λ o. rules.list_rule o w (command_entry (asked_by d c t)) (asked_by d c t).sent) (ap command_of same.opcode ∙ p.named))
+
+-- the same judgement
+judged : (d : Driver) (c : Controller) (t : FetchedCommand) (w : World) (cntlid : ℕ) (h : IsAdmin d c t)
+    → rules.admin_judgement w (queues_of c) cntlid t.entry c.window ≡ admin_judgement w cntlid (asked_by d c t)
+unfolding rules.admin_judgement admin_judgement
+judged d c t w cntlid h =
+    let p = h.plain in
+    let k = h.held in
+    let passes : judgement_by (pointer_rule (data_length_of (command_of (opcode t.entry)) t.entry) c.window t.entry) ≡ Ok tt =
+    ap (λ n. judgement_by (pointer_rule n c.window t.entry)) (sym h.length_is) ∙ pointer-passes c.window (cid t.entry) t.entry (asked_by d c t).moved k.moves in
+    without-pointer (rules.admin_access_rules w (queues_of c) cntlid t.entry) (pointer_rule (data_length_of (command_of (opcode t.entry)) t.entry) c.window t.entry)
+    (rules.list_rule (command_of (opcode t.entry)) w t.entry (rules.data_of c.window t.entry)) passes
+    ∙ ap (λ r. first_failing (rules.admin_access_rules w (queues_of c) cntlid t.entry ++ r ∷ [])) (list-is d c t w h)
+    ∙ ap (λ qs. first_failing (rules.admin_access_rules w qs cntlid t.entry ++ rules.list_rule (command_of (opcode (command_entry (asked_by d c t)))) w (command_entry (asked_by d c t)) (asked_by d c t).sent ∷ [])) h.queues
+    ∙ ap (λ rs. first_failing (rs ++ rules.list_rule (command_of (opcode (command_entry (asked_by d c t)))) w (command_entry (asked_by d c t)) (asked_by d c t).sent ∷ []))
+    (sym (admin-access-same w queue_pairs cntlid t.entry (command_entry (asked_by d c t)) p.command p.asked p.named k.same))
+
+-- the request that the mailbox has
+asked-is : (d : Driver) (c : Controller) (i : ℕ) (t : FetchedCommand) (x : FetchedItem) → slice_get c.fetched i ≡ Some t → slice_get (mailbox d c).fetched i ≡ Some x → t.queue ≡ 0
+    → x.item.asked ≡ asked_by d c t
+asked-is d c i t x g f q = ap (λ (y : FetchedItem). y.item.asked) (item-is d c i t x g f) ∙ asked-in Admin d c t (ap lane_of_queue q)
+
+pub admin_judged_as_its_request : AdminJudgedAsItsRequest
+admin_judged_as_its_request d c i t x w cntlid s g f q =
+    judged d c t w cntlid (admin-known d c i t s g q) ∙ ap (λ a. admin_judgement w cntlid a) (sym (asked-is d c i t x g f q))
+
+-- The answer.
+
+as-admin : (tells : Bool) (cntlid : ℕ) (x : FetchedItem) (a : Asked) (s : Site) (r : Response) (j : Judgement) (command : AdminCommand) → lane_of x.item ≡ Admin → x.item.asked ≡ a
+    → admin_judgement s.world cntlid a ≡ j → command_of (opcode (command_entry a)) ≡ Some command → r ≡ admin_response_by j (Some command) s cntlid a → Answers tells cntlid x s r
+unfolding Answers admin_response
+as-admin tells cntlid x a s r j command l y e o h =
+    subst (λ n. AnswersAs n tells cntlid x.item.asked x.marked s r) (sym l)
+    (subst (λ b. r ≡ admin_response s cntlid b) (sym y) (h ∙ sym (ap (λ k. admin_response_by k (command_of (opcode (command_entry a))) s cntlid a) e ∙ ap (λ k. admin_response_by j k s cntlid a) o)))
+
+-- only as many addresses count as there are bytes
+scattered-taken : (w places bs : List ℕ) → with_scattered w places bs ≡ with_scattered w (take (length bs) places) bs
+unfolding with_scattered
+scattered-taken w [] [] = refl
+scattered-taken w [] (b ∷ bs) = refl
+scattered-taken w (a ∷ places) [] = refl
+scattered-taken w (a ∷ places) (b ∷ bs) = scattered-taken _ places bs
+
+lane-is : (d : Driver) (c : Controller) (i : ℕ) (t : FetchedCommand) (x : FetchedItem) → IsAdmin d c t → slice_get c.fetched i ≡ Some t → slice_get (mailbox d c).fetched i ≡ Some x → t.queue ≡ 0
+    → lane_of x.item ≡ Admin
+lane-is d c i t x h g f q =
+    let k = h.held in
+    ap (λ (y : FetchedItem). lane_of y.item) (item-is d c i t x g f) ∙ lane-of-item Admin d c t (ap lane_of_queue q) (record { received = k.received; of_lane = k.of_lane })
+
+-- an allowed command's answer, as the mailbox has it
+served-with : (d : Driver) (c : Controller) (t : FetchedCommand) (w : World) (device : Device) (cntlid : ℕ) (h : IsAdmin d c t) (command : AdminCommand) → IsAsked command
+    → MovesAs command (asked_by d c t).received (asked_by d c t).moved t.entry → length (data_out w cntlid command t.entry) ≡ (asked_by d c t).received
+    → response_with d t (admin_answer (scene w c.window device) (performance w cntlid c.window command t.entry)) (data_out w cntlid command t.entry)
+    ≡ admin_served (record { world = w; device = device }) cntlid (asked_by d c t) command
+served-with d c t w device cntlid h command a m size i =
+    let k = h.held in
+    let y : List ℕ = command_entry (asked_by d c t) in
+    let whole : take (asked_by d c t).received (data_out w cntlid command t.entry) ≡ data_out w cntlid command t.entry = take_all (asked_by d c t).received (data_out w cntlid command t.entry) (omega (arith, size)) in
+    let bytes = ap (λ n. take n (data_out w cntlid command t.entry)) (sym k.received) ∙ whole ∙ sym (data-out-same w cntlid t.entry y command a k.same) in
+    let world = world-matters w t.entry (rules.data_of c.window t.entry) (asked_by d c t).sent command (asked_by d c t).received (asked_by d c t).moved m h.gathers
+    ∙ sym (world-same w t.entry y (asked_by d c t).sent command a k.same) in
+    let dw0 = sym (dw0-same w t.entry y command a k.same) in
+    record {
+      outcome = record { status = status.successful_completion; dw0 = dw0 i; rule = 0; marks = no_marks };
+      bytes = bytes i;
+      left = record { world = world i; device = device };
+    }
+
+-- its data stand at the slot's place
+stands-there : (d : Driver) (c : Controller) (t : FetchedCommand) (h : IsAdmin d c t) (bytes : List ℕ) (n : ℕ) → (asked_by d c t).moved ≡ n → length bytes ≤ (asked_by d c t).moved
+    → with_scattered c.window (data_addresses n c.window t.entry) bytes ≡ with_bytes c.window (data_area (cid t.entry)) bytes
+stands-there d c t h bytes n e few =
+    let k = h.held in
+    let m = k.moves in
+    ap (λ z. with_scattered c.window (data_addresses z c.window t.entry) bytes) (sym e)
+    ∙ scattered-taken c.window (data_addresses (asked_by d c t).moved c.window t.entry) bytes
+    ∙ m.scatters bytes few
+
+abbrev Said : Bool → Driver → Controller → FetchedCommand → FetchedItem → World → Device → ℕ → Answer → Type 0
+Said tells d c t x w device cntlid a = (a.change ≡ Keep) × IsAnsweredInItsSlot tells d c t x w device cntlid a
+
+said-by : (tells : Bool) (d : Driver) (c : Controller) (i : ℕ) (t : FetchedCommand) (x : FetchedItem) (w : World) (device : Device) (cntlid : ℕ) (h : IsAdmin d c t)
+    → slice_get c.fetched i ≡ Some t → slice_get (mailbox d c).fetched i ≡ Some x → t.queue ≡ 0 → (command : AdminCommand) → command_of (opcode t.entry) ≡ Some command → IsAsked command
+    → MovesAs command (asked_by d c t).received (asked_by d c t).moved t.entry → (j : Judgement) → JudgementRefuses j → admin_judgement w cntlid (asked_by d c t) ≡ j
+    → Said tells d c t x w device cntlid (admin_answer (scene w c.window device) (execution_by j (Some command) w cntlid t.entry c.window))
+said-by tells d c i t x w device cntlid h g f q command named a m (Err e) n judges =
+    let k = h.held in
+    let same = k.same in
+    let r = refuses e.status n in (
+      refl,
+      record {
+        bytes = [];
+        window = sym (stored-none c.window (data_area (cid t.entry)));
+        few = omega arith;
+        whole = rw r.0 (omega arith);
+        answers = as-admin tells cntlid x (asked_by d c t) (record { world = w; device = device }) _ (Err e) command (lane-is d c i t x h g f q) (asked-is d c i t x g f q) judges (ap command_of same.opcode ∙ named)
+            (denied-with d t (admin_answer (scene w c.window device) (execution_by (Err e) (Some command) w cntlid t.entry c.window)) w c.window device e.rule e.status r.0 refl refl);
+      },
+    )
+said-by tells d c i t x w device cntlid h g f q command named a m (Ok u) n judges =
+    let k = h.held in
+    let same = k.same in
+    let suits = k.suited in
+    let moved : (asked_by d c t).moved ≡ data_length command t.entry = h.length_is ∙ ap (λ o. data_length_of o t.entry) named in
+    let size = length-out w cntlid t.entry command (asked_by d c t).received (asked_by d c t).moved a moved m in
+    let less = suits.less in
+    let most = suits.most in
+    let back = k.received in (
+      keeps-queues t.entry command a,
+      record {
+        bytes = data_out w cntlid command t.entry;
+        window = stands-there d c t h (data_out w cntlid command t.entry) (data_length command t.entry) moved (omega (arith, size, less));
+        few = omega (arith, size, less, most);
+        whole = omega (arith, size, back);
+        answers = as-admin tells cntlid x (asked_by d c t) (record { world = w; device = device }) _ (Ok u) command (lane-is d c i t x h g f q) (asked-is d c i t x g f q) judges (ap command_of same.opcode ∙ named)
+            (served-with d c t w device cntlid h command a m size);
+      },
+    )
+
+-- an execution, by what the rules say
+executed-as : (w : World) (queues : Queues) (k : ℕ) (e window : List ℕ) (command : AdminCommand) → command_of (opcode e) ≡ Some command
+    → admin_execution w queues k e window ≡ execution_by (rules.admin_judgement w queues k e window) (Some command) w k e window
+unfolding admin_execution
+executed-as w queues k e window command h = ap (λ o. execution_by (rules.admin_judgement w queues k e window) o w k e window) h
+
+pub admin_answers_its_request : AdminAnswersItsRequest
+admin_answers_its_request tells d c i t x w device cntlid a s g f q h =
+    let k = admin-known d c i t s g q in
+    let p = k.plain in
+    let e : a ≡ admin_answer (scene w c.window device) (execution_by (rules.admin_judgement w (queues_of c) cntlid t.entry c.window) (Some p.command) w cntlid t.entry c.window) =
+    h ∙ ap (admin_answer (scene w c.window device)) (executed-as w (queues_of c) cntlid t.entry c.window p.command p.named) in
+    subst (Said tells d c t x w device cntlid) (sym e)
+    (said-by tells d c i t x w device cntlid k g f q p.command p.named p.asked p.moves (rules.admin_judgement w (queues_of c) cntlid t.entry c.window)
+    (admin-refuses w (queues_of c) cntlid t.entry c.window) (sym (judged d c t w cntlid k)))
+
+-- Its completion's fields are within their width.
+
+executed-fits : (w : World) (k : ℕ) (e window : List ℕ) (j : Judgement) (command : AdminCommand) → JudgementRefuses j
+    → (fits (execution_by j (Some command) w k e window).status ≡ true) × ((execution_by j (Some command) w k e window).dw0 < 2 ^ 32)
+executed-fits w k e window (Err d) command n = ((refuses d.status n).1, omega arith)
+executed-fits w k e window (Ok u) command n = (refl, dw0-small w e command)
+
+pub admin-fits : (d : Driver) (c : Controller) (i : ℕ) (t : FetchedCommand) (w : World) (device : Device) (cntlid : ℕ) (a : Answer) → Sound d c → slice_get c.fetched i ≡ Some t → t.queue ≡ 0
+    → a ≡ admin_answer (scene w c.window device) (admin_execution w (queues_of c) cntlid t.entry c.window) → (fits a.outcome.status ≡ true) × (a.outcome.dw0 < 2 ^ 32)
+admin-fits d c i t w device cntlid a s g q h =
+    let k = admin-known d c i t s g q in
+    let p = k.plain in
+    let e : a ≡ admin_answer (scene w c.window device) (execution_by (rules.admin_judgement w (queues_of c) cntlid t.entry c.window) (Some p.command) w cntlid t.entry c.window) =
+    h ∙ ap (admin_answer (scene w c.window device)) (executed-as w (queues_of c) cntlid t.entry c.window p.command p.named) in
+    subst (λ (z : Answer). (fits z.outcome.status ≡ true) × (z.outcome.dw0 < 2 ^ 32)) (sym e)
+    (executed-fits w cntlid t.entry c.window (rules.admin_judgement w (queues_of c) cntlid t.entry c.window) p.command (admin-refuses w (queues_of c) cntlid t.entry c.window))
