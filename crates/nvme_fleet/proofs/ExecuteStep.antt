@@ -30,7 +30,7 @@ use Rattle.nvme_fleet.specs.Mailboxes.{FetchedItem}
 use Rattle.nvme_fleet.specs.Executions.{Answers as FleetAnswers}
 use Rattle.nvme_fleet.specs.Lanes.{DeviceSide, DeviceEnds, Both, pair, state, held_by, fetched_by}
 use Rattle.nvme_fleet.specs.Sound.{Sound, IsPaired, host_side, device_side, mailbox, taken_by, lane_of_queue}
-use Rattle.nvme_fleet.specs.Steps.{IsAnsweredInItsSlot, IsExecuted, response_with, IoExecutionIsAStep, AdminExecutionIsAStep}
+use Rattle.nvme_fleet.specs.Steps.{IsAnsweredInItsSlot, IsExecuted, response_with, IoExecutionIsAStep, AdminExecutionIsAStep, ExecutionIsAStep}
 use Rattle.nvme_fleet.proofs.Places.{no-way}
 use Rattle.nvme_fleet.proofs.Linking.{of, pair-is}
 use Rattle.nvme_fleet.proofs.PostStep.{known, up-of, open-is, pair_in, fields_of, item_at, posting_has_room, posting_is_a_step}
@@ -218,3 +218,14 @@ admin_execution_is_a_step tells d i t old executed new s g q h =
     let f = finishes tells d i t old executed new s g h in
     let y = f.2 in
     finished tells d i t f.0 old executed new s g f.1 y (admin-postable tells d i t f.0 old y.answer s g q f.1 y.answers)
+
+-- Of either lane.
+
+pub execution_is_a_step : ExecutionIsAStep
+execution_is_a_step tells d i t old executed new s g h =
+    let k = known d old.controller i t s g in
+    by-lane k.lane k.queue
+  where
+    by-lane : (lane : Lane) → t.queue ≡ queue_id lane → IsExecuted tells d i old executed new
+    by-lane Admin q = admin_execution_is_a_step tells d i t old executed new s g q h
+    by-lane Io q = io_execution_is_a_step tells d i t old executed new s g q h

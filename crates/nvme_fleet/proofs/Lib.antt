@@ -52,3 +52,4 @@ pub mod StartStep
 pub mod OwnCommands
 pub mod TurnStep
 pub mod RiseStep
+pub mod FleetStep

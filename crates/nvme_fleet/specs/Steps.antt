@@ -32,9 +32,10 @@ use Rattle.nvme_driver.specs.Calls.{Call, Stores, Writes, Reads, Turns}
 use Rattle.nvme_driver.specs.Drivers as driver
 use Rattle.nvme_driver.specs.Polls as poll
 use Rattle.nvme_machine.specs.Controllers.{Controller, QueuePair, queues_of, with_marks, open_pair, after_store, after_write32, after_fetch}
-use Rattle.nvme_fleet.specs.declared.seen.FleetSeen.TheVariants.{Placed, Polled, Rung, Fetched, Reset}
+use Rattle.nvme_fleet.specs.declared.event.FleetEvent.TheVariants.{Execute}
+use Rattle.nvme_fleet.specs.declared.seen.FleetSeen.TheVariants.{Placed, Polled, Rung, Fetched, Reset, Executed as ExecutedSeen}
 use Rattle.nvme_fleet.specs.Deliveries as mail
-use Rattle.nvme_fleet.specs.Fleets.{raw_fetch, after_answer}
+use Rattle.nvme_fleet.specs.Fleets.{Fleet, WithDriver, Step, raw_fetch, host_at, settled, site_of, setting_of, marks_in, after_answer}
 use Rattle.nvme_fleet.specs.Sound.{Sound, mailbox}
 
 -- A driver's calls of its port are events of its controller, one after the other. Only bringing up reads and grants turns.
@@ -236,3 +237,24 @@ AdminExecutionIsAStep =
     (tells : Bool) (d : driver.Driver) (i : ℕ) (t : FetchedCommand) (old : Setting) (executed : Executed) (new : Setting) → Sound d old.controller
     → slice_get old.controller.fetched i ≡ Some t → t.queue ≡ 0 → ExecutesNth tells i old executed new
     → IsExecuted tells d i old executed new
+
+-- So is the execution of any command of a driver, whatever its lane is.
+abbrev pub ExecutionIsAStep : Type 0
+ExecutionIsAStep =
+    (tells : Bool) (d : driver.Driver) (i : ℕ) (t : FetchedCommand) (old : Setting) (executed : Executed) (new : Setting) → Sound d old.controller
+    → slice_get old.controller.fetched i ≡ Some t → ExecutesNth tells i old executed new
+    → IsExecuted tells d i old executed new
+
+-- In a fleet whose k-th host is the mailbox of a driver and its controller, an execution of the controller is the fleet's step:
+-- the host is the mailbox of the driver and the controller as that leaves it. Where there is no command, nothing changes.
+abbrev pub ExecutionIsAFleetStep : Type 0
+ExecutionIsAFleetStep =
+    (tells : Bool) (f : Fleet) (k : ℕ) (d : driver.Driver) (c : Controller) (i : ℕ) (t : FetchedCommand) (executed : Executed) (left : Setting) → Sound d c → c.cntlid ≡ k
+    → host_at f k ≡ Some (WithDriver (mailbox d c)) → slice_get c.fetched i ≡ Some t → ExecutesNth tells i (setting_of f c) executed left
+    → Step tells f (Execute k i) (mail.plain (ExecutedSeen executed)) (settled f k (site_of left) (WithDriver (mailbox d left.controller)) (marks_in executed))
+
+abbrev pub NoExecutionIsAFleetStep : Type 0
+NoExecutionIsAFleetStep =
+    (tells : Bool) (f : Fleet) (k : ℕ) (d : driver.Driver) (c : Controller) (i : ℕ) (executed : Executed) (left : Setting)
+    → host_at f k ≡ Some (WithDriver (mailbox d c)) → slice_get c.fetched i ≡ None → ExecutesNth tells i (setting_of f c) executed left
+    → (left ≡ setting_of f c) × Step tells f (Execute k i) (mail.plain (ExecutedSeen executed)) f

@@ -2,7 +2,7 @@
 
 ghost use Rattle.nvme_fleet.specs.Determined.{FailuresNeverFall, RunExists, RunIsUnique};
 ghost use Rattle.nvme_fleet.specs.Links.{BringUpIsAStep};
-ghost use Rattle.nvme_fleet.specs.Steps.{JudgedAsItsRequest, AllowedServesItsRequest, AnswersItsRequest, NothingToExecute, PostingHasRoom, PostingIsAStep, IoExecutionIsAStep, AdminJudgedAsItsRequest, AdminAnswersItsRequest, AdminExecutionIsAStep, RefusalIsAStep, PlaceIsAStep, RingIsAStep, FetchIsAStep, MarksAreSteps, PollIsAStep, ResetIsAStep};
+ghost use Rattle.nvme_fleet.specs.Steps.{JudgedAsItsRequest, AllowedServesItsRequest, AnswersItsRequest, NothingToExecute, PostingHasRoom, PostingIsAStep, IoExecutionIsAStep, AdminJudgedAsItsRequest, AdminAnswersItsRequest, AdminExecutionIsAStep, ExecutionIsAStep, ExecutionIsAFleetStep, NoExecutionIsAFleetStep, RefusalIsAStep, PlaceIsAStep, RingIsAStep, FetchIsAStep, MarksAreSteps, PollIsAStep, ResetIsAStep};
 
 /// A list of events has one run without a fault of the medium, and one alone: each reply, and what is left, is what the
 /// definitions compute.
@@ -49,4 +49,13 @@ pub fn postings_are_steps()
     ensures admin_judged { AdminJudgedAsItsRequest }
     ensures admin_answers { AdminAnswersItsRequest }
     ensures admin_executes { AdminExecutionIsAStep }
+{}
+
+/// An execution of any command that a controller fetched from its driver is the step of their mailbox. In a fleet with this
+/// mailbox it is the fleet's step, and where there is no command, nothing changes.
+#[tactic(auto, using(crate::proofs::ExecuteStep::execution_is_a_step, crate::proofs::FleetStep::execution_is_a_fleet_step, crate::proofs::FleetStep::no_execution_is_a_fleet_step))]
+pub fn executions_are_steps()
+    ensures mailbox { ExecutionIsAStep }
+    ensures fleet { ExecutionIsAFleetStep }
+    ensures idle { NoExecutionIsAFleetStep }
 {}
