@@ -53,3 +53,7 @@ pub mod OwnCommands
 pub mod TurnStep
 pub mod RiseStep
 pub mod FleetStep
+pub mod RiseLink
+pub mod Members
+pub mod Opening
+pub mod LinkedStep

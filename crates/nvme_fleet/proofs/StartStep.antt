@@ -19,7 +19,7 @@ use Rattle.nvme_fleet.specs.Links.{LinkStep, with_controller}
 use Rattle.nvme_fleet.proofs.Ups.{zeros-are}
 
 -- Calls that grant no turn.
-abbrev IsPlain : List Call → Type 0
+abbrev pub IsPlain : List Call → Type 0
 IsPlain [] = Unit {0}
 IsPlain (Stores address bytes ∷ calls) = IsPlain calls
 IsPlain (Writes offset v ∷ calls) = IsPlain calls

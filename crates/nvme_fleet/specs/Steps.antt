@@ -22,7 +22,7 @@ use Rattle.nvme_machine.specs.declared.seen.Executed.{Executed}
 use Rattle.nvme_machine.specs.declared.seen.Executed.TheVariants.{Posted}
 use Rattle.nvme_machine.specs.Executing.{Setting, ExecutesNth}
 use Rattle.nvme_machine.specs.Subsystems.{after_answer as after_machine_answer}
-use Rattle.nvme_fleet.specs.Mailboxes.{FetchedItem, with_marks as mark_mailbox}
+use Rattle.nvme_fleet.specs.Mailboxes.{FetchedItem, new_mailbox, with_marks as mark_mailbox}
 use Rattle.nvme_fleet.specs.Executions.{Response, io_judgement, admin_judgement, IsServed, Answers}
 use Rattle.nvme_fleet.specs.Views.{received_in}
 use Rattle.nvme_driver.specs.declared.request.Request.{Request}
@@ -31,7 +31,7 @@ use Rattle.nvme_driver.specs.Requests.{asked_of}
 use Rattle.nvme_driver.specs.Calls.{Call, Stores, Writes, Reads, Turns}
 use Rattle.nvme_driver.specs.Drivers as driver
 use Rattle.nvme_driver.specs.Polls as poll
-use Rattle.nvme_machine.specs.Controllers.{Controller, QueuePair, queues_of, with_marks, open_pair, after_store, after_write32, after_fetch}
+use Rattle.nvme_machine.specs.Controllers.{Controller, new_controller, QueuePair, queues_of, with_marks, open_pair, after_store, after_write32, after_fetch}
 use Rattle.nvme_fleet.specs.declared.event.FleetEvent.TheVariants.{Execute}
 use Rattle.nvme_fleet.specs.declared.seen.FleetSeen.TheVariants.{Placed, Polled, Rung, Fetched, Reset, Executed as ExecutedSeen}
 use Rattle.nvme_fleet.specs.Deliveries as mail
@@ -258,3 +258,11 @@ NoExecutionIsAFleetStep =
     (tells : Bool) (f : Fleet) (k : ℕ) (d : driver.Driver) (c : Controller) (i : ℕ) (executed : Executed) (left : Setting)
     → host_at f k ≡ Some (WithDriver (mailbox d c)) → slice_get c.fetched i ≡ None → ExecutesNth tells i (setting_of f c) executed left
     → (left ≡ setting_of f c) × Step tells f (Execute k i) (mail.plain (ExecutedSeen executed)) f
+
+-- A driver that never came up, at a controller that was never enabled, is the mailbox of an opening.
+pub record IsOpening (first cntlid : ℕ) : Type 0 where
+  pub sound : Sound (driver.new_driver first) (new_controller cntlid)
+  pub mail : mailbox (driver.new_driver first) (new_controller cntlid) ≡ new_mailbox first
+
+abbrev pub OpeningIsSound : Type 0
+OpeningIsSound = (first cntlid : ℕ) → IsOpening first cntlid

@@ -2,7 +2,7 @@
 
 ghost use Rattle.nvme_fleet.specs.Determined.{FailuresNeverFall, RunExists, RunIsUnique};
 ghost use Rattle.nvme_fleet.specs.Links.{BringUpIsAStep};
-ghost use Rattle.nvme_fleet.specs.Steps.{JudgedAsItsRequest, AllowedServesItsRequest, AnswersItsRequest, NothingToExecute, PostingHasRoom, PostingIsAStep, IoExecutionIsAStep, AdminJudgedAsItsRequest, AdminAnswersItsRequest, AdminExecutionIsAStep, ExecutionIsAStep, ExecutionIsAFleetStep, NoExecutionIsAFleetStep, RefusalIsAStep, PlaceIsAStep, RingIsAStep, FetchIsAStep, MarksAreSteps, PollIsAStep, ResetIsAStep};
+ghost use Rattle.nvme_fleet.specs.Steps.{OpeningIsSound, JudgedAsItsRequest, AllowedServesItsRequest, AnswersItsRequest, NothingToExecute, PostingHasRoom, PostingIsAStep, IoExecutionIsAStep, AdminJudgedAsItsRequest, AdminAnswersItsRequest, AdminExecutionIsAStep, ExecutionIsAStep, ExecutionIsAFleetStep, NoExecutionIsAFleetStep, RefusalIsAStep, PlaceIsAStep, RingIsAStep, FetchIsAStep, MarksAreSteps, PollIsAStep, ResetIsAStep};
 
 /// A list of events has one run without a fault of the medium, and one alone: each reply, and what is left, is what the
 /// definitions compute.
@@ -11,6 +11,12 @@ pub fn run_is_determined()
     ensures count { FailuresNeverFall }
     ensures exists { RunExists }
     ensures unique { RunIsUnique }
+{}
+
+/// A driver that never came up, at a controller that was never enabled, has the fact that the steps rest on, and is the
+/// mailbox of an opening.
+pub fn opening_is_sound()
+    ensures opening { OpeningIsSound }
 {}
 
 /// Each event of a driver and its controller is the step of the mailbox that they stand for, and keeps the fact that this

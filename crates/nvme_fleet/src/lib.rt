@@ -8,6 +8,9 @@ mod event;
 mod examples;
 mod laws;
 mod link;
+pub mod member;
+mod place;
+mod poll;
 mod seen;
 
 pub use event::FleetEvent;
@@ -15,3 +18,6 @@ pub use link::Link;
 pub use nvme_driver::{Answer, NotUp, PlaceRefusal, PollFault, Request, Ticket, UpFault};
 pub use nvme_machine::{Executed, Fetched};
 pub use seen::FleetSeen;
+
+#[cfg(test)]
+mod tests;

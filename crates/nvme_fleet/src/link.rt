@@ -1,7 +1,14 @@
 //! A host's way to its controller.
 
+ghost use Rattle.std.specs.Prelude.{◌≡◌};
+ghost use Rattle.nvme_machine.specs.declared.seen.Seen.TheVariants.{Fetched as WasFetched};
+ghost use Rattle.nvme_machine.specs.Controllers.{after_fetch};
+ghost use Rattle.nvme_machine.specs.Executing.{ExecutesNth};
+ghost use Rattle.nvme_fleet.specs.Links.{with_controller};
+
 use nvme_ctrl::Controller;
 use nvme_driver::Port;
+use nvme_machine::{Executed, Fetched};
 use nvme_medium::Medium;
 use nvme_mem::Window;
 use nvme_ns::Spaces;
@@ -13,9 +20,9 @@ use std::marker::Model;
 /// the references through which it works.
 #[derive(Drop)]
 pub struct Link<'a, M: Medium> {
-    controller: &'a mut Controller,
-    spaces: &'a mut Spaces,
-    medium: &'a mut M,
+    pub(crate) controller: &'a mut Controller,
+    pub(crate) spaces: &'a mut Spaces,
+    pub(crate) medium: &'a mut M,
 }
 
 impl<'a, M: Medium> Model for Link<'a, M> {
@@ -29,6 +36,25 @@ impl<'a, M: Medium> Model for Link<'a, M> {
     ghost view = { λ p. record { setting = setting p.controller.now p.spaces.now (M.device p.medium.now); names = p.controller.ghost_name ∷ p.spaces.ghost_name ∷ p.medium.ghost_name ∷ [] } };
 
     ghost invariant = { λ p. CanExecute p.spaces.now (M.size p.medium.now) p.controller.now.cntlid };
+}
+
+impl<M: Medium> Link<'_, M> {
+    /// Fetches a command from the submission queue of this identifier.
+    pub fn fetch(&mut self, qid: u16) -> Fetched
+        ensures seen { WasFetched result ≡ (after_fetch qid self.old.setting.controller).seen }
+        ensures after { self.new.setting ≡ with_controller self.old.setting (after_fetch qid self.old.setting.controller).controller }
+        ensures names { self.new.names ≡ self.old.names }
+    {
+        self.controller.fetch(qid)
+    }
+
+    /// Executes the i-th of the fetched commands.
+    pub fn execute(&mut self, i: usize) -> Executed
+        ensures executed { ExecutesNth M.tells i self.old.setting result self.new.setting }
+        ensures names { self.new.names ≡ self.old.names }
+    {
+        self.controller.execute(i, self.spaces, self.medium)
+    }
 }
 
 impl<M: Medium> Port for Link<'_, M> {

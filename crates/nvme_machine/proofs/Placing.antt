@@ -318,7 +318,7 @@ keeps_placed = record {
 pub windows_keep_their_length : WindowsKeepTheirLength
 windows_keep_their_length tells old new events seen run placed = run-keeps IsPlaced keeps_placed tells old new events seen run placed
 
-length-zeros : length zeros ≡ window_size
+pub length-zeros : length zeros ≡ window_size
 unfolding zeros
 length-zeros = length-replicate {A = ℕ} window_size 0
 

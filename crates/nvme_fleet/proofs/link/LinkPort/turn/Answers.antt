@@ -1,4 +1,4 @@
-use Rattle.std.proofs.Common.{◌≡◌, ℕ, sym, ap, subst, ◌∙◌}
+use Rattle.std.proofs.Common.{sym, ap, subst, ◌∙◌}
 use Rattle.nvme_exec.specs.Carrying.{CanExecute}
 use Rattle.nvme_machine.specs.Controllers.{Controller}
 use Rattle.nvme_subsys.proofs.Sound.{fetch-id}

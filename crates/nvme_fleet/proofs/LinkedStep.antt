@@ -1,0 +1,117 @@
+-- What a driver does over its port, and that it is the step of its mailbox.
+use Rattle.std.proofs.Common.{◌≡◌, ℕ, Bool, true, false, List, [], ◌∷◌, length, take, Option, None, Some, refl, sym, ap, subst, ◌∙◌}
+use Rattle.std.specs.Prelude.{Result, Ok, Err, IfOk, IfErr, OnOk, OnErr, if◌then◌else◌}
+use Rattle.nvme_wire.specs.Submission.{submission_of}
+use Rattle.nvme_driver.specs.declared.request.Request.{Request}
+use Rattle.nvme_driver.specs.declared.answer.Answer.{Answer}
+use Rattle.nvme_driver.specs.declared.ticket.Ticket.{Ticket}
+use Rattle.nvme_driver.specs.declared.faults.PollFault.{PollFault}
+use Rattle.nvme_driver.specs.declared.faults.PollFault.TheVariants.{NotUp}
+use Rattle.nvme_driver.specs.declared.found.Found.{Found}
+use Rattle.nvme_driver.specs.declared.slots.Waiting.{Waiting}
+use Rattle.nvme_driver.specs.declared.lane.Lane.{Lane}
+use Rattle.nvme_driver.specs.declared.faults.PlaceRefusal.{PlaceRefusal}
+use Rattle.nvme_driver.specs.Calls.{Call, Calls}
+use Rattle.nvme_driver.specs.Requests.{asked_of}
+use Rattle.nvme_driver.specs.Drivers as driver
+use Rattle.nvme_driver.specs.Drivers.{Driver, is_up}
+use Rattle.nvme_driver.specs.Polls as poll
+use Rattle.nvme_machine.specs.Controllers.{Controller}
+use Rattle.nvme_machine.specs.Executing.{Setting}
+use Rattle.nvme_fleet.specs.declared.seen.FleetSeen.TheVariants.{Placed, Polled}
+use Rattle.nvme_fleet.specs.Deliveries as mail
+use Rattle.nvme_fleet.specs.Deliveries.{Reply, Reaction}
+use Rattle.nvme_fleet.specs.Linked.{Linked}
+use Rattle.nvme_fleet.specs.Links.{LinkStep, with_controller}
+use Rattle.nvme_fleet.specs.Sound.{Sound, mailbox}
+use Rattle.nvme_fleet.specs.Steps.{IsStep, after_calls}
+use Rattle.nvme_fleet.proofs.StartStep.{IsPlain, calls-are}
+use Rattle.nvme_fleet.proofs.PlaceStep.{place_is_a_step, refusal_is_a_step}
+use Rattle.nvme_fleet.proofs.PollStep.{poll_is_a_step}
+
+-- The step of a port, as its driver sees it.
+abbrev pub PortStep : Bool → Linked → Call → Linked → Type 0
+PortStep tells p call q = LinkStep tells p.setting call q.setting
+
+setting-calls : (tells : Bool) (calls : List Call) (p q : Linked) → Calls (PortStep tells) p calls q → Calls (LinkStep tells) p.setting calls q.setting
+setting-calls tells [] p q h = ap (λ (x : Linked). x.setting) h
+setting-calls tells (call ∷ calls) p q (mid, step, rest) = (mid.setting, step, setting-calls tells calls mid q rest)
+
+port-calls : (tells : Bool) (calls : List Call) (p q : Linked) → IsPlain calls → Calls (PortStep tells) p calls q
+    → q.setting ≡ with_controller p.setting (after_calls calls p.setting.controller)
+port-calls tells calls p q plain h = calls-are tells calls p.setting q.setting plain (setting-calls tells calls p q h)
+
+-- The driver's and the controller's part of a step, and what else the port is over.
+pub record IsLinkedStep (r : Reaction) (d : Driver) (old new : Setting) (reply : Reply) : Type 0 where
+  pub step : IsStep r d new.controller reply
+  pub world : new.world ≡ old.world
+  pub device : new.device ≡ old.device
+
+linked-step : (r : Reaction) (d d' : Driver) (old new : Setting) (c : Controller) (a b : Reply) → new ≡ with_controller old c → d' ≡ d → b ≡ a
+    → IsStep r d c a → IsLinkedStep r d' old new b
+linked-step r d d' old new c a b n e f s = record {
+  step = subst (λ (x : Setting). IsStep r d' x.controller b) (sym n) (subst (λ x. IsStep r x c b) (sym e) (subst (IsStep r d c) (sym f) s));
+  world = ap (λ (x : Setting). x.world) n;
+  device = ap (λ (x : Setting). x.device) n;
+}
+
+-- A poll makes one call, a write, or none.
+plain-answered : (d : Driver) (window : List ℕ) (lane : Lane) (entry : List ℕ) (o : Option Waiting) → IsPlain (poll.answered_poll d window lane entry o).calls
+plain-answered d window lane entry None = tt
+plain-answered d window lane entry (Some w) = tt
+
+plain-found : (d : Driver) (window : List ℕ) (o : Option Found) → IsPlain (poll.found_poll d window o).calls
+plain-found d window None = tt
+plain-found d window (Some f) = plain-answered d window f.lane f.entry (poll.answered d f.lane f.entry)
+
+plain-up : (d : Driver) (window : List ℕ) (u : Bool) → IsPlain (if u then poll.found_poll d window (poll.found d window) else poll.without_calls (Err NotUp) d).calls
+plain-up d window true = plain-found d window (poll.found d window)
+plain-up d window false = tt
+
+plain-polled : (d : Driver) (oldest : Option ℕ) (window : List ℕ) → IsPlain (poll.polled d oldest window).calls
+plain-polled d (Some i) window = tt
+plain-polled d None window = plain-up d window (is_up d.state)
+
+-- What it hands up, with the bytes of the mailbox's reply at the front of the buffer.
+pub record IsHandedUp (d d' : Driver) (old new : Setting) (result : Result (Option Answer) PollFault) (buffer : List ℕ) : Type 0 where
+  pub linked : IsLinkedStep (mail.polled (mailbox d old.controller)) d' old new
+      (record { seen = Polled result; bytes = (mail.polled (mailbox d old.controller)).reply.bytes })
+  pub front : take (length (mail.polled (mailbox d old.controller)).reply.bytes) buffer ≡ (mail.polled (mailbox d old.controller)).reply.bytes
+
+pub hands-up : (tells : Bool) (d d' : Driver) (p q : Linked) (result : Result (Option Answer) PollFault) (buffer : List ℕ) → Sound d p.setting.controller
+    → poll.IsPolled (PortStep tells) d p.setting.controller.window p result d' q buffer
+    → IsHandedUp d d' p.setting q.setting result buffer
+hands-up tells d d' p q result buffer s (oldest, is-oldest, gives, after, calls, front) =
+    let k = poll_is_a_step d p.setting.controller oldest s is-oldest in
+    let b : (mail.polled (mailbox d p.setting.controller)).reply.bytes ≡ (poll.polled d oldest p.setting.controller.window).bytes = ap (λ (x : Reply). x.bytes) k.gives in
+    let n = port-calls tells (poll.polled d oldest p.setting.controller.window).calls p q (plain-polled d oldest p.setting.controller.window) calls in
+    record {
+      linked = linked-step (mail.polled (mailbox d p.setting.controller)) (poll.polled d oldest p.setting.controller.window).driver d' p.setting q.setting _
+          (record { seen = Polled (poll.polled d oldest p.setting.controller.window).answer; bytes = (poll.polled d oldest p.setting.controller.window).bytes })
+          _ n after (λ i. record { seen = Polled (gives i); bytes = b i }) k;
+      front = subst (λ xs. take (length xs) buffer ≡ xs) (sym b) front;
+    }
+
+-- A placing makes three stores, in the slot that was free, or none where it is refused.
+abbrev slot_in : Option ℕ → ℕ
+slot_in None = 0
+slot_in (Some slot) = slot
+
+pub places : (tells : Bool) (d d' : Driver) (p q : Linked) (request : Request) (result : Result Ticket PlaceRefusal) → Sound d p.setting.controller
+    → IfErr result (λ why. driver.place_refusal d request ≡ Some why) → OnErr result ((d' ≡ d) × (q ≡ p))
+    → IfOk result (λ ticket. (driver.place_refusal d request ≡ None) × (ticket ≡ record { 0 = d.next }))
+    → OnOk result (driver.IsPlaced (PortStep tells) d request p d' q)
+    → OnOk result (driver.HoldsItsRequest d p.setting.controller.window q.setting.controller.window request)
+    → IsLinkedStep (mail.placed (mailbox d p.setting.controller) request) d' p.setting q.setting (mail.plain (Placed result))
+places tells d d' p q request (Err why) s refused unchanged taken put holds =
+    linked-step (mail.placed (mailbox d p.setting.controller) request) d d' p.setting q.setting p.setting.controller
+    (mail.plain (Placed (Err why))) _ (ap (λ (x : Linked). x.setting) unchanged.1) unchanged.0 refl
+    (refusal_is_a_step d p.setting.controller request why s refused)
+places tells d d' p q request (Ok ticket) s refused unchanged taken (slot, free, after, calls) (other, same, held) =
+    let e : other ≡ slot = ap slot_in (sym same ∙ free) in
+    let says : submission_of (driver.entry_of request slot) ≡ driver.entry_fields (asked_of request) slot =
+    subst (λ k. submission_of (driver.entry_of request k) ≡ driver.entry_fields (asked_of request) k) e held.says in
+    let n = port-calls tells (driver.stores_of d request slot) p q tt calls in
+    linked-step (mail.placed (mailbox d p.setting.controller) request) (driver.placed d request slot) d' p.setting q.setting _
+    (mail.plain (Placed (Ok (record { 0 = d.next })))) _ n after (ap (λ t. mail.plain (Placed (Ok t))) taken.1)
+    (place_is_a_step d p.setting.controller request slot s taken.0 free says)

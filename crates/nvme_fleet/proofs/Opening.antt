@@ -1,0 +1,84 @@
+-- A driver that never came up, at a controller that was never enabled.
+use Rattle.std.proofs.Common.{◌≡◌, ℕ, zero, suc, ◌≤◌, false, List, length, drop, None, refl, sym, ap, subst, arith, length-drop}
+use Rattle.std.proofs.lemmas.List.{length-take-le}
+use Rattle.std.specs.Prelude.{replicate}
+use Rattle.nvme_spec.specs.Memory.{zeros, window_size}
+use Rattle.nvme_driver.specs.declared.lane.Lane.{Lane}
+use Rattle.nvme_driver.specs.declared.lane.Lane.TheVariants.{Admin, Io}
+use Rattle.nvme_driver.specs.Drivers.{new_driver, ends}
+use Rattle.nvme_machine.specs.Controllers.{new_controller}
+use Rattle.nvme_machine.proofs.Placing.{length-zeros}
+use Rattle.nvme_spec.specs.Limits.{most_bytes}
+use Rattle.nvme_driver.specs.Polls.{waiting_at}
+use Rattle.nvme_fleet.specs.Views.{empty, slot_at, live_in, received_in, AgeIn, Resting, Holds}
+use Rattle.nvme_fleet.specs.Lanes.{Both, base, pages_of, slots_in, host, state}
+use Rattle.nvme_fleet.specs.Sound.{IsOff, EndsFit, host_side, device_side}
+use Rattle.nvme_fleet.specs.Steps.{OpeningIsSound}
+use Rattle.nvme_fleet.proofs.Places.{no-way}
+use Rattle.nvme_fleet.proofs.Polling.{same-mail}
+use Rattle.nvme_fleet.proofs.Ups.{resting-box}
+
+slot-empty : (l : Lane) (w : List ℕ) (j n k : ℕ) → slot_at (slots_in l w j (replicate n None)) k ≡ empty
+slot-empty l w j zero k = refl
+slot-empty l w j (suc n) zero = refl
+slot-empty l w j (suc n) (suc k) = slot-empty l w (suc j) n k
+
+pages-long : (l : Lane) (w : List ℕ) → base l ≤ 8192 → length w ≡ window_size → length (pages_of l w) ≡ 8192
+unfolding pages_of
+pages-long l w b h = length-take-le 8192 (drop (base l) w) (omega (arith, b, h, length-drop (base l) w))
+
+rests : (first k : ℕ) (l : Lane) → Resting (host l (host_side (new_driver first)) zeros) (state l (device_side (new_controller k)))
+rests first k Admin = record {
+  window = pages-long Admin zeros (omega arith) length-zeros;
+  slots = refl;
+  put = refl;
+  unheard = refl;
+  consumed = refl;
+  off = refl;
+  idle = λ slot. ap live_in (slot-empty Admin zeros 0 24 slot);
+}
+rests first k Io = record {
+  window = pages-long Io zeros (omega arith) length-zeros;
+  slots = refl;
+  put = refl;
+  unheard = refl;
+  consumed = refl;
+  off = refl;
+  idle = λ slot. ap live_in (slot-empty Io zeros 0 24 slot);
+}
+
+holds : (first k : ℕ) (l : Lane) → Holds first (host l (host_side (new_driver first)) zeros) (state l (device_side (new_controller k)))
+holds first k l = record {
+  failed = refl;
+  begun = omega arith;
+  ages = λ slot. subst (λ s. AgeIn first first s.waiting) (sym (slot-empty l zeros 0 24 slot)) tt;
+  up = λ u. absurd (no-way false refl u);
+  down = λ u. rests first k l;
+}
+
+both : (first k : ℕ) → Both (host_side (new_driver first)) (device_side (new_controller k))
+both first k = record { first = first; window = length-zeros; slots = refl; each = holds first k }
+
+fits : (first : ℕ) (l : Lane) → EndsFit (ends l (new_driver first))
+fits first Admin = record { tail = refl; head = refl }
+fits first Io = record { tail = refl; head = refl }
+
+is-off : (k : ℕ) → IsOff (new_controller k)
+is-off k = record { submission = refl; completion = refl; fetched = refl; off = refl; disabled = refl }
+
+none-waits : (n k : ℕ) → waiting_at (replicate n None) k ≡ None
+none-waits zero k = refl
+none-waits (suc n) zero = refl
+none-waits (suc n) (suc k) = none-waits n k
+
+pub opening_is_sound : OpeningIsSound
+opening_is_sound first k = record {
+  sound = record {
+    both = both first k;
+    fits = fits first;
+    sizes = λ slot. subst (λ w. received_in w ≤ most_bytes) (sym (none-waits 24 slot)) (omega arith);
+    up = λ u. absurd (no-way false refl u);
+    down = λ d. is-off k;
+  };
+  mail = same-mail _ _ _ _ _ _ _ _ _ _ (resting-box _ _ (rests first k Admin)) (resting-box _ _ (rests first k Io)) refl refl;
+}

@@ -1,0 +1,5 @@
+use Rattle.nvme_fleet.proofs.Opening.{opening_is_sound}
+use Rattle.nvme_fleet.proofs.laws.opening_is_sound.Goals as goal
+
+pub returns : goal.returns
+returns c = record { opening = opening_is_sound }

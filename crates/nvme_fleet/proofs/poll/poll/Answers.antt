@@ -1,0 +1,14 @@
+use Rattle.nvme_fleet.proofs.LinkedStep.{hands-up}
+use Rattle.nvme_fleet.proofs.poll.poll.Goals as goal
+
+pub returns-clause-step : goal.returns-clause-step
+returns-clause-step g c = (hands-up g.M.Medium.tells _ _ _ _ _ _ c.requires.sound c.poll_into.ensures.polls).linked.step
+
+pub returns-clause-bytes : goal.returns-clause-bytes
+returns-clause-bytes g c = (hands-up g.M.Medium.tells _ _ _ _ _ _ c.requires.sound c.poll_into.ensures.polls).front
+
+pub returns-clause-world : goal.returns-clause-world
+returns-clause-world g c = (hands-up g.M.Medium.tells _ _ _ _ _ _ c.requires.sound c.poll_into.ensures.polls).linked.world
+
+pub returns-clause-device : goal.returns-clause-device
+returns-clause-device g c = (hands-up g.M.Medium.tells _ _ _ _ _ _ c.requires.sound c.poll_into.ensures.polls).linked.device

@@ -1,0 +1,46 @@
+//! A host's driver at its controller: each call is one event of a fleet, and the step of their mailbox.
+
+ghost use Rattle.nvme_fleet.specs.Deliveries.{brought_up, rung, reset as reset_mailbox, plain};
+ghost use Rattle.nvme_fleet.specs.Linked.{KeepsSite};
+ghost use Rattle.nvme_fleet.specs.Sound.{Sound, mailbox};
+ghost use Rattle.nvme_fleet.specs.Steps.{IsStep};
+ghost use Rattle.nvme_fleet.specs.declared.seen.FleetSeen.TheVariants.{Up, Rung, Reset};
+
+use crate::link::Link;
+pub use crate::place::place;
+pub use crate::poll::poll;
+use nvme_driver::{Driver, NotUp, UpFault};
+use nvme_medium::Medium;
+
+/// Brings the controller up. A driver that is down always comes up.
+///
+/// # Errors
+/// `AlreadyUp` where the driver is up; nothing changes then.
+pub fn bring_up<M: Medium>(driver: &mut Driver, link: &mut Link<'_, M>) -> Result<(), UpFault>
+    requires { Sound driver.old link.old.setting.controller }
+    ensures step { IsStep (brought_up (mailbox driver.old link.old.setting.controller)) driver.new link.new.setting.controller (plain (Up result)) }
+    ensures site { KeepsSite link.old link.new }
+{
+    driver.bring_up(link)
+}
+
+/// Tells the controller of the requests that were placed.
+///
+/// # Errors
+/// `NotUp` where the driver is not up; nothing changes then.
+pub fn ring<M: Medium>(driver: &mut Driver, link: &mut Link<'_, M>) -> Result<(), NotUp>
+    requires { Sound driver.old link.old.setting.controller }
+    ensures step { IsStep (rung (mailbox driver.old link.old.setting.controller)) driver.new link.new.setting.controller (plain (Rung result)) }
+    ensures site { KeepsSite link.old link.new }
+{
+    driver.ring(link)
+}
+
+/// Resets the controller. All requests that were not handed up are aborted.
+pub fn reset<M: Medium>(driver: &mut Driver, link: &mut Link<'_, M>)
+    requires { Sound driver.old link.old.setting.controller }
+    ensures step { IsStep (reset_mailbox (mailbox driver.old link.old.setting.controller)) driver.new link.new.setting.controller (plain Reset) }
+    ensures site { KeepsSite link.old link.new }
+{
+    driver.reset(link);
+}

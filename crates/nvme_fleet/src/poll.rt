@@ -1,0 +1,41 @@
+//! A poll of a fleet's driver.
+
+ghost use Rattle.std.specs.Prelude.{◌≡◌, ◌≤◌, length, take};
+ghost use Rattle.nvme_spec.specs.Limits.{most_bytes};
+ghost use Rattle.nvme_fleet.specs.declared.seen.FleetSeen.TheVariants.{Polled};
+ghost use Rattle.nvme_fleet.specs.Deliveries.{polled};
+ghost use Rattle.nvme_fleet.specs.Sound.{Sound, mailbox};
+ghost use Rattle.nvme_fleet.specs.Steps.{IsStep};
+
+use crate::link::Link;
+use nvme_driver::{Answer, Driver, PollFault};
+use nvme_medium::Medium;
+
+/// Hands up the next answer, as the driver's mailbox does, with its data at the front of the buffer, or `None` where
+/// there is no new one. That the buffer has at least 131,072 bytes is the caller's condition. The access state and
+/// the medium stay as they are.
+///
+/// # Errors
+/// `NotUp` where no aborted request is left to hand up and the driver is not up. No other fault comes: each
+/// completion of its controller answers a request.
+pub fn poll<M: Medium>(
+    driver: &mut Driver,
+    link: &mut Link<'_, M>,
+    buffer: &mut [u8],
+) -> Result<Option<Answer>, PollFault>
+    requires sound { Sound driver.old link.old.setting.controller }
+    requires room { most_bytes ≤ length buffer.old }
+    ensures step { IsStep (polled (mailbox driver.old link.old.setting.controller)) driver.new
+        link.new.setting.controller
+        (record {
+          seen = Polled result;
+          bytes = (polled (mailbox driver.old link.old.setting.controller)).reply.bytes;
+        }) }
+    ensures bytes { take (length (polled (mailbox driver.old link.old.setting.controller)).reply.bytes) buffer.new
+        ≡ (polled (mailbox driver.old link.old.setting.controller)).reply.bytes }
+    ensures world { link.new.setting.world ≡ link.old.setting.world }
+    ensures device { link.new.setting.device ≡ link.old.setting.device }
+    ensures names { link.new.names ≡ link.old.names }
+{
+    driver.poll_into(link, buffer)
+}
