@@ -1,5 +1,5 @@
 -- What a driver does over its port, and that it is the step of its mailbox.
-use Rattle.std.proofs.Common.{◌≡◌, ℕ, Bool, true, false, List, [], ◌∷◌, length, take, Option, None, Some, refl, sym, ap, subst, ◌∙◌}
+use Rattle.std.proofs.Common.{◌≡◌, ℕ, Bool, true, false, List, length, take, Option, None, Some, refl, sym, ap, subst, ◌∙◌}
 use Rattle.std.specs.Prelude.{Result, Ok, Err, IfOk, IfErr, OnOk, OnErr, if◌then◌else◌}
 use Rattle.nvme_wire.specs.Submission.{submission_of}
 use Rattle.nvme_driver.specs.declared.request.Request.{Request}
@@ -22,24 +22,17 @@ use Rattle.nvme_fleet.specs.declared.seen.FleetSeen.TheVariants.{Placed, Polled}
 use Rattle.nvme_fleet.specs.Deliveries as mail
 use Rattle.nvme_fleet.specs.Deliveries.{Reply, Reaction}
 use Rattle.nvme_fleet.specs.Linked.{Linked}
-use Rattle.nvme_fleet.specs.Links.{LinkStep, with_controller}
+use Rattle.nvme_fleet.specs.Links.{with_controller}
 use Rattle.nvme_fleet.specs.Sound.{Sound, mailbox}
 use Rattle.nvme_fleet.specs.Steps.{IsStep, after_calls}
 use Rattle.nvme_fleet.proofs.StartStep.{IsPlain, calls-are}
+use Rattle.nvme_fleet.proofs.RiseLink.{step_of, settings}
 use Rattle.nvme_fleet.proofs.PlaceStep.{place_is_a_step, refusal_is_a_step}
 use Rattle.nvme_fleet.proofs.PollStep.{poll_is_a_step}
 
--- The step of a port, as its driver sees it.
-abbrev pub PortStep : Bool → Linked → Call → Linked → Type 0
-PortStep tells p call q = LinkStep tells p.setting call q.setting
-
-setting-calls : (tells : Bool) (calls : List Call) (p q : Linked) → Calls (PortStep tells) p calls q → Calls (LinkStep tells) p.setting calls q.setting
-setting-calls tells [] p q h = ap (λ (x : Linked). x.setting) h
-setting-calls tells (call ∷ calls) p q (mid, step, rest) = (mid.setting, step, setting-calls tells calls mid q rest)
-
-port-calls : (tells : Bool) (calls : List Call) (p q : Linked) → IsPlain calls → Calls (PortStep tells) p calls q
+port-calls : (tells : Bool) (calls : List Call) (p q : Linked) → IsPlain calls → Calls (step_of tells) p calls q
     → q.setting ≡ with_controller p.setting (after_calls calls p.setting.controller)
-port-calls tells calls p q plain h = calls-are tells calls p.setting q.setting plain (setting-calls tells calls p q h)
+port-calls tells calls p q plain h = calls-are tells calls p.setting q.setting plain (settings tells calls p q h)
 
 -- The driver's and the controller's part of a step, and what else the port is over.
 pub record IsLinkedStep (r : Reaction) (d : Driver) (old new : Setting) (reply : Reply) : Type 0 where
@@ -79,7 +72,7 @@ pub record IsHandedUp (d d' : Driver) (old new : Setting) (result : Result (Opti
   pub front : take (length (mail.polled (mailbox d old.controller)).reply.bytes) buffer ≡ (mail.polled (mailbox d old.controller)).reply.bytes
 
 pub hands-up : (tells : Bool) (d d' : Driver) (p q : Linked) (result : Result (Option Answer) PollFault) (buffer : List ℕ) → Sound d p.setting.controller
-    → poll.IsPolled (PortStep tells) d p.setting.controller.window p result d' q buffer
+    → poll.IsPolled (step_of tells) d p.setting.controller.window p result d' q buffer
     → IsHandedUp d d' p.setting q.setting result buffer
 hands-up tells d d' p q result buffer s (oldest, is-oldest, gives, after, calls, front) =
     let k = poll_is_a_step d p.setting.controller oldest s is-oldest in
@@ -100,7 +93,7 @@ slot_in (Some slot) = slot
 pub places : (tells : Bool) (d d' : Driver) (p q : Linked) (request : Request) (result : Result Ticket PlaceRefusal) → Sound d p.setting.controller
     → IfErr result (λ why. driver.place_refusal d request ≡ Some why) → OnErr result ((d' ≡ d) × (q ≡ p))
     → IfOk result (λ ticket. (driver.place_refusal d request ≡ None) × (ticket ≡ record { 0 = d.next }))
-    → OnOk result (driver.IsPlaced (PortStep tells) d request p d' q)
+    → OnOk result (driver.IsPlaced (step_of tells) d request p d' q)
     → OnOk result (driver.HoldsItsRequest d p.setting.controller.window q.setting.controller.window request)
     → IsLinkedStep (mail.placed (mailbox d p.setting.controller) request) d' p.setting q.setting (mail.plain (Placed result))
 places tells d d' p q request (Err why) s refused unchanged taken put holds =

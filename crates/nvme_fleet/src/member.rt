@@ -17,7 +17,7 @@ use nvme_medium::Medium;
 /// # Errors
 /// `AlreadyUp` where the driver is up; nothing changes then.
 pub fn bring_up<M: Medium>(driver: &mut Driver, link: &mut Link<'_, M>) -> Result<(), UpFault>
-    requires { Sound driver.old link.old.setting.controller }
+    requires sound { Sound driver.old link.old.setting.controller }
     ensures step { IsStep (brought_up (mailbox driver.old link.old.setting.controller)) driver.new link.new.setting.controller (plain (Up result)) }
     ensures site { KeepsSite link.old link.new }
 {
@@ -29,7 +29,7 @@ pub fn bring_up<M: Medium>(driver: &mut Driver, link: &mut Link<'_, M>) -> Resul
 /// # Errors
 /// `NotUp` where the driver is not up; nothing changes then.
 pub fn ring<M: Medium>(driver: &mut Driver, link: &mut Link<'_, M>) -> Result<(), NotUp>
-    requires { Sound driver.old link.old.setting.controller }
+    requires sound { Sound driver.old link.old.setting.controller }
     ensures step { IsStep (rung (mailbox driver.old link.old.setting.controller)) driver.new link.new.setting.controller (plain (Rung result)) }
     ensures site { KeepsSite link.old link.new }
 {
@@ -38,7 +38,7 @@ pub fn ring<M: Medium>(driver: &mut Driver, link: &mut Link<'_, M>) -> Result<()
 
 /// Resets the controller. All requests that were not handed up are aborted.
 pub fn reset<M: Medium>(driver: &mut Driver, link: &mut Link<'_, M>)
-    requires { Sound driver.old link.old.setting.controller }
+    requires sound { Sound driver.old link.old.setting.controller }
     ensures step { IsStep (reset_mailbox (mailbox driver.old link.old.setting.controller)) driver.new link.new.setting.controller (plain Reset) }
     ensures site { KeepsSite link.old link.new }
 {

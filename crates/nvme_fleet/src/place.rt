@@ -1,8 +1,8 @@
 //! A placing by a fleet's driver.
 
-ghost use Rattle.std.specs.Prelude.{◌≡◌};
 ghost use Rattle.nvme_fleet.specs.declared.seen.FleetSeen.TheVariants.{Placed};
 ghost use Rattle.nvme_fleet.specs.Deliveries.{placed, plain};
+ghost use Rattle.nvme_fleet.specs.Linked.{KeepsSite};
 ghost use Rattle.nvme_fleet.specs.Sound.{Sound, mailbox};
 ghost use Rattle.nvme_fleet.specs.Steps.{IsStep};
 
@@ -24,9 +24,7 @@ pub fn place<M: Medium>(
     requires sound { Sound driver.old link.old.setting.controller }
     ensures step { IsStep (placed (mailbox driver.old link.old.setting.controller) request.now) driver.new
         link.new.setting.controller (plain (Placed result)) }
-    ensures world { link.new.setting.world ≡ link.old.setting.world }
-    ensures device { link.new.setting.device ≡ link.old.setting.device }
-    ensures names { link.new.names ≡ link.old.names }
+    ensures site { KeepsSite link.old link.new }
 {
     driver.place(link, request)
 }

@@ -4,6 +4,7 @@ ghost use Rattle.std.specs.Prelude.{◌≡◌, ◌≤◌, length, take};
 ghost use Rattle.nvme_spec.specs.Limits.{most_bytes};
 ghost use Rattle.nvme_fleet.specs.declared.seen.FleetSeen.TheVariants.{Polled};
 ghost use Rattle.nvme_fleet.specs.Deliveries.{polled};
+ghost use Rattle.nvme_fleet.specs.Linked.{KeepsSite};
 ghost use Rattle.nvme_fleet.specs.Sound.{Sound, mailbox};
 ghost use Rattle.nvme_fleet.specs.Steps.{IsStep};
 
@@ -33,9 +34,7 @@ pub fn poll<M: Medium>(
         }) }
     ensures bytes { take (length (polled (mailbox driver.old link.old.setting.controller)).reply.bytes) buffer.new
         ≡ (polled (mailbox driver.old link.old.setting.controller)).reply.bytes }
-    ensures world { link.new.setting.world ≡ link.old.setting.world }
-    ensures device { link.new.setting.device ≡ link.old.setting.device }
-    ensures names { link.new.names ≡ link.old.names }
+    ensures site { KeepsSite link.old link.new }
 {
     driver.poll_into(link, buffer)
 }

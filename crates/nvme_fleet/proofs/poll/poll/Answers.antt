@@ -7,8 +7,7 @@ returns-clause-step g c = (hands-up g.M.Medium.tells _ _ _ _ _ _ c.requires.soun
 pub returns-clause-bytes : goal.returns-clause-bytes
 returns-clause-bytes g c = (hands-up g.M.Medium.tells _ _ _ _ _ _ c.requires.sound c.poll_into.ensures.polls).front
 
-pub returns-clause-world : goal.returns-clause-world
-returns-clause-world g c = (hands-up g.M.Medium.tells _ _ _ _ _ _ c.requires.sound c.poll_into.ensures.polls).linked.world
-
-pub returns-clause-device : goal.returns-clause-device
-returns-clause-device g c = (hands-up g.M.Medium.tells _ _ _ _ _ _ c.requires.sound c.poll_into.ensures.polls).linked.device
+pub returns-clause-site : goal.returns-clause-site
+returns-clause-site g c =
+    let r = hands-up g.M.Medium.tells _ _ _ _ _ _ c.requires.sound c.poll_into.ensures.polls in
+    record { world = r.linked.world; device = r.linked.device; names = c.poll_into.ensures.links }
