@@ -80,6 +80,7 @@ fn configuration(alloc: Global, controllers: u16) -> io::Result<Config> {
         config.controllers.push(ControllerConfig {
             cntlid,
             host: 0x100 + u64::from(cntlid),
+            raw: false,
         })?;
         config.attached.push((cntlid, 1))?;
     }

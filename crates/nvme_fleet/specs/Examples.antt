@@ -1,10 +1,10 @@
 -- What the worked examples speak of.
-use Rattle.std.specs.Prelude.{ℕ, ◌==◌, zero, suc, true, false, List, [], ◌∷◌, ◌++◌, replicate, map, Some, Ok}
+use Rattle.std.specs.Prelude.{ℕ, zero, suc, true, false, List, [], ◌∷◌, ◌++◌, replicate, map, Some, Ok}
 use Rattle.std.specs.List.{flat_map}
 use Rattle.nvme_wire.specs.declared.status.Status.{Status}
 use Rattle.nvme_spec.specs.Configuration.{Configuration}
 use Rattle.nvme_spec.specs.Statuses as status
-use Rattle.nvme_spec.specs.Examples.{controller, namespace}
+use Rattle.nvme_spec.specs.Examples.{controller, raw_controller, namespace}
 use Rattle.nvme_machine.specs.declared.seen.Executed.TheVariants.{Posted}
 use Rattle.nvme_driver.specs.declared.answer.Answer.TheVariants.{Done, Aborted}
 use Rattle.nvme_driver.specs.declared.request.Request.{Request}
@@ -18,7 +18,7 @@ use Rattle.nvme_fleet.specs.Fleets.{Fleet, opening}
 use Rattle.nvme_fleet.specs.FaultFree.{fault_free_replies, fault_free_left}
 
 -- Four controllers of three hosts; a shared namespace of two blocks that all are attached to, and a private one of one
--- block that controller 1 alone is attached to; a medium of zeros; no host is raw.
+-- block that controller 1 alone is attached to; no host is raw.
 abbrev pub cluster : Configuration
 cluster = record {
   controllers = controller 1 0xa1 ∷ controller 2 0xb2 ∷ controller 3 0xa1 ∷ controller 4 0xc3 ∷ [];
@@ -26,8 +26,18 @@ cluster = record {
   attached = (1, 1) ∷ (2, 1) ∷ (3, 1) ∷ (4, 1) ∷ (1, 2) ∷ [];
 }
 
+-- the same, where the host of controller 2 is raw
+abbrev pub raw_cluster : Configuration
+raw_cluster = record cluster {
+  controllers = controller 1 0xa1 ∷ raw_controller 2 0xb2 ∷ controller 3 0xa1 ∷ controller 4 0xc3 ∷ [];
+}
+
+-- a configuration over a medium of zeros
+abbrev pub opened : Configuration → Fleet
+opened c = opening c (record { content = replicate 1536 0; failures = 0 })
+
 abbrev pub new_fleet : Fleet
-new_fleet = opening (λ k. false) cluster (record { content = replicate 1536 0; failures = 0 })
+new_fleet = opened cluster
 
 -- the same once all drivers are up
 abbrev pub all_up : List FleetEvent
@@ -105,10 +115,9 @@ seen_after before events = map (λ (r : Reply). r.seen) (fault_free_replies (fau
 abbrev pub bytes_after : List FleetEvent → List FleetEvent → List (List ℕ)
 bytes_after before events = map (λ (r : Reply). r.bytes) (fault_free_replies (fault_free_left fleet before) events)
 
--- the same fleet, where host 2 is raw
+-- the same, from the opening where host 2 is raw
 abbrev pub raw_seen_in : List FleetEvent → List FleetSeen
-raw_seen_in events =
-    map (λ (r : Reply). r.seen) (fault_free_replies (opening (λ k. k == 2) cluster (record { content = replicate 1536 0; failures = 0 })) events)
+raw_seen_in events = map (λ (r : Reply). r.seen) (fault_free_replies (opened raw_cluster) events)
 
 -- three hosts have registered, and the first has acquired Write Exclusive, All Registrants
 abbrev pub all_registrants : List FleetEvent

@@ -33,15 +33,14 @@ pub record Fleet : Type 0 where
   pub site : Site
   pub hosts : List Host
 
--- as a configuration opens over a medium, where these controllers' hosts are raw: every driver is down, and its first
--- ticket is 1
-abbrev pub new_host : (ℕ → Bool) → ControllerConfig → Host
-new_host is_raw k = if is_raw k.cntlid then Raw (machine.new_controller k.cntlid) else WithDriver (new_mailbox 1)
+-- as a configuration opens over a medium: every driver is down, and its first ticket is 1
+abbrev pub new_host : ControllerConfig → Host
+new_host k = if k.raw then Raw (machine.new_controller k.cntlid) else WithDriver (new_mailbox 1)
 
-unfoldable pub opening : (ℕ → Bool) → Configuration → Device → Fleet
-opening is_raw c d = record {
+unfoldable pub opening : Configuration → Device → Fleet
+opening c d = record {
   site = record { world = opening_world c; device = d };
-  hosts = map (new_host is_raw) c.controllers;
+  hosts = map new_host c.controllers;
 }
 
 -- the k-th of a list, from 1

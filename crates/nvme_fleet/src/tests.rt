@@ -20,7 +20,8 @@ fn configuration(alloc: Global) -> Result<Config, AllocError> {
         controllers: vec![in alloc;
             ControllerConfig {
                 cntlid: 1,
-                host: 0xa1
+                host: 0xa1,
+                raw: false
             },
         ]?,
         namespaces: vec![in alloc;

@@ -15,7 +15,7 @@ abbrev pub controller : List (List ℕ) → Option Line
 controller = three (λ c keyword h. if bytes_eq keyword (codes "host") then (do
   cntlid ← number_at 16 c
   host ← number_at 64 h
-  Some (Controller (record { cntlid = cntlid; host = host }))) else None)
+  Some (Controller (record { cntlid = cntlid; host = host; raw = false }))) else None)
 
 -- `shared` or `private`
 abbrev pub sharing : List ℕ → Option Bool

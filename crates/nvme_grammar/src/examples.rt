@@ -11,7 +11,7 @@ ghost use Rattle.nvme_spec.specs.Configuration.{empty_configuration};
 #[tactic(auto, unfolding(crate::proofs::OnLiterals::lines_on_literals))]
 pub fn lines()
     ensures controller { line_at (codes "controller 1 host 0xa1")
-        ≡ Some (Controller (record { cntlid = 1; host = 161 })) }
+        ≡ Some (Controller (record { cntlid = 1; host = 161; raw = false })) }
     ensures shared { line_at (codes "namespace 1 blocks 64 shared")
         ≡ Some (Namespace (record { nsid = 1; blocks = 64; shared = true })) }
     ensures private { line_at (codes "namespace 2 blocks 8 private")
@@ -59,7 +59,7 @@ pub fn no_data()
 pub fn scripts()
     ensures begins { Begins (example_setup ++ example_commands) }
     ensures controllers { (configuration_of (example_setup ++ example_commands)).controllers
-        ≡ (record { cntlid = 1; host = 161 }) ∷ [] }
+        ≡ (record { cntlid = 1; host = 161; raw = false }) ∷ [] }
     ensures namespaces { (configuration_of (example_setup ++ example_commands)).namespaces
         ≡ (record { nsid = 1; blocks = 64; shared = true }) ∷ [] }
     ensures attached { (configuration_of (example_setup ++ example_commands)).attached ≡ (1, 1) ∷ [] }

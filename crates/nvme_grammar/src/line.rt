@@ -66,6 +66,7 @@ fn controller_of(words: &[&[u8]]) -> Option<Line>
     Some(Line::Controller(ControllerConfig {
         cntlid: number_u16(cntlid)?,
         host: number_u64(host)?,
+        raw: false,
     }))
 }
 

@@ -9,7 +9,11 @@ use std::test::Fail;
 fn cluster(alloc: Global) -> Result<Config, AllocError> {
     let mut controllers = Vec::new(alloc);
     for (cntlid, host) in [(1, 0xa1), (2, 0xb2), (3, 0xa1), (4, 0xc3)] {
-        controllers.push(ControllerConfig { cntlid, host })?;
+        controllers.push(ControllerConfig {
+            cntlid,
+            host,
+            raw: false,
+        })?;
     }
     let mut namespaces = Vec::new(alloc);
     for (nsid, blocks, shared) in [(1, 64, true), (2, 8, false)] {
@@ -56,9 +60,11 @@ fn faults_are_named(rt: HostRuntime) -> Result<(), Fail> {
     })?;
     assert_eq!(rt; Spaces::new(&config, 72).err(), Some(ConfigFault::BadSize));
     let mut config = cluster(rt.alloc())?;
-    config
-        .controllers
-        .push(ControllerConfig { cntlid: 6, host: 1 })?;
+    config.controllers.push(ControllerConfig {
+        cntlid: 6,
+        host: 1,
+        raw: false,
+    })?;
     assert_eq!(rt; Spaces::new(&config, 72).err(), Some(ConfigFault::BadId));
     let mut config = cluster(rt.alloc())?;
     for nsid in 3..10 {

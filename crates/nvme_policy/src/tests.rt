@@ -9,7 +9,11 @@ use std::test::Fail;
 fn cluster(alloc: Global) -> Result<Config, AllocError> {
     let mut controllers = Vec::new(alloc);
     for (cntlid, host) in [(1, 0xa1), (2, 0xb2), (3, 0xa1), (4, 0xc3)] {
-        controllers.push(ControllerConfig { cntlid, host })?;
+        controllers.push(ControllerConfig {
+            cntlid,
+            host,
+            raw: false,
+        })?;
     }
     let mut namespaces = Vec::new(alloc);
     for (nsid, blocks, shared) in [(1, 64, true), (2, 8, false)] {

@@ -5,7 +5,11 @@ use Rattle.nvme_spec.specs.declared.config.NsConfig.{NsConfig}
 use Rattle.nvme_spec.specs.Configuration.{Configuration}
 
 abbrev pub controller : ℕ → ℕ → ControllerConfig
-controller cntlid host = record { cntlid = cntlid; host = host }
+controller cntlid host = record { cntlid = cntlid; host = host; raw = false }
+
+-- a controller of a raw host
+abbrev pub raw_controller : ℕ → ℕ → ControllerConfig
+raw_controller cntlid host = record { cntlid = cntlid; host = host; raw = true }
 
 abbrev pub namespace : ℕ → ℕ → Bool → NsConfig
 namespace nsid blocks shared = record { nsid = nsid; blocks = blocks; shared = shared }

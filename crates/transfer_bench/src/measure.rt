@@ -94,6 +94,7 @@ fn configuration(alloc: Global) -> io::Result<Config> {
     let controller = ControllerConfig {
         cntlid: 1,
         host: 0xa1,
+        raw: false,
     };
     let namespace = NsConfig {
         nsid: 1,

@@ -34,11 +34,13 @@ fn configuration(alloc: Global) -> Result<Config, AllocError> {
         controllers: vec![in alloc;
             ControllerConfig {
                 cntlid: 1,
-                host: 0xa1
+                host: 0xa1,
+                raw: false
             },
             ControllerConfig {
                 cntlid: 2,
-                host: 0xb2
+                host: 0xb2,
+                raw: false
             },
         ]?,
         namespaces: vec![in alloc;

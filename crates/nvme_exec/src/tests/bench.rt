@@ -31,7 +31,11 @@ pub struct Bench<M> {
 }
 
 fn controller(cntlid: u16, host: u64) -> ControllerConfig {
-    ControllerConfig { cntlid, host }
+    ControllerConfig {
+        cntlid,
+        host,
+        raw: false,
+    }
 }
 
 // Controllers 1 to 4, of which 1 and 3 have one host; namespace 1 of 64 blocks, attached to all of them; and namespace 2

@@ -32,11 +32,13 @@ pub(crate) fn configuration(alloc: Global, blocks: [u64; 2]) -> Result<Config, A
         controllers: vec![in alloc;
             ControllerConfig {
                 cntlid: 1,
-                host: 0xa1
+                host: 0xa1,
+                raw: false
             },
             ControllerConfig {
                 cntlid: 2,
-                host: 0xb2
+                host: 0xb2,
+                raw: false
             },
         ]?,
         namespaces: vec![in alloc; namespace(1, blocks[0]), namespace(2, blocks[1])]?,
