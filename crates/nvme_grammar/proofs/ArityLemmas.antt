@@ -48,7 +48,8 @@ many_words (w ∷ a ∷ b ∷ c ∷ d ∷ []) many = absurd (omega arith)
 many_words (w ∷ a ∷ b ∷ c ∷ d ∷ e ∷ []) many = absurd (omega arith)
 many_words (w ∷ a ∷ b ∷ c ∷ d ∷ e ∷ f ∷ []) many = absurd (omega arith)
 many_words (w ∷ a ∷ b ∷ c ∷ d ∷ e ∷ f ∷ g ∷ ws) many =
-    none_either (bytes_eq w (codes "controller")) _ _ refl
+    none_either (bytes_eq w (codes "controller")) _ _
+    (none_either (bytes_eq b (codes "host")) _ _ (none_after (number_at 16 a) _ (λ cntlid. none_after (number_at 64 c) _ (λ host. refl))) refl)
     (none_either (bytes_eq w (codes "namespace")) _ _ refl
     (none_either (bytes_eq w (codes "attached")) _ _ refl
     (none_either (bytes_eq w (codes "start")) _ _ refl

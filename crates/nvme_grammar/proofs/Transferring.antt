@@ -95,9 +95,13 @@ command_line (c ∷ action ∷ operands) =
     (branch IsLine (bytes_eq action (codes "write")) _ None (write_line cntlid operands) tt))
 
 controller_line : (words : List (List ℕ)) → IfSome (line.controller words) IsLine
-controller_line words = three_if IsLine _ words (λ c keyword h. branch IsLine (bytes_eq keyword (codes "host")) _ None
+controller_line [] = tt
+controller_line (c ∷ []) = tt
+controller_line (c ∷ keyword ∷ []) = tt
+controller_line (c ∷ keyword ∷ h ∷ words) = branch IsLine (bytes_eq keyword (codes "host")) _ None
     (bind (λ _. Unit {0}) IsLine (number_at 16 c) _ (any (number_at 16 c)) (λ cntlid _.
-    bind (λ _. Unit {0}) IsLine (number_at 64 h) _ (any (number_at 64 h)) (λ host _. tt))) tt)
+    bind (λ _. Unit {0}) IsLine (number_at 64 h) _ (any (number_at 64 h)) (λ host _.
+    bind (λ _. Unit {0}) IsLine (line.rawness words) _ (any (line.rawness words)) (λ raw _. tt)))) tt
 
 namespace_line : (words : List (List ℕ)) → IfSome (line.namespace words) IsLine
 namespace_line words = four_if IsLine _ words (λ n keyword b kind. branch IsLine (bytes_eq keyword (codes "blocks")) _ None

@@ -10,12 +10,20 @@ use Rattle.nvme_grammar.specs.declared.line.Line.TheVariants.{Blank, Controller,
 use Rattle.nvme_grammar.specs.declared.line.Place.{Place}
 use Rattle.nvme_grammar.specs.declared.line.Action.TheVariants.{Read, Write}
 
--- `controller C host H`
+-- what follows `controller C host H`: nothing, or `raw`
+abbrev pub rawness : List (List ℕ) → Option Bool
+rawness [] = Some false
+rawness (word ∷ []) = if bytes_eq word (codes "raw") then Some true else None
+rawness words = None
+
+-- `controller C host H`, or `controller C host H raw`
 abbrev pub controller : List (List ℕ) → Option Line
-controller = three (λ c keyword h. if bytes_eq keyword (codes "host") then (do
+controller (c ∷ keyword ∷ h ∷ words) = if bytes_eq keyword (codes "host") then (do
   cntlid ← number_at 16 c
   host ← number_at 64 h
-  Some (Controller (record { cntlid = cntlid; host = host; raw = false }))) else None)
+  raw ← rawness words
+  Some (Controller (record { cntlid = cntlid; host = host; raw = raw }))) else None
+controller words = None
 
 -- `shared` or `private`
 abbrev pub sharing : List ℕ → Option Bool

@@ -12,6 +12,8 @@ ghost use Rattle.nvme_spec.specs.Configuration.{empty_configuration};
 pub fn lines()
     ensures controller { line_at (codes "controller 1 host 0xa1")
         ≡ Some (Controller (record { cntlid = 1; host = 161; raw = false })) }
+    ensures raw { line_at (codes "controller 2 host 0xb2 raw")
+        ≡ Some (Controller (record { cntlid = 2; host = 178; raw = true })) }
     ensures shared { line_at (codes "namespace 1 blocks 64 shared")
         ≡ Some (Namespace (record { nsid = 1; blocks = 64; shared = true })) }
     ensures private { line_at (codes "namespace 2 blocks 8 private")
@@ -35,6 +37,9 @@ pub fn no_lines()
     ensures unknown_word { line_at (codes "read 1 1 0 1") ≡ None }
     ensures keyword_in_upper_case { line_at (codes "START") ≡ None }
     ensures wrong_keyword { line_at (codes "controller 1 hosts 1") ≡ None }
+    ensures not_raw { line_at (codes "controller 1 host 1 Raw") ≡ None }
+    ensures word_behind_raw { line_at (codes "controller 1 host 1 raw raw") ≡ None }
+    ensures raw_without_host { line_at (codes "controller 1 raw") ≡ None }
     ensures neither_kind { line_at (codes "namespace 1 blocks 8 public") ≡ None }
     ensures number_too_large { line_at (codes "controller 65536 host 1") ≡ None }
     ensures plus { line_at (codes "attached +1 1") ≡ None }

@@ -1,7 +1,7 @@
 //! What one line of a script says.
 
 ghost use Rattle.std.specs.Prelude.{◌≡◌, map, IfOk};
-ghost use Rattle.nvme_grammar.specs.Line.{controller, namespace, attached, start, sharing, transfer_blocks, place_at, read_command, write_command, command, sentence, is_comment, line_at};
+ghost use Rattle.nvme_grammar.specs.Line.{rawness, controller, namespace, attached, start, sharing, transfer_blocks, place_at, read_command, write_command, command, sentence, is_comment, line_at};
 
 use nvme_spec::{ControllerConfig, NsConfig};
 use nvme_wire::NoMemory;
@@ -42,7 +42,7 @@ pub struct Direct {
 pub enum Line {
     /// A comment, or a line without words: it says nothing.
     Blank,
-    /// `controller C host H`
+    /// `controller C host H`, or `controller C host H raw`
     Controller(ControllerConfig),
     /// `namespace N blocks B shared`, or `private`
     Namespace(NsConfig),
@@ -54,19 +54,34 @@ pub enum Line {
     Do(Direct),
 }
 
-/// `controller C host H`, without its first word.
-#[tactic(auto, using(crate::proofs::ArityLemmas::three_other))]
+/// Whether a controller's host is raw: what follows `controller C host H`, nothing or `raw`, says it.
+fn is_raw(words: &[&[u8]]) -> Option<bool>
+    ensures { result ≡ rawness (map (λ word. word.now) words.now) }
+{
+    let Some((word, rest)) = words.split_first() else {
+        return Some(false);
+    };
+    if *word == b"raw".as_slice() && rest.is_empty() {
+        Some(true)
+    } else {
+        None
+    }
+}
+
+/// `controller C host H`, or `controller C host H raw`, without its first word.
 fn controller_of(words: &[&[u8]]) -> Option<Line>
     ensures { result ≡ controller (map (λ word. word.now) words.now) }
 {
-    let [cntlid, keyword, host] = words.as_array::<3>()?;
+    let [cntlid, keyword, host, behind @ ..] = words else {
+        return None;
+    };
     if *keyword != b"host".as_slice() {
         return None;
     }
     Some(Line::Controller(ControllerConfig {
         cntlid: number_u16(cntlid)?,
         host: number_u64(host)?,
-        raw: false,
+        raw: is_raw(behind)?,
     }))
 }
 

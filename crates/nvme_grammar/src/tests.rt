@@ -6,12 +6,14 @@ use std::test::Fail;
 #[test]
 fn reads_a_script(rt: HostRuntime) -> Result<(), Fail> {
     let text =
-        b"# setup\ncontroller 1 host 0xa1\nnamespace 1 blocks 64 shared\nattached 1 1\n\nstart\ndo 1 write 1 0 1 hex:48656c6c6f\r\ndo 1 read 1 64 2";
+        b"# setup\ncontroller 1 host 0xa1\ncontroller 2 host 0xb2 raw\nnamespace 1 blocks 64 shared\nattached 1 1\n\nstart\ndo 1 write 1 0 1 hex:48656c6c6f\r\ndo 1 read 1 64 2";
     let script = parse(rt.alloc(), text)?;
-    assert_eq!(rt; script.config.controllers.len(), 1);
+    assert_eq!(rt; script.config.controllers.len(), 2);
+    assert!(rt; !script.config.controllers[0].raw);
+    assert!(rt; script.config.controllers[1].raw);
     assert_eq!(rt; script.config.namespaces.len(), 1);
     assert_eq!(rt; script.config.attached.as_slice(), [(1, 1)].as_slice());
-    assert_eq!(rt; script.start, Some(6));
+    assert_eq!(rt; script.start, Some(7));
     assert_eq!(rt; script.commands.len(), 2);
     assert_eq!(rt; script.commands[1].place.slba, 64);
     Ok(())
