@@ -37,7 +37,7 @@ pub admin-placed : (w : World) (queues : Queues) (k : ℕ) (e window : List ℕ)
 admin-placed w queues k e window x is = subst (λ (y : AdminExecution). IsPlaced y.change) is (suits-placed queues _ (admin_changes_suit w queues k e window))
 
 pub admin-fits : (w : World) (queues : Queues) (k : ℕ) (e window : List ℕ) (x : AdminExecution) → admin_execution w queues k e window ≡ x → x.status.sct < 8
-admin-fits w queues k e window x is = subst (λ (y : AdminExecution). y.status.sct < 8) is (admin_execution_fits w queues k e window)
+admin-fits w queues k e window x is = subst (λ (y : AdminExecution). y.status.sct < 8) is (admin_execution_fits w queues k e window).0
 
 -- an admin command leaves what an execution asks for
 pub admin-ready : (w : World) (size : ℕ) (queues : Queues) (k : ℕ) (e window : List ℕ) (x : AdminExecution) → admin_execution w queues k e window ≡ x → CanExecute w size k → CanExecute x.world size k

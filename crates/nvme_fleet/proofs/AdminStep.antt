@@ -1,5 +1,5 @@
 -- An admin command is judged as its request, and what it is answered is what its request is answered.
-use Rattle.std.proofs.Common.{◌≡◌, ℕ, ◌^◌, ◌<◌, ◌≤◌, Bool, true, List, [], ◌∷◌, ◌++◌, length, take, Some, Ok, Err, refl, sym, ap, subst, ◌∙◌, arith, slice_get}
+use Rattle.std.proofs.Common.{◌≡◌, ℕ, ◌^◌, ◌<◌, ◌≤◌, Bool, List, [], ◌∷◌, ◌++◌, length, take, Some, Ok, Err, refl, sym, ap, subst, ◌∙◌, arith, slice_get}
 use Rattle.std.proofs.lemmas.List.{take_all}
 use Rattle.nvme_wire.specs.Submission.{cid, opcode}
 use Rattle.nvme_spec.specs.declared.command.AdminCommand.{AdminCommand}
@@ -16,6 +16,10 @@ use Rattle.nvme_spec.specs.AdminRules as rules
 use Rattle.nvme_spec.specs.AdminEffects.{admin_execution, execution_by, performance, data_out}
 use Rattle.nvme_spec.specs.Execution.{scene, no_marks}
 use Rattle.nvme_spec.specs.Statuses as status
+use Rattle.nvme_spec.specs.StatusLaws.{Fits}
+use Rattle.nvme_spec.proofs.Denials.{JudgementRefuses}
+use Rattle.nvme_spec.proofs.AdminDenials.{admin-refuses}
+use Rattle.nvme_spec.proofs.StatusLaws.{admin_execution_fits}
 use Rattle.nvme_driver.specs.declared.lane.Lane.TheVariants.{Admin}
 use Rattle.nvme_driver.specs.Layout.{data_area}
 use Rattle.nvme_driver.specs.Drivers.{Driver}
@@ -30,10 +34,8 @@ use Rattle.nvme_fleet.specs.Steps.{IsAnsweredInItsSlot, AdminJudgedAsItsRequest,
 use Rattle.nvme_fleet.proofs.Windows.{stored-none}
 use Rattle.nvme_fleet.proofs.AdminJudging.{IsAsked, admin-access-same, list-same, dw0-same, data-out-same, world-same}
 use Rattle.nvme_fleet.proofs.AdminKinds.{dw0-small, MovesAs, IsPlainAdmin, asked_by, plain-held, moved-is, length-out, keeps-queues, list-matters, world-matters}
-use Rattle.nvme_fleet.proofs.AdminDenying.{admin-refuses}
-use Rattle.nvme_fleet.proofs.Denying.{fits, JudgementRefuses, refuses}
 use Rattle.nvme_fleet.proofs.HeldStep.{IsHeld, held-known, pointer-passes, without-pointer, data-same, item-is, asked-in}
-use Rattle.nvme_fleet.proofs.AnswerStep.{denied-with}
+use Rattle.nvme_fleet.proofs.AnswerStep.{unsuccessful, denied-with}
 use Rattle.nvme_fleet.proofs.PostStep.{lane-of-item, up-of}
 
 -- What is known of an admin command, its request and its slot.
@@ -161,15 +163,15 @@ said-by : (tells : Bool) (d : Driver) (c : Controller) (i : ℕ) (t : FetchedCom
 said-by tells d c i t x w device cntlid h g f q command named a m (Err e) n judges =
     let k = h.held in
     let same = k.same in
-    let r = refuses e.status n in (
+    let r = unsuccessful e.status n in (
       refl,
       record {
         bytes = [];
         window = sym (stored-none c.window (data_area (cid t.entry)));
         few = omega arith;
-        whole = rw r.0 (omega arith);
+        whole = rw r (omega arith);
         answers = as-admin tells cntlid x (asked_by d c t) (record { world = w; device = device }) _ (Err e) command (lane-is d c i t x h g f q) (asked-is d c i t x g f q) judges (ap command_of same.opcode ∙ named)
-            (denied-with d t (admin_answer (scene w c.window device) (execution_by (Err e) (Some command) w cntlid t.entry c.window)) w c.window device e.rule e.status r.0 refl refl);
+            (denied-with d t (admin_answer (scene w c.window device) (execution_by (Err e) (Some command) w cntlid t.entry c.window)) w c.window device e.rule e.status r refl refl);
       },
     )
 said-by tells d c i t x w device cntlid h g f q command named a m (Ok u) n judges =
@@ -210,17 +212,16 @@ admin_answers_its_request tells d c i t x w device cntlid a s g f q h =
 
 -- Its completion's fields are within their width.
 
-executed-fits : (w : World) (k : ℕ) (e window : List ℕ) (j : Judgement) (command : AdminCommand) → JudgementRefuses j
-    → (fits (execution_by j (Some command) w k e window).status ≡ true) × ((execution_by j (Some command) w k e window).dw0 < 2 ^ 32)
-executed-fits w k e window (Err d) command n = ((refuses d.status n).1, omega arith)
-executed-fits w k e window (Ok u) command n = (refl, dw0-small w e command)
+executed-small : (w : World) (k : ℕ) (e window : List ℕ) (j : Judgement) (command : AdminCommand) → (execution_by j (Some command) w k e window).dw0 < 2 ^ 32
+executed-small w k e window (Err d) command = omega arith
+executed-small w k e window (Ok u) command = dw0-small w e command
 
 pub admin-fits : (d : Driver) (c : Controller) (i : ℕ) (t : FetchedCommand) (w : World) (device : Device) (cntlid : ℕ) (a : Answer) → Sound d c → slice_get c.fetched i ≡ Some t → t.queue ≡ 0
-    → a ≡ admin_answer (scene w c.window device) (admin_execution w (queues_of c) cntlid t.entry c.window) → (fits a.outcome.status ≡ true) × (a.outcome.dw0 < 2 ^ 32)
+    → a ≡ admin_answer (scene w c.window device) (admin_execution w (queues_of c) cntlid t.entry c.window) → Fits a.outcome.status × (a.outcome.dw0 < 2 ^ 32)
 admin-fits d c i t w device cntlid a s g q h =
     let k = admin-known d c i t s g q in
     let p = k.plain in
-    let e : a ≡ admin_answer (scene w c.window device) (execution_by (rules.admin_judgement w (queues_of c) cntlid t.entry c.window) (Some p.command) w cntlid t.entry c.window) =
-    h ∙ ap (admin_answer (scene w c.window device)) (executed-as w (queues_of c) cntlid t.entry c.window p.command p.named) in
-    subst (λ (z : Answer). (fits z.outcome.status ≡ true) × (z.outcome.dw0 < 2 ^ 32)) (sym e)
-    (executed-fits w cntlid t.entry c.window (rules.admin_judgement w (queues_of c) cntlid t.entry c.window) p.command (admin-refuses w (queues_of c) cntlid t.entry c.window))
+    let small : (admin_execution w (queues_of c) cntlid t.entry c.window).dw0 < 2 ^ 32 =
+    subst (λ x. x.dw0 < 2 ^ 32) (sym (executed-as w (queues_of c) cntlid t.entry c.window p.command p.named))
+    (executed-small w cntlid t.entry c.window (rules.admin_judgement w (queues_of c) cntlid t.entry c.window) p.command) in
+    subst (λ (z : Answer). Fits z.outcome.status × (z.outcome.dw0 < 2 ^ 32)) (sym h) (admin_execution_fits w (queues_of c) cntlid t.entry c.window, small)

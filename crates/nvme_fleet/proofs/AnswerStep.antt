@@ -1,5 +1,6 @@
 -- What an I/O command may be answered is what its request may be answered.
-use Rattle.std.proofs.Common.{◌≡◌, ℕ, Bool, false, List, [], Option, None, Some, Ok, Err, refl, sym, ap, subst, ◌∙◌, arith, slice_get}
+use Rattle.std.proofs.Common.{◌≡◌, ℕ, Bool, not, false, List, [], Option, None, Some, Ok, Err, refl, sym, ap, subst, ◌∙◌, arith, slice_get}
+use Rattle.std.proofs.lemmas.Bool.{not-true}
 use Rattle.std.specs.Prelude.{if◌then◌else◌}
 use Rattle.nvme_wire.specs.Submission.{cid, opcode}
 use Rattle.nvme_wire.specs.declared.status.Status.{Status}
@@ -13,6 +14,9 @@ use Rattle.nvme_spec.specs.Rules.{Judgement}
 use Rattle.nvme_spec.specs.IoRules.{conclusion}
 use Rattle.nvme_spec.specs.IoData as spec
 use Rattle.nvme_spec.specs.Execution.{scene, ExecutesBy, denial_outcome}
+use Rattle.nvme_spec.specs.StatusLaws.{denials}
+use Rattle.nvme_spec.proofs.Denials.{Refuses, VerdictRefuses, verdict-refuses}
+use Rattle.nvme_spec.proofs.StatusLaws.{of-each}
 use Rattle.nvme_driver.specs.declared.lane.Lane.TheVariants.{Io}
 use Rattle.nvme_driver.specs.Layout.{data_area}
 use Rattle.nvme_driver.specs.Polls.{is_success}
@@ -31,7 +35,6 @@ use Rattle.nvme_fleet.proofs.PostStep.{lane-of-item}
 use Rattle.nvme_fleet.proofs.HeldStep.{item-is}
 use Rattle.nvme_fleet.proofs.JudgeStep.{io-known, asked-is, judged_as_its_request}
 use Rattle.nvme_fleet.proofs.ServeStep.{asked_by, allowed_serves_its_request}
-use Rattle.nvme_fleet.proofs.Denying.{VerdictRefuses, verdict-refuses, refuses}
 
 plan-same : (command : Command) (x y : List ℕ) → SameFields x y → plan_of command y ≡ plan_of command x
 plan-same command x y f i = record {
@@ -69,6 +72,10 @@ unfolding Answers
 as-io tells cntlid x s r v l e h =
     subst (λ n. AnswersAs n tells cntlid x.item.asked x.marked s r) (sym l) (subst (λ u. AnswersIo u tells cntlid x.item.asked s r) (sym e) h)
 
+-- no denial is Successful Completion
+pub unsuccessful : (s : Status) → Refuses s → is_success s ≡ false
+unsuccessful s h = not-true (is_success s) (of-each (λ x. not (is_success x)) denials s refl h)
+
 -- nothing comes with a denial
 pub denied-with : (d : Driver) (t : FetchedCommand) (a : Answer) (w : World) (window : List ℕ) (device : Device) (number : ℕ) (why : Status) → is_success why ≡ false
     → a.left ≡ scene w window device → a.outcome ≡ denial_outcome number why → response_with d t a [] ≡ denial_response (record { world = w; device = device }) number why
@@ -82,9 +89,9 @@ answered-by tells d c i t x w device cntlid a s g f q (Denied number why) e n h 
   bytes = [];
   window = ap (λ z. z.window) h.0 ∙ sym (stored-none c.window (data_area (cid t.entry)));
   few = omega arith;
-  whole = (let o = h.1 in let m = (refuses why n).0 in rw (o, m) (omega arith));
+  whole = (let o = h.1 in let m = unsuccessful why n in rw (o, m) (omega arith));
   answers = as-io tells cntlid x (record { world = w; device = device }) (response_with d t a []) (Denied number why) (lane-is d c i t x s g f q) (verdict-is d c i t x w cntlid s g f q ∙ e)
-      (denied-with d t a w c.window device number why (refuses why n).0 h.0 h.1);
+      (denied-with d t a w c.window device number why (unsuccessful why n) h.0 h.1);
 }
 answered-by tells d c i t x w device cntlid a s g f q (Allowed plan) e n h =
     let r : IsServedInItsSlot tells d c t x w device cntlid plan.kind a = allowed_serves_its_request tells d c i t x w device cntlid plan a s g f q e h in

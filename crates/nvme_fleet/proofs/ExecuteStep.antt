@@ -1,22 +1,17 @@
 -- An execution of a command of either lane is the step of the mailbox.
-use Rattle.std.proofs.Common.{◌≡◌, ℕ, ◌^◌, nat_lt, ◌<◌, ◌==◌, Bool, true, List, map, Some, refl, sym, ap, subst, ◌∙◌, arith, inl, inr, slice_get}
-use Rattle.std.proofs.lemmas.Bool.{and_parts, cases_lt, le-ltb}
+use Rattle.std.proofs.Common.{◌≡◌, ℕ, ◌^◌, ◌<◌, ◌==◌, Bool, true, List, map, Some, refl, sym, ap, subst, ◌∙◌, arith, slice_get}
 use Rattle.std.proofs.lemmas.Option.{slice_get-map}
 use Rattle.std.specs.Option.{option_map}
 use Rattle.nvme_wire.specs.Completion.{FitsCompletion}
-use Rattle.nvme_wire.specs.declared.status.Status.{Status}
 use Rattle.nvme_spec.specs.declared.outcome.Outcome.{Outcome}
-use Rattle.nvme_spec.specs.declared.command.Command.{Command}
-use Rattle.nvme_spec.specs.declared.command.Command.TheVariants as io
 use Rattle.nvme_spec.specs.declared.verdict.Verdict.{Verdict}
 use Rattle.nvme_spec.specs.declared.verdict.Verdict.TheVariants.{Allowed, Denied}
 use Rattle.nvme_spec.specs.declared.queues.QueueChange.TheVariants.{Keep}
-use Rattle.nvme_spec.specs.Blocks.{Device}
 use Rattle.nvme_spec.specs.AdminEffects.{admin_execution}
-use Rattle.nvme_spec.specs.Effects.{ReadEffect, WriteEffect, CompareEffect, FlushEffect}
-use Rattle.nvme_spec.specs.Statuses as status
 use Rattle.nvme_spec.specs.IoData as spec
-use Rattle.nvme_spec.specs.Execution.{Scene, Performs, ExecutesBy}
+use Rattle.nvme_spec.specs.Execution.{Scene, ExecutesBy}
+use Rattle.nvme_spec.specs.StatusLaws.{Fits}
+use Rattle.nvme_spec.proofs.StatusLaws.{execution_fits}
 use Rattle.nvme_driver.specs.declared.lane.Lane.{Lane}
 use Rattle.nvme_driver.specs.declared.lane.Lane.TheVariants.{Admin, Io}
 use Rattle.nvme_driver.specs.Layout.{queue_id}
@@ -31,50 +26,17 @@ use Rattle.nvme_fleet.specs.Executions.{Answers as FleetAnswers}
 use Rattle.nvme_fleet.specs.Lanes.{DeviceSide, DeviceEnds, Both, pair, state, held_by, fetched_by}
 use Rattle.nvme_fleet.specs.Sound.{Sound, IsPaired, host_side, device_side, mailbox, taken_by, lane_of_queue}
 use Rattle.nvme_fleet.specs.Steps.{IsAnsweredInItsSlot, IsExecuted, response_with, IoExecutionIsAStep, AdminExecutionIsAStep, ExecutionIsAStep}
-use Rattle.nvme_fleet.proofs.Places.{no-way}
 use Rattle.nvme_fleet.proofs.Linking.{of, pair-is}
 use Rattle.nvme_fleet.proofs.PostStep.{known, up-of, open-is, pair_in, fields_of, item_at, posting_has_room, posting_is_a_step}
 use Rattle.nvme_fleet.proofs.HeldStep.{held-known}
 use Rattle.nvme_fleet.proofs.AdminStep.{admin_answers_its_request, admin-fits}
 use Rattle.nvme_fleet.proofs.AnswerStep.{answers_its_request}
-use Rattle.nvme_fleet.proofs.Denying.{fits, refuses, VerdictRefuses, verdict-refuses}
 
--- Of a status that an allowed command may be answered.
+-- Dword 0 of an I/O command's completion.
 
-one : (answer s : Status) → answer ≡ s → fits s ≡ true → fits answer ≡ true
-one answer s e h = ap fits e ∙ h
-
-write-fits : (tells : Bool) (first : ℕ) (bytes : List ℕ) (old new : Device) (answer : Status) → WriteEffect tells first bytes old new answer → fits answer ≡ true
-write-fits tells first bytes old new answer (inl h) = let f = h.0 in one answer status.successful_completion f.answered refl
-write-fits tells first bytes old new answer (inr h) = let f = h.0 in one answer status.write_fault f.answered refl
-
-flush-fits : (tells : Bool) (old new : Device) (answer : Status) → FlushEffect tells old new answer → fits answer ≡ true
-flush-fits tells old new answer (same, inl h) = one answer status.successful_completion h.answered refl
-flush-fits tells old new answer (same, inr h) = one answer status.write_fault h.answered refl
-
-read-fits : (tells : Bool) (first n : ℕ) (old new : Device) (answer : Status) (returned : List ℕ) → ReadEffect tells first n old new answer returned → fits answer ≡ true
-read-fits tells first n old new answer returned (same, inl h) = let f = h.0 in one answer status.successful_completion f.answered refl
-read-fits tells first n old new answer returned (same, inr h) = let f = h.0 in one answer status.unrecovered_read_error f.answered refl
-
-compare-fits : (tells : Bool) (first : ℕ) (bytes : List ℕ) (old new : Device) (answer : Status) → CompareEffect tells first bytes old new answer → fits answer ≡ true
-compare-fits tells first bytes old new answer (same, inl h) = let f = h.0 in one answer status.successful_completion f.answered refl
-compare-fits tells first bytes old new answer (same, inr (inl h)) = let f = h.0 in one answer status.compare_failure f.answered refl
-compare-fits tells first bytes old new answer (same, inr (inr h)) = let f = h.0 in one answer status.unrecovered_read_error f.answered refl
-
-performs-fits : (tells : Bool) (command : Command) (k : ℕ) (x keys : List ℕ) (old new : Scene) (answer : Status) (returned : List ℕ) → Performs tells command k x keys old new answer returned → fits answer ≡ true
-performs-fits tells io.Flush k x keys old new answer returned h = let f = h.effect in flush-fits tells old.device new.device answer f.0
-performs-fits tells io.Write k x keys old new answer returned h = let f = h.effect in write-fits tells _ _ old.device new.device answer f.0
-performs-fits tells io.WriteZeroes k x keys old new answer returned h = let f = h.effect in write-fits tells _ _ old.device new.device answer f.0
-performs-fits tells io.Compare k x keys old new answer returned h = let f = h.effect in compare-fits tells _ _ old.device new.device answer f.0
-performs-fits tells io.Read k x keys old new answer returned h = read-fits tells _ _ old.device new.device answer returned h.effect
-performs-fits tells io.ReservationRegister k x keys old new answer returned h = one answer status.successful_completion h.answered refl
-performs-fits tells io.ReservationAcquire k x keys old new answer returned h = one answer status.successful_completion h.answered refl
-performs-fits tells io.ReservationRelease k x keys old new answer returned h = one answer status.successful_completion h.answered refl
-performs-fits tells io.ReservationReport k x keys old new answer returned h = one answer status.successful_completion h.answered refl
-
-executes-fits : (v : Verdict) (tells : Bool) (k : ℕ) (x : List ℕ) (old new : Scene) (o : Outcome) → VerdictRefuses v → ExecutesBy v tells k x old new o → (fits o.status ≡ true) × (o.dw0 ≡ 0)
-executes-fits (Denied number why) tells k x old new o n h = (ap (λ z. fits z.status) h.1 ∙ (refuses why n).1, ap (λ z. z.dw0) h.1)
-executes-fits (Allowed plan) tells k x old new o n h = (performs-fits tells plan.kind k x _ old new o.status h.returned h.effect, h.dw0)
+executes-zero : (v : Verdict) (tells : Bool) (k : ℕ) (x : List ℕ) (old new : Scene) (o : Outcome) → ExecutesBy v tells k x old new o → o.dw0 ≡ 0
+executes-zero (Denied number why) tells k x old new o h = ap (λ z. z.dw0) h.1
+executes-zero (Allowed plan) tells k x old new o h = h.dw0
 
 -- Of the queue's head.
 
@@ -96,27 +58,21 @@ pair-head d c i t p s g e =
     some-is : (y z : QueuePair) → Some y ≡ Some z → y ≡ z
     some-is y z h = cc
 
-lt-true : (a b : ℕ) → nat_lt a b ≡ true → a < b
-lt-true a b h = elim (cases_lt a b) [
-  | inl l ↦ l
-  | inr m ↦ absurd (no-way (nat_lt a b) (le-ltb a b m) h)
-]
-
 pub completion-fits : (lane : Lane) (d : Driver) (c : Controller) (i : ℕ) (t : FetchedCommand) (p : QueuePair) (a : Answer) → Sound d c → slice_get c.fetched i ≡ Some t → t.queue ≡ queue_id lane
-    → open_pair c t ≡ Some p → (fits a.outcome.status ≡ true) × (a.outcome.dw0 < 2 ^ 32) → FitsCompletion (fields_of t p a)
+    → open_pair c t ≡ Some p → Fits a.outcome.status × (a.outcome.dw0 < 2 ^ 32) → FitsCompletion (fields_of t p a)
 completion-fits lane d c i t p a s g q e f =
     let k = held-known lane d c i t s g (ap lane_of_queue q ∙ lane-back lane) in
     let head = pair-head d c i t p s g e in
     let within = k.within in
-    let b = and_parts _ _ f.0 in
+    let status = f.0 in
     let low = queue-small lane in
     record {
       dw0 = f.1;
       sq_head = omega (arith, head);
       sq_id = omega (arith, q, low);
       cid = omega (arith, within);
-      sct = lt-true a.outcome.status.sct 8 b.0;
-      sc = lt-true a.outcome.status.sc 256 b.1;
+      sct = status.0;
+      sc = status.1;
     }
   where
     queue-small : (l : Lane) → queue_id l < 2
@@ -179,13 +135,12 @@ io-postable : (tells : Bool) (d : Driver) (i : ℕ) (t : FetchedCommand) (p : Qu
 io-postable tells d i t p old a s g q e h =
     let n = io-answers tells d t old a q h in
     let f = found-at d old.controller i t g in
-    let w = executes-fits (spec.io_verdict old.world old.controller.cntlid t.entry t.marked old.controller.window) tells old.controller.cntlid t.entry (scene_in old) a.left a.outcome
-    (verdict-refuses old.world old.controller.cntlid t.entry t.marked old.controller.window) n.1 in
-    let zero_word = w.1 in
+    let small = execution_fits tells old.controller.cntlid t.entry t.marked (scene_in old) a.left a.outcome n.1 in
+    let zero = executes-zero (spec.io_verdict old.world old.controller.cntlid t.entry t.marked old.controller.window) tells old.controller.cntlid t.entry (scene_in old) a.left a.outcome n.1 in
     record {
       keeps = n.0;
       slot = answers_its_request tells d old.controller i t (item_at d old.controller t) old.world old.device old.controller.cntlid a s g f q n.1;
-      fits_so = completion-fits Io d old.controller i t p a s g q e (w.0, omega (arith, zero_word));
+      fits_so = completion-fits Io d old.controller i t p a s g q e (small, omega (arith, zero));
     }
 
 pub io_execution_is_a_step : IoExecutionIsAStep

@@ -40,8 +40,6 @@ pub mod Transferring
 pub mod HeldStep
 pub mod JudgeStep
 pub mod ServeStep
-pub mod Denying
-pub mod AdminDenying
 pub mod AdminJudging
 pub mod AdminData
 pub mod AdminKinds

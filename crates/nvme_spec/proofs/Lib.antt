@@ -19,6 +19,8 @@ pub mod Contents
 pub mod Openings
 pub mod Fencing
 pub mod QueueChanges
+pub mod Denials
+pub mod AdminDenials
 pub mod StatusLaws
 pub mod Judgements
 pub mod AdminLaws

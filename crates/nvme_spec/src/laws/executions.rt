@@ -2,7 +2,7 @@
 
 ghost use Rattle.nvme_spec.specs.Layout.{OpeningIsLaidOut};
 ghost use Rattle.nvme_spec.specs.Sound.{OpeningIsSound, ExecutionKeepsItSound, AdminExecutionKeepsItSound};
-ghost use Rattle.nvme_spec.specs.StatusLaws.{ExecutionFits, AdminExecutionFits};
+ghost use Rattle.nvme_spec.specs.StatusLaws.{IsAmong, answers, AnswersFit, ExecutionAnswers, AdminExecutionAnswers};
 ghost use Rattle.nvme_spec.specs.ExecutionLaws.{FailuresNeverFall, FaultFreeExecutes, ExecutesAlone, ExecutionKeepsTheRest, OnlyAllowedWritesWrite, OnlyAllowedActionsReserve, FencedCommandsWriteNothing, LayoutStays};
 
 /// Each command can be executed, and without a fault of the medium there is one execution alone.
@@ -29,11 +29,12 @@ fn fenced()
     ensures fenced { FencedCommandsWriteNothing }
 {}
 
-/// Every status fits its field of the completion queue entry.
-#[tactic(auto, using(crate::proofs::StatusLaws::execution_fits, crate::proofs::StatusLaws::admin_execution_fits))]
+/// Every command is answered with a status of a list, and each of these fits its field of the completion queue entry.
+#[tactic(auto, using(crate::proofs::StatusLaws::execution_answers, crate::proofs::StatusLaws::admin_execution_answers, crate::proofs::StatusLaws::answers_fit))]
 fn answered()
-    ensures io { ExecutionFits }
-    ensures admin { AdminExecutionFits }
+    ensures io { ExecutionAnswers (IsAmong answers) }
+    ensures admin { AdminExecutionAnswers (IsAmong answers) }
+    ensures fits { AnswersFit }
 {}
 
 /// A world opens well formed, and every command keeps it so.

@@ -23,4 +23,6 @@ pub returns-clause-answers : goal.returns-clause-answers
 returns-clause-answers g c = rw (← c.self.view_is) (io-answers g.M.Medium.tells _ _ c.args.command.now _ c.execute-outcome.result _ c.if-command-eq0.false c.execute-outcome.ensures.executed)
 
 pub returns-clause-fits : goal.returns-clause-fits
-returns-clause-fits g c = execution_fits g.M.Medium.tells _ _ c.args.command.now.marked _ _ _ c.execute-outcome.ensures.executed
+returns-clause-fits g c =
+    let fits = execution_fits g.M.Medium.tells _ _ c.args.command.now.marked _ _ _ c.execute-outcome.ensures.executed in
+    fits.0

@@ -1,6 +1,5 @@
--- A command that a rule denies is not answered with Successful Completion; its status is within its width.
-use Rattle.std.proofs.Common.{◌≡◌, ℕ, nat_lt, ◌==◌, not, ◌&&◌, ◌||◌, filter, Bool, true, false, List, [], ◌∷◌, ◌++◌, Option, None, Some, Result, Ok, Err, refl}
-use Rattle.std.proofs.lemmas.Bool.{and_parts}
+-- The statuses that rules deny an I/O command with.
+use Rattle.std.proofs.Common.{ℕ, ◌==◌, not, ◌&&◌, ◌||◌, filter, Bool, true, false, List, [], ◌∷◌, ◌++◌, Option, None, Some, Result, Ok, Err, refl}
 use Rattle.std.specs.Prelude.{if◌then◌else◌}
 use Rattle.std.specs.List.{AllByRecursion}
 use Rattle.nvme_wire.specs.Submission.{opcode, nsid}
@@ -20,22 +19,18 @@ use Rattle.nvme_spec.specs.IoRules.{mark_rule, opcode_rule, form_rule, nsid_rule
 use Rattle.nvme_spec.specs.DataRules.{pointer_rule, data_fault, fault_tests}
 use Rattle.nvme_spec.specs.IoData.{current_key, other_key, action_outcome, outcome_in, outcome_tests, reservation_outcome, action_rule, io_judgement, io_rules, io_verdict, data_of}
 use Rattle.nvme_spec.specs.Statuses as status
-use Rattle.nvme_driver.specs.Polls.{is_success}
-
--- a status whose fields are within their width
-abbrev pub fits : Status → Bool
-fits s = nat_lt s.sct 8 && nat_lt s.sc 256
+use Rattle.nvme_spec.specs.StatusLaws.{IsAmong, denials}
 
 abbrev pub Refuses : Status → Type 0
-Refuses s = (not (is_success s) && fits s) ≡ true
+Refuses = IsAmong denials
 
--- Tests, rules and judgements whose statuses are refusals.
+-- Tests, rules and judgements whose statuses are denials.
 
-abbrev pub TestsFit : List Test → Type 0
-TestsFit tests = AllByRecursion (λ (t : Test). Refuses t.status) tests
+abbrev pub TestsRefuse : List Test → Type 0
+TestsRefuse tests = AllByRecursion (λ (t : Test). Refuses t.status) tests
 
 abbrev pub RuleRefuses : Rule → Type 0
-RuleRefuses r = TestsFit r.tests
+RuleRefuses r = TestsRefuse r.tests
 
 abbrev pub JudgementRefuses : Judgement → Type 0
 JudgementRefuses (Ok u) = Unit {0}
@@ -49,7 +44,7 @@ if-refuses : (b : Bool) (s : Status) (o : Option Status) → Refuses s → Failu
 if-refuses true s o f g = f
 if-refuses false s o f g = g
 
-pub failure-refuses : (ts : List Test) → TestsFit ts → FailureRefuses (first_failure ts)
+pub failure-refuses : (ts : List Test) → TestsRefuse ts → FailureRefuses (first_failure ts)
 failure-refuses [] h = tt
 failure-refuses (t ∷ ts) h = if-refuses t.fails t.status (first_failure ts) h.0 (failure-refuses ts h.1)
 
@@ -69,11 +64,11 @@ pub rules-refuse : (rs : List Rule) → AllByRecursion RuleRefuses rs → Judgem
 rules-refuse [] h = tt
 rules-refuse (r ∷ rs) h = else-refuses (judgement_by r) (first_failing rs) (rule-refuses r h.0) (rules-refuse rs h.1)
 
-pub tests-joined : (xs ys : List Test) → TestsFit xs → TestsFit ys → TestsFit (xs ++ ys)
+pub tests-joined : (xs ys : List Test) → TestsRefuse xs → TestsRefuse ys → TestsRefuse (xs ++ ys)
 tests-joined [] ys f g = g
 tests-joined (x ∷ xs) ys f g = (f.0, tests-joined xs ys f.1 g)
 
--- Results whose refusals are.
+-- Results whose refusals are denials.
 
 unfoldable pub RefusalRefuses : {T : Type 0} → Result T Status → Type 0
 RefusalRefuses (Ok next) = Unit {0}
@@ -83,7 +78,7 @@ pub if-refusal : {T : Type 0} (b : Bool) (x y : Result T Status) → RefusalRefu
 if-refusal true x y f g = f
 if-refusal false x y f g = g
 
-pub refusal-refuses : {T : Type 0} (o : Result T Status) → RefusalRefuses o → TestsFit (refusal_tests o)
+pub refusal-refuses : {T : Type 0} (o : Result T Status) → RefusalRefuses o → TestsRefuse (refusal_tests o)
 unfolding RefusalRefuses
 refusal-refuses (Ok next) h = tt
 refusal-refuses (Err s) h = (h, tt)
@@ -169,11 +164,11 @@ outcome-refuses (Some c) None host e keys = tt
 outcome-refuses (Some c) (Some n) None e keys = tt
 outcome-refuses (Some c) (Some n) (Some host) e keys = action-refuses c n.reservation host e keys
 
-action-tests : (o : Option resv.Outcome) → ActionRefuses o → TestsFit (outcome_tests o)
+action-tests : (o : Option resv.Outcome) → ActionRefuses o → TestsRefuse (outcome_tests o)
 action-tests None h = tt
 action-tests (Some o) h = refusal-refuses o h
 
-pub fault-refuses : (o : Option DataFault) → TestsFit (fault_tests o)
+pub fault-refuses : (o : Option DataFault) → TestsRefuse (fault_tests o)
 fault-refuses None = tt
 fault-refuses (Some Offset) = (refl, tt)
 fault-refuses (Some Outside) = (refl, tt)
@@ -227,15 +222,6 @@ conclusion-refuses : (j : Judgement) (o : Option Command) (e : List ℕ) → Jud
 conclusion-refuses (Err d) o e h = h
 conclusion-refuses (Ok u) None e h = refl
 conclusion-refuses (Ok u) (Some c) e h = tt
-
-pub refuses : (s : Status) → Refuses s → (is_success s ≡ false) × (fits s ≡ true)
-refuses s h =
-    let p = and_parts _ _ h in
-    (not-true (is_success s) p.0, p.1)
-  where
-    not-true : (b : Bool) → not b ≡ true → b ≡ false
-    not-true false e = refl
-    not-true true e = absurd (cc (e))
 
 pub verdict-refuses : (w : World) (k : ℕ) (e : List ℕ) (marked : Bool) (window : List ℕ) → VerdictRefuses (io_verdict w k e marked window)
 verdict-refuses w k e marked window = conclusion-refuses (io_judgement w k e marked window) (command_of (opcode e)) e (io-refuses w k e marked window)

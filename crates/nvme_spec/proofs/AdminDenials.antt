@@ -1,4 +1,4 @@
--- An admin command that a rule denies is not answered with Successful Completion; its status is within its width.
+-- The statuses that rules deny an admin command with.
 use Rattle.std.proofs.Common.{ℕ, Bool, true, List, [], ◌∷◌, ◌++◌, Option, None, Some, refl}
 use Rattle.nvme_wire.specs.Submission.{opcode, nsid}
 use Rattle.nvme_wire.specs.declared.status.Status.{Status}
@@ -12,25 +12,25 @@ use Rattle.nvme_spec.specs.DataRules.{pointer_rule, data_fault}
 use Rattle.nvme_spec.specs.Attachments as attaching
 use Rattle.nvme_spec.specs.AdminCommands as admin
 use Rattle.nvme_spec.specs.AdminRules as adminrule
-use Rattle.nvme_fleet.proofs.Denying.{TestsFit, RuleRefuses, JudgementRefuses, FailureRefuses, RefusalRefuses, failure-refuses, tests-joined, if-refusal, refusal-refuses, fault-refuses, rules-refuse}
+use Rattle.nvme_spec.proofs.Denials.{TestsRefuse, RuleRefuses, JudgementRefuses, FailureRefuses, RefusalRefuses, failure-refuses, tests-joined, if-refusal, refusal-refuses, fault-refuses, rules-refuse}
 
-attach-one : (w : World) (n : ℕ) (other : Bool) (k : ℕ) → TestsFit (attaching.attach_tests w n other k)
+attach-one : (w : World) (n : ℕ) (other : Bool) (k : ℕ) → TestsRefuse (attaching.attach_tests w n other k)
 unfolding attaching.attach_tests
 attach-one w n other k = (refl, (refl, tt))
 
-attach-each : (w : World) (n : ℕ) (other : Bool) (ks : List ℕ) → TestsFit (attaching.attach_each w n other ks)
+attach-each : (w : World) (n : ℕ) (other : Bool) (ks : List ℕ) → TestsRefuse (attaching.attach_each w n other ks)
 attach-each w n other [] = tt
 attach-each w n other (k ∷ ks) = tests-joined (attaching.attach_tests w n other k) (attaching.attach_each w n true ks) (attach-one w n other k) (attach-each w n true ks)
 
-detach-one : (w : World) (n k : ℕ) → TestsFit (attaching.detach_tests w n k)
+detach-one : (w : World) (n k : ℕ) → TestsRefuse (attaching.detach_tests w n k)
 unfolding attaching.detach_tests
 detach-one w n k = (refl, tt)
 
-detach-each : (w : World) (n : ℕ) (ks : List ℕ) → TestsFit (attaching.detach_each w n ks)
+detach-each : (w : World) (n : ℕ) (ks : List ℕ) → TestsRefuse (attaching.detach_each w n ks)
 detach-each w n [] = tt
 detach-each w n (k ∷ ks) = tests-joined (attaching.detach_tests w n k) (attaching.detach_each w n ks) (detach-one w n k) (detach-each w n ks)
 
-listed : (w : World) (ks : List ℕ) → TestsFit (attaching.list_tests w ks)
+listed : (w : World) (ks : List ℕ) → TestsRefuse (attaching.list_tests w ks)
 unfolding attaching.list_tests
 listed w ks = (refl, (refl, tt))
 
