@@ -79,8 +79,9 @@ pub ring-box : (d : Host) (c : State) → Running d c → box d (rung d c) ≡ r
 unfolding box
 ring-box d c s = rw (rung-all d c (item (holds d)) s, placed-none d c (item (holds d)) ((c.fetched + in_flight d c) % 8)) refl
 
-pub ring-running : (d : Host) (c : State) → Running d c → Running d (rung d c)
-ring-running d c s =
+-- a lane with another next ticket, and with so many entries waiting
+pub still-running : (d : Host) (c : State) (next waiting : ℕ) → waiting ≤ in_flight d c → Running d c → Running (record d { next = next }) (record c { waiting = waiting })
+still-running d c next waiting few s =
     record {
       ready = s.ready;
       window = s.window;
@@ -89,7 +90,7 @@ ring-running d c s =
       fetched = s.fetched;
       consumed = s.consumed;
       posted = s.posted;
-      waiting = omega arith;
+      waiting = few;
       unheard = s.unheard;
       room = s.room;
       heads = s.heads;
@@ -99,6 +100,9 @@ ring-running d c s =
       held = s.held;
       suited = s.suited;
     }
+
+pub ring-running : (d : Host) (c : State) → Running d c → Running d (rung d c)
+ring-running d c s = still-running d c d.next (in_flight d c) (omega arith) s
 
 -- a lane whose driver stays
 pub same-up : (first : ℕ) (d : Host) (c c' : State) → Holds first d c → d.up ≡ true → Running d c' → Holds first d c'

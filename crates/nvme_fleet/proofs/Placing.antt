@@ -25,6 +25,7 @@ use Rattle.nvme_spec.specs.Bytes.{with_bytes}
 use Rattle.nvme_fleet.specs.Views.{Host, State, empty, box, Running, Resting, Holds, live_in, slot_at, total, holds, placed as placed_one, placed_state}
 use Rattle.nvme_fleet.proofs.Slots.{apart-set}
 use Rattle.nvme_fleet.proofs.Queues.{box-live}
+use Rattle.nvme_fleet.proofs.Fetches.{still-running}
 use Rattle.nvme_fleet.proofs.Places.{Places, bare, place-box, place-holds, age-later}
 use Rattle.nvme_driver.specs.declared.lane.Lane.{Lane}
 use Rattle.nvme_driver.specs.declared.lane.Lane.TheVariants.{Admin, Io}
@@ -251,27 +252,6 @@ one-place lane d c r h =
     }
 
 -- a lane whose driver has another next ticket
-later-running : (d : Host) (c : State) (n : ℕ) → Running d c → Running (record d { next = n }) c
-later-running d c n s =
-    record {
-      ready = s.ready;
-      window = s.window;
-      slots = s.slots;
-      put = s.put;
-      fetched = s.fetched;
-      consumed = s.consumed;
-      posted = s.posted;
-      waiting = s.waiting;
-      unheard = s.unheard;
-      room = s.room;
-      heads = s.heads;
-      of_lane = s.of_lane;
-      phases = s.phases;
-      carried = s.carried;
-      held = s.held;
-      suited = s.suited;
-    }
-
 later-resting : (d : Host) (c : State) (n : ℕ) → Resting d c → Resting (record d { next = n }) c
 later-resting d c n s = record { window = s.window; slots = s.slots; put = s.put; unheard = s.unheard; consumed = s.consumed; off = s.off; idle = s.idle }
 
@@ -281,7 +261,7 @@ later-holds first d c n l s =
       failed = s.failed;
       begun = omega (arith, s.begun, l);
       ages = λ k. age-later first d.next n (slot_at d.slots k).waiting l (s.ages k);
-      up = λ u. later-running d c n (s.up u);
+      up = λ u. (let r = s.up u in still-running d c n c.waiting r.waiting r);
       down = λ u. later-resting d c n (s.down u);
     }
 
