@@ -12,6 +12,5 @@ pub mod Secrecy
 pub mod Preempted
 pub mod Everywhere
 pub mod Placing
-pub mod Making
 pub mod Slots
 pub mod Posted

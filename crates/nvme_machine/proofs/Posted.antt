@@ -45,13 +45,12 @@ use Rattle.nvme_machine.specs.Placing.{IsPlaced}
 use Rattle.nvme_machine.specs.Posted.{IsUnread, PostedEntry, entry_address, StandsUnread, PostedIsUnread, Overlaps, is_touched, addresses_of, TakesByExecution, TakesByWrite, UnreadStands, UnreadStandsOverRuns}
 use Rattle.nvme_machine.proofs.Denials.{completion}
 use Rattle.nvme_machine.proofs.Everywhere.{step-keeps}
-use Rattle.nvme_machine.proofs.Making.{MakesNew, admin-makes-new, is-there}
 use Rattle.nvme_machine.proofs.Others.{marks-numbered, executed-at, others_change_in_marks_alone}
 use Rattle.nvme_machine.proofs.Placing.{keeps_placed, answer-window, change-suits, IsOpen, is-open, slot-inside, length-entry}
 use Rattle.nvme_machine.proofs.Preempted.{change-is}
 use Rattle.nvme_machine.proofs.Slots.{unread-next, posted-unread, untouched-take, scattered-apart, overlaps-or, stored-apart, stored-there}
-use Rattle.nvme_machine.proofs.Staying.{replaced-same, same_place, changing}
-use Rattle.nvme_machine.proofs.Wirings.{set-other, unused-at}
+use Rattle.nvme_machine.proofs.Staying.{replaced-same, same_place}
+use Rattle.nvme_machine.proofs.Wirings.{set-other, is-there, unused-at}
 
 -- it stands in the window of controller j
 abbrev Stands : PostedEntry → Option Controller → Type 0
@@ -273,25 +272,18 @@ posts i t p why first c e placed opened u = elim (same_place p.submission.cqid e
 
 -- The change of the queues.
 
-changes : (change : QueueChange) (queues : Queues) (c : Controller) (e : PostedEntry) → MakesNew queues change → has_completion_queue queues e.queue ≡ true → StandsUnread e c
+changes : (change : QueueChange) (queues : Queues) (c : Controller) (e : PostedEntry) → Suits queues change → has_completion_queue queues e.queue ≡ true → StandsUnread e c
     → StandsUnread e (after_queue_change change c) ⊎ (change ≡ DropCq e.queue)
 unfolding after_queue_change
-changes Keep queues c e new there u = inl u
-changes (MakeSq qid size at to) queues c e new there u = inl (over-window e c (after_queue_change (MakeSq qid size at to) c) refl refl u)
-changes (DropSq qid) queues c e new there u = inl (over-window e c (after_queue_change (DropSq qid) c) refl refl u)
-changes (MakeCq qid size at) queues c e new there u =
-    let other : e.queue ≢ qid = λ same. false≢true (sym new ∙ ap (has_completion_queue queues) (sym same) ∙ there) in
+changes Keep queues c e suits there u = inl u
+changes (MakeSq qid size at to) queues c e suits there u = inl (over-window e c (after_queue_change (MakeSq qid size at to) c) refl refl u)
+changes (DropSq qid) queues c e suits there u = inl (over-window e c (after_queue_change (DropSq qid) c) refl refl u)
+changes (MakeCq qid size at) queues c e suits there u =
+    let other : e.queue ≢ qid = λ same. false≢true (sym suits.2 ∙ ap (has_completion_queue queues) (sym same) ∙ there) in
     inl (record { found_in = u.found_in; at = set-other c.completion qid e.queue _ other ∙ u.at; base = u.base; unread = u.unread; stands = u.stands })
-changes (DropCq qid) queues c e new there u = elim (same_place qid e.queue) [
+changes (DropCq qid) queues c e suits there u = elim (same_place qid e.queue) [
   | inl same ↦ inr (ap DropCq same)
   | inr other ↦ inl (record { found_in = u.found_in; at = set-other c.completion qid e.queue None (λ same. other (sym same)) ∙ u.at; base = u.base; unread = u.unread; stands = u.stands })
-]
-
-change-makes-new : (tells : Bool) (w : World) (d : Device) (k : ℕ) (c : Controller) (t : FetchedCommand) (a : Answer) → Answers tells (queues_of c) k t (record { world = w; window = c.window; device = d }) a
-    → MakesNew (queues_of c) a.change
-change-makes-new tells w d k c t a h = elim (changing tells (record { world = w; window = c.window; device = d }) (queues_of c) k t a h) [
-  | inl keeps ↦ subst (MakesNew (queues_of c)) (sym keeps) tt
-  | inr command ↦ subst (MakesNew (queues_of c)) (sym command.1) (admin-makes-new w (queues_of c) k t.entry c.window)
 ]
 
 -- all of an execution
@@ -316,7 +308,7 @@ finishes tells s k i c t p a e room answers placed u = elim (cases_Bool (is_touc
       let bytes = data-apart tells s.world s.device k c t a e answers clear (inside-window e c placed u) in
       let here : StandsUnread e d = over-window e c d refl bytes u in
       elim (posts i t p a.outcome.status a.outcome.dw0 d e (placed-over c a.left.window size placed) opened here) [
-        | inl posted ↦ elim (changes a.change (queues_of c) (after_posting i t p a.outcome.status a.outcome.dw0 d) e (change-makes-new tells s.world s.device k c t a answers) (is-there c e.queue u.found_in u.at) posted) [
+        | inl posted ↦ elim (changes a.change (queues_of c) (after_posting i t p a.outcome.status a.outcome.dw0 d) e (change-suits tells s.world s.device k c t a answers) (is-there c.completion e.queue u.found_in u.at) posted) [
           | inl stands ↦ inl stands
           | inr drops ↦ inr (inr (inr (sym (change-is tells s k c t a answers) ∙ drops)))
         ]
@@ -459,7 +451,7 @@ posted_is_unread tells old new k i c t p outcome step waits placed =
     let entry = new-entry i t p a.outcome.status a.outcome.dw0 d (placed-over c a.left.window size whole) opened in
     let e : PostedEntry = record { queue = p.submission.cqid; base = p.completion.base; slot = slot_of p.completion.tail.size p.completion.tail.posted; bytes = completion_of t p a.outcome.status a.outcome.dw0 } in
     subst (λ (o : Outcome). Stands (record { queue = p.submission.cqid; base = p.completion.base; slot = slot_of p.completion.tail.size p.completion.tail.posted; bytes = completion_of t p o.status o.dw0 }) (controller_at new k)) same
-    (elim (changes a.change (queues_of c) (after_posting i t p a.outcome.status a.outcome.dw0 d) e (change-makes-new tells old.world old.device k c t a done.answers) (is-there c p.submission.cqid p.completion own.completion) entry) [
+    (elim (changes a.change (queues_of c) (after_posting i t p a.outcome.status a.outcome.dw0 d) e (change-suits tells old.world old.device k c t a done.answers) (is-there c.completion p.submission.cqid p.completion own.completion) entry) [
       | inl stands ↦ at-new old new k c i t p a e done.leaves waits.at stands
       | inr drops ↦ absurd (used c t p a own (change-suits tells old.world old.device k c t a done.answers) drops)
     ])

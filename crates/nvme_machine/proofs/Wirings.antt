@@ -60,6 +60,11 @@ exists-at (None ∷ xs) zero h = absurd (false≢true h)
 exists-at (Some x ∷ xs) zero h = (x, refl)
 exists-at (x ∷ xs) (suc q) h = exists-at xs q h
 
+pub is-there : {A : Type 0} (xs : List (Option A)) (q : ℕ) (x : A) → slice_index_or xs q None ≡ Some x → slice_index_or (map (λ (o : Option A). is_some o) xs) q false ≡ true
+is-there [] q x h = absurd (cc)
+is-there (o ∷ xs) zero x h = ap is_some h
+is-there (o ∷ xs) (suc q) x h = is-there xs q x h
+
 pub unused-at : (qid : ℕ) (xs : List (Option SubmissionQueue)) (q : ℕ) (s : SubmissionQueue)
     → list_any (completes_to qid) (map (λ (o : Option SubmissionQueue). option_map (λ (x : SubmissionQueue). x.cqid) o) xs) ≡ false → slice_index_or xs q None ≡ Some s → (s.cqid == qid) ≡ false
 unused-at qid [] q s h is = absurd (cc)

@@ -64,7 +64,8 @@ placed width e size base =
       inside = ltb-false _ _ q.0;
     }
 
-makes-completion : (queues : Queues) (e : List ℕ) → judgement_by (completion_queue_rule queues e) ≡ Ok tt → IsIoQueue (qid e) × IsQueuePlace (prp1 e) (queue_size e) 16
+makes-completion : (queues : Queues) (e : List ℕ) → judgement_by (completion_queue_rule queues e) ≡ Ok tt
+    → IsIoQueue (qid e) × IsQueuePlace (prp1 e) (queue_size e) 16 × (has_completion_queue queues (qid e) ≡ false)
 unfolding judgement_by completion_queue_rule
 makes-completion queues e h =
     let none = no-failure 6 _ h in
@@ -73,10 +74,10 @@ makes-completion queues e h =
     let b = next-test (is_foreign (qid e) || has_completion_queue queues (qid e)) status.invalid_queue_identifier (size_test e ∷ base_tests 16 e) a.1 in
     let c = next-test (nat_lt (queue_size e) 2 || nat_lt 64 (queue_size e)) status.invalid_queue_size (base_tests 16 e) b.1 in
     let two = neither (is_foreign (qid e)) _ b.0 in
-    (io-queue (qid e) two.0, placed 16 e c.0 c.1)
+    (io-queue (qid e) two.0, placed 16 e c.0 c.1, two.1)
 
 makes-submission : (queues : Queues) (e : List ℕ) → judgement_by (submission_queue_rule queues e) ≡ Ok tt
-    → IsIoQueue (qid e) × IsQueuePlace (prp1 e) (queue_size e) 64 × (has_completion_queue queues (cqid e) ≡ true)
+    → IsIoQueue (qid e) × IsQueuePlace (prp1 e) (queue_size e) 64 × (has_completion_queue queues (cqid e) ≡ true) × (has_submission_queue queues (qid e) ≡ false)
 unfolding judgement_by submission_queue_rule
 makes-submission queues e h =
     let none = no-failure 6 _ h in
@@ -89,7 +90,7 @@ makes-submission queues e h =
     let d = next-test (is_foreign (cqid e)) status.invalid_queue_identifier last c.1 in
     let f = next-test (not (has_completion_queue queues (cqid e))) status.completion_queue_invalid (base_tests 64 e) d.1 in
     let two = neither (is_foreign (qid e)) _ b.0 in
-    (io-queue (qid e) two.0, placed 64 e c.0 f.1, not_false _ f.0)
+    (io-queue (qid e) two.0, placed 64 e c.0 f.1, not_false _ f.0, two.1)
 
 deletes-submission : (queues : Queues) (e : List ℕ) → judgement_by (submission_deletion_rule queues e) ≡ Ok tt → (1 ≤ qid e) × (has_submission_queue queues (qid e) ≡ true)
 unfolding judgement_by submission_deletion_rule

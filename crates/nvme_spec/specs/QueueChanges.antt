@@ -13,13 +13,14 @@ use Rattle.nvme_spec.specs.AdminEffects.{admin_execution}
 abbrev pub IsIoQueue : ℕ → Type 0
 IsIoQueue qid = (1 ≤ qid) × (qid ≤ 4)
 
--- A new queue lies in host memory, and a submission queue's completion queue exists; what is deleted exists, and a
--- completion queue has no submission queue left.
+-- A new queue lies in host memory and has an identifier that no queue of its kind has, and a submission queue's completion
+-- queue exists; what is deleted exists, and a completion queue has no submission queue left.
 abbrev pub Suits : Queues → QueueChange → Type 0
 Suits queues Keep = Unit {0}
-Suits queues (MakeCq qid size base) = IsIoQueue qid × IsQueuePlace base size 16
+Suits queues (MakeCq qid size base) = IsIoQueue qid × IsQueuePlace base size 16 × (has_completion_queue queues qid ≡ false)
 Suits queues (MakeSq qid size base cqid) =
     IsIoQueue qid × IsQueuePlace base size 64 × (has_completion_queue queues cqid ≡ true)
+    × (has_submission_queue queues qid ≡ false)
 Suits queues (DropCq qid) = (1 ≤ qid) × (has_completion_queue queues qid ≡ true) × (is_used queues qid ≡ false)
 Suits queues (DropSq qid) = (1 ≤ qid) × (has_submission_queue queues qid ≡ true)
 
