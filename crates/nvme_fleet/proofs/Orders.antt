@@ -261,11 +261,11 @@ pending-abort (None ∷ xs) zero = refl
 pending-abort (Some p ∷ xs) zero = refl
 pending-abort (x ∷ xs) (suc k) = pending-abort xs k
 
-abort-idle : (o : Option Waiting) → live_waiting (abort o) ≡ 0
+pub abort-idle : (o : Option Waiting) → live_waiting (abort o) ≡ 0
 abort-idle None = refl
 abort-idle (Some p) = refl
 
-abort-age : (first next : ℕ) (o : Option Waiting) → AgeIn first next o → AgeIn next next (abort o)
+pub abort-age : (first next : ℕ) (o : Option Waiting) → AgeIn first next o → AgeIn next next (abort o)
 abort-age first next None h = tt
 abort-age first next (Some p) h = (h.1, h.1)
 
@@ -275,7 +275,7 @@ idle-aborted slots k = rw (pending-abort slots k) (abort-idle (waiting_at slots 
 pub ages-aborted : (first next : ℕ) (slots : List (Option Waiting)) → Ages first next slots → Ages next next (map abort slots)
 ages-aborted first next slots a k = rw (pending-abort slots k) (abort-age first next _ (a k))
 
-idle-age : (first next : ℕ) (o : Option Waiting) → live_waiting o ≡ 0 → AgeIn first next o → AgeIn next next o
+pub idle-age : (first next : ℕ) (o : Option Waiting) → live_waiting o ≡ 0 → AgeIn first next o → AgeIn next next o
 idle-age first next None l h = tt
 idle-age first next (Some p) l h =
     elim (cases_Bool p.live) [

@@ -53,7 +53,7 @@ bytes-in Io w n =
     let e : 0x3000 + 16 * (n % 32) ≡ 0x2000 + (4096 + 16 * (n % 32)) = omega arith in
     ap (λ m. take m (drop (0x3000 + 16 * (n % 32)) w)) k ∙ ap (λ m. take 16 (drop m w)) e ∙ sym (part-in w 0x2000 (4096 + 16 * (n % 32)) 16 (omega arith))
 
-tag-is : (n : ℕ) → n < 64 → phase_tag 32 n ≡ phase_of n
+pub tag-is : (n : ℕ) → n < 64 → phase_tag 32 n ≡ phase_of n
 tag-is n h = elim (cases_lt n 32) [
   | inl l ↦
       let a : n / 32 % 2 ≡ 0 = omega (arith, l) in

@@ -1,6 +1,6 @@
 -- An answer that is posted stands at the end of its lane in the mailbox.
-use Rattle.std.proofs.Common.{◌≡◌, ℕ, zero, suc, ◌+◌, ◌-◌, ◌*◌, ◌/◌, ◌%◌, ◌<◌, ◌≤◌, nat_lt, true, List, [], ◌∷◌, length, map, None, Some, refl, sym, ap, subst, ◌∙◌, arith, inl, inr, slice_get}
-use Rattle.std.proofs.lemmas.Bool.{cases_Bool, cases_lt, lt-ltb, le-ltb}
+use Rattle.std.proofs.Common.{◌≡◌, ℕ, zero, suc, ◌+◌, ◌-◌, ◌*◌, ◌%◌, ◌<◌, ◌≤◌, nat_lt, true, List, [], ◌∷◌, length, map, None, Some, refl, sym, ap, subst, ◌∙◌, arith, inl, inr, slice_get}
+use Rattle.std.proofs.lemmas.Bool.{cases_Bool, lt-ltb}
 use Rattle.std.proofs.lemmas.Option.{slice_get-map}
 use Rattle.std.specs.Prelude.{remove}
 use Rattle.std.specs.Option.{option_map}
@@ -26,6 +26,7 @@ use Rattle.nvme_fleet.specs.Views.{Effect, Slot, slot_at, item_in, phase_of, fin
 use Rattle.nvme_fleet.specs.Lanes.{DeviceSide, DeviceEnds, Both, mail, pair, next_pair, state, slots_in, whole, held_by, fetched_by, executed_at, base}
 use Rattle.nvme_fleet.specs.Sound.{Sound, IsPaired, IsOfLane, host_side, device_side, mailbox, taken_by, lane_of_queue, submission_as, completion_as}
 use Rattle.nvme_fleet.specs.Steps.{PostingIsAStep, PostingHasRoom, NothingToExecute, response_with}
+use Rattle.nvme_fleet.proofs.PollStep.{tag-is}
 use Rattle.nvme_fleet.proofs.Totals.{map-removed}
 use Rattle.nvme_fleet.proofs.Places.{no-way}
 use Rattle.nvme_fleet.proofs.Linking.{of, submission-is, completion-is, pair-is}
@@ -131,18 +132,6 @@ fields_of t p a = record {
   phase = phase_tag p.completion.tail.size p.completion.tail.posted;
   status = a.outcome.status;
 }
-
-tag-is : (n : ℕ) → n < 64 → phase_tag 32 n ≡ phase_of n
-tag-is n h = elim (cases_lt n 32) [
-  | inl l ↦
-      let a : n / 32 % 2 ≡ 0 = omega (arith, l) in
-      let b : n % 64 ≡ n = omega (arith, l) in
-      rw (a, b, lt-ltb n 32 l) refl
-  | inr g ↦
-      let a : n / 32 % 2 ≡ 1 = omega (arith, g, h) in
-      let b : n % 64 ≡ n = omega (arith, h) in
-      rw (a, b, le-ltb n 32 g) refl
-]
 
 -- its fields, by the lane's counts
 abbrev made : Answer → FetchedCommand → ℕ → DeviceEnds → Completion

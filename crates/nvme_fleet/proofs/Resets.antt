@@ -1,15 +1,14 @@
-use Rattle.nvme_driver.specs.Drivers.{abort}
-use Rattle.std.proofs.Common.{◌≡◌, ℕ, ◌+◌, ◌-◌, ◌%◌, ◌<◌, ◌≤◌, List, [], ◌∷◌, length, map, refl, ap, ◌∙◌, arith, zero, suc, false, Option, Some, None, inl, inr}
+use Rattle.std.proofs.Common.{◌≡◌, ℕ, ◌+◌, ◌-◌, ◌%◌, ◌<◌, ◌≤◌, List, [], ◌∷◌, length, map, refl, ap, ◌∙◌, arith, zero, suc, false, inl, inr}
 use Rattle.std.proofs.lemmas.List.{length-map}
 use Rattle.std.proofs.lemmas.Bool.{cases_Bool}
 use Rattle.nvme_wire.specs.Submission.{cid}
 use Rattle.nvme_fleet.specs.Mailboxes.{Item, PostedAnswer}
 use Rattle.nvme_wire.specs.Completion.{Completion}
-use Rattle.nvme_driver.specs.declared.slots.Waiting.{Waiting}
-use Rattle.nvme_fleet.specs.Views.{Host, State, Slot, slot_at, abort_slot, reset, off, box, item, item_in, answers, ticket_in, in_flight, commands, commands_of, unread, live_waiting, Carried, Running, Resting, Holds, AgeIn}
+use Rattle.nvme_fleet.specs.Views.{Host, State, Slot, slot_at, abort_slot, reset, off, box, item, item_in, answers, ticket_in, in_flight, commands, commands_of, unread, Carried, Running, Resting, Holds}
 use Rattle.nvme_fleet.proofs.Totals.{total-append}
 use Rattle.nvme_fleet.proofs.Queues.{commands-append}
 use Rattle.nvme_fleet.proofs.Empties.{bare-off}
+use Rattle.nvme_fleet.proofs.Orders.{abort-idle, abort-age}
 use Rattle.nvme_fleet.proofs.Places.{no-way, Bare}
 use Rattle.nvme_fleet.specs.Views.{bears}
 
@@ -17,14 +16,6 @@ slot-abort : (slots : List Slot) (k : ℕ) → slot_at (map abort_slot slots) k 
 slot-abort [] k = refl
 slot-abort (x ∷ xs) zero = refl
 slot-abort (x ∷ xs) (suc k) = slot-abort xs k
-
-abort-idle : (o : Option Waiting) → live_waiting (abort o) ≡ 0
-abort-idle None = refl
-abort-idle (Some p) = refl
-
-abort-age : (first next : ℕ) (o : Option Waiting) → AgeIn first next o → AgeIn next next (abort o)
-abort-age first next None h = tt
-abort-age first next (Some p) h = (h.1, h.1)
 
 window-of : (first : ℕ) (d : Host) (c : State) → Holds first d c → length c.window ≡ 8192
 window-of first d c s = elim (cases_Bool d.up) [

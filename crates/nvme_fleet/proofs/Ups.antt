@@ -1,18 +1,18 @@
-use Rattle.std.proofs.Common.{◌≡◌, ℕ, ◌+◌, ◌-◌, ◌*◌, ◌%◌, ◌<◌, ◌≤◌, List, [], ◌∷◌, ◌++◌, length, refl, ap, sym, ◌∙◌, arith, suc, true, false, not, cond, eqb, Bool, Option, Some, None, inl, inr, take, drop, get_or, subst, length-drop}
+use Rattle.std.proofs.Common.{◌≡◌, ℕ, ◌+◌, ◌-◌, ◌*◌, ◌%◌, ◌<◌, ◌≤◌, List, [], ◌∷◌, ◌++◌, length, refl, ap, sym, ◌∙◌, arith, suc, true, false, not, cond, eqb, Bool, Some, None, inl, inr, take, drop, get_or, subst, length-drop}
 use Rattle.std.proofs.lemmas.List.{get_or-take, get_or-drop, get_or-append-add, get_or-replicate, length-replicate, length-take-le, length-append, same_lists}
 use Rattle.std.proofs.Math.ListN.{get_or-append}
-use Rattle.std.proofs.lemmas.Bool.{cases_Bool, cases_lt, le-ltb, ne_eqb}
+use Rattle.std.proofs.lemmas.Bool.{cases_lt, le-ltb, ne_eqb}
 use Rattle.std.proofs.lemmas.Grind.{common_steps}
 use Rattle.std.specs.Prelude.{nat_lt, replicate}
 use Rattle.nvme_spec.specs.Bytes.{with_bytes}
 use Rattle.nvme_driver.specs.Layout.{queue_id}
 use Rattle.nvme_wire.specs.Completion.{completion_of, phase}
-use Rattle.nvme_driver.specs.declared.slots.Waiting.{Waiting}
-use Rattle.nvme_fleet.specs.Views.{AreOf, completion_bytes, phase_of, command_at, Host, State, Slot, slot_at, zeros, fresh_host, fresh_state, own_host, own_state, in_flight, commands, completions, commands_of, answers_of, unread, heard, steps, since, last_head, total, odd, holds, live_waiting, live_in, live_at, AgeIn, Heads, Phases, Running, Resting, Holds, next_completion, box}
+use Rattle.nvme_fleet.specs.Views.{AreOf, completion_bytes, phase_of, command_at, Host, State, Slot, slot_at, zeros, fresh_host, fresh_state, own_host, own_state, in_flight, commands, completions, commands_of, answers_of, unread, heard, steps, since, last_head, total, odd, holds, live_in, live_at, Heads, Phases, Running, Resting, Holds, next_completion, box}
 use Rattle.nvme_fleet.proofs.Windows.{stored-length}
 use Rattle.nvme_fleet.proofs.Keeps.{Enters, enters, Answers, answered}
 use Rattle.nvme_fleet.proofs.Queues.{same-entry, same-turn}
 use Rattle.nvme_fleet.proofs.Places.{no-way}
+use Rattle.nvme_fleet.proofs.Orders.{idle-age}
 
 -- a lane that is up, where nothing is on its way
 pub record Quiet (d : Host) (c : State) : Type 0 where
@@ -227,14 +227,6 @@ fresh-quiet d c r =
       phases = fresh-phases d c r.window;
       idle = r.idle;
     }
-
-idle-age : (first next : ℕ) (o : Option Waiting) → live_waiting o ≡ 0 → AgeIn first next o → AgeIn next next o
-idle-age first next None l h = tt
-idle-age first next (Some p) l h =
-    elim (cases_Bool p.live) [
-      | inl t ↦ let b : live_waiting (Some p) ≡ 1 = ap (λ b. cond {A = ℕ} b 1 0) t in let z : ⊥ = omega (arith, b, l) in absurd z
-      | inr t ↦ rw t (h.1, h.1)
-    ]
 
 -- a lane that has come up holds
 pub risen-holds : (first : ℕ) (d d' : Host) (c c' : State) → Holds first d c → Resting d c → d'.up ≡ true → d'.failed ≡ d.failed → d'.next ≡ d.next → d'.slots ≡ d.slots → Quiet d' c' → Holds d.next d' c'
