@@ -61,7 +61,7 @@ reacts old k i c d f seen h found is =
       ap (λ cs. record old { controllers = cs }) (sym (replaced-at old.controllers k i d h) ∙ ap (λ (r : Reaction). replaced old.controllers k r.controller) (sym is)),
     )
 
-set-same : (cs : List Controller) (i : ℕ) (c : Controller) → slice_get cs i ≡ Some c → slice_set cs i c ≡ cs
+pub set-same : (cs : List Controller) (i : ℕ) (c : Controller) → slice_get cs i ≡ Some c → slice_set cs i c ≡ cs
 set-same [] i c e = absurd (cc)
 set-same (x ∷ cs) zero c e = let same : x ≡ c = cc in ap (λ y. y ∷ cs) (sym same)
 set-same (x ∷ cs) (suc i) c e = ap (λ ys. x ∷ ys) (set-same cs i c e)
@@ -128,5 +128,5 @@ executes tells old k place c i x s at found named h =
     (one (slice_get c.fetched i) tells old k place c i x s at found named h)
 
 -- what a `Vec` has after a slice of all its elements was lent
-pub refill-all : (n : ℕ) (xs ws : List Controller) → n ≡ length ws → take n (ws ++ drop (length ws) xs) ≡ ws
+pub refill-all : {A : Type 0} (n : ℕ) (xs ws : List A) → n ≡ length ws → take n (ws ++ drop (length ws) xs) ≡ ws
 refill-all n xs ws long = grind (arith, common_steps)

@@ -156,7 +156,7 @@ sound-set w size cs i c d found same s = record {
   known = s.known;
 }
 
-length-after : (w : World) (x : Executed) (cs : List Controller) → length (marks_after w x cs) ≡ length cs
+pub length-after : (w : World) (x : Executed) (cs : List Controller) → length (marks_after w x cs) ≡ length cs
 length-after w (Posted o) cs = length-marked w o.marks 1 cs
 length-after w NoSuch cs = refl
 length-after w CqFull cs = refl

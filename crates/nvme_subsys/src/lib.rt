@@ -7,8 +7,9 @@ mod opening;
 mod reacting;
 mod subsystem;
 
+pub use marking::mark_after;
 pub use nvme_machine::{Event, Executed, Fetched, Seen};
-pub use opening::NewFault;
+pub use opening::{NewFault, controllers_of};
 pub use subsystem::Subsystem;
 
 #[cfg(test)]
