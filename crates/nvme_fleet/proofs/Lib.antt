@@ -52,6 +52,14 @@ pub mod TurnStep
 pub mod RiseStep
 pub mod FleetStep
 pub mod RiseLink
+pub mod LinkOthers
+pub mod Seating
 pub mod Members
-pub mod Opening
+pub mod SoundOpening
 pub mod LinkedStep
+pub mod Hosting
+pub mod Hosted
+pub mod HostedExecutions
+pub mod FleetSound
+pub mod FleetCalls
+pub mod FleetOpening

@@ -21,28 +21,31 @@ use Rattle.nvme_machine.specs.Executing.{Setting}
 use Rattle.nvme_fleet.specs.declared.seen.FleetSeen.TheVariants.{Placed, Polled}
 use Rattle.nvme_fleet.specs.Deliveries as mail
 use Rattle.nvme_fleet.specs.Deliveries.{Reply, Reaction}
-use Rattle.nvme_fleet.specs.Linked.{Linked}
+use Rattle.nvme_fleet.specs.Linked.{Linked, linked_controller, linked_setting}
 use Rattle.nvme_fleet.specs.Links.{with_controller}
 use Rattle.nvme_fleet.specs.Sound.{Sound, mailbox}
 use Rattle.nvme_fleet.specs.Steps.{IsStep, after_calls}
-use Rattle.nvme_fleet.proofs.StartStep.{IsPlain, calls-are}
+use Rattle.nvme_fleet.proofs.StartStep.{IsPlain, calls-are, calls-id}
+use Rattle.nvme_fleet.proofs.LinkOthers.{Stays, calls-stay, stays-same}
 use Rattle.nvme_fleet.proofs.RiseLink.{step_of, settings}
 use Rattle.nvme_fleet.proofs.PlaceStep.{place_is_a_step, refusal_is_a_step}
 use Rattle.nvme_fleet.proofs.PollStep.{poll_is_a_step}
 
 port-calls : (tells : Bool) (calls : List Call) (p q : Linked) → IsPlain calls → Calls (step_of tells) p calls q
-    → q.setting ≡ with_controller p.setting (after_calls calls p.setting.controller)
-port-calls tells calls p q plain h = calls-are tells calls p.setting q.setting plain (settings tells calls p q h)
+    → (linked_setting q) ≡ with_controller (linked_setting p) (after_calls calls (linked_controller p))
+port-calls tells calls p q plain h = calls-are tells calls (linked_setting p) (linked_setting q) plain (settings tells calls p q h)
 
 -- The driver's and the controller's part of a step, and what else the port is over.
 pub record IsLinkedStep (r : Reaction) (d : Driver) (old new : Setting) (reply : Reply) : Type 0 where
   pub step : IsStep r d new.controller reply
+  pub cntlid : new.controller.cntlid ≡ old.controller.cntlid
   pub world : new.world ≡ old.world
   pub device : new.device ≡ old.device
 
-linked-step : (r : Reaction) (d d' : Driver) (old new : Setting) (c : Controller) (a b : Reply) → new ≡ with_controller old c → d' ≡ d → b ≡ a
+linked-step : (r : Reaction) (d d' : Driver) (old new : Setting) (c : Controller) (a b : Reply) → new ≡ with_controller old c → c.cntlid ≡ old.controller.cntlid → d' ≡ d → b ≡ a
     → IsStep r d c a → IsLinkedStep r d' old new b
-linked-step r d d' old new c a b n e f s = record {
+linked-step r d d' old new c a b n k e f s = record {
+  cntlid = ap (λ (x : Setting). x.controller.cntlid) n ∙ k;
   step = subst (λ (x : Setting). IsStep r d' x.controller b) (sym n) (subst (λ x. IsStep r x c b) (sym e) (subst (IsStep r d c) (sym f) s));
   world = ap (λ (x : Setting). x.world) n;
   device = ap (λ (x : Setting). x.device) n;
@@ -71,17 +74,17 @@ pub record IsHandedUp (d d' : Driver) (old new : Setting) (result : Result (Opti
       (record { seen = Polled result; bytes = (mail.polled (mailbox d old.controller)).reply.bytes })
   pub front : take (length (mail.polled (mailbox d old.controller)).reply.bytes) buffer ≡ (mail.polled (mailbox d old.controller)).reply.bytes
 
-pub hands-up : (tells : Bool) (d d' : Driver) (p q : Linked) (result : Result (Option Answer) PollFault) (buffer : List ℕ) → Sound d p.setting.controller
-    → poll.IsPolled (step_of tells) d p.setting.controller.window p result d' q buffer
-    → IsHandedUp d d' p.setting q.setting result buffer
+pub hands-up : (tells : Bool) (d d' : Driver) (p q : Linked) (result : Result (Option Answer) PollFault) (buffer : List ℕ) → Sound d (linked_controller p)
+    → poll.IsPolled (step_of tells) d (linked_controller p).window p result d' q buffer
+    → IsHandedUp d d' (linked_setting p) (linked_setting q) result buffer
 hands-up tells d d' p q result buffer s (oldest, is-oldest, gives, after, calls, front) =
-    let k = poll_is_a_step d p.setting.controller oldest s is-oldest in
-    let b : (mail.polled (mailbox d p.setting.controller)).reply.bytes ≡ (poll.polled d oldest p.setting.controller.window).bytes = ap (λ (x : Reply). x.bytes) k.gives in
-    let n = port-calls tells (poll.polled d oldest p.setting.controller.window).calls p q (plain-polled d oldest p.setting.controller.window) calls in
+    let k = poll_is_a_step d (linked_controller p) oldest s is-oldest in
+    let b : (mail.polled (mailbox d (linked_controller p))).reply.bytes ≡ (poll.polled d oldest (linked_controller p).window).bytes = ap (λ (x : Reply). x.bytes) k.gives in
+    let n = port-calls tells (poll.polled d oldest (linked_controller p).window).calls p q (plain-polled d oldest (linked_controller p).window) calls in
     record {
-      linked = linked-step (mail.polled (mailbox d p.setting.controller)) (poll.polled d oldest p.setting.controller.window).driver d' p.setting q.setting _
-          (record { seen = Polled (poll.polled d oldest p.setting.controller.window).answer; bytes = (poll.polled d oldest p.setting.controller.window).bytes })
-          _ n after (λ i. record { seen = Polled (gives i); bytes = b i }) k;
+      linked = linked-step (mail.polled (mailbox d (linked_controller p))) (poll.polled d oldest (linked_controller p).window).driver d' (linked_setting p) (linked_setting q) _
+          (record { seen = Polled (poll.polled d oldest (linked_controller p).window).answer; bytes = (poll.polled d oldest (linked_controller p).window).bytes })
+          _ n (calls-id (poll.polled d oldest (linked_controller p).window).calls (linked_controller p)) after (λ i. record { seen = Polled (gives i); bytes = b i }) k;
       front = subst (λ xs. take (length xs) buffer ≡ xs) (sym b) front;
     }
 
@@ -90,21 +93,32 @@ abbrev slot_in : Option ℕ → ℕ
 slot_in None = 0
 slot_in (Some slot) = slot
 
-pub places : (tells : Bool) (d d' : Driver) (p q : Linked) (request : Request) (result : Result Ticket PlaceRefusal) → Sound d p.setting.controller
+pub places : (tells : Bool) (d d' : Driver) (p q : Linked) (request : Request) (result : Result Ticket PlaceRefusal) → Sound d (linked_controller p)
     → IfErr result (λ why. driver.place_refusal d request ≡ Some why) → OnErr result ((d' ≡ d) × (q ≡ p))
     → IfOk result (λ ticket. (driver.place_refusal d request ≡ None) × (ticket ≡ record { 0 = d.next }))
     → OnOk result (driver.IsPlaced (step_of tells) d request p d' q)
-    → OnOk result (driver.HoldsItsRequest d p.setting.controller.window q.setting.controller.window request)
-    → IsLinkedStep (mail.placed (mailbox d p.setting.controller) request) d' p.setting q.setting (mail.plain (Placed result))
+    → OnOk result (driver.HoldsItsRequest d (linked_controller p).window (linked_controller q).window request)
+    → IsLinkedStep (mail.placed (mailbox d (linked_controller p)) request) d' (linked_setting p) (linked_setting q) (mail.plain (Placed result))
 places tells d d' p q request (Err why) s refused unchanged taken put holds =
-    linked-step (mail.placed (mailbox d p.setting.controller) request) d d' p.setting q.setting p.setting.controller
-    (mail.plain (Placed (Err why))) _ (ap (λ (x : Linked). x.setting) unchanged.1) unchanged.0 refl
-    (refusal_is_a_step d p.setting.controller request why s refused)
+    linked-step (mail.placed (mailbox d (linked_controller p)) request) d d' (linked_setting p) (linked_setting q) (linked_controller p)
+    (mail.plain (Placed (Err why))) _ (ap linked_setting unchanged.1) refl unchanged.0 refl
+    (refusal_is_a_step d (linked_controller p) request why s refused)
 places tells d d' p q request (Ok ticket) s refused unchanged taken (slot, free, after, calls) (other, same, held) =
     let e : other ≡ slot = ap slot_in (sym same ∙ free) in
     let says : submission_of (driver.entry_of request slot) ≡ driver.entry_fields (asked_of request) slot =
     subst (λ k. submission_of (driver.entry_of request k) ≡ driver.entry_fields (asked_of request) k) e held.says in
     let n = port-calls tells (driver.stores_of d request slot) p q tt calls in
-    linked-step (mail.placed (mailbox d p.setting.controller) request) (driver.placed d request slot) d' p.setting q.setting _
-    (mail.plain (Placed (Ok (record { 0 = d.next })))) _ n after (ap (λ t. mail.plain (Placed (Ok t))) taken.1)
-    (place_is_a_step d p.setting.controller request slot s taken.0 free says)
+    linked-step (mail.placed (mailbox d (linked_controller p)) request) (driver.placed d request slot) d' (linked_setting p) (linked_setting q) _
+    (mail.plain (Placed (Ok (record { 0 = d.next })))) _ n (calls-id (driver.stores_of d request slot) (linked_controller p)) after (ap (λ t. mail.plain (Placed (Ok t))) taken.1)
+    (place_is_a_step d (linked_controller p) request slot s taken.0 free says)
+
+-- All other controllers stay as they are.
+pub places-stay : (tells : Bool) (d d' : Driver) (p q : Linked) (request : Request) (result : Result Ticket PlaceRefusal) → OnErr result ((d' ≡ d) × (q ≡ p))
+    → OnOk result (driver.IsPlaced (step_of tells) d request p d' q) → Stays p q
+places-stay tells d d' p q request (Err why) unchanged put = stays-same p q unchanged.1
+places-stay tells d d' p q request (Ok ticket) unchanged (slot, free, after, calls) = calls-stay tells (driver.stores_of d request slot) p q calls
+
+pub polls-stay : (tells : Bool) (d d' : Driver) (p q : Linked) (result : Result (Option Answer) PollFault) (buffer : List ℕ)
+    → poll.IsPolled (step_of tells) d (linked_controller p).window p result d' q buffer → Stays p q
+polls-stay tells d d' p q result buffer (oldest, is-oldest, gives, after, calls, front) =
+    calls-stay tells (poll.polled d oldest (linked_controller p).window).calls p q calls

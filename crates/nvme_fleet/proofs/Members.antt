@@ -10,32 +10,42 @@ use Rattle.nvme_driver.specs.declared.faults.NotUp.{NotUp}
 use Rattle.nvme_driver.specs.Calls.{Call, Writes, Calls}
 use Rattle.nvme_driver.specs.Drivers.{Driver, is_up, is_down, ring_calls, reset_calls, after_reset}
 use Rattle.nvme_driver.specs.Rises.{Rises}
+use Rattle.std.specs.Borrow.{GName}
 use Rattle.nvme_machine.specs.Executing.{Setting}
 use Rattle.nvme_fleet.specs.declared.seen.FleetSeen.TheVariants as seen
 use Rattle.nvme_fleet.specs.Mailboxes.{Mailbox}
 use Rattle.nvme_fleet.specs.Deliveries.{Reaction, brought_up, rung, reset, plain}
 use Rattle.nvme_fleet.specs.Sound.{Sound, is_failed, mailbox}
 use Rattle.nvme_fleet.specs.Steps.{IsStep, after_calls, rung_reply}
-use Rattle.nvme_fleet.specs.Linked.{Linked, KeepsSite}
-use Rattle.nvme_fleet.proofs.StartStep.{IsPlain, calls-are}
+use Rattle.nvme_fleet.specs.Linked.{Linked, KeepsSite, linked_controller, linked_setting}
+use Rattle.nvme_fleet.proofs.StartStep.{IsPlain, calls-are, calls-id}
+use Rattle.nvme_fleet.proofs.LinkOthers.{Stays, calls-stay, rises-stay, stays-same}
 use Rattle.nvme_fleet.proofs.RiseLink.{step_of, bytes_of, settings, rises-in}
 use Rattle.nvme_fleet.proofs.Places.{no-way}
 use Rattle.nvme_fleet.proofs.RiseStep.{bring_up_is_a_step}
 use Rattle.nvme_fleet.proofs.RingStep.{ring_is_a_step}
 use Rattle.nvme_fleet.proofs.ResetStep.{reset_is_a_step}
 
-pub site-kept : (tells : Bool) (calls : List Call) (old new : Linked) → IsPlain calls → Calls (step_of tells) old calls new → new.names ≡ old.names → KeepsSite old new
-site-kept tells calls old new p h n =
-    let e = calls-are tells calls old.setting new.setting p (settings tells calls old new h) in
-    record { world = ap (λ (s : Setting). s.world) e; device = ap (λ (s : Setting). s.device) e; names = n }
+pub same-name : (a b : GName) → a ∷ [] ≡ b ∷ [] → a ≡ b
+same-name a b h = ap (first a) h
+  where
+    first : GName → List GName → GName
+    first x [] = x
+    first x (y ∷ ys) = y
 
-pub controller-is : (tells : Bool) (calls : List Call) (old new : Linked) → IsPlain calls → Calls (step_of tells) old calls new → after_calls calls old.setting.controller ≡ new.setting.controller
-controller-is tells calls old new p h = sym (ap (λ (s : Setting). s.controller) (calls-are tells calls old.setting new.setting p (settings tells calls old new h)))
+pub site-kept : (tells : Bool) (calls : List Call) (old new : Linked) → IsPlain calls → Calls (step_of tells) old calls new → new.name ∷ [] ≡ old.name ∷ [] → KeepsSite old new
+site-kept tells calls old new p h n =
+    let e = calls-are tells calls (linked_setting old) (linked_setting new) p (settings tells calls old new h) in
+    let k = calls-stay tells calls old new h in
+    record { cntlid = ap (λ (s : Setting). s.controller.cntlid) e ∙ calls-id calls (linked_controller old); world = ap (λ (s : Setting). s.world) e; device = ap (λ (s : Setting). s.device) e; others = k.others; place = k.place; name = same-name new.name old.name n }
+
+pub controller-is : (tells : Bool) (calls : List Call) (old new : Linked) → IsPlain calls → Calls (step_of tells) old calls new → after_calls calls (linked_controller old) ≡ (linked_controller new)
+controller-is tells calls old new p h = sym (ap (λ (s : Setting). s.controller) (calls-are tells calls (linked_setting old) (linked_setting new) p (settings tells calls old new h)))
 
 -- Resetting.
-pub reset-step : (tells : Bool) (d d' : Driver) (old new : Linked) → Sound d old.setting.controller → d' ≡ after_reset d → Calls (step_of tells) old reset_calls new
-    → IsStep (reset (mailbox d old.setting.controller)) d' new.setting.controller (plain seen.Reset)
-reset-step tells d d' old new s e h = rw (e, ← controller-is tells reset_calls old new tt h) (reset_is_a_step d old.setting.controller s)
+pub reset-step : (tells : Bool) (d d' : Driver) (old new : Linked) → Sound d (linked_controller old) → d' ≡ after_reset d → Calls (step_of tells) old reset_calls new
+    → IsStep (reset (mailbox d (linked_controller old))) d' (linked_controller new) (plain seen.Reset)
+reset-step tells d d' old new s e h = rw (e, ← controller-is tells reset_calls old new tt h) (reset_is_a_step d (linked_controller old) s)
 
 -- Ringing.
 plain-ring : (b : Bool) (x y : ℕ) (u v : ℕ) → IsPlain (if b then Writes x u ∷ Writes y v ∷ [] else [])
@@ -46,21 +56,23 @@ rung-as : (result : Result (Unit {0}) NotUp) (b : Bool) → is_ok result ≡ b �
 rung-as (Ok u) b h = ap rung_reply (sym h)
 rung-as (Err e) b h = ap rung_reply (sym h)
 
-pub ring-step : (tells : Bool) (d d' : Driver) (old new : Linked) (result : Result (Unit {0}) NotUp) → Sound d old.setting.controller → d' ≡ d → is_ok result ≡ is_up d.state
-    → Calls (step_of tells) old (ring_calls d) new → IsStep (rung (mailbox d old.setting.controller)) d' new.setting.controller (plain (seen.Rung result))
+pub ring-step : (tells : Bool) (d d' : Driver) (old new : Linked) (result : Result (Unit {0}) NotUp) → Sound d (linked_controller old) → d' ≡ d → is_ok result ≡ is_up d.state
+    → Calls (step_of tells) old (ring_calls d) new → IsStep (rung (mailbox d (linked_controller old))) d' (linked_controller new) (plain (seen.Rung result))
 ring-step tells d d' old new result s e r h =
-    rw (e, ← controller-is tells (ring_calls d) old new (plain-ring (is_up d.state) _ _ _ _) h, ← rung-as result (is_up d.state) r) (ring_is_a_step d old.setting.controller s)
+    rw (e, ← controller-is tells (ring_calls d) old new (plain-ring (is_up d.state) _ _ _ _) h, ← rung-as result (is_up d.state) r) (ring_is_a_step d (linked_controller old) s)
 
-pub ring-site : (tells : Bool) (d : Driver) (old new : Linked) → Calls (step_of tells) old (ring_calls d) new → new.names ≡ old.names → KeepsSite old new
+pub ring-site : (tells : Bool) (d : Driver) (old new : Linked) → Calls (step_of tells) old (ring_calls d) new → new.name ∷ [] ≡ old.name ∷ [] → KeepsSite old new
 ring-site tells d old new h n = site-kept tells (ring_calls d) old new (plain-ring (is_up d.state) _ _ _ _) h n
 
 -- Bringing up.
 
 -- it was up, or it came up
 pub record HasRisen (d d' : Driver) (old new : Linked) (result : Result (Unit {0}) UpFault) : Type 0 where
-  pub step : IsStep (brought_up (mailbox d old.setting.controller)) d' new.setting.controller (plain (seen.Up result))
-  pub world : new.setting.world ≡ old.setting.world
-  pub device : new.setting.device ≡ old.setting.device
+  pub step : IsStep (brought_up (mailbox d (linked_controller old))) d' (linked_controller new) (plain (seen.Up result))
+  pub cntlid : (linked_controller new).cntlid ≡ (linked_controller old).cntlid
+  pub world : (linked_setting new).world ≡ (linked_setting old).world
+  pub device : (linked_setting new).device ≡ (linked_setting old).device
+  pub stays : Stays old new
 
 already-up : (m : Mailbox) → m.up ≡ true → brought_up m ≡ record { mailbox = m; reply = plain (seen.Up (Err AlreadyUp)) }
 already-up m h = rw h refl
@@ -68,36 +80,40 @@ already-up m h = rw h refl
 reply-up : (m : Mailbox) → m.up ≡ false → (brought_up m).reply ≡ plain (seen.Up (Ok tt))
 reply-up m h = rw h refl
 
-stays-up : (d d' : Driver) (old new : Linked) (result : Result (Unit {0}) UpFault) → Sound d old.setting.controller → is_up d.state ≡ true
+stays-up : (d d' : Driver) (old new : Linked) (result : Result (Unit {0}) UpFault) → Sound d (linked_controller old) → is_up d.state ≡ true
     → result ≡ Err AlreadyUp → d' ≡ d → new ≡ old → HasRisen d d' old new result
 stays-up d d' old new result s u r e n =
-    let is = already-up (mailbox d old.setting.controller) u in
+    let is = already-up (mailbox d (linked_controller old)) u in
     record {
       step = rw (r, e, n) (record { sound = s; mail = ap (λ (x : Reaction). x.mailbox) is; gives = ap (λ (x : Reaction). x.reply) is });
-      world = ap (λ (p : Linked). p.setting.world) n;
-      device = ap (λ (p : Linked). p.setting.device) n;
+      cntlid = ap (λ (p : Linked). (linked_controller p).cntlid) n;
+      world = ap (λ (p : Linked). (linked_setting p).world) n;
+      device = ap (λ (p : Linked). (linked_setting p).device) n;
+      stays = stays-same old new n;
     }
 
-comes-up : (tells : Bool) (d d' : Driver) (old new : Linked) (result : Result (Unit {0}) UpFault) → Sound d old.setting.controller → d.state ≡ Down
+comes-up : (tells : Bool) (d d' : Driver) (old new : Linked) (result : Result (Unit {0}) UpFault) → Sound d (linked_controller old) → d.state ≡ Down
     → Rises (step_of tells) bytes_of d old result d' new → HasRisen d d' old new result
 comes-up tells d d' old new result s u h =
-    let r = bring_up_is_a_step tells d d' old.setting new.setting result s u (rises-in tells d d' old new result h) in
+    let r = bring_up_is_a_step tells d d' (linked_setting old) (linked_setting new) result s u (rises-in tells d d' old new result h) in
     record {
-      step = record { sound = r.sound; mail = r.mail; gives = reply-up (mailbox d old.setting.controller) (ap is_up u) ∙ ap (λ x. plain (seen.Up x)) (sym r.answered) };
+      step = record { sound = r.sound; mail = r.mail; gives = reply-up (mailbox d (linked_controller old)) (ap is_up u) ∙ ap (λ x. plain (seen.Up x)) (sym r.answered) };
+      cntlid = r.cntlid;
       world = r.world;
       device = r.device;
+      stays = rises-stay tells d d' old new result h;
     }
 
-risen-by : (tells : Bool) (d d' : Driver) (old new : Linked) (result : Result (Unit {0}) UpFault) (s : State) → d.state ≡ s → Sound d old.setting.controller
+risen-by : (tells : Bool) (d d' : Driver) (old new : Linked) (result : Result (Unit {0}) UpFault) (s : State) → d.state ≡ s → Sound d (linked_controller old)
     → (is_down s ≡ false → (result ≡ Err AlreadyUp) × (d' ≡ d) × (new ≡ old)) → (is_down s ≡ true → Rises (step_of tells) bytes_of d old result d' new) → HasRisen d d' old new result
 risen-by tells d d' old new result Down e s already rises = comes-up tells d d' old new result s e (rises refl)
 risen-by tells d d' old new result Up e s already rises =
     let a = already refl in stays-up d d' old new result s (ap is_up e) a.0 a.1 a.2
 risen-by tells d d' old new result Failed e s already rises = absurd (no-way true (ap is_failed (sym e) ∙ (s.both.each Admin).failed) refl)
 
-pub bring-up-step : (tells : Bool) (d d' : Driver) (old new : Linked) (result : Result (Unit {0}) UpFault) → Sound d old.setting.controller
+pub bring-up-step : (tells : Bool) (d d' : Driver) (old new : Linked) (result : Result (Unit {0}) UpFault) → Sound d (linked_controller old)
     → (is_down d.state ≡ false → (result ≡ Err AlreadyUp) × (d' ≡ d) × (new ≡ old)) → (is_down d.state ≡ true → Rises (step_of tells) bytes_of d old result d' new) → HasRisen d d' old new result
 bring-up-step tells d d' old new result s already rises = risen-by tells d d' old new result d.state refl s already rises
 
-pub bring-up-site : (d d' : Driver) (old new : Linked) (result : Result (Unit {0}) UpFault) → HasRisen d d' old new result → new.names ≡ old.names → KeepsSite old new
-bring-up-site d d' old new result r n = record { world = r.world; device = r.device; names = n }
+pub bring-up-site : (d d' : Driver) (old new : Linked) (result : Result (Unit {0}) UpFault) → HasRisen d d' old new result → new.name ∷ [] ≡ old.name ∷ [] → KeepsSite old new
+bring-up-site d d' old new result r n = let k = r.stays in record { cntlid = r.cntlid; world = r.world; device = r.device; others = k.others; place = k.place; name = same-name new.name old.name n }

@@ -210,6 +210,7 @@ bring_up_is_a_step tells d d' old new result s h rises =
       answered = r.answered;
       sound = rw (r.driver, r.setting_is) (risen-sound k d old.controller s h);
       mail = risen-mail k d old.controller s h ∙ sym (ap (mailbox (risen_driver d)) (ap (λ (q : Setting). q.controller) r.setting_is)) ∙ sym (ap (λ z. mailbox z new.controller) r.driver);
+      cntlid = ap (λ (q : Setting). q.controller.cntlid) r.setting_is;
       world = ap (λ (q : Setting). q.world) r.setting_is;
       device = ap (λ (q : Setting). q.device) r.setting_is;
     }

@@ -14,7 +14,8 @@ use Rattle.nvme_machine.specs.Executing.{Setting}
 use Rattle.nvme_fleet.specs.Views.{zeros}
 use Rattle.nvme_fleet.specs.Lanes.{zeroed_all}
 use Rattle.nvme_fleet.specs.Sound.{IsOff}
-use Rattle.nvme_fleet.specs.Steps.{after_calls}
+use Rattle.nvme_subsys.proofs.Sound.{store-id, write-id}
+use Rattle.nvme_fleet.specs.Steps.{after_call, after_calls}
 use Rattle.nvme_fleet.specs.Links.{LinkStep, with_controller}
 use Rattle.nvme_fleet.proofs.Ups.{zeros-are}
 
@@ -36,6 +37,17 @@ calls-are tells (Writes offset v ∷ calls) old new p (mid, step, rest) =
 calls-are tells (Reads offset v ∷ calls) old new p (mid, step, rest) =
     calls-are tells calls mid new p rest ∙ ap (λ (s : Setting). with_controller s (after_calls calls s.controller)) step.1
 calls-are tells (Turns ∷ calls) old new p h = absurd p
+
+-- the controller stays the same one
+call-id : (call : Call) (c : Controller) → (after_call call c).cntlid ≡ c.cntlid
+call-id (Stores address bytes) c = store-id address bytes c
+call-id (Writes offset v) c = write-id offset v c
+call-id (Reads offset v) c = refl
+call-id Turns c = refl
+
+pub calls-id : (calls : List Call) (c : Controller) → (after_calls calls c).cntlid ≡ c.cntlid
+calls-id [] c = refl
+calls-id (call ∷ calls) c = calls-id calls (after_call call c) ∙ call-id call c
 
 -- what is read behind some calls
 pub value-is : (tells : Bool) (calls : List Call) (offset v : ℕ) (old new : Setting) → IsPlain calls

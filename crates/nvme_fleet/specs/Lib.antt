@@ -12,3 +12,4 @@ pub mod Sound
 pub mod Steps
 pub mod Links
 pub mod Linked
+pub mod FleetStates

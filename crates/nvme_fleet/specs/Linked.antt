@@ -1,15 +1,57 @@
--- What contracts see of a host's way to its controller.
-use Rattle.std.specs.Prelude.{◌≡◌, List}
+-- What contracts see of a host's way to its controller: the subsystem, the place of the controller that is reached, and the
+-- reference through which it is.
+use Rattle.std.specs.Prelude.{◌≡◌, ℕ, Bool, get_or, slice_set}
 use Rattle.std.specs.Borrow.{GName}
-use Rattle.nvme_machine.specs.Executing.{Setting}
+use Rattle.nvme_machine.specs.Controllers.{Controller, new_controller}
+use Rattle.nvme_machine.specs.Subsystems.{Subsystem}
+use Rattle.nvme_machine.specs.declared.seen.Executed.{Executed}
+use Rattle.nvme_machine.specs.Executing.{Setting, setting, ExecutesNth}
+use Rattle.nvme_subsys.specs.Marked.{marks_after}
 
--- the controller with access state and medium, and the references through which they are reached
+-- the controller at a place, with the access state and the medium
+abbrev pub controller_in : Subsystem → ℕ → Controller
+controller_in s i = get_or s.controllers i (new_controller 0)
+
+abbrev pub setting_in : Subsystem → ℕ → Setting
+setting_in s i = setting (controller_in s i) s.world s.device
+
+-- a subsystem where these have become so
+abbrev pub with_setting : Subsystem → ℕ → Setting → Subsystem
+with_setting s i x = record { world = x.world; device = x.device; controllers = slice_set s.controllers i x.controller }
+
+-- all other controllers are as they were
+abbrev pub KeepsOthers : ℕ → Subsystem → Subsystem → Type 0
+KeepsOthers i old new = new ≡ with_setting old i (setting_in new i)
+
+abbrev pub with_controller_at : Subsystem → ℕ → Controller → Subsystem
+with_controller_at s i c = record s { controllers = slice_set s.controllers i c }
+
+-- the controller at a place has executed its n-th command, and the controllers of the hosts that this removes are marked
+pub record ExecutesSeat (tells : Bool) (n i : ℕ) (old : Subsystem) (executed : Executed) (new : Subsystem) : Type 0 where
+  pub left : Setting
+  pub executes : ExecutesNth tells n (setting_in old i) executed left
+  pub leaves : new ≡ record {
+    world = left.world;
+    device = left.device;
+    controllers = marks_after left.world executed (slice_set old.controllers i left.controller);
+  }
+
 pub record Linked : Type 0 where
-  pub setting : Setting
-  pub names : List GName
+  pub subsystem : Subsystem
+  pub place : ℕ
+  pub name : GName
 
--- access state, medium and references are as they were
+abbrev pub linked_setting : Linked → Setting
+linked_setting p = setting_in p.subsystem p.place
+
+abbrev pub linked_controller : Linked → Controller
+linked_controller p = controller_in p.subsystem p.place
+
+-- access state, medium and all other controllers are as they were, and the same controller is reached in the same way
 pub record KeepsSite (old new : Linked) : Type 0 where
-  pub world : new.setting.world ≡ old.setting.world
-  pub device : new.setting.device ≡ old.setting.device
-  pub names : new.names ≡ old.names
+  pub cntlid : (linked_controller new).cntlid ≡ (linked_controller old).cntlid
+  pub world : new.subsystem.world ≡ old.subsystem.world
+  pub device : new.subsystem.device ≡ old.subsystem.device
+  pub others : KeepsOthers old.place old.subsystem new.subsystem
+  pub place : new.place ≡ old.place
+  pub name : new.name ≡ old.name

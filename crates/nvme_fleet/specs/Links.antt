@@ -29,11 +29,12 @@ LinkStep tells old Turns new =
 abbrev pub window_in : Setting → List ℕ
 window_in s = s.controller.window
 
--- It came up: the mailbox is up, and access state and medium are as they were.
+-- It came up: the mailbox is up, it is the same controller, and access state and medium are as they were.
 pub record HasComeUp (d : Driver) (old : Setting) (result : Result (Unit {0}) UpFault) (d' : Driver) (new : Setting) : Type 0 where
   pub answered : result ≡ Ok tt
   pub sound : Sound d' new.controller
   pub mail : (brought_up (mailbox d old.controller)).mailbox ≡ mailbox d' new.controller
+  pub cntlid : new.controller.cntlid ≡ old.controller.cntlid
   pub world : new.world ≡ old.world
   pub device : new.device ≡ old.device
 

@@ -4,20 +4,22 @@
 //! queues, phase tags, identifiers of commands or addresses.
 #![tactic(auto)]
 
+mod delivery;
 mod event;
 mod examples;
+mod fleet;
 mod laws;
 mod link;
-pub mod member;
+mod member;
+mod opening;
 mod place;
 mod poll;
+mod seats;
 mod seen;
 
 pub use event::FleetEvent;
-pub use link::Link;
+pub use fleet::Fleet;
 pub use nvme_driver::{Answer, NotUp, PlaceRefusal, PollFault, Request, Ticket, UpFault};
 pub use nvme_machine::{Executed, Fetched};
+pub use nvme_subsys::NewFault;
 pub use seen::FleetSeen;
-
-#[cfg(test)]
-mod tests;

@@ -1,5 +1,8 @@
 //! What an event of a fleet gives to see.
 
+ghost use Rattle.std.specs.Prelude.{◌≡◌};
+ghost use Rattle.nvme_fleet.specs.FleetStates.{data_len};
+
 use nvme_driver::{Answer, NotUp, PlaceRefusal, PollFault, Ticket, UpFault};
 use nvme_machine::{Executed, Fetched};
 
@@ -32,4 +35,16 @@ pub enum FleetSeen {
     NoDriver,
     /// Its host has a driver.
     NotRaw,
+}
+
+impl FleetSeen {
+    /// How many bytes come with it: those of a poll that hands data up.
+    pub(crate) fn data_len(&self) -> usize
+        ensures { result ≡ data_len self.now }
+    {
+        match self {
+            FleetSeen::Polled(Ok(Some(Answer::Done { len, .. }))) => *len,
+            _ => 0,
+        }
+    }
 }

@@ -1,0 +1,62 @@
+-- An opened fleet keeps what a fleet keeps, and is the fleet that its configuration opens as.
+use Rattle.std.proofs.Common.{◌≡◌, ℕ, zero, suc, ◌∷◌, ◌∙◌, Bool, true, false, List, [], length, map, Option, None, Some, refl, sym, ap, subst, arith}
+use Rattle.std.specs.Prelude.{slice_get, replicate, if◌then◌else◌}
+use Rattle.std.proofs.lemmas.List.{length-map, length-replicate}
+use Rattle.std.proofs.lemmas.Option.{same_Some}
+use Rattle.nvme_spec.specs.declared.config.ControllerConfig.{ControllerConfig}
+use Rattle.nvme_spec.specs.Blocks.{Device}
+use Rattle.nvme_spec.specs.Configuration.{Configuration}
+use Rattle.nvme_spec.specs.World.{World, opening_world}
+use Rattle.nvme_driver.specs.Drivers.{Driver, new_driver}
+use Rattle.nvme_machine.specs.Controllers.{Controller, new_controller}
+use Rattle.nvme_fleet.specs.Mailboxes.{new_mailbox}
+use Rattle.nvme_fleet.specs.Fleets.{WithDriver, Raw, new_host, opening}
+use Rattle.nvme_fleet.specs.FleetStates.{FleetState, SoundBy, IsSoundFleet, host_by, hosts_of, opening_driver, fleet_of}
+use Rattle.nvme_fleet.proofs.SoundOpening.{opening_is_sound}
+
+abbrev pub opening-controllers : List ControllerConfig → List Controller
+opening-controllers ks = map (λ (k : ControllerConfig). new_controller k.cntlid) ks
+
+abbrev pub opened-state : World → Device → List Controller → List (Option Driver) → List ℕ → FleetState
+opened-state w v cs ds buffer =
+    record { subsystem = record { world = w; device = v; controllers = cs }; drivers = ds; buffer = buffer; filled = 0 }
+
+sound-one : (raw : Bool) (n : ℕ) → SoundBy (if raw then None else Some (new_driver 1)) (new_controller n)
+sound-one true n = tt
+sound-one false n = let o = opening_is_sound 1 n in o.sound
+
+sound-each : (ks : List ControllerConfig) (i : ℕ) (d : Option Driver) (c : Controller) → slice_get (map opening_driver ks) i ≡ Some d → slice_get (opening-controllers ks) i ≡ Some c → SoundBy d c
+sound-each [] i d c h g = absurd (cc)
+sound-each (k ∷ ks) zero d c h g =
+    let a : opening_driver k ≡ d = same_Some _ _ h in
+    let b : new_controller k.cntlid ≡ c = same_Some _ _ g in
+    subst (λ p. SoundBy p c) a (subst (SoundBy (opening_driver k)) b (sound-one k.raw k.cntlid))
+sound-each (k ∷ ks) (suc i) d c h g = sound-each ks i d c h g
+
+pub opened-sound : (w : World) (v : Device) (ks : List ControllerConfig) (cs : List Controller) (ds : List (Option Driver)) (buffer : List ℕ) → cs ≡ opening-controllers ks → ds ≡ map opening_driver ks → buffer ≡ replicate 131072 0
+    → IsSoundFleet (opened-state w v cs ds buffer)
+opened-sound w v ks cs ds buffer made driven room = record {
+  pairs = ap length driven ∙ length-map ks opening_driver ∙ sym (ap length made ∙ length-map ks (λ (k : ControllerConfig). new_controller k.cntlid));
+  sound = subst (λ ys. (i : ℕ) (d : Option Driver) (c : Controller) → slice_get ys i ≡ Some d → slice_get cs i ≡ Some c → SoundBy d c) (sym driven)
+      (subst (λ xs. (i : ℕ) (d : Option Driver) (c : Controller) → slice_get (map opening_driver ks) i ≡ Some d → slice_get xs i ≡ Some c → SoundBy d c) (sym made) (sound-each ks));
+  room = ap length room ∙ length-replicate {A = ℕ} 131072 0;
+  fits = omega arith;
+}
+
+host-one : (raw : Bool) (n : ℕ) → host_by (if raw then None else Some (new_driver 1)) (new_controller n) ≡ (if raw then Raw (new_controller n) else WithDriver (new_mailbox 1))
+host-one true n = refl
+host-one false n = let o = opening_is_sound 1 n in ap WithDriver o.mail
+
+hosts-each : (ks : List ControllerConfig) → hosts_of (map opening_driver ks) (opening-controllers ks) ≡ map new_host ks
+hosts-each [] = refl
+hosts-each (k ∷ ks) =
+    let one = host-one k.raw k.cntlid in
+    let rest = hosts-each ks in
+    λ j. one j ∷ rest j
+
+pub opened-fleet : (c : Configuration) (w : World) (v : Device) (cs : List Controller) (ds : List (Option Driver)) (buffer : List ℕ) → w ≡ opening_world c → cs ≡ opening-controllers c.controllers → ds ≡ map opening_driver c.controllers
+    → fleet_of (opened-state w v cs ds buffer) ≡ opening c v
+unfolding fleet_of opening
+opened-fleet c w v cs ds buffer opened made driven =
+    let hosts : hosts_of ds cs ≡ map new_host c.controllers = ap (λ xs. hosts_of ds xs) made ∙ ap (λ ys. hosts_of ys (opening-controllers c.controllers)) driven ∙ hosts-each c.controllers in
+    λ j. record { site = record { world = opened j; device = v }; hosts = hosts j }

@@ -1,0 +1,79 @@
+-- Hosts by their places: those of a list of drivers beside a list of controllers.
+use Rattle.std.proofs.Common.{◌≡◌, ℕ, zero, suc, ◌+◌, ◌≤◌, Bool, true, false, List, [], ◌∷◌, length, Option, None, Some, refl, sym, ap, ◌∙◌, arith}
+use Rattle.std.specs.Prelude.{slice_get, slice_set, if◌then◌else◌}
+use Rattle.std.proofs.lemmas.Option.{same_Some}
+use Rattle.nvme_spec.specs.declared.outcome.Marks.{Marks}
+use Rattle.nvme_spec.specs.World.{World, host_of}
+use Rattle.nvme_machine.specs.Controllers.{Controller, with_marks}
+use Rattle.nvme_machine.specs.Subsystems as machine
+use Rattle.nvme_machine.specs.Subsystems.{is_host_among}
+use Rattle.nvme_driver.specs.Drivers.{Driver}
+use Rattle.nvme_fleet.specs.Fleets.{Host, WithDriver, marked, marked_from, numbered, replaced}
+use Rattle.nvme_fleet.specs.FleetStates.{host_by, hosts_of, SoundBy}
+use Rattle.nvme_fleet.proofs.MarkStep.{marks_are_steps}
+
+-- a host is where its driver and its controller are
+pub hosts-get : (ds : List (Option Driver)) (cs : List Controller) (i : ℕ) (d : Option Driver) (c : Controller) → slice_get ds i ≡ Some d → slice_get cs i ≡ Some c
+    → slice_get (hosts_of ds cs) i ≡ Some (host_by d c)
+hosts-get [] cs i d c h g = absurd (cc)
+hosts-get (x ∷ ds) [] i d c h g = absurd (cc)
+hosts-get (x ∷ ds) (y ∷ cs) zero d c h g =
+    let a : x ≡ d = same_Some _ _ h in
+    let b : y ≡ c = same_Some _ _ g in
+    λ j. Some (host_by (a j) (b j))
+hosts-get (x ∷ ds) (y ∷ cs) (suc i) d c h g = hosts-get ds cs i d c h g
+
+-- and none is past the last controller
+pub hosts-past : (ds : List (Option Driver)) (cs : List Controller) (i : ℕ) → length cs ≤ i → slice_get (hosts_of ds cs) i ≡ None
+hosts-past [] cs i h = refl
+hosts-past (x ∷ ds) [] i h = refl
+hosts-past (x ∷ ds) (y ∷ cs) zero h = absurd (omega arith)
+hosts-past (x ∷ ds) (y ∷ cs) (suc i) h = hosts-past ds cs i (omega arith)
+
+pub hosts-set : (ds : List (Option Driver)) (cs : List Controller) (i : ℕ) (d : Option Driver) (c : Controller)
+    → hosts_of (slice_set ds i d) (slice_set cs i c) ≡ slice_set (hosts_of ds cs) i (host_by d c)
+hosts-set [] cs i d c = refl
+hosts-set (x ∷ ds) [] zero d c = refl
+hosts-set (x ∷ ds) [] (suc i) d c = refl
+hosts-set (x ∷ ds) (y ∷ cs) zero d c = refl
+hosts-set (x ∷ ds) (y ∷ cs) (suc i) d c = ap (λ hs. host_by x y ∷ hs) (hosts-set ds cs i d c)
+
+-- one that is set to what it was
+pub driver-same : (ds : List (Option Driver)) (i : ℕ) (d : Option Driver) → slice_get ds i ≡ Some d → slice_set ds i d ≡ ds
+driver-same [] i d h = absurd (cc)
+driver-same (x ∷ ds) zero d h = let same : x ≡ d = same_Some _ _ h in ap (λ y. y ∷ ds) (sym same)
+driver-same (x ∷ ds) (suc i) d h = ap (λ ys. x ∷ ys) (driver-same ds i d h)
+
+-- a controller alone is set
+pub controller-set : (ds : List (Option Driver)) (cs : List Controller) (i : ℕ) (d : Option Driver) (c : Controller) → slice_get ds i ≡ Some d
+    → hosts_of ds (slice_set cs i c) ≡ slice_set (hosts_of ds cs) i (host_by d c)
+controller-set ds cs i d c h = ap (λ xs. hosts_of xs (slice_set cs i c)) (sym (driver-same ds i d h)) ∙ hosts-set ds cs i d c
+
+-- Numbers, from 1.
+pub numbered-at : (hs : List Host) (k i : ℕ) → k ≡ i + 1 → numbered hs k ≡ slice_get hs i
+numbered-at hs zero i h = absurd (omega (arith, h))
+numbered-at hs (suc n) i h = let same : n ≡ i = omega (arith, h) in ap (slice_get hs) same
+
+pub replaced-at : (hs : List Host) (k i : ℕ) (x : Host) → k ≡ i + 1 → replaced hs k x ≡ slice_set hs i x
+replaced-at hs zero i x h = absurd (omega (arith, h))
+replaced-at hs (suc n) i x h = let same : n ≡ i = omega (arith, h) in ap (λ m. slice_set hs m x) same
+
+-- A controller's marks reach its host, and keep it sound.
+pub mark-host : (d : Option Driver) (c : Controller) (n : ℕ) → SoundBy d c → host_by d (with_marks n c) ≡ marked n (host_by d c)
+mark-host None c n s = refl
+mark-host (Some d) c n s = let m = marks_are_steps d c n s in ap WithDriver m.mail
+
+pub mark-sound : (d : Option Driver) (c : Controller) (n : ℕ) → SoundBy d c → SoundBy d (with_marks n c)
+mark-sound None c n s = tt
+mark-sound (Some d) c n s = let m = marks_are_steps d c n s in m.sound
+
+pub hosts-marked : (w : World) (m : Marks) (k : ℕ) (ds : List (Option Driver)) (cs : List Controller)
+    → ((i : ℕ) (d : Option Driver) (c : Controller) → slice_get ds i ≡ Some d → slice_get cs i ≡ Some c → SoundBy d c)
+    → hosts_of ds (machine.marked_from w m k cs) ≡ marked_from w m k (hosts_of ds cs)
+hosts-marked w m k [] cs s = refl
+hosts-marked w m k (d ∷ ds) [] s = refl
+hosts-marked w m k (d ∷ ds) (c ∷ cs) s = λ j. by (is_host_among m.hosts.items (host_of w k)) j ∷ hosts-marked w m (k + 1) ds cs (λ i e x h g. s (suc i) e x h g) j
+  where
+    by : (b : Bool) → host_by d (if b then with_marks m.nsid c else c) ≡ (if b then marked m.nsid (host_by d c) else host_by d c)
+    by true = mark-host d c m.nsid (s 0 d c refl refl)
+    by false = refl

@@ -1,0 +1,16 @@
+use Rattle.std.proofs.Common.{◌<◌, length, sym, subst}
+use Rattle.nvme_fleet.specs.FleetStates.{FleetState}
+use Rattle.nvme_fleet.proofs.FleetCalls.{executes}
+use Rattle.nvme_fleet.proofs.fleet.Fleet.execute.Goals as goal
+
+pub invariant_of-self : goal.invariant_of-self
+invariant_of-self g c =
+    let lt = subst (λ (s : FleetState). c.in-Some.place < length s.subsystem.controllers) (sym c.self.view_is) c.in-Some.ensures.some.1 in
+    let r = executes g.M.Medium.tells _ c.execute.new.self c.args.cntlid c.in-Some.place c.args.i c.execute.result c.in-Some.ensures.some.0 lt c.execute.ensures.named c.self.invariant c.execute.ensures.executes in
+    r.sound
+
+pub returns-clause-step : goal.returns-clause-step
+returns-clause-step g c =
+    let lt = subst (λ (s : FleetState). c.in-Some.place < length s.subsystem.controllers) (sym c.self.view_is) c.in-Some.ensures.some.1 in
+    let r = executes g.M.Medium.tells _ c.execute.new.self c.args.cntlid c.in-Some.place c.args.i c.execute.result c.in-Some.ensures.some.0 lt c.execute.ensures.named c.self.invariant c.execute.ensures.executes in
+    rw (← c.self.view_is) r.step

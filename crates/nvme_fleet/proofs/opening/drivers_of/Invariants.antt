@@ -1,0 +1,12 @@
+use Rattle.std.proofs.Common.{◌≡◌, take, map, length}
+use Rattle.std.specs.Prelude.{vec_capacity, vec_len}
+use Rattle.nvme_fleet.specs.FleetStates.{opening_driver}
+use Rattle.nvme_fleet.proofs.opening.drivers_of.Given as goal
+
+-- the drivers so far, and there is room for the rest
+abbrev pub invariant-loop-config : goal.invariant-loop-config
+invariant-loop-config l = record {
+  made : l.drivers.items ≡ map opening_driver (take l.config-index l.configs);
+  so_far : vec_len l.drivers ≡ l.config-index;
+  room : vec_capacity l.drivers ≡ length l.configs;
+}

@@ -1,0 +1,85 @@
+-- What contracts see of a fleet: its subsystem, the driver of each controller's host, and the room for the data of the last
+-- event. The k-th driver is that of controller k; a raw host has none.
+use Rattle.std.specs.Prelude.{◌≡◌, ◌≤◌, ℕ, List, [], ◌∷◌, length, take, Option, None, Some, slice_get, Ok, if◌then◌else◌}
+use Rattle.nvme_spec.specs.declared.config.ControllerConfig.{ControllerConfig}
+use Rattle.nvme_spec.specs.Limits.{most_bytes}
+use Rattle.nvme_driver.specs.declared.answer.Answer.TheVariants.{Done}
+use Rattle.nvme_driver.specs.Drivers.{Driver, new_driver}
+use Rattle.nvme_machine.specs.Controllers.{Controller}
+use Rattle.nvme_machine.specs.Subsystems.{Subsystem}
+use Rattle.nvme_fleet.specs.declared.delivery.DriverCall.{DriverCall}
+use Rattle.nvme_fleet.specs.declared.delivery.DriverCall.TheVariants.{BringUp, Place, Ring, Poll, Reset}
+use Rattle.nvme_fleet.specs.declared.seen.FleetSeen.{FleetSeen}
+use Rattle.nvme_fleet.specs.declared.seen.FleetSeen.TheVariants.{Polled, NoDriver}
+use Rattle.nvme_fleet.specs.Mailboxes.{Mailbox}
+use Rattle.nvme_fleet.specs.Deliveries as mail
+use Rattle.nvme_fleet.specs.Deliveries.{Reply, Reaction, plain}
+use Rattle.nvme_fleet.specs.Fleets.{Host, WithDriver, Raw, Fleet}
+use Rattle.nvme_fleet.specs.Sound.{Sound, mailbox}
+use Rattle.nvme_fleet.specs.Steps.{IsStep}
+
+-- The data lie at the front of the buffer.
+pub record FleetState : Type 0 where
+  pub subsystem : Subsystem
+  pub drivers : List (Option Driver)
+  pub buffer : List ℕ
+  pub filled : ℕ
+
+-- what a host is known by: the mailbox that its driver and its controller are, or its controller
+abbrev pub host_by : Option Driver → Controller → Host
+host_by None c = Raw c
+host_by (Some d) c = WithDriver (mailbox d c)
+
+abbrev pub hosts_of : List (Option Driver) → List Controller → List Host
+hosts_of [] cs = []
+hosts_of (d ∷ ds) [] = []
+hosts_of (d ∷ ds) (c ∷ cs) = host_by d c ∷ hosts_of ds cs
+
+-- the driver of a controller's host as a configuration opens
+abbrev pub opening_driver : ControllerConfig → Option Driver
+opening_driver k = if k.raw then None else Some (new_driver 1)
+
+-- the fleet that it is
+unfoldable pub fleet_of : FleetState → Fleet
+fleet_of s = record {
+  site = record { world = s.subsystem.world; device = s.subsystem.device };
+  hosts = hosts_of s.drivers s.subsystem.controllers;
+}
+
+abbrev pub data_in : FleetState → List ℕ
+data_in s = take s.filled s.buffer
+
+-- how many bytes come with what an event gives: those of a poll that hands data up
+abbrev pub data_len : FleetSeen → ℕ
+data_len (Polled (Ok (Some (Done ticket status dw0 len)))) = len
+data_len other = 0
+
+-- the reply: the bytes lie at the front of the buffer
+abbrev pub reply_in : FleetSeen → List ℕ → Reply
+reply_in what buffer = record { seen = what; bytes = take (data_len what) buffer }
+
+-- what a call of a driver makes of its mailbox
+abbrev pub reaction_to : DriverCall → Mailbox → Reaction
+reaction_to BringUp m = mail.brought_up m
+reaction_to (Place request) m = mail.placed m request
+reaction_to Ring m = mail.rung m
+reaction_to Poll m = mail.polled m
+reaction_to Reset m = mail.reset m
+
+-- a driver and its controller are sound
+abbrev pub SoundBy : Option Driver → Controller → Type 0
+SoundBy None c = Unit {0}
+SoundBy (Some d) c = Sound d c
+
+-- A host's driver is called, if it has one.
+abbrev pub IsCalled : Option Driver → Controller → DriverCall → Option Driver → Controller → Reply → Type 0
+IsCalled None c call e d reply = (e ≡ None) × (d ≡ c) × (reply ≡ plain NoDriver)
+IsCalled (Some f) c call e d reply = (g : Driver) × (e ≡ Some g) × IsStep (reaction_to call (mailbox f c)) g d reply
+
+-- What a fleet keeps: there is a place for a driver at each controller, and each driver that there is, is sound with its
+-- controller; there is room for the data of any request, and the data lie in it.
+pub record IsSoundFleet (s : FleetState) : Type 0 where
+  pub pairs : length s.drivers ≡ length s.subsystem.controllers
+  pub sound : (i : ℕ) (d : Option Driver) (c : Controller) → slice_get s.drivers i ≡ Some d → slice_get s.subsystem.controllers i ≡ Some c → SoundBy d c
+  pub room : length s.buffer ≡ most_bytes
+  pub fits : s.filled ≤ length s.buffer
