@@ -63,3 +63,4 @@ pub mod HostedExecutions
 pub mod FleetSound
 pub mod FleetCalls
 pub mod FleetOpening
+pub mod FleetRuns

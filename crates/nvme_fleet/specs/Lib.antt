@@ -13,3 +13,4 @@ pub mod Steps
 pub mod Links
 pub mod Linked
 pub mod FleetStates
+pub mod Running

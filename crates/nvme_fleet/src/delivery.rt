@@ -72,6 +72,7 @@ fn deliver_at<S: Reach>(
 {
     let mut link = Link { seats, place };
     let seen = deliver_over(driver, &mut link, buffer, call);
+    // Taken apart, so that what it leaves behind its reference is known.
     let Link { seats: _seats, .. } = link;
     seen
 }

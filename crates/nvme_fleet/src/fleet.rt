@@ -1,8 +1,8 @@
 //! The fleet, and one event of it.
 
 ghost use Rattle.std.specs.Prelude.{◌≡◌, ◌<◌, ◌≤◌, ◌+◌, length, IfOk, IfErr, IfSome, IfNone, None, Some, [], unwrap_or};
-ghost use Rattle.nvme_spec.specs.Limits.{most_bytes};
 ghost use Rattle.nvme_spec.specs.Configuration.{first_config_fault};
+ghost use Rattle.nvme_spec.specs.Limits.{most_bytes};
 ghost use Rattle.nvme_spec.specs.declared.config.ConfigFault.TheVariants.{NoMemory as WantOfMemory};
 ghost use Rattle.nvme_ns.specs.Configured.{configuration};
 ghost use Rattle.nvme_machine.specs.Subsystems.{controller_at};

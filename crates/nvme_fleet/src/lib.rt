@@ -14,6 +14,8 @@ mod member;
 mod opening;
 mod place;
 mod poll;
+mod reply;
+mod running;
 mod seats;
 mod seen;
 
@@ -22,4 +24,5 @@ pub use fleet::Fleet;
 pub use nvme_driver::{Answer, NotUp, PlaceRefusal, PollFault, Request, Ticket, UpFault};
 pub use nvme_machine::{Executed, Fetched};
 pub use nvme_subsys::NewFault;
+pub use reply::Reply;
 pub use seen::FleetSeen;

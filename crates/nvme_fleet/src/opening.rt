@@ -13,7 +13,7 @@ use nvme_wire::NoMemory;
 use std::alloc::Global;
 
 /// How many bytes of data a request moves at most.
-const MOST_BYTES: usize = 131_072;
+pub(crate) const MOST_BYTES: usize = 131_072;
 
 /// What a fleet asks memory for: its controllers, the driver of each one's host, and room for the data of an event.
 #[derive(Drop)]

@@ -1,0 +1,112 @@
+-- A run goes on by one event, and what an event gives fits its room.
+use Rattle.std.proofs.Common.{◌≡◌, ℕ, ◌+◌, ◌<◌, ◌≤◌, get_or, Bool, true, false, List, [], ◌∷◌, ◌++◌, ◌∙◌, length, take, Option, None, Some, refl, ap, subst, arith}
+use Rattle.std.specs.Prelude.{slice_get, Result, Ok, Err, is_ok, IsOk, if◌then◌else◌}
+use Rattle.std.proofs.lemmas.List.{take_more, append_assoc}
+use Rattle.nvme_spec.specs.Limits.{most_bytes}
+use Rattle.nvme_driver.specs.declared.request.Request.{Request}
+use Rattle.nvme_driver.specs.declared.faults.PlaceRefusal.{PlaceRefusal}
+use Rattle.nvme_driver.specs.declared.lane.Lane.{Lane}
+use Rattle.nvme_machine.specs.Controllers as machine
+use Rattle.nvme_fleet.specs.declared.event.FleetEvent.{FleetEvent}
+use Rattle.nvme_fleet.specs.declared.event.FleetEvent.TheVariants.{BringUp, Place, Ring, Fetch, Execute, Poll, Reset, RawStore, RawWrite32}
+use Rattle.nvme_fleet.specs.declared.seen.FleetSeen.{FleetSeen}
+use Rattle.nvme_fleet.specs.Mailboxes.{Item, FetchedItem, Mailbox, box_at}
+use Rattle.nvme_fleet.specs.Deliveries.{Reply, Reaction, brought_up, refusal, placed_by, placed, rung, lane_at, fetched_first, fetched_of, reset}
+use Rattle.nvme_fleet.specs.Fleets.{Host, WithDriver, Raw, Fleet, Is, Step, Run, ExecutesItem, ExecutesAt, called_at, raw_at, fetched_at, host_at}
+use Rattle.nvme_fleet.specs.Running.{RunsBehind, room_for}
+
+-- The replies that have no bytes.
+abbrev pub IsQuiet : Reply → Type 0
+IsQuiet r = r.bytes ≡ []
+
+quiet-up : (m : Mailbox) → IsQuiet (let r : Reaction = brought_up m in r.reply)
+quiet-up m = by m m.up
+  where
+    by : (m : Mailbox) (b : Bool) → IsQuiet (let r : Reaction = brought_up (record m { up = b }) in r.reply)
+    by m true = refl
+    by m false = refl
+
+quiet-rung : (m : Mailbox) → IsQuiet (let r : Reaction = rung m in r.reply)
+quiet-rung m = by m m.up
+  where
+    by : (m : Mailbox) (b : Bool) → IsQuiet (let r : Reaction = rung (record m { up = b }) in r.reply)
+    by m true = refl
+    by m false = refl
+
+quiet-placed : (o : Option PlaceRefusal) (m : Mailbox) (request : Request) → IsQuiet (let r : Reaction = placed_by o m request in r.reply)
+quiet-placed None m request = refl
+quiet-placed (Some why) m request = refl
+
+quiet-first : (l : Lane) (xs : List Item) (m : Mailbox) → IsQuiet (let r : Reaction = fetched_first l xs m in r.reply)
+quiet-first l [] m = refl
+quiet-first l (x ∷ xs) m = refl
+
+quiet-fetched : (o : Option Lane) (m : Mailbox) → IsQuiet (let r : Reaction = fetched_of o m in r.reply)
+quiet-fetched None m = refl
+quiet-fetched (Some l) m = quiet-first l (box_at l m).rung m
+
+quiet-call : (h : Option Host) (f : Fleet) (k : ℕ) (call : Mailbox → Reaction) (reply : Reply) (new : Fleet) → ((m : Mailbox) → IsQuiet (call m).reply)
+    → Is (called_at h f k call) reply new → IsQuiet reply
+quiet-call None f k call reply new q is = ap (λ (r : Reply). r.bytes) is.0
+quiet-call (Some (WithDriver m)) f k call reply new q is = ap (λ (r : Reply). r.bytes) is.0 ∙ q m
+quiet-call (Some (Raw c)) f k call reply new q is = ap (λ (r : Reply). r.bytes) is.0
+
+quiet-fetch : (h : Option Host) (f : Fleet) (k n : ℕ) (reply : Reply) (new : Fleet) → Is (fetched_at h f k n) reply new → IsQuiet reply
+quiet-fetch None f k n reply new is = ap (λ (r : Reply). r.bytes) is.0
+quiet-fetch (Some (WithDriver m)) f k n reply new is = ap (λ (r : Reply). r.bytes) is.0 ∙ quiet-fetched (lane_at n) m
+quiet-fetch (Some (Raw c)) f k n reply new is = ap (λ (r : Reply). r.bytes) is.0
+
+quiet-raw : (h : Option Host) (f : Fleet) (k : ℕ) (change : machine.Controller → machine.Controller) (what : FleetSeen) (reply : Reply) (new : Fleet)
+    → Is (raw_at h f k change what) reply new → IsQuiet reply
+quiet-raw None f k change what reply new is = ap (λ (r : Reply). r.bytes) is.0
+quiet-raw (Some (WithDriver m)) f k change what reply new is = ap (λ (r : Reply). r.bytes) is.0
+quiet-raw (Some (Raw c)) f k change what reply new is = ap (λ (r : Reply). r.bytes) is.0
+
+quiet-item : (o : Option FetchedItem) (tells : Bool) (old : Fleet) (k : ℕ) (m : Mailbox) (i : ℕ) (reply : Reply) (new : Fleet)
+    → ExecutesItem o tells old k m i reply new → IsQuiet reply
+quiet-item None tells old k m i reply new e = ap (λ (r : Reply). r.bytes) e.0
+quiet-item (Some x) tells old k m i reply new e = ap (λ (r : Reply). r.bytes) e.gives
+
+quiet-execution : (h : Option Host) (tells : Bool) (old : Fleet) (k i : ℕ) (reply : Reply) (new : Fleet) → ExecutesAt h tells old k i reply new → IsQuiet reply
+quiet-execution None tells old k i reply new e = ap (λ (r : Reply). r.bytes) e.0
+quiet-execution (Some (WithDriver m)) tells old k i reply new e = quiet-item (slice_get m.fetched i) tells old k m i reply new e
+quiet-execution (Some (Raw c)) tells old k i reply new e = ap (λ (r : Reply). r.bytes) e.gives
+
+none-long : (r : Reply) → IsQuiet r → length r.bytes ≤ 0
+none-long r q = let long : length r.bytes ≡ 0 = ap length q in omega (arith, long)
+
+-- only a poll gives bytes
+pub fits-room : (tells : Bool) (old : Fleet) (event : FleetEvent) (reply : Reply) (new : Fleet) → Step tells old event reply new → length reply.bytes ≤ most_bytes
+    → length reply.bytes ≤ room_for event
+fits-room tells old (BringUp k) reply new step few = none-long reply (quiet-call (host_at old k) old k brought_up reply new quiet-up step)
+fits-room tells old (Place k request) reply new step few =
+    none-long reply (quiet-call (host_at old k) old k (λ m. placed m request) reply new (λ m. quiet-placed (refusal m request) m request) step)
+fits-room tells old (Ring k) reply new step few = none-long reply (quiet-call (host_at old k) old k rung reply new quiet-rung step)
+fits-room tells old (Fetch k n) reply new step few = none-long reply (quiet-fetch (host_at old k) old k n reply new step)
+fits-room tells old (Execute k i) reply new step few = none-long reply (quiet-execution (host_at old k) tells old k i reply new step)
+fits-room tells old (Poll k) reply new step few = few
+fits-room tells old (Reset k) reply new step few = none-long reply (quiet-call (host_at old k) old k reset reply new (λ m. refl) step)
+fits-room tells old (RawStore k address bytes) reply new step few = none-long reply (quiet-raw (host_at old k) old k _ _ reply new step)
+fits-room tells old (RawWrite32 k offset v) reply new step few = none-long reply (quiet-raw (host_at old k) old k _ _ reply new step)
+
+-- bytes that are copied into a vector with room for them
+pub copied : {E : Type 0} (r : Result Unit E) (before after bytes : List ℕ) → after ≡ (if is_ok r then before ++ bytes else before) → IsOk r → before ≡ [] → after ≡ bytes
+copied (Ok u) before after bytes is ok none = is ∙ ap (λ xs. xs ++ bytes) none
+copied (Err e) before after bytes is ok none = absurd (cc)
+
+-- Runs.
+more : (tells : Bool) (events : List FleetEvent) (replies : List Reply) (old mid new : Fleet) (event : FleetEvent) (last : Reply)
+    → Run tells old events replies mid → Step tells mid event last new → Run tells old (events ++ event ∷ []) (replies ++ last ∷ []) new
+more tells [] [] old mid new event last ran step = (new, subst (λ (f : Fleet). Step tells f event last new) ran step, refl)
+more tells [] (r ∷ replies) old mid new event last ran step = absurd ran
+more tells (e ∷ events) [] old mid new event last ran step = absurd ran
+more tells (e ∷ events) (r ∷ replies) old mid new event last ran step = (ran.0, ran.1, more tells events replies ran.0 mid new event last ran.2 step)
+
+-- over the front of a list of events
+pub runs-next : (tells : Bool) (before now : List Reply) (events : List FleetEvent) (i : ℕ) (d : FleetEvent) (old mid new : Fleet) (last : Reply) → i < length events
+    → RunsBehind tells before old (take i events) now mid → Step tells mid (get_or events i d) last new → RunsBehind tells before old (take (i + 1) events) (now ++ last ∷ []) new
+runs-next tells before now events i d old mid new last inside runs step = record {
+  added = runs.added ++ last ∷ [];
+  behind = ap (λ xs. xs ++ last ∷ []) runs.behind ∙ append_assoc before runs.added (last ∷ []);
+  ran = rw (take_more events i d inside) (more tells (take i events) runs.added old mid new (get_or events i d) last runs.ran step);
+}

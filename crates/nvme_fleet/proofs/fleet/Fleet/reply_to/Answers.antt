@@ -1,0 +1,20 @@
+use Rattle.std.proofs.Common.{◌≡◌, ◌≤◌, ◌∙◌, length, sym, ap, subst, arith}
+use Rattle.nvme_spec.specs.Limits.{most_bytes}
+use Rattle.nvme_fleet.specs.FleetStates.{fleet_of, data_in}
+use Rattle.nvme_fleet.specs.Fleets.{Step}
+use Rattle.nvme_fleet.proofs.FleetRuns.{copied, fits-room}
+use Rattle.nvme_fleet.proofs.fleet.Fleet.reply_to.Goals as goal
+
+pub returns : goal.returns
+returns g c =
+    let old = fleet_of c.args.self.now in
+    let new = fleet_of c.apply-seen.new.self in
+    let given = data_in c.apply-seen.new.self in
+    let step = c.apply-seen.ensures.step in
+    let few : length given ≤ most_bytes = subst (λ xs. length xs ≤ most_bytes) c.data.ensures.value c.data.ensures.few in
+    let room = fits-room g.M.Medium.tells old c.args.event (record { seen = c.apply-seen.result; bytes = given }) new step few in
+    let long : length c.data.result.now ≡ length given = ap length c.data.ensures.value in
+    let none : length c.args.bytes.items ≡ 0 = ap length c.requires.empty in
+    let ok = c.extend_from_slice-fits.ensures.succeeds (omega (arith, c.args.bytes.ok.0, none, long, room, c.requires.room)) in
+    let whole = copied c.extend_from_slice-fits.result c.args.bytes.items c.extend_from_slice-fits.new.self.items c.data.result.now c.extend_from_slice-fits.ensures.items ok c.requires.empty in
+    record { step = subst (λ xs. Step g.M.Medium.tells old c.args.event (record { seen = c.apply-seen.result; bytes = xs }) new) (sym (whole ∙ c.data.ensures.value)) step }

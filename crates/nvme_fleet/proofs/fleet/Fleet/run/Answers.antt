@@ -1,0 +1,11 @@
+use Rattle.std.proofs.Common.{◌≡◌, ◌∷◌, ◌++◌, ◌∙◌, [], ap}
+use Rattle.nvme_fleet.specs.FleetStates.{fleet_of}
+use Rattle.nvme_fleet.proofs.FleetRuns.{runs-next}
+use Rattle.nvme_fleet.proofs.fleet.Fleet.run.Goals as goal
+
+pub loop-event-preserved : goal.loop-event-preserved
+loop-event-preserved g c =
+    let added : c.push_reserved.new.self.items ≡ c.loop-event.replies.items ++ c.reply_to.result ∷ [] = c.push_reserved.ensures.items ∙ ap (λ xs. xs ++ c.reply_to.result ∷ []) c.reserve.ensures.items in
+    rw added
+    (runs-next g.M.Medium.tells c.args.replies.now.items c.loop-event.replies.items c.args.events.now c.loop-event.event-index _ (fleet_of c.args.self.now) (fleet_of c.loop-event.self) (fleet_of c.reply_to.new.self) c.reply_to.result
+    c.loop-event-test.true c.loop-event.invariant c.reply_to.ensures.step)

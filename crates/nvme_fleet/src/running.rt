@@ -1,0 +1,62 @@
+//! A run of events over a fleet.
+
+ghost use Rattle.std.specs.Prelude.{◌≡◌, ◌≤◌, [], vec_capacity, OnOk, OnErr};
+ghost use Rattle.nvme_fleet.specs.FleetStates.{fleet_of};
+ghost use Rattle.nvme_fleet.specs.Fleets.{Step};
+ghost use Rattle.nvme_fleet.specs.Running.{RunsBehind, RunsInPart, room_for};
+
+use crate::event::FleetEvent;
+use crate::fleet::Fleet;
+use crate::opening::MOST_BYTES;
+use crate::reply::Reply;
+use nvme_medium::Medium;
+use nvme_wire::NoMemory;
+use std::alloc::Global;
+
+/// How many bytes an event gives at most: only a poll gives any.
+fn room_of(event: FleetEvent<'_>) -> usize
+    ensures { result ≡ room_for event.entry }
+{
+    match event {
+        FleetEvent::Poll(_) => MOST_BYTES,
+        _ => 0,
+    }
+}
+
+impl<M: Medium> Fleet<M> {
+    /// Events, one after the other; what each gave is added behind the replies. The memory that a reply takes is asked for
+    /// before its event.
+    ///
+    /// # Errors
+    ///
+    /// `NoMemory` where the allocator has no room for the next reply: the events before it have happened, and their replies
+    /// are added; that event and those behind it have not.
+    pub fn run(
+        &mut self,
+        alloc: Global,
+        events: &[FleetEvent<'_>],
+        replies: &mut Vec<Reply>,
+    ) -> Result<(), NoMemory>
+        ensures ran { OnOk result (RunsBehind M.tells replies.old.items (fleet_of self.old) events.now replies.new.items (fleet_of self.new)) }
+        ensures stopped { OnErr result (RunsInPart M.tells replies.old.items (fleet_of self.old) events.now replies.new.items (fleet_of self.new)) }
+    {
+        for event in events {
+            replies.reserve(1)?;
+            let bytes = Vec::with_capacity(alloc, room_of(*event))?;
+            replies.push_reserved(self.reply_to(*event, bytes));
+        }
+        Ok(())
+    }
+
+    /// An event and its reply, whose bytes come to stand in a vector that is empty and has room for them.
+    fn reply_to(&mut self, event: FleetEvent<'_>, mut bytes: Vec<u8>) -> Reply
+        requires empty { bytes.items ≡ [] }
+        requires room { room_for event ≤ vec_capacity bytes }
+        ensures step { Step M.tells (fleet_of self.old) event.entry result (fleet_of self.new) }
+    {
+        let seen = self.apply(event);
+        // There is room for them, so that no memory is asked for.
+        let _fits = bytes.extend_from_slice(self.data());
+        Reply { seen, bytes }
+    }
+}
