@@ -1,0 +1,7 @@
+//! Hosts that use a fleet by events alone.
+
+mod access;
+mod bench;
+mod configurations;
+mod mailboxes;
+mod raw_hosts;

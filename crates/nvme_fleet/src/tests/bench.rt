@@ -1,0 +1,252 @@
+//! Four controllers of three hosts over a medium in memory, and requests that are carried through.
+
+use crate::{
+    Answer, Executed, Fetched, Fleet, FleetEvent, FleetSeen, NotUp, PlaceRefusal, PollFault,
+    Request, Ticket, UpFault,
+};
+use nvme_medium::MemMedium;
+use nvme_spec::{Config, ControllerConfig, NsConfig};
+use nvme_wire::Status;
+use std::alloc::{AllocError, Global};
+use std::test::Fail;
+
+/// A fleet over a medium in memory.
+pub type Bench = Fleet<MemMedium>;
+
+/// What an event gave; of a posted completion the status and the rule.
+#[derive(Clone, Copy, Debug, PartialEq, Eq)]
+pub enum Shown {
+    Up(Result<(), UpFault>),
+    Placed(Result<Ticket, PlaceRefusal>),
+    Rung(Result<(), NotUp>),
+    Fetched(Fetched),
+    Posted(Status, u8),
+    NoSuch,
+    CqFull,
+    Polled(Result<Option<Answer>, PollFault>),
+    Reset,
+    Stored,
+    Outside,
+    Wrote,
+    NoController,
+    NoDriver,
+    NotRaw,
+}
+
+/// What came of a request: the status and the rule of the execution, double word 0, and how many bytes came with the
+/// answer.
+#[derive(Clone, Copy, Debug, PartialEq, Eq)]
+pub struct Carried {
+    pub status: Status,
+    pub rule: u8,
+    pub dw0: u32,
+    pub len: usize,
+}
+
+fn show(seen: FleetSeen) -> Shown {
+    match seen {
+        FleetSeen::Up(up) => Shown::Up(up),
+        FleetSeen::Placed(placed) => Shown::Placed(placed),
+        FleetSeen::Rung(rung) => Shown::Rung(rung),
+        FleetSeen::Fetched(fetched) => Shown::Fetched(fetched),
+        FleetSeen::Executed(Executed::Posted(outcome)) => {
+            Shown::Posted(outcome.status, outcome.rule)
+        }
+        FleetSeen::Executed(Executed::NoSuch) => Shown::NoSuch,
+        FleetSeen::Executed(Executed::CqFull) => Shown::CqFull,
+        FleetSeen::Polled(polled) => Shown::Polled(polled),
+        FleetSeen::Reset => Shown::Reset,
+        FleetSeen::Stored => Shown::Stored,
+        FleetSeen::Outside => Shown::Outside,
+        FleetSeen::Wrote => Shown::Wrote,
+        FleetSeen::NoController => Shown::NoController,
+        FleetSeen::NoDriver => Shown::NoDriver,
+        FleetSeen::NotRaw => Shown::NotRaw,
+    }
+}
+
+/// One event.
+pub(crate) fn happen(fleet: &mut Bench, event: FleetEvent<'_>) -> Shown {
+    show(fleet.apply(event))
+}
+
+fn driven(cntlid: u16, host: u64) -> ControllerConfig {
+    ControllerConfig {
+        cntlid,
+        host,
+        raw: false,
+    }
+}
+
+/// Four controllers, the first and the third of one host; a shared namespace of 64 blocks, attached to all of them, and
+/// a private one, attached to the first.
+pub(crate) fn configuration(alloc: Global, private_blocks: u64) -> Result<Config, AllocError> {
+    Ok(Config {
+        controllers: vec![in alloc;
+            driven(1, 0xa1),
+            driven(2, 0xb2),
+            driven(3, 0xa1),
+            driven(4, 0xc3),
+        ]?,
+        namespaces: vec![in alloc;
+            NsConfig {
+                nsid: 1,
+                blocks: 64,
+                shared: true
+            },
+            NsConfig {
+                nsid: 2,
+                blocks: private_blocks,
+                shared: false
+            },
+        ]?,
+        attached: vec![in alloc; (1, 1), (2, 1), (3, 1), (4, 1), (1, 2)]?,
+    })
+}
+
+/// Opens the configuration over a medium of 72 blocks of zeros. No controller is up.
+pub(crate) fn open(alloc: Global) -> Result<Bench, Fail> {
+    let config = configuration(alloc, 8)?;
+    let medium = MemMedium::new(alloc, &[0; 72 * 512])?;
+    let fleet = Fleet::new(alloc, &config, medium).map_err(|refused| refused.fault)?;
+    Ok(fleet)
+}
+
+/// Opens the configuration, and brings all four controllers up.
+pub(crate) fn open_up(alloc: Global) -> Result<Bench, Fail> {
+    let mut fleet = open(alloc)?;
+    for cntlid in 1..5 {
+        let FleetSeen::Up(Ok(())) = fleet.apply(FleetEvent::BringUp(cntlid)) else {
+            return Err(Fail::from("a controller did not come up"));
+        };
+    }
+    Ok(fleet)
+}
+
+/// The submission queue of a request's command.
+fn queue_of(request: &Request<'_>) -> u16 {
+    match request {
+        Request::Identify { .. }
+        | Request::Protect { .. }
+        | Request::Protection { .. }
+        | Request::Attach { .. }
+        | Request::Detach { .. } => 0,
+        _ => 1,
+    }
+}
+
+/// Places a request, rings, and lets the controller fetch it.
+pub(crate) fn send(fleet: &mut Bench, cntlid: u16, request: Request<'_>) -> Result<Ticket, Fail> {
+    let FleetSeen::Placed(Ok(ticket)) = fleet.apply(FleetEvent::Place(cntlid, request)) else {
+        return Err(Fail::from("the request was not placed"));
+    };
+    let FleetSeen::Rung(Ok(())) = fleet.apply(FleetEvent::Ring(cntlid)) else {
+        return Err(Fail::from("the controller was not told"));
+    };
+    let queue = queue_of(&request);
+    let FleetSeen::Fetched(Fetched::Took) = fleet.apply(FleetEvent::Fetch(cntlid, queue)) else {
+        return Err(Fail::from("nothing was fetched"));
+    };
+    Ok(ticket)
+}
+
+/// Carries a request through a controller that has fetched nothing else, up to its answer.
+pub(crate) fn carry(fleet: &mut Bench, cntlid: u16, request: Request<'_>) -> Result<Carried, Fail> {
+    let placed = send(fleet, cntlid, request)?;
+    let FleetSeen::Executed(Executed::Posted(outcome)) = fleet.apply(FleetEvent::Execute(cntlid, 0))
+    else {
+        return Err(Fail::from("nothing was posted"));
+    };
+    let FleetSeen::Polled(
+        Ok(
+            Some(
+                Answer::Done {
+                    ticket,
+                    status,
+                    dw0,
+                    len,
+                },
+            ),
+        ),
+    ) = fleet.apply(FleetEvent::Poll(cntlid))
+    else {
+        return Err(Fail::from("no answer was handed up"));
+    };
+    if ticket != placed || status != outcome.status || dw0 != outcome.dw0 {
+        return Err(Fail::from("the answer is not that of the execution"));
+    }
+    Ok(Carried {
+        status,
+        rule: outcome.rule,
+        dw0,
+        len,
+    })
+}
+
+/// A command that succeeds, with so many bytes of data.
+pub(crate) fn done(len: usize) -> Carried {
+    Carried {
+        status: Status::SUCCESSFUL_COMPLETION,
+        rule: 0,
+        dw0: 0,
+        len,
+    }
+}
+
+/// A command that a rule denies, or, by rule 0, that fails.
+pub(crate) fn denied(status: Status, rule: u8) -> Carried {
+    Carried {
+        status,
+        rule,
+        dw0: 0,
+        len: 0,
+    }
+}
+
+/// An answer of success, with so many bytes of data.
+pub(crate) fn answered(ticket: u64, len: usize) -> Shown {
+    Shown::Polled(Ok(Some(Answer::Done {
+        ticket: Ticket(ticket),
+        status: Status::SUCCESSFUL_COMPLETION,
+        dw0: 0,
+        len,
+    })))
+}
+
+/// A command that was executed with success.
+pub(crate) fn posted() -> Shown {
+    Shown::Posted(Status::SUCCESSFUL_COMPLETION, 0)
+}
+
+/// Reads blocks.
+pub(crate) fn read(nsid: u32, slba: u64, blocks: u32) -> Request<'static> {
+    Request::Read { nsid, slba, blocks }
+}
+
+/// Writes blocks.
+pub(crate) fn write(nsid: u32, slba: u64, bytes: &[u8]) -> Request<'_> {
+    Request::Write { nsid, slba, bytes }
+}
+
+/// Registers a new key.
+pub(crate) fn register(nsid: u32, key: u64) -> Request<'static> {
+    Request::Register {
+        nsid,
+        action: 0,
+        iekey: false,
+        cptpl: 0,
+        crkey: 0,
+        nrkey: key,
+    }
+}
+
+/// Acquires a reservation of a type, by an action: 0 acquires, 2 preempts and aborts.
+pub(crate) fn acquire(nsid: u32, action: u8, rtype: u8, keys: [u64; 2]) -> Request<'static> {
+    Request::Acquire {
+        nsid,
+        action,
+        rtype,
+        crkey: keys[0],
+        prkey: keys[1],
+    }
+}

@@ -1,0 +1,78 @@
+//! Configurations that are refused, the smallest one, and want of memory.
+
+use crate::tests::bench::{Shown, configuration, happen};
+use crate::{Fleet, FleetEvent};
+use nvme_medium::MemMedium;
+use nvme_spec::{Config, ConfigFault};
+use std::alloc::Global;
+use std::test::Fail;
+
+// A medium whose blocks differ.
+fn marked_medium(alloc: Global) -> Result<MemMedium, Fail> {
+    let mut bytes = [7; 72 * 512];
+    bytes[0] = 1;
+    bytes[36_863] = 9;
+    Ok(MemMedium::new(alloc, &bytes)?)
+}
+
+/// Whether a medium is the marked one as it was.
+fn is_unchanged(medium: &MemMedium) -> bool {
+    let bytes = medium.as_bytes();
+    let (Some(first), Some(last)) = (bytes.first(), bytes.last()) else {
+        return false;
+    };
+    bytes.len() == 72 * 512
+        && *first == 1
+        && *last == 9
+        && bytes.get(1..36_863) == Some([7; 36_862].as_slice())
+}
+
+#[test]
+fn a_fleet_without_controllers(rt: HostRuntime) -> Result<(), Fail> {
+    let config = Config {
+        controllers: Vec::new(rt.alloc()),
+        namespaces: Vec::new(rt.alloc()),
+        attached: Vec::new(rt.alloc()),
+    };
+    let mut fleet = Fleet::new(rt.alloc(), &config, marked_medium(rt.alloc())?).map_err(
+        |refused| refused.fault,
+    )?;
+    assert_eq!(rt;
+        happen(&mut fleet, FleetEvent::BringUp(1)),
+        Shown::NoController
+    );
+    assert_eq!(rt; fleet.data(), [].as_slice());
+    assert!(rt; is_unchanged(&fleet.into_medium()));
+    Ok(())
+}
+
+#[test]
+fn a_refused_configuration_hands_the_medium_back(rt: HostRuntime) -> Result<(), Fail> {
+    for (blocks, expected) in [
+        (0, ConfigFault::BadSize),
+        (65_537, ConfigFault::BadSize),
+        (9, ConfigFault::DoesNotFit),
+    ] {
+        let config = configuration(rt.alloc(), blocks)?;
+        let Err(refused) = Fleet::new(rt.alloc(), &config, marked_medium(rt.alloc())?) else {
+            return Err(Fail::from("a faulty configuration is accepted"));
+        };
+        assert_eq!(rt; refused.fault, expected);
+        assert!(rt; is_unchanged(&refused.medium));
+    }
+    Ok(())
+}
+
+// It holds whichever request for memory of `Fleet::new` is refused, as `rt try --fail-alloc` refuses them.
+#[test]
+fn want_of_memory_hands_the_medium_back(rt: HostRuntime) -> Result<(), Fail> {
+    let config = configuration(rt.alloc(), 8)?;
+    match Fleet::new(rt.alloc(), &config, marked_medium(rt.alloc())?) {
+        Ok(fleet) => assert!(rt; is_unchanged(&fleet.into_medium())),
+        Err(refused) => {
+            assert_eq!(rt; refused.fault, ConfigFault::NoMemory);
+            assert!(rt; is_unchanged(&refused.medium));
+        }
+    }
+    Ok(())
+}

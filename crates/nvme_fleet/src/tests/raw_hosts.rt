@@ -1,0 +1,169 @@
+//! A host without a driver beside one that has one.
+
+use crate::tests::bench::{Bench, Shown, answered, carry, done, happen, posted, read, write};
+use crate::{Fetched, Fleet, FleetEvent, Ticket};
+use nvme_medium::MemMedium;
+use nvme_spec::{Config, ControllerConfig, NsConfig};
+use nvme_wire::Status;
+use std::alloc::{AllocError, Global};
+use std::process::Abort;
+use std::test::Fail;
+
+/// The doorbell of the admin submission queue.
+const SUBMISSION_DOORBELL: u64 = 0x1000;
+
+// Controller 2 is that of a raw host; both are attached to a namespace of 64 blocks.
+fn configuration(alloc: Global) -> Result<Config, AllocError> {
+    Ok(Config {
+        controllers: vec![in alloc;
+            ControllerConfig {
+                cntlid: 1,
+                host: 0xa1,
+                raw: false
+            },
+            ControllerConfig {
+                cntlid: 2,
+                host: 0xb2,
+                raw: true
+            },
+        ]?,
+        namespaces: vec![in alloc;
+            NsConfig {
+                nsid: 1,
+                blocks: 64,
+                shared: true
+            },
+        ]?,
+        attached: vec![in alloc; (1, 1), (2, 1)]?,
+    })
+}
+
+/// Opens the configuration, and enables the raw host's controller, with its admin queues at 0 and 1000h, of 8 and 32
+/// entries.
+fn open(rt: &impl Abort, alloc: Global) -> Result<Bench, Fail> {
+    let config = configuration(alloc)?;
+    let medium = MemMedium::new(alloc, &[0; 64 * 512])?;
+    let mut fleet = Fleet::new(alloc, &config, medium).map_err(|refused| refused.fault)?;
+    for (offset, value) in [
+        (0x24, 0x001f_0007),
+        (0x28, 0),
+        (0x30, 0x1000),
+        (0x14, 0x0046_0001),
+    ] {
+        assert_eq!(rt;
+            happen(&mut fleet, FleetEvent::RawWrite32(2, offset, value)),
+            Shown::Wrote
+        );
+    }
+    Ok(fleet)
+}
+
+/// Writes the tail of the raw host's admin queue.
+fn ring(rt: &impl Abort, fleet: &mut Bench, tail: u32) {
+    assert_eq!(rt;
+        happen(fleet, FleetEvent::RawWrite32(2, SUBMISSION_DOORBELL, tail)),
+        Shown::Wrote
+    );
+}
+
+/// Writes the tail, and lets the controller fetch seven commands.
+fn fetch_seven(rt: &impl Abort, fleet: &mut Bench, tail: u32) {
+    ring(rt, fleet, tail);
+    for _ in 0..7 {
+        assert_eq!(rt;
+            happen(fleet, FleetEvent::Fetch(2, 0)),
+            Shown::Fetched(Fetched::Took)
+        );
+    }
+}
+
+/// An entry of zeros deletes queue 0, which no command can.
+fn refused() -> Shown {
+    Shown::Posted(Status::INVALID_QUEUE_IDENTIFIER, 6)
+}
+
+#[test]
+fn a_raw_host_puts_its_own_entries(rt: HostRuntime) -> Result<(), Fail> {
+    let mut fleet = open(&rt, rt.alloc())?;
+    assert_eq!(rt;
+        happen(&mut fleet, FleetEvent::RawStore(2, 0, &[0xff, 0, 9, 0])),
+        Shown::Stored
+    );
+    ring(&rt, &mut fleet, 1);
+    assert_eq!(rt;
+        happen(&mut fleet, FleetEvent::Fetch(2, 0)),
+        Shown::Fetched(Fetched::Took)
+    );
+    assert_eq!(rt;
+        happen(&mut fleet, FleetEvent::Execute(2, 0)),
+        Shown::Posted(Status::INVALID_COMMAND_OPCODE, 2)
+    );
+    let window = fleet
+        .controller(2)
+        .ok_or("the controller is not there")?
+        .window();
+    assert_eq!(rt;
+        window.piece(0x1000, 16),
+        Some([0, 0, 0, 0, 0, 0, 0, 0, 1, 0, 0, 0, 9, 0, 3, 0].as_slice())
+    );
+    ring(&rt, &mut fleet, 0);
+    assert_eq!(rt;
+        happen(&mut fleet, FleetEvent::Fetch(2, 0)),
+        Shown::Fetched(Fetched::Took)
+    );
+    assert_eq!(rt; happen(&mut fleet, FleetEvent::Execute(2, 0)), refused());
+    Ok(())
+}
+
+#[test]
+fn a_raw_host_and_a_driver_take_their_own_events(rt: HostRuntime) -> Result<(), Fail> {
+    let mut fleet = open(&rt, rt.alloc())?;
+    for (event, seen) in [
+        (FleetEvent::BringUp(2), Shown::NoDriver),
+        (FleetEvent::Place(2, read(1, 0, 1)), Shown::NoDriver),
+        (FleetEvent::Ring(2), Shown::NoDriver),
+        (FleetEvent::Poll(2), Shown::NoDriver),
+        (FleetEvent::Reset(2), Shown::NoDriver),
+        (FleetEvent::RawStore(1, 0, &[0]), Shown::NotRaw),
+        (FleetEvent::RawStore(1, u64::MAX, &[0]), Shown::NotRaw),
+        (FleetEvent::RawWrite32(1, 0x14, 0), Shown::NotRaw),
+        (FleetEvent::RawWrite32(9, 0, 0), Shown::NoController),
+        (FleetEvent::RawStore(3, 0, &[0]), Shown::NoController),
+        (FleetEvent::RawStore(2, 4_194_303, &[0, 0]), Shown::Outside),
+        (FleetEvent::RawStore(2, u64::MAX, &[0]), Shown::Outside),
+        (FleetEvent::RawStore(2, 4_194_303, &[7]), Shown::Stored),
+    ] {
+        assert_eq!(rt; happen(&mut fleet, event), seen);
+    }
+    Ok(())
+}
+
+#[test]
+fn a_driver_goes_on_beside_a_raw_host(rt: HostRuntime) -> Result<(), Fail> {
+    let mut fleet = open(&rt, rt.alloc())?;
+    let mut block = [0; 512];
+    block[..5].copy_from_slice(b"Hello");
+    fetch_seven(&rt, &mut fleet, 7);
+    for (event, seen) in [
+        (FleetEvent::BringUp(1), Shown::Up(Ok(()))),
+        (FleetEvent::RawStore(2, 0, &[0xff; 4096]), Shown::Stored),
+        (
+            FleetEvent::Place(1, write(1, 0, &block)),
+            Shown::Placed(Ok(Ticket(1))),
+        ),
+        (FleetEvent::Execute(2, 0), refused()),
+        (FleetEvent::Ring(1), Shown::Rung(Ok(()))),
+        (FleetEvent::RawStore(1, 0x2000, &[0; 64]), Shown::NotRaw),
+        (FleetEvent::Fetch(1, 1), Shown::Fetched(Fetched::Took)),
+        (FleetEvent::RawWrite32(2, 0x14, 0), Shown::Wrote),
+        (FleetEvent::Execute(2, 0), Shown::NoSuch),
+        (FleetEvent::Execute(1, 0), posted()),
+        (FleetEvent::Reset(2), Shown::NoDriver),
+        (FleetEvent::Poll(1), answered(1, 0)),
+    ] {
+        assert_eq!(rt; happen(&mut fleet, event), seen);
+    }
+    assert_eq!(rt; carry(&mut fleet, 1, read(1, 0, 1))?, done(512));
+    assert_eq!(rt; fleet.data(), block.as_slice());
+    Ok(())
+}
