@@ -6,6 +6,7 @@ ghost use Rattle.nvme_spec.specs.declared.command.AdminCommand.TheVariants.{SetF
 ghost use Rattle.nvme_spec.specs.AdminCommands as commands;
 ghost use Rattle.nvme_spec.specs.AdminEffects as effects;
 ghost use Rattle.nvme_spec.specs.AdminRules as rules;
+ghost use Rattle.nvme_spec.specs.IoRules as io;
 ghost use Rattle.nvme_spec.specs.Rules.{judgement_by, first_failing};
 ghost use Rattle.nvme_spec.specs.World.{namespace_of, is_attached};
 ghost use Rattle.nvme_admin.specs.Admitted.{IsAdmitted};
@@ -57,13 +58,13 @@ pub fn admit(spaces: &Spaces, queues: &Queues, cntlid: u16, sqe: &Sqe) -> Result
 }
 
 /// Rule 2: the opcode is an admin command's.
-#[tactic(auto, unfolding(nvme_spec::specs::AdminRules::opcode_rule, nvme_spec::specs::Rules::judgement_by))]
+#[tactic(auto, unfolding(nvme_spec::specs::IoRules::opcode_rule, nvme_spec::specs::Rules::judgement_by))]
 fn check_opcode(sqe: &Sqe) -> Result<AdminCommand, Denial>
     ensures named { IfOk result (λ command. commands.command_of (entry.opcode sqe.now) ≡ Some command) }
     ensures passed { OnOk result
-        (judgement_by (rules.opcode_rule (commands.command_of (entry.opcode sqe.now))) ≡ Ok tt) }
+        (judgement_by (io.opcode_rule (commands.command_of (entry.opcode sqe.now))) ≡ Ok tt) }
     ensures denied { IfErr result
-        (λ d. judgement_by (rules.opcode_rule (commands.command_of (entry.opcode sqe.now))) ≡ Err d) }
+        (λ d. judgement_by (io.opcode_rule (commands.command_of (entry.opcode sqe.now))) ≡ Err d) }
 {
     command_of(sqe.opcode()).ok_or(Denial {
         rule: 2,

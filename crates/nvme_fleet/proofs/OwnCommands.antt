@@ -37,12 +37,12 @@ with_completions = record { cq = true ∷ true ∷ false ∷ false ∷ false ∷
 
 pub completions-made : (w : World) (k : ℕ) (window : List ℕ)
     → admin_execution w admin_pair k (entry.submission_entry create_completion_queue) window ≡ only_change first_change w window
-unfolding admin_execution entry.submission_entry entry.opcode entry.fuse entry.psdt entry.nsid entry.prp1 entry.prp2 entry.cdw10 entry.cdw11 rules.judgement_by io.form_rule pointer.fault_of pointer.first_fault transfers.addresses transfers.with_scattered datarule.data_addresses datarule.pointer_rule admin.command_of admin.qid admin.queue_size admin.pc admin.cqid admin.cns admin.fid adminrule.opcode_rule adminrule.nsid_rule adminrule.attachment_rule adminrule.completion_queue_rule adminrule.reservation_rule adminrule.list_rule adminrule.admin_judgement adminwork.double_word_0 adminwork.data_out adminwork.queue_change adminwork.world_after
+unfolding admin_execution entry.submission_entry entry.opcode entry.fuse entry.psdt entry.nsid entry.prp1 entry.prp2 entry.cdw10 entry.cdw11 rules.judgement_by io.form_rule pointer.fault_of pointer.first_fault transfers.addresses transfers.with_scattered datarule.data_addresses datarule.pointer_rule admin.command_of admin.qid admin.queue_size admin.pc admin.cqid admin.cns admin.fid io.opcode_rule adminrule.nsid_rule adminrule.attachment_rule adminrule.completion_queue_rule adminrule.reservation_rule adminrule.list_rule adminrule.admin_judgement adminwork.double_word_0 adminwork.data_out adminwork.queue_change adminwork.world_after
 completions-made w k window = refl
 
 pub submissions-made : (w : World) (k : ℕ) (window : List ℕ)
     → admin_execution w with_completions k (entry.submission_entry create_submission_queue) window ≡ only_change second_change w window
-unfolding admin_execution entry.submission_entry entry.opcode entry.fuse entry.psdt entry.nsid entry.prp1 entry.prp2 entry.cdw10 entry.cdw11 rules.judgement_by io.form_rule pointer.fault_of pointer.first_fault transfers.addresses transfers.with_scattered datarule.data_addresses datarule.pointer_rule admin.command_of admin.qid admin.queue_size admin.pc admin.cqid admin.cns admin.fid adminrule.opcode_rule adminrule.nsid_rule adminrule.attachment_rule adminrule.submission_queue_rule adminrule.reservation_rule adminrule.list_rule adminrule.admin_judgement adminwork.double_word_0 adminwork.data_out adminwork.queue_change adminwork.world_after
+unfolding admin_execution entry.submission_entry entry.opcode entry.fuse entry.psdt entry.nsid entry.prp1 entry.prp2 entry.cdw10 entry.cdw11 rules.judgement_by io.form_rule pointer.fault_of pointer.first_fault transfers.addresses transfers.with_scattered datarule.data_addresses datarule.pointer_rule admin.command_of admin.qid admin.queue_size admin.pc admin.cqid admin.cns admin.fid io.opcode_rule adminrule.nsid_rule adminrule.attachment_rule adminrule.submission_queue_rule adminrule.reservation_rule adminrule.list_rule adminrule.admin_judgement adminwork.double_word_0 adminwork.data_out adminwork.queue_change adminwork.world_after
 submissions-made w k window = refl
 
 pub first-cid : entry.cid (entry.submission_entry create_completion_queue) ≡ 24

@@ -7,7 +7,7 @@ use Rattle.nvme_spec.specs.declared.command.AdminCommand.TheVariants.{DeleteSubm
 use Rattle.nvme_spec.specs.declared.queues.Queues.{Queues}
 use Rattle.nvme_spec.specs.World.{World, Namespace, namespace_of}
 use Rattle.nvme_spec.specs.Rules.{first_failure}
-use Rattle.nvme_spec.specs.IoRules.{form_rule}
+use Rattle.nvme_spec.specs.IoRules.{opcode_rule, form_rule}
 use Rattle.nvme_spec.specs.DataRules.{pointer_rule, data_fault}
 use Rattle.nvme_spec.specs.Attachments as attaching
 use Rattle.nvme_spec.specs.AdminCommands as admin
@@ -77,7 +77,7 @@ field-refuses (Some GetFeatures) queues n e = (refl, (refl, tt))
 field-refuses (Some NamespaceAttachment) queues n e = (refl, (refl, tt))
 
 pub admin-refuses : (w : World) (queues : Queues) (k : ℕ) (e window : List ℕ) → JudgementRefuses (adminrule.admin_judgement w queues k e window)
-unfolding adminrule.admin_judgement adminrule.opcode_rule form_rule adminrule.nsid_rule adminrule.attachment_rule adminrule.reservation_rule pointer_rule
+unfolding adminrule.admin_judgement opcode_rule form_rule adminrule.nsid_rule adminrule.attachment_rule adminrule.reservation_rule pointer_rule
 admin-refuses w queues k e window =
     rules-refuse (adminrule.admin_rules w queues k e window)
     ((refl, tt), ((refl, tt), ((refl, (refl, tt)), ((refl, tt), (field-refuses (admin.command_of (opcode e)) queues (namespace_of w (nsid e)) e, ((refl, tt), (fault-refuses (data_fault (admin.data_length_of (admin.command_of (opcode e)) e) window e), (list-refuses (admin.command_of (opcode e)) w e (adminrule.data_of window e), tt))))))))

@@ -9,12 +9,12 @@ use Rattle.nvme_spec.specs.declared.queues.Queues.{Queues}
 use Rattle.nvme_spec.specs.Memory.{window_size}
 use Rattle.nvme_spec.specs.World.{World, Namespace, namespace_of}
 use Rattle.nvme_spec.specs.Rules.{Test, Judgement, test, judgement_by, denial_by, first_failure}
-use Rattle.nvme_spec.specs.IoRules.{form_rule}
+use Rattle.nvme_spec.specs.IoRules.{opcode_rule, form_rule}
 use Rattle.nvme_spec.specs.Statuses as status
 use Rattle.nvme_spec.specs.RegisterLaws.{IsQueuePlace}
 use Rattle.nvme_spec.specs.ExistingQueues.{has_completion_queue, has_submission_queue, is_used}
 use Rattle.nvme_spec.specs.AdminCommands.{command_of, pc, queue_size, qid, cqid}
-use Rattle.nvme_spec.specs.AdminRules.{is_foreign, base_tests, size_test, opcode_rule, nsid_rule, attachment_rule, field_rule, completion_queue_rule, submission_queue_rule, submission_deletion_rule, completion_deletion_rule, admin_judgement}
+use Rattle.nvme_spec.specs.AdminRules.{is_foreign, base_tests, size_test, nsid_rule, attachment_rule, field_rule, completion_queue_rule, submission_queue_rule, submission_deletion_rule, completion_deletion_rule, admin_judgement}
 use Rattle.nvme_spec.specs.AdminEffects.{queue_change, execution_by, admin_execution}
 use Rattle.nvme_spec.specs.QueueChanges.{IsIoQueue, Suits, AdminChangesSuit}
 use Rattle.nvme_spec.proofs.Passing.{both, not_false}

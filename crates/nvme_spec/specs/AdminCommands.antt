@@ -1,9 +1,9 @@
 -- The admin commands: their opcodes, their fields and the data that they move (Base Specification: Admin Command Set;
 -- Create and Delete I/O Completion Queue, Create and Delete I/O Submission Queue, Identify, Set Features and Get
 -- Features with Number of Queues, Host Identifier and Namespace Write Protection Config, Namespace Attachment).
-use Rattle.std.specs.Prelude.{ℕ, ◌+◌, ◌==◌, Bool, false, ◌&&◌, if◌then◌else◌, List, [], ◌∷◌, Option, None, Some, find}
-use Rattle.std.specs.List.{list_any}
+use Rattle.std.specs.Prelude.{ℕ, ◌+◌, ◌==◌, Bool, ◌&&◌, if◌then◌else◌, List, [], ◌∷◌, Option, None, Some}
 use Rattle.nvme_wire.specs.Entry.{bits}
+use Rattle.nvme_spec.specs.Opcodes.{command_with, is_among}
 use Rattle.nvme_wire.specs.Submission.{cdw10, cdw11}
 use Rattle.nvme_spec.specs.declared.command.AdminCommand.{AdminCommand}
 use Rattle.nvme_spec.specs.declared.command.AdminCommand.TheVariants.{DeleteSubmissionQueue, CreateSubmissionQueue, DeleteCompletionQueue, CreateCompletionQueue, Identify, SetFeatures, GetFeatures, NamespaceAttachment}
@@ -25,12 +25,11 @@ all_commands =
 
 -- the command with this opcode
 unfoldable pub command_of : ℕ → Option AdminCommand
-command_of opcode = find (λ c. opcode_of c == opcode) all_commands
+command_of opcode = command_with opcode_of all_commands opcode
 
 -- there is a command, and it is one of these
 abbrev pub is_one_of : Option AdminCommand → List AdminCommand → Bool
-is_one_of None commands = false
-is_one_of (Some command) commands = list_any (λ c. opcode_of c == opcode_of command) commands
+is_one_of command commands = is_among opcode_of command commands
 
 -- The fields of an entry.
 

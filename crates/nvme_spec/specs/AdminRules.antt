@@ -13,16 +13,12 @@ use Rattle.nvme_spec.specs.Limits.{highest_queue, fewest_entries, most_entries}
 use Rattle.nvme_spec.specs.Memory.{window_size}
 use Rattle.nvme_spec.specs.World.{World, Namespace, host_of, namespace_of, is_attached}
 use Rattle.nvme_spec.specs.Rules.{Rule, Test, Judgement, test, rule, refusal_tests, first_failing}
-use Rattle.nvme_spec.specs.IoRules.{form_rule, is_no_nsid, permits_group}
+use Rattle.nvme_spec.specs.IoRules.{opcode_rule, form_rule, is_no_nsid, permits_group}
 use Rattle.nvme_spec.specs.DataRules.{data_in, pointer_rule}
 use Rattle.nvme_spec.specs.Attachments.{Outcome, attach, detach}
 use Rattle.nvme_spec.specs.ExistingQueues.{has_completion_queue, has_submission_queue, is_used, has_io_queue}
 use Rattle.nvme_spec.specs.AdminCommands.{command_of, is_one_of, qid, queue_size, pc, cqid, cns, namespace_structure, namespace_list_structure, fid, number_of_queues, host_identifier, write_protection, sv, nsqr, ncqr, wps, exhid, sel, names_feature, asks_for, data_length_of}
 use Rattle.nvme_spec.specs.Statuses as status
-
--- 2: the opcode is not that of an admin command
-unfoldable pub opcode_rule : Option AdminCommand → Rule
-opcode_rule command = rule 2 (is_none command) status.invalid_command_opcode
 
 -- the command names one namespace
 abbrev pub names_namespace : Option AdminCommand → List ℕ → Bool

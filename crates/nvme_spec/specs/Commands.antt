@@ -1,8 +1,8 @@
 -- The I/O commands: their opcodes, their fields and the data that they move (NVM Command Set Specification:
 -- Flush, Write, Read, Compare, Write Zeroes; Base Specification: Reservation Register, Report, Acquire, Release).
-use Rattle.std.specs.Prelude.{ℕ, ◌+◌, ◌*◌, ◌%◌, ◌^◌, ◌==◌, Bool, false, if◌then◌else◌, List, [], ◌∷◌, Option, None, Some, find}
-use Rattle.std.specs.List.{list_any}
+use Rattle.std.specs.Prelude.{ℕ, ◌+◌, ◌*◌, ◌%◌, ◌^◌, ◌==◌, Bool, if◌then◌else◌, List, [], ◌∷◌, Option, None, Some}
 use Rattle.nvme_wire.specs.Entry.{bits}
+use Rattle.nvme_spec.specs.Opcodes.{command_with, is_among}
 use Rattle.nvme_wire.specs.Submission.{cdw10, cdw11, cdw12}
 use Rattle.nvme_spec.specs.declared.access.Group.{Group}
 use Rattle.nvme_spec.specs.declared.access.Group.TheVariants.{Read as Reading, Write as Writing}
@@ -31,12 +31,11 @@ all_commands =
 
 -- the command with this opcode
 unfoldable pub command_of : ℕ → Option Command
-command_of opcode = find (λ c. opcode_of c == opcode) all_commands
+command_of opcode = command_with opcode_of all_commands opcode
 
 -- there is a command, and it is one of these
 abbrev pub is_one_of : Option Command → List Command → Bool
-is_one_of None commands = false
-is_one_of (Some command) commands = list_any (λ c. opcode_of c == opcode_of command) commands
+is_one_of command commands = is_among opcode_of command commands
 
 -- The fields of an entry.
 

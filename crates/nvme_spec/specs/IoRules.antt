@@ -25,8 +25,8 @@ use Rattle.nvme_spec.specs.Statuses as status
 unfoldable pub mark_rule : Bool → Rule
 mark_rule marked = rule 1 marked status.command_aborted_due_to_preempt_and_abort
 
--- 2: the opcode is not that of an I/O command
-unfoldable pub opcode_rule : Option Command → Rule
+-- 2: the opcode is not that of a command of the set
+unfoldable pub opcode_rule : {C : Type 0} → Option C → Rule
 opcode_rule command = rule 2 (is_none command) status.invalid_command_opcode
 
 -- 3: the command is fused, or its data pointer is not of PRP entries

@@ -10,6 +10,7 @@ pub mod ReservationLaws
 pub mod ReservationExamples
 pub mod Configuration
 pub mod World
+pub mod Opcodes
 pub mod Commands
 pub mod Rules
 pub mod IoRules
