@@ -15,4 +15,6 @@ pub mod Drivers
 pub mod Polls
 pub mod Rises
 pub mod Once
+pub mod FaultNames
 pub mod Examples
+pub use Rattle.nvme_wire.specs.StatusNames
