@@ -1,8 +1,9 @@
 -- Pairs of digits, one after the other.
-use Rattle.std.proofs.Common.{◌≡◌, ℕ, ◌+◌, ◌*◌, ◌%◌, ◌<◌, ◌≤◌, Bool, true, false, ◌&&◌, List, length, take, drop, slice_index, slice_set, Option, Some, None, Ok, Err, refl, arith}
+use Rattle.std.proofs.Common.{◌≡◌, ℕ, ◌+◌, ◌*◌, ◌%◌, ◌<◌, ◌≤◌, Bool, true, false, ◌&&◌, List, [], ◌∷◌, length, take, drop, slice_index, slice_set, Option, Some, None, Ok, Err, refl, arith}
 use Rattle.std.specs.Prelude.{MatchResult, nat_lt, unwrap_or}
 use Rattle.std.proofs.lemmas.Bool.{lt-ltb}
-use Rattle.hex.specs.Hex.{decode_pairs, hex_digit_value, pair_value}
+use Rattle.script_text.specs.Data.{some_bytes}
+use Rattle.hex.specs.Hex.{decode_of, decode_pairs, hex_digit_value, pair_value}
 use Rattle.hex.specs.declared.error.FromHexError.{FromHexError}
 use Rattle.hex.specs.declared.error.FromHexError.TheVariants.{InvalidHexCharacter}
 use Rattle.hex.proofs.Pairs.{prepend, decode_step, decode_err, decode_done}
@@ -41,3 +42,9 @@ pub decoded-all : (digits bytes : List ℕ) (i : ℕ) (good : Bool) → length b
     → MatchResult (decode_pairs 0 digits) (λ all. (good ≡ true) × (bytes ≡ all)) (λ _. good ≡ false)
 decoded-all digits bytes i true past pairs h = rw (decode_done digits bytes i past (omega (arith, pairs)) h) (refl, refl)
 decoded-all digits bytes i false past pairs h = rw h.1 refl
+
+-- no digits spell no bytes
+pub no_bytes : (digits : List ℕ) → length digits ≡ 0 → None ≡ some_bytes (decode_of digits)
+unfolding decode_pairs
+no_bytes [] none = refl
+no_bytes (d ∷ digits) none = absurd (omega (arith, none))

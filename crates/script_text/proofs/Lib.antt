@@ -4,5 +4,4 @@ mod HexTextLemmas
 pub mod OnLiterals
 mod NumberLemmas
 mod TrimLemmas
-pub mod DataLengths
-mod WordLemmas
+pub mod WordLemmas

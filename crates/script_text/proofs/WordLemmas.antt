@@ -1,5 +1,5 @@
 -- A line taken apart at its front.
-use Rattle.std.proofs.Common.{◌≡◌, ℕ, suc, ◌<◌, ◌+◌, List, [], ◌∷◌, length, take, drop, true, false, Bool, refl, ap, sym, ◌∙◌, not, arith}
+use Rattle.std.proofs.Common.{◌≡◌, ℕ, suc, ◌<◌, ◌+◌, List, [], ◌∷◌, length, take, drop, get_or, true, false, Bool, refl, ap, sym, ◌∙◌, not, arith}
 use Rattle.std.specs.Prelude.{◌||◌, ◌&&◌, if◌then◌else◌, filter}
 use Rattle.std.specs.List.{prefix_len, slice_split}
 use Rattle.std.proofs.lemmas.Bool.{false≢true}
@@ -65,3 +65,33 @@ front-words bs text some =
     by : (word : List ℕ) (parts : List (List ℕ)) → 0 < length word → filter is_nonempty (word ∷ parts) ≡ word ∷ filter is_nonempty parts
     by [] parts h = absurd (omega arith)
     by (b ∷ word) parts h = refl
+
+same_head : (x b : ℕ) (xs bs : List ℕ) → x ∷ xs ≡ b ∷ bs → x ≡ b
+same_head x b xs bs e = ap (λ l. get_or l 0 0) e
+
+-- what stands behind a word that does not end the line is no visible character
+stopped : (bs rest : List ℕ) (b : ℕ) → drop (prefix_len is_visible bs) bs ≡ b ∷ rest → is_visible b ≡ false
+stopped [] rest b e = absurd (let none : 0 ≡ suc (length rest) = ap length e in omega (arith, none))
+stopped (x ∷ bs) rest b e = by (is_visible x) refl e (stopped bs rest b)
+  where
+    by : (v : Bool) → is_visible x ≡ v → drop (if v then 1 + prefix_len is_visible bs else 0) (x ∷ bs) ≡ b ∷ rest
+        → (drop (prefix_len is_visible bs) bs ≡ b ∷ rest → is_visible b ≡ false) → is_visible b ≡ false
+    by true f e more = more (rw (one-more (prefix_len is_visible bs)) at e)
+    by false f e more = ap is_visible (sym (same_head x b bs rest e)) ∙ f
+
+-- where that is no separator either, the line is no text
+pub no_end : (bs rest : List ℕ) (b : ℕ) → drop (prefix_len is_visible bs) bs ≡ b ∷ rest → is_separator b ≡ false → is_line_text bs ≡ false
+no_end bs rest b e s = sym (behind-text bs) ∙ ap is_line_text e ∙ rw (s, stopped bs rest b e) refl
+
+-- a text that begins with no separator has a word
+pub some_words : (bs : List ℕ) → starts_apart bs ≡ true → 0 < length bs → is_line_text bs ≡ true → 0 < length (line_words bs)
+some_words [] apart some text = absurd (omega (arith, some))
+some_words (b ∷ bs) apart some text = by (is_visible b) (is_separator b) refl apart text
+  where
+    first : is_visible b ≡ true → 0 < length (take (prefix_len is_visible (b ∷ bs)) (b ∷ bs))
+    first e = rw (e, one-more (prefix_len is_visible bs)) (omega arith)
+
+    by : (v s : Bool) → is_visible b ≡ v → not s ≡ true → ((s || v) && is_line_text bs) ≡ true → 0 < length (line_words (b ∷ bs))
+    by true s e a t = rw (front-words (b ∷ bs) text (first e)) (omega arith)
+    by false true e a t = absurd (false≢true a)
+    by false false e a t = absurd (false≢true t)

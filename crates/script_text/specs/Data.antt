@@ -1,4 +1,4 @@
--- The data of a write: `fill:` and one byte, or `hex:` and bytes that zeros fill up.
+-- Bytes that a word spells: `fill:` and one byte, or `hex:` and bytes, which zeros fill up to the data of a transfer.
 use Rattle.std.specs.Prelude.{ℕ, ◌-◌, ◌*◌, nat_le, nat_eq, ◌&&◌, List, [], ◌∷◌, ◌++◌, length, drop, replicate, codes, Option, Some, None, Result, Ok, if◌then◌else◌}
 use Rattle.std.specs.List.{starts_with}
 use Rattle.hex.specs.Hex.{decode_of}
@@ -14,15 +14,27 @@ fill_data (Some len) (Ok (b ∷ [])) = Some (replicate len b)
 fill_data None (Ok (b ∷ [])) = Some []
 fill_data len read = None
 
+-- one byte or more
+abbrev pub some_bytes : Result (List ℕ) FromHexError → Option (List ℕ)
+some_bytes (Ok (b ∷ bs)) = Some (b ∷ bs)
+some_bytes read = None
+
+-- zeros behind bytes, up to a length that has room for them
+abbrev pub filled_up : ℕ → List ℕ → Option (List ℕ)
+filled_up len bytes = if nat_le (length bytes) len then Some (bytes ++ replicate (len - length bytes) 0) else None
+
 -- one byte or more, and zeros behind them
-abbrev pub hex_data : Option ℕ → Result (List ℕ) FromHexError → Option (List ℕ)
-hex_data (Some len) (Ok (b ∷ bs)) = if nat_le (length (b ∷ bs)) len then Some (b ∷ bs ++ replicate (len - length (b ∷ bs)) 0) else None
-hex_data None (Ok (b ∷ bs)) = Some []
-hex_data len read = None
+abbrev pub hex_data : Option ℕ → Option (List ℕ) → Option (List ℕ)
+hex_data (Some len) (Some bytes) = filled_up len bytes
+hex_data None (Some bytes) = Some []
+hex_data len None = None
+
+-- the bytes that a word spells: `hex:` and an even number of digits, two at least
+unfoldable pub bytes_at : List ℕ → Option (List ℕ)
+bytes_at word = if starts_with nat_eq word (codes "hex:") then some_bytes (decode_of (drop 4 word)) else None
 
 -- the bytes that a word spells for a transfer of so many blocks; of a transfer that may not be, none
-abbrev pub data_at : ℕ → List ℕ → Option (List ℕ)
+unfoldable pub data_at : ℕ → List ℕ → Option (List ℕ)
 data_at blocks word =
     if starts_with nat_eq word (codes "fill:") then fill_data (transfer_len blocks) (decode_of (drop 5 word))
-    else if starts_with nat_eq word (codes "hex:") then hex_data (transfer_len blocks) (decode_of (drop 4 word))
-    else None
+    else hex_data (transfer_len blocks) (bytes_at word)

@@ -1,5 +1,5 @@
 -- The words of a line.
-use Rattle.std.specs.Prelude.{ℕ, ◌==◌, ◌||◌, ◌&&◌, not, nat_le, Bool, true, false, List, [], ◌∷◌, filter}
+use Rattle.std.specs.Prelude.{ℕ, ◌==◌, ◌||◌, ◌&&◌, not, nat_le, Bool, true, false, List, [], ◌∷◌, filter, length, ◌+◌, ◌/◌}
 use Rattle.std.specs.List.{slice_split, list_all}
 
 -- a space, a tab or a carriage return; vertical tab and form feed are none
@@ -26,3 +26,7 @@ line_words line = filter is_nonempty (slice_split is_separator line)
 abbrev pub starts_apart : List ℕ → Bool
 starts_apart [] = true
 starts_apart (b ∷ bs) = not (is_separator b)
+
+-- the most words that a line of this length can have: each but the last has a separator behind it
+abbrev pub most_words : List ℕ → ℕ
+most_words line = (length line + 1) / 2

@@ -3,7 +3,7 @@
 ghost use Rattle.std.specs.Prelude.{◌≡◌, ◌++◌, ◌∷◌, [], Some, None, codes, replicate};
 ghost use Rattle.script_text.specs.Numbers.{number_at};
 ghost use Rattle.script_text.specs.Words.{line_words};
-ghost use Rattle.script_text.specs.Data.{data_at};
+ghost use Rattle.script_text.specs.Data.{data_at, bytes_at};
 ghost use Rattle.script_text.specs.HexText.{hex_or_dash, without_trailing_zeros};
 
 #[tactic(auto, unfolding(crate::specs::Numbers::number_at))]
@@ -37,8 +37,8 @@ pub fn words()
     ensures none { line_words (32 ∷ 9 ∷ 13 ∷ []) ≡ [] }
 {}
 
-#[tactic(auto, unfolding(hex::proofs::OnLiterals::hex_on_literals))]
-pub fn payloads()
+#[tactic(auto, unfolding(crate::proofs::OnLiterals::words_on_literals))]
+pub fn data()
     ensures filled { data_at 2 (codes "fill:5a") ≡ Some (replicate 1024 90) }
     ensures padded { data_at 1 (codes "hex:48656c6C6f") ≡ Some (codes "Hello" ++ replicate 507 0) }
     ensures longest { data_at 1 (codes "hex:" ++ replicate 1024 48) ≡ Some (replicate 512 0) }
@@ -47,8 +47,8 @@ pub fn payloads()
     ensures long_for_no_transfer { data_at 0 (codes "hex:" ++ replicate 1026 48) ≡ Some [] }
 {}
 
-#[tactic(auto, unfolding(hex::proofs::OnLiterals::hex_on_literals))]
-pub fn no_payloads()
+#[tactic(auto, unfolding(crate::proofs::OnLiterals::words_on_literals))]
+pub fn no_data()
     ensures one_digit { data_at 1 (codes "fill:5") ≡ None }
     ensures three_digits { data_at 1 (codes "fill:5a5") ≡ None }
     ensures two_bytes { data_at 1 (codes "fill:5a5a") ≡ None }
@@ -59,6 +59,16 @@ pub fn no_payloads()
     ensures no_form { data_at 1 (codes "48") ≡ None }
     ensures form_in_upper_case { data_at 1 (codes "HEX:48") ≡ None }
     ensures odd_for_no_transfer { data_at 0 (codes "hex:0") ≡ None }
+{}
+
+#[tactic(auto, unfolding(crate::proofs::OnLiterals::words_on_literals))]
+pub fn bytes()
+    ensures one { bytes_at (codes "hex:0a") ≡ Some (10 ∷ []) }
+    ensures zeros_stay { bytes_at (codes "hex:00fF00") ≡ Some (0 ∷ 255 ∷ 0 ∷ []) }
+    ensures empty { bytes_at (codes "hex:") ≡ None }
+    ensures odd { bytes_at (codes "hex:123") ≡ None }
+    ensures no_hex_digit { bytes_at (codes "hex:0g") ≡ None }
+    ensures fill { bytes_at (codes "fill:00") ≡ None }
 {}
 
 pub fn shown_bytes()

@@ -2,17 +2,17 @@
 //! data that a transcript shows.
 #![tactic(auto)]
 
+mod data;
 mod decoding;
 mod examples;
 mod hex_text;
 mod number;
-mod payload;
 mod words;
 
+pub use data::{bytes_in, data_in};
 pub use hex_text::HexText;
 pub use number::{number_u8, number_u16, number_u32, number_u64};
-pub use payload::Payload;
-pub use words::{MOST_WORDS, words_of};
+pub use words::{FirstWord, FrontWords, MOST_WORDS, first_word, words_of};
 
 #[cfg(test)]
 mod tests;

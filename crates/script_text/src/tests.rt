@@ -5,7 +5,9 @@ use std::test::Fail;
 
 #[test]
 fn words_of_a_line(rt: HostRuntime) -> Result<(), Fail> {
-    let words = words_of(b" write\t1 0x1F \r").ok_or("words")?;
+    let front = words_of(b" write\t1 0x1F \r").ok_or("words")?;
+    let words = front.words;
+    assert!(rt; front.rest.is_empty());
     assert_eq!(rt; words.len(), 3);
     assert_eq!(rt; words[0], b"write".as_slice());
     assert_eq!(rt; number_u8(words[1]), Some(1));
@@ -20,13 +22,35 @@ fn data_of_a_write(rt: HostRuntime) -> Result<(), Fail> {
         (b"hex:00".as_slice(), "-"),
         (b"fill:00".as_slice(), "-"),
     ];
+    let mut buffer = vec![in rt.alloc(); 0xff; 131_072]?;
     for (word, shown) in cases {
-        let payload = Payload::parse(rt.alloc(), word, 1)?.ok_or("data")?;
-        let mut buffer = [0xff; 512];
-        assert_eq!(rt; payload.len(), 512);
-        payload.copy_into(&mut buffer);
-        let text = format!(in rt.alloc(); "{}", HexText(&buffer))?;
+        let data = data_in(word, 1, buffer.as_mut_slice()).ok_or("data")?;
+        assert_eq!(rt; data.len(), 512);
+        let text = format!(in rt.alloc(); "{}", HexText(data))?;
         assert_eq!(rt; text.as_str(), shown);
     }
     Ok(())
+}
+
+#[test]
+fn words_behind_the_first(rt: HostRuntime) -> Result<(), Fail> {
+    let front = words_of(b"1 2 3 4 5 6 7 8\t 9 10 ").ok_or("words")?;
+    assert_eq!(rt; front.words.len(), MOST_WORDS);
+    assert_eq!(rt; front.rest, b"9 10 ".as_slice());
+    let ninth = first_word(front.rest).ok_or("word")?;
+    assert_eq!(rt; ninth.word, b"9".as_slice());
+    assert_eq!(rt; ninth.behind, b"10 ".as_slice());
+    assert!(rt; words_of(b"1 2 3 4 5 6 7 8\x01").is_none());
+    Ok(())
+}
+
+#[test]
+fn bytes_of_a_store(rt: HostRuntime) {
+    let mut buffer = [0xff; 8];
+    assert_eq!(rt;
+        bytes_in(b"hex:0aF0", &mut buffer),
+        Some([10, 0xf0].as_slice())
+    );
+    assert_eq!(rt; bytes_in(b"hex:0aF", &mut buffer), None);
+    assert_eq!(rt; bytes_in(b"fill:0a", &mut buffer), None);
 }

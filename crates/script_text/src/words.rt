@@ -1,12 +1,12 @@
 //! The words of a line: what stands between spaces, tabs and carriage returns.
 
-ghost use Rattle.std.specs.Prelude.{◌≡◌, ◌<◌, ◌≤◌, true, map, length, IfSome, IsNone};
-ghost use Rattle.std.specs.List.{prefix_len};
-ghost use Rattle.script_text.specs.Words.{line_words, is_separator, is_visible, is_line_text, starts_apart};
+ghost use Rattle.std.specs.Prelude.{◌≡◌, ◌+◌, ◌<◌, ◌≤◌, ◌∷◌, ◌++◌, true, false, map, length, IfSome, IsNone};
+ghost use Rattle.std.specs.List.{prefix_len, AllByRecursion};
+ghost use Rattle.script_text.specs.Words.{line_words, is_separator, is_visible, is_line_text, starts_apart, most_words};
 
 use arrayvec::ArrayVec;
 
-/// The most words of a line that are told apart.
+/// The most words at the front of a line that are told apart at once.
 pub const MOST_WORDS: usize = 8;
 
 /// Whether a byte stands between words: a space, a tab or a carriage return, and no other.
@@ -49,22 +49,68 @@ fn word_len(line: &[u8]) -> usize
         .count()
 }
 
-/// The words of a line, from left to right, in one pass. `None` where a byte neither stands between words nor may stand
-/// in one, or where there are more than `MOST_WORDS`.
-pub fn words_of(line: &[u8]) -> Option<ArrayVec<&[u8], MOST_WORDS>>
-    ensures text { IfSome result (λ _. is_line_text line.now ≡ true) }
-    ensures words { IfSome result (λ words. map (λ word. word.now) words.items ≡ line_words line.now) }
-    ensures none { IsNone result → is_line_text line.now ≡ true → 8 < length (line_words line.now) }
+/// A word at the front of a line, and the line behind it and the separators that follow it.
+#[derive(Clone, Copy)]
+pub struct FirstWord<'a> {
+    pub word: &'a [u8],
+    pub behind: &'a [u8],
+}
+
+/// The first word of a line that begins with no separator. `None` where the word is empty, or a byte ends it that
+/// neither stands between words nor may stand in one.
+pub fn first_word(line: &[u8]) -> Option<FirstWord<'_>>
+    requires apart { starts_apart line.now ≡ true }
+    requires some { 0 < length line.now }
+    ensures text { IfSome result (λ first. is_line_text first.behind.now ≡ is_line_text line.now) }
+    ensures words { IfSome result (λ first. is_line_text line.now ≡ true
+        → line_words line.now ≡ first.word.now ∷ line_words first.behind.now) }
+    ensures apart { IfSome result (λ first. starts_apart first.behind.now ≡ true) }
+    ensures within { IfSome result (λ first. length first.word.now + length first.behind.now ≤ length line.now) }
+    ensures shorter { IfSome result (λ first. most_words first.behind.now < most_words line.now) }
+    ensures none { IsNone result → is_line_text line.now ≡ false }
+{
+    let (word, behind) = line.split_at(word_len(line));
+    if word.is_empty() {
+        return None;
+    }
+    match behind.split_first() {
+        None => Some(FirstWord { word, behind }),
+        Some((separator, behind)) if is_separator_byte(*separator) => Some(FirstWord {
+            word,
+            behind: behind_separators(behind),
+        }),
+        Some(_) => None,
+    }
+}
+
+/// The words at the front of a line, and the rest of the line behind them.
+#[derive(Drop)]
+pub struct FrontWords<'a> {
+    /// The first words, from left to right.
+    pub words: ArrayVec<&'a [u8], MOST_WORDS>,
+    /// What is left of the line behind `MOST_WORDS` words and the separators that follow them. It is empty where the line
+    /// has no more words.
+    pub rest: &'a [u8],
+}
+
+/// The first words of a line, from left to right. `None` where a byte in front of the rest neither stands between words
+/// nor may stand in one.
+pub fn words_of(line: &[u8]) -> Option<FrontWords<'_>>
+    ensures text { IfSome result (λ front. is_line_text front.rest.now ≡ is_line_text line.now) }
+    ensures words { IfSome result (λ front. is_line_text line.now ≡ true
+        → line_words line.now ≡ map (λ word. word.now) front.words.items ++ line_words front.rest.now) }
+    ensures all { IfSome result (λ front. 0 < length front.rest.now → length front.words.items ≡ 8) }
+    ensures apart { IfSome result (λ front. starts_apart front.rest.now ≡ true) }
+    ensures within { IfSome result (λ front. AllByRecursion (λ word. length word.now ≤ length line.now) front.words.items) }
+    ensures room { IfSome result (λ front. length front.words.items + most_words front.rest.now ≤ most_words line.now) }
+    ensures none { IsNone result → is_line_text line.now ≡ false }
 {
     let mut words = ArrayVec::new();
     let mut rest = behind_separators(line);
-    while !rest.is_empty() {
-        let (word, behind) = rest.split_at(word_len(rest));
-        if word.is_empty() || words.is_full() {
-            return None;
-        }
-        words.push(word);
-        rest = behind_separators(behind);
+    while !rest.is_empty() && !words.is_full() {
+        let first = first_word(rest)?;
+        words.push(first.word);
+        rest = first.behind;
     }
-    Some(words)
+    Some(FrontWords { words, rest })
 }

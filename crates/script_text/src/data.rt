@@ -1,0 +1,111 @@
+//! The bytes that a script spells: put into a buffer, of which the part that holds them is lent.
+
+ghost use Rattle.std.specs.Prelude.{◌≡◌, ◌≤◌, ◌*◌, length, take, option_map, IfSome};
+ghost use Rattle.script_text.specs.Data.{transfer_len, fill_data, filled_up, some_bytes, bytes_at, data_at};
+ghost use Rattle.hex.specs.Hex.{decode_of};
+
+use super::decoding::decode;
+
+/// How many bytes a transfer of so many blocks has, where that count is in range.
+fn transfer_len_of(blocks: u32) -> Option<usize>
+    ensures { result ≡ transfer_len blocks }
+{
+    if 1 <= blocks && blocks <= 256 {
+        Some(512 * blocks as usize)
+    } else {
+        None
+    }
+}
+
+/// Puts the bytes that hexadecimal digits spell at the front of a buffer, and tells how many they are. `None` where
+/// there is none, or no pairs of digits.
+fn decoded(digits: &[u8], buffer: &mut [u8]) -> Option<usize>
+    requires room { length digits.now ≤ 2 * length buffer.old }
+    ensures bytes { option_map (λ count. take count buffer.new) result ≡ some_bytes (decode_of digits.now) }
+    ensures room { IfSome result (λ count. count ≤ length buffer.new) }
+{
+    if digits.is_empty() {
+        return None;
+    }
+    if digits.len() % 2 != 0 {
+        return None;
+    }
+    let count = digits.len() / 2;
+    if decode(digits, &mut buffer[..count]) {
+        Some(count)
+    } else {
+        None
+    }
+}
+
+/// `hex:` and digits, without filling anything up: how many bytes stand at the front of the buffer then.
+#[tactic(auto, unfolding(crate::specs::Data::bytes_at))]
+fn spelled(word: &[u8], buffer: &mut [u8]) -> Option<usize>
+    requires room { length word.now ≤ 2 * length buffer.old }
+    ensures bytes { option_map (λ count. take count buffer.new) result ≡ bytes_at word.now }
+    ensures room { IfSome result (λ count. count ≤ length buffer.new) }
+{
+    let digits = word.strip_prefix(b"hex:".as_slice())?;
+    decoded(digits, buffer)
+}
+
+/// The bytes that a word spells, put into a buffer: `hex:` and an even number of hexadecimal digits of either case, two
+/// at least. `None` where the word spells none.
+pub fn bytes_in<'a>(word: &[u8], buffer: &'a mut [u8]) -> Option<&'a [u8]>
+    requires room { length word.now ≤ 2 * length buffer.old }
+    ensures bytes { option_map (λ bytes. bytes.now) result ≡ bytes_at word.now }
+{
+    let count = spelled(word, buffer)?;
+    Some(&buffer[..count])
+}
+
+/// One byte, all over the data.
+fn filled<'a>(digits: &[u8], len: Option<usize>, buffer: &'a mut [u8]) -> Option<&'a [u8]>
+    requires room { IfSome len (λ n. n ≤ length buffer.old) }
+    ensures { option_map (λ bytes. bytes.now) result ≡ fill_data len (decode_of digits.now) }
+{
+    let mut byte = [0];
+    hex::decode_to_slice(digits, &mut byte).ok()?;
+    let Some(len) = len else {
+        return Some(&[]);
+    };
+    let data = &mut buffer[..len];
+    data.fill(byte[0]);
+    Some(data)
+}
+
+/// Some bytes at the front of a buffer, and zeros behind them. `None` where they are more than the data.
+fn padded<'a>(count: usize, len: usize, buffer: &'a mut [u8]) -> Option<&'a [u8]>
+    requires some { count ≤ length buffer.old }
+    requires room { len ≤ length buffer.old }
+    ensures { option_map (λ bytes. bytes.now) result ≡ filled_up len (take count buffer.old) }
+{
+    if count > len {
+        return None;
+    }
+    let data = &mut buffer[..len];
+    data[count..].fill(0);
+    Some(data)
+}
+
+/// The data that a word spells for a transfer of so many blocks, put into a buffer: `fill:` and two hexadecimal digits,
+/// or `hex:` and an even number of them, two at least; the digits are of either case. For 1 to 256 blocks the data are
+/// 512 bytes a block, `hex:` data filled up with zeros; for any other count they are empty.
+///
+/// `None` where the word spells no data, or more than the transfer has room for.
+#[tactic(auto, unfolding(crate::specs::Data::data_at))]
+pub fn data_in<'a>(word: &[u8], blocks: u32, buffer: &'a mut [u8]) -> Option<&'a [u8]>
+    requires room { 131072 ≤ length buffer.old }
+    requires room_for_digits { length word.now ≤ 2 * length buffer.old }
+    ensures bytes { option_map (λ bytes. bytes.now) result ≡ data_at blocks word.now }
+{
+    let len = transfer_len_of(blocks);
+    if let Some(digits) = word.strip_prefix(b"fill:".as_slice()) {
+        return filled(digits, len, buffer);
+    }
+    let count = spelled(word, buffer)?;
+    match len {
+        Some(len) => padded(count, len, buffer),
+        None => Some(&[]),
+    }
+}
