@@ -1,6 +1,8 @@
 mod ArityLemmas
-pub mod DraftLemmas
+mod IdentifierLemmas
 pub mod LawLemmas
+pub mod LineLemmas
+mod LongLines
 pub mod OnLiterals
+pub mod ReadingLemmas
 mod ScriptLemmas
-pub mod Transferring

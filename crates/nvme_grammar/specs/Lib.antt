@@ -1,10 +1,15 @@
 pub mod Arity
+pub mod Lent
+pub mod Requests
+pub mod Events
 pub mod Line
 pub mod Script
-pub mod Transfers
-pub mod Draft
 pub mod Example
+pub mod Reading
+pub mod Room
+pub mod Lists
 pub use Rattle.nvme_spec.specs.Configuration
+pub use Rattle.nvme_spec.specs.Limits
 pub use Rattle.script_text.specs.Numbers
 pub use Rattle.script_text.specs.Words
 pub use Rattle.script_text.specs.Data

@@ -1,14 +1,13 @@
 -- What one line of a script says.
-use Rattle.std.specs.Prelude.{ℕ, nat_le, Bool, true, false, ◌&&◌, ◌==◌, List, [], ◌∷◌, codes, Option, Some, None, if◌then◌else◌}
+use Rattle.std.specs.Prelude.{ℕ, Bool, true, false, ◌==◌, List, [], ◌∷◌, codes, Option, Some, None, option_map, if◌then◌else◌}
 use Rattle.std.specs.Str.{bytes_eq}
 use Rattle.script_text.specs.Numbers.{number_at}
 use Rattle.script_text.specs.Words.{line_words, is_line_text}
-use Rattle.script_text.specs.Data.{data_at}
-use Rattle.nvme_grammar.specs.Arity.{◌>>=◌, two, three, four}
+use Rattle.nvme_fleet.specs.declared.event.FleetEvent.{FleetEvent}
+use Rattle.nvme_grammar.specs.Arity.{◌>>=◌, two, four}
+use Rattle.nvme_grammar.specs.Events.{event_at}
 use Rattle.nvme_grammar.specs.declared.line.Line.{Line}
-use Rattle.nvme_grammar.specs.declared.line.Line.TheVariants.{Blank, Controller, Namespace, Attached, Start, Do}
-use Rattle.nvme_grammar.specs.declared.line.Place.{Place}
-use Rattle.nvme_grammar.specs.declared.line.Action.TheVariants.{Read, Write}
+use Rattle.nvme_grammar.specs.declared.line.Line.TheVariants.{Blank, Controller, Namespace, Attached, Start, Event}
 
 -- what follows `controller C host H`: nothing, or `raw`
 abbrev pub rawness : List (List ℕ) → Option Bool
@@ -50,39 +49,9 @@ abbrev pub start : List (List ℕ) → Option Line
 start [] = Some Start
 start (word ∷ words) = None
 
--- a number of blocks that a command may transfer
-abbrev pub transfer_blocks : List ℕ → Option ℕ
-transfer_blocks word = do
-  blocks ← number_at 32 word
-  if nat_le 1 blocks && nat_le blocks 256 then Some blocks else None
-
--- `N SLBA BLOCKS`
-abbrev pub place_at : List ℕ → List ℕ → List ℕ → Option Place
-place_at n s b = do
-  nsid ← number_at 32 n
-  slba ← number_at 64 s
-  blocks ← transfer_blocks b
-  Some (record { nsid = nsid; slba = slba; blocks = blocks })
-
--- what follows `do C read`: `N SLBA BLOCKS`
-abbrev pub read_command : ℕ → List (List ℕ) → Option Line
-read_command cntlid = three (λ n s b. do
-  place ← place_at n s b
-  Some (Do (record { cntlid = cntlid; place = place; action = Read })))
-
--- what follows `do C write`: `N SLBA BLOCKS DATA`
-abbrev pub write_command : ℕ → List (List ℕ) → Option Line
-write_command cntlid = four (λ n s b word. do
-  place ← place_at n s b
-  payload ← data_at place.blocks word
-  Some (Do (record { cntlid = cntlid; place = place; action = Write payload })))
-
--- `do C read ..` and `do C write ..`
-abbrev pub command : List (List ℕ) → Option Line
-command (c ∷ action ∷ operands) = do
-  cntlid ← number_at 16 c
-  if bytes_eq action (codes "read") then read_command cntlid operands else if bytes_eq action (codes "write") then write_command cntlid operands else None
-command words = None
+-- a line behind `start`
+abbrev pub event_line : Option FleetEvent → Option Line
+event_line event = option_map Event event
 
 -- what words say, by the first of them
 unfoldable pub sentence : List (List ℕ) → Option Line
@@ -92,8 +61,7 @@ sentence (word ∷ words) =
     else if bytes_eq word (codes "namespace") then namespace words
     else if bytes_eq word (codes "attached") then attached words
     else if bytes_eq word (codes "start") then start words
-    else if bytes_eq word (codes "do") then command words
-    else None
+    else event_line (event_at word words)
 
 -- a line whose first byte is `#`; what follows may be any bytes
 abbrev pub is_comment : List ℕ → Bool

@@ -1,13 +1,13 @@
 -- A script: lines of the grammar, each where it may stand.
-use Rattle.std.specs.Prelude.{◌≡◌, ℕ, ◌+◌, ◌<◌, ◌≤◌, ◌==◌, ◌&&◌, Bool, true, false, not, List, [], ◌∷◌, ◌++◌, length, map, take, Option, Some, None, is_some, option_map, if◌then◌else◌}
+use Rattle.std.specs.Prelude.{◌≡◌, ℕ, ◌+◌, ◌<◌, ◌≤◌, ◌==◌, Bool, true, false, not, List, [], ◌∷◌, ◌++◌, length, take, Option, Some, None, is_some, option_map, if◌then◌else◌}
 use Rattle.std.specs.List.{slice_split, filter_map, list_any, list_all}
 use Rattle.nvme_spec.specs.Configuration.{Configuration, empty_configuration}
 use Rattle.nvme_spec.specs.declared.config.ControllerConfig.{ControllerConfig}
 use Rattle.nvme_spec.specs.declared.config.NsConfig.{NsConfig}
 use Rattle.nvme_grammar.specs.Line.{line_at}
 use Rattle.nvme_grammar.specs.declared.line.Line.{Line}
-use Rattle.nvme_grammar.specs.declared.line.Line.TheVariants.{Blank, Controller, Namespace, Attached, Start, Do}
-use Rattle.nvme_grammar.specs.declared.line.Direct.{Direct}
+use Rattle.nvme_grammar.specs.declared.line.Line.TheVariants.{Blank, Controller, Namespace, Attached, Start, Event}
+use Rattle.nvme_fleet.specs.declared.event.FleetEvent.{FleetEvent}
 use Rattle.nvme_grammar.specs.declared.script.Script.{Script}
 use Rattle.nvme_grammar.specs.declared.script.ParseFault.{ParseFault}
 use Rattle.nvme_grammar.specs.declared.script.ParseFault.TheVariants.{Syntax, NoMemory}
@@ -32,18 +32,14 @@ abbrev pub attachment_in : Line → Option (ℕ × ℕ)
 attachment_in (Attached cntlid nsid) = Some (cntlid, nsid)
 attachment_in _ = None
 
-abbrev pub command_in : Line → Option Direct
-command_in (Do command) = Some command
-command_in _ = None
-
--- the controllers that `controller` lines name
-abbrev pub names_in : List Line → List ℕ
-names_in lines = map (λ c. c.cntlid) (filter_map controller_in lines)
+abbrev pub event_in : Line → Option FleetEvent
+event_in (Event event) = Some event
+event_in _ = None
 
 -- whether a line may stand behind these
 abbrev pub fits_behind : List Line → Line → Bool
 fits_behind before Blank = true
-fits_behind before (Do command) = list_any is_start before && list_any (λ n. n == command.cntlid) (names_in before)
+fits_behind before (Event event) = list_any is_start before
 fits_behind before line = not (list_any is_start before)
 
 -- each of the lines may stand behind those before it
@@ -85,7 +81,6 @@ pub record Says (lines : List Line) (script : Script) : Type 0 where
   pub namespaces : script.config.namespaces.items ≡ (configuration_in lines).namespaces
   pub attached : script.config.attached.items ≡ (configuration_in lines).attached
   pub start : script.start ≡ start_in lines
-  pub commands : script.commands.items ≡ filter_map command_in lines
 
 -- what the lines of a text set up
 abbrev pub configuration_of : List (List ℕ) → Configuration
@@ -95,9 +90,9 @@ configuration_of raw = configuration_in (said raw)
 abbrev pub start_of : List (List ℕ) → Option ℕ
 start_of raw = start_in (said raw)
 
--- the commands in the lines of a text
-abbrev pub commands_of : List (List ℕ) → List Direct
-commands_of raw = filter_map command_in (said raw)
+-- the events in the lines of a text
+abbrev pub events_of : List (List ℕ) → List FleetEvent
+events_of raw = filter_map event_in (said raw)
 
 -- what a fault says of the lines
 abbrev pub IsParseFault : List (List ℕ) → ParseFault → Type 0

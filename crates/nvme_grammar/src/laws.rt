@@ -1,9 +1,7 @@
 //! What follows from the definitions: each contract here is a theorem about them.
 
 ghost use Rattle.std.specs.Prelude.{◌≡◌, ℕ, List, [], None};
-ghost use Rattle.nvme_grammar.specs.Script.{Begins, IsFirstOutside, start_of, commands_of};
-ghost use Rattle.std.specs.List.{AllByRecursion};
-ghost use Rattle.nvme_grammar.specs.Transfers.{IsTransfer};
+ghost use Rattle.nvme_grammar.specs.Script.{Begins, IsFirstOutside, start_of, events_of};
 
 /// A text is a script or has a first line outside the grammar, not both, and there is one such line alone.
 pub fn one_answer()
@@ -11,12 +9,7 @@ pub fn one_answer()
     ensures unique { (raw : List (List ℕ)) (m n : ℕ) → IsFirstOutside m raw → IsFirstOutside n raw → m ≡ n }
 {}
 
-/// Without a start there are no commands.
+/// Without a start there are no events.
 pub fn nothing_before_start()
-    ensures commands { (raw : List (List ℕ)) → Begins raw → start_of raw ≡ None → commands_of raw ≡ [] }
-{}
-
-/// Every command transfers 1 to 256 blocks, and a Write brings as many bytes as its blocks have.
-pub fn commands_are_transfers()
-    ensures transfers { (raw : List (List ℕ)) → AllByRecursion IsTransfer (commands_of raw) }
+    ensures events { (raw : List (List ℕ)) → Begins raw → start_of raw ≡ None → events_of raw ≡ [] }
 {}

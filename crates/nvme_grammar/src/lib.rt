@@ -1,14 +1,19 @@
-//! The grammar of scripts: from the bytes of a text to a checked script.
+//! The grammar of scripts: from the bytes of a text to a checked script, and from the bytes of a line to the event of a
+//! fleet that it asks for.
 #![tactic(auto)]
 
-mod draft;
+mod buffers;
+mod configuration;
+mod event;
 mod examples;
+mod identifiers;
 mod laws;
 mod line;
-mod named;
+mod request;
 mod script;
 
-pub use line::{Action, Direct, Line, Place, parse_line};
+pub use buffers::Buffers;
+pub use line::{Line, parse_line};
 pub use script::{ParseFault, Script, parse};
 
 #[cfg(test)]

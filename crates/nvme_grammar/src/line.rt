@@ -1,45 +1,24 @@
 //! What one line of a script says.
 
-ghost use Rattle.std.specs.Prelude.{◌≡◌, map, IfOk};
-ghost use Rattle.nvme_grammar.specs.Line.{rawness, controller, namespace, attached, start, sharing, transfer_blocks, place_at, read_command, write_command, command, sentence, is_comment, line_at};
+ghost use Rattle.std.specs.Prelude.{◌≡◌, ◌<◌, ◌+◌, ◌*◌, ◌≤◌, ◌++◌, true, None, length, map, option_map, if◌then◌else◌};
+ghost use Rattle.std.specs.List.{AllByRecursion};
+ghost use Rattle.nvme_spec.specs.Limits.{most_bytes};
+ghost use Rattle.script_text.specs.Words.{most_words, starts_apart, is_line_text, line_words};
+ghost use Rattle.nvme_grammar.specs.Lent.{line_by_value};
+ghost use Rattle.nvme_grammar.specs.Line.{sentence, is_comment, line_at};
+ghost use Rattle.nvme_grammar.specs.Room.{HasBytesRoom};
+ghost use Rattle.nvme_grammar.specs.Lists.{long_line};
 
+use super::configuration::{attached_of, controller_of, namespace_of, start_of};
+use super::event::{event_of, list_event_of};
+use super::identifiers::long_list_of;
+use nvme_fleet::FleetEvent;
 use nvme_spec::{ControllerConfig, NsConfig};
-use nvme_wire::NoMemory;
-use script_text::{Payload, number_u16, number_u32, number_u64, words_of};
-use std::alloc::Global;
-
-/// The blocks that a command transfers.
-#[derive(Clone, Copy)]
-pub struct Place {
-    /// The namespace identifier.
-    pub nsid: u32,
-    /// The first block.
-    pub slba: u64,
-    /// How many blocks, 1 to 256.
-    pub blocks: u32,
-}
-
-/// What a command does with its blocks.
-#[derive(Drop)]
-pub enum Action {
-    /// The blocks are read.
-    Read,
-    /// The blocks are written with these data, 512 bytes for each block.
-    Write(Payload),
-}
-
-/// A command that is judged and executed at once.
-#[derive(Drop)]
-pub struct Direct {
-    /// The controller that it is given to.
-    pub cntlid: u16,
-    pub place: Place,
-    pub action: Action,
-}
+use script_text::words_of;
 
 /// What one line of a script says.
-#[derive(Drop)]
-pub enum Line {
+#[derive(Clone, Copy)]
+pub enum Line<'a> {
     /// A comment, or a line without words: it says nothing.
     Blank,
     /// `controller C host H`, or `controller C host H raw`
@@ -50,213 +29,83 @@ pub enum Line {
     Attached { cntlid: u16, nsid: u32 },
     /// `start`
     Start,
-    /// `do C read N SLBA BLOCKS`, or `do C write N SLBA BLOCKS DATA`
-    Do(Direct),
+    /// A line behind `start`.
+    Event(FleetEvent<'a>),
 }
 
-/// Whether a controller's host is raw: what follows `controller C host H`, nothing or `raw`, says it.
-fn is_raw(words: &[&[u8]]) -> Option<bool>
-    ensures { result ≡ rawness (map (λ word. word.now) words.now) }
-{
-    let Some((word, rest)) = words.split_first() else {
-        return Some(false);
-    };
-    if *word == b"raw".as_slice() && rest.is_empty() {
-        Some(true)
-    } else {
-        None
-    }
-}
-
-/// `controller C host H`, or `controller C host H raw`, without its first word.
-fn controller_of(words: &[&[u8]]) -> Option<Line>
-    ensures { result ≡ controller (map (λ word. word.now) words.now) }
-{
-    let [cntlid, keyword, host, behind @ ..] = words else {
-        return None;
-    };
-    if *keyword != b"host".as_slice() {
-        return None;
-    }
-    Some(Line::Controller(ControllerConfig {
-        cntlid: number_u16(cntlid)?,
-        host: number_u64(host)?,
-        raw: is_raw(behind)?,
-    }))
-}
-
-/// Whether a word is `shared` or `private`.
-fn is_shared(word: &[u8]) -> Option<bool>
-    ensures { result ≡ sharing word.now }
-{
-    if word == b"shared".as_slice() {
-        Some(true)
-    } else if word == b"private".as_slice() {
-        Some(false)
-    } else {
-        None
-    }
-}
-
-/// `namespace N blocks B shared`, or `private`, without its first word.
-#[tactic(auto, using(crate::proofs::ArityLemmas::four_other))]
-fn namespace_of(words: &[&[u8]]) -> Option<Line>
-    ensures { result ≡ namespace (map (λ word. word.now) words.now) }
-{
-    let [nsid, keyword, blocks, sharing] = words.as_array::<4>()?;
-    if *keyword != b"blocks".as_slice() {
-        return None;
-    }
-    Some(Line::Namespace(NsConfig {
-        nsid: number_u32(nsid)?,
-        blocks: number_u64(blocks)?,
-        shared: is_shared(sharing)?,
-    }))
-}
-
-/// `attached C N`, without its first word.
-#[tactic(auto, using(crate::proofs::ArityLemmas::two_other))]
-fn attached_of(words: &[&[u8]]) -> Option<Line>
-    ensures { result ≡ attached (map (λ word. word.now) words.now) }
-{
-    let [cntlid, nsid] = words.as_array::<2>()?;
-    Some(Line::Attached {
-        cntlid: number_u16(cntlid)?,
-        nsid: number_u32(nsid)?,
-    })
-}
-
-/// `start`, which no word follows.
-fn start_of(words: &[&[u8]]) -> Option<Line>
-    ensures { result ≡ start (map (λ word. word.now) words.now) }
-{
-    if words.is_empty() {
-        Some(Line::Start)
-    } else {
-        None
-    }
-}
-
-/// A number of blocks that a command may transfer.
-fn transfer_blocks_of(word: &[u8]) -> Option<u32>
-    ensures { result ≡ transfer_blocks word.now }
-{
-    let blocks = number_u32(word)?;
-    if 1 <= blocks && blocks <= 256 {
-        Some(blocks)
-    } else {
-        None
-    }
-}
-
-/// `N SLBA BLOCKS`
-fn place_of(nsid: &[u8], slba: &[u8], blocks: &[u8]) -> Option<Place>
-    ensures { result ≡ place_at nsid.now slba.now blocks.now }
-{
-    Some(Place {
-        nsid: number_u32(nsid)?,
-        slba: number_u64(slba)?,
-        blocks: transfer_blocks_of(blocks)?,
-    })
-}
-
-/// What follows `do C read`.
-#[tactic(auto, using(crate::proofs::ArityLemmas::three_other))]
-fn read_of(cntlid: u16, words: &[&[u8]]) -> Option<Line>
-    ensures { result ≡ read_command cntlid (map (λ word. word.now) words.now) }
-{
-    let [nsid, slba, blocks] = words.as_array::<3>()?;
-    let place = place_of(nsid, slba, blocks)?;
-    let action = Action::Read;
-    Some(Line::Do(Direct {
-        cntlid,
-        place,
-        action,
-    }))
-}
-
-/// What follows `do C write`.
-#[tactic(auto, using(crate::proofs::ArityLemmas::four_other))]
-fn write_of(alloc: Global, cntlid: u16, words: &[&[u8]]) -> Result<Option<Line>, NoMemory>
-    ensures { IfOk result (λ line. line ≡ write_command cntlid (map (λ word. word.now) words.now)) }
-{
-    let Some([nsid, slba, blocks, word]) = words.as_array::<4>() else {
-        return Ok(None);
-    };
-    let Some(place) = place_of(nsid, slba, blocks) else {
-        return Ok(None);
-    };
-    let Some(payload) = Payload::parse(alloc, word, place.blocks)? else {
-        return Ok(None);
-    };
-    let action = Action::Write(payload);
-    Ok(Some(Line::Do(Direct {
-        cntlid,
-        place,
-        action,
-    })))
-}
-
-/// What follows `do`.
-fn command_of(alloc: Global, words: &[&[u8]]) -> Result<Option<Line>, NoMemory>
-    ensures { IfOk result (λ line. line ≡ command (map (λ word. word.now) words.now)) }
-{
-    let [cntlid, action, operands @ ..] = words else {
-        return Ok(None);
-    };
-    let Some(cntlid) = number_u16(cntlid) else {
-        return Ok(None);
-    };
-    if *action == b"read".as_slice() {
-        Ok(read_of(cntlid, operands))
-    } else if *action == b"write".as_slice() {
-        write_of(alloc, cntlid, operands)
-    } else {
-        Ok(None)
-    }
-}
-
-/// What the words of a line say.
+/// What the words of a line say, where they are all that it has.
 #[tactic(auto, unfolding(crate::specs::Line::sentence))]
-fn sentence_of(alloc: Global, words: &[&[u8]]) -> Result<Option<Line>, NoMemory>
-    ensures { IfOk result (λ line. line ≡ sentence (map (λ word. word.now) words.now)) }
+fn sentence_of<'a>(
+    words: &[&[u8]],
+    bytes: &'a mut [u8],
+    identifiers: &'a mut [u16],
+) -> Option<Line<'a>>
+    requires data_room { most_bytes ≤ length bytes.old }
+    requires digits_room { AllByRecursion (λ word. length word.now ≤ 2 * length bytes.old) words.now }
+    requires list_room { length words.now ≤ length identifiers.old }
+    ensures { option_map line_by_value result ≡ sentence (map (λ word. word.now) words.now) }
 {
-    let Some((first, rest)) = words.split_first() else {
-        return Ok(Some(Line::Blank));
+    let Some((keyword, rest)) = words.split_first() else {
+        return Some(Line::Blank);
     };
-    if *first == b"controller".as_slice() {
-        Ok(controller_of(rest))
-    } else if *first == b"namespace".as_slice() {
-        Ok(namespace_of(rest))
-    } else if *first == b"attached".as_slice() {
-        Ok(attached_of(rest))
-    } else if *first == b"start".as_slice() {
-        Ok(start_of(rest))
-    } else if *first == b"do".as_slice() {
-        command_of(alloc, rest)
+    if *keyword == b"controller".as_slice() {
+        controller_of(rest)
+    } else if *keyword == b"namespace".as_slice() {
+        namespace_of(rest)
+    } else if *keyword == b"attached".as_slice() {
+        attached_of(rest)
+    } else if *keyword == b"start".as_slice() {
+        start_of(rest)
     } else {
-        Ok(None)
+        Some(Line::Event(event_of(keyword, rest, bytes, identifiers)?))
     }
+}
+
+/// What the first eight words of a line say with the rest of it, where there is one: a list goes on there, and no other
+/// line has so many words.
+fn long_sentence_of<'a>(
+    words: &[&[u8]],
+    rest: &[u8],
+    identifiers: &'a mut [u16],
+) -> Option<Line<'a>>
+    requires apart { starts_apart rest.now ≡ true }
+    requires room { length words.now + most_words rest.now ≤ length identifiers.old }
+    ensures { option_map line_by_value result ≡ long_line (map (λ word. word.now) words.now) rest.now }
+{
+    let [keyword, cntlid, nsid, front @ ..] = words else {
+        return None;
+    };
+    let list = long_list_of(front, rest, identifiers);
+    Some(Line::Event(list_event_of(keyword, cntlid, nsid, list)?))
 }
 
 /// Whether a line's first byte is `#`.
-fn is_comment_line(bytes: &[u8]) -> bool
-    ensures { result ≡ is_comment bytes.now }
+fn is_comment_line(line: &[u8]) -> bool
+    ensures { result ≡ is_comment line.now }
 {
-    bytes.first() == Some(&b'#')
+    line.first() == Some(&b'#')
 }
 
-/// What a line says, without the line feed that ends it: `None` where it is outside the grammar. `NoMemory`
-/// where memory is refused.
-#[tactic(auto, using(crate::proofs::ArityLemmas::many_words), unfolding(crate::specs::Line::line_at))]
-pub fn parse_line(alloc: Global, bytes: &[u8]) -> Result<Option<Line>, NoMemory>
-    ensures line { IfOk result (λ line. line ≡ line_at bytes.now) }
+/// What a line says, without the line feed that ends it: `None` where it is outside the grammar. The bytes and the
+/// identifiers of an event are put into these buffers, and the line's answer borrows them.
+#[tactic(auto, unfolding(crate::specs::Line::line_at))]
+pub fn parse_line<'a>(
+    line: &[u8],
+    bytes: &'a mut [u8],
+    identifiers: &'a mut [u16],
+) -> Option<Line<'a>>
+    requires bytes_room { HasBytesRoom line.now bytes.old }
+    requires identifiers_room { most_words line.now ≤ length identifiers.old }
+    ensures line { option_map line_by_value result ≡ line_at line.now }
 {
-    if is_comment_line(bytes) {
-        return Ok(Some(Line::Blank));
+    if is_comment_line(line) {
+        return Some(Line::Blank);
     }
-    match words_of(bytes) {
-        Some(words) => sentence_of(alloc, words.as_slice()),
-        None => Ok(None),
+    let front = words_of(line)?;
+    let words = front.words.as_slice();
+    if front.rest.is_empty() {
+        sentence_of(words, bytes, identifiers)
+    } else {
+        long_sentence_of(words, front.rest, identifiers)
     }
 }

@@ -1,16 +1,20 @@
 //! The script that a text spells.
 
-ghost use Rattle.std.specs.Prelude.{◌≡◌, IfOk, IfErr};
-ghost use Rattle.nvme_grammar.specs.Script.{text_lines, said, Begins, Says, IsParseFault};
+ghost use Rattle.std.specs.Prelude.{◌≡◌, ◌+◌, ◌≤◌, ◌++◌, ◌∷◌, [], List, true, length, IfOk, IfErr, OnOk};
+ghost use Rattle.script_text.specs.Words.{most_words};
+ghost use Rattle.nvme_grammar.specs.Lent.{line_by_value};
+ghost use Rattle.nvme_grammar.specs.Room.{HasBytesRoom};
+ghost use Rattle.nvme_grammar.specs.Script.{text_lines, said, fits_behind, Begins, Says, IsParseFault};
+ghost use Rattle.nvme_grammar.specs.Reading.{Reads};
+ghost use Rattle.nvme_grammar.specs.declared.line.Line.{Line};
 ghost use Rattle.nvme_grammar.specs.declared.script.ParseFault.TheVariants.{NoMemory as MemoryRefused};
 
-use super::draft::Draft;
-use super::line::{Direct, parse_line};
+use super::line::{Line, parse_line};
 use nvme_spec::Config;
-use nvme_wire::NoMemory;
 use std::alloc::{AllocError, Global};
 
-/// What a script says.
+/// What a script sets up. Its events stay in its text: whoever runs them parses the lines behind `start` again, one after
+/// the other, so that no memory is kept for them.
 #[derive(Drop)]
 pub struct Script {
     /// What the lines before `start` set up, in their order; nothing where there is no `start`. Nothing about
@@ -18,8 +22,6 @@ pub struct Script {
     pub config: Config,
     /// The number of the line `start`, counted from 1.
     pub start: Option<usize>,
-    /// The commands behind `start`, in their order.
-    pub commands: Vec<Direct>,
 }
 
 /// Why a text gives no script.
@@ -31,14 +33,6 @@ pub enum ParseFault {
     NoMemory,
 }
 
-impl From<NoMemory> for ParseFault {
-    ghost from_gives = { λ _ e. e ≡ MemoryRefused };
-
-    fn from(_: NoMemory) -> ParseFault {
-        ParseFault::NoMemory
-    }
-}
-
 impl From<AllocError> for ParseFault {
     ghost from_gives = { λ _ e. e ≡ MemoryRefused };
 
@@ -47,29 +41,94 @@ impl From<AllocError> for ParseFault {
     }
 }
 
-/// The script that a text spells. A line feed ends a line; the last line may lack it.
+impl Script {
+    /// Nothing was read yet.
+    fn new(alloc: Global) -> Script
+        ensures { Reads result [] }
+    {
+        Script {
+            config: Config {
+                controllers: Vec::new(alloc),
+                namespaces: Vec::new(alloc),
+                attached: Vec::new(alloc),
+            },
+            start: None,
+        }
+    }
+
+    /// Whether a line may stand behind those that were read.
+    fn allows(&self, line: &Line) -> bool
+        ensures { (lines : List Line) → Reads self.now lines → result ≡ fits_behind lines (line_by_value line.now) }
+    {
+        match line {
+            Line::Blank => true,
+            Line::Event(_) => self.start.is_some(),
+            Line::Controller(_) | Line::Namespace(_) | Line::Attached { .. } | Line::Start => {
+                self.start.is_none()
+            }
+        }
+    }
+
+    /// Takes the next line, which has this number.
+    fn add(&mut self, number: usize, line: Line) -> Result<(), AllocError>
+        ensures { OnOk result ((lines : List Line) → Reads self.old lines → number ≡ length lines + 1
+            → fits_behind lines (line_by_value line.entry) ≡ true → Reads self.new (lines ++ line_by_value line.entry ∷ [])) }
+    {
+        match line {
+            Line::Blank | Line::Event(_) => {}
+            Line::Controller(controller) => self.config.controllers.push(controller)?,
+            Line::Namespace(namespace) => self.config.namespaces.push(namespace)?,
+            Line::Attached { cntlid, nsid } => self.config.attached.push((cntlid, nsid))?,
+            Line::Start => self.start = Some(number),
+        }
+        Ok(())
+    }
+
+    /// The script, once all lines were read: without a start nothing is set up.
+    fn finished(self) -> Script
+        ensures { (lines : List Line) → Reads self lines → Says lines result }
+    {
+        let mut script = self;
+        if script.start.is_some() {
+            return script;
+        }
+        script.config.controllers.clear();
+        script.config.namespaces.clear();
+        script.config.attached.clear();
+        script
+    }
+}
+
+/// The script that a text spells. A line feed ends a line; the last line may lack it. The buffers need room for what any
+/// of its lines says.
 ///
 /// `Syntax` bears the number of the first line that is outside the grammar: one that says nothing the grammar
-/// has, a configuration line or a second `start` behind `start`, a command before it, or one for a controller
-/// that no line named. `NoMemory` where memory is refused.
+/// has, a configuration line or a second `start` behind `start`, or an event before it. `NoMemory` where memory is
+/// refused.
 ///
-/// The lines are read one after the other, in time linear in the text. Less than 32 bytes of memory are taken
-/// for each byte of the text, beside 65,536 bytes that tell which controllers were named.
-pub fn parse(alloc: Global, text: &[u8]) -> Result<Script, ParseFault>
+/// The lines are read one after the other, in time linear in the text.
+pub fn parse(
+    alloc: Global,
+    text: &[u8],
+    bytes: &mut [u8],
+    identifiers: &mut [u16],
+) -> Result<Script, ParseFault>
+    requires bytes_room { HasBytesRoom text.now bytes.old }
+    requires identifiers_room { most_words text.now ≤ length identifiers.old }
     ensures grammar { IfOk result (λ _. Begins (text_lines text.now)) }
     ensures says { IfOk result (λ script. Says (said (text_lines text.now)) script) }
     ensures fault { IfErr result (λ fault. IsParseFault (text_lines text.now) fault) }
 {
-    let mut draft = Draft::new(alloc)?;
-    for (index, bytes) in text.split(|byte| *byte == b'\n').enumerate() {
+    let mut script = Script::new(alloc);
+    for (index, line) in text.split(|byte| *byte == b'\n').enumerate() {
         let number = index + 1;
-        let Some(line) = parse_line(alloc, bytes)? else {
+        let Some(line) = parse_line(line, bytes, identifiers) else {
             return Err(ParseFault::Syntax(number));
         };
-        if !draft.allows(&line) {
+        if !script.allows(&line) {
             return Err(ParseFault::Syntax(number));
         }
-        draft.add(number, line)?;
+        script.add(number, line)?;
     }
-    Ok(draft.finish())
+    Ok(script.finished())
 }

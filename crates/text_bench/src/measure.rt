@@ -1,7 +1,7 @@
 //! What is measured. Each measurement gives a sum over what its calls did, so that none of them can be left out.
 
-use nvme_grammar::parse;
-use script_text::{HexText, Payload};
+use nvme_grammar::{Buffers, parse};
+use script_text::{HexText, data_in};
 use std::alloc::{AllocError, Global};
 use std::rt::Clock;
 use std::time::Instant;
@@ -35,15 +35,15 @@ struct Kind {
 const KINDS: [Kind; 6] = [
     Kind {
         name: "reads",
-        line: b"do 1 read 1 0 1\n",
+        line: b"read 1 1 0 1\n",
     },
     Kind {
         name: "writes",
-        line: b"do 1 write 1 0 1 hex:01\n",
+        line: b"write 1 1 0 1 hex:01\n",
     },
     Kind {
         name: "fills",
-        line: b"do 1 write 1 0 256 fill:5a\n",
+        line: b"write 1 1 0 256 fill:5a\n",
     },
     Kind {
         name: "attachments",
@@ -120,7 +120,7 @@ fn digits(alloc: Global, bytes: &[u8]) -> io::Result<Vec<u8>> {
 fn script(alloc: Global, line: &[u8]) -> Result<Vec<u8>, AllocError> {
     let mut text = Vec::new(alloc);
     text.extend_from_slice(b"controller 1 host 1\n")?;
-    if line.starts_with(b"do") {
+    if line.starts_with(b"read") || line.starts_with(b"write") {
         text.extend_from_slice(b"start\n")?;
     }
     for _ in 0..1000 {
@@ -177,22 +177,26 @@ fn zero_chunks(bytes: &[u8]) -> u64 {
 }
 
 fn decoded<R: Clock + AllocGlobal>(rt: &R, word: &[u8], rounds: u32) -> io::Result<Measured> {
+    let mut buffer = vec![in rt.alloc(); 0; word.len().max(BYTES)]?;
     let mut sum = 0_u64;
     let start = Instant::now(rt)?;
     for _ in 0..rounds {
-        if let Some(payload) = Payload::parse(rt.alloc(), word, 256)? {
-            sum = sum.wrapping_add(payload.len() as u64);
+        if let Some(data) = data_in(word, 256, buffer.as_mut_slice()) {
+            sum = sum.wrapping_add(data.len() as u64);
         }
     }
     since(rt, start, rounds, sum)
 }
 
 fn parsed<R: Clock + AllocGlobal>(rt: &R, text: &[u8], rounds: u32) -> io::Result<Measured> {
+    let mut room = Buffers::for_text(rt.alloc(), text)?;
+    let bytes = room.bytes.as_mut_slice();
+    let identifiers = room.identifiers.as_mut_slice();
     let mut sum = 0_u64;
     let start = Instant::now(rt)?;
     for _ in 0..rounds {
-        if let Ok(script) = parse(rt.alloc(), text) {
-            sum = sum.wrapping_add(1 + script.commands.len() as u64);
+        if let Ok(script) = parse(rt.alloc(), text, bytes, identifiers) {
+            sum = sum.wrapping_add(1 + script.config.controllers.len() as u64);
         }
     }
     since(rt, start, rounds, sum)

@@ -16,10 +16,6 @@ pub returns-clause-late_setup : goal.returns-clause-late_setup
 unfolding lines_on_literals
 returns-clause-late_setup c = IsFirstOutside-at _ 4 (lit< tt) (record { spelled = refl; placed = (refl, (refl, (refl, (refl, tt)))) }) (λ b. false≢true b.placed.1.1.1.1.0)
 
-pub returns-clause-early_command : goal.returns-clause-early_command
+pub returns-clause-early_event : goal.returns-clause-early_event
 unfolding lines_on_literals
-returns-clause-early_command c = IsFirstOutside-at _ 3 (lit< tt) (record { spelled = refl; placed = (refl, (refl, (refl, tt))) }) (λ b. false≢true b.placed.1.1.1.0)
-
-pub returns-clause-unknown_controller : goal.returns-clause-unknown_controller
-unfolding lines_on_literals
-returns-clause-unknown_controller c = IsFirstOutside-at _ 5 (lit< tt) (record { spelled = refl; placed = (refl, (refl, (refl, (refl, (refl, tt))))) }) (λ b. false≢true b.placed.1.1.1.1.1.0)
+returns-clause-early_event c = IsFirstOutside-at _ 3 (lit< tt) (record { spelled = refl; placed = (refl, (refl, (refl, tt))) }) (λ b. false≢true b.placed.1.1.1.0)

@@ -2,4 +2,4 @@ use Rattle.nvme_grammar.proofs.LawLemmas.{unstarted}
 use Rattle.nvme_grammar.proofs.laws.nothing_before_start.Goals as goal
 
 pub returns : goal.returns
-returns c = record { commands = unstarted }
+returns c = record { events = unstarted }
