@@ -1,5 +1,9 @@
-pub mod Reaching
-pub mod Stepping
+pub mod ByValue
+pub mod LineLemmas
+pub mod Texts
+pub mod Lining
+pub mod Halfway
 pub mod Running
 pub mod Preparing
+pub mod Ending
 pub mod Alone

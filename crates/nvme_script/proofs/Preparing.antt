@@ -1,5 +1,5 @@
--- What a script that was read and accepted makes ready, and what its configuration's fault says.
-use Rattle.std.proofs.Common.{◌≡◌, ℕ, ◌≤◌, false, List, ◌++◌, length, Option, Some, None, refl, sym, ap, ◌∙◌, arith}
+-- What a script that was read opens, and what the refusal of its configuration says.
+use Rattle.std.proofs.Common.{◌≡◌, ℕ, false, List, ◌++◌, Option, Some, None, refl, sym, ap, ◌∙◌, arith}
 use Rattle.std.specs.Prelude.{IfSome, unwrap_or, is_some}
 use Rattle.std.specs.List.{list_any}
 use Rattle.std.specs.Io.KnownBytes.{Consumes, IsAtEnd}
@@ -7,14 +7,17 @@ use Rattle.std.proofs.lemmas.List.{append-nil}
 use Rattle.std.proofs.lemmas.Bool.{le-ltb}
 use Rattle.nvme_spec.specs.declared.config.ConfigFault.{ConfigFault}
 use Rattle.nvme_spec.specs.Configuration.{empty_configuration, first_config_fault}
-use Rattle.nvme_spec.specs.World.{World, opening_world}
+use Rattle.nvme_spec.specs.Blocks.{Device}
+use Rattle.nvme_spec.specs.declared.config.ConfigFault.TheVariants as fault_of
+use Rattle.nvme_spec.specs.declared.config.ConfigFault.TheVariants.{NoMemory as WantOfMemory}
+use Rattle.nvme_fleet.specs.Fleets.{opening}
 use Rattle.nvme_ns.specs.Configured.{configuration}
 use Rattle.nvme_grammar.specs.declared.line.Line.{Line}
 use Rattle.nvme_grammar.specs.declared.script.Script.{Script}
-use Rattle.nvme_grammar.specs.Script.{text_lines, said, Begins, Says, is_start, start_in, configuration_in, configuration_of}
-use Rattle.nvme_grammar.proofs.DraftLemmas.{started}
+use Rattle.nvme_grammar.specs.Script.{text_lines, said, Says, is_start, start_in, configuration_in, configuration_of}
+use Rattle.nvme_grammar.proofs.ReadingLemmas.{started}
 use Rattle.nvme_script.specs.declared.run.ScriptFault.TheVariants.{Config}
-use Rattle.nvme_script.specs.Faults.{longest, IsReady, IsEarlyFault}
+use Rattle.nvme_script.specs.Faults.{IsScript, IsReady, IsEarlyFault, fleet_of_text, of_opening}
 
 -- all that was there was read
 pub Consumes-all : (a b : Option (List ℕ)) (p : List ℕ) → Consumes a b p → IsAtEnd b → IfSome a (λ t. t ≡ p)
@@ -25,21 +28,18 @@ Consumes-all (Some xs) (Some ys) p h k = h ∙ (ap (λ t. p ++ t) k ∙ append-n
 same_configuration : (raw : List (List ℕ)) (script : Script) → Says (said raw) script → configuration script.config ≡ configuration_of raw
 same_configuration raw script says = λ i. record { controllers = says.controllers i; namespaces = says.namespaces i; attached = says.attached i }
 
--- the script, its world and its commands are those of the text
-ready_text : (text : List ℕ) (size : ℕ) (script : Script) (w : World) → length text ≤ longest → Begins (text_lines text) → Says (said (text_lines text)) script
-    → first_config_fault (configuration script.config) size ≡ None → w ≡ opening_world (configuration script.config) → IsReady text size w script.commands.items
-ready_text text size script w short grammar says accepted opened =
-    let same = same_configuration (text_lines text) script says in record {
-      script = record { short = short; grammar = grammar; accepted = rw same at accepted };
-      world = rw same at opened;
-      commands = says.commands;
+-- a script that was read and whose configuration is accepted
+pub accepted_script : (text : List ℕ) (size : ℕ) (script : Script) → IsReady text script → first_config_fault (configuration script.config) size ≡ None → IsScript text size
+accepted_script text size script ready accepted =
+    let same = same_configuration (text_lines text) script ready.says in record {
+      short = ready.short;
+      grammar = ready.grammar;
+      accepted = rw same at accepted;
     }
 
-pub ready : (input : Option (List ℕ)) (text : List ℕ) (size : ℕ) (script : Script) (w : World) → IfSome input (λ t. t ≡ text) → length text ≤ longest → Begins (text_lines text)
-    → Says (said (text_lines text)) script → first_config_fault (configuration script.config) size ≡ None → w ≡ opening_world (configuration script.config)
-    → IfSome input (λ t. IsReady t size w script.commands.items)
-ready None text size script w is short grammar says accepted opened = tt
-ready (Some t) text size script w is short grammar says accepted opened = rw is (ready_text text size script w short grammar says accepted opened)
+-- its fleet is that of the text
+pub opened_fleet : (text : List ℕ) (script : Script) (device : Device) → IsReady text script → opening (configuration script.config) device ≡ fleet_of_text text device
+opened_fleet text script device ready = ap (λ c. opening c device) (same_configuration (text_lines text) script ready.says)
 
 -- nothing is wrong with nothing
 empty_accepted : (size : ℕ) → first_config_fault empty_configuration size ≡ None
@@ -57,14 +57,23 @@ started_line lines size fault h = by (start_in lines) (started lines)
         let accepted : first_config_fault (configuration_in lines) size ≡ None = rw not_started (empty_accepted size) in
         absurd (cc)
 
-config_fault_text : (text : List ℕ) (size : ℕ) (script : Script) (fault : ConfigFault) → length text ≤ longest → Begins (text_lines text) → Says (said (text_lines text)) script
-    → first_config_fault (configuration script.config) size ≡ Some fault → IsEarlyFault (Config (unwrap_or script.start 0) fault) text size
-config_fault_text text size script fault short grammar says refused =
-    let same = same_configuration (text_lines text) script says in
-    let here : first_config_fault (configuration_of (text_lines text)) size ≡ Some fault = rw same at refused in
-    (short, grammar, rw says.start (started_line (said (text_lines text)) size fault here), here)
+-- what a fleet's refusal says of the text
+pub refused_script : (text : List ℕ) (size : ℕ) (script : Script) (fault : ConfigFault) → IsReady text script
+    → fault ≡ unwrap_or (first_config_fault (configuration script.config) size) WantOfMemory → IsEarlyFault (of_opening script.start fault) text size
+refused_script text size script fault ready is = by (first_config_fault (configuration script.config) size) refl is
+  where
+    told : (f : ConfigFault) → first_config_fault (configuration_of (text_lines text)) size ≡ Some f → IsEarlyFault (Config (unwrap_or script.start 0) f) text size
+    told f here = (ready.short, ready.grammar, rw ready.says.start (started_line (said (text_lines text)) size f here), here)
 
-pub config_fault : (input : Option (List ℕ)) (text : List ℕ) (size : ℕ) (script : Script) (fault : ConfigFault) → IfSome input (λ t. t ≡ text) → length text ≤ longest → Begins (text_lines text)
-    → Says (said (text_lines text)) script → first_config_fault (configuration script.config) size ≡ Some fault → IfSome input (λ t. IsEarlyFault (Config (unwrap_or script.start 0) fault) t size)
-config_fault None text size script fault is short grammar says refused = tt
-config_fault (Some t) text size script fault is short grammar says refused = rw is (config_fault_text text size script fault short grammar says refused)
+    of : (f : ConfigFault) → first_config_fault (configuration_of (text_lines text)) size ≡ Some f → IsEarlyFault (of_opening script.start f) text size
+    of fault_of.BadId here = told fault_of.BadId here
+    of fault_of.BadSize here = told fault_of.BadSize here
+    of fault_of.TooMany here = told fault_of.TooMany here
+    of fault_of.DoesNotFit here = told fault_of.DoesNotFit here
+    of fault_of.NoMemory here = tt
+
+    by : (o : Option ConfigFault) → first_config_fault (configuration script.config) size ≡ o → fault ≡ unwrap_or o WantOfMemory → IsEarlyFault (of_opening script.start fault) text size
+    by None e k = rw k tt
+    by (Some f) e k =
+        let same = same_configuration (text_lines text) script ready.says in
+        rw k (of f (rw same at e))

@@ -1,16 +1,18 @@
 -- What a script's run gives, and what each fault says.
-use Rattle.std.specs.Prelude.{◌≡◌, ℕ, Bool, ◌+◌, ◌<◌, ◌≤◌, List, [], ◌∷◌, ◌++◌, length, take, Option, None, Some, IfSome}
+use Rattle.std.specs.Prelude.{◌≡◌, ℕ, Bool, ◌<◌, ◌≤◌, List, [], ◌∷◌, ◌++◌, length, take, slice_get, Option, None, Some, IfSome, unwrap_or}
 use Rattle.std.specs.Io.KnownBytes.{Appends}
-use Rattle.std.specs.List.{flat_map}
 use Rattle.nvme_spec.specs.Blocks.{Device}
 use Rattle.nvme_spec.specs.Configuration.{first_config_fault}
-use Rattle.nvme_spec.specs.World.{World, opening_world}
-use Rattle.nvme_grammar.specs.Script.{text_lines, Begins, IsFirstOutside, configuration_of, start_of, commands_of}
-use Rattle.nvme_grammar.specs.declared.line.Direct.{Direct}
+use Rattle.nvme_fleet.specs.declared.event.FleetEvent.{FleetEvent}
+use Rattle.nvme_fleet.specs.Deliveries.{Reply}
+use Rattle.nvme_fleet.specs.Fleets.{Fleet, Run, opening}
+use Rattle.nvme_spec.specs.declared.config.ConfigFault.{ConfigFault}
+use Rattle.nvme_spec.specs.declared.config.ConfigFault.TheVariants.{NoMemory as WantOfMemory}
+use Rattle.nvme_grammar.specs.declared.script.Script.{Script}
+use Rattle.nvme_grammar.specs.Script.{text_lines, said, Begins, Says, IsFirstOutside, configuration_of, start_of, events_of}
 use Rattle.nvme_grammar.specs.declared.script.ParseFault.{ParseFault}
 use Rattle.nvme_grammar.specs.declared.script.ParseFault.TheVariants as grammar
-use Rattle.nvme_script.specs.Direct.{Reply, Runs}
-use Rattle.nvme_script.specs.Transcript.{reply_line}
+use Rattle.nvme_script.specs.Transcript.{line_of, transcript}
 use Rattle.nvme_script.specs.declared.reading.ReadFault.{ReadFault}
 use Rattle.nvme_script.specs.declared.reading.ReadFault.TheVariants as reading
 use Rattle.nvme_script.specs.declared.run.ScriptFault.{ScriptFault}
@@ -25,28 +27,47 @@ IsReadFault reading.TooLong input = IfSome input (λ text. longest < length text
 IsReadFault reading.Read input = Unit {0}
 IsReadFault reading.NoMemory input = Unit {0}
 
--- the world that a text's configuration opens
-abbrev pub world_of : List ℕ → World
-world_of text = opening_world (configuration_of (text_lines text))
+-- the events of a text, and the fleet that its configuration opens over a medium
+abbrev pub events_in : List ℕ → List FleetEvent
+events_in text = events_of (text_lines text)
 
-abbrev pub commands_in : List ℕ → List Direct
-commands_in text = commands_of (text_lines text)
+abbrev pub fleet_of_text : List ℕ → Device → Fleet
+fleet_of_text text device = opening (configuration_of (text_lines text)) device
 
--- the commands ran, and for each reply its line was added to what was written
-abbrev pub Transcribes : Bool → World → List Direct → Device → Device → Option (List ℕ) → Option (List ℕ) → Type 0
-Transcribes tells w ds old new before after = (replies : List Reply) × Runs tells w ds old new replies × Appends before after (flat_map reply_line replies)
+-- Events ran, and the line of each and its reply was added to what was written.
+pub record Transcribes (tells : Bool) (old : Fleet) (events : List FleetEvent) (new : Fleet) (before after : Option (List ℕ)) : Type 0 where
+  pub replies : List Reply
+  pub ran : Run tells old events replies new
+  pub wrote : Appends before after (transcript events replies)
 
--- The line of a command, and no other, was cut: the commands up to and including that one ran and no later one did; the
+-- The line of an event, and no other, was cut: the events up to and including that one happened and no later one did; the
 -- lines before it were written, and of its own the first bytes, not all.
-pub record StopsAt (tells : Bool) (w : World) (ds : List Direct) (old new : Device) (before after : Option (List ℕ)) : Type 0 where
+pub record StopsAt (tells : Bool) (old : Fleet) (events : List FleetEvent) (new : Fleet) (before after : Option (List ℕ)) : Type 0 where
   pub index : ℕ
-  pub below : index < length ds
+  pub event : FleetEvent
+  pub is : slice_get events index ≡ Some event
   pub told : List Reply
   pub cut : Reply
-  pub ran : Runs tells w (take (index + 1) ds) old new (told ++ cut ∷ [])
+  pub ran : Run tells old (take index events ++ event ∷ []) (told ++ cut ∷ []) new
   pub bytes : ℕ
-  pub part : bytes < length (reply_line cut)
-  pub wrote : Appends before after (flat_map reply_line told ++ take bytes (reply_line cut))
+  pub part : bytes < length (line_of event cut)
+  pub wrote : Appends before after (transcript (take index events) told ++ take bytes (line_of event cut))
+
+-- what was left on the medium of a fleet
+abbrev pub Leaves : Fleet → Device → Type 0
+Leaves fleet device = device ≡ fleet.site.device
+
+-- a text ran to its end, over a medium that was so before and is so now
+pub record Runs (tells : Bool) (text : List ℕ) (old new : Device) (before after : Option (List ℕ)) : Type 0 where
+  pub last : Fleet
+  pub transcribed : Transcribes tells (fleet_of_text text old) (events_in text) last before after
+  pub leaves : Leaves last new
+
+-- it stopped at a line that could not be written
+pub record Stops (tells : Bool) (text : List ℕ) (old new : Device) (before after : Option (List ℕ)) : Type 0 where
+  pub last : Fleet
+  pub stopped : StopsAt tells (fleet_of_text text old) (events_in text) last before after
+  pub leaves : Leaves last new
 
 -- a text that is a script, whose configuration is accepted over a medium of so many blocks
 pub record IsScript (text : List ℕ) (medium_blocks : ℕ) : Type 0 where
@@ -64,13 +85,18 @@ abbrev pub of_grammar : ParseFault → ScriptFault
 of_grammar (grammar.Syntax n) = Syntax n
 of_grammar grammar.NoMemory = NoMemory
 
--- what was made ready before the first command: the script, its world and its commands
-pub record IsReady (text : List ℕ) (medium_blocks : ℕ) (w : World) (ds : List Direct) : Type 0 where
-  pub script : IsScript text medium_blocks
-  pub world : w ≡ world_of text
-  pub commands : ds ≡ commands_in text
+-- what a fleet's refusal is as a fault of the script: its configuration is refused at the line `start`
+abbrev pub of_opening : Option ℕ → ConfigFault → ScriptFault
+of_opening start WantOfMemory = NoMemory
+of_opening start fault = Config (unwrap_or start 0) fault
 
--- what a fault that comes before the first command says
+-- a script that was read: its text, and what that says
+pub record IsReady (text : List ℕ) (script : Script) : Type 0 where
+  pub short : length text ≤ longest
+  pub grammar : Begins (text_lines text)
+  pub says : Says (said (text_lines text)) script
+
+-- what a fault that comes before the first event says
 abbrev pub IsEarlyFault : ScriptFault → List ℕ → ℕ → Type 0
 IsEarlyFault (Syntax n) text medium_blocks = (length text ≤ longest) × IsFirstOutside n (text_lines text)
 IsEarlyFault (Config n fault) text medium_blocks =
@@ -83,7 +109,7 @@ IsEarlyFault Write text medium_blocks = ⊥
 
 -- what a fault says of the text, of the medium before and after, and of what was written before and after
 abbrev pub IsFault : Bool → ScriptFault → List ℕ → ℕ → Device → Device → Option (List ℕ) → Option (List ℕ) → Type 0
-IsFault tells Write text medium_blocks old new before after = IsScript text medium_blocks × StopsAt tells (world_of text) (commands_in text) old new before after
+IsFault tells Write text medium_blocks old new before after = IsScript text medium_blocks × Stops tells text old new before after
 IsFault tells fault text medium_blocks old new before after = IsEarlyFault fault text medium_blocks
 
 abbrev pub IsWrite : ScriptFault → Type 0

@@ -1,11 +1,10 @@
 //! What follows from the definition of a script's run.
 
-ghost use Rattle.nvme_script.specs.RunLaws.{FailuresNeverFall, RunIsUnique};
+ghost use Rattle.nvme_script.specs.RunLaws.{TranscriptExists, TranscriptIsUnique};
 
-/// A medium's failures are never taken back, and a run without one has one transcript and leaves one medium: those
-/// that the definitions compute.
-#[tactic(auto, using(crate::proofs::Alone::failures_never_fall, crate::proofs::Alone::run_is_unique))]
-fn determined()
-    ensures count { FailuresNeverFall }
-    ensures alone { RunIsUnique }
+/// A script has one run without a fault of the medium, and one alone: its transcript, and what is left on the medium, is
+/// what the definitions compute.
+fn transcript_is_determined()
+    ensures unique { TranscriptIsUnique }
+    ensures exists { TranscriptExists }
 {}

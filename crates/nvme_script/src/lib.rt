@@ -1,12 +1,12 @@
 //! Scripts: what hosts do to a subsystem, line by line, and the transcript of what it answers.
 #![tactic(auto)]
 
-mod direct;
 mod laws;
+mod lines;
 mod program;
 mod reading;
-mod reply;
 mod run;
+mod transcript;
 mod writing;
 
 pub use program::run_program;

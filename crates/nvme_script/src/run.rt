@@ -1,27 +1,25 @@
 //! A script from its text to its transcript.
 
-ghost use Rattle.std.specs.Prelude.{◌≡◌, ◌≤◌, ◌⊎◌, IfOk, IfErr, IfSome, OnOk, OnErr, length, vec_len};
-ghost use Rattle.std.specs.List.{AllByRecursion};
-ghost use Rattle.nvme_spec.specs.World.{LiesWithin};
-ghost use Rattle.nvme_grammar.specs.Transfers.{IsTransfer};
-ghost use Rattle.nvme_script.specs.Faults.{IsScript, IsReady, Transcribes, StopsAt, IsEarlyFault, IsFault, IsWrite, world_of, commands_in, of_reading, of_grammar};
+ghost use Rattle.std.specs.Prelude.{◌≡◌, ◌≤◌, ◌⊎◌, ◌∷◌, [], ℕ, IfOk, IfErr, IfSome, OnOk, OnErr, length, vec_len};
+ghost use Rattle.script_text.specs.Words.{most_words};
+ghost use Rattle.nvme_grammar.specs.Room.{HasBytesRoom};
+ghost use Rattle.nvme_fleet.specs.FleetStates.{fleet_of};
+ghost use Rattle.nvme_grammar.specs.Script.{events_of};
+ghost use Rattle.nvme_script.specs.Faults.{IsScript, IsReady, Transcribes, StopsAt, Runs, IsEarlyFault, IsFault, IsWrite, events_in, of_reading, of_grammar, of_opening};
 ghost use Rattle.nvme_script.specs.declared.run.ScriptFault.TheVariants.{NoMemory as MemoryRefused};
 
-use crate::direct::execute;
+use crate::lines::front_line;
 use crate::reading::{ReadFault, read_text};
-use crate::reply::Reply;
+use crate::transcript::TranscriptLine;
 use crate::writing::{LONGEST_LINE, write_line};
-use nvme_grammar::{Direct, ParseFault, parse};
+use nvme_fleet::{Fleet, NewFault};
+use nvme_grammar::{Buffers, Line, ParseFault, Script, parse, parse_line};
 use nvme_medium::Medium;
-use nvme_ns::Spaces;
 use nvme_spec::ConfigFault;
 use std::alloc::{AllocError, Global};
 use std::io;
 use std::io::{Read, Write};
 use thiserror::Error;
-
-/// How many bytes the largest transfer has.
-const LARGEST_TRANSFER: usize = 131_072;
 
 /// Why a script was not run to its end. A fault's text is what the program prints.
 #[derive(Clone, Copy, Debug, Error, PartialEq, Eq)]
@@ -77,94 +75,109 @@ impl From<AllocError> for ScriptFault {
     }
 }
 
-/// The memory that commands work in.
+/// A script that was read, and the room that its events work in: no memory is taken after its fleet is made.
 #[derive(Drop)]
-struct Room {
-    /// The data of one command.
-    data: Vec<u8>,
+struct Ready {
+    text: Vec<u8>,
+    script: Script,
+    buffers: Buffers,
     /// One line of the transcript.
     line: String,
 }
 
-impl Room {
-    /// Room for the largest command and the longest line.
-    fn new(alloc: Global) -> Result<Room, AllocError>
-        ensures { IfOk result (λ room. vec_len room.data ≡ 131072) }
-    {
-        Ok(Room {
-            data: vec![in alloc; 0; LARGEST_TRANSFER]?,
-            line: String::with_capacity(alloc, LONGEST_LINE)?,
-        })
-    }
-}
-
-/// All that a script needs before its first command: no memory is taken after it.
-#[derive(Drop)]
-struct Ready {
-    spaces: Spaces,
-    commands: Vec<Direct>,
-    room: Room,
-}
-
-/// Reads a script and opens its configuration over a medium of so many blocks.
-fn prepare<R: Read>(alloc: Global, reader: &mut R, medium_blocks: u64) -> Result<Ready, ScriptFault>
-    ensures ready { IfOk result (λ ready. IfSome (R.remaining reader.old) (λ text. IsReady text medium_blocks ready.spaces ready.commands.items)) }
-    ensures transfers { IfOk result (λ ready. AllByRecursion IsTransfer ready.commands.items) }
-    ensures within { IfOk result (λ ready. LiesWithin medium_blocks ready.spaces.namespaces) }
-    ensures room { IfOk result (λ ready. vec_len ready.room.data ≡ 131072) }
-    ensures fault { IfErr result (λ fault. IfSome (R.remaining reader.old) (λ text. IsEarlyFault fault text medium_blocks)) }
+/// Reads a script, and makes the room that its events work in.
+fn prepare<R: Read>(alloc: Global, reader: &mut R) -> Result<Ready, ScriptFault>
+    ensures text { IfOk result (λ ready. IfSome (R.remaining reader.old) (λ text. text ≡ ready.text.items)) }
+    ensures script { IfOk result (λ ready. IsReady ready.text.items ready.script) }
+    ensures bytes_room { IfOk result (λ ready. HasBytesRoom ready.text.items ready.buffers.bytes.items) }
+    ensures identifiers_room { IfOk result (λ ready. most_words ready.text.items ≤ vec_len ready.buffers.identifiers) }
+    ensures fault { IfErr result (λ fault. IfSome (R.remaining reader.old) (λ text. (size : ℕ) → IsEarlyFault fault text size)) }
     ensures early { IfErr result (λ fault. ¬ IsWrite fault) }
 {
     let text = read_text(alloc, reader)?;
-    let script = parse(alloc, text.as_slice())?;
-    let spaces = match Spaces::new(&script.config, medium_blocks) {
-        Ok(spaces) => spaces,
-        Err(fault) => return Err(ScriptFault::Config(script.start.unwrap_or(0), fault)),
-    };
-    let room = Room::new(alloc)?;
+    let mut buffers = Buffers::for_text(alloc, text.as_slice())?;
+    let script = parse(
+        alloc,
+        text.as_slice(),
+        &mut buffers.bytes,
+        &mut buffers.identifiers,
+    )?;
+    let line = String::with_capacity(alloc, LONGEST_LINE)?;
     Ok(Ready {
-        spaces,
-        commands: script.commands,
-        room,
+        text,
+        script,
+        buffers,
+        line,
     })
 }
 
-/// Runs commands in their order, and writes the line of each before the next one. The line has room in what is lent.
-fn run_commands<W: Write, M: Medium>(
-    spaces: &Spaces,
-    commands: &[Direct],
-    buffer: &mut [u8],
+/// The fault of a script whose fleet was refused: its configuration's, at the line `start`, or want of memory.
+fn refused_at(start: Option<usize>, fault: ConfigFault) -> ScriptFault
+    ensures { result ≡ of_opening start fault }
+{
+    match fault {
+        ConfigFault::NoMemory => ScriptFault::NoMemory,
+        _ => ScriptFault::Config(start.unwrap_or(0), fault),
+    }
+}
+
+/// Runs the event of a line, if it is one, and writes its line of the transcript, which has room in what is lent.
+fn run_line<W: Write, M: Medium>(
+    raw: &[u8],
+    fleet: &mut Fleet<M>,
+    bytes: &mut [u8],
+    identifiers: &mut [u16],
     line: &mut String,
     writer: &mut W,
-    medium: &mut M,
 ) -> io::Result<()>
-    requires transfers { AllByRecursion IsTransfer commands.now }
-    requires room { length buffer.old ≡ 131072 }
-    requires within { LiesWithin (M.size medium.old) spaces.now.namespaces }
-    ensures ok { OnOk result (Transcribes M.tells spaces.now commands.now (M.device medium.old) (M.device medium.new) (W.contents writer.old) (W.contents writer.new)) }
-    ensures err { OnErr result (StopsAt M.tells spaces.now commands.now (M.device medium.old) (M.device medium.new) (W.contents writer.old) (W.contents writer.new)) }
+    requires bytes_room { HasBytesRoom raw.now bytes.old }
+    requires identifiers_room { most_words raw.now ≤ length identifiers.old }
+    ensures ok { OnOk result (Transcribes M.tells (fleet_of fleet.old) (events_of (raw.now ∷ [])) (fleet_of fleet.new) (W.contents writer.old) (W.contents writer.new)) }
+    ensures err { OnErr result (StopsAt M.tells (fleet_of fleet.old) (events_of (raw.now ∷ [])) (fleet_of fleet.new) (W.contents writer.old) (W.contents writer.new)) }
 {
-    for command in commands {
-        let data = &mut buffer[..512 * command.place.blocks as usize];
-        let answer = execute(spaces, medium, data, command);
-        let reply = Reply {
-            cntlid: command.cntlid,
-            status: answer.status,
-            rule: answer.rule,
-            bytes: answer.data(data),
-        };
-        write_line(writer, line, &reply)?;
+    let Some(Line::Event(event)) = parse_line(raw, bytes, identifiers) else {
+        return Ok(());
+    };
+    let seen = fleet.apply(event);
+    let data = fleet.data();
+    let shown = TranscriptLine {
+        event,
+        seen: &seen,
+        bytes: data,
+    };
+    write_line(writer, line, &shown)
+}
+
+/// Runs the events of a text in their order, and writes the line of each before the next one.
+fn run_events<W: Write, M: Medium>(
+    text: &[u8],
+    fleet: &mut Fleet<M>,
+    bytes: &mut [u8],
+    identifiers: &mut [u16],
+    line: &mut String,
+    writer: &mut W,
+) -> io::Result<()>
+    requires bytes_room { HasBytesRoom text.now bytes.old }
+    requires identifiers_room { most_words text.now ≤ length identifiers.old }
+    ensures ok { OnOk result (Transcribes M.tells (fleet_of fleet.old) (events_in text.now) (fleet_of fleet.new) (W.contents writer.old) (W.contents writer.new)) }
+    ensures err { OnErr result (StopsAt M.tells (fleet_of fleet.old) (events_in text.now) (fleet_of fleet.new) (W.contents writer.old) (W.contents writer.new)) }
+{
+    let mut rest = Some(text);
+    while let Some(lines) = rest {
+        let (raw, behind) = front_line(lines);
+        run_line(raw, fleet, bytes, identifiers, line, writer)?;
+        rest = behind;
     }
     Ok(())
 }
 
-/// Runs a script: reads it whole, opens its configuration over the medium, and carries out its commands in their order,
-/// each of which adds its line to the transcript.
+/// Runs a script: reads it whole, opens its configuration over the medium, and lets its events happen in their order, each
+/// of which adds its line to the transcript.
 ///
 /// A text that tells its bytes is answered exactly as the definitions say. Faults are found in the order reading
 /// (`Read`, `TooLong`), grammar (`Syntax`), configuration (`Config`), writing (`Write`). `NoMemory` may come at any
-/// point before the first command, and never later. After all but `Write` nothing was written and the medium is as it
-/// was; after `Write` exactly the commands up to and including the one whose line could not be written were carried out,
+/// point before the first event, and never later. After all but `Write` nothing was written and the medium is as it
+/// was; after `Write` exactly the events up to and including the one whose line could not be written have happened,
 /// the lines before that one were written whole, and of its own line not all.
 pub fn run_script<R: Read, W: Write, M: Medium>(
     alloc: Global,
@@ -172,30 +185,35 @@ pub fn run_script<R: Read, W: Write, M: Medium>(
     writer: &mut W,
     medium: M,
 ) -> Result<M, (ScriptFault, M)>
-    // The transcript is that of the text that was read, and the medium has what its commands left.
+    // The transcript is that of the text that was read, and the medium has what its events left.
     ensures ok { IfOk result (λ after. IfSome (R.remaining reader.old) (λ text. IsScript text (M.size medium)
-        × Transcribes M.tells (world_of text) (commands_in text) (M.device medium) (M.device after) (W.contents writer.old) (W.contents writer.new))) }
+        × Runs M.tells text (M.device medium) (M.device after) (W.contents writer.old) (W.contents writer.new))) }
     // What each fault says.
     ensures fault { IfErr result (λ e. IfSome (R.remaining reader.old) (λ text.
         IsFault M.tells e.0 text (M.size medium) (M.device medium) (M.device e.1) (W.contents writer.old) (W.contents writer.new))) }
-    // Each fault but one of the writer comes before the first command.
+    // Each fault but one of the writer comes before the first event.
     ensures early { IfErr result (λ e. IsWrite e.0 ⊎ ((e.1 ≡ medium) × (writer.new ≡ writer.old))) }
 {
-    let mut medium = medium;
-    let mut ready = match prepare(alloc, reader, medium.blocks()) {
+    let mut ready = match prepare(alloc, reader) {
         Ok(ready) => ready,
         Err(fault) => return Err((fault, medium)),
     };
-    let outcome = run_commands(
-        &ready.spaces,
-        ready.commands.as_slice(),
-        &mut ready.room.data,
-        &mut ready.room.line,
+    let mut fleet = match Fleet::new(alloc, &ready.script.config, medium) {
+        Ok(fleet) => fleet,
+        Err(NewFault { fault, medium }) => {
+            return Err((refused_at(ready.script.start, fault), medium));
+        }
+    };
+    let outcome = run_events(
+        ready.text.as_slice(),
+        &mut fleet,
+        &mut ready.buffers.bytes,
+        &mut ready.buffers.identifiers,
+        &mut ready.line,
         writer,
-        &mut medium,
     );
     match outcome {
-        Ok(()) => Ok(medium),
-        Err(_) => Err((ScriptFault::Write, medium)),
+        Ok(()) => Ok(fleet.into_medium()),
+        Err(_) => Err((ScriptFault::Write, fleet.into_medium())),
     }
 }

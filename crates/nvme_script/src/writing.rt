@@ -3,16 +3,15 @@
 ghost use Rattle.std.specs.Prelude.{OnOk, OnErr};
 ghost use Rattle.std.specs.Io.KnownBytes.{Appends};
 ghost use Rattle.nvme_script.specs.Writing.{Cuts};
-ghost use Rattle.nvme_script.specs.Transcript.{reply_line};
-ghost use Rattle.nvme_script.specs.Replies.{reply_of};
+ghost use Rattle.nvme_script.specs.Transcript.{seen_line};
 
-use crate::reply::Reply;
+use crate::transcript::TranscriptLine;
 use std::fmt::Write as _;
 use std::io;
 use std::io::{ErrorKind, Write};
 
-/// How many bytes the longest line has, and a few more: that of a Read of 256 blocks.
-pub const LONGEST_LINE: usize = 2 * 131_072 + 64;
+/// How many bytes the longest line has, and a few more: the answer of a Read of 256 blocks.
+pub const LONGEST_LINE: usize = 2 * 131_072 + 96;
 
 /// Writes all of some bytes. Where that fails, only some of them were written, from the first on.
 fn write_whole<W: Write>(writer: &mut W, bytes: &[u8]) -> io::Result<()>
@@ -30,14 +29,18 @@ fn write_whole<W: Write>(writer: &mut W, bytes: &[u8]) -> io::Result<()>
     Ok(())
 }
 
-/// Writes the line of a reply, by way of a text with room for it. Where that fails, not all of the line was written.
-pub fn write_line<W: Write>(writer: &mut W, line: &mut String, reply: &Reply<'_>) -> io::Result<()>
-    ensures ok { OnOk result (Appends (W.contents writer.old) (W.contents writer.new) (reply_line (reply_of reply.now))) }
-    ensures err { OnErr result (Cuts (W.contents writer.old) (W.contents writer.new) (reply_line (reply_of reply.now))) }
+/// Writes a line of the transcript, by way of a text with room for it. Where that fails, not all of the line was written.
+pub fn write_line<W: Write>(
+    writer: &mut W,
+    text: &mut String,
+    line: &TranscriptLine<'_>,
+) -> io::Result<()>
+    ensures ok { OnOk result (Appends (W.contents writer.old) (W.contents writer.new) (seen_line line.now.event line.now.seen.now line.now.bytes.now)) }
+    ensures err { OnErr result (Cuts (W.contents writer.old) (W.contents writer.new) (seen_line line.now.event line.now.seen.now line.now.bytes.now)) }
 {
-    line.clear();
-    if writeln!(line, "{reply}").is_err() {
+    text.clear();
+    if writeln!(text, "{line}").is_err() {
         return Err(io::Error::from(ErrorKind::OutOfMemory));
     }
-    write_whole(writer, line.as_bytes())
+    write_whole(writer, text.as_bytes())
 }

@@ -1,6 +1,7 @@
 //! The program over an image in a file, and over scripts in files.
 
-use super::program::{SETUP, Shown, run, with_setup, words_of};
+use super::lines::{HELLO, HELLO_SHOWN, SETUP, carried, lines_with, with_setup};
+use super::program::{Shown, run, words_of};
 use super::streams::{FailingReader, FailingWriter};
 use crate::run_program;
 use std::fs::File;
@@ -10,9 +11,6 @@ use std::rt::Files;
 use std::test::Fail;
 use std::time::UNIX_EPOCH;
 use std::{fs, io};
-
-/// A Write of a block, and a Read of it.
-const HELLO: &[u8] = b"do 1 write 1 0 1 hex:48656c6c6f\ndo 1 read 1 0 1\n";
 
 /// Runs the program over an image of these bytes, and gives what the image has then.
 fn run_over_image<R: Files<File = File> + AllocGlobal, I: Read, O: Write>(
@@ -33,7 +31,10 @@ fn run_over_image<R: Files<File = File> + AllocGlobal, I: Read, O: Write>(
 
 #[test]
 fn keeps_the_image_without_commands(rt: HostRuntime) -> Result<(), Fail> {
-    let cut = with_setup(rt.alloc(), b"do 1 write 1 0 1 hex:01\ndo 1 read 1 0")?;
+    let cut = with_setup(
+        rt.alloc(),
+        b"up 1\nwrite 1 1 0 1 hex:01\nring 1\nfetch 1 1\nexecute 1 0\nread 1 1 0",
+    )?;
     let cases = [(b"".as_slice(), 0), (SETUP, 0), (cut.as_slice(), 1)];
     let image = [7; 40000];
     for (text, wanted) in cases {
@@ -51,12 +52,12 @@ fn keeps_what_stands_behind_the_last_block(rt: HostRuntime) -> Result<(), Fail> 
     let image = [7; 5000];
     let cases = [
         (
-            b"controller 1 host 1\nnamespace 1 blocks 10 shared\nattached 1 1\nstart\ndo 1 write 1 8 1 fill:5a\n".as_slice(),
+            b"controller 1 host 1\nnamespace 1 blocks 10 shared\nattached 1 1\nstart\nup 1\nwrite 1 1 8 1 fill:5a\nring 1\nfetch 1 1\nexecute 1 0\n".as_slice(),
             1,
             7,
         ),
         (
-            b"controller 1 host 1\nnamespace 1 blocks 9 shared\nattached 1 1\nstart\ndo 1 write 1 8 1 fill:5a\n",
+            b"controller 1 host 1\nnamespace 1 blocks 9 shared\nattached 1 1\nstart\nup 1\nwrite 1 1 8 1 fill:5a\nring 1\nfetch 1 1\nexecute 1 0\n",
             0,
             0x5a,
         ),
@@ -76,7 +77,7 @@ fn keeps_what_stands_behind_the_last_block(rt: HostRuntime) -> Result<(), Fail> 
 
 #[test]
 fn is_written_in_place(rt: HostRuntime) -> Result<(), Fail> {
-    let text = with_setup(rt.alloc(), HELLO)?;
+    let text = carried(rt.alloc(), HELLO)?;
     let mut output: Vec<u8> = Vec::new(rt.alloc());
     let (status, left) = run_over_image(
         &rt,
@@ -86,10 +87,7 @@ fn is_written_in_place(rt: HostRuntime) -> Result<(), Fail> {
         &mut output,
     )?;
     assert_eq!(rt; status, 0);
-    assert_eq!(rt;
-        output.as_slice(),
-        b"did 1 0:00 0\ndid 1 0:00 0 512 48656c6c6f\n".as_slice()
-    );
+    assert_eq!(rt; output.as_slice(), HELLO_SHOWN);
     let mut wanted = [0; 32768];
     wanted[..5].copy_from_slice(b"Hello");
     assert_eq!(rt; left.as_slice(), wanted.as_slice());
@@ -98,7 +96,7 @@ fn is_written_in_place(rt: HostRuntime) -> Result<(), Fail> {
 
 #[test]
 fn has_what_was_written_where_the_transcript_fails(rt: HostRuntime) -> Result<(), Fail> {
-    let text = with_setup(rt.alloc(), HELLO)?;
+    let text = carried(rt.alloc(), HELLO)?;
     let writers = [
         FailingWriter::at_write(rt.alloc(), 0),
         FailingWriter::at_flush(rt.alloc(), 0),
@@ -121,13 +119,13 @@ fn has_what_was_written_where_the_transcript_fails(rt: HostRuntime) -> Result<()
 fn is_left_alone<R: Files<File = File> + AllocGlobal>(
     rt: &R,
     path: &str,
-    lines: &[u8],
+    requests: &[&[u8]],
 ) -> Result<bool, Fail> {
     let file = fs::create(rt, path)?;
     file.set_len(32768)?;
     file.set_modified(UNIX_EPOCH)?;
     let words = words_of(rt.alloc(), &[path])?;
-    let text = with_setup(rt.alloc(), lines)?;
+    let text = carried(rt.alloc(), requests)?;
     let mut output: Vec<u8> = Vec::new(rt.alloc());
     let mut errors: Vec<u8> = Vec::new(rt.alloc());
     let status = run_program(
@@ -144,14 +142,14 @@ fn is_left_alone<R: Files<File = File> + AllocGlobal>(
 
 #[test]
 fn is_left_alone_where_nothing_was_written(rt: HostRuntime) -> Result<(), Fail> {
-    let cases = [
-        (b"".as_slice(), true),
-        (b"do 1 read 1 0 64\ndo 1 read 1 0 64\n", true),
-        (b"do 1 write 1 64 1 hex:01\ndo 1 write 2 0 1 hex:01\n", true),
-        (b"do 1 write 1 63 1 fill:00\n", false),
+    let cases: [(&[&[u8]], bool); 4] = [
+        (&[], true),
+        (&[b"read 1 1 0 64", b"compare 1 1 0 1 fill:00"], true),
+        (&[b"write 1 1 64 1 hex:01", b"write 1 2 0 1 hex:01"], true),
+        (&[b"write 1 1 63 1 fill:00"], false),
     ];
-    for (lines, wanted) in cases {
-        assert_eq!(rt; is_left_alone(&rt, "alone.img", lines)?, wanted);
+    for (requests, wanted) in cases {
+        assert_eq!(rt; is_left_alone(&rt, "alone.img", requests)?, wanted);
     }
     Ok(())
 }
@@ -172,7 +170,7 @@ impl Read for CuttingReader<'_> {
 
 #[test]
 fn a_fault_of_the_image_is_an_answer(rt: HostRuntime) -> Result<(), Fail> {
-    let text = with_setup(rt.alloc(), b"do 1 read 1 0 1\ndo 1 read 1 64 1\n")?;
+    let text = carried(rt.alloc(), &[b"read 1 1 0 1", b"read 1 1 64 1"])?;
     let path = "cut.img";
     let file = fs::create(&rt, path)?;
     file.set_len(32768)?;
@@ -183,8 +181,8 @@ fn a_fault_of_the_image_is_an_answer(rt: HostRuntime) -> Result<(), Fail> {
     let shown = run(&rt, &[path], &mut reader)?;
     fs::remove_file(&rt, path)?;
     assert_eq!(rt;
-        shown.output.as_slice(),
-        b"did 1 2:81 0\ndid 1 0:80 9\n".as_slice()
+        lines_with(rt.alloc(), shown.output.as_slice(), b"execute")?.as_slice(),
+        b"execute 1 0 posted 2:81 0\nexecute 1 0 posted 0:80 9\n".as_slice()
     );
     assert_eq!(rt; shown.status, 0);
     Ok(())
@@ -192,7 +190,7 @@ fn a_fault_of_the_image_is_an_answer(rt: HostRuntime) -> Result<(), Fail> {
 
 #[test]
 fn leaves_the_image_where_the_script_cannot_be_read(rt: HostRuntime) -> Result<(), Fail> {
-    let text = with_setup(rt.alloc(), HELLO)?;
+    let text = carried(rt.alloc(), HELLO)?;
     let mut reader = FailingReader::new(text.as_slice(), 12);
     let mut output: Vec<u8> = Vec::new(rt.alloc());
     let (status, left) = run_over_image(&rt, "unread.img", &[0; 32768], &mut reader, &mut output)?;
@@ -231,14 +229,11 @@ fn faults_of_files_come_first(rt: HostRuntime) -> Result<(), Fail> {
 fn a_script_is_a_path_as_it_stands(rt: HostRuntime) -> Result<(), Fail> {
     let missing = run(&rt, &["-", "-"], &mut SETUP)?;
     assert_eq!(rt; missing.status, 2);
-    let text = with_setup(rt.alloc(), HELLO)?;
+    let text = carried(rt.alloc(), HELLO)?;
     fs::write(&rt, "-", text.as_slice())?;
     let shown = run(&rt, &["-", "-"], &mut &b"not a script"[..])?;
     fs::remove_file(&rt, "-")?;
     assert_eq!(rt; shown.status, 0);
-    assert_eq!(rt;
-        shown.output.as_slice(),
-        b"did 1 0:00 0\ndid 1 0:00 0 512 48656c6c6f\n".as_slice()
-    );
+    assert_eq!(rt; shown.output.as_slice(), HELLO_SHOWN);
     Ok(())
 }

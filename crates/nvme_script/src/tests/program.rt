@@ -1,15 +1,12 @@
 //! The program over streams and files: its words, texts and statuses.
 
+use super::lines::{HELLO, HELLO_SHOWN, SETUP, carried};
 use crate::run_program;
 use std::alloc::{AllocError, Global};
 use std::fs::File;
 use std::io::Read;
 use std::rt::Files;
 use std::test::Fail;
-
-/// One controller with a shared namespace of 64 blocks: the first four lines of many scripts.
-pub const SETUP: &[u8] =
-    b"controller 1 host 0xa1\nnamespace 1 blocks 64 shared\nattached 1 1\nstart\n";
 
 /// What a run of the program showed.
 #[derive(Drop)]
@@ -46,37 +43,20 @@ pub(crate) fn run<R: Files<File = File> + AllocGlobal, I: Read>(
     })
 }
 
-/// The setup with more lines behind it.
-pub(crate) fn with_setup(alloc: Global, lines: &[u8]) -> Result<Vec<u8>, AllocError> {
-    let mut text = Vec::new(alloc);
-    text.extend_from_slice(SETUP)?;
-    text.extend_from_slice(lines)?;
-    Ok(text)
-}
-
 #[test]
-fn answers_each_command(rt: HostRuntime) -> Result<(), Fail> {
+fn answers_each_event(rt: HostRuntime) -> Result<(), Fail> {
+    let text = carried(rt.alloc(), HELLO)?;
     let cases = [
-        (
-            b"do 1 write 1 0 1 hex:48656c6c6f\ndo 1 read 1 0 1\n".as_slice(),
-            b"did 1 0:00 0\ndid 1 0:00 0 512 48656c6c6f\n".as_slice(),
-        ),
-        (b"do 1 read 1 0 2", b"did 1 0:00 0 1024 -\n"),
-        (
-            b"do 1 write 1 5 1 hex:00aB00Cd00\ndo 1 read 1 5 1\n",
-            b"did 1 0:00 0\ndid 1 0:00 0 512 00ab00cd\n",
-        ),
-        (b"do 1 read 1 64 1\n", b"did 1 0:80 9\n"),
-        (b"do 1 read 1 63 2\n", b"did 1 0:80 9\n"),
-        (b"do 1 read 1 18446744073709551615 1\n", b"did 1 0:80 9\n"),
-        (b"do 1 write 1 64 1 hex:ff\n", b"did 1 0:80 9\n"),
-        (b"do 1 read 2 0 1\n", b"did 1 0:02 5\n"),
-        (b"do 1 read 9 0 1\n", b"did 1 0:0b 4\n"),
+        (text.as_slice(), HELLO_SHOWN),
+        (SETUP, b""),
         (b"", b""),
+        (
+            b"start\npoll 9\nstore 1 0 hex:00",
+            b"nocontroller 9\nnocontroller 1\n",
+        ),
     ];
-    for (lines, transcript) in cases {
-        let text = with_setup(rt.alloc(), lines)?;
-        let shown = run(&rt, &[], &mut text.as_slice())?;
+    for (text, transcript) in cases {
+        let shown = run(&rt, &[], &mut &text[..])?;
         assert_eq!(rt; shown.output.as_slice(), transcript);
         assert_eq!(rt; shown.status, 0);
         assert!(rt; shown.errors.is_empty());
@@ -88,12 +68,16 @@ fn answers_each_command(rt: HostRuntime) -> Result<(), Fail> {
 fn names_the_fault_of_a_script(rt: HostRuntime) -> Result<(), Fail> {
     let cases = [
         (
-            b"controller 1 host 0xa1\nnamespace 1 blocks 64 shared\nattached 1 1\nstart\ndo 1 read 1 0".as_slice(),
+            b"controller 1 host 0xa1\nnamespace 1 blocks 64 shared\nattached 1 1\nstart\nread 1 1 0".as_slice(),
             b"nvmesim: line 5: not understood\n".as_slice(),
         ),
         (
             b"start\ndo 1 read 1 0 1\n",
             b"nvmesim: line 2: not understood\n",
+        ),
+        (
+            b"read 1 1 0 1\nstart\n",
+            b"nvmesim: line 1: not understood\n",
         ),
         (
             b"# \xff\x00\x0b is a comment\n\xff\x00\x0b is not\n",
@@ -164,18 +148,5 @@ fn scripts_have_a_longest_length(rt: HostRuntime) -> Result<(), Fail> {
     );
     assert_eq!(rt; longer.status, 1);
     assert!(rt; longer.output.is_empty());
-    Ok(())
-}
-
-#[test]
-fn two_hosts_share_a_namespace(rt: HostRuntime) -> Result<(), Fail> {
-    let text =
-        b"controller 1 host 0xa1\ncontroller 2 host 0xb2\nnamespace 1 blocks 8 shared\nnamespace 2 blocks 8 private\nattached 1 1\nattached 2 1\nattached 1 2\nstart\ndo 1 write 1 7 1 hex:c0ffee\ndo 2 read 1 7 1\ndo 1 write 2 0 1 hex:01\ndo 2 read 2 0 1\ndo 2 write 2 0 1 hex:02\ndo 1 read 2 0 1\n";
-    let shown = run(&rt, &[], &mut &text[..])?;
-    assert_eq!(rt;
-        shown.output.as_slice(),
-        b"did 1 0:00 0\ndid 2 0:00 0 512 c0ffee\ndid 1 0:00 0\ndid 2 0:02 5\ndid 2 0:02 5\ndid 1 0:00 0 512 01\n".as_slice()
-    );
-    assert_eq!(rt; shown.status, 0);
     Ok(())
 }

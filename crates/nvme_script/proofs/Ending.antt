@@ -1,0 +1,57 @@
+-- What the end of a script's run says of its text.
+use Rattle.std.proofs.Common.{◌≡◌, ℕ, Bool, List, Option, Some, None, ◌∙◌, subst}
+use Rattle.std.specs.Prelude.{IfSome}
+use Rattle.nvme_spec.specs.Blocks.{Device}
+use Rattle.nvme_spec.specs.Configuration.{first_config_fault}
+use Rattle.nvme_spec.specs.declared.config.ConfigFault.{ConfigFault}
+use Rattle.nvme_spec.specs.declared.config.ConfigFault.TheVariants as fault_of
+use Rattle.nvme_ns.specs.Configured.{configuration}
+use Rattle.nvme_fleet.specs.FleetStates.{FleetState, fleet_of}
+use Rattle.nvme_fleet.specs.Fleets.{Fleet, opening}
+use Rattle.nvme_grammar.specs.declared.script.Script.{Script}
+use Rattle.nvme_script.specs.declared.run.ScriptFault.{ScriptFault}
+use Rattle.nvme_script.specs.declared.run.ScriptFault.TheVariants.{Syntax, Config, TooLong, NoMemory, Read, Write}
+use Rattle.nvme_script.specs.Faults.{IsScript, IsReady, IsEarlyFault, IsFault, IsWrite, Transcribes, StopsAt, Runs, events_in, fleet_of_text, of_opening}
+use Rattle.nvme_script.proofs.Preparing.{accepted_script, opened_fleet}
+
+pub if_some-map : {A : Type 0} (o : Option A) (P Q : A → Type 0) → ((x : A) → P x → Q x) → IfSome o P → IfSome o Q
+if_some-map None P Q f h = tt
+if_some-map (Some x) P Q f h = f x h
+
+module _ (tells : Bool) (text : List ℕ) (size : ℕ) (old new : Device) (before after : Option (List ℕ)) where
+  -- a fault before the first event
+  pub early_fault : (fault : ScriptFault) → (IsWrite fault → ⊥) → IsEarlyFault fault text size → IsFault tells fault text size old new before after
+  early_fault (Syntax n) early h = h
+  early_fault (Config n f) early h = h
+  early_fault TooLong early h = h
+  early_fault NoMemory early h = h
+  early_fault Read early h = h
+  early_fault Write early h = absurd (early tt)
+
+  module _ (script : Script) (opened now : FleetState) (ready : IsReady text script) (accepted : first_config_fault (configuration script.config) size ≡ None)
+      (opens : fleet_of opened ≡ opening (configuration script.config) old) (left : new ≡ now.subsystem.device) where
+    of_text : fleet_of opened ≡ fleet_of_text text old
+    of_text = opens ∙ opened_fleet text script old ready
+
+    leaves : new ≡ (fleet_of now).site.device
+    unfolding fleet_of
+    leaves = left
+
+    pub ran_whole : Transcribes tells (fleet_of opened) (events_in text) (fleet_of now) before after → IsScript text size × Runs tells text old new before after
+    ran_whole h = (
+      accepted_script text size script ready accepted,
+      record { last = fleet_of now; transcribed = subst (λ (f : Fleet). Transcribes tells f (events_in text) (fleet_of now) before after) of_text h; leaves = leaves },
+    )
+
+    pub ran_in_part : StopsAt tells (fleet_of opened) (events_in text) (fleet_of now) before after → IsFault tells Write text size old new before after
+    ran_in_part h = (
+      accepted_script text size script ready accepted,
+      record { last = fleet_of now; stopped = subst (λ (f : Fleet). StopsAt tells f (events_in text) (fleet_of now) before after) of_text h; leaves = leaves },
+    )
+
+pub opening_is_early : (start : Option ℕ) (fault : ConfigFault) → IsWrite (of_opening start fault) → ⊥
+opening_is_early start fault_of.BadId h = h
+opening_is_early start fault_of.BadSize h = h
+opening_is_early start fault_of.TooMany h = h
+opening_is_early start fault_of.DoesNotFit h = h
+opening_is_early start fault_of.NoMemory h = h
