@@ -1,9 +1,11 @@
 //! Plain copies: of blocks a batch at a time, of 256 blocks one at a time; the quickest counts.
 
-use crate::host::BATCH;
 use std::io;
 use std::rt::Clock;
 use std::time::Instant;
+
+/// How many blocks are copied between two looks at the clock.
+const BATCH: u32 = 8;
 
 /// The bytes of 256 blocks.
 const BYTES: usize = 131_072;

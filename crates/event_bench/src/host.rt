@@ -1,7 +1,8 @@
-//! A subsystem, and the host of its last controller.
+//! A subsystem, and the host of its last controller, which uses it by single stores and register writes.
 
+use crate::batch::Batch;
+use crate::opening::{configuration, medium, want_of_memory};
 use nvme_medium::MemMedium;
-use nvme_spec::{Config, ControllerConfig, NsConfig};
 use nvme_subsys::{Event, Executed, Seen, Subsystem};
 use std::alloc::Global;
 use std::io;
@@ -17,7 +18,7 @@ const LIST: u64 = 0x8000;
 const PAGES: u64 = 0x10000;
 
 /// How many commands are sent at once.
-pub(crate) const BATCH: u32 = 8;
+const BATCH: u32 = 8;
 
 /// A command that is measured.
 #[derive(Clone, Copy)]
@@ -35,11 +36,8 @@ pub(crate) enum Kind {
 pub(crate) struct Host {
     subsystem: Subsystem<MemMedium>,
     cntlid: u16,
+    kind: Kind,
     tail: u32,
-}
-
-fn want_of_memory() -> io::Error {
-    io::Error::from(io::ErrorKind::OutOfMemory)
 }
 
 /// An entry with two PRP entries and the double words 10 to 12.
@@ -55,8 +53,8 @@ fn entry(opcode: u8, nsid: u8, prp: [u64; 2], dwords: [u32; 3]) -> [u8; 64] {
     bytes
 }
 
-/// The entry of a command, the `round`-th of its kind.
-pub(crate) fn command(kind: Kind, round: u32) -> [u8; 64] {
+/// The entry of a command, one of the `round`-th batch of its kind.
+fn command(kind: Kind, round: u32) -> [u8; 64] {
     match kind {
         Kind::Small => entry(2, 1, [PAGES, 0], [round % 256, 0, 0]),
         Kind::Denied => entry(2, 1, [PAGES, 0], [256, 0, 0]),
@@ -64,39 +62,17 @@ pub(crate) fn command(kind: Kind, round: u32) -> [u8; 64] {
     }
 }
 
-/// Controllers of one host each, and a namespace of 256 blocks that is attached to all of them.
-fn configuration(alloc: Global, controllers: u16) -> io::Result<Config> {
-    let mut config = Config {
-        controllers: Vec::new(alloc),
-        namespaces: Vec::new(alloc),
-        attached: Vec::new(alloc),
-    };
-    config.namespaces.push(NsConfig {
-        nsid: 1,
-        blocks: 256,
-        shared: true,
-    })?;
-    for cntlid in 1..controllers.min(16) + 1 {
-        config.controllers.push(ControllerConfig {
-            cntlid,
-            host: 0x100 + u64::from(cntlid),
-            raw: false,
-        })?;
-        config.attached.push((cntlid, 1))?;
-    }
-    Ok(config)
-}
-
 impl Host {
     /// Opens so many controllers, and makes the last one run, with I/O queue 1 of 64 entries.
-    pub(crate) fn new(alloc: Global, controllers: u16) -> io::Result<Host> {
+    pub(crate) fn new(alloc: Global, controllers: u16, kind: Kind) -> io::Result<Host> {
         let config = configuration(alloc, controllers)?;
-        let blocks = vec![in alloc; 1; 131_072]?;
-        let medium = MemMedium::new(alloc, blocks.as_slice()).map_err(|_| want_of_memory())?;
-        let subsystem = Subsystem::new(alloc, &config, medium).map_err(|_| want_of_memory())?;
+        let subsystem = Subsystem::new(alloc, &config, medium(alloc)?).map_err(
+            |_| want_of_memory(),
+        )?;
         let mut host = Host {
             subsystem,
             cntlid: controllers,
+            kind,
             tail: 0,
         };
         host.enable();
@@ -132,33 +108,37 @@ impl Host {
             self.subsystem.apply(Event::Store(self.cntlid, LIST + 8 * i, &page.to_le_bytes()));
         }
     }
+}
+
+impl Batch for Host {
+    fn count(&self) -> u32 {
+        BATCH
+    }
 
     /// Stores an entry so often, behind the tail.
-    pub(crate) fn store(&mut self, entry: &[u8; 64]) {
+    fn submit(&mut self, round: u32) {
+        let entry = command(self.kind, round);
         for i in 0..BATCH {
             let slot = u64::from(self.tail.wrapping_add(i) % 64);
             self.subsystem
-                .apply(Event::Store(self.cntlid, COMMANDS + 64 * slot, entry));
+                .apply(Event::Store(self.cntlid, COMMANDS + 64 * slot, &entry));
         }
         self.tail = self.tail.wrapping_add(BATCH) % 64;
     }
 
-    /// Rings the tail doorbell so often, each time with the same tail.
-    pub(crate) fn ring(&mut self) {
+    fn ring(&mut self) {
         for _ in 0..BATCH {
             self.write(0x1008, self.tail);
         }
     }
 
-    /// Fetches so many commands.
-    pub(crate) fn fetch(&mut self) {
+    fn fetch(&mut self) {
         for _ in 0..BATCH {
             self.subsystem.apply(Event::Fetch(self.cntlid, 1));
         }
     }
 
-    /// Executes so many commands, and gives how many completions were posted, with their status codes.
-    pub(crate) fn execute(&mut self) -> u64 {
+    fn execute(&mut self) -> u64 {
         let mut sum = 0_u64;
         for _ in 0..BATCH {
             if let Seen::Executed(Executed::Posted(outcome)) = self
@@ -172,9 +152,10 @@ impl Host {
     }
 
     /// Tells by the head doorbell that all completions were consumed.
-    pub(crate) fn consume(&mut self) {
+    fn complete(&mut self) -> u64 {
         for _ in 0..BATCH {
             self.write(0x100c, self.tail);
         }
+        0
     }
 }

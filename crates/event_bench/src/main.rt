@@ -1,10 +1,13 @@
-//! `event_bench ROUNDS` measures the events of a subsystem of one controller, and of sixteen, beside plain copies of as many
-//! bytes.
+//! `event_bench ROUNDS` measures the events of one controller, and of sixteen, beside plain copies of as many bytes: first by
+//! a host's own stores and register writes, then by its driver.
 #![tactic(auto)]
 
+mod batch;
 mod copies;
+mod driven;
 mod host;
 mod measure;
+mod opening;
 
 use std::rt::Env;
 use std::{env, io};
