@@ -64,3 +64,5 @@ pub mod FleetSound
 pub mod FleetCalls
 pub mod FleetOpening
 pub mod FleetRuns
+pub mod HostPlaces
+pub mod Apart

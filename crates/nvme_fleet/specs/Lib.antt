@@ -14,3 +14,4 @@ pub mod Links
 pub mod Linked
 pub mod FleetStates
 pub mod Running
+pub mod Apart

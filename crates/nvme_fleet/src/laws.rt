@@ -1,5 +1,6 @@
 //! What follows from the definitions. Each law is the contract of a function that does nothing.
 
+ghost use Rattle.nvme_fleet.specs.Apart.{HostsAreApart};
 ghost use Rattle.nvme_fleet.specs.Determined.{FailuresNeverFall, RunExists, RunIsUnique};
 ghost use Rattle.nvme_fleet.specs.Links.{BringUpIsAStep};
 ghost use Rattle.nvme_fleet.specs.Steps.{OpeningIsSound, JudgedAsItsRequest, AllowedServesItsRequest, AnswersItsRequest, NothingToExecute, PostingHasRoom, PostingIsAStep, IoExecutionIsAStep, AdminJudgedAsItsRequest, AdminAnswersItsRequest, AdminExecutionIsAStep, ExecutionIsAStep, ExecutionIsAFleetStep, NoExecutionIsAFleetStep, RefusalIsAStep, PlaceIsAStep, RingIsAStep, FetchIsAStep, MarksAreSteps, PollIsAStep, ResetIsAStep};
@@ -64,4 +65,11 @@ pub fn executions_are_steps()
     ensures mailbox { ExecutionIsAStep }
     ensures fleet { ExecutionIsAFleetStep }
     ensures idle { NoExecutionIsAFleetStep }
+{}
+
+/// A host that has a driver goes on having one, and its mailbox becomes what its own events make of it, whatever all others
+/// do: their events leave it as it is, but for the marks of a Preempt and Abort.
+#[tactic(auto, using(crate::proofs::Apart::hosts_are_apart))]
+pub fn hosts_are_apart()
+    ensures apart { HostsAreApart }
 {}

@@ -1,0 +1,85 @@
+-- What an event leaves at the place of one host.
+use Rattle.std.proofs.Common.{◌≡◌, ◌≢◌, inl, inr, ℕ, zero, suc, ◌+◌, Bool, true, false, List, [], ◌∷◌, Option, None, Some, refl, sym, ap, subst}
+use Rattle.std.specs.Prelude.{if◌then◌else◌, slice_get, slice_set}
+use Rattle.nvme_spec.specs.declared.outcome.Marks.{Marks}
+use Rattle.nvme_spec.specs.World.{World, host_of}
+use Rattle.nvme_machine.specs.Controllers.{Controller}
+use Rattle.nvme_machine.specs.Subsystems.{is_host_among}
+use Rattle.nvme_fleet.specs.declared.seen.FleetSeen.{FleetSeen}
+use Rattle.nvme_fleet.specs.Mailboxes.{Mailbox}
+use Rattle.nvme_fleet.specs.Deliveries.{Reaction}
+use Rattle.nvme_fleet.specs.Fleets.{Host, WithDriver, Raw, Fleet, host_at, with_host, called_at, raw_at, fetched_at, marked, marked_from, numbered, replaced}
+use Rattle.nvme_fleet.specs.Apart.{DiffersInMarks}
+
+set-other : (hs : List Host) (i j : ℕ) (h : Host) → j ≢ i → slice_get (slice_set hs j h) i ≡ slice_get hs i
+set-other [] i j h other = refl
+set-other (x ∷ hs) zero zero h other = absurd (other refl)
+set-other (x ∷ hs) zero (suc j) h other = refl
+set-other (x ∷ hs) (suc i) zero h other = refl
+set-other (x ∷ hs) (suc i) (suc j) h other = set-other hs i j h (λ e. other (ap suc e))
+
+set-here : (hs : List Host) (i : ℕ) (g h : Host) → slice_get hs i ≡ Some g → slice_get (slice_set hs i h) i ≡ Some h
+set-here [] i g h at = absurd (cc)
+set-here (x ∷ hs) zero g h at = refl
+set-here (x ∷ hs) (suc i) g h at = set-here hs i g h at
+
+pub replaced-other : (hs : List Host) (j k : ℕ) (h : Host) → j ≢ k → numbered (replaced hs j h) k ≡ numbered hs k
+replaced-other hs zero k h other = refl
+replaced-other hs (suc j) zero h other = refl
+replaced-other hs (suc j) (suc k) h other = set-other hs k j h (λ e. other (ap suc e))
+
+pub replaced-here : (hs : List Host) (k : ℕ) (g h : Host) → numbered hs k ≡ Some g → numbered (replaced hs k h) k ≡ Some h
+replaced-here hs zero g h at = absurd (cc)
+replaced-here hs (suc k) g h at = set-here hs k g h at
+
+-- a host other than this one has become another
+pub other-set : (f : Fleet) (j k : ℕ) (h : Host) → j ≢ k → host_at (with_host f j h) k ≡ host_at f k
+unfolding host_at with_host
+other-set f j k h other = replaced-other f.hosts j k h other
+
+pub own-set : (f : Fleet) (k : ℕ) (g h : Host) → host_at f k ≡ Some g → host_at (with_host f k h) k ≡ Some h
+unfolding host_at with_host
+own-set f k g h at = replaced-here f.hosts k g h at
+
+-- an event of another host
+
+pub called-other : (o : Option Host) (f : Fleet) (j k : ℕ) (call : Mailbox → Reaction) → j ≢ k → host_at (called_at o f j call).fleet k ≡ host_at f k
+called-other None f j k call other = refl
+called-other (Some (WithDriver m)) f j k call other = other-set f j k _ other
+called-other (Some (Raw c)) f j k call other = refl
+
+pub raw-other : (o : Option Host) (f : Fleet) (j k : ℕ) (change : Controller → Controller) (what : FleetSeen) → j ≢ k → host_at (raw_at o f j change what).fleet k ≡ host_at f k
+raw-other None f j k change what other = refl
+raw-other (Some (WithDriver m)) f j k change what other = refl
+raw-other (Some (Raw c)) f j k change what other = other-set f j k _ other
+
+pub fetched-other : (o : Option Host) (f : Fleet) (j k q : ℕ) → j ≢ k → host_at (fetched_at o f j q).fleet k ≡ host_at f k
+fetched-other None f j k q other = refl
+fetched-other (Some (WithDriver m)) f j k q other = other-set f j k _ other
+fetched-other (Some (Raw c)) f j k q other = other-set f j k _ other
+
+-- Marks.
+
+-- a mailbox stands there, marked or not
+pub record IsMarked (o : Option Host) (m : Mailbox) : Type 0 where
+  pub mailbox : Mailbox
+  pub host : o ≡ Some (WithDriver mailbox)
+  pub differs : DiffersInMarks m mailbox
+
+marked-by : (n : ℕ) (m : Mailbox) (b : Bool) → IsMarked (Some (if b then marked n (WithDriver m) else WithDriver m)) m
+marked-by n m true = record { mailbox = _; host = refl; differs = inr (n, refl) }
+marked-by n m false = record { mailbox = m; host = refl; differs = inl refl }
+
+some-is : (x y : Host) → Some x ≡ Some y → x ≡ y
+some-is x y h = cc
+
+marks-place : (w : World) (t : Marks) (j : ℕ) (hs : List Host) (i : ℕ) (m : Mailbox) → slice_get hs i ≡ Some (WithDriver m) → IsMarked (slice_get (marked_from w t j hs) i) m
+marks-place w t j [] i m at = absurd (cc)
+marks-place w t j (h ∷ hs) zero m at =
+    subst (λ x. IsMarked (Some (if is_host_among t.hosts.items (host_of w j) then marked t.nsid x else x)) m) (sym (some-is h (WithDriver m) at))
+    (marked-by t.nsid m (is_host_among t.hosts.items (host_of w j)))
+marks-place w t j (h ∷ hs) (suc i) m at = marks-place w t (j + 1) hs i m at
+
+pub marks-numbered : (w : World) (t : Marks) (hs : List Host) (k : ℕ) (m : Mailbox) → numbered hs k ≡ Some (WithDriver m) → IsMarked (numbered (marked_from w t 1 hs) k) m
+marks-numbered w t hs zero m at = absurd (cc)
+marks-numbered w t hs (suc k) m at = marks-place w t 1 hs k m at

@@ -1,0 +1,74 @@
+-- What an event makes of the mailbox of one host: an event of its own all that is made of it, one of another host at most
+-- marks.
+use Rattle.std.specs.Prelude.{◌≡◌, ◌⊎◌, ℕ, ◌==◌, Bool, true, false, Option, None, Some, slice_get}
+use Rattle.nvme_machine.specs.declared.seen.Executed.TheVariants.{Posted, NoSuch}
+use Rattle.nvme_fleet.specs.declared.event.FleetEvent.{FleetEvent}
+use Rattle.nvme_fleet.specs.declared.event.FleetEvent.TheVariants.{BringUp, Place, Ring, Fetch, Execute, Poll, Reset, RawStore, RawWrite32}
+use Rattle.nvme_fleet.specs.declared.seen.FleetSeen.TheVariants.{Executed as ExecutedSeen, NotRaw}
+use Rattle.nvme_fleet.specs.Mailboxes.{FetchedItem, Mailbox, with_marks}
+use Rattle.nvme_fleet.specs.Deliveries.{Reply, plain, Reaction, brought_up, placed, rung, fetched, polled, reset}
+use Rattle.nvme_fleet.specs.Executions.{Site, Response, Answers}
+use Rattle.nvme_fleet.specs.Fleets.{WithDriver, Fleet, Step, host_at, after_answer}
+
+-- the controller of an event's host
+abbrev pub controller_of : FleetEvent → ℕ
+controller_of (BringUp k) = k
+controller_of (Place k request) = k
+controller_of (Ring k) = k
+controller_of (Fetch k q) = k
+controller_of (Execute k i) = k
+controller_of (Poll k) = k
+controller_of (Reset k) = k
+controller_of (RawStore k address bytes) = k
+controller_of (RawWrite32 k offset v) = k
+
+-- controller k's host has a driver, whose mailbox this is
+abbrev pub HasMailbox : Fleet → ℕ → Mailbox → Type 0
+HasMailbox f k m = host_at f k ≡ Some (WithDriver m)
+
+-- the second is the first, where a Preempt and Abort may have marked some of what was fetched
+abbrev pub DiffersInMarks : Mailbox → Mailbox → Type 0
+DiffersInMarks m n = (n ≡ m) ⊎ ((namespace : ℕ) × (n ≡ with_marks namespace m))
+
+abbrev pub Becomes : Reaction → Reply → Mailbox → Type 0
+Becomes r reply n = (reply ≡ r.reply) × (n ≡ r.mailbox)
+
+-- the i-th fetched request is executed in this site, which leaves that one
+pub record Posts (tells : Bool) (k : ℕ) (s : Site) (m : Mailbox) (i : ℕ) (x : FetchedItem) (reply : Reply) (left : Site) (n : Mailbox) : Type 0 where
+  pub response : Response
+  pub answers : Answers tells k x s response
+  pub gives : reply ≡ plain (ExecutedSeen (Posted response.outcome))
+  pub site : left ≡ response.left
+  pub leaves : DiffersInMarks (after_answer i x response m) n
+
+abbrev pub ExecutesOwn : Option FetchedItem → Bool → ℕ → Site → Mailbox → ℕ → Reply → Site → Mailbox → Type 0
+ExecutesOwn None tells k s m i reply left n = (reply ≡ plain (ExecutedSeen NoSuch)) × (n ≡ m)
+ExecutesOwn (Some x) tells k s m i reply left n = Posts tells k s m i x reply left n
+
+-- an event of its own
+abbrev pub OwnStep : FleetEvent → Bool → ℕ → Site → Mailbox → Reply → Site → Mailbox → Type 0
+OwnStep (BringUp j) tells k s m reply left n = Becomes (brought_up m) reply n
+OwnStep (Place j request) tells k s m reply left n = Becomes (placed m request) reply n
+OwnStep (Ring j) tells k s m reply left n = Becomes (rung m) reply n
+OwnStep (Fetch j q) tells k s m reply left n = Becomes (fetched q m) reply n
+OwnStep (Execute j i) tells k s m reply left n = ExecutesOwn (slice_get m.fetched i) tells k s m i reply left n
+OwnStep (Poll j) tells k s m reply left n = Becomes (polled m) reply n
+OwnStep (Reset j) tells k s m reply left n = Becomes (reset m) reply n
+OwnStep (RawStore j address bytes) tells k s m reply left n = (reply ≡ plain NotRaw) × (n ≡ m)
+OwnStep (RawWrite32 j offset v) tells k s m reply left n = (reply ≡ plain NotRaw) × (n ≡ m)
+
+abbrev pub MailboxStep : Bool → FleetEvent → Bool → ℕ → Site → Mailbox → Reply → Site → Mailbox → Type 0
+MailboxStep true event tells k s m reply left n = OwnStep event tells k s m reply left n
+MailboxStep false event tells k s m reply left n = DiffersInMarks m n
+
+-- Whatever event it is, of whichever host: a host that has a driver goes on having one, and its mailbox becomes what its own
+-- events make of it; another's leave it as it is, but for marks.
+pub record MovesOn (tells : Bool) (old : Fleet) (event : FleetEvent) (reply : Reply) (new : Fleet) (k : ℕ) (m : Mailbox) : Type 0 where
+  pub mailbox : Mailbox
+  pub host : HasMailbox new k mailbox
+  pub moves : MailboxStep (controller_of event == k) event tells k old.site m reply new.site mailbox
+
+abbrev pub HostsAreApart : Type 0
+HostsAreApart =
+    (tells : Bool) → (old new : Fleet) → (event : FleetEvent) → (reply : Reply) → Step tells old event reply new
+    → (k : ℕ) → (m : Mailbox) → HasMailbox old k m → MovesOn tells old event reply new k m
