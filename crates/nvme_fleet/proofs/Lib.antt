@@ -66,3 +66,6 @@ pub mod FleetOpening
 pub mod FleetRuns
 pub mod HostPlaces
 pub mod Apart
+pub mod TicketFlows
+pub mod TicketRuns
+pub mod TicketCounts

@@ -15,3 +15,4 @@ pub mod Linked
 pub mod FleetStates
 pub mod Running
 pub mod Apart
+pub mod Tickets

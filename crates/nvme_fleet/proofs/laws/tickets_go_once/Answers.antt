@@ -1,0 +1,5 @@
+use Rattle.nvme_fleet.proofs.laws.tickets_go_once.Goals as goal
+use Rattle.nvme_fleet.proofs.TicketCounts.{each_ticket_goes_once}
+
+pub returns-clause-once : goal.returns-clause-once
+returns-clause-once c = each_ticket_goes_once
