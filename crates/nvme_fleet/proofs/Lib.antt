@@ -69,3 +69,4 @@ pub mod Apart
 pub mod TicketFlows
 pub mod TicketRuns
 pub mod TicketCounts
+pub mod Answered

@@ -16,3 +16,4 @@ pub mod FleetStates
 pub mod Running
 pub mod Apart
 pub mod Tickets
+pub mod Answered

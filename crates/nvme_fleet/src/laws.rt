@@ -1,5 +1,6 @@
 //! What follows from the definitions. Each law is the contract of a function that does nothing.
 
+ghost use Rattle.nvme_fleet.specs.Answered.{DoneIsItsExecution, ResetClears};
 ghost use Rattle.nvme_fleet.specs.Apart.{HostsAreApart};
 ghost use Rattle.nvme_fleet.specs.Determined.{FailuresNeverFall, RunExists, RunIsUnique};
 ghost use Rattle.nvme_fleet.specs.Links.{BringUpIsAStep};
@@ -92,4 +93,12 @@ pub fn tickets_go_once()
     ensures new { NewHoldsEachOnce }
     ensures held { EachIsHeldOnce }
     ensures once { EachTicketGoesOnce }
+{}
+
+/// What a driver hands up as done is what the execution of its own request came to, in the site of that moment: status,
+/// double word 0 and data. That request was placed, and then executed, since the mailbox was clear, as each reset leaves it;
+/// so nothing from before a reset is handed up as done.
+pub fn done_is_its_execution()
+    ensures reset { ResetClears }
+    ensures done { DoneIsItsExecution }
 {}

@@ -1,0 +1,95 @@
+-- What is handed up as done is what an execution of its own request answered, and that request was placed: both in the run
+-- since the mailbox was empty, as each reset leaves it.
+use Rattle.std.specs.Prelude.{◌≡◌, ◌⊎◌, ℕ, Bool, List, [], ◌∷◌, length, Some, Ok, slice_get}
+use Rattle.nvme_wire.specs.declared.status.Status.{Status}
+use Rattle.nvme_machine.specs.declared.seen.Executed.TheVariants.{Posted}
+use Rattle.nvme_driver.specs.declared.answer.Answer.TheVariants.{Done}
+use Rattle.nvme_driver.specs.declared.request.Request.{Request}
+use Rattle.nvme_driver.specs.Requests.{asked_of}
+use Rattle.nvme_fleet.specs.declared.event.FleetEvent.{FleetEvent}
+use Rattle.nvme_fleet.specs.declared.event.FleetEvent.TheVariants.{Place, Execute, Poll}
+use Rattle.nvme_fleet.specs.declared.seen.FleetSeen.TheVariants.{Placed, Executed, Polled}
+use Rattle.nvme_fleet.specs.Mailboxes.{Item, FetchedItem, Mailbox}
+use Rattle.nvme_fleet.specs.Deliveries.{Reply, plain, reset}
+use Rattle.nvme_fleet.specs.Executions.{Response, Answers}
+use Rattle.nvme_fleet.specs.Fleets.{Fleet, Step, Run}
+use Rattle.nvme_fleet.specs.Apart.{HasMailbox}
+use Rattle.nvme_fleet.specs.Tickets.{waiting, answers}
+
+-- host k places a request, which takes this ticket and asks for this
+pub record Places (k : ℕ) (item : Item) (old : Fleet) (event : FleetEvent) (reply : Reply) (new : Fleet) : Type 0 where
+  pub request : Request
+  pub event_is : event ≡ Place k request
+  pub asked : item.asked ≡ asked_of request
+  pub gives : reply ≡ plain (Placed (Ok (record { 0 = item.ticket })))
+
+-- What a request came to: the status, double word 0, and the data that came with them.
+pub record Result : Type 0 where
+  pub status : Status
+  pub dw0 : ℕ
+  pub bytes : List ℕ
+
+abbrev pub result_of : Response → Result
+result_of r = record { status = r.outcome.status; dw0 = r.outcome.dw0; bytes = r.bytes }
+
+-- controller k executes the request, in the site of that moment, and it comes to this
+pub record Executes (tells : Bool) (k : ℕ) (item : Item) (result : Result) (old : Fleet) (event : FleetEvent) (reply : Reply) (new : Fleet) : Type 0 where
+  pub place : ℕ
+  pub event_is : event ≡ Execute k place
+  pub mailbox : Mailbox
+  pub host : HasMailbox old k mailbox
+  pub fetched : FetchedItem
+  pub found : slice_get mailbox.fetched place ≡ Some fetched
+  pub item_is : fetched.item ≡ item
+  pub response : Response
+  pub answers : Answers tells k fetched old.site response
+  pub gives : reply ≡ plain (Executed (Posted response.outcome))
+  pub leaves : new.site ≡ response.left
+  pub result_is : result ≡ result_of response
+
+-- What happens in one event.
+abbrev pub Happening : Type 1
+Happening = Fleet → FleetEvent → Reply → Fleet → Type 0
+
+-- it happens in an event of the run
+abbrev pub Happens : Happening → (tells : Bool) → (old : Fleet) → (events : List FleetEvent) → (replies : List Reply) → (new : Fleet) → Run tells old events replies new → Type 0
+Happens what tells old [] [] new run = ⊥
+Happens what tells old (event ∷ events) (reply ∷ later) new run =
+    what old event reply run.0 ⊎ Happens what tells run.0 events later new run.2
+Happens what tells old [] (reply ∷ later) new run = ⊥
+Happens what tells old (event ∷ events) [] new run = ⊥
+
+-- one happens in an event of the run, and the other in a later one
+abbrev pub HappensThen : Happening → Happening → (tells : Bool) → (old : Fleet) → (events : List FleetEvent) → (replies : List Reply) → (new : Fleet) → Run tells old events replies new → Type 0
+HappensThen first then tells old [] [] new run = ⊥
+HappensThen first then tells old (event ∷ events) (reply ∷ later) new run =
+    (first old event reply run.0 × Happens then tells run.0 events later new run.2)
+    ⊎ HappensThen first then tells run.0 events later new run.2
+HappensThen first then tells old [] (reply ∷ later) new run = ⊥
+HappensThen first then tells old (event ∷ events) [] new run = ⊥
+
+-- no request waits, and no answer
+pub record IsClear (m : Mailbox) : Type 0 where
+  pub requests : waiting m ≡ []
+  pub posted : answers m ≡ []
+
+abbrev pub ResetClears : Type 0
+ResetClears = (m : Mailbox) → IsClear (reset m).mailbox
+
+-- The request with this ticket was placed in the run, was executed in a later event of it, and came to this.
+pub record WasPlacedAndExecuted (tells : Bool) (k ticket : ℕ) (result : Result) (old : Fleet) (events : List FleetEvent) (replies : List Reply) (new : Fleet) (run : Run tells old events replies new) : Type 0 where
+  pub item : Item
+  pub ticket_is : item.ticket ≡ ticket
+  pub happened : HappensThen (Places k item) (Executes tells k item result) tells old events replies new run
+
+-- What a Poll hands up as done after a run from there is what the execution of its own request came to.
+abbrev pub DoneIsItsExecution : Type 0
+DoneIsItsExecution =
+    (tells : Bool) → (old mid new : Fleet) → (events : List FleetEvent) → (replies : List Reply)
+    → (run : Run tells old events replies mid)
+    → (k : ℕ) → (m : Mailbox) → HasMailbox old k m → IsClear m
+    → (reply : Reply) → Step tells mid (Poll k) reply new
+    → (ticket dw0 len : ℕ) → (status : Status)
+    → reply.seen ≡ Polled (Ok (Some (Done (record { 0 = ticket }) status dw0 len)))
+    → (len ≡ length reply.bytes)
+    × WasPlacedAndExecuted tells k ticket (record { status = status; dw0 = dw0; bytes = reply.bytes }) old events replies mid run
