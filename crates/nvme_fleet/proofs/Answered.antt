@@ -22,7 +22,7 @@ use Rattle.nvme_fleet.specs.Executions.{Response}
 use Rattle.nvme_fleet.specs.Fleets.{WithDriver, Fleet, Run, Is, called_at, host_at, after_answer, with_posted, answer_for}
 use Rattle.nvme_fleet.specs.Apart.{HasMailbox, DiffersInMarks, ExecutesOwn, OwnStep, MailboxStep, controller_of}
 use Rattle.nvme_fleet.specs.Tickets.{waiting, answers, requests_in}
-use Rattle.nvme_fleet.specs.Answered.{Places, Result, result_of, Executes, Happens, HappensThen, IsClear, ResetClears, WasPlacedAndExecuted, DoneIsItsExecution}
+use Rattle.nvme_fleet.specs.Answered.{Places, Result, result_of, Executes, Happens, HappensThen, IsClear, ResetClears, NewIsClear, WasPlacedAndExecuted, DoneIsItsExecution}
 use Rattle.nvme_fleet.proofs.Apart.{is-same, hosts_are_apart}
 
 -- Lists of which each is so.
@@ -340,6 +340,10 @@ known-clear P Q m h =
 pub reset_clears : ResetClears
 unfolding waiting answers
 reset_clears m = record { requests = refl; posted = refl }
+
+pub new_is_clear : NewIsClear
+unfolding waiting answers
+new_is_clear first = record { requests = refl; posted = refl }
 
 -- What a poll hands up as done is an answer that the mailbox holds.
 

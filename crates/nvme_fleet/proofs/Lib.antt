@@ -70,3 +70,4 @@ pub mod TicketFlows
 pub mod TicketRuns
 pub mod TicketCounts
 pub mod Answered
+pub mod Unseen

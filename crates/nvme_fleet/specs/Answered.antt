@@ -1,5 +1,5 @@
 -- What is handed up as done is what an execution of its own request answered, and that request was placed: both in the run
--- since the mailbox was empty, as each reset leaves it.
+-- since the mailbox was clear, as each reset leaves it.
 use Rattle.std.specs.Prelude.{◌≡◌, ◌⊎◌, ℕ, Bool, List, [], ◌∷◌, length, Some, Ok, slice_get}
 use Rattle.nvme_wire.specs.declared.status.Status.{Status}
 use Rattle.nvme_machine.specs.declared.seen.Executed.TheVariants.{Posted}
@@ -9,7 +9,7 @@ use Rattle.nvme_driver.specs.Requests.{asked_of}
 use Rattle.nvme_fleet.specs.declared.event.FleetEvent.{FleetEvent}
 use Rattle.nvme_fleet.specs.declared.event.FleetEvent.TheVariants.{Place, Execute, Poll}
 use Rattle.nvme_fleet.specs.declared.seen.FleetSeen.TheVariants.{Placed, Executed, Polled}
-use Rattle.nvme_fleet.specs.Mailboxes.{Item, FetchedItem, Mailbox}
+use Rattle.nvme_fleet.specs.Mailboxes.{Item, FetchedItem, Mailbox, new_mailbox}
 use Rattle.nvme_fleet.specs.Deliveries.{Reply, plain, reset}
 use Rattle.nvme_fleet.specs.Executions.{Response, Answers}
 use Rattle.nvme_fleet.specs.Fleets.{Fleet, Step, Run}
@@ -75,6 +75,9 @@ pub record IsClear (m : Mailbox) : Type 0 where
 
 abbrev pub ResetClears : Type 0
 ResetClears = (m : Mailbox) → IsClear (reset m).mailbox
+
+abbrev pub NewIsClear : Type 0
+NewIsClear = (first : ℕ) → IsClear (new_mailbox first)
 
 -- The request with this ticket was placed in the run, was executed in a later event of it, and came to this.
 pub record WasPlacedAndExecuted (tells : Bool) (k ticket : ℕ) (result : Result) (old : Fleet) (events : List FleetEvent) (replies : List Reply) (new : Fleet) (run : Run tells old events replies new) : Type 0 where

@@ -17,3 +17,4 @@ pub mod Running
 pub mod Apart
 pub mod Tickets
 pub mod Answered
+pub mod Unseen

@@ -1,11 +1,12 @@
 //! What follows from the definitions. Each law is the contract of a function that does nothing.
 
-ghost use Rattle.nvme_fleet.specs.Answered.{DoneIsItsExecution, ResetClears};
+ghost use Rattle.nvme_fleet.specs.Answered.{DoneIsItsExecution, NewIsClear, ResetClears};
 ghost use Rattle.nvme_fleet.specs.Apart.{HostsAreApart};
 ghost use Rattle.nvme_fleet.specs.Determined.{FailuresNeverFall, RunExists, RunIsUnique};
 ghost use Rattle.nvme_fleet.specs.Links.{BringUpIsAStep};
 ghost use Rattle.nvme_fleet.specs.Tickets.{DriversStay, EachIsHeldOnce, EachTicketGoesOnce, NewHoldsEachOnce, OpeningIsNew, TicketsAreConsecutive, TicketsBalance};
 ghost use Rattle.nvme_fleet.specs.Steps.{OpeningIsSound, JudgedAsItsRequest, AllowedServesItsRequest, AnswersItsRequest, NothingToExecute, PostingHasRoom, PostingIsAStep, IoExecutionIsAStep, AdminJudgedAsItsRequest, AdminAnswersItsRequest, AdminExecutionIsAStep, ExecutionIsAStep, ExecutionIsAFleetStep, NoExecutionIsAFleetStep, RefusalIsAStep, PlaceIsAStep, RingIsAStep, FetchIsAStep, MarksAreSteps, PollIsAStep, ResetIsAStep};
+ghost use Rattle.nvme_fleet.specs.Unseen.{UnseenNeverComes};
 
 /// A list of events has one run without a fault of the medium, and one alone: each reply, and what is left, is what the
 /// definitions compute.
@@ -96,9 +97,16 @@ pub fn tickets_go_once()
 {}
 
 /// What a driver hands up as done is what the execution of its own request came to, in the site of that moment: status,
-/// double word 0 and data. That request was placed, and then executed, since the mailbox was clear, as each reset leaves it;
-/// so nothing from before a reset is handed up as done.
+/// double word 0 and data. That request was placed, and then executed, since the mailbox was clear, as a new one is and each
+/// reset leaves it; so nothing from before a reset is handed up as done.
 pub fn done_is_its_execution()
+    ensures new { NewIsClear }
     ensures reset { ResetClears }
     ensures done { DoneIsItsExecution }
+{}
+
+/// No event of a host with a driver finds a completion queue without room, hands up that a completion answers no request, or
+/// brings a controller up that does not come up.
+pub fn trouble_never_comes()
+    ensures unseen { UnseenNeverComes }
 {}
