@@ -18,6 +18,9 @@ use Rattle.nvme_fleet.proofs.HostPlaces.{IsMarked, replaced-other, replaced-here
 pub is-same : (j k : ℕ) → (j == k) ≡ true → j ≡ k
 is-same j k h = grind (arith, common_steps, h)
 
+pub same-is : (j k : ℕ) → j ≡ k → (j == k) ≡ true
+same-is j k h = grind (arith, common_steps, h)
+
 pub is-other : (j k : ℕ) → (j == k) ≡ false → j ≢ k
 is-other j k h e = grind (arith, common_steps, h, e)
 

@@ -71,3 +71,4 @@ pub mod TicketRuns
 pub mod TicketCounts
 pub mod Answered
 pub mod Unseen
+pub mod TicketNames

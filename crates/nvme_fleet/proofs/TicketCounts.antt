@@ -138,7 +138,7 @@ own-gives (Reset j) tells k s left m n reply h = by-call m n _ reply h (none m (
 own-gives (RawStore j address bytes) tells k s left m n reply h = by-refusal m n reply h
 own-gives (RawWrite32 j offset v) tells k s left m n reply h = by-refusal m n reply h
 
-step-gives : (b : Bool) (event : FleetEvent) (tells : Bool) (k : ℕ) (s left : Site) (m n : Mailbox) (reply : Reply) → MailboxStep b event tells k s m reply left n → Gives m n (if b then given_in reply.seen else [])
+pub step-gives : (b : Bool) (event : FleetEvent) (tells : Bool) (k : ℕ) (s left : Site) (m n : Mailbox) (reply : Reply) → MailboxStep b event tells k s m reply left n → Gives m n (if b then given_in reply.seen else [])
 step-gives true event tells k s left m n reply h = own-gives event tells k s left m n reply h
 step-gives false event tells k s left m n reply h = none m n (marks-next m n h)
 

@@ -1,7 +1,6 @@
 -- What no event of a host with a driver gives.
-use Rattle.std.proofs.Common.{◌≡◌, inl, inr, ℕ, ◌==◌, Bool, true, false, List, [], ◌∷◌, Option, None, Some, Ok, Err, refl, sym, ap, subst, ◌∙◌, arith}
+use Rattle.std.proofs.Common.{inl, inr, ℕ, Bool, true, false, List, [], ◌∷◌, Option, None, Some, Ok, Err, subst}
 use Rattle.std.specs.Prelude.{if◌then◌else◌, slice_get}
-use Rattle.std.proofs.lemmas.Grind.{common_steps}
 use Rattle.nvme_driver.specs.declared.lane.Lane.{Lane}
 use Rattle.nvme_driver.specs.declared.request.Request.{Request}
 use Rattle.nvme_driver.specs.declared.faults.PlaceRefusal.{PlaceRefusal}
@@ -13,11 +12,9 @@ use Rattle.nvme_fleet.specs.declared.seen.FleetSeen.TheVariants as seen
 use Rattle.nvme_fleet.specs.Mailboxes.{Item, FetchedItem, PostedAnswer, Mailbox, box_at}
 use Rattle.nvme_fleet.specs.Deliveries.{Reply, Reaction, reaction, recounted, ring_lane, brought_up, refusal, placed_by, rung, fetched_first, lane_at, fetched_of, polled_io, polled_admin, polled_aborted}
 use Rattle.nvme_fleet.specs.Executions.{Site}
-use Rattle.nvme_fleet.specs.Fleets.{Fleet, Run}
-use Rattle.nvme_fleet.specs.Apart.{HasMailbox, Becomes, ExecutesOwn, OwnStep, MailboxStep, controller_of}
-use Rattle.nvme_fleet.specs.Answered.{Happens}
-use Rattle.nvme_fleet.specs.Unseen.{IsUnseen, GivesUnseen, UnseenNeverComes}
-use Rattle.nvme_fleet.proofs.Apart.{hosts_are_apart}
+use Rattle.nvme_fleet.specs.Apart.{Becomes, ExecutesOwn, OwnStep, MailboxStep, controller_of}
+use Rattle.nvme_fleet.specs.Unseen.{IsUnseen, UnseenNeverComes}
+use Rattle.nvme_fleet.proofs.Apart.{same-is, hosts_are_apart}
 
 abbrev Spares : Reaction → Type 0
 Spares r = IsUnseen r.reply.seen → ⊥
@@ -81,9 +78,6 @@ own-spares (Poll j) tells k s left m n reply h u = by-call _ reply n h (polls m.
 own-spares (Reset j) tells k s left m n reply h u = subst (λ (x : Reply). IsUnseen x.seen) h.0 u
 own-spares (RawStore j address bytes) tells k s left m n reply h u = subst (λ (x : Reply). IsUnseen x.seen) h.0 u
 own-spares (RawWrite32 j offset v) tells k s left m n reply h u = subst (λ (x : Reply). IsUnseen x.seen) h.0 u
-
-same-is : (j k : ℕ) → j ≡ k → (j == k) ≡ true
-same-is j k h = grind (arith, common_steps, h)
 
 pub unseen_never_comes : UnseenNeverComes
 unseen_never_comes tells old new [] [] run k m at h = h

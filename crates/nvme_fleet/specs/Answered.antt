@@ -96,3 +96,26 @@ DoneIsItsExecution =
     → reply.seen ≡ Polled (Ok (Some (Done (record { 0 = ticket }) status dw0 len)))
     → (len ≡ length reply.bytes)
     × WasPlacedAndExecuted tells k ticket (record { status = status; dw0 = dw0; bytes = reply.bytes }) old events replies mid run
+
+-- A ticket is given for one request: those that are placed in a run under the same ticket are the same.
+abbrev pub TicketNamesItsRequest : Type 0
+TicketNamesItsRequest =
+    (tells : Bool) → (old new : Fleet) → (events : List FleetEvent) → (replies : List Reply)
+    → (run : Run tells old events replies new)
+    → (k : ℕ) → (m : Mailbox) → HasMailbox old k m → (x y : Item)
+    → Happens (Places k x) tells old events replies new run → Happens (Places k y) tells old events replies new run
+    → x.ticket ≡ y.ticket → x ≡ y
+
+-- So what is handed up as done under the ticket of a request that was placed in such a run is what the execution of that
+-- very request came to, after it was placed.
+abbrev pub DoneAnswersItsRequest : Type 0
+DoneAnswersItsRequest =
+    (tells : Bool) → (old mid new : Fleet) → (events : List FleetEvent) → (replies : List Reply)
+    → (run : Run tells old events replies mid)
+    → (k : ℕ) → (m : Mailbox) → HasMailbox old k m → IsClear m
+    → (item : Item) → Happens (Places k item) tells old events replies mid run
+    → (reply : Reply) → Step tells mid (Poll k) reply new
+    → (dw0 len : ℕ) → (status : Status)
+    → reply.seen ≡ Polled (Ok (Some (Done (record { 0 = item.ticket }) status dw0 len)))
+    → HappensThen (Places k item)
+    (Executes tells k item (record { status = status; dw0 = dw0; bytes = reply.bytes })) tells old events replies mid run

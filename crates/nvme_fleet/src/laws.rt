@@ -1,6 +1,6 @@
 //! What follows from the definitions. Each law is the contract of a function that does nothing.
 
-ghost use Rattle.nvme_fleet.specs.Answered.{DoneIsItsExecution, NewIsClear, ResetClears};
+ghost use Rattle.nvme_fleet.specs.Answered.{DoneAnswersItsRequest, DoneIsItsExecution, NewIsClear, ResetClears, TicketNamesItsRequest};
 ghost use Rattle.nvme_fleet.specs.Apart.{HostsAreApart};
 ghost use Rattle.nvme_fleet.specs.Determined.{FailuresNeverFall, RunExists, RunIsUnique};
 ghost use Rattle.nvme_fleet.specs.Links.{BringUpIsAStep};
@@ -98,11 +98,14 @@ pub fn tickets_go_once()
 
 /// What a driver hands up as done is what the execution of its own request came to, in the site of that moment: status,
 /// double word 0 and data. That request was placed, and then executed, since the mailbox was clear, as a new one is and each
-/// reset leaves it; so nothing from before a reset is handed up as done.
+/// reset leaves it; so nothing from before a reset is handed up as done. A ticket names the one request that was placed under
+/// it, so what is done under its ticket is what the execution of that request came to.
 pub fn done_is_its_execution()
     ensures new { NewIsClear }
     ensures reset { ResetClears }
     ensures done { DoneIsItsExecution }
+    ensures names { TicketNamesItsRequest }
+    ensures request { DoneAnswersItsRequest }
 {}
 
 /// No event of a host with a driver finds a completion queue without room, hands up that a completion answers no request, or
