@@ -17,7 +17,7 @@ use Rattle.nvme_fleet.specs.declared.event.FleetEvent.TheVariants.{BringUp, Plac
 use Rattle.nvme_fleet.specs.declared.seen.FleetSeen.{FleetSeen}
 use Rattle.nvme_fleet.specs.declared.seen.FleetSeen.TheVariants as seen
 use Rattle.nvme_fleet.specs.Mailboxes.{Item, FetchedItem, PostedAnswer, LaneBox, Mailbox, box_at, with_box, lane_of, names, with_mark}
-use Rattle.nvme_fleet.specs.Deliveries.{Reply, Reaction, reaction, recounted, ring_lane, brought_up, refusal, new_item, with_placed, placed_by, placed, rung, fetched_first, lane_at, fetched_of, fetched, answer_reply, handed_up, polled_io, polled_admin, polled_aborted, polled}
+use Rattle.nvme_fleet.specs.Deliveries.{Reply, Reaction, reaction, recounted, ring_lane, brought_up, refusal, new_item, with_placed, placed_by, placed, rung, fetched_first, lane_at, fetched_of, answer_reply, handed_up, polled_io, polled_admin, polled_aborted, polled}
 use Rattle.nvme_fleet.specs.Executions.{Response}
 use Rattle.nvme_fleet.specs.Fleets.{WithDriver, Fleet, Run, Is, called_at, host_at, after_answer, with_posted, answer_for}
 use Rattle.nvme_fleet.specs.Apart.{HasMailbox, DiffersInMarks, ExecutesOwn, OwnStep, MailboxStep, controller_of}

@@ -9,12 +9,16 @@ use Rattle.nvme_machine.specs.declared.seen.Executed.TheVariants.{Posted}
 use Rattle.nvme_driver.specs.declared.answer.Answer.TheVariants.{Done, Aborted}
 use Rattle.nvme_driver.specs.declared.request.Request.{Request}
 use Rattle.nvme_driver.specs.declared.request.Request.TheVariants as request
+use Rattle.nvme_driver.specs.Requests.{asked_of}
 use Rattle.nvme_fleet.specs.declared.event.FleetEvent.{FleetEvent}
 use Rattle.nvme_fleet.specs.declared.event.FleetEvent.TheVariants.{BringUp, Place, Ring, Fetch, Execute, Poll}
 use Rattle.nvme_fleet.specs.declared.seen.FleetSeen.{FleetSeen}
 use Rattle.nvme_fleet.specs.declared.seen.FleetSeen.TheVariants as seen
+use Rattle.nvme_fleet.specs.Mailboxes.{FetchedItem, Mailbox, new_mailbox}
+use Rattle.nvme_fleet.specs.Deliveries as mail
 use Rattle.nvme_fleet.specs.Deliveries.{Reply}
-use Rattle.nvme_fleet.specs.Fleets.{Fleet, opening}
+use Rattle.nvme_fleet.specs.Executions.{Response}
+use Rattle.nvme_fleet.specs.Fleets.{Fleet, opening, after_answer}
 use Rattle.nvme_fleet.specs.FaultFree.{fault_free_replies, fault_free_left}
 
 -- Four controllers of three hosts; a shared namespace of two blocks that all are attached to, and a private one of one
@@ -126,3 +130,13 @@ all_registrants =
     ++ carried 2 (request.Register 1 0 false 0 0 0x22)
     ++ carried 4 (request.Register 1 0 false 0 0 0x33)
     ++ carried 1 (request.Acquire 1 0 5 0x11 0)
+
+-- the mailbox of a driver that came up and placed two Reads; the first was fetched, and came to this
+abbrev pub two_placed : Mailbox
+two_placed = (mail.placed (mail.placed (mail.brought_up (new_mailbox 1)).mailbox a_read).mailbox a_read).mailbox
+
+abbrev pub first_read : FetchedItem
+first_read = record { item = record { ticket = 1; asked = asked_of a_read }; marked = false }
+
+abbrev pub first_answered : Response → Mailbox
+first_answered r = after_answer 0 first_read r (mail.fetched 1 (mail.rung two_placed).mailbox).mailbox

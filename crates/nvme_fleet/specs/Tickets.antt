@@ -1,6 +1,6 @@
 -- The tickets of a host with a driver: which requests its mailbox holds, which tickets a run gives it, executes for it and
 -- hands up to it.
-use Rattle.std.specs.Prelude.{◌≡◌, ◌≤◌, ℕ, ◌+◌, ◌==◌, nat_lt, zero, suc, Bool, if◌then◌else◌, List, [], ◌∷◌, ◌++◌, map, Option, None, Some, Ok, slice_get}
+use Rattle.std.specs.Prelude.{◌≡◌, ◌≤◌, ℕ, ◌+◌, ◌==◌, nat_lt, zero, suc, Bool, if◌then◌else◌, List, [], ◌∷◌, ◌++◌, length, map, Option, None, Some, Ok, slice_get}
 use Rattle.nvme_spec.specs.Blocks.{Device}
 use Rattle.nvme_spec.specs.Configuration.{Configuration}
 use Rattle.nvme_machine.specs.declared.seen.Executed.TheVariants.{Posted}
@@ -9,7 +9,7 @@ use Rattle.nvme_fleet.specs.declared.event.FleetEvent.{FleetEvent}
 use Rattle.nvme_fleet.specs.declared.event.FleetEvent.TheVariants.{Execute}
 use Rattle.nvme_fleet.specs.declared.seen.FleetSeen.{FleetSeen}
 use Rattle.nvme_fleet.specs.declared.seen.FleetSeen.TheVariants.{Placed, Executed, Polled}
-use Rattle.nvme_fleet.specs.Mailboxes.{Item, FetchedItem, PostedAnswer, LaneBox, Mailbox, new_mailbox}
+use Rattle.nvme_fleet.specs.Mailboxes.{Item, FetchedItem, PostedAnswer, LaneBox, Mailbox, new_mailbox, held}
 use Rattle.nvme_fleet.specs.Deliveries.{Reply}
 use Rattle.nvme_fleet.specs.Fleets.{Host, WithDriver, Raw, Fleet, Run, host_at, opening}
 use Rattle.nvme_fleet.specs.Views.{total}
@@ -36,6 +36,10 @@ answered_tickets m = map (λ (a : PostedAnswer). a.ticket) (answers m)
 
 abbrev pub held_tickets : Mailbox → List ℕ
 held_tickets m = waiting_tickets m ++ answered_tickets m ++ m.aborted
+
+-- They are as many as the mailbox counts where it refuses the 25th.
+abbrev pub HeldAreCounted : Type 0
+HeldAreCounted = (m : Mailbox) → length (held_tickets m) ≡ held m
 
 -- What an event gives: the ticket of a request that was placed, that was executed, that came to an answer, or that was
 -- aborted.
@@ -167,12 +171,12 @@ EachIsHeldOnce =
     → Run tells old events replies new
     → (k : ℕ) → (m n : Mailbox) → HasMailbox old k m → HasMailbox new k n → HoldsEachOnce m → HoldsEachOnce n
 
--- A ticket is given at most once, executed at most once, and handed up at most once, be it done or aborted; one that is
--- given is held or was handed up.
+-- A ticket is given at most once, executed at most once, and handed up at most once, be it done or aborted, and is held no
+-- longer then; one that is given is held or was handed up.
 pub record GoesOnce (t : ℕ) (new : Mailbox) (given executed done aborted : List ℕ) : Type 0 where
   pub given_once : times t given ≤ 1
   pub executed_once : times t executed ≤ 1
-  pub handed_up_once : times t done + times t aborted ≤ 1
+  pub handed_up_once : times t (held_tickets new) + times t done + times t aborted ≤ 1
   pub kept : times t given ≤ times t (held_tickets new) + times t done + times t aborted
 
 abbrev pub EachTicketGoesOnce : Type 0

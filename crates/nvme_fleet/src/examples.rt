@@ -4,7 +4,10 @@
 
 ghost use Rattle.std.specs.Prelude.{◌≡◌, ◌++◌, [], ◌∷◌, None, Some, Ok, Err, replicate, true, false};
 ghost use Rattle.nvme_spec.specs.Statuses as status;
-ghost use Rattle.nvme_fleet.specs.Examples.{carried, carried_by_admin, times, a_read, fetched_reads, seven_reads, caught_read, outcomes, done, done_with, aborted, placed, all_registrants, raw_seen_in, seen_in, seen_after, bytes_after};
+ghost use Rattle.nvme_fleet.specs.Deliveries.{reset};
+ghost use Rattle.nvme_fleet.specs.Executions.{Response};
+ghost use Rattle.nvme_fleet.specs.Tickets.{waiting_tickets, answered_tickets, held_tickets};
+ghost use Rattle.nvme_fleet.specs.Examples.{first_answered, carried, carried_by_admin, times, a_read, fetched_reads, seven_reads, caught_read, outcomes, done, done_with, aborted, placed, all_registrants, raw_seen_in, seen_in, seen_after, bytes_after};
 
 use crate::event::FleetEvent;
 use crate::seen::FleetSeen;
@@ -74,4 +77,13 @@ fn rooms()
 fn ordering()
     ensures seen { seen_after (FleetEvent.Place 1 a_read ∷ FleetEvent.Place 1 (Request.Flush 1) ∷ FleetEvent.Ring 1 ∷ FleetEvent.Fetch 1 1 ∷ FleetEvent.Fetch 1 1 ∷ FleetEvent.Execute 1 1 ∷ FleetEvent.Execute 1 0 ∷ []) (FleetEvent.Poll 1 ∷ FleetEvent.Poll 1 ∷ []) ≡ done_with 2 0 ∷ done_with 1 512 ∷ [] }
     ensures bytes { bytes_after (FleetEvent.Place 1 a_read ∷ FleetEvent.Place 1 (Request.Flush 1) ∷ FleetEvent.Ring 1 ∷ FleetEvent.Fetch 1 1 ∷ FleetEvent.Fetch 1 1 ∷ FleetEvent.Execute 1 1 ∷ FleetEvent.Execute 1 0 ∷ []) (FleetEvent.Poll 1 ∷ FleetEvent.Poll 1 ∷ []) ≡ [] ∷ replicate 512 0 ∷ [] }
+{}
+
+/// Of two requests one is answered, whatever it came to, and the other waits; a reset aborts both.
+#[tactic(auto, unfolding(crate::specs::Tickets::waiting, crate::specs::Tickets::answers, crate::specs::Mailboxes::open_tickets, crate::specs::Fleets::after_answer))]
+fn holding_tickets()
+    ensures waiting { (r : Response) → waiting_tickets (first_answered r) ≡ 2 ∷ [] }
+    ensures answered { (r : Response) → answered_tickets (first_answered r) ≡ 1 ∷ [] }
+    ensures held { (r : Response) → held_tickets (first_answered r) ≡ 2 ∷ 1 ∷ [] }
+    ensures reset { (r : Response) → held_tickets (reset (first_answered r)).mailbox ≡ 1 ∷ 2 ∷ [] }
 {}

@@ -4,7 +4,7 @@ ghost use Rattle.nvme_fleet.specs.Answered.{DoneAnswersItsRequest, DoneIsItsExec
 ghost use Rattle.nvme_fleet.specs.Apart.{HostsAreApart};
 ghost use Rattle.nvme_fleet.specs.Determined.{FailuresNeverFall, RunExists, RunIsUnique};
 ghost use Rattle.nvme_fleet.specs.Links.{BringUpIsAStep};
-ghost use Rattle.nvme_fleet.specs.Tickets.{DriversStay, EachIsHeldOnce, EachTicketGoesOnce, NewHoldsEachOnce, OpeningIsNew, TicketsAreConsecutive, TicketsBalance};
+ghost use Rattle.nvme_fleet.specs.Tickets.{DriversStay, EachIsHeldOnce, EachTicketGoesOnce, HeldAreCounted, NewHoldsEachOnce, OpeningIsNew, TicketsAreConsecutive, TicketsBalance};
 ghost use Rattle.nvme_fleet.specs.Steps.{OpeningIsSound, JudgedAsItsRequest, AllowedServesItsRequest, AnswersItsRequest, NothingToExecute, PostingHasRoom, PostingIsAStep, IoExecutionIsAStep, AdminJudgedAsItsRequest, AdminAnswersItsRequest, AdminExecutionIsAStep, ExecutionIsAStep, ExecutionIsAFleetStep, NoExecutionIsAFleetStep, RefusalIsAStep, PlaceIsAStep, RingIsAStep, FetchIsAStep, MarksAreSteps, PollIsAStep, ResetIsAStep};
 ghost use Rattle.nvme_fleet.specs.Unseen.{UnseenNeverComes};
 
@@ -79,14 +79,15 @@ pub fn hosts_are_apart()
 
 /// Over every run, whatever each ticket weighs: of a host with a driver, the tickets that were held or given are those that
 /// are held, done or aborted; what is executed was waiting or given, and what is done was answered or executed.
-#[tactic(auto, using(crate::proofs::TicketRuns::drivers_stay))]
+#[tactic(auto, using(crate::proofs::TicketCounts::held_are_counted, crate::proofs::TicketRuns::drivers_stay))]
 pub fn tickets_balance()
+    ensures counted { HeldAreCounted }
     ensures drivers { DriversStay }
     ensures balance { TicketsBalance }
 {}
 
 /// Of a host with a driver the tickets are given in order, each once. From an opening on, over every run, each ticket is
-/// executed at most once, and handed up at most once, as done or as aborted; one that was given is held or was handed up.
+/// executed at most once, and handed up at most once, as done or as aborted; one that was given is held until then.
 #[tactic(auto, using(crate::proofs::TicketCounts::tickets_are_consecutive, crate::proofs::TicketCounts::opening_is_new, crate::proofs::TicketCounts::new_holds_each_once, crate::proofs::TicketCounts::each_is_held_once))]
 pub fn tickets_go_once()
     ensures consecutive { TicketsAreConsecutive }
