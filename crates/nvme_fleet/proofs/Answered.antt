@@ -21,8 +21,8 @@ use Rattle.nvme_fleet.specs.Deliveries.{Reply, Reaction, reaction, recounted, ri
 use Rattle.nvme_fleet.specs.Executions.{Response}
 use Rattle.nvme_fleet.specs.Fleets.{WithDriver, Fleet, Run, Is, called_at, host_at, after_answer, with_posted, answer_for}
 use Rattle.nvme_fleet.specs.Apart.{HasMailbox, DiffersInMarks, ExecutesOwn, OwnStep, MailboxStep, controller_of}
-use Rattle.nvme_fleet.specs.Tickets.{waiting, answers, requests_in}
-use Rattle.nvme_fleet.specs.Answered.{Places, Result, result_of, Executes, Happens, HappensThen, IsClear, ResetClears, NewIsClear, WasPlacedAndExecuted, DoneIsItsExecution}
+use Rattle.nvme_fleet.specs.Tickets.{waiting, posted_answers, requests_in}
+use Rattle.nvme_fleet.specs.Answered.{Places, Conclusion, conclusion_of, Executes, Happens, HappensThen, IsClear, ResetClears, NewIsClear, WasPlacedAndExecuted, DoneIsItsExecution}
 use Rattle.nvme_fleet.proofs.Apart.{is-same, hosts_are_apart}
 
 -- Lists of which each is so.
@@ -171,8 +171,8 @@ marks P Q m n (inr h) k = subst (Known P Q) (sym h.1) (k.0, k.1, all-marked P h.
 
 -- One event: what it makes known.
 
-abbrev result_in : PostedAnswer → Result
-result_in a = record { status = a.status; dw0 = a.dw0; bytes = a.bytes }
+abbrev conclusion_in : PostedAnswer → Conclusion
+conclusion_in a = record { status = a.status; dw0 = a.dw0; bytes = a.bytes }
 
 -- a request is known from before, or was placed now
 abbrev ItemsNow : (Item → Type 0) → ℕ → Fleet → FleetEvent → Reply → Fleet → Item → Type 0
@@ -183,7 +183,7 @@ record ExecutesKnown (P : Item → Type 0) (tells : Bool) (k : ℕ) (old : Fleet
   item : Item
   ticket_is : item.ticket ≡ a.ticket
   known : P item
-  executes : Executes tells k item (result_in a) old event reply new
+  executes : Executes tells k item (conclusion_in a) old event reply new
 
 abbrev AnswersNow : (Item → Type 0) → (PostedAnswer → Type 0) → Bool → ℕ → Fleet → FleetEvent → Reply → Fleet → PostedAnswer → Type 0
 AnswersNow P Q tells k old event reply new a = Q a ⊎ ExecutesKnown P tells k old event reply new a
@@ -219,7 +219,7 @@ executed-known P Q (Some x) tells j k i old new m n reply same at found h g =
     S : PostedAnswer → Type 0
     S = AnswersNow P Q tells k old (Execute j i) reply new
 
-    now : Executes tells k x.item (result_of h.response) old (Execute j i) reply new
+    now : Executes tells k x.item (conclusion_of h.response) old (Execute j i) reply new
     now = record {
       place = i;
       event_is = ap (λ n. Execute n i) same;
@@ -232,7 +232,7 @@ executed-known P Q (Some x) tells j k i old new m n reply same at found h g =
       answers = h.answers;
       gives = h.gives;
       leaves = h.site;
-      result_is = refl;
+      conclusion_is = refl;
     }
 
 own-known : (P : Item → Type 0) (Q : PostedAnswer → Type 0) (event : FleetEvent) (tells : Bool) (k : ℕ) (old new : Fleet) (m n : Mailbox) (reply : Reply) → controller_of event ≡ k → HasMailbox old k m
@@ -270,8 +270,8 @@ step-known P Q false event tells k old new m n reply is at h g =
 record ExecutedIn (P : Item → Type 0) (k : ℕ) (a : PostedAnswer) (tells : Bool) (old : Fleet) (events : List FleetEvent) (replies : List Reply) (new : Fleet) (run : Run tells old events replies new) : Type 0 where
   item : Item
   ticket_is : item.ticket ≡ a.ticket
-  happened : (P item × Happens (Executes tells k item (result_in a)) tells old events replies new run)
-      ⊎ HappensThen (Places k item) (Executes tells k item (result_in a)) tells old events replies new run
+  happened : (P item × Happens (Executes tells k item (conclusion_in a)) tells old events replies new run)
+      ⊎ HappensThen (Places k item) (Executes tells k item (conclusion_in a)) tells old events replies new run
 
 abbrev Any : Item → Type 0
 Any i = Unit {0}
@@ -292,10 +292,10 @@ behind P Q k tells old event events reply later new run a (inl (inl q)) = inl q
 behind P Q k tells old event events reply later new run a (inl (inr x)) = inr (record { item = x.item; ticket_is = x.ticket_is; happened = inl (x.known, inl x.executes) })
 behind P Q k tells old event events reply later new run a (inr x) = inr (record { item = x.item; ticket_is = x.ticket_is; happened = by x.happened })
   where
-    by : (ItemsNow P k old event reply run.0 x.item × Happens (Executes tells k x.item (result_in a)) tells run.0 events later new run.2)
-        ⊎ HappensThen (Places k x.item) (Executes tells k x.item (result_in a)) tells run.0 events later new run.2
-        → (P x.item × Happens (Executes tells k x.item (result_in a)) tells old (event ∷ events) (reply ∷ later) new run)
-        ⊎ HappensThen (Places k x.item) (Executes tells k x.item (result_in a)) tells old (event ∷ events) (reply ∷ later) new run
+    by : (ItemsNow P k old event reply run.0 x.item × Happens (Executes tells k x.item (conclusion_in a)) tells run.0 events later new run.2)
+        ⊎ HappensThen (Places k x.item) (Executes tells k x.item (conclusion_in a)) tells run.0 events later new run.2
+        → (P x.item × Happens (Executes tells k x.item (conclusion_in a)) tells old (event ∷ events) (reply ∷ later) new run)
+        ⊎ HappensThen (Places k x.item) (Executes tells k x.item (conclusion_in a)) tells old (event ∷ events) (reply ∷ later) new run
     by (inl (inl p, h)) = inl (p, inr h)
     by (inl (inr p, h)) = inr (inl (p, h))
     by (inr h) = inr (inr h)
@@ -325,7 +325,7 @@ walk P Q k m tells old (event ∷ events) (x ∷ later) new run at g =
 -- A clear mailbox knows of nothing.
 
 known-clear : (P : Item → Type 0) (Q : PostedAnswer → Type 0) (m : Mailbox) → IsClear m → Known P Q m
-unfolding waiting answers
+unfolding waiting posted_answers
 known-clear P Q m h =
     let w : AllByRecursion P (requests_in m.admin ++ requests_in m.io ++ map (λ (f : FetchedItem). f.item) m.fetched) = subst (AllByRecursion P) (sym h.requests) tt in
     let a : AllByRecursion Q (m.admin.posted ++ m.io.posted) = subst (AllByRecursion Q) (sym h.posted) tt in
@@ -338,11 +338,11 @@ known-clear P Q m h =
     )
 
 pub reset_clears : ResetClears
-unfolding waiting answers
+unfolding waiting posted_answers
 reset_clears m = record { requests = refl; posted = refl }
 
 pub new_is_clear : NewIsClear
-unfolding waiting answers
+unfolding waiting posted_answers
 new_is_clear first = record { requests = refl; posted = refl }
 
 -- What a poll hands up as done is an answer that the mailbox holds.
@@ -420,14 +420,14 @@ Nothing i = ⊥
 abbrev NoAnswer : PostedAnswer → Type 0
 NoAnswer a = ⊥
 
-was : (k : ℕ) (tells : Bool) (old : Fleet) (events : List FleetEvent) (replies : List Reply) (new : Fleet) (run : Run tells old events replies new) (a : PostedAnswer) (ticket : ℕ) (result : Result)
-    → a.ticket ≡ ticket → result_in a ≡ result → KnownBehind Nothing NoAnswer k tells old events replies new run a
-    → WasPlacedAndExecuted tells k ticket result old events replies new run
-was k tells old events replies new run a ticket result t r (inl q) = absurd q
-was k tells old events replies new run a ticket result t r (inr x) = record { item = x.item; ticket_is = x.ticket_is ∙ t; happened = by x.happened }
+was : (k : ℕ) (tells : Bool) (old : Fleet) (events : List FleetEvent) (replies : List Reply) (new : Fleet) (run : Run tells old events replies new) (a : PostedAnswer) (ticket : ℕ) (conclusion : Conclusion)
+    → a.ticket ≡ ticket → conclusion_in a ≡ conclusion → KnownBehind Nothing NoAnswer k tells old events replies new run a
+    → WasPlacedAndExecuted tells k ticket conclusion old events replies new run
+was k tells old events replies new run a ticket conclusion t r (inl q) = absurd q
+was k tells old events replies new run a ticket conclusion t r (inr x) = record { item = x.item; ticket_is = x.ticket_is ∙ t; happened = by x.happened }
   where
-    by : (⊥ × Happens (Executes tells k x.item (result_in a)) tells old events replies new run) ⊎ HappensThen (Places k x.item) (Executes tells k x.item (result_in a)) tells old events replies new run
-        → HappensThen (Places k x.item) (Executes tells k x.item result) tells old events replies new run
+    by : (⊥ × Happens (Executes tells k x.item (conclusion_in a)) tells old events replies new run) ⊎ HappensThen (Places k x.item) (Executes tells k x.item (conclusion_in a)) tells old events replies new run
+        → HappensThen (Places k x.item) (Executes tells k x.item conclusion) tells old events replies new run
     by (inl p) = absurd p.0
     by (inr h) = subst (λ y. HappensThen (Places k x.item) (Executes tells k x.item y) tells old events replies new run) r h
 
@@ -441,5 +441,5 @@ done_is_its_execution tells old mid new events replies run k m at clear reply st
     let is : answer_reply y.answer ≡ reply = sym y.is ∙ gives in
     let s = same-done y.answer ticket status dw0 len (ap (λ (r : Reply). r.seen) is ∙ h) in
     let bytes : y.answer.bytes ≡ reply.bytes = ap (λ (r : Reply). r.bytes) is in
-    let result : result_in y.answer ≡ record { status = status; dw0 = dw0; bytes = reply.bytes } = λ i. record { status = s.status_is i; dw0 = s.dw0_is i; bytes = bytes i } in
-    (sym s.len_is ∙ ap length bytes, was k tells old events replies mid run y.answer ticket _ s.ticket_is result y.known)
+    let conclusion : conclusion_in y.answer ≡ record { status = status; dw0 = dw0; bytes = reply.bytes } = λ i. record { status = s.status_is i; dw0 = s.dw0_is i; bytes = bytes i } in
+    (sym s.len_is ∙ ap length bytes, was k tells old events replies mid run y.answer ticket _ s.ticket_is conclusion y.known)

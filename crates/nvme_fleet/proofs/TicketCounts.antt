@@ -2,6 +2,7 @@
 use Rattle.std.proofs.Common.{◌≡◌, inl, inr, ℕ, zero, suc, ◌+◌, ◌≤◌, ◌==◌, nat_lt, Bool, true, false, List, [], ◌∷◌, ◌++◌, length, map, Option, None, Some, Ok, Err, refl, sym, ap, subst, ◌∙◌, arith}
 use Rattle.std.specs.Prelude.{if◌then◌else◌, slice_get}
 use Rattle.std.proofs.lemmas.Grind.{common_steps}
+use Rattle.std.proofs.lemmas.List.{length-append, length-map}
 use Rattle.nvme_spec.specs.declared.config.ControllerConfig.{ControllerConfig}
 use Rattle.nvme_machine.specs.Controllers.{new_controller}
 use Rattle.nvme_driver.specs.declared.lane.Lane.{Lane}
@@ -19,7 +20,7 @@ use Rattle.nvme_fleet.specs.Deliveries.{Reply, Reaction, reaction, plain, recoun
 use Rattle.nvme_fleet.specs.Executions.{Site, Response}
 use Rattle.nvme_fleet.specs.Fleets.{WithDriver, Raw, Fleet, Run, host_at, after_answer, new_host, numbered, opening}
 use Rattle.nvme_fleet.specs.Apart.{HasMailbox, DiffersInMarks, Becomes, ExecutesOwn, OwnStep, MailboxStep, controller_of}
-use Rattle.nvme_fleet.specs.Tickets.{given_in, given, executed, done, aborted, along, held_tickets, waiting_tickets, answered_tickets, Balance, counting, TicketsAreConsecutive, is_ticket, times, below, GoesOnce, EachTicketGoesOnce, EachIsHeldOnce, NewHoldsEachOnce, OpeningIsNew, HeldAreCounted, waiting, answers, requests_in}
+use Rattle.nvme_fleet.specs.Tickets.{given_in, given, executed, done, aborted, along, held_tickets, waiting_tickets, answered_tickets, Balance, counting, TicketsAreConsecutive, is_ticket, times, below, GoesOnce, EachTicketGoesOnce, EachIsHeldOnce, NewHoldsEachOnce, OpeningIsNew, HeldAreCounted, waiting, posted_answers, requests_in}
 use Rattle.nvme_fleet.proofs.Totals.{total-append}
 use Rattle.nvme_fleet.proofs.Apart.{hosts_are_apart}
 use Rattle.nvme_fleet.proofs.TicketRuns.{one-host, one-mailbox, tickets_balance}
@@ -218,32 +219,24 @@ each_is_held_once tells old new events replies run k m n at end once t =
     omega (arith, a, p)
 
 pub new_holds_each_once : NewHoldsEachOnce
-unfolding waiting answers
+unfolding waiting posted_answers
 new_holds_each_once first t = omega arith
 
 -- As many as are counted.
 
-length-append : {A : Type 0} (xs ys : List A) → length (xs ++ ys) ≡ length xs + length ys
-length-append [] ys = omega arith
-length-append (x ∷ xs) ys = let e = length-append xs ys in omega (arith, e)
-
-length-map : {A B : Type 0} (f : A → B) (xs : List A) → length (map f xs) ≡ length xs
-length-map f [] = refl
-length-map f (x ∷ xs) = let e = length-map f xs in omega (arith, e)
-
 pub held_are_counted : HeldAreCounted
-unfolding waiting answers
+unfolding waiting posted_answers
 held_are_counted m =
     let a = length-append (waiting_tickets m ++ answered_tickets m) m.aborted in
     let b = length-append (waiting_tickets m) (answered_tickets m) in
-    let c = length-map (λ (i : Item). i.ticket) (waiting m) in
-    let d = length-map (λ (a : PostedAnswer). a.ticket) (answers m) in
+    let c = length-map (waiting m) (λ (i : Item). i.ticket) in
+    let d = length-map (posted_answers m) (λ (a : PostedAnswer). a.ticket) in
     let e = length-append m.admin.posted m.io.posted in
     let f = length-append (requests_in m.admin ++ requests_in m.io) (map (λ (f : FetchedItem). f.item) m.fetched) in
     let g = length-append (requests_in m.admin) (requests_in m.io) in
     let h = length-append m.admin.placed m.admin.rung in
     let i = length-append m.io.placed m.io.rung in
-    let j = length-map (λ (f : FetchedItem). f.item) m.fetched in
+    let j = length-map m.fetched (λ (f : FetchedItem). f.item) in
     omega (arith, a, b, c, d, e, f, g, h, i, j)
 
 -- Openings.

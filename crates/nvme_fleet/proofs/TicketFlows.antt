@@ -16,7 +16,7 @@ use Rattle.nvme_fleet.specs.Executions.{Response}
 use Rattle.nvme_fleet.specs.Fleets.{after_answer, with_posted, answer_for}
 use Rattle.nvme_fleet.specs.Views.{total}
 use Rattle.nvme_fleet.specs.Apart.{DiffersInMarks}
-use Rattle.nvme_fleet.specs.Tickets.{waiting, answers, requests_in, waiting_tickets, answered_tickets, held_tickets, given_in, done_in, aborted_in}
+use Rattle.nvme_fleet.specs.Tickets.{waiting, posted_answers, requests_in, waiting_tickets, answered_tickets, held_tickets, given_in, done_in, aborted_in}
 use Rattle.nvme_fleet.proofs.Totals.{total-append, total-removed}
 
 -- What the tickets of a mailbox weigh.
@@ -52,9 +52,9 @@ waits-weigh w m =
     omega (arith, a, b, c, d, e, f)
 
 pub posts-weigh : (w : ℕ → ℕ) (m : Mailbox) → total w (answered_tickets m) ≡ posts w m
-unfolding answers
+unfolding posted_answers
 posts-weigh w m =
-    let a = total-map w (λ (a : PostedAnswer). a.ticket) (answers m) in
+    let a = total-map w (λ (a : PostedAnswer). a.ticket) (posted_answers m) in
     let b = total-append (λ (a : PostedAnswer). w a.ticket) m.admin.posted m.io.posted in
     omega (arith, a, b)
 

@@ -14,7 +14,7 @@ use Rattle.nvme_fleet.specs.Deliveries.{Reply, plain, reset}
 use Rattle.nvme_fleet.specs.Executions.{Response, Answers}
 use Rattle.nvme_fleet.specs.Fleets.{Fleet, Step, Run}
 use Rattle.nvme_fleet.specs.Apart.{HasMailbox}
-use Rattle.nvme_fleet.specs.Tickets.{waiting, answers}
+use Rattle.nvme_fleet.specs.Tickets.{waiting, posted_answers}
 
 -- host k places a request, which takes this ticket and asks for this
 pub record Places (k : ℕ) (item : Item) (old : Fleet) (event : FleetEvent) (reply : Reply) (new : Fleet) : Type 0 where
@@ -24,16 +24,16 @@ pub record Places (k : ℕ) (item : Item) (old : Fleet) (event : FleetEvent) (re
   pub gives : reply ≡ plain (Placed (Ok (record { 0 = item.ticket })))
 
 -- What a request came to: the status, double word 0, and the data that came with them.
-pub record Result : Type 0 where
+pub record Conclusion : Type 0 where
   pub status : Status
   pub dw0 : ℕ
   pub bytes : List ℕ
 
-abbrev pub result_of : Response → Result
-result_of r = record { status = r.outcome.status; dw0 = r.outcome.dw0; bytes = r.bytes }
+abbrev pub conclusion_of : Response → Conclusion
+conclusion_of r = record { status = r.outcome.status; dw0 = r.outcome.dw0; bytes = r.bytes }
 
 -- controller k executes the request, in the site of that moment, and it comes to this
-pub record Executes (tells : Bool) (k : ℕ) (item : Item) (result : Result) (old : Fleet) (event : FleetEvent) (reply : Reply) (new : Fleet) : Type 0 where
+pub record Executes (tells : Bool) (k : ℕ) (item : Item) (conclusion : Conclusion) (old : Fleet) (event : FleetEvent) (reply : Reply) (new : Fleet) : Type 0 where
   pub place : ℕ
   pub event_is : event ≡ Execute k place
   pub mailbox : Mailbox
@@ -45,7 +45,7 @@ pub record Executes (tells : Bool) (k : ℕ) (item : Item) (result : Result) (ol
   pub answers : Answers tells k fetched old.site response
   pub gives : reply ≡ plain (Executed (Posted response.outcome))
   pub leaves : new.site ≡ response.left
-  pub result_is : result ≡ result_of response
+  pub conclusion_is : conclusion ≡ conclusion_of response
 
 -- What happens in one event.
 abbrev pub Happening : Type 1
@@ -71,7 +71,7 @@ HappensThen first then tells old (event ∷ events) [] new run = ⊥
 -- no request waits, and no answer
 pub record IsClear (m : Mailbox) : Type 0 where
   pub requests : waiting m ≡ []
-  pub posted : answers m ≡ []
+  pub posted : posted_answers m ≡ []
 
 abbrev pub ResetClears : Type 0
 ResetClears = (m : Mailbox) → IsClear (reset m).mailbox
@@ -80,10 +80,10 @@ abbrev pub NewIsClear : Type 0
 NewIsClear = (first : ℕ) → IsClear (new_mailbox first)
 
 -- The request with this ticket was placed in the run, was executed in a later event of it, and came to this.
-pub record WasPlacedAndExecuted (tells : Bool) (k ticket : ℕ) (result : Result) (old : Fleet) (events : List FleetEvent) (replies : List Reply) (new : Fleet) (run : Run tells old events replies new) : Type 0 where
+pub record WasPlacedAndExecuted (tells : Bool) (k ticket : ℕ) (conclusion : Conclusion) (old : Fleet) (events : List FleetEvent) (replies : List Reply) (new : Fleet) (run : Run tells old events replies new) : Type 0 where
   pub item : Item
   pub ticket_is : item.ticket ≡ ticket
-  pub happened : HappensThen (Places k item) (Executes tells k item result) tells old events replies new run
+  pub happened : HappensThen (Places k item) (Executes tells k item conclusion) tells old events replies new run
 
 -- What a Poll hands up as done after a run from there is what the execution of its own request came to.
 abbrev pub DoneIsItsExecution : Type 0

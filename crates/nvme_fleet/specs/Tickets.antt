@@ -24,15 +24,15 @@ requests_in b = b.placed ++ b.rung
 unfoldable pub waiting : Mailbox → List Item
 waiting m = requests_in m.admin ++ requests_in m.io ++ map (λ (f : FetchedItem). f.item) m.fetched
 
-unfoldable pub answers : Mailbox → List PostedAnswer
-answers m = m.admin.posted ++ m.io.posted
+unfoldable pub posted_answers : Mailbox → List PostedAnswer
+posted_answers m = m.admin.posted ++ m.io.posted
 
 -- their tickets, and with those of the aborted requests the tickets of all that was not handed up
 abbrev pub waiting_tickets : Mailbox → List ℕ
 waiting_tickets m = map (λ (i : Item). i.ticket) (waiting m)
 
 abbrev pub answered_tickets : Mailbox → List ℕ
-answered_tickets m = map (λ (a : PostedAnswer). a.ticket) (answers m)
+answered_tickets m = map (λ (a : PostedAnswer). a.ticket) (posted_answers m)
 
 abbrev pub held_tickets : Mailbox → List ℕ
 held_tickets m = waiting_tickets m ++ answered_tickets m ++ m.aborted

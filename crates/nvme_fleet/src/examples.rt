@@ -80,7 +80,7 @@ fn ordering()
 {}
 
 /// Of two requests one is answered, whatever it came to, and the other waits; a reset aborts both.
-#[tactic(auto, unfolding(crate::specs::Tickets::waiting, crate::specs::Tickets::answers, crate::specs::Mailboxes::open_tickets, crate::specs::Fleets::after_answer))]
+#[tactic(auto, unfolding(crate::specs::Tickets::waiting, crate::specs::Tickets::posted_answers, crate::specs::Mailboxes::open_tickets, crate::specs::Fleets::after_answer))]
 fn holding_tickets()
     ensures waiting { (r : Response) → waiting_tickets (first_answered r) ≡ 2 ∷ [] }
     ensures answered { (r : Response) → answered_tickets (first_answered r) ≡ 1 ∷ [] }
