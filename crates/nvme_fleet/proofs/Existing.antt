@@ -200,19 +200,19 @@ executes (Some (Raw c)) f k i laid =
     }
 
 -- every other event leaves the medium and the world
-called-site : (o : Option Host) (f : Fleet) (k : ℕ) (call : Mailbox → Reaction) → (called_at o f k call).fleet.site ≡ f.site
+pub called-site : (o : Option Host) (f : Fleet) (k : ℕ) (call : Mailbox → Reaction) → (called_at o f k call).fleet.site ≡ f.site
 unfolding with_host
 called-site None f k call = refl
 called-site (Some (WithDriver m)) f k call = refl
 called-site (Some (Raw c)) f k call = refl
 
-raw-site : (o : Option Host) (f : Fleet) (k : ℕ) (change : Controller → Controller) (what : FleetSeen) → (raw_at o f k change what).fleet.site ≡ f.site
+pub raw-site : (o : Option Host) (f : Fleet) (k : ℕ) (change : Controller → Controller) (what : FleetSeen) → (raw_at o f k change what).fleet.site ≡ f.site
 unfolding with_host
 raw-site None f k change what = refl
 raw-site (Some (WithDriver m)) f k change what = refl
 raw-site (Some (Raw c)) f k change what = refl
 
-fetched-site : (o : Option Host) (f : Fleet) (k q : ℕ) → (fetched_at o f k q).fleet.site ≡ f.site
+pub fetched-site : (o : Option Host) (f : Fleet) (k q : ℕ) → (fetched_at o f k q).fleet.site ≡ f.site
 unfolding with_host
 fetched-site None f k q = refl
 fetched-site (Some (WithDriver m)) f k q = refl

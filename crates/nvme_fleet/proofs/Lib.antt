@@ -72,3 +72,6 @@ pub mod TicketCounts
 pub mod Answered
 pub mod Unseen
 pub mod TicketNames
+pub mod Sites
+pub mod IoExecutions
+pub mod Numbered

@@ -5,6 +5,7 @@ pub mod Executions
 pub mod Fleets
 pub mod FaultFree
 pub mod Determined
+pub mod IoCommands
 pub mod Examples
 pub mod Views
 pub mod Lanes

@@ -3,6 +3,7 @@
 ghost use Rattle.nvme_fleet.specs.Answered.{DoneAnswersItsRequest, DoneIsItsExecution, NewIsClear, ResetClears, TicketNamesItsRequest};
 ghost use Rattle.nvme_fleet.specs.Apart.{HostsAreApart};
 ghost use Rattle.nvme_fleet.specs.Determined.{FailuresNeverFall, RunExists, RunIsUnique};
+ghost use Rattle.nvme_fleet.specs.IoCommands.{OpeningIsNumbered, NumbersStay, ExecutedAsThePolicyAllows};
 ghost use Rattle.nvme_fleet.specs.Links.{BringUpIsAStep};
 ghost use Rattle.nvme_fleet.specs.Tickets.{DriversStay, EachIsHeldOnce, EachTicketGoesOnce, HeldAreCounted, NewHoldsEachOnce, OpeningIsNew, TicketsAreConsecutive, TicketsBalance};
 ghost use Rattle.nvme_fleet.specs.Steps.{OpeningIsSound, JudgedAsItsRequest, AllowedServesItsRequest, AnswersItsRequest, NothingToExecute, PostingHasRoom, PostingIsAStep, IoExecutionIsAStep, AdminJudgedAsItsRequest, AdminAnswersItsRequest, AdminExecutionIsAStep, ExecutionIsAStep, ExecutionIsAFleetStep, NoExecutionIsAFleetStep, RefusalIsAStep, PlaceIsAStep, RingIsAStep, FetchIsAStep, MarksAreSteps, PollIsAStep, ResetIsAStep};
@@ -113,4 +114,14 @@ pub fn done_is_its_execution()
 /// brings a controller up that does not come up.
 pub fn trouble_never_comes()
     ensures unseen { UnseenNeverComes }
+{}
+
+/// Each I/O command that a controller of a fleet executes, of a driver or of a raw host, is judged by the rules in the access
+/// state of that moment: denied, it is answered with the number and the status of the first rule that fails, and changes
+/// neither access state nor medium; allowed, it does exactly its effect. A raw host's controller bears its number, at the
+/// opening and over every run.
+pub fn executed_as_the_policy_allows()
+    ensures opening { OpeningIsNumbered }
+    ensures numbers { NumbersStay }
+    ensures executed { ExecutedAsThePolicyAllows }
 {}

@@ -55,7 +55,7 @@ hosted (x ∷ ks) zero k n at same =
     (sym (eq-eqb x.cntlid n (ap (λ (y : ControllerConfig). y.cntlid) (same_Some _ _ at) ∙ same))) refl
 hosted (x ∷ ks) (suc i) k n at same = behind (x.cntlid == n) x _ (hosted ks i k n at same)
 
-numbers : (c : Configuration) (size : ℕ) → first_config_fault c size ≡ None → AreNumbered (opening_world c) (map (λ (k : ControllerConfig). new_controller k.cntlid) c.controllers)
+pub numbers : (c : Configuration) (size : ℕ) → first_config_fault c size ≡ None → AreNumbered (opening_world c) (map (λ (k : ControllerConfig). new_controller k.cntlid) c.controllers)
 unfolding host_of opening_world
 numbers c size good = record { identifier = λ k x at. by k x at; configured = λ k x at. there k x at }
   where
