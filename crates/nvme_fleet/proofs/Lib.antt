@@ -74,4 +74,6 @@ pub mod Unseen
 pub mod TicketNames
 pub mod Sites
 pub mod IoExecutions
+pub mod Fenced
 pub mod Numbered
+pub mod Refused

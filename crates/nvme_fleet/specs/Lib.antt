@@ -6,6 +6,7 @@ pub mod Fleets
 pub mod FaultFree
 pub mod Determined
 pub mod IoCommands
+pub mod Fencing
 pub mod Examples
 pub mod Views
 pub mod Lanes

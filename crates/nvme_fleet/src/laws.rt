@@ -3,6 +3,7 @@
 ghost use Rattle.nvme_fleet.specs.Answered.{DoneAnswersItsRequest, DoneIsItsExecution, NewIsClear, ResetClears, TicketNamesItsRequest};
 ghost use Rattle.nvme_fleet.specs.Apart.{HostsAreApart};
 ghost use Rattle.nvme_fleet.specs.Determined.{FailuresNeverFall, RunExists, RunIsUnique};
+ghost use Rattle.nvme_fleet.specs.Fencing.{OnlyAllowedActionsReserve, PermissionsStay, FencedWritesAreDenied, FencingHolds};
 ghost use Rattle.nvme_fleet.specs.IoCommands.{OpeningIsNumbered, NumbersStay, ExecutedAsThePolicyAllows};
 ghost use Rattle.nvme_fleet.specs.Links.{BringUpIsAStep};
 ghost use Rattle.nvme_fleet.specs.Tickets.{DriversStay, EachIsHeldOnce, EachTicketGoesOnce, HeldAreCounted, NewHoldsEachOnce, OpeningIsNew, TicketsAreConsecutive, TicketsBalance};
@@ -124,4 +125,13 @@ pub fn executed_as_the_policy_allows()
     ensures opening { OpeningIsNumbered }
     ensures numbers { NumbersStay }
     ensures executed { ExecutedAsThePolicyAllows }
+{}
+
+/// A host that may not write a namespace is answered Reservation Conflict for each of its writes, or the denial of a rule
+/// before, until a reservation command on the namespace is executed that all rules let pass.
+pub fn fencing_is_kept()
+    ensures reserves { OnlyAllowedActionsReserve }
+    ensures permissions { PermissionsStay }
+    ensures denied { FencedWritesAreDenied }
+    ensures run { FencingHolds }
 {}

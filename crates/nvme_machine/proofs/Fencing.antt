@@ -25,7 +25,7 @@ permits-by (Some a) None host group e = absurd (cc)
 permits-by (Some a) (Some b) None group e = let same : a.reservation ≡ b.reservation = cc in ap (λ (r : resv.Reservation). is_permitted r.hold Outsider group) same
 permits-by (Some a) (Some b) (Some host) group e = let same : a.reservation ≡ b.reservation = cc in ap (λ (r : resv.Reservation). is_permitted r.hold (resv.role_of r host) group) same
 
-may-still : (old new : World) (n k : ℕ) → host_of new k ≡ host_of old k → reservation_of new n ≡ reservation_of old n → may_write new k n ≡ may_write old k n
+pub may-still : (old new : World) (n k : ℕ) → host_of new k ≡ host_of old k → reservation_of new n ≡ reservation_of old n → may_write new k n ≡ may_write old k n
 unfolding may_write reservation_of
 may-still old new n k hosts same = ap (λ h. permits_group (namespace_of new n) h Writing) hosts ∙ permits-by (namespace_of new n) (namespace_of old n) (host_of old k) Writing same
 

@@ -1,0 +1,66 @@
+-- Who may write over runs of a fleet.
+use Rattle.std.proofs.Common.{◌≡◌, ◌⊎◌, inl, inr, ℕ, ◌==◌, Bool, List, [], ◌∷◌, sym, ap, subst, ◌∙◌}
+use Rattle.std.proofs.lemmas.Bool.{cases_Bool, eqb-true, eqb-false}
+use Rattle.nvme_wire.specs.Submission.{nsid}
+use Rattle.nvme_spec.specs.Commands.{reserving}
+use Rattle.nvme_spec.specs.IoData.{reservation_outcome}
+use Rattle.nvme_spec.specs.Layout.{reservation_of, may_write}
+use Rattle.nvme_spec.specs.World.{World, host_of}
+use Rattle.nvme_spec.proofs.Namespaces.{IsReserved, is-reserved}
+use Rattle.nvme_machine.proofs.Fencing.{may-still}
+use Rattle.nvme_fleet.specs.declared.event.FleetEvent.{FleetEvent}
+use Rattle.nvme_fleet.specs.Deliveries.{Reply}
+use Rattle.nvme_fleet.specs.Fleets.{Fleet, Step, Run}
+use Rattle.nvme_fleet.specs.IoCommands.{IoCommand}
+use Rattle.nvme_fleet.specs.Fencing.{Allows, OnlyAllowedActionsReserve, LeavesReservation, PermissionsStay, RunWhere}
+use Rattle.nvme_fleet.proofs.IoExecutions.{ActsOn, Acts, Rests, Reserves, acts}
+use Rattle.nvme_fleet.proofs.Sites.{leaves}
+
+-- what a reservation command leaves of a world: all but its own reservation
+pub reserved : (w v : World) (x : IoCommand) (k : ℕ) → ActsOn k x w v → IsReserved (nsid x.entry) w v
+reserved w v x k h = subst (IsReserved (nsid x.entry) w) (sym h.leaves) (is-reserved w (nsid x.entry) (reservation_outcome w k x.entry x.sent))
+
+pub hosts-stay : (old new : Fleet) (event : FleetEvent) → Acts old new event → (k : ℕ) → host_of new.site.world k ≡ host_of old.site.world k
+hosts-stay old new event (Rests h) k = let e = h.extents in e.hosts k
+hosts-stay old new event (Reserves j i number is x found numbered h) k =
+    let r = reserved old.site.world new.site.world x number h in
+    let l = r.layout in
+    l.hosts k
+
+action : (old new : Fleet) (event : FleetEvent) (n : ℕ) → Acts old new event → (reservation_of new.site.world n ≡ reservation_of old.site.world n) ⊎ Allows reserving old event n
+action old new event n (Rests h) = inl (h.reservations n)
+action old new event n (Reserves k i number is x found numbered h) =
+    elim (cases_Bool (nsid x.entry == n)) [
+      | inl here ↦ inr (subst (λ e. Allows reserving old e n) (sym is)
+          (record { command = x; found = found; is = record { names = eqb-true (nsid x.entry) n here; is_one = h.is_one }; allowed = h.allowed }))
+      | inr there ↦ (let r = reserved old.site.world new.site.world x number h in inl (r.others n (λ same. eqb-false (nsid x.entry) n there (sym same))))
+    ]
+
+pub step-acts : (tells : Bool) (old new : Fleet) (event : FleetEvent) (reply : Reply) → Step tells old event reply new → Acts old new event
+step-acts tells old new event reply step = acts tells old new event (leaves tells old new event reply step)
+
+pub only_allowed_actions_reserve : OnlyAllowedActionsReserve
+only_allowed_actions_reserve tells old new event reply n step = action old new event n (step-acts tells old new event reply step)
+
+stays-one : (tells : Bool) (old new : Fleet) (event : FleetEvent) (reply : Reply) (n : ℕ) → Step tells old event reply new → LeavesReservation n old event
+    → (k : ℕ) → may_write new.site.world k n ≡ may_write old.site.world k n
+stays-one tells old new event reply n step quiet k =
+    let h = step-acts tells old new event reply step in
+    elim (action old new event n h) [
+      | inl reservation ↦ may-still old.site.world new.site.world n k (hosts-stay old new event h k) reservation
+      | inr allowed ↦ absurd (quiet allowed)
+    ]
+
+pub permissions_stay : PermissionsStay
+permissions_stay tells old new [] [] n run k = ap (λ (f : Fleet). may_write f.site.world k n) run
+permissions_stay tells old new [] (x ∷ later) n run k = absurd run
+permissions_stay tells old new (event ∷ events) [] n run k = absurd run
+permissions_stay tells old new (event ∷ events) (x ∷ later) n run k =
+    permissions_stay tells run.0 new events later n run.3 k ∙ stays-one tells old run.0 event x n run.2 run.1 k
+
+-- a run where each event is so, is a run
+pub plainly : (P : Fleet → FleetEvent → Type 0) (tells : Bool) (old new : Fleet) (events : List FleetEvent) (replies : List Reply) → RunWhere P tells old events replies new → Run tells old events replies new
+plainly P tells old new [] [] run = run
+plainly P tells old new [] (x ∷ later) run = run
+plainly P tells old new (event ∷ events) [] run = run
+plainly P tells old new (event ∷ events) (x ∷ later) run = (run.0, run.2, plainly P tells run.0 new events later run.3)
