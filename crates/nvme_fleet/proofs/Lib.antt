@@ -77,3 +77,5 @@ pub mod IoExecutions
 pub mod Fenced
 pub mod Numbered
 pub mod Refused
+pub mod Outsiders
+pub mod Preempted

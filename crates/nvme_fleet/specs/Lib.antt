@@ -7,6 +7,7 @@ pub mod FaultFree
 pub mod Determined
 pub mod IoCommands
 pub mod Fencing
+pub mod Preempting
 pub mod Examples
 pub mod Views
 pub mod Lanes

@@ -5,6 +5,7 @@ ghost use Rattle.nvme_fleet.specs.Apart.{HostsAreApart};
 ghost use Rattle.nvme_fleet.specs.Determined.{FailuresNeverFall, RunExists, RunIsUnique};
 ghost use Rattle.nvme_fleet.specs.Fencing.{OnlyAllowedActionsReserve, PermissionsStay, FencedWritesAreDenied, FencingHolds};
 ghost use Rattle.nvme_fleet.specs.IoCommands.{OpeningIsNumbered, NumbersStay, ExecutedAsThePolicyAllows};
+ghost use Rattle.nvme_fleet.specs.Preempting.{OutsidersMayNotWrite, OutsidersStayOutside, PreemptedIsOutside, PreemptedStaysOut};
 ghost use Rattle.nvme_fleet.specs.Links.{BringUpIsAStep};
 ghost use Rattle.nvme_fleet.specs.Tickets.{DriversStay, EachIsHeldOnce, EachTicketGoesOnce, HeldAreCounted, NewHoldsEachOnce, OpeningIsNew, TicketsAreConsecutive, TicketsBalance};
 ghost use Rattle.nvme_fleet.specs.Steps.{OpeningIsSound, JudgedAsItsRequest, AllowedServesItsRequest, AnswersItsRequest, NothingToExecute, PostingHasRoom, PostingIsAStep, IoExecutionIsAStep, AdminJudgedAsItsRequest, AdminAnswersItsRequest, AdminExecutionIsAStep, ExecutionIsAStep, ExecutionIsAFleetStep, NoExecutionIsAFleetStep, RefusalIsAStep, PlaceIsAStep, RingIsAStep, FetchIsAStep, MarksAreSteps, PollIsAStep, ResetIsAStep};
@@ -134,4 +135,13 @@ pub fn fencing_is_kept()
     ensures permissions { PermissionsStay }
     ensures denied { FencedWritesAreDenied }
     ensures run { FencingHolds }
+{}
+
+/// A host that a Preempt has removed stays out: while the namespace is held, by whom it may be, its writes are answered so,
+/// until it has a key again, which it gets by its own Reservation Register alone.
+pub fn preempted_hosts_stay_out()
+    ensures outsiders { OutsidersMayNotWrite }
+    ensures outside { OutsidersStayOutside }
+    ensures preempted { PreemptedIsOutside }
+    ensures run { PreemptedStaysOut }
 {}
