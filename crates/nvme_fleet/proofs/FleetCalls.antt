@@ -71,6 +71,11 @@ executes tells a new k i n what at lt named s e =
       sound = settled-sound a (with-subsystem a new) left.world i r.0 left.controller what r.1 (ap (λ (t : Subsystem). t.controllers) e.leaves) refl refl refl m' s;
     }
 
+-- the driver at a place is sound with its controller
+pub sound-at : (a : FleetState) (i : ℕ) (d : Option Driver) → i < length a.subsystem.controllers → i < length a.drivers → d ≡ get_or a.drivers i d → IsSoundFleet a
+    → SoundBy d (controller_in a.subsystem i)
+sound-at a i d lt there is s = s.sound i d (controller_in a.subsystem i) (slice_get_read a.drivers (length a.drivers) i d refl there is) (controller-there a.subsystem i lt)
+
 -- A driver's call.
 pub record HasCalled (a b : FleetState) (k : ℕ) (call : DriverCall) (reply : Reply) : Type 0 where
   pub step : Is (called (fleet_of a) k (reaction_to call)) reply (fleet_of b)

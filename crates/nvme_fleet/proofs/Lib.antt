@@ -79,3 +79,6 @@ pub mod Numbered
 pub mod Refused
 pub mod Outsiders
 pub mod Preempted
+pub mod OwnEvents
+pub mod OwnTurns
+pub mod OwnFleets

@@ -1,5 +1,5 @@
 -- What a driver's calls come to at its controller.
-use Rattle.std.proofs.Common.{◌≡◌, ℕ, Bool, true, false, List, [], ◌∷◌, Result, Ok, Err, refl, sym, ap, ◌∙◌}
+use Rattle.std.proofs.Common.{◌≡◌, ◌+◌, ℕ, Bool, true, false, List, [], ◌∷◌, Result, Ok, Err, refl, sym, ap, ◌∙◌}
 use Rattle.std.specs.Prelude.{is_ok, if◌then◌else◌}
 use Rattle.nvme_driver.specs.declared.lane.Lane.TheVariants.{Admin}
 use Rattle.nvme_driver.specs.declared.state.State.{State}
@@ -21,6 +21,9 @@ use Rattle.nvme_fleet.specs.Linked.{Linked, KeepsSite, linked_controller, linked
 use Rattle.nvme_fleet.proofs.StartStep.{IsPlain, calls-are, calls-id}
 use Rattle.nvme_fleet.proofs.LinkOthers.{Stays, calls-stay, rises-stay, stays-same}
 use Rattle.nvme_fleet.proofs.RiseLink.{step_of, bytes_of, settings, rises-in}
+use Rattle.nvme_fleet.specs.OwnRuns.{IsLinkRun}
+use Rattle.nvme_fleet.proofs.OwnEvents.{none-own}
+use Rattle.nvme_fleet.proofs.OwnTurns.{rises-own}
 use Rattle.nvme_fleet.proofs.Places.{no-way}
 use Rattle.nvme_fleet.proofs.RiseStep.{bring_up_is_a_step}
 use Rattle.nvme_fleet.proofs.RingStep.{ring_is_a_step}
@@ -48,7 +51,7 @@ pub reset-step : (tells : Bool) (d d' : Driver) (old new : Linked) → Sound d (
 reset-step tells d d' old new s e h = rw (e, ← controller-is tells reset_calls old new tt h) (reset_is_a_step d (linked_controller old) s)
 
 -- Ringing.
-plain-ring : (b : Bool) (x y : ℕ) (u v : ℕ) → IsPlain (if b then Writes x u ∷ Writes y v ∷ [] else [])
+pub plain-ring : (b : Bool) (x y : ℕ) (u v : ℕ) → IsPlain (if b then Writes x u ∷ Writes y v ∷ [] else [])
 plain-ring true x y u v = tt
 plain-ring false x y u v = tt
 
@@ -67,12 +70,13 @@ ring-site tells d old new h n = site-kept tells (ring_calls d) old new (plain-ri
 -- Bringing up.
 
 -- it was up, or it came up
-pub record HasRisen (d d' : Driver) (old new : Linked) (result : Result (Unit {0}) UpFault) : Type 0 where
+pub record HasRisen (tells : Bool) (d d' : Driver) (old new : Linked) (result : Result (Unit {0}) UpFault) : Type 0 where
   pub step : IsStep (brought_up (mailbox d (linked_controller old))) d' (linked_controller new) (plain (seen.Up result))
   pub cntlid : (linked_controller new).cntlid ≡ (linked_controller old).cntlid
   pub world : (linked_setting new).world ≡ (linked_setting old).world
   pub device : (linked_setting new).device ≡ (linked_setting old).device
   pub stays : Stays old new
+  pub events : IsLinkRun tells old new
 
 already-up : (m : Mailbox) → m.up ≡ true → brought_up m ≡ record { mailbox = m; reply = plain (seen.Up (Err AlreadyUp)) }
 already-up m h = rw h refl
@@ -80,9 +84,9 @@ already-up m h = rw h refl
 reply-up : (m : Mailbox) → m.up ≡ false → (brought_up m).reply ≡ plain (seen.Up (Ok tt))
 reply-up m h = rw h refl
 
-stays-up : (d d' : Driver) (old new : Linked) (result : Result (Unit {0}) UpFault) → Sound d (linked_controller old) → is_up d.state ≡ true
-    → result ≡ Err AlreadyUp → d' ≡ d → new ≡ old → HasRisen d d' old new result
-stays-up d d' old new result s u r e n =
+stays-up : (tells : Bool) (d d' : Driver) (old new : Linked) (result : Result (Unit {0}) UpFault) → Sound d (linked_controller old) → is_up d.state ≡ true
+    → result ≡ Err AlreadyUp → d' ≡ d → new ≡ old → HasRisen tells d d' old new result
+stays-up tells d d' old new result s u r e n =
     let is = already-up (mailbox d (linked_controller old)) u in
     record {
       step = rw (r, e, n) (record { sound = s; mail = ap (λ (x : Reaction). x.mailbox) is; gives = ap (λ (x : Reaction). x.reply) is });
@@ -90,10 +94,11 @@ stays-up d d' old new result s u r e n =
       world = ap (λ (p : Linked). (linked_setting p).world) n;
       device = ap (λ (p : Linked). (linked_setting p).device) n;
       stays = stays-same old new n;
+      events = λ at. none-own tells (old.place + 1) old.subsystem new.subsystem (ap (λ (p : Linked). p.subsystem) n);
     }
 
 comes-up : (tells : Bool) (d d' : Driver) (old new : Linked) (result : Result (Unit {0}) UpFault) → Sound d (linked_controller old) → d.state ≡ Down
-    → Rises (step_of tells) bytes_of d old result d' new → HasRisen d d' old new result
+    → Rises (step_of tells) bytes_of d old result d' new → HasRisen tells d d' old new result
 comes-up tells d d' old new result s u h =
     let r = bring_up_is_a_step tells d d' (linked_setting old) (linked_setting new) result s u (rises-in tells d d' old new result h) in
     record {
@@ -102,18 +107,19 @@ comes-up tells d d' old new result s u h =
       world = r.world;
       device = r.device;
       stays = rises-stay tells d d' old new result h;
+      events = (let off = s.down (ap is_up u) in rises-own tells d d' old new result h off.fetched);
     }
 
 risen-by : (tells : Bool) (d d' : Driver) (old new : Linked) (result : Result (Unit {0}) UpFault) (s : State) → d.state ≡ s → Sound d (linked_controller old)
-    → (is_down s ≡ false → (result ≡ Err AlreadyUp) × (d' ≡ d) × (new ≡ old)) → (is_down s ≡ true → Rises (step_of tells) bytes_of d old result d' new) → HasRisen d d' old new result
+    → (is_down s ≡ false → (result ≡ Err AlreadyUp) × (d' ≡ d) × (new ≡ old)) → (is_down s ≡ true → Rises (step_of tells) bytes_of d old result d' new) → HasRisen tells d d' old new result
 risen-by tells d d' old new result Down e s already rises = comes-up tells d d' old new result s e (rises refl)
 risen-by tells d d' old new result Up e s already rises =
-    let a = already refl in stays-up d d' old new result s (ap is_up e) a.0 a.1 a.2
+    let a = already refl in stays-up tells d d' old new result s (ap is_up e) a.0 a.1 a.2
 risen-by tells d d' old new result Failed e s already rises = absurd (no-way true (ap is_failed (sym e) ∙ (s.both.each Admin).failed) refl)
 
 pub bring-up-step : (tells : Bool) (d d' : Driver) (old new : Linked) (result : Result (Unit {0}) UpFault) → Sound d (linked_controller old)
-    → (is_down d.state ≡ false → (result ≡ Err AlreadyUp) × (d' ≡ d) × (new ≡ old)) → (is_down d.state ≡ true → Rises (step_of tells) bytes_of d old result d' new) → HasRisen d d' old new result
+    → (is_down d.state ≡ false → (result ≡ Err AlreadyUp) × (d' ≡ d) × (new ≡ old)) → (is_down d.state ≡ true → Rises (step_of tells) bytes_of d old result d' new) → HasRisen tells d d' old new result
 bring-up-step tells d d' old new result s already rises = risen-by tells d d' old new result d.state refl s already rises
 
-pub bring-up-site : (d d' : Driver) (old new : Linked) (result : Result (Unit {0}) UpFault) → HasRisen d d' old new result → new.name ∷ [] ≡ old.name ∷ [] → KeepsSite old new
-bring-up-site d d' old new result r n = let k = r.stays in record { cntlid = r.cntlid; world = r.world; device = r.device; others = k.others; place = k.place; name = same-name new.name old.name n }
+pub bring-up-site : (tells : Bool) (d d' : Driver) (old new : Linked) (result : Result (Unit {0}) UpFault) → HasRisen tells d d' old new result → new.name ∷ [] ≡ old.name ∷ [] → KeepsSite old new
+bring-up-site tells d d' old new result r n = let k = r.stays in record { cntlid = r.cntlid; world = r.world; device = r.device; others = k.others; place = k.place; name = same-name new.name old.name n }

@@ -94,7 +94,7 @@ over-id : (o : Option QueuePair) (tells : Bool) (i : ℕ) (t : FetchedCommand) (
 over-id None tells i t old executed new h = ap (λ (s : Setting). s.controller.cntlid) h.1
 over-id (Some p) tells i t old executed new h = ap (λ (c : Controller). c.cntlid) h.controller ∙ answer-id i t p h.answer old.controller
 
-one-id : (o : Option FetchedCommand) (tells : Bool) (i : ℕ) (old : Setting) (executed : Executed) (new : Setting) → FinishesOne o tells i old executed new
+pub one-id : (o : Option FetchedCommand) (tells : Bool) (i : ℕ) (old : Setting) (executed : Executed) (new : Setting) → FinishesOne o tells i old executed new
     → new.controller.cntlid ≡ old.controller.cntlid
 one-id None tells i old executed new h = ap (λ (s : Setting). s.controller.cntlid) h.1
 one-id (Some t) tells i old executed new h = over-id (open_pair old.controller t) tells i t old executed new h

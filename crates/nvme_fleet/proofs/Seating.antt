@@ -30,7 +30,7 @@ get-some (c ∷ cs) (suc i) d h = get-some cs i d (omega arith)
 pub controller-there : (s : Subsystem) (i : ℕ) → i < length s.controllers → slice_get s.controllers i ≡ Some (controller_in s i)
 controller-there s i h = get-some s.controllers i (new_controller 0) h
 
-within-view : (w : World) (v : Device) (cs : List Controller) (s : Subsystem) (i : ℕ) → subsystem-of w v cs ≡ s → i < length s.controllers → i < length cs
+pub within-view : (w : World) (v : Device) (cs : List Controller) (s : Subsystem) (i : ℕ) → subsystem-of w v cs ≡ s → i < length s.controllers → i < length cs
 within-view w v cs s i view h = subst (λ (t : Subsystem). i < length t.controllers) (sym view) h
 
 -- what code reads at a place

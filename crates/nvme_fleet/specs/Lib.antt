@@ -15,6 +15,7 @@ pub mod Sound
 pub mod Steps
 pub mod Links
 pub mod Linked
+pub mod OwnRuns
 pub mod FleetStates
 pub mod Running
 pub mod Apart

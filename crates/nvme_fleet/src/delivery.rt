@@ -1,10 +1,11 @@
 //! A call of a host's driver, and the step of its mailbox.
 
-ghost use Rattle.std.specs.Prelude.{◌≡◌, ◌<◌, ◌≤◌, length};
+ghost use Rattle.std.specs.Prelude.{◌≡◌, ◌<◌, ◌≤◌, ◌+◌, length};
 ghost use Rattle.nvme_spec.specs.Limits.{most_bytes};
 ghost use Rattle.nvme_machine.specs.Subsystems.{Subsystem};
 ghost use Rattle.nvme_fleet.specs.FleetStates.{IsCalled, SoundBy, data_len, reaction_to, reply_in};
 ghost use Rattle.nvme_fleet.specs.Linked.{KeepsOthers, KeepsSite, controller_in, linked_controller};
+ghost use Rattle.nvme_fleet.specs.OwnRuns.{IsLinkRun, IsOwnRun};
 ghost use Rattle.nvme_fleet.specs.Sound.{Sound, mailbox};
 ghost use Rattle.nvme_fleet.specs.Steps.{IsStep};
 
@@ -42,6 +43,7 @@ fn deliver_over<S: Reach>(
     ensures fits { data_len result ≤ length buffer.new }
     ensures site { KeepsSite link.old link.new }
     ensures name { link.new.name ≡ link.old.name }
+    ensures events { IsLinkRun S.tells link.old link.new }
 {
     match call {
         DriverCall::BringUp => FleetSeen::Up(member::bring_up(driver, link)),
@@ -69,6 +71,7 @@ fn deliver_at<S: Reach>(
     ensures step { IsStep (reaction_to call.entry (mailbox driver.old (controller_in (S.subsystem seats.old) place))) driver.new (controller_in (S.subsystem seats.new) place) (reply_in result buffer.new) }
     ensures fits { data_len result ≤ length buffer.new }
     ensures site { KeepsSite (record { subsystem = S.subsystem seats.old; place = place; name = seats.entry.ghost_name }) (record { subsystem = S.subsystem seats.new; place = place; name = seats.entry.ghost_name }) }
+    ensures events { IsLinkRun S.tells (record { subsystem = S.subsystem seats.old; place = place; name = seats.entry.ghost_name }) (record { subsystem = S.subsystem seats.new; place = place; name = seats.entry.ghost_name }) }
 {
     let mut link = Link { seats, place };
     let seen = deliver_over(driver, &mut link, buffer, call);
@@ -93,6 +96,7 @@ pub(crate) fn deliver<S: Reach>(
     ensures world { (let s : Subsystem = S.subsystem seats.new in s.world) ≡ (let s : Subsystem = S.subsystem seats.old in s.world) }
     ensures device { (let s : Subsystem = S.subsystem seats.new in s.device) ≡ (let s : Subsystem = S.subsystem seats.old in s.device) }
     ensures others { KeepsOthers place (S.subsystem seats.old) (S.subsystem seats.new) }
+    ensures events { (controller_in (S.subsystem seats.old) place).cntlid ≡ place + 1 → IsOwnRun S.tells (place + 1) (S.subsystem seats.old) (S.subsystem seats.new) }
 {
     match driver {
         Some(driver) => deliver_at(driver, seats, place, buffer, call),

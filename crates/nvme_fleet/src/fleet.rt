@@ -8,6 +8,8 @@ ghost use Rattle.nvme_ns.specs.Configured.{configuration};
 ghost use Rattle.nvme_machine.specs.Subsystems.{controller_at};
 ghost use Rattle.nvme_fleet.specs.Deliveries.{plain};
 ghost use Rattle.nvme_fleet.specs.FleetStates.{fleet_of, data_in, data_len, reply_in, reaction_to};
+ghost use Rattle.nvme_fleet.specs.Linked.{controller_in};
+ghost use Rattle.nvme_fleet.specs.OwnRuns.{IsOwnRun, number_of};
 ghost use Rattle.nvme_fleet.specs.Fleets.{Is, Step, ExecutesAt, called, fetched_at, host_at, opening, raw_stored, raw_wrote};
 
 use crate::delivery::{DriverCall, deliver};
@@ -86,6 +88,7 @@ impl<M: Medium> Fleet<M> {
         ensures none { IfNone result (host_at (fleet_of self.now) cntlid ≡ None) }
         ensures absent { IfNone result (controller_at self.now.subsystem cntlid ≡ None) }
         ensures some { IfSome result (λ place. (cntlid ≡ place + 1) × (place < length self.now.subsystem.controllers)) }
+        ensures named { IfSome result (λ place. (controller_in self.now.subsystem place).cntlid ≡ place + 1) }
     {
         if cntlid == 0 {
             return None;
@@ -101,6 +104,7 @@ impl<M: Medium> Fleet<M> {
     fn deliver(&mut self, cntlid: u16, call: DriverCall<'_>) -> FleetSeen
         ensures step { Is (called (fleet_of self.old) cntlid (reaction_to call.entry)) (reply_in result self.new.buffer) (fleet_of self.new) }
         ensures fits { data_len result ≤ length self.new.buffer }
+        ensures events { IsOwnRun M.tells cntlid self.old.subsystem self.new.subsystem }
     {
         let Some(place) = self.place_of(cntlid) else {
             return FleetSeen::NoController;
@@ -118,6 +122,7 @@ impl<M: Medium> Fleet<M> {
     fn fetch(&mut self, cntlid: u16, qid: u16) -> FleetSeen
         ensures step { Is (fetched_at (host_at (fleet_of self.old) cntlid) (fleet_of self.old) cntlid qid) (reply_in result self.new.buffer) (fleet_of self.new) }
         ensures fits { data_len result ≤ length self.new.buffer }
+        ensures events { IsOwnRun M.tells cntlid self.old.subsystem self.new.subsystem }
     {
         let Some(place) = self.place_of(cntlid) else {
             return FleetSeen::NoController;
@@ -129,6 +134,7 @@ impl<M: Medium> Fleet<M> {
     fn execute(&mut self, cntlid: u16, i: usize) -> FleetSeen
         ensures step { ExecutesAt (host_at (fleet_of self.old) cntlid) M.tells (fleet_of self.old) cntlid i (reply_in result self.new.buffer) (fleet_of self.new) }
         ensures fits { data_len result ≤ length self.new.buffer }
+        ensures events { IsOwnRun M.tells cntlid self.old.subsystem self.new.subsystem }
     {
         let Some(place) = self.place_of(cntlid) else {
             return FleetSeen::NoController;
@@ -140,6 +146,7 @@ impl<M: Medium> Fleet<M> {
     fn store(&mut self, cntlid: u16, address: u64, bytes: &[u8]) -> FleetSeen
         ensures step { Is (raw_stored (fleet_of self.old) cntlid address bytes.now) (reply_in result self.new.buffer) (fleet_of self.new) }
         ensures fits { data_len result ≤ length self.new.buffer }
+        ensures events { IsOwnRun M.tells cntlid self.old.subsystem self.new.subsystem }
     {
         let Some(place) = self.place_of(cntlid) else {
             return FleetSeen::NoController;
@@ -154,6 +161,7 @@ impl<M: Medium> Fleet<M> {
     fn write32(&mut self, cntlid: u16, offset: u64, value: u32) -> FleetSeen
         ensures step { Is (raw_wrote (fleet_of self.old) cntlid offset value) (reply_in result self.new.buffer) (fleet_of self.new) }
         ensures fits { data_len result ≤ length self.new.buffer }
+        ensures events { IsOwnRun M.tells cntlid self.old.subsystem self.new.subsystem }
     {
         let Some(place) = self.place_of(cntlid) else {
             return FleetSeen::NoController;
@@ -170,6 +178,7 @@ impl<M: Medium> Fleet<M> {
     fn happen(&mut self, event: FleetEvent<'_>) -> FleetSeen
         ensures step { Step M.tells (fleet_of self.old) event.entry (reply_in result self.new.buffer) (fleet_of self.new) }
         ensures fits { data_len result ≤ length self.new.buffer }
+        ensures events { IsOwnRun M.tells (number_of event.entry) self.old.subsystem self.new.subsystem }
     {
         match event {
             FleetEvent::BringUp(cntlid) => self.deliver(cntlid, DriverCall::BringUp),
@@ -184,9 +193,10 @@ impl<M: Medium> Fleet<M> {
         }
     }
 
-    /// One event: the step of the fleet of mailboxes.
+    /// One event: the step of the fleet of mailboxes. At the subsystem it is a list of events of the host's own controller.
     pub fn apply(&mut self, event: FleetEvent<'_>) -> FleetSeen
         ensures step { Step M.tells (fleet_of self.old) event.entry (record { seen = result; bytes = data_in self.new }) (fleet_of self.new) }
+        ensures events { IsOwnRun M.tells (number_of event.entry) self.old.subsystem self.new.subsystem }
     {
         let seen = self.happen(event);
         self.filled = seen.data_len();

@@ -2,6 +2,7 @@
 
 ghost use Rattle.nvme_fleet.specs.Deliveries.{brought_up, rung, reset as reset_mailbox, plain};
 ghost use Rattle.nvme_fleet.specs.Linked.{KeepsSite, linked_controller};
+ghost use Rattle.nvme_fleet.specs.OwnRuns.{IsLinkRun};
 ghost use Rattle.nvme_fleet.specs.Sound.{Sound, mailbox};
 ghost use Rattle.nvme_fleet.specs.Steps.{IsStep};
 ghost use Rattle.nvme_fleet.specs.declared.seen.FleetSeen.TheVariants.{Up, Rung, Reset};
@@ -20,6 +21,7 @@ pub fn bring_up<S: Reach>(driver: &mut Driver, link: &mut Link<'_, S>) -> Result
     requires sound { Sound driver.old (linked_controller link.old) }
     ensures step { IsStep (brought_up (mailbox driver.old (linked_controller link.old))) driver.new (linked_controller link.new) (plain (Up result)) }
     ensures site { KeepsSite link.old link.new }
+    ensures events { IsLinkRun S.tells link.old link.new }
 {
     driver.bring_up(link)
 }
@@ -32,6 +34,7 @@ pub fn ring<S: Reach>(driver: &mut Driver, link: &mut Link<'_, S>) -> Result<(),
     requires sound { Sound driver.old (linked_controller link.old) }
     ensures step { IsStep (rung (mailbox driver.old (linked_controller link.old))) driver.new (linked_controller link.new) (plain (Rung result)) }
     ensures site { KeepsSite link.old link.new }
+    ensures events { IsLinkRun S.tells link.old link.new }
 {
     driver.ring(link)
 }
@@ -41,6 +44,7 @@ pub fn reset<S: Reach>(driver: &mut Driver, link: &mut Link<'_, S>)
     requires sound { Sound driver.old (linked_controller link.old) }
     ensures step { IsStep (reset_mailbox (mailbox driver.old (linked_controller link.old))) driver.new (linked_controller link.new) (plain Reset) }
     ensures site { KeepsSite link.old link.new }
+    ensures events { IsLinkRun S.tells link.old link.new }
 {
     driver.reset(link);
 }

@@ -3,6 +3,7 @@
 ghost use Rattle.nvme_fleet.specs.declared.seen.FleetSeen.TheVariants.{Placed};
 ghost use Rattle.nvme_fleet.specs.Deliveries.{placed, plain};
 ghost use Rattle.nvme_fleet.specs.Linked.{KeepsSite, linked_controller};
+ghost use Rattle.nvme_fleet.specs.OwnRuns.{IsLinkRun};
 ghost use Rattle.nvme_fleet.specs.Sound.{Sound, mailbox};
 ghost use Rattle.nvme_fleet.specs.Steps.{IsStep};
 
@@ -25,6 +26,7 @@ pub fn place<S: Reach>(
     ensures step { IsStep (placed (mailbox driver.old (linked_controller link.old)) request.now) driver.new
         (linked_controller link.new) (plain (Placed result)) }
     ensures site { KeepsSite link.old link.new }
+    ensures events { IsLinkRun S.tells link.old link.new }
 {
     driver.place(link, request)
 }

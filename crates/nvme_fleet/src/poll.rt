@@ -5,6 +5,7 @@ ghost use Rattle.nvme_spec.specs.Limits.{most_bytes};
 ghost use Rattle.nvme_fleet.specs.declared.seen.FleetSeen.TheVariants.{Polled};
 ghost use Rattle.nvme_fleet.specs.Deliveries.{polled};
 ghost use Rattle.nvme_fleet.specs.Linked.{KeepsSite, linked_controller};
+ghost use Rattle.nvme_fleet.specs.OwnRuns.{IsLinkRun};
 ghost use Rattle.nvme_fleet.specs.Sound.{Sound, mailbox};
 ghost use Rattle.nvme_fleet.specs.Steps.{IsStep};
 
@@ -35,6 +36,7 @@ pub fn poll<S: Reach>(
     ensures bytes { take (length (polled (mailbox driver.old (linked_controller link.old))).reply.bytes) buffer.new
         ≡ (polled (mailbox driver.old (linked_controller link.old))).reply.bytes }
     ensures site { KeepsSite link.old link.new }
+    ensures events { IsLinkRun S.tells link.old link.new }
 {
     driver.poll_into(link, buffer)
 }

@@ -1,6 +1,6 @@
 //! The controllers of a fleet, over one access state and one medium.
 
-ghost use Rattle.std.specs.Prelude.{◌≡◌, ◌<◌, ◌≤◌, ◌+◌, Bool, length};
+ghost use Rattle.std.specs.Prelude.{◌≡◌, ◌<◌, ◌≤◌, ◌+◌, ℕ, Bool, length};
 ghost use Rattle.nvme_spec.specs.Bytes.{with_bytes};
 ghost use Rattle.nvme_spec.specs.Memory.{window_size};
 ghost use Rattle.nvme_driver.specs.Calls.{Stores, Writes, Reads, Turns};
@@ -82,7 +82,8 @@ impl<M: Medium> Model for Seats<M> {
 impl<M: Medium> Seats<M> {
     /// How many controllers there are.
     pub(crate) fn len(&self) -> usize
-        ensures { result ≡ length self.now.controllers }
+        ensures count { result ≡ length self.now.controllers }
+        ensures numbered { (i : ℕ) → i < length self.now.controllers → (controller_in self.now i).cntlid ≡ i + 1 }
     {
         self.controllers.len()
     }

@@ -6,4 +6,7 @@ returns-clause-step g c = (bring-up-step g.S.Reach.tells _ _ _ _ _ c.requires.so
 
 pub returns-clause-site : goal.returns-clause-site
 returns-clause-site g c =
-    bring-up-site _ _ _ _ _ (bring-up-step g.S.Reach.tells _ _ _ _ _ c.requires.sound c.bring_up.ensures.already c.bring_up.ensures.rises) c.bring_up.ensures.links
+    bring-up-site g.S.Reach.tells _ _ _ _ _ (bring-up-step g.S.Reach.tells _ _ _ _ _ c.requires.sound c.bring_up.ensures.already c.bring_up.ensures.rises) c.bring_up.ensures.links
+
+pub returns-clause-events : goal.returns-clause-events
+returns-clause-events g c = (bring-up-step g.S.Reach.tells _ _ _ _ _ c.requires.sound c.bring_up.ensures.already c.bring_up.ensures.rises).events
