@@ -21,7 +21,7 @@ use Rattle.nvme_fleet.proofs.StartStep.{IsPlain}
 
 -- Runs, one after the other.
 
-runs-both : (tells : Bool) (a b c : Subsystem) (es fs : List Event) (xs ys : List Seen) → Run tells a es xs b → Run tells b fs ys c → Run tells a (es ++ fs) (xs ++ ys) c
+pub runs-both : (tells : Bool) (a b c : Subsystem) (es fs : List Event) (xs ys : List Seen) → Run tells a es xs b → Run tells b fs ys c → Run tells a (es ++ fs) (xs ++ ys) c
 runs-both tells a b c [] fs [] ys r s = subst (λ m. Run tells m fs ys c) r s
 runs-both tells a b c [] fs (x ∷ xs) ys r s = absurd r
 runs-both tells a b c (e ∷ es) fs [] ys r s = absurd r

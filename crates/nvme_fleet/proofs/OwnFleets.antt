@@ -1,8 +1,10 @@
 -- Each event of a fleet is a list of events of its own controller.
-use Rattle.std.proofs.Common.{◌≡◌, ◌<◌, ℕ, ◌+◌, Bool, List, length, refl, sym, subst}
+use Rattle.std.proofs.Common.{◌≡◌, ◌<◌, ℕ, ◌+◌, Bool, List, [], ◌∷◌, ◌++◌, ◌∙◌, length, take, get_or, refl, sym, ap, subst}
+use Rattle.std.proofs.lemmas.List.{append-nil, append_assoc, take_more}
 use Rattle.nvme_spec.specs.Blocks.{Device}
 use Rattle.nvme_spec.specs.World.{World}
 use Rattle.nvme_driver.specs.Calls.{Writes}
+use Rattle.nvme_machine.specs.declared.event.Event.{Event}
 use Rattle.nvme_machine.specs.declared.event.Event.TheVariants as event
 use Rattle.nvme_machine.specs.declared.seen.Executed.{Executed}
 use Rattle.nvme_machine.specs.declared.seen.Seen.TheVariants as seen
@@ -13,8 +15,10 @@ use Rattle.nvme_subsys.proofs.Numbers as numbers
 use Rattle.nvme_subsys.proofs.Sound.{named-at}
 use Rattle.nvme_fleet.specs.Linked.{KeepsOthers, setting_in, controller_in, with_controller_at, ExecutesSeat}
 use Rattle.nvme_fleet.specs.Links.{LinkStep}
-use Rattle.nvme_fleet.specs.OwnRuns.{IsOwnRun}
-use Rattle.nvme_fleet.proofs.OwnEvents.{one-own, reacted, plain-own}
+use Rattle.nvme_fleet.specs.Apart as apart
+use Rattle.nvme_fleet.specs.declared.event.FleetEvent.{FleetEvent}
+use Rattle.nvme_fleet.specs.OwnRuns.{IsOwnRun, AreEventsOf, AreOwnEvents, AreOwnRuns, joined}
+use Rattle.nvme_fleet.proofs.OwnEvents.{one-own, reacted, plain-own, runs-both}
 use Rattle.nvme_fleet.proofs.Seating.{subsystem-of, controller-there, within-view}
 
 -- controllers bear the numbers of their places
@@ -49,3 +53,29 @@ pub executed-own : (tells : Bool) (a b : Subsystem) (k i n : ℕ) (x : Executed)
 executed-own tells a b k i n x is there named h =
     let step = numbers.executes tells a (i + 1) i (controller_in a i) n x h.left refl (controller-there a i there) named h.executes in
     by-number tells a b k i is (subst (IsOwnRun tells (i + 1) a) (sym h.leaves) (one-own tells (i + 1) a _ (event.Execute (i + 1) n) (seen.Executed x) refl step))
+
+-- Events of hosts, one after the other.
+
+joined-more : (own : List (List Event)) (more : List Event) → joined (own ++ more ∷ []) ≡ joined own ++ more
+joined-more [] more = append-nil more
+joined-more (events ∷ own) more = ap (λ later. events ++ later) (joined-more own more) ∙ sym (append_assoc events (joined own) more)
+
+own-more : (events : List FleetEvent) (own : List (List Event)) (event : FleetEvent) (more : List Event) → AreOwnEvents events own → AreEventsOf (apart.controller_of event) more
+    → AreOwnEvents (events ++ event ∷ []) (own ++ more ∷ [])
+own-more [] [] event more h last = (last, tt)
+own-more [] (es ∷ own) event more h last = absurd h
+own-more (e ∷ events) [] event more h last = absurd h
+own-more (e ∷ events) (es ∷ own) event more h last = (h.0, own-more events own event more h.1 last)
+
+pub no-runs : (tells : Bool) (a : Subsystem) → AreOwnRuns tells [] a a
+no-runs tells a = record { own = []; seen = []; each = tt; run = refl }
+
+-- over the front of a list of events
+pub own-runs-next : (tells : Bool) (events : List FleetEvent) (i : ℕ) (d : FleetEvent) (a b c : Subsystem) → i < length events → AreOwnRuns tells (take i events) a b
+    → IsOwnRun tells (apart.controller_of (get_or events i d)) b c → AreOwnRuns tells (take (i + 1) events) a c
+own-runs-next tells events i d a b c inside runs last = record {
+  own = runs.own ++ last.events ∷ [];
+  seen = runs.seen ++ last.seen;
+  each = rw (take_more events i d inside) (own-more (take i events) runs.own (get_or events i d) last.events runs.each last.own);
+  run = rw (joined-more runs.own last.events) (runs-both tells a b c (joined runs.own) last.events runs.seen last.seen runs.run last.run);
+}

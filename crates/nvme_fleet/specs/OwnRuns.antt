@@ -1,31 +1,41 @@
--- What an event of a host comes to at the subsystem: events of its own controller, one after the other.
-use Rattle.std.specs.Prelude.{◌≡◌, ◌<◌, ℕ, ◌+◌, Bool, List, length}
+-- What events of hosts come to at the subsystem: each to events of its own controller, one after the other.
+use Rattle.std.specs.Prelude.{◌≡◌, ◌<◌, ℕ, ◌+◌, Bool, List, [], ◌∷◌, ◌++◌, length}
 use Rattle.std.specs.List.{AllByRecursion}
 use Rattle.nvme_machine.specs.declared.event.Event.{Event}
 use Rattle.nvme_machine.specs.declared.seen.Seen.{Seen}
 use Rattle.nvme_machine.specs.Subsystems.{Subsystem, Run, controller_of}
 use Rattle.nvme_fleet.specs.declared.event.FleetEvent.{FleetEvent}
-use Rattle.nvme_fleet.specs.declared.event.FleetEvent.TheVariants.{BringUp, Place, Ring, Fetch, Execute, Poll, Reset, RawStore, RawWrite32}
+use Rattle.nvme_fleet.specs.Apart as apart
 use Rattle.nvme_fleet.specs.Linked.{Linked, linked_controller}
 
--- the controller of a host's event
-abbrev pub number_of : FleetEvent → ℕ
-number_of (BringUp k) = k
-number_of (Place k request) = k
-number_of (Ring k) = k
-number_of (Fetch k q) = k
-number_of (Execute k i) = k
-number_of (Poll k) = k
-number_of (Reset k) = k
-number_of (RawStore k address bytes) = k
-number_of (RawWrite32 k offset v) = k
+abbrev pub AreEventsOf : ℕ → List Event → Type 0
+AreEventsOf k events = AllByRecursion (λ event. controller_of event ≡ k) events
 
 -- there are events of controller k alone, and what each gave, that lead from one subsystem to the other
 pub record IsOwnRun (tells : Bool) (k : ℕ) (old new : Subsystem) : Type 0 where
   pub events : List Event
   pub seen : List Seen
-  pub own : AllByRecursion (λ event. controller_of event ≡ k) events
+  pub own : AreEventsOf k events
   pub run : Run tells old events seen new
+
+-- lists, one behind the other
+abbrev pub joined : List (List Event) → List Event
+joined [] = []
+joined (events ∷ later) = events ++ joined later
+
+-- for each event of hosts a list of events of its own controller
+abbrev pub AreOwnEvents : List FleetEvent → List (List Event) → Type 0
+AreOwnEvents [] [] = Unit {0}
+AreOwnEvents (event ∷ events) (own ∷ later) = AreEventsOf (apart.controller_of event) own × AreOwnEvents events later
+AreOwnEvents [] (own ∷ later) = ⊥
+AreOwnEvents (event ∷ events) [] = ⊥
+
+-- there are such lists for events of hosts, and what each gave, that lead from one subsystem to the other, joined
+pub record AreOwnRuns (tells : Bool) (events : List FleetEvent) (old new : Subsystem) : Type 0 where
+  pub own : List (List Event)
+  pub seen : List Seen
+  pub each : AreOwnEvents events own
+  pub run : Run tells old (joined own) seen new
 
 -- a link reaches a controller of its subsystem, which bears the number of its place
 abbrev pub Reaches : Linked → Type 0

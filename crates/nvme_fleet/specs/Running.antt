@@ -1,5 +1,5 @@
 -- A run of events whose replies are added behind others.
-use Rattle.std.specs.Prelude.{◌≡◌, ◌<◌, ℕ, Bool, List, ◌++◌, length, take}
+use Rattle.std.specs.Prelude.{◌≡◌, ◌<◌, ℕ, ◌-◌, Bool, List, ◌++◌, length, take}
 use Rattle.nvme_spec.specs.Limits.{most_bytes}
 use Rattle.nvme_fleet.specs.declared.event.FleetEvent.{FleetEvent}
 use Rattle.nvme_fleet.specs.declared.event.FleetEvent.TheVariants.{Poll}
@@ -21,3 +21,7 @@ pub record RunsInPart (tells : Bool) (before : List Reply) (old : Fleet) (events
 abbrev pub room_for : FleetEvent → ℕ
 room_for (Poll k) = most_bytes
 room_for other = 0
+
+-- the events whose replies were added
+abbrev pub replied : List Reply → List Reply → List FleetEvent → List FleetEvent
+replied before after events = take (length after - length before) events

@@ -6,10 +6,11 @@ ghost use Rattle.nvme_spec.specs.Limits.{most_bytes};
 ghost use Rattle.nvme_spec.specs.declared.config.ConfigFault.TheVariants.{NoMemory as WantOfMemory};
 ghost use Rattle.nvme_ns.specs.Configured.{configuration};
 ghost use Rattle.nvme_machine.specs.Subsystems.{controller_at};
+ghost use Rattle.nvme_fleet.specs.Apart.{controller_of};
 ghost use Rattle.nvme_fleet.specs.Deliveries.{plain};
 ghost use Rattle.nvme_fleet.specs.FleetStates.{fleet_of, data_in, data_len, reply_in, reaction_to};
 ghost use Rattle.nvme_fleet.specs.Linked.{controller_in};
-ghost use Rattle.nvme_fleet.specs.OwnRuns.{IsOwnRun, number_of};
+ghost use Rattle.nvme_fleet.specs.OwnRuns.{IsOwnRun};
 ghost use Rattle.nvme_fleet.specs.Fleets.{Is, Step, ExecutesAt, called, fetched_at, host_at, opening, raw_stored, raw_wrote};
 
 use crate::delivery::{DriverCall, deliver};
@@ -178,7 +179,7 @@ impl<M: Medium> Fleet<M> {
     fn happen(&mut self, event: FleetEvent<'_>) -> FleetSeen
         ensures step { Step M.tells (fleet_of self.old) event.entry (reply_in result self.new.buffer) (fleet_of self.new) }
         ensures fits { data_len result ≤ length self.new.buffer }
-        ensures events { IsOwnRun M.tells (number_of event.entry) self.old.subsystem self.new.subsystem }
+        ensures events { IsOwnRun M.tells (controller_of event.entry) self.old.subsystem self.new.subsystem }
     {
         match event {
             FleetEvent::BringUp(cntlid) => self.deliver(cntlid, DriverCall::BringUp),
@@ -196,7 +197,7 @@ impl<M: Medium> Fleet<M> {
     /// One event: the step of the fleet of mailboxes. At the subsystem it is a list of events of the host's own controller.
     pub fn apply(&mut self, event: FleetEvent<'_>) -> FleetSeen
         ensures step { Step M.tells (fleet_of self.old) event.entry (record { seen = result; bytes = data_in self.new }) (fleet_of self.new) }
-        ensures events { IsOwnRun M.tells (number_of event.entry) self.old.subsystem self.new.subsystem }
+        ensures events { IsOwnRun M.tells (controller_of event.entry) self.old.subsystem self.new.subsystem }
     {
         let seen = self.happen(event);
         self.filled = seen.data_len();

@@ -1,9 +1,11 @@
 //! A run of events over a fleet.
 
 ghost use Rattle.std.specs.Prelude.{◌≡◌, ◌≤◌, [], vec_capacity, OnOk, OnErr};
+ghost use Rattle.nvme_fleet.specs.Apart.{controller_of};
 ghost use Rattle.nvme_fleet.specs.FleetStates.{fleet_of};
 ghost use Rattle.nvme_fleet.specs.Fleets.{Step};
-ghost use Rattle.nvme_fleet.specs.Running.{RunsBehind, RunsInPart, room_for};
+ghost use Rattle.nvme_fleet.specs.OwnRuns.{AreOwnRuns, IsOwnRun};
+ghost use Rattle.nvme_fleet.specs.Running.{RunsBehind, RunsInPart, replied, room_for};
 
 use crate::event::FleetEvent;
 use crate::fleet::Fleet;
@@ -25,7 +27,7 @@ fn room_of(event: FleetEvent<'_>) -> usize
 
 impl<M: Medium> Fleet<M> {
     /// Events, one after the other; what each gave is added behind the replies. The memory that a reply takes is asked for
-    /// before its event.
+    /// before its event. At the subsystem those that have happened are a list of events, each host's of its own controller.
     ///
     /// # Errors
     ///
@@ -39,6 +41,7 @@ impl<M: Medium> Fleet<M> {
     ) -> Result<(), NoMemory>
         ensures ran { OnOk result (RunsBehind M.tells replies.old.items (fleet_of self.old) events.now replies.new.items (fleet_of self.new)) }
         ensures stopped { OnErr result (RunsInPart M.tells replies.old.items (fleet_of self.old) events.now replies.new.items (fleet_of self.new)) }
+        ensures events { AreOwnRuns M.tells (replied replies.old.items replies.new.items events.now) self.old.subsystem self.new.subsystem }
     {
         for event in events {
             replies.reserve(1)?;
@@ -53,6 +56,7 @@ impl<M: Medium> Fleet<M> {
         requires empty { bytes.items ≡ [] }
         requires room { room_for event ≤ vec_capacity bytes }
         ensures step { Step M.tells (fleet_of self.old) event.entry result (fleet_of self.new) }
+        ensures events { IsOwnRun M.tells (controller_of event.entry) self.old.subsystem self.new.subsystem }
     {
         let seen = self.apply(event);
         // There is room for them, so that no memory is asked for.

@@ -17,4 +17,4 @@ returns g c =
     let none : length c.args.bytes.items ≡ 0 = ap length c.requires.empty in
     let ok = c.extend_from_slice-fits.ensures.succeeds (omega (arith, c.args.bytes.ok.0, none, long, room, c.requires.room)) in
     let whole = copied c.extend_from_slice-fits.result c.args.bytes.items c.extend_from_slice-fits.new.self.items c.data.result.now c.extend_from_slice-fits.ensures.items ok c.requires.empty in
-    record { step = subst (λ xs. Step g.M.Medium.tells old c.args.event (record { seen = c.apply-seen.result; bytes = xs }) new) (sym (whole ∙ c.data.ensures.value)) step }
+    record { step = subst (λ xs. Step g.M.Medium.tells old c.args.event (record { seen = c.apply-seen.result; bytes = xs }) new) (sym (whole ∙ c.data.ensures.value)) step; events = c.apply-seen.ensures.events }
