@@ -3,6 +3,7 @@ use Rattle.std.proofs.Common.{◌≡◌, inl, inr, ℕ, zero, suc, ◌+◌, ◌�
 use Rattle.std.specs.Prelude.{if◌then◌else◌, slice_get}
 use Rattle.std.proofs.lemmas.Grind.{common_steps}
 use Rattle.std.proofs.lemmas.List.{length-append, length-map}
+use Rattle.std.proofs.lemmas.Option.{same_Some}
 use Rattle.nvme_spec.specs.declared.config.ControllerConfig.{ControllerConfig}
 use Rattle.nvme_machine.specs.Controllers.{new_controller}
 use Rattle.nvme_driver.specs.declared.lane.Lane.{Lane}
@@ -20,10 +21,10 @@ use Rattle.nvme_fleet.specs.Deliveries.{Reply, Reaction, reaction, plain, recoun
 use Rattle.nvme_fleet.specs.Executions.{Site, Response}
 use Rattle.nvme_fleet.specs.Fleets.{WithDriver, Raw, Fleet, Run, host_at, after_answer, new_host, numbered, opening}
 use Rattle.nvme_fleet.specs.Apart.{HasMailbox, DiffersInMarks, Becomes, ExecutesOwn, OwnStep, MailboxStep, controller_of}
-use Rattle.nvme_fleet.specs.Tickets.{given_in, given, executed, done, aborted, along, held_tickets, waiting_tickets, answered_tickets, Balance, counting, TicketsAreConsecutive, is_ticket, times, below, GoesOnce, EachTicketGoesOnce, EachIsHeldOnce, NewHoldsEachOnce, OpeningIsNew, HeldAreCounted, waiting, posted_answers, requests_in}
+use Rattle.nvme_fleet.specs.Tickets.{given_in, given, executed, done, aborted, along, held_tickets, waiting_tickets, answered_tickets, Balance, counting, TicketsAreConsecutive, is_ticket, times, below, GoesOnce, EachTicketGoesOnce, EachIsHeldOnce, NewHoldsEachOnce, OpeningHasDrivers, OpeningIsNew, TicketsOfAnOpeningGoOnce, HeldAreCounted, waiting, posted_answers, requests_in}
 use Rattle.nvme_fleet.proofs.Totals.{total-append}
 use Rattle.nvme_fleet.proofs.Apart.{hosts_are_apart}
-use Rattle.nvme_fleet.proofs.TicketRuns.{one-host, one-mailbox, tickets_balance}
+use Rattle.nvme_fleet.proofs.TicketRuns.{one-host, one-mailbox, drivers_stay, tickets_balance}
 
 -- The next tickets.
 
@@ -257,3 +258,26 @@ opened-numbered xs (suc i) m h = opened-at xs i m h
 pub opening_is_new : OpeningIsNew
 unfolding host_at opening
 opening_is_new c d k m h = opened-numbered c.controllers k m h
+
+new-driver : (k : ControllerConfig) (b : Bool) → b ≡ false → (if b then Raw (new_controller k.cntlid) else WithDriver (new_mailbox 1)) ≡ WithDriver (new_mailbox 1)
+new-driver k true h = absurd (cc)
+new-driver k false h = refl
+
+has-driver : (xs : List ControllerConfig) (i : ℕ) (k : ControllerConfig) → slice_get xs i ≡ Some k → k.raw ≡ false → slice_get (map new_host xs) i ≡ Some (WithDriver (new_mailbox 1))
+has-driver [] i k at h = absurd (cc)
+has-driver (x ∷ xs) zero k at h =
+    let e : x ≡ k = same_Some x k at in
+    ap Some (new-driver x x.raw (ap (λ (y : ControllerConfig). y.raw) e ∙ h))
+has-driver (x ∷ xs) (suc i) k at h = has-driver xs i k at h
+
+pub opening_has_drivers : OpeningHasDrivers
+unfolding host_at opening
+opening_has_drivers c d i k at h =
+    let e : i + 1 ≡ suc i = omega arith in
+    subst (λ n. numbered (map new_host c.controllers) n ≡ Some (WithDriver (new_mailbox 1))) (sym e) (has-driver c.controllers i k at h)
+
+pub tickets_of_an_opening_go_once : TicketsOfAnOpeningGoOnce
+tickets_of_an_opening_go_once c d i k at h tells new events replies run =
+    let first = opening_has_drivers c d i k at h in
+    let last = drivers_stay tells (opening c d) new events replies run (i + 1) (new_mailbox 1) first in
+    (last.0, last.1, λ t. each_ticket_goes_once tells (opening c d) new events replies run (i + 1) (new_mailbox 1) last.0 first last.1 (new_holds_each_once 1) t)

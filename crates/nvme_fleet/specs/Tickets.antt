@@ -1,8 +1,9 @@
 -- The tickets of a host with a driver: which requests its mailbox holds, which tickets a run gives it, executes for it and
 -- hands up to it.
-use Rattle.std.specs.Prelude.{◌≡◌, ◌≤◌, ℕ, ◌+◌, ◌==◌, nat_lt, zero, suc, Bool, if◌then◌else◌, List, [], ◌∷◌, ◌++◌, length, map, Option, None, Some, Ok, slice_get}
+use Rattle.std.specs.Prelude.{◌≡◌, ◌≤◌, ℕ, ◌+◌, ◌==◌, nat_lt, zero, suc, Bool, false, if◌then◌else◌, List, [], ◌∷◌, ◌++◌, length, map, Option, None, Some, Ok, slice_get}
 use Rattle.nvme_spec.specs.Blocks.{Device}
 use Rattle.nvme_spec.specs.Configuration.{Configuration}
+use Rattle.nvme_spec.specs.declared.config.ControllerConfig.{ControllerConfig}
 use Rattle.nvme_machine.specs.declared.seen.Executed.TheVariants.{Posted}
 use Rattle.nvme_driver.specs.declared.answer.Answer.TheVariants.{Done, Aborted}
 use Rattle.nvme_fleet.specs.declared.event.FleetEvent.{FleetEvent}
@@ -164,6 +165,12 @@ abbrev pub OpeningIsNew : Type 0
 OpeningIsNew =
     (c : Configuration) → (d : Device) → (k : ℕ) → (m : Mailbox) → HasMailbox (opening c d) k m → m ≡ new_mailbox 1
 
+-- and each host that its configuration does not call raw has one
+abbrev pub OpeningHasDrivers : Type 0
+OpeningHasDrivers =
+    (c : Configuration) → (d : Device) → (i : ℕ) → (k : ControllerConfig) → slice_get c.controllers i ≡ Some k → k.raw ≡ false
+    → HasMailbox (opening c d) (i + 1) (new_mailbox 1)
+
 -- and so it stays
 abbrev pub EachIsHeldOnce : Type 0
 EachIsHeldOnce =
@@ -187,3 +194,13 @@ EachTicketGoesOnce =
     → GoesOnce t n
     (along (given k) tells old events replies new run) (along (executed k) tells old events replies new run)
     (along (done k) tells old events replies new run) (along (aborted k) tells old events replies new run)
+
+-- So it is of each host with a driver, over every run from an opening.
+abbrev pub TicketsOfAnOpeningGoOnce : Type 0
+TicketsOfAnOpeningGoOnce =
+    (c : Configuration) → (d : Device) → (i : ℕ) → (k : ControllerConfig) → slice_get c.controllers i ≡ Some k → k.raw ≡ false
+    → (tells : Bool) → (new : Fleet) → (events : List FleetEvent) → (replies : List Reply)
+    → (run : Run tells (opening c d) events replies new)
+    → (n : Mailbox) × HasMailbox new (i + 1) n × ((t : ℕ) → GoesOnce t n
+    (along (given (i + 1)) tells (opening c d) events replies new run) (along (executed (i + 1)) tells (opening c d) events replies new run)
+    (along (done (i + 1)) tells (opening c d) events replies new run) (along (aborted (i + 1)) tells (opening c d) events replies new run))

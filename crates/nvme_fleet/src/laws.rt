@@ -7,7 +7,7 @@ ghost use Rattle.nvme_fleet.specs.Fencing.{OnlyAllowedActionsReserve, Permission
 ghost use Rattle.nvme_fleet.specs.IoCommands.{OpeningIsNumbered, NumbersStay, ExecutedAsThePolicyAllows};
 ghost use Rattle.nvme_fleet.specs.Preempting.{OutsidersMayNotWrite, OutsidersStayOutside, PreemptedIsOutside, PreemptedStaysOut};
 ghost use Rattle.nvme_fleet.specs.Links.{BringUpIsAStep};
-ghost use Rattle.nvme_fleet.specs.Tickets.{DriversStay, EachIsHeldOnce, EachTicketGoesOnce, HeldAreCounted, NewHoldsEachOnce, OpeningIsNew, TicketsAreConsecutive, TicketsBalance};
+ghost use Rattle.nvme_fleet.specs.Tickets.{DriversStay, EachIsHeldOnce, EachTicketGoesOnce, HeldAreCounted, NewHoldsEachOnce, OpeningHasDrivers, OpeningIsNew, TicketsAreConsecutive, TicketsBalance, TicketsOfAnOpeningGoOnce};
 ghost use Rattle.nvme_fleet.specs.Steps.{OpeningIsSound, JudgedAsItsRequest, AllowedServesItsRequest, AnswersItsRequest, NothingToExecute, PostingHasRoom, PostingIsAStep, IoExecutionIsAStep, AdminJudgedAsItsRequest, AdminAnswersItsRequest, AdminExecutionIsAStep, ExecutionIsAStep, ExecutionIsAFleetStep, NoExecutionIsAFleetStep, RefusalIsAStep, PlaceIsAStep, RingIsAStep, FetchIsAStep, MarksAreSteps, PollIsAStep, ResetIsAStep};
 ghost use Rattle.nvme_fleet.specs.Unseen.{UnseenNeverComes};
 
@@ -91,13 +91,15 @@ pub fn tickets_balance()
 
 /// Of a host with a driver the tickets are given in order, each once. From an opening on, over every run, each ticket is
 /// executed at most once, and handed up at most once, as done or as aborted; one that was given is held until then.
-#[tactic(auto, using(crate::proofs::TicketCounts::tickets_are_consecutive, crate::proofs::TicketCounts::opening_is_new, crate::proofs::TicketCounts::new_holds_each_once, crate::proofs::TicketCounts::each_is_held_once))]
+#[tactic(auto, using(crate::proofs::TicketCounts::tickets_are_consecutive, crate::proofs::TicketCounts::opening_is_new, crate::proofs::TicketCounts::opening_has_drivers, crate::proofs::TicketCounts::new_holds_each_once, crate::proofs::TicketCounts::each_is_held_once))]
 pub fn tickets_go_once()
     ensures consecutive { TicketsAreConsecutive }
     ensures opening { OpeningIsNew }
+    ensures drivers { OpeningHasDrivers }
     ensures new { NewHoldsEachOnce }
     ensures held { EachIsHeldOnce }
     ensures once { EachTicketGoesOnce }
+    ensures opened { TicketsOfAnOpeningGoOnce }
 {}
 
 /// What a driver hands up as done is what the execution of its own request came to, in the site of that moment: status,
