@@ -5,3 +5,4 @@ mod bench;
 mod configurations;
 mod mailboxes;
 mod raw_hosts;
+mod running;

@@ -43,7 +43,8 @@ pub struct Carried {
     pub len: usize,
 }
 
-fn show(seen: FleetSeen) -> Shown {
+/// What is shown of what an event gave.
+pub(crate) fn show(seen: FleetSeen) -> Shown {
     match seen {
         FleetSeen::Up(up) => Shown::Up(up),
         FleetSeen::Placed(placed) => Shown::Placed(placed),

@@ -1,0 +1,59 @@
+//! A list of events, and want of memory in it.
+
+use crate::tests::bench::{Shown, answered, happen, open, posted, read, show, write};
+use crate::{Fetched, FleetEvent, Ticket};
+use std::test::Fail;
+
+/// A block is written, and read back.
+fn events(block: &[u8]) -> [FleetEvent<'_>; 11] {
+    [
+        FleetEvent::BringUp(1),
+        FleetEvent::Place(1, write(1, 3, block)),
+        FleetEvent::Ring(1),
+        FleetEvent::Fetch(1, 1),
+        FleetEvent::Execute(1, 0),
+        FleetEvent::Poll(1),
+        FleetEvent::Place(1, read(1, 3, 1)),
+        FleetEvent::Ring(1),
+        FleetEvent::Fetch(1, 1),
+        FleetEvent::Execute(1, 0),
+        FleetEvent::Poll(1),
+    ]
+}
+
+/// What they give.
+fn expected() -> [Shown; 11] {
+    [
+        Shown::Up(Ok(())),
+        Shown::Placed(Ok(Ticket(1))),
+        Shown::Rung(Ok(())),
+        Shown::Fetched(Fetched::Took),
+        posted(),
+        answered(1, 0),
+        Shown::Placed(Ok(Ticket(2))),
+        Shown::Rung(Ok(())),
+        Shown::Fetched(Fetched::Took),
+        posted(),
+        answered(2, 512),
+    ]
+}
+
+// It holds whichever request for memory of `Fleet::run` is refused, as `rt try --fail-alloc` refuses them: the events
+// whose replies were added have happened, and those behind them have not.
+#[test]
+fn want_of_memory_leaves_the_events_behind_it(rt: HostRuntime) -> Result<(), Fail> {
+    let block = [0x5a; 512];
+    let mut fleet = open(rt.alloc())?;
+    let mut replies = Vec::new(rt.alloc());
+    let ran = fleet.run(rt.alloc(), &events(&block), &mut replies);
+    let count = replies.len();
+    assert_eq!(rt; ran.is_ok(), count == expected().len());
+    for (reply, seen) in replies.into_iter().zip(expected()) {
+        assert_eq!(rt; show(reply.seen), seen);
+    }
+    for (event, seen) in events(&block).into_iter().zip(expected()).skip(count) {
+        assert_eq!(rt; happen(&mut fleet, event), seen);
+    }
+    assert_eq!(rt; fleet.data(), block.as_slice());
+    Ok(())
+}
