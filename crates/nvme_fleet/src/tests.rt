@@ -1,6 +1,5 @@
 //! Hosts that use a fleet by events alone.
 
-mod access;
 mod bench;
 mod configurations;
 mod mailboxes;

@@ -194,16 +194,6 @@ pub(crate) fn done(len: usize) -> Carried {
     }
 }
 
-/// A command that a rule denies, or, by rule 0, that fails.
-pub(crate) fn denied(status: Status, rule: u8) -> Carried {
-    Carried {
-        status,
-        rule,
-        dw0: 0,
-        len: 0,
-    }
-}
-
 /// An answer of success, with so many bytes of data.
 pub(crate) fn answered(ticket: u64, len: usize) -> Shown {
     Shown::Polled(Ok(Some(Answer::Done {
@@ -212,6 +202,12 @@ pub(crate) fn answered(ticket: u64, len: usize) -> Shown {
         dw0: 0,
         len,
     })))
+}
+
+/// A request that was not handed up when its controller was reset.
+pub(crate) fn aborted(ticket: u64) -> Shown {
+    let ticket = Ticket(ticket);
+    Shown::Polled(Ok(Some(Answer::Aborted { ticket })))
 }
 
 /// A command that was executed with success.
@@ -227,27 +223,4 @@ pub(crate) fn read(nsid: u32, slba: u64, blocks: u32) -> Request<'static> {
 /// Writes blocks.
 pub(crate) fn write(nsid: u32, slba: u64, bytes: &[u8]) -> Request<'_> {
     Request::Write { nsid, slba, bytes }
-}
-
-/// Registers a new key.
-pub(crate) fn register(nsid: u32, key: u64) -> Request<'static> {
-    Request::Register {
-        nsid,
-        action: 0,
-        iekey: false,
-        cptpl: 0,
-        crkey: 0,
-        nrkey: key,
-    }
-}
-
-/// Acquires a reservation of a type, by an action: 0 acquires, 2 preempts and aborts.
-pub(crate) fn acquire(nsid: u32, action: u8, rtype: u8, keys: [u64; 2]) -> Request<'static> {
-    Request::Acquire {
-        nsid,
-        action,
-        rtype,
-        crkey: keys[0],
-        prkey: keys[1],
-    }
 }

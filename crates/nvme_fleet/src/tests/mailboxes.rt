@@ -1,35 +1,10 @@
 //! What hosts' drivers hand up, and what they take.
 
 use crate::tests::bench::{
-    Bench, Shown, answered, carry, done, happen, open, open_up, posted, read, send, write,
+    Shown, answered, carry, done, happen, open_up, posted, read, send, write,
 };
-use crate::{
-    Answer, Fetched, FleetEvent, NotUp, PlaceRefusal, PollFault, Request, Ticket, UpFault,
-};
-use std::ops::Range;
-use std::process::Abort;
+use crate::{Fetched, FleetEvent, Ticket, UpFault};
 use std::test::Fail;
-
-/// Places reads on controller 1, which get these tickets.
-fn place_reads(rt: &impl Abort, fleet: &mut Bench, tickets: Range<u64>) {
-    for ticket in tickets {
-        assert_eq!(rt;
-            happen(fleet, FleetEvent::Place(1, read(1, 0, 1))),
-            Shown::Placed(Ok(Ticket(ticket)))
-        );
-    }
-}
-
-/// Rings for controller 1, which fetches so many commands.
-fn fetch_all(rt: &impl Abort, fleet: &mut Bench, count: u64) {
-    assert_eq!(rt; happen(fleet, FleetEvent::Ring(1)), Shown::Rung(Ok(())));
-    for _ in 0..count {
-        assert_eq!(rt;
-            happen(fleet, FleetEvent::Fetch(1, 1)),
-            Shown::Fetched(Fetched::Took)
-        );
-    }
-}
 
 #[test]
 fn a_written_block_is_read_back(rt: HostRuntime) -> Result<(), Fail> {
@@ -49,94 +24,6 @@ fn a_written_block_is_read_back(rt: HostRuntime) -> Result<(), Fail> {
         medium.as_bytes().get(3 * 512..4 * 512),
         Some(block.as_slice())
     );
-    Ok(())
-}
-
-#[test]
-fn a_reset_aborts_what_was_not_handed_up(rt: HostRuntime) -> Result<(), Fail> {
-    let mut fleet = open_up(rt.alloc())?;
-    place_reads(&rt, &mut fleet, 1..4);
-    fetch_all(&rt, &mut fleet, 3);
-    for _ in 0..2 {
-        assert_eq!(rt; happen(&mut fleet, FleetEvent::Execute(1, 0)), posted());
-    }
-    assert_eq!(rt; happen(&mut fleet, FleetEvent::Reset(1)), Shown::Reset);
-    for ticket in 1..4 {
-        let aborted = Answer::Aborted {
-            ticket: Ticket(ticket),
-        };
-        assert_eq!(rt;
-            happen(&mut fleet, FleetEvent::Poll(1)),
-            Shown::Polled(Ok(Some(aborted)))
-        );
-    }
-    assert_eq!(rt;
-        happen(&mut fleet, FleetEvent::Poll(1)),
-        Shown::Polled(Err(PollFault::NotUp))
-    );
-    assert_eq!(rt;
-        happen(&mut fleet, FleetEvent::BringUp(1)),
-        Shown::Up(Ok(()))
-    );
-    assert_eq!(rt;
-        happen(&mut fleet, FleetEvent::Poll(1)),
-        Shown::Polled(Ok(None))
-    );
-    Ok(())
-}
-
-#[test]
-fn a_queue_takes_seven_requests_at_a_time(rt: HostRuntime) -> Result<(), Fail> {
-    let mut fleet = open_up(rt.alloc())?;
-    place_reads(&rt, &mut fleet, 1..8);
-    assert_eq!(rt;
-        happen(&mut fleet, FleetEvent::Place(1, read(1, 0, 1))),
-        Shown::Placed(Err(PlaceRefusal::RingFull))
-    );
-    fetch_all(&rt, &mut fleet, 7);
-    assert_eq!(rt; happen(&mut fleet, FleetEvent::Execute(1, 0)), posted());
-    assert_eq!(rt; happen(&mut fleet, FleetEvent::Poll(1)), answered(1, 512));
-    place_reads(&rt, &mut fleet, 8..9);
-    Ok(())
-}
-
-#[test]
-fn a_driver_keeps_twenty_four_requests(rt: HostRuntime) -> Result<(), Fail> {
-    let mut fleet = open_up(rt.alloc())?;
-    for (answer, tickets) in [(1, 1..8), (2, 8..15), (3, 15..22)] {
-        place_reads(&rt, &mut fleet, tickets);
-        fetch_all(&rt, &mut fleet, 7);
-        assert_eq!(rt; happen(&mut fleet, FleetEvent::Execute(1, 0)), posted());
-        assert_eq!(rt;
-            happen(&mut fleet, FleetEvent::Poll(1)),
-            answered(answer, 512)
-        );
-    }
-    place_reads(&rt, &mut fleet, 22..28);
-    assert_eq!(rt;
-        happen(&mut fleet, FleetEvent::Place(1, read(1, 0, 1))),
-        Shown::Placed(Err(PlaceRefusal::NoSlot))
-    );
-    Ok(())
-}
-
-#[test]
-fn a_driver_that_is_down_says_so(rt: HostRuntime) -> Result<(), Fail> {
-    let mut fleet = open(rt.alloc())?;
-    for (event, seen) in [
-        (
-            FleetEvent::Place(1, read(1, 0, 1)),
-            Shown::Placed(Err(PlaceRefusal::NotReady)),
-        ),
-        (FleetEvent::Ring(1), Shown::Rung(Err(NotUp))),
-        (FleetEvent::Poll(1), Shown::Polled(Err(PollFault::NotUp))),
-        (FleetEvent::BringUp(1), Shown::Up(Ok(()))),
-        (FleetEvent::BringUp(1), Shown::Up(Err(UpFault::AlreadyUp))),
-        (FleetEvent::Fetch(1, 1), Shown::Fetched(Fetched::Idle)),
-        (FleetEvent::Execute(1, 0), Shown::NoSuch),
-    ] {
-        assert_eq!(rt; happen(&mut fleet, event), seen);
-    }
     Ok(())
 }
 
@@ -162,33 +49,6 @@ fn a_controller_that_is_not_there(rt: HostRuntime) -> Result<(), Fail> {
     for cntlid in 1..5 {
         assert!(rt; fleet.controller(cntlid).is_some());
     }
-    Ok(())
-}
-
-#[test]
-fn answers_come_in_the_order_of_the_executions(rt: HostRuntime) -> Result<(), Fail> {
-    let mut fleet = open_up(rt.alloc())?;
-    for (event, seen) in [
-        (
-            FleetEvent::Place(1, read(1, 0, 1)),
-            Shown::Placed(Ok(Ticket(1))),
-        ),
-        (
-            FleetEvent::Place(1, Request::Flush { nsid: 1 }),
-            Shown::Placed(Ok(Ticket(2))),
-        ),
-        (FleetEvent::Ring(1), Shown::Rung(Ok(()))),
-        (FleetEvent::Fetch(1, 1), Shown::Fetched(Fetched::Took)),
-        (FleetEvent::Fetch(1, 1), Shown::Fetched(Fetched::Took)),
-        (FleetEvent::Execute(1, 1), posted()),
-        (FleetEvent::Execute(1, 0), posted()),
-        (FleetEvent::Poll(1), answered(2, 0)),
-    ] {
-        assert_eq!(rt; happen(&mut fleet, event), seen);
-        assert_eq!(rt; fleet.data(), [].as_slice());
-    }
-    assert_eq!(rt; happen(&mut fleet, FleetEvent::Poll(1)), answered(1, 512));
-    assert_eq!(rt; fleet.data(), [0; 512].as_slice());
     Ok(())
 }
 

@@ -1,7 +1,7 @@
 //! A host without a driver beside one that has one.
 
-use crate::tests::bench::{Bench, Shown, answered, carry, done, happen, posted, read, write};
-use crate::{Fetched, Fleet, FleetEvent, Ticket};
+use crate::tests::bench::{Bench, Shown, happen, read};
+use crate::{Fetched, Fleet, FleetEvent};
 use nvme_medium::MemMedium;
 use nvme_spec::{Config, ControllerConfig, NsConfig};
 use nvme_wire::Status;
@@ -66,17 +66,6 @@ fn ring(rt: &impl Abort, fleet: &mut Bench, tail: u32) {
     );
 }
 
-/// Writes the tail, and lets the controller fetch seven commands.
-fn fetch_seven(rt: &impl Abort, fleet: &mut Bench, tail: u32) {
-    ring(rt, fleet, tail);
-    for _ in 0..7 {
-        assert_eq!(rt;
-            happen(fleet, FleetEvent::Fetch(2, 0)),
-            Shown::Fetched(Fetched::Took)
-        );
-    }
-}
-
 /// An entry of zeros deletes queue 0, which no command can.
 fn refused() -> Shown {
     Shown::Posted(Status::INVALID_QUEUE_IDENTIFIER, 6)
@@ -135,35 +124,5 @@ fn a_raw_host_and_a_driver_take_their_own_events(rt: HostRuntime) -> Result<(), 
     ] {
         assert_eq!(rt; happen(&mut fleet, event), seen);
     }
-    Ok(())
-}
-
-#[test]
-fn a_driver_goes_on_beside_a_raw_host(rt: HostRuntime) -> Result<(), Fail> {
-    let mut fleet = open(&rt, rt.alloc())?;
-    let mut block = [0; 512];
-    block[..5].copy_from_slice(b"Hello");
-    fetch_seven(&rt, &mut fleet, 7);
-    for (event, seen) in [
-        (FleetEvent::BringUp(1), Shown::Up(Ok(()))),
-        (FleetEvent::RawStore(2, 0, &[0xff; 4096]), Shown::Stored),
-        (
-            FleetEvent::Place(1, write(1, 0, &block)),
-            Shown::Placed(Ok(Ticket(1))),
-        ),
-        (FleetEvent::Execute(2, 0), refused()),
-        (FleetEvent::Ring(1), Shown::Rung(Ok(()))),
-        (FleetEvent::RawStore(1, 0x2000, &[0; 64]), Shown::NotRaw),
-        (FleetEvent::Fetch(1, 1), Shown::Fetched(Fetched::Took)),
-        (FleetEvent::RawWrite32(2, 0x14, 0), Shown::Wrote),
-        (FleetEvent::Execute(2, 0), Shown::NoSuch),
-        (FleetEvent::Execute(1, 0), posted()),
-        (FleetEvent::Reset(2), Shown::NoDriver),
-        (FleetEvent::Poll(1), answered(1, 0)),
-    ] {
-        assert_eq!(rt; happen(&mut fleet, event), seen);
-    }
-    assert_eq!(rt; carry(&mut fleet, 1, read(1, 0, 1))?, done(512));
-    assert_eq!(rt; fleet.data(), block.as_slice());
     Ok(())
 }

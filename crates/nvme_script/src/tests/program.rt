@@ -68,8 +68,8 @@ fn answers_each_event(rt: HostRuntime) -> Result<(), Fail> {
 fn names_the_fault_of_a_script(rt: HostRuntime) -> Result<(), Fail> {
     let cases = [
         (
-            b"controller 1 host 0xa1\nnamespace 1 blocks 64 shared\nattached 1 1\nstart\nread 1 1 0".as_slice(),
-            b"nvmesim: line 5: not understood\n".as_slice(),
+            b"controller 1 host 0xa1\nnamespace 1 blocks 64 shared\nattached 1 1\nstart\nup 1\nwrite 1 1 0 1 hex:48656c6c6f\nring 1\nfetch 1 1\nexecute 1 0\npoll 1\nread 1 1 0".as_slice(),
+            b"nvmesim: line 11: not understood\n".as_slice(),
         ),
         (
             b"start\ndo 1 read 1 0 1\n",
