@@ -1,6 +1,7 @@
 //! What no clause says: that the calls succeed while memory lasts, and what a transcript shows.
 
 use super::*;
+use std::alloc::Global;
 use std::test::Fail;
 
 #[test]
@@ -15,6 +16,18 @@ fn words_of_a_line(rt: HostRuntime) -> Result<(), Fail> {
     Ok(())
 }
 
+/// What a transcript shows of the data that a word spells for one block.
+fn shown(alloc: Global, word: &[u8], buffer: &mut [u8]) -> Result<String, Fail> {
+    if buffer.len() < 131_072 || word.len() > buffer.len() {
+        return Err(Fail::from("the buffer is too small"));
+    }
+    let data = data_in(word, 1, buffer).ok_or("data")?;
+    if data.len() != 512 {
+        return Err(Fail::from("the data are no block"));
+    }
+    Ok(format!(in alloc; "{}", HexText(data))?)
+}
+
 #[test]
 fn data_of_a_write(rt: HostRuntime) -> Result<(), Fail> {
     let cases = [
@@ -23,11 +36,9 @@ fn data_of_a_write(rt: HostRuntime) -> Result<(), Fail> {
         (b"fill:00".as_slice(), "-"),
     ];
     let mut buffer = vec![in rt.alloc(); 0xff; 131_072]?;
-    for (word, shown) in cases {
-        let data = data_in(word, 1, buffer.as_mut_slice()).ok_or("data")?;
-        assert_eq!(rt; data.len(), 512);
-        let text = format!(in rt.alloc(); "{}", HexText(data))?;
-        assert_eq!(rt; text.as_str(), shown);
+    for (word, expected) in cases {
+        let text = shown(rt.alloc(), word, buffer.as_mut_slice())?;
+        assert_eq!(rt; text.as_str(), expected);
     }
     Ok(())
 }
