@@ -32,6 +32,3 @@ pub use faults::{NotUp, PlaceRefusal, PollFault, UpFault};
 pub use port::Port;
 pub use request::Request;
 pub use ticket::Ticket;
-
-#[cfg(test)]
-mod tests;

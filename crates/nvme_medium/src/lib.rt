@@ -20,6 +20,3 @@ pub use memory::MemMedium;
 pub use raw_file::RawFile;
 pub use source::{Lent, Source, Zeros};
 pub use transfer::{read_blocks, write_blocks};
-
-#[cfg(test)]
-mod tests;

@@ -4,6 +4,3 @@
 mod window;
 
 pub use window::{OutsideWindow, WINDOW_LEN, Window};
-
-#[cfg(test)]
-mod tests;

@@ -10,6 +10,3 @@ mod spaces;
 pub use namespace::Namespace;
 pub use nvme_spec::{Config, ConfigFault, ControllerConfig, NsConfig};
 pub use spaces::Spaces;
-
-#[cfg(test)]
-mod tests;

@@ -12,6 +12,3 @@ pub use access::{permits, permits_host};
 pub use nvme_spec::{Command, Denial, Group, Plan, Verdict};
 pub use rules::{check_attachment, check_form, deny_if, is_no_nsid};
 pub use verdict::{Admitted, admit, judge};
-
-#[cfg(test)]
-mod tests;

@@ -11,6 +11,3 @@ pub use data::locate;
 pub use nvme_spec::{DataFault, Piece};
 pub use walking::{Pieces, walk};
 pub use whole::{gather, scatter, scatter_padded};
-
-#[cfg(test)]
-mod tests;

@@ -11,6 +11,3 @@ mod state;
 
 pub use nvme_spec::{AdminQueues, ControllerState, RegEffect};
 pub use registers::Registers;
-
-#[cfg(test)]
-mod tests;

@@ -6,8 +6,6 @@
 mod change;
 mod registrants;
 mod reservation;
-#[cfg(test)]
-mod tests;
 
 pub use change::Change;
 pub use nvme_spec::{Hold, Role};

@@ -15,6 +15,3 @@ pub use cq_head::CqHead;
 pub use cq_tail::CqTail;
 pub use sq_head::SqHead;
 pub use sq_tail::SqTail;
-
-#[cfg(test)]
-mod tests;

@@ -14,6 +14,3 @@ pub use little_endian::{u16_at, u32_at, u64_at};
 pub use no_memory::NoMemory;
 pub use sqe::{Sqe, SqeFields};
 pub use status::Status;
-
-#[cfg(test)]
-mod tests;

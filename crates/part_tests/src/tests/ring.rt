@@ -1,4 +1,6 @@
-use super::*;
+//! The ends of queues, turn after turn.
+
+use nvme_ring::{CqHead, CqTail, SqHead, SqTail};
 
 #[test]
 fn a_tail_doorbell_moves_on_and_back(rt: HostRuntime) {

@@ -1,4 +1,6 @@
-use super::*;
+//! Queue entries as bytes and as fields, and the texts of statuses.
+
+use nvme_wire::{Cqe, Sqe, SqeFields, Status, u16_at, u32_at, u64_at};
 use std::test::Fail;
 
 // A Write of one block at block 0 of namespace 1, with command identifier 7 and PRP1 5000h.

@@ -2,7 +2,7 @@
 
 ghost use Rattle.std.specs.Prelude.{◌≡◌, length};
 
-use crate::{FileFault, FileMedium, HostFile, Medium, MediumFault, RawFile};
+use nvme_medium::{FileFault, FileMedium, HostFile, Medium, MediumFault, RawFile};
 use std::fs;
 use std::test::Fail;
 

@@ -1,34 +1,10 @@
-use super::*;
+//! The access state of a subsystem: how it opens, and what attaching, protecting and registering leave.
+
+use crate::tests::configuration::{cluster, opened};
+use nvme_ns::{ConfigFault, ControllerConfig, NsConfig, Spaces};
 use nvme_resv::Role;
 use nvme_wire::Status;
-use std::alloc::{AllocError, Global};
 use std::test::Fail;
-
-// Four controllers of three hosts; a shared namespace of 64 blocks, attached to all, and a private one of 8 blocks,
-// attached to controller 1.
-fn cluster(alloc: Global) -> Result<Config, AllocError> {
-    let mut controllers = Vec::new(alloc);
-    for (cntlid, host) in [(1, 0xa1), (2, 0xb2), (3, 0xa1), (4, 0xc3)] {
-        controllers.push(ControllerConfig {
-            cntlid,
-            host,
-            raw: false,
-        })?;
-    }
-    let mut namespaces = Vec::new(alloc);
-    for (nsid, blocks, shared) in [(1, 64, true), (2, 8, false)] {
-        namespaces.push(NsConfig {
-            nsid,
-            blocks,
-            shared,
-        })?;
-    }
-    Ok(Config {
-        controllers,
-        namespaces,
-        attached: vec![in alloc; (1, 1), (2, 1), (3, 1), (4, 1), (1, 2)]?,
-    })
-}
 
 #[test]
 fn a_cluster_opens(rt: HostRuntime) -> Result<(), Fail> {
@@ -84,8 +60,7 @@ fn faults_are_named(rt: HostRuntime) -> Result<(), Fail> {
 
 #[test]
 fn a_lent_reservation_keeps_what_is_registered(rt: HostRuntime) -> Result<(), Fail> {
-    let config = cluster(rt.alloc())?;
-    let mut spaces = Spaces::new(&config, 72)?;
+    let mut spaces = opened(rt.alloc())?;
     let before = spaces
         .reservation(2)
         .expect(&rt, "namespace 2 is configured");
@@ -104,8 +79,7 @@ fn a_lent_reservation_keeps_what_is_registered(rt: HostRuntime) -> Result<(), Fa
 
 #[test]
 fn a_namespace_is_protected_alone(rt: HostRuntime) -> Result<(), Fail> {
-    let config = cluster(rt.alloc())?;
-    let mut spaces = Spaces::new(&config, 72)?;
+    let mut spaces = opened(rt.alloc())?;
     assert!(rt; spaces.protection(2).is_some());
     spaces.set_protection(2, true);
     assert_eq!(rt; spaces.protection(2), Some(true));
@@ -115,8 +89,7 @@ fn a_namespace_is_protected_alone(rt: HostRuntime) -> Result<(), Fail> {
 
 #[test]
 fn a_list_is_taken_whole_or_refused(rt: HostRuntime) -> Result<(), Fail> {
-    let config = cluster(rt.alloc())?;
-    let mut spaces = Spaces::new(&config, 72)?;
+    let mut spaces = opened(rt.alloc())?;
     assert_eq!(rt; spaces.shared(1), Some(true));
     assert_eq!(rt; spaces.shared(2), Some(false));
     assert_eq!(rt; spaces.shared(3), None);
@@ -142,8 +115,7 @@ fn a_list_is_taken_whole_or_refused(rt: HostRuntime) -> Result<(), Fail> {
 
 #[test]
 fn lists_of_controllers_rise(rt: HostRuntime) -> Result<(), Fail> {
-    let config = cluster(rt.alloc())?;
-    let mut spaces = Spaces::new(&config, 72)?;
+    let mut spaces = opened(rt.alloc())?;
     for list in [&[2, 1][..], &[2, 2][..], &[0][..], &[5][..], &[][..]] {
         assert_eq!(rt;
             spaces.detach(1, list),
@@ -159,8 +131,7 @@ fn lists_of_controllers_rise(rt: HostRuntime) -> Result<(), Fail> {
 
 #[test]
 fn a_private_namespace_has_one_controller(rt: HostRuntime) -> Result<(), Fail> {
-    let config = cluster(rt.alloc())?;
-    let mut spaces = Spaces::new(&config, 72)?;
+    let mut spaces = opened(rt.alloc())?;
     assert!(rt; spaces.namespace(2).is_some());
     assert_eq!(rt; spaces.attach(2, &[2]), Err(Status::NAMESPACE_IS_PRIVATE));
     assert_eq!(rt; spaces.detach(2, &[1]), Ok(()));

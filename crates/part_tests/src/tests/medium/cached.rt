@@ -1,7 +1,7 @@
 //! Caches: what they keep, and what they forget.
 
 use super::files::{Slow, read, write};
-use crate::{Cached, Failing, FileMedium, HostFile, Medium, MemMedium};
+use nvme_medium::{Cached, Failing, FileMedium, HostFile, Medium, MemMedium};
 use std::alloc::Global;
 use std::fs;
 use std::num::NonZeroUsize;

@@ -1,4 +1,6 @@
-use crate::{Answer, Driver, NotUp, PlaceRefusal, PollFault, Port, Request, Ticket, UpFault};
+//! Drivers over a controller of the tests' choice: how they come up, what they refuse, and how they fail.
+
+use nvme_driver::{Answer, Driver, NotUp, PlaceRefusal, PollFault, Port, Request, Ticket, UpFault};
 use nvme_wire::{Cqe, Status};
 use std::alloc::Global;
 use std::test::Fail;

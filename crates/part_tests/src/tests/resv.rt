@@ -1,4 +1,6 @@
-use crate::{Change, Hold, Reservation, Role};
+//! The reservation of a namespace: who holds it, and what a report tells.
+
+use nvme_resv::{Change, Hold, Reservation, Role};
 use nvme_wire::Status;
 use std::process::Abort;
 use std::test::Fail;

@@ -2,7 +2,7 @@
 
 ghost use Rattle.std.specs.Prelude.{◌≡◌, IfOk, []};
 
-use crate::Port;
+use nvme_driver::Port;
 use nvme_mem::Window;
 use nvme_spec::Piece;
 use nvme_wire::{Cqe, NoMemory, Status};

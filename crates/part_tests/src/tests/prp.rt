@@ -1,7 +1,9 @@
-use crate::{
+//! Data pointers: which pieces they name, and how data move through these.
+
+use nvme_mem::Window;
+use nvme_prp::{
     BlockPlace, DataFault, Piece, gather, gather_block, lend_block, scatter, scatter_block, walk,
 };
-use nvme_mem::Window;
 use std::test::Fail;
 
 fn put(window: &mut Window, addr: u64, entry: u64) -> Result<(), Fail> {

@@ -1,34 +1,9 @@
-use super::*;
-use nvme_ns::{Config, ControllerConfig, NsConfig, Spaces};
-use nvme_wire::{Sqe, Status};
-use std::alloc::{AllocError, Global};
-use std::test::Fail;
+//! The rules on access: which of them denies a command, and what an allowed one is to do.
 
-// Four controllers of three hosts; a shared namespace of 64 blocks, attached to all, and a private one of 8 blocks,
-// attached to controller 1.
-fn cluster(alloc: Global) -> Result<Config, AllocError> {
-    let mut controllers = Vec::new(alloc);
-    for (cntlid, host) in [(1, 0xa1), (2, 0xb2), (3, 0xa1), (4, 0xc3)] {
-        controllers.push(ControllerConfig {
-            cntlid,
-            host,
-            raw: false,
-        })?;
-    }
-    let mut namespaces = Vec::new(alloc);
-    for (nsid, blocks, shared) in [(1, 64, true), (2, 8, false)] {
-        namespaces.push(NsConfig {
-            nsid,
-            blocks,
-            shared,
-        })?;
-    }
-    Ok(Config {
-        controllers,
-        namespaces,
-        attached: vec![in alloc; (1, 1), (2, 1), (3, 1), (4, 1), (1, 2)]?,
-    })
-}
+use crate::tests::configuration::opened;
+use nvme_policy::{Command, Plan, Verdict, judge};
+use nvme_wire::{Sqe, Status};
+use std::test::Fail;
 
 // An entry by its double words 0, 1 and 10 to 12.
 fn entry(cdw0: u32, nsid: u32, cdw10: u32, cdw11: u32, cdw12: u32) -> Sqe {
@@ -47,7 +22,7 @@ const CONFLICT: Verdict = Verdict::Denied(7, Status::RESERVATION_CONFLICT);
 
 #[test]
 fn the_first_rule_that_fails_decides(rt: HostRuntime) -> Result<(), Fail> {
-    let spaces = Spaces::new(&cluster(rt.alloc())?, 72)?;
+    let spaces = opened(rt.alloc())?;
     let field = Verdict::Denied(6, Status::INVALID_FIELD_IN_COMMAND);
     let verdicts = [
         (entry(2, 1, 0, 0, 256), field),
@@ -90,7 +65,7 @@ fn the_first_rule_that_fails_decides(rt: HostRuntime) -> Result<(), Fail> {
 
 #[test]
 fn a_plan_says_what_is_to_be_done(rt: HostRuntime) -> Result<(), Fail> {
-    let spaces = Spaces::new(&cluster(rt.alloc())?, 72)?;
+    let spaces = opened(rt.alloc())?;
     let plan = |kind, first, blocks, bytes| {
         Verdict::Allowed(Plan {
             kind,
@@ -124,7 +99,7 @@ fn a_plan_says_what_is_to_be_done(rt: HostRuntime) -> Result<(), Fail> {
 
 #[test]
 fn a_reservation_fences_by_host(rt: HostRuntime) -> Result<(), Fail> {
-    let mut spaces = Spaces::new(&cluster(rt.alloc())?, 72)?;
+    let mut spaces = opened(rt.alloc())?;
     let write_past_the_end = entry(1, 1, 64, 0, 0);
     let read = entry(2, 1, 0, 0, 0);
     for (rtype, reads) in [(1, true), (4, false)] {
@@ -155,7 +130,7 @@ fn a_reservation_fences_by_host(rt: HostRuntime) -> Result<(), Fail> {
 
 #[test]
 fn write_protection_comes_behind_reservations(rt: HostRuntime) -> Result<(), Fail> {
-    let mut spaces = Spaces::new(&cluster(rt.alloc())?, 72)?;
+    let mut spaces = opened(rt.alloc())?;
     assert!(rt; spaces.protection(1).is_some());
     spaces.set_protection(1, true);
     let protected = Verdict::Denied(8, Status::NAMESPACE_IS_WRITE_PROTECTED);

@@ -3,7 +3,7 @@
 mod cached;
 mod files;
 
-use super::*;
+use nvme_medium::{Failing, Lent, Medium, MemMedium, Zeros, read_blocks, write_blocks};
 use std::test::Fail;
 
 #[test]

@@ -1,4 +1,6 @@
-use crate::{OutsideWindow, Window};
+//! Windows of host memory: where they end, and what is stored in them.
+
+use nvme_mem::{OutsideWindow, Window};
 use nvme_spec::Piece;
 use std::test::Fail;
 

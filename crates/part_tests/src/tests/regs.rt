@@ -1,4 +1,6 @@
-use super::*;
+//! The registers of a controller: what reads give, and what writes leave and ask.
+
+use nvme_regs::{AdminQueues, ControllerState, RegEffect, Registers};
 
 const CC: u64 = 0x14;
 
