@@ -1,6 +1,9 @@
 //! A port whose controller the tests choose.
 
-ghost use Rattle.std.specs.Prelude.{◌≡◌, IfOk, []};
+ghost use Rattle.std.specs.Prelude.{◌≡◌, IfOk, [], true};
+ghost use Rattle.nvme_driver.specs.Layout.{slot_count};
+ghost use Rattle.nvme_driver.specs.Polls.{is_success};
+ghost use Rattle.nvme_driver.specs.Rises.{is_ready};
 
 use nvme_driver::Port;
 use nvme_mem::Window;
@@ -28,8 +31,14 @@ pub struct TestPort {
 }
 
 impl TestPort {
-    /// A controller that answers at once, as it should.
-    pub fn honest(alloc: Global) -> Result<TestPort, NoMemory> {
+    /// A controller that answers at once, as it should: it is ready, and completes the driver's own commands, whose
+    /// identifier is that of no slot, with success.
+    pub fn honest(alloc: Global) -> Result<TestPort, NoMemory>
+        ensures ready { IfOk result (λ port. is_ready port.csts ≡ true) }
+        ensures at_once { IfOk result (λ port. port.delay ≡ 0) }
+        ensures own { IfOk result (λ port. port.cid ≡ slot_count) }
+        ensures success { IfOk result (λ port. is_success port.status ≡ true) }
+    {
         Ok(TestPort {
             window: Window::new(alloc)?,
             csts: 1,
