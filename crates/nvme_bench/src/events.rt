@@ -1,0 +1,71 @@
+//! The events of one controller, and of sixteen, beside plain copies of as many bytes: first by a host's own stores and
+//! register writes, then by its driver.
+
+mod batch;
+mod copies;
+mod driven;
+mod host;
+
+use batch::quickest;
+use driven::Driven;
+use host::Host;
+use std::io;
+use std::rt::Clock;
+
+/// The commands of the host of a subsystem: how they are called, and their kind.
+const COMMANDS: [(&str, host::Kind); 3] = [
+    ("one-block reads", host::Kind::Small),
+    ("denied reads", host::Kind::Denied),
+    ("256-block reads", host::Kind::Large),
+];
+
+/// The requests of the host of a fleet.
+const REQUESTS: [(&str, driven::Kind); 5] = [
+    ("one-block reads", driven::Kind::SmallRead),
+    ("one-block writes", driven::Kind::SmallWrite),
+    ("denied reads", driven::Kind::Denied),
+    ("256-block reads", driven::Kind::LargeRead),
+    ("256-block writes", driven::Kind::LargeWrite),
+];
+
+/// Measures commands by a host's own stores, then requests by its driver, then plain copies.
+pub(crate) fn all<R: Clock + AllocGlobal + Print>(rt: &R, rounds: u32) -> io::Result<()> {
+    println!(rt; "by stores: store, tail doorbell, fetch, execute, head doorbell; all")?;
+    for controllers in [1, 16] {
+        commands(rt, controllers, rounds)?;
+    }
+    println!(rt; "by a driver: place, ring, fetch, execute, poll; all")?;
+    for hosts in [1, 16] {
+        requests(rt, hosts, rounds)?;
+    }
+    copies::of_blocks(rt, rounds)?;
+    copies::of_transfers(rt, rounds)
+}
+
+/// The commands of the host of the last of so many controllers.
+fn commands<R: Clock + AllocGlobal + Print>(
+    rt: &R,
+    controllers: u16,
+    rounds: u32,
+) -> io::Result<()> {
+    for (name, kind) in COMMANDS {
+        let mut host = Host::new(rt.alloc(), controllers, kind)?;
+        println!(rt;
+            "{name}, last of {controllers}: {}",
+            quickest(rt, &mut host, rounds)?
+        )?;
+    }
+    Ok(())
+}
+
+/// The requests of the last of so many hosts.
+fn requests<R: Clock + AllocGlobal + Print>(rt: &R, hosts: u16, rounds: u32) -> io::Result<()> {
+    for (name, kind) in REQUESTS {
+        let mut host = Driven::new(rt.alloc(), hosts, kind)?;
+        println!(rt;
+            "{name}, last of {hosts}: {}",
+            quickest(rt, &mut host, rounds)?
+        )?;
+    }
+    Ok(())
+}

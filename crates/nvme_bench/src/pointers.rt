@@ -1,0 +1,89 @@
+//! Data pointers beside plain copies of as many bytes.
+
+ghost use Rattle.std.specs.Prelude.{◌≡◌, length};
+ghost use Rattle.nvme_spec.specs.Transfers.{addresses};
+
+use crate::opening::{LIST, PAGES, listed_window};
+use crate::stopwatch::{BYTES, Measured, copies, since};
+use nvme_mem::Window;
+use nvme_prp::{Pieces, gather_block, scatter_block, walk};
+use std::io;
+use std::rt::Clock;
+use std::time::Instant;
+
+/// Measures each call, and prints a line for each.
+pub(crate) fn all<R: Clock + AllocGlobal + Print>(rt: &R, rounds: u32) -> io::Result<()> {
+    let mut window = listed_window(rt.alloc())?;
+    println!(rt; "walk of 256 blocks: {}", walks(rt, &window, rounds)?)?;
+    println!(rt; "copy of 256 blocks: {}", copies(rt, rounds)?)?;
+    if let Ok(pieces) = walk(&window, PAGES, LIST, 131_072) {
+        println!(rt;
+            "gather of a block: {}",
+            gathers(rt, &window, &pieces, rounds)?
+        )?;
+        println!(rt;
+            "scatter of a block: {}",
+            scatters(rt, &mut window, &pieces, rounds)?
+        )?;
+    }
+    println!(rt; "copy of a block: {}", block_copies(rt, rounds)?)
+}
+
+fn walks<R: Clock>(rt: &R, window: &Window, rounds: u32) -> io::Result<Measured> {
+    let mut sum = 0_u64;
+    let start = Instant::now(rt)?;
+    for i in 0..rounds {
+        if let Ok(pieces) = walk(window, PAGES, LIST, 131_072 - 512 * u64::from(i % 2)) {
+            sum = sum.wrapping_add(pieces.parts.len() as u64);
+        }
+    }
+    since(rt, start, rounds, sum)
+}
+
+fn gathers<R: Clock>(rt: &R, window: &Window, pieces: &Pieces, rounds: u32) -> io::Result<Measured>
+    requires { length (addresses pieces.now.parts.items) ≡ 131072 }
+{
+    let mut block = [0; 512];
+    let mut sum = 0_u64;
+    let start = Instant::now(rt)?;
+    for i in 0..rounds {
+        gather_block(window, pieces, u64::from(i % 256), &mut block);
+        sum = sum.wrapping_add(u64::from(block[i as usize % 512]));
+    }
+    since(rt, start, rounds, sum)
+}
+
+fn scatters<R: Clock>(
+    rt: &R,
+    window: &mut Window,
+    pieces: &Pieces,
+    rounds: u32,
+) -> io::Result<Measured>
+    requires { length (addresses pieces.now.parts.items) ≡ 131072 }
+{
+    let block = [1; 512];
+    let mut sum = 0_u64;
+    let start = Instant::now(rt)?;
+    for i in 0..rounds {
+        scatter_block(window, pieces, u64::from(i % 256), &block);
+        sum = sum.wrapping_add(
+            window
+                .piece(PAGES, 512)
+                .map_or(0, |bytes| bytes.len() as u64),
+        );
+    }
+    since(rt, start, rounds, sum)
+}
+
+fn block_copies<R: Clock + AllocGlobal>(rt: &R, rounds: u32) -> io::Result<Measured> {
+    let source = vec![in rt.alloc(); 1_u8; BYTES]?;
+    let mut block = [0; 512];
+    let mut sum = 0_u64;
+    let start = Instant::now(rt)?;
+    for i in 0..rounds {
+        let at = 512 * (i as usize % 256);
+        block.copy_from_slice(&source[at..at + 512]);
+        sum = sum.wrapping_add(u64::from(block[i as usize % 512]));
+    }
+    since(rt, start, rounds, sum)
+}
