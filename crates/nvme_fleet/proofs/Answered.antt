@@ -20,7 +20,8 @@ use Rattle.nvme_fleet.specs.Mailboxes.{Item, FetchedItem, PostedAnswer, LaneBox,
 use Rattle.nvme_fleet.specs.Deliveries.{Reply, Reaction, reaction, recounted, ring_lane, brought_up, refusal, new_item, with_placed, placed_by, placed, rung, fetched_first, lane_at, fetched_of, answer_reply, handed_up, polled_io, polled_admin, polled_aborted, polled}
 use Rattle.nvme_fleet.specs.Executions.{Response}
 use Rattle.nvme_fleet.specs.Fleets.{WithDriver, Fleet, Run, Is, called_at, host_at, after_answer, with_posted, answer_for}
-use Rattle.nvme_fleet.specs.Apart.{HasMailbox, DiffersInMarks, ExecutesOwn, OwnStep, MailboxStep, controller_of}
+use Rattle.nvme_fleet.proofs.MailboxMarks.{DiffersInMarks, differs, others-differ}
+use Rattle.nvme_fleet.specs.Apart.{HasMailbox, ExecutesOwn, OwnStep, MailboxStep, controller_of}
 use Rattle.nvme_fleet.specs.Tickets.{waiting, posted_answers, requests_in}
 use Rattle.nvme_fleet.specs.Answered.{Places, Conclusion, conclusion_of, Executes, Happens, HappensThen, IsClear, ResetClears, NewIsClear, WasPlacedAndExecuted, DoneIsItsExecution}
 use Rattle.nvme_fleet.proofs.Apart.{is-same, hosts_are_apart}
@@ -209,7 +210,7 @@ executed-known : (P : Item → Type 0) (Q : PostedAnswer → Type 0) (o : Option
 executed-known P Q None tells j k i old new m n reply same at found h g =
     subst (Known (ItemsNow P k old (Execute j i) reply new) (AnswersNow P Q tells k old (Execute j i) reply new)) (sym h.1) (before P Q tells k old (Execute j i) reply new m g)
 executed-known P Q (Some x) tells j k i old new m n reply same at found h g =
-    marks R S (after_answer i x h.response m) n h.leaves
+    marks R S (after_answer i x h.response m) n (differs h.response.outcome.marks h.response.left.world k (after_answer i x h.response m) n h.leaves)
     (answered R S i x h.response m (λ since. inr (record { item = x.item; ticket_is = refl; known = all-get (OfItem P) m.fetched i x found g.2; executes = now }))
     (before P Q tells k old (Execute j i) reply new m g))
   where
@@ -263,7 +264,7 @@ step-known : (P : Item → Type 0) (Q : PostedAnswer → Type 0) (b : Bool) (eve
     → Known (ItemsNow P k old event reply new) (AnswersNow P Q tells k old event reply new) n
 step-known P Q true event tells k old new m n reply is at h g = own-known P Q event tells k old new m n reply (is-same (controller_of event) k is) at h g
 step-known P Q false event tells k old new m n reply is at h g =
-    marks (ItemsNow P k old event reply new) (AnswersNow P Q tells k old event reply new) m n h (before P Q tells k old event reply new m g)
+    marks (ItemsNow P k old event reply new) (AnswersNow P Q tells k old event reply new) m n (others-differ event k m reply new.site n h) (before P Q tells k old event reply new m g)
 
 -- A run: each answer is known from its start, or is of a request that was executed in it; that one is known from its start,
 -- or was placed in it before.

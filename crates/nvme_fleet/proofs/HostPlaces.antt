@@ -1,15 +1,15 @@
 -- What an event leaves at the place of one host.
-use Rattle.std.proofs.Common.{◌≡◌, ◌≢◌, inl, inr, ℕ, zero, suc, ◌+◌, Bool, true, false, List, [], ◌∷◌, Option, None, Some, refl, sym, ap, subst}
+use Rattle.std.proofs.Common.{◌≡◌, ◌≢◌, ℕ, zero, suc, ◌+◌, Bool, true, false, List, [], ◌∷◌, Option, None, Some, refl, ap, ◌∙◌, arith}
 use Rattle.std.specs.Prelude.{if◌then◌else◌, slice_get, slice_set}
 use Rattle.nvme_spec.specs.declared.outcome.Marks.{Marks}
 use Rattle.nvme_spec.specs.World.{World, host_of}
 use Rattle.nvme_machine.specs.Controllers.{Controller}
 use Rattle.nvme_machine.specs.Subsystems.{is_host_among}
 use Rattle.nvme_fleet.specs.declared.seen.FleetSeen.{FleetSeen}
-use Rattle.nvme_fleet.specs.Mailboxes.{Mailbox}
+use Rattle.nvme_fleet.specs.Mailboxes.{Mailbox, with_marks}
 use Rattle.nvme_fleet.specs.Deliveries.{Reaction}
 use Rattle.nvme_fleet.specs.Fleets.{Host, WithDriver, Raw, Fleet, host_at, with_host, called_at, raw_at, fetched_at, marked, marked_from, numbered, replaced}
-use Rattle.nvme_fleet.specs.Apart.{DiffersInMarks}
+use Rattle.nvme_fleet.specs.Apart.{marked_by}
 
 set-other : (hs : List Host) (i j : ℕ) (h : Host) → j ≢ i → slice_get (slice_set hs j h) i ≡ slice_get hs i
 set-other [] i j h other = refl
@@ -60,26 +60,24 @@ fetched-other (Some (Raw c)) f j k q other = other-set f j k _ other
 
 -- Marks.
 
--- a mailbox stands there, marked or not
-pub record IsMarked (o : Option Host) (m : Mailbox) : Type 0 where
-  pub mailbox : Mailbox
-  pub host : o ≡ Some (WithDriver mailbox)
-  pub differs : DiffersInMarks m mailbox
-
-marked-by : (n : ℕ) (m : Mailbox) (b : Bool) → IsMarked (Some (if b then marked n (WithDriver m) else WithDriver m)) m
-marked-by n m true = record { mailbox = _; host = refl; differs = inr (n, refl) }
-marked-by n m false = record { mailbox = m; host = refl; differs = inl refl }
+marked-by : (n : ℕ) (m : Mailbox) (b : Bool) → Some (if b then marked n (WithDriver m) else WithDriver m) ≡ Some (WithDriver (if b then with_marks n m else m))
+marked-by n m true = refl
+marked-by n m false = refl
 
 some-is : (x y : Host) → Some x ≡ Some y → x ≡ y
 some-is x y h = cc
 
-marks-place : (w : World) (t : Marks) (j : ℕ) (hs : List Host) (i : ℕ) (m : Mailbox) → slice_get hs i ≡ Some (WithDriver m) → IsMarked (slice_get (marked_from w t j hs) i) m
-marks-place w t j [] i m at = absurd (cc)
-marks-place w t j (h ∷ hs) zero m at =
-    subst (λ x. IsMarked (Some (if is_host_among t.hosts.items (host_of w j) then marked t.nsid x else x)) m) (sym (some-is h (WithDriver m) at))
-    (marked-by t.nsid m (is_host_among t.hosts.items (host_of w j)))
-marks-place w t j (h ∷ hs) (suc i) m at = marks-place w t (j + 1) hs i m at
+marks-place : (w : World) (t : Marks) (j k : ℕ) (hs : List Host) (i : ℕ) (m : Mailbox) → j + i ≡ k → slice_get hs i ≡ Some (WithDriver m)
+    → slice_get (marked_from w t j hs) i ≡ Some (WithDriver (marked_by t w k m))
+marks-place w t j k [] i m place at = absurd (cc)
+marks-place w t j k (h ∷ hs) zero m place at =
+    ap (λ x. Some (if is_host_among t.hosts.items (host_of w j) then marked t.nsid x else x)) (some-is h (WithDriver m) at)
+    ∙ marked-by t.nsid m (is_host_among t.hosts.items (host_of w j))
+    ∙ ap (λ n. Some (WithDriver (marked_by t w n m))) (omega (arith, place))
+marks-place w t j k (h ∷ hs) (suc i) m place at = marks-place w t (j + 1) k hs i m (omega (arith, place)) at
 
-pub marks-numbered : (w : World) (t : Marks) (hs : List Host) (k : ℕ) (m : Mailbox) → numbered hs k ≡ Some (WithDriver m) → IsMarked (numbered (marked_from w t 1 hs) k) m
+-- controller k's host is marked as the execution says
+pub marks-numbered : (w : World) (t : Marks) (hs : List Host) (k : ℕ) (m : Mailbox) → numbered hs k ≡ Some (WithDriver m)
+    → numbered (marked_from w t 1 hs) k ≡ Some (WithDriver (marked_by t w k m))
 marks-numbered w t hs zero m at = absurd (cc)
-marks-numbered w t hs (suc k) m at = marks-place w t 1 hs k m at
+marks-numbered w t hs (suc k) m at = marks-place w t 1 (suc k) hs k m (omega arith) at

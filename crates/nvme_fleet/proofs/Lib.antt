@@ -64,6 +64,7 @@ pub mod FleetSound
 pub mod FleetCalls
 pub mod FleetOpening
 pub mod FleetRuns
+pub mod MailboxMarks
 pub mod HostPlaces
 pub mod Apart
 pub mod TicketFlows

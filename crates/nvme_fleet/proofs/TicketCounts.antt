@@ -20,7 +20,8 @@ use Rattle.nvme_fleet.specs.Mailboxes.{Item, FetchedItem, PostedAnswer, LaneBox,
 use Rattle.nvme_fleet.specs.Deliveries.{Reply, Reaction, reaction, plain, recounted, ring_lane, brought_up, refusal, new_item, with_placed, placed_by, rung, fetched_first, lane_at, fetched_of, handed_up, polled_io, polled_admin, polled_aborted, reset}
 use Rattle.nvme_fleet.specs.Executions.{Site, Response}
 use Rattle.nvme_fleet.specs.Fleets.{WithDriver, Raw, Fleet, Run, host_at, after_answer, new_host, numbered, opening}
-use Rattle.nvme_fleet.specs.Apart.{HasMailbox, DiffersInMarks, Becomes, ExecutesOwn, OwnStep, MailboxStep, controller_of}
+use Rattle.nvme_fleet.proofs.MailboxMarks.{DiffersInMarks, differs, others-differ}
+use Rattle.nvme_fleet.specs.Apart.{HasMailbox, Becomes, ExecutesOwn, OwnStep, MailboxStep, controller_of}
 use Rattle.nvme_fleet.specs.Tickets.{given_in, given, executed, done, aborted, along, held_tickets, waiting_tickets, answered_tickets, Balance, counting, TicketsAreConsecutive, is_ticket, times, below, GoesOnce, EachTicketGoesOnce, EachIsHeldOnce, NewHoldsEachOnce, OpeningHasDrivers, OpeningIsNew, TicketsOfAnOpeningGoOnce, HeldAreCounted, waiting, posted_answers, requests_in}
 use Rattle.nvme_fleet.proofs.Totals.{total-append}
 use Rattle.nvme_fleet.proofs.Apart.{hosts_are_apart}
@@ -124,7 +125,7 @@ by-execution None tells k s left m n i reply h =
     subst (λ (x : Reply). Gives m n (given_in x.seen)) (sym h.0) (none m n (ap (λ (x : Mailbox). x.next) h.1))
 by-execution (Some x) tells k s left m n i reply h =
     subst (λ (x : Reply). Gives m n (given_in x.seen)) (sym h.gives)
-    (none m n (marks-next (after_answer i x h.response m) n h.leaves ∙ answer-next i x h.response m))
+    (none m n (marks-next (after_answer i x h.response m) n (differs h.response.outcome.marks h.response.left.world k (after_answer i x h.response m) n h.leaves) ∙ answer-next i x h.response m))
 
 by-refusal : (m n : Mailbox) (reply : Reply) → (reply ≡ plain seen.NotRaw) × (n ≡ m) → Gives m n (given_in reply.seen)
 by-refusal m n reply h = subst (λ (x : Reply). Gives m n (given_in x.seen)) (sym h.0) (none m n (ap (λ (x : Mailbox). x.next) h.1))
@@ -142,7 +143,7 @@ own-gives (RawWrite32 j offset v) tells k s left m n reply h = by-refusal m n re
 
 pub step-gives : (b : Bool) (event : FleetEvent) (tells : Bool) (k : ℕ) (s left : Site) (m n : Mailbox) (reply : Reply) → MailboxStep b event tells k s m reply left n → Gives m n (if b then given_in reply.seen else [])
 step-gives true event tells k s left m n reply h = own-gives event tells k s left m n reply h
-step-gives false event tells k s left m n reply h = none m n (marks-next m n h)
+step-gives false event tells k s left m n reply h = none m n (marks-next m n (others-differ event k m reply left n h))
 
 walk : (k : ℕ) (m n : Mailbox) (tells : Bool) (old : Fleet) (events : List FleetEvent) (replies : List Reply) (new : Fleet) (run : Run tells old events replies new) → HasMailbox old k m → HasMailbox new k n
     → Gives m n (along (given k) tells old events replies new run)

@@ -15,7 +15,7 @@ use Rattle.nvme_fleet.specs.Deliveries.{Reaction, reaction, recounted, ring_lane
 use Rattle.nvme_fleet.specs.Executions.{Response}
 use Rattle.nvme_fleet.specs.Fleets.{after_answer, with_posted, answer_for}
 use Rattle.nvme_fleet.specs.Views.{total}
-use Rattle.nvme_fleet.specs.Apart.{DiffersInMarks}
+use Rattle.nvme_fleet.proofs.MailboxMarks.{DiffersInMarks}
 use Rattle.nvme_fleet.specs.Tickets.{waiting, posted_answers, requests_in, waiting_tickets, answered_tickets, held_tickets, given_in, done_in, aborted_in}
 use Rattle.nvme_fleet.proofs.Totals.{total-append, total-removed}
 

@@ -15,6 +15,7 @@ use Rattle.nvme_fleet.specs.Apart.{HasMailbox, Becomes, ExecutesOwn, OwnStep, Ma
 use Rattle.nvme_fleet.specs.Tickets.{given_in, done_in, aborted_in, fetched_by, named_by, ticket_of, where_posted, given, executed, done, aborted, along, Balance, TicketsBalance, DriversStay}
 use Rattle.nvme_fleet.proofs.Totals.{total-append}
 use Rattle.nvme_fleet.proofs.Apart.{is-same, hosts_are_apart}
+use Rattle.nvme_fleet.proofs.MailboxMarks.{differs, others-differ}
 use Rattle.nvme_fleet.proofs.TicketFlows.{Flow, FlowsBy, flows-on, stays, marks_flow, brought-up, places, rings, fetches-from, polls-once, resets, posts-answer, waits-weigh, posts-weigh, held-weigh}
 
 -- the same numbers, otherwise written
@@ -51,7 +52,7 @@ by-execution w None tells k s left m n i reply found h =
     subst (λ x. FlowsIn w m n x.seen []) (sym h.0) (subst (λ x. Flow w m x 0 0 0 0) (sym h.1) (stays w m m refl refl refl))
 by-execution w (Some x) tells k s left m n i reply found h =
     let a = posts-answer w i x h.response m found in
-    let b = marks_flow w (after_answer i x h.response m) n h.leaves in
+    let b = marks_flow w (after_answer i x h.response m) n (differs h.response.outcome.marks h.response.left.world k (after_answer i x h.response m) n h.leaves) in
     let c = flows-on w m (after_answer i x h.response m) n 0 0 (w x.item.ticket + 0) 0 0 0 0 0 a b in
     subst (λ y. FlowsIn w m n y.seen (x.item.ticket ∷ [])) (sym h.gives)
     (reads w m n _ 0 _ (w x.item.ticket + 0) _ 0 _ 0 c (omega arith) (omega arith) (omega arith) (omega arith))
@@ -76,7 +77,7 @@ step-flow : (w : ℕ → ℕ) (b : Bool) (event : FleetEvent) (tells : Bool) (ol
     → Flow w m n (total w (if b then given_in reply.seen else [])) (total w (if b then where_posted reply.seen (ticket_of (named_by old event)) else []))
     (total w (if b then done_in reply.seen else [])) (total w (if b then aborted_in reply.seen else []))
 step-flow w true event tells old k s left m n reply is at h = own-flow w event tells old k s left m n reply (is-same (controller_of event) k is) at h
-step-flow w false event tells old k s left m n reply is at h = marks_flow w m n h
+step-flow w false event tells old k s left m n reply is at h = marks_flow w m n (others-differ event k m reply left n h)
 
 -- A run.
 pub record Walked (w : ℕ → ℕ) (k : ℕ) (m : Mailbox) (tells : Bool) (old : Fleet) (events : List FleetEvent) (replies : List Reply) (new : Fleet) (run : Run tells old events replies new) : Type 0 where

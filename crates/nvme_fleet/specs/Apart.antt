@@ -1,14 +1,19 @@
--- What an event makes of the mailbox of one host: an event of its own all that is made of it, one of another host at most
--- marks.
-use Rattle.std.specs.Prelude.{◌≡◌, ◌⊎◌, ℕ, ◌==◌, Bool, true, false, Option, None, Some, slice_get}
+-- What an event makes of the mailbox of one host: an event of its own all that is made of it, one of another host nothing,
+-- but the marks that an execution says.
+use Rattle.std.specs.Prelude.{◌≡◌, ℕ, ◌==◌, Bool, true, false, if◌then◌else◌, Option, None, Some, slice_get}
+use Rattle.nvme_spec.specs.declared.outcome.Marks.{Marks}
+use Rattle.nvme_spec.specs.World.{World, host_of}
+use Rattle.nvme_spec.specs.Execution.{no_marks}
+use Rattle.nvme_machine.specs.Subsystems.{is_host_among}
 use Rattle.nvme_machine.specs.declared.seen.Executed.TheVariants.{Posted, NoSuch}
 use Rattle.nvme_fleet.specs.declared.event.FleetEvent.{FleetEvent}
 use Rattle.nvme_fleet.specs.declared.event.FleetEvent.TheVariants.{BringUp, Place, Ring, Fetch, Execute, Poll, Reset, RawStore, RawWrite32}
+use Rattle.nvme_fleet.specs.declared.seen.FleetSeen.{FleetSeen}
 use Rattle.nvme_fleet.specs.declared.seen.FleetSeen.TheVariants.{Executed as ExecutedSeen, NotRaw}
 use Rattle.nvme_fleet.specs.Mailboxes.{FetchedItem, Mailbox, with_marks}
 use Rattle.nvme_fleet.specs.Deliveries.{Reply, plain, Reaction, brought_up, placed, rung, fetched, polled, reset}
 use Rattle.nvme_fleet.specs.Executions.{Site, Response, Answers}
-use Rattle.nvme_fleet.specs.Fleets.{WithDriver, Fleet, Step, host_at, after_answer}
+use Rattle.nvme_fleet.specs.Fleets.{WithDriver, Fleet, Step, host_at, after_answer, marks_in}
 
 -- the controller of an event's host
 abbrev pub controller_of : FleetEvent → ℕ
@@ -26,9 +31,15 @@ controller_of (RawWrite32 k offset v) = k
 abbrev pub HasMailbox : Fleet → ℕ → Mailbox → Type 0
 HasMailbox f k m = host_at f k ≡ Some (WithDriver m)
 
--- the second is the first, where a Preempt and Abort may have marked some of what was fetched
-abbrev pub DiffersInMarks : Mailbox → Mailbox → Type 0
-DiffersInMarks m n = (n ≡ m) ⊎ ((namespace : ℕ) × (n ≡ with_marks namespace m))
+-- what an event that gave this marks: nothing, unless it is an execution whose outcome says so
+abbrev pub marks_seen : FleetSeen → Marks
+marks_seen (ExecutedSeen executed) = marks_in executed
+marks_seen other = no_marks
+
+-- the mailbox of controller k's host, where that host is among those that are marked: what it has fetched on the namespace
+-- is marked
+abbrev pub marked_by : Marks → World → ℕ → Mailbox → Mailbox
+marked_by marks w k m = if is_host_among marks.hosts.items (host_of w k) then with_marks marks.nsid m else m
 
 abbrev pub Becomes : Reaction → Reply → Mailbox → Type 0
 Becomes r reply n = (reply ≡ r.reply) × (n ≡ r.mailbox)
@@ -39,7 +50,7 @@ pub record Posts (tells : Bool) (k : ℕ) (s : Site) (m : Mailbox) (i : ℕ) (x 
   pub answers : Answers tells k x s response
   pub gives : reply ≡ plain (ExecutedSeen (Posted response.outcome))
   pub site : left ≡ response.left
-  pub leaves : DiffersInMarks (after_answer i x response m) n
+  pub leaves : n ≡ marked_by response.outcome.marks response.left.world k (after_answer i x response m)
 
 abbrev pub ExecutesOwn : Option FetchedItem → Bool → ℕ → Site → Mailbox → ℕ → Reply → Site → Mailbox → Type 0
 ExecutesOwn None tells k s m i reply left n = (reply ≡ plain (ExecutedSeen NoSuch)) × (n ≡ m)
@@ -57,12 +68,17 @@ OwnStep (Reset j) tells k s m reply left n = Becomes (reset m) reply n
 OwnStep (RawStore j address bytes) tells k s m reply left n = (reply ≡ plain NotRaw) × (n ≡ m)
 OwnStep (RawWrite32 j offset v) tells k s m reply left n = (reply ≡ plain NotRaw) × (n ≡ m)
 
+-- an event of another host
+abbrev pub OthersStep : FleetEvent → ℕ → Mailbox → Reply → Site → Mailbox → Type 0
+OthersStep (Execute j i) k m reply left n = n ≡ marked_by (marks_seen reply.seen) left.world k m
+OthersStep other k m reply left n = n ≡ m
+
 abbrev pub MailboxStep : Bool → FleetEvent → Bool → ℕ → Site → Mailbox → Reply → Site → Mailbox → Type 0
 MailboxStep true event tells k s m reply left n = OwnStep event tells k s m reply left n
-MailboxStep false event tells k s m reply left n = DiffersInMarks m n
+MailboxStep false event tells k s m reply left n = OthersStep event k m reply left n
 
 -- Whatever event it is, of whichever host: a host that has a driver goes on having one, and its mailbox becomes what its own
--- events make of it; another's leave it as it is, but for marks.
+-- events make of it; another's leave it as it is, but for the marks that an execution says.
 pub record MovesOn (tells : Bool) (old : Fleet) (event : FleetEvent) (reply : Reply) (new : Fleet) (k : ℕ) (m : Mailbox) : Type 0 where
   pub mailbox : Mailbox
   pub host : HasMailbox new k mailbox

@@ -1,0 +1,48 @@
+-- A mailbox whose fetched requests may have been marked.
+use Rattle.std.proofs.Common.{◌≡◌, ◌⊎◌, inl, inr, ℕ, Bool, true, false, [], Option, None, Some, refl, sym, ap, ◌∙◌}
+use Rattle.std.specs.Prelude.{if◌then◌else◌}
+use Rattle.nvme_spec.specs.declared.outcome.Marks.{Marks}
+use Rattle.nvme_spec.specs.World.{World, host_of}
+use Rattle.nvme_spec.specs.Execution.{no_marks}
+use Rattle.nvme_machine.specs.Subsystems.{is_host_among}
+use Rattle.nvme_fleet.specs.declared.event.FleetEvent.{FleetEvent}
+use Rattle.nvme_fleet.specs.declared.event.FleetEvent.TheVariants.{BringUp, Place, Ring, Fetch, Execute, Poll, Reset, RawStore, RawWrite32}
+use Rattle.nvme_fleet.specs.declared.seen.FleetSeen.{FleetSeen}
+use Rattle.nvme_fleet.specs.Mailboxes.{Mailbox, with_marks}
+use Rattle.nvme_fleet.specs.Deliveries.{Reply, plain}
+use Rattle.nvme_fleet.specs.Executions.{Site}
+use Rattle.nvme_fleet.specs.Apart.{marks_seen, marked_by, OthersStep}
+
+-- the second is the first, or the first with what it has fetched on one namespace marked
+abbrev pub DiffersInMarks : Mailbox → Mailbox → Type 0
+DiffersInMarks m n = (n ≡ m) ⊎ ((namespace : ℕ) × (n ≡ with_marks namespace m))
+
+pub differs : (t : Marks) (w : World) (k : ℕ) (m n : Mailbox) → n ≡ marked_by t w k m → DiffersInMarks m n
+differs t w k m n e = by (is_host_among t.hosts.items (host_of w k)) e
+  where
+    by : (b : Bool) → n ≡ (if b then with_marks t.nsid m else m) → DiffersInMarks m n
+    by true e = inr (t.nsid, e)
+    by false e = inl e
+
+pub others-differ : (event : FleetEvent) (k : ℕ) (m : Mailbox) (reply : Reply) (left : Site) (n : Mailbox) → OthersStep event k m reply left n → DiffersInMarks m n
+others-differ (BringUp j) k m reply left n h = inl h
+others-differ (Place j request) k m reply left n h = inl h
+others-differ (Ring j) k m reply left n h = inl h
+others-differ (Fetch j q) k m reply left n h = inl h
+others-differ (Execute j i) k m reply left n h = differs (marks_seen reply.seen) left.world k m n h
+others-differ (Poll j) k m reply left n h = inl h
+others-differ (Reset j) k m reply left n h = inl h
+others-differ (RawStore j address bytes) k m reply left n h = inl h
+others-differ (RawWrite32 j offset v) k m reply left n h = inl h
+
+-- no marks leave it as it is
+unmarked : (w : World) (k : ℕ) (m : Mailbox) → marked_by no_marks w k m ≡ m
+unmarked w k m = by (host_of w k)
+  where
+    by : (o : Option ℕ) → (if is_host_among [] o then with_marks 0 m else m) ≡ m
+    by None = refl
+    by (Some host) = refl
+
+pub spared : (w : World) (k : ℕ) (m : Mailbox) (reply : Reply) (what : FleetSeen) → reply ≡ plain what → marks_seen what ≡ no_marks → m ≡ marked_by (marks_seen reply.seen) w k m
+spared w k m reply what gives none =
+    sym (ap (λ (r : Reply). marked_by (marks_seen r.seen) w k m) gives ∙ ap (λ t. marked_by t w k m) none ∙ unmarked w k m)
