@@ -15,6 +15,3 @@ mod script;
 pub use buffers::Buffers;
 pub use line::{Line, parse_line};
 pub use script::{ParseFault, Script, parse};
-
-#[cfg(test)]
-mod tests;

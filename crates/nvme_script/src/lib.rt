@@ -11,6 +11,3 @@ mod writing;
 
 pub use program::run_program;
 pub use run::{ScriptFault, run_script};
-
-#[cfg(test)]
-mod tests;

@@ -13,6 +13,3 @@ pub use data::{bytes_in, data_in};
 pub use hex_text::HexText;
 pub use number::{number_u8, number_u16, number_u32, number_u64};
 pub use words::{FirstWord, FrontWords, MOST_WORDS, first_word, words_of};
-
-#[cfg(test)]
-mod tests;

@@ -1,6 +1,8 @@
 //! What no clause says: that the calls succeed while memory lasts, and what a transcript shows.
 
-use super::*;
+use script_text::{
+    HexText, MOST_WORDS, bytes_in, data_in, first_word, number_u8, number_u16, words_of,
+};
 use std::alloc::Global;
 use std::test::Fail;
 

@@ -1,7 +1,7 @@
 //! What no clause says: that a script is read while memory lasts, and its lines are.
 
-use super::*;
 use nvme_fleet::{FleetEvent, Request};
+use nvme_grammar::{Buffers, Line, ParseFault, parse, parse_line};
 use std::test::Fail;
 
 /// A line of each kind.

@@ -1,7 +1,7 @@
 //! The program over streams and files: its words, texts and statuses.
 
 use super::lines::{HELLO, HELLO_SHOWN, SETUP, carried};
-use crate::run_program;
+use nvme_script::run_program;
 use std::alloc::{AllocError, Global};
 use std::fs::File;
 use std::io::Read;

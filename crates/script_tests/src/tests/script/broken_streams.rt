@@ -2,8 +2,8 @@
 
 use super::lines::carried;
 use super::streams::{FailingReader, FailingWriter};
-use crate::{ScriptFault, run_script};
 use nvme_medium::MemMedium;
+use nvme_script::{ScriptFault, run_script};
 use std::test::Fail;
 
 /// A byte is written to each of the blocks 0, 1 and 2.

@@ -3,7 +3,7 @@
 use super::lines::{HELLO, HELLO_SHOWN, SETUP, carried, lines_with, with_setup};
 use super::program::{Shown, run, words_of};
 use super::streams::{FailingReader, FailingWriter};
-use crate::run_program;
+use nvme_script::run_program;
 use std::fs::File;
 use std::io::{Read, Write};
 use std::os::unix::fs::MetadataExt;

@@ -1,8 +1,8 @@
 //! Scripts over a medium that keeps what is written, and over one that fails one call.
 
 use super::lines::{carried, lines_with};
-use crate::run_script;
 use nvme_medium::{Failing, MemMedium};
+use nvme_script::run_script;
 use std::test::Fail;
 
 /// Block 3 is read, written, read, written and read.

@@ -1,0 +1,5 @@
+//! What no clause says: that the calls succeed while memory lasts, and what scripts and the program show.
+
+mod grammar;
+mod script;
+mod text;
