@@ -1,7 +1,8 @@
 //! What no clause says: that a script is read while memory lasts, and its lines are.
 
 use nvme_fleet::{FleetEvent, Request};
-use nvme_grammar::{Buffers, Line, ParseFault, parse, parse_line};
+use nvme_grammar::{Buffers, Line, ParseFault, Script, parse, parse_line};
+use std::alloc::Global;
 use std::test::Fail;
 
 /// A line of each kind.
@@ -35,15 +36,20 @@ reset 1
 store 2 0x1000 hex:00fF
 write32 2 0x14 0x00460001";
 
-#[test]
-fn reads_a_script(rt: HostRuntime) -> Result<(), Fail> {
-    let mut room = Buffers::for_text(rt.alloc(), SCRIPT)?;
-    let script = parse(
-        rt.alloc(),
-        SCRIPT,
+/// The script that a text spells, read in room of its own.
+fn script_of(alloc: Global, text: &[u8]) -> Result<Script, ParseFault> {
+    let mut room = Buffers::for_text(alloc, text)?;
+    parse(
+        alloc,
+        text,
         room.bytes.as_mut_slice(),
         room.identifiers.as_mut_slice(),
-    )?;
+    )
+}
+
+#[test]
+fn reads_a_script(rt: HostRuntime) -> Result<(), Fail> {
+    let script = script_of(rt.alloc(), SCRIPT)?;
     assert_eq!(rt; script.config.controllers.len(), 2);
     assert!(rt; !script.config.controllers[0].raw);
     assert!(rt; script.config.controllers[1].raw);
@@ -84,13 +90,7 @@ fn names_the_first_line_outside(rt: HostRuntime) -> Result<(), Fail> {
         (b"start\n\nflush 1 1 1 1 1 1 1 1 1".as_slice(), 3),
     ];
     for (text, number) in cases {
-        let mut room = Buffers::for_text(rt.alloc(), text)?;
-        let script = parse(
-            rt.alloc(),
-            text,
-            room.bytes.as_mut_slice(),
-            room.identifiers.as_mut_slice(),
-        );
+        let script = script_of(rt.alloc(), text);
         assert_eq!(rt; script.err(), Some(ParseFault::Syntax(number)));
     }
     Ok(())

@@ -1,9 +1,8 @@
 //! The program over an image in a file, and over scripts in files.
 
 use super::lines::{HELLO, HELLO_SHOWN, SETUP, carried, lines_with, with_setup};
-use super::program::{Shown, run, words_of};
+use super::program::{run, run_to};
 use super::streams::{FailingReader, FailingWriter};
-use nvme_script::run_program;
 use std::fs::File;
 use std::io::{Read, Write};
 use std::os::unix::fs::MetadataExt;
@@ -21,9 +20,7 @@ fn run_over_image<R: Files<File = File> + AllocGlobal, I: Read, O: Write>(
     output: &mut O,
 ) -> Result<(u8, Vec<u8>), Fail> {
     fs::write(rt, path, image)?;
-    let words = words_of(rt.alloc(), &[path])?;
-    let mut errors: Vec<u8> = Vec::new(rt.alloc());
-    let status = run_program(rt, words.as_slice(), input, output, &mut errors);
+    let (status, _) = run_to(rt, &[path], input, output)?;
     let left = fs::read(rt, path)?;
     fs::remove_file(rt, path)?;
     Ok((status, left))
@@ -47,29 +44,40 @@ fn keeps_the_image_without_commands(rt: HostRuntime) -> Result<(), Fail> {
     Ok(())
 }
 
+/// A block is written at 8 in a namespace of ten blocks.
+const IN_TEN_BLOCKS: &[u8] = b"controller 1 host 1
+namespace 1 blocks 10 shared
+attached 1 1
+start
+up 1
+write 1 1 8 1 fill:5a
+ring 1
+fetch 1 1
+execute 1 0
+";
+
+/// A block is written at 8 in a namespace of nine blocks.
+const IN_NINE_BLOCKS: &[u8] = b"controller 1 host 1
+namespace 1 blocks 9 shared
+attached 1 1
+start
+up 1
+write 1 1 8 1 fill:5a
+ring 1
+fetch 1 1
+execute 1 0
+";
+
 #[test]
 fn keeps_what_stands_behind_the_last_block(rt: HostRuntime) -> Result<(), Fail> {
     let image = [7; 5000];
-    let cases = [
-        (
-            b"controller 1 host 1\nnamespace 1 blocks 10 shared\nattached 1 1\nstart\nup 1\nwrite 1 1 8 1 fill:5a\nring 1\nfetch 1 1\nexecute 1 0\n".as_slice(),
-            1,
-            7,
-        ),
-        (
-            b"controller 1 host 1\nnamespace 1 blocks 9 shared\nattached 1 1\nstart\nup 1\nwrite 1 1 8 1 fill:5a\nring 1\nfetch 1 1\nexecute 1 0\n",
-            0,
-            0x5a,
-        ),
-    ];
+    let cases = [(IN_TEN_BLOCKS, 1, 7), (IN_NINE_BLOCKS, 0, 0x5a)];
     for (text, wanted, last) in cases {
         let mut output: Vec<u8> = Vec::new(rt.alloc());
         let (status, left) = run_over_image(&rt, "tail.img", &image, &mut &text[..], &mut output)?;
         assert_eq!(rt; status, wanted);
-        let mut expected = Vec::new(rt.alloc());
-        expected.extend_from_slice(&[7; 4096])?;
-        expected.extend_from_slice(&[last; 512])?;
-        expected.extend_from_slice(&[7; 392])?;
+        let mut expected = [7; 5000];
+        expected[4096..4608].fill(last);
         assert_eq!(rt; left.as_slice(), expected.as_slice());
     }
     Ok(())
@@ -115,7 +123,8 @@ fn has_what_was_written_where_the_transcript_fails(rt: HostRuntime) -> Result<()
     Ok(())
 }
 
-/// Runs the program over a file of 64 blocks that holds nothing and was changed long ago. Says whether that is still so.
+/// Runs the program over a file of 64 blocks that holds nothing and was changed long ago. Says whether that is still
+/// so.
 fn is_left_alone<R: Files<File = File> + AllocGlobal>(
     rt: &R,
     path: &str,
@@ -124,20 +133,11 @@ fn is_left_alone<R: Files<File = File> + AllocGlobal>(
     let file = fs::create(rt, path)?;
     file.set_len(32768)?;
     file.set_modified(UNIX_EPOCH)?;
-    let words = words_of(rt.alloc(), &[path])?;
     let text = carried(rt.alloc(), requests)?;
-    let mut output: Vec<u8> = Vec::new(rt.alloc());
-    let mut errors: Vec<u8> = Vec::new(rt.alloc());
-    let status = run_program(
-        rt,
-        words.as_slice(),
-        &mut text.as_slice(),
-        &mut output,
-        &mut errors,
-    );
+    let shown = run(rt, &[path], &mut text.as_slice())?;
     let metadata = file.metadata()?;
     fs::remove_file(rt, path)?;
-    Ok(status == 0 && metadata.modified()? == UNIX_EPOCH && metadata.blocks() == 0)
+    Ok(shown.status == 0 && metadata.modified()? == UNIX_EPOCH && metadata.blocks() == 0)
 }
 
 #[test]

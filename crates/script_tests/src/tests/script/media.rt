@@ -3,6 +3,7 @@
 use super::lines::{carried, lines_with};
 use nvme_medium::{Failing, MemMedium};
 use nvme_script::run_script;
+use std::process::Abort;
 use std::test::Fail;
 
 /// Block 3 is read, written, read, written and read.
@@ -16,22 +17,62 @@ const ONE_BLOCK: &[&[u8]] = &[
 
 /// The answers of `ONE_BLOCK` where the call of the medium of each number fails: each command makes one call.
 const ANSWERS: [&[u8]; 6] = [
-    b"poll 1 1 2:81 00000000\npoll 1 2 0:00 00000000\npoll 1 3 0:00 00000000 512 0a\npoll 1 4 0:00 00000000\npoll 1 5 0:00 00000000 512 0b\n",
-    b"poll 1 1 0:00 00000000 512 -\npoll 1 2 2:80 00000000\npoll 1 3 0:00 00000000 512 -\npoll 1 4 0:00 00000000\npoll 1 5 0:00 00000000 512 0b\n",
-    b"poll 1 1 0:00 00000000 512 -\npoll 1 2 0:00 00000000\npoll 1 3 2:81 00000000\npoll 1 4 0:00 00000000\npoll 1 5 0:00 00000000 512 0b\n",
-    b"poll 1 1 0:00 00000000 512 -\npoll 1 2 0:00 00000000\npoll 1 3 0:00 00000000 512 0a\npoll 1 4 2:80 00000000\npoll 1 5 0:00 00000000 512 0a\n",
-    b"poll 1 1 0:00 00000000 512 -\npoll 1 2 0:00 00000000\npoll 1 3 0:00 00000000 512 0a\npoll 1 4 0:00 00000000\npoll 1 5 2:81 00000000\n",
-    b"poll 1 1 0:00 00000000 512 -\npoll 1 2 0:00 00000000\npoll 1 3 0:00 00000000 512 0a\npoll 1 4 0:00 00000000\npoll 1 5 0:00 00000000 512 0b\n",
+    b"poll 1 1 2:81 00000000
+poll 1 2 0:00 00000000
+poll 1 3 0:00 00000000 512 0a
+poll 1 4 0:00 00000000
+poll 1 5 0:00 00000000 512 0b
+",
+    b"poll 1 1 0:00 00000000 512 -
+poll 1 2 2:80 00000000
+poll 1 3 0:00 00000000 512 -
+poll 1 4 0:00 00000000
+poll 1 5 0:00 00000000 512 0b
+",
+    b"poll 1 1 0:00 00000000 512 -
+poll 1 2 0:00 00000000
+poll 1 3 2:81 00000000
+poll 1 4 0:00 00000000
+poll 1 5 0:00 00000000 512 0b
+",
+    b"poll 1 1 0:00 00000000 512 -
+poll 1 2 0:00 00000000
+poll 1 3 0:00 00000000 512 0a
+poll 1 4 2:80 00000000
+poll 1 5 0:00 00000000 512 0a
+",
+    b"poll 1 1 0:00 00000000 512 -
+poll 1 2 0:00 00000000
+poll 1 3 0:00 00000000 512 0a
+poll 1 4 0:00 00000000
+poll 1 5 2:81 00000000
+",
+    b"poll 1 1 0:00 00000000 512 -
+poll 1 2 0:00 00000000
+poll 1 3 0:00 00000000 512 0a
+poll 1 4 0:00 00000000
+poll 1 5 0:00 00000000 512 0b
+",
 ];
+
+/// The transcript of requests over a medium of 64 blocks of zeros whose call of this number fails.
+fn transcript_of<R: Abort + AllocGlobal>(
+    rt: &R,
+    requests: &[&[u8]],
+    failing: u64,
+) -> Result<Vec<u8>, Fail> {
+    let text = carried(rt.alloc(), requests)?;
+    let mut written: Vec<u8> = Vec::new(rt.alloc());
+    let medium = Failing::new(MemMedium::new(rt.alloc(), &[0; 32768])?, failing);
+    let run = run_script(rt.alloc(), &mut text.as_slice(), &mut written, medium);
+    assert!(rt; run.is_ok(), "at call {failing}");
+    Ok(written)
+}
 
 #[test]
 fn a_fault_of_the_medium_is_told_by_its_own_command(rt: HostRuntime) -> Result<(), Fail> {
-    let text = carried(rt.alloc(), ONE_BLOCK)?;
     for failing in 0..6 {
-        let mut written: Vec<u8> = Vec::new(rt.alloc());
-        let medium = Failing::new(MemMedium::new(rt.alloc(), &[0; 32768])?, failing as u64);
-        let run = run_script(rt.alloc(), &mut text.as_slice(), &mut written, medium);
-        assert!(rt; run.is_ok(), "at call {failing}");
+        let written = transcript_of(&rt, ONE_BLOCK, failing as u64)?;
         assert_eq!(rt;
             lines_with(rt.alloc(), written.as_slice(), b"poll")?.as_slice(),
             ANSWERS[failing],
@@ -49,11 +90,7 @@ fn a_write_stops_at_the_block_that_fails(rt: HostRuntime) -> Result<(), Fail> {
         b"compare 1 1 0 1 fill:5a",
         b"compare 1 1 2 1 fill:00",
     ];
-    let text = carried(rt.alloc(), &requests)?;
-    let mut written: Vec<u8> = Vec::new(rt.alloc());
-    let medium = Failing::new(MemMedium::new(rt.alloc(), &[0; 32768])?, 1);
-    let run = run_script(rt.alloc(), &mut text.as_slice(), &mut written, medium);
-    assert!(rt; run.is_ok());
+    let written = transcript_of(&rt, &requests, 1)?;
     assert_eq!(rt;
         lines_with(rt.alloc(), written.as_slice(), b"execute")?.as_slice(),
         b"execute 1 0 posted 2:80 0\nexecute 1 0 posted 0:00 0\nexecute 1 0 posted 0:00 0\n".as_slice()

@@ -4,7 +4,7 @@ use super::lines::{HELLO, HELLO_SHOWN, SETUP, carried};
 use nvme_script::run_program;
 use std::alloc::{AllocError, Global};
 use std::fs::File;
-use std::io::Read;
+use std::io::{Read, Write};
 use std::rt::Files;
 use std::test::Fail;
 
@@ -17,7 +17,7 @@ pub struct Shown {
 }
 
 /// The words of a command line, behind the program's name.
-pub(crate) fn words_of(alloc: Global, arguments: &[&str]) -> Result<Vec<String>, AllocError> {
+fn words_of(alloc: Global, arguments: &[&str]) -> Result<Vec<String>, AllocError> {
     let mut words = Vec::new(alloc);
     words.push(String::from_str(alloc, "nvmesim")?)?;
     for argument in arguments {
@@ -26,16 +26,27 @@ pub(crate) fn words_of(alloc: Global, arguments: &[&str]) -> Result<Vec<String>,
     Ok(words)
 }
 
+/// Runs the program on arguments, an input and an output, and gives its status and what it told of errors.
+pub(crate) fn run_to<R: Files<File = File> + AllocGlobal, I: Read, O: Write>(
+    rt: &R,
+    arguments: &[&str],
+    input: &mut I,
+    output: &mut O,
+) -> Result<(u8, Vec<u8>), AllocError> {
+    let words = words_of(rt.alloc(), arguments)?;
+    let mut errors: Vec<u8> = Vec::new(rt.alloc());
+    let status = run_program(rt, words.as_slice(), input, output, &mut errors);
+    Ok((status, errors))
+}
+
 /// Runs the program on arguments and an input.
 pub(crate) fn run<R: Files<File = File> + AllocGlobal, I: Read>(
     rt: &R,
     arguments: &[&str],
     input: &mut I,
 ) -> Result<Shown, AllocError> {
-    let words = words_of(rt.alloc(), arguments)?;
     let mut output: Vec<u8> = Vec::new(rt.alloc());
-    let mut errors: Vec<u8> = Vec::new(rt.alloc());
-    let status = run_program(rt, words.as_slice(), input, &mut output, &mut errors);
+    let (status, errors) = run_to(rt, arguments, input, &mut output)?;
     Ok(Shown {
         status,
         output,
@@ -64,13 +75,36 @@ fn answers_each_event(rt: HostRuntime) -> Result<(), Fail> {
     Ok(())
 }
 
+/// A script whose last line lacks a word.
+const CUT_SHORT: &[u8] = b"controller 1 host 0xa1
+namespace 1 blocks 64 shared
+attached 1 1
+start
+up 1
+write 1 1 0 1 hex:48656c6c6f
+ring 1
+fetch 1 1
+execute 1 0
+poll 1
+read 1 1 0";
+
+/// One namespace too many.
+const NINE_NAMESPACES: &[u8] = b"namespace 1 blocks 1 shared
+namespace 2 blocks 1 shared
+namespace 3 blocks 1 shared
+namespace 4 blocks 1 shared
+namespace 5 blocks 1 shared
+namespace 6 blocks 1 shared
+namespace 7 blocks 1 shared
+namespace 8 blocks 1 shared
+namespace 9 blocks 1 shared
+start
+";
+
 #[test]
 fn names_the_fault_of_a_script(rt: HostRuntime) -> Result<(), Fail> {
     let cases = [
-        (
-            b"controller 1 host 0xa1\nnamespace 1 blocks 64 shared\nattached 1 1\nstart\nup 1\nwrite 1 1 0 1 hex:48656c6c6f\nring 1\nfetch 1 1\nexecute 1 0\npoll 1\nread 1 1 0".as_slice(),
-            b"nvmesim: line 11: not understood\n".as_slice(),
-        ),
+        (CUT_SHORT, b"nvmesim: line 11: not understood\n".as_slice()),
         (
             b"start\ndo 1 read 1 0 1\n",
             b"nvmesim: line 2: not understood\n",
@@ -91,10 +125,7 @@ fn names_the_fault_of_a_script(rt: HostRuntime) -> Result<(), Fail> {
             b"controller 1 host 0xa1\n\nnamespace 1 blocks 0 shared\nstart\n",
             b"nvmesim: line 4: BadSize\n",
         ),
-        (
-            b"namespace 1 blocks 1 shared\nnamespace 2 blocks 1 shared\nnamespace 3 blocks 1 shared\nnamespace 4 blocks 1 shared\nnamespace 5 blocks 1 shared\nnamespace 6 blocks 1 shared\nnamespace 7 blocks 1 shared\nnamespace 8 blocks 1 shared\nnamespace 9 blocks 1 shared\nstart\n",
-            b"nvmesim: line 10: TooMany\n",
-        ),
+        (NINE_NAMESPACES, b"nvmesim: line 10: TooMany\n"),
         (
             b"namespace 1 blocks 1025 shared\n#\nstart\n",
             b"nvmesim: line 3: DoesNotFit\n",
