@@ -26,6 +26,3 @@ pub use nvme_machine::{Executed, Fetched};
 pub use nvme_subsys::NewFault;
 pub use reply::Reply;
 pub use seen::FleetSeen;
-
-#[cfg(test)]
-mod tests;

@@ -1,7 +1,7 @@
 //! Configurations that are refused, the smallest one, and want of memory.
 
 use crate::tests::bench::{Shown, configuration, happen};
-use crate::{Fleet, FleetEvent};
+use nvme_fleet::{Fleet, FleetEvent};
 use nvme_medium::MemMedium;
 use nvme_spec::{Config, ConfigFault};
 use std::alloc::Global;

@@ -1,7 +1,7 @@
 //! A host without a driver beside one that has one.
 
 use crate::tests::bench::{Bench, Shown, happen, read};
-use crate::{Fetched, Fleet, FleetEvent};
+use nvme_fleet::{Fetched, Fleet, FleetEvent};
 use nvme_medium::MemMedium;
 use nvme_spec::{Config, ControllerConfig, NsConfig};
 use nvme_wire::Status;

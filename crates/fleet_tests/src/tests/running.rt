@@ -3,7 +3,7 @@
 use crate::tests::bench::{
     Bench, Shown, aborted, answered, happen, open, open_up, posted, read, show, write,
 };
-use crate::{Fetched, FleetEvent, Ticket};
+use nvme_fleet::{Fetched, FleetEvent, Ticket};
 use std::test::Fail;
 
 /// A block is written, and read back.

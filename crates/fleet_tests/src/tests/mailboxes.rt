@@ -3,7 +3,7 @@
 use crate::tests::bench::{
     Shown, answered, carry, done, happen, open_up, posted, read, send, write,
 };
-use crate::{Fetched, FleetEvent, Ticket, UpFault};
+use nvme_fleet::{Fetched, FleetEvent, Ticket, UpFault};
 use std::test::Fail;
 
 #[test]

@@ -1,6 +1,6 @@
 //! Four controllers of three hosts over a medium in memory, and requests that are carried through.
 
-use crate::{
+use nvme_fleet::{
     Answer, Executed, Fetched, Fleet, FleetEvent, FleetSeen, NotUp, PlaceRefusal, PollFault,
     Request, Ticket, UpFault,
 };

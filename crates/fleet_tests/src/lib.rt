@@ -1,0 +1,5 @@
+//! Tests of fleets through `Fleet::apply` and `Fleet::run` alone.
+#![tactic(auto)]
+
+#[cfg(test)]
+mod tests;
