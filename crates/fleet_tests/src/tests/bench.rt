@@ -8,6 +8,7 @@ use nvme_medium::MemMedium;
 use nvme_spec::{Config, ControllerConfig, NsConfig};
 use nvme_wire::Status;
 use std::alloc::{AllocError, Global};
+use std::process::Abort;
 use std::test::Fail;
 
 /// A fleet over a medium in memory.
@@ -71,6 +72,25 @@ pub(crate) fn happen(fleet: &mut Bench, event: FleetEvent<'_>) -> Shown {
     show(fleet.apply(event))
 }
 
+/// Events have to give what stands beside them.
+pub(crate) fn expect(rt: &impl Abort, fleet: &mut Bench, events: &[(FleetEvent<'_>, Shown)]) {
+    for (at, (event, seen)) in events.iter().enumerate() {
+        assert_eq!(rt; happen(fleet, *event), *seen, "at event {at}");
+    }
+}
+
+/// An event has to give this, and these data.
+pub(crate) fn expect_data(
+    rt: &impl Abort,
+    fleet: &mut Bench,
+    event: FleetEvent<'_>,
+    seen: Shown,
+    data: &[u8],
+) {
+    assert_eq!(rt; happen(fleet, event), seen);
+    assert_eq!(rt; fleet.data(), data);
+}
+
 fn driven(cntlid: u16, host: u64) -> ControllerConfig {
     ControllerConfig {
         cntlid,
@@ -105,12 +125,17 @@ pub(crate) fn configuration(alloc: Global, private_blocks: u64) -> Result<Config
     })
 }
 
+/// Opens a configuration that is to be accepted.
+pub(crate) fn accepted(alloc: Global, config: &Config, medium: MemMedium) -> Result<Bench, Fail> {
+    let fleet = Fleet::new(alloc, config, medium).map_err(|refused| refused.fault)?;
+    Ok(fleet)
+}
+
 /// Opens the configuration over a medium of 72 blocks of zeros. No controller is up.
 pub(crate) fn open(alloc: Global) -> Result<Bench, Fail> {
     let config = configuration(alloc, 8)?;
     let medium = MemMedium::new(alloc, &[0; 72 * 512])?;
-    let fleet = Fleet::new(alloc, &config, medium).map_err(|refused| refused.fault)?;
-    Ok(fleet)
+    accepted(alloc, &config, medium)
 }
 
 /// Opens the configuration, and brings all four controllers up.
@@ -152,7 +177,7 @@ pub(crate) fn send(fleet: &mut Bench, cntlid: u16, request: Request<'_>) -> Resu
 }
 
 /// Carries a request through a controller that has fetched nothing else, up to its answer.
-pub(crate) fn carry(fleet: &mut Bench, cntlid: u16, request: Request<'_>) -> Result<Carried, Fail> {
+fn carry(fleet: &mut Bench, cntlid: u16, request: Request<'_>) -> Result<Carried, Fail> {
     let placed = send(fleet, cntlid, request)?;
     let FleetSeen::Executed(Executed::Posted(outcome)) = fleet.apply(FleetEvent::Execute(cntlid, 0))
     else {
@@ -184,8 +209,21 @@ pub(crate) fn carry(fleet: &mut Bench, cntlid: u16, request: Request<'_>) -> Res
     })
 }
 
+/// A request has to be carried through with success, and these data handed up.
+pub(crate) fn expect_done(
+    rt: &impl Abort,
+    fleet: &mut Bench,
+    cntlid: u16,
+    request: Request<'_>,
+    data: &[u8],
+) -> Result<(), Fail> {
+    assert_eq!(rt; carry(fleet, cntlid, request)?, done(data.len()));
+    assert_eq!(rt; fleet.data(), data);
+    Ok(())
+}
+
 /// A command that succeeds, with so many bytes of data.
-pub(crate) fn done(len: usize) -> Carried {
+fn done(len: usize) -> Carried {
     Carried {
         status: Status::SUCCESSFUL_COMPLETION,
         rule: 0,

@@ -1,6 +1,6 @@
 //! Configurations that are refused, the smallest one, and want of memory.
 
-use crate::tests::bench::{Shown, configuration, happen};
+use crate::tests::bench::{Shown, accepted, configuration, happen};
 use nvme_fleet::{Fleet, FleetEvent};
 use nvme_medium::MemMedium;
 use nvme_spec::{Config, ConfigFault};
@@ -34,9 +34,7 @@ fn a_fleet_without_controllers(rt: HostRuntime) -> Result<(), Fail> {
         namespaces: Vec::new(rt.alloc()),
         attached: Vec::new(rt.alloc()),
     };
-    let mut fleet = Fleet::new(rt.alloc(), &config, marked_medium(rt.alloc())?).map_err(
-        |refused| refused.fault,
-    )?;
+    let mut fleet = accepted(rt.alloc(), &config, marked_medium(rt.alloc())?)?;
     assert_eq!(rt;
         happen(&mut fleet, FleetEvent::BringUp(1)),
         Shown::NoController

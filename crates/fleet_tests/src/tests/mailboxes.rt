@@ -1,7 +1,7 @@
 //! What hosts' drivers hand up, and what they take.
 
 use crate::tests::bench::{
-    Shown, answered, carry, done, happen, open_up, posted, read, send, write,
+    Shown, answered, expect_data, expect_done, happen, open_up, posted, read, send, write,
 };
 use nvme_fleet::{Fetched, FleetEvent, Ticket, UpFault};
 use std::test::Fail;
@@ -10,15 +10,11 @@ use std::test::Fail;
 fn a_written_block_is_read_back(rt: HostRuntime) -> Result<(), Fail> {
     let mut fleet = open_up(rt.alloc())?;
     let block = [0x5a; 512];
-    assert_eq!(rt; carry(&mut fleet, 1, write(1, 3, &block))?, done(0));
-    assert_eq!(rt; fleet.data(), [].as_slice());
-    assert_eq!(rt; carry(&mut fleet, 2, read(1, 3, 1))?, done(512));
-    assert_eq!(rt; fleet.data(), block.as_slice());
-    assert_eq!(rt; carry(&mut fleet, 2, read(1, 2, 3))?, done(3 * 512));
-    let around = fleet.data();
-    assert_eq!(rt; around.get(..512), Some([0; 512].as_slice()));
-    assert_eq!(rt; around.get(512..1024), Some(block.as_slice()));
-    assert_eq!(rt; around.get(1024..), Some([0; 512].as_slice()));
+    let mut around = [0; 3 * 512];
+    around[512..1024].copy_from_slice(&block);
+    expect_done(&rt, &mut fleet, 1, write(1, 3, &block), &[])?;
+    expect_done(&rt, &mut fleet, 2, read(1, 3, 1), &block)?;
+    expect_done(&rt, &mut fleet, 2, read(1, 2, 3), &around)?;
     let medium = fleet.into_medium();
     assert_eq!(rt;
         medium.as_bytes().get(3 * 512..4 * 512),
@@ -55,21 +51,21 @@ fn a_controller_that_is_not_there(rt: HostRuntime) -> Result<(), Fail> {
 #[test]
 fn each_answer_has_its_own_data(rt: HostRuntime) -> Result<(), Fail> {
     let mut fleet = open_up(rt.alloc())?;
-    assert_eq!(rt; carry(&mut fleet, 1, write(1, 3, &[0x33; 512]))?, done(0));
-    assert_eq!(rt; carry(&mut fleet, 1, write(1, 4, &[0x44; 1024]))?, done(0));
-    assert_eq!(rt; send(&mut fleet, 1, read(1, 3, 1))?, Ticket(3));
-    assert_eq!(rt; send(&mut fleet, 1, read(1, 4, 2))?, Ticket(4));
-    assert_eq!(rt; happen(&mut fleet, FleetEvent::Execute(1, 1)), posted());
-    assert_eq!(rt; happen(&mut fleet, FleetEvent::Execute(1, 0)), posted());
-    assert_eq!(rt; happen(&mut fleet, FleetEvent::Poll(1)), answered(4, 1024));
-    assert_eq!(rt; fleet.data(), [0x44; 1024].as_slice());
-    assert_eq!(rt; happen(&mut fleet, FleetEvent::Poll(1)), answered(3, 512));
-    assert_eq!(rt; fleet.data(), [0x33; 512].as_slice());
-    assert_eq!(rt;
-        happen(&mut fleet, FleetEvent::Poll(1)),
-        Shown::Polled(Ok(None))
-    );
-    assert_eq!(rt; fleet.data(), [].as_slice());
+    expect_done(&rt, &mut fleet, 1, write(1, 3, &[0x33; 512]), &[])?;
+    expect_done(&rt, &mut fleet, 1, write(1, 4, &[0x44; 1024]), &[])?;
+    for (request, ticket) in [(read(1, 3, 1), 3), (read(1, 4, 2), 4)] {
+        assert_eq!(rt; send(&mut fleet, 1, request)?, Ticket(ticket));
+    }
+    let poll = FleetEvent::Poll(1);
+    for (event, seen, data) in [
+        (FleetEvent::Execute(1, 1), posted(), [].as_slice()),
+        (FleetEvent::Execute(1, 0), posted(), &[]),
+        (poll, answered(4, 1024), &[0x44; 1024]),
+        (poll, answered(3, 512), &[0x33; 512]),
+        (poll, Shown::Polled(Ok(None)), &[]),
+    ] {
+        expect_data(&rt, &mut fleet, event, seen, data);
+    }
     Ok(())
 }
 
@@ -92,12 +88,15 @@ fn data_last_until_the_next_event(rt: HostRuntime) -> Result<(), Fail> {
         (FleetEvent::RawWrite32(1, 0x14, 0), Shown::NotRaw),
         (FleetEvent::Reset(2), Shown::Reset),
     ] {
-        assert_eq!(rt; carry(&mut fleet, 4, read(1, 0, 1))?, done(512));
-        assert_eq!(rt; fleet.data(), [0; 512].as_slice());
-        assert_eq!(rt; happen(&mut fleet, event), seen);
-        assert_eq!(rt; fleet.data(), [].as_slice());
+        expect_done(&rt, &mut fleet, 4, read(1, 0, 1), &[0; 512])?;
+        expect_data(&rt, &mut fleet, event, seen, &[]);
     }
-    assert_eq!(rt; happen(&mut fleet, FleetEvent::Poll(1)), answered(1, 512));
-    assert_eq!(rt; fleet.data(), [0; 512].as_slice());
+    expect_data(
+        &rt,
+        &mut fleet,
+        FleetEvent::Poll(1),
+        answered(1, 512),
+        &[0; 512],
+    );
     Ok(())
 }

@@ -1,7 +1,7 @@
 //! A host without a driver beside one that has one.
 
-use crate::tests::bench::{Bench, Shown, happen, read};
-use nvme_fleet::{Fetched, Fleet, FleetEvent};
+use crate::tests::bench::{Bench, Shown, accepted, expect, read};
+use nvme_fleet::{Fetched, FleetEvent};
 use nvme_medium::MemMedium;
 use nvme_spec::{Config, ControllerConfig, NsConfig};
 use nvme_wire::Status;
@@ -43,27 +43,27 @@ fn configuration(alloc: Global) -> Result<Config, AllocError> {
 fn open(rt: &impl Abort, alloc: Global) -> Result<Bench, Fail> {
     let config = configuration(alloc)?;
     let medium = MemMedium::new(alloc, &[0; 64 * 512])?;
-    let mut fleet = Fleet::new(alloc, &config, medium).map_err(|refused| refused.fault)?;
-    for (offset, value) in [
-        (0x24, 0x001f_0007),
-        (0x28, 0),
-        (0x30, 0x1000),
-        (0x14, 0x0046_0001),
-    ] {
-        assert_eq!(rt;
-            happen(&mut fleet, FleetEvent::RawWrite32(2, offset, value)),
-            Shown::Wrote
-        );
-    }
+    let mut fleet = accepted(alloc, &config, medium)?;
+    let writes = [
+        (FleetEvent::RawWrite32(2, 0x24, 0x001f_0007), Shown::Wrote),
+        (FleetEvent::RawWrite32(2, 0x28, 0), Shown::Wrote),
+        (FleetEvent::RawWrite32(2, 0x30, 0x1000), Shown::Wrote),
+        (FleetEvent::RawWrite32(2, 0x14, 0x0046_0001), Shown::Wrote),
+    ];
+    expect(rt, &mut fleet, &writes);
     Ok(fleet)
 }
 
-/// Writes the tail of the raw host's admin queue.
-fn ring(rt: &impl Abort, fleet: &mut Bench, tail: u32) {
-    assert_eq!(rt;
-        happen(fleet, FleetEvent::RawWrite32(2, SUBMISSION_DOORBELL, tail)),
-        Shown::Wrote
-    );
+/// The tail of the raw host's admin queue is written, and the next entry is taken and executed, with this outcome.
+fn entry_taken(tail: u32, executed: Shown) -> [(FleetEvent<'static>, Shown); 3] {
+    [
+        (
+            FleetEvent::RawWrite32(2, SUBMISSION_DOORBELL, tail),
+            Shown::Wrote,
+        ),
+        (FleetEvent::Fetch(2, 0), Shown::Fetched(Fetched::Took)),
+        (FleetEvent::Execute(2, 0), executed),
+    ]
 }
 
 /// An entry of zeros deletes queue 0, which no command can.
@@ -74,19 +74,10 @@ fn refused() -> Shown {
 #[test]
 fn a_raw_host_puts_its_own_entries(rt: HostRuntime) -> Result<(), Fail> {
     let mut fleet = open(&rt, rt.alloc())?;
-    assert_eq!(rt;
-        happen(&mut fleet, FleetEvent::RawStore(2, 0, &[0xff, 0, 9, 0])),
-        Shown::Stored
-    );
-    ring(&rt, &mut fleet, 1);
-    assert_eq!(rt;
-        happen(&mut fleet, FleetEvent::Fetch(2, 0)),
-        Shown::Fetched(Fetched::Took)
-    );
-    assert_eq!(rt;
-        happen(&mut fleet, FleetEvent::Execute(2, 0)),
-        Shown::Posted(Status::INVALID_COMMAND_OPCODE, 2)
-    );
+    let entry = FleetEvent::RawStore(2, 0, &[0xff, 0, 9, 0]);
+    let unknown = Shown::Posted(Status::INVALID_COMMAND_OPCODE, 2);
+    expect(&rt, &mut fleet, &[(entry, Shown::Stored)]);
+    expect(&rt, &mut fleet, &entry_taken(1, unknown));
     let window = fleet
         .controller(2)
         .ok_or("the controller is not there")?
@@ -95,19 +86,14 @@ fn a_raw_host_puts_its_own_entries(rt: HostRuntime) -> Result<(), Fail> {
         window.piece(0x1000, 16),
         Some([0, 0, 0, 0, 0, 0, 0, 0, 1, 0, 0, 0, 9, 0, 3, 0].as_slice())
     );
-    ring(&rt, &mut fleet, 0);
-    assert_eq!(rt;
-        happen(&mut fleet, FleetEvent::Fetch(2, 0)),
-        Shown::Fetched(Fetched::Took)
-    );
-    assert_eq!(rt; happen(&mut fleet, FleetEvent::Execute(2, 0)), refused());
+    expect(&rt, &mut fleet, &entry_taken(0, refused()));
     Ok(())
 }
 
 #[test]
 fn a_raw_host_and_a_driver_take_their_own_events(rt: HostRuntime) -> Result<(), Fail> {
     let mut fleet = open(&rt, rt.alloc())?;
-    for (event, seen) in [
+    let events = [
         (FleetEvent::BringUp(2), Shown::NoDriver),
         (FleetEvent::Place(2, read(1, 0, 1)), Shown::NoDriver),
         (FleetEvent::Ring(2), Shown::NoDriver),
@@ -121,8 +107,7 @@ fn a_raw_host_and_a_driver_take_their_own_events(rt: HostRuntime) -> Result<(), 
         (FleetEvent::RawStore(2, 4_194_303, &[0, 0]), Shown::Outside),
         (FleetEvent::RawStore(2, u64::MAX, &[0]), Shown::Outside),
         (FleetEvent::RawStore(2, 4_194_303, &[7]), Shown::Stored),
-    ] {
-        assert_eq!(rt; happen(&mut fleet, event), seen);
-    }
+    ];
+    expect(&rt, &mut fleet, &events);
     Ok(())
 }

@@ -3,7 +3,8 @@
 use crate::tests::bench::{
     Bench, Shown, aborted, answered, happen, open, open_up, posted, read, show, write,
 };
-use nvme_fleet::{Fetched, FleetEvent, Ticket};
+use nvme_fleet::{Fetched, FleetEvent, Reply, Ticket};
+use std::process::Abort;
 use std::test::Fail;
 
 /// A block is written, and read back.
@@ -40,6 +41,17 @@ fn expected() -> [Shown; 11] {
     ]
 }
 
+/// Replies have to show these, of which there may be more.
+fn expect_replies(rt: &impl Abort, replies: Vec<Reply>, expected: &[Shown]) {
+    for (at, reply) in replies.into_iter().enumerate() {
+        assert_eq!(rt;
+            Some(show(reply.seen)),
+            expected.get(at).copied(),
+            "at reply {at}"
+        );
+    }
+}
+
 // It holds whichever request for memory of `Fleet::run` is refused, as `rt try --fail-alloc` refuses them: the events
 // whose replies were added have happened, and those behind them have not.
 #[test]
@@ -50,11 +62,10 @@ fn want_of_memory_leaves_the_events_behind_it(rt: HostRuntime) -> Result<(), Fai
     let ran = fleet.run(rt.alloc(), &events(&block), &mut replies);
     let count = replies.len();
     assert_eq!(rt; ran.is_ok(), count == expected().len());
-    for (reply, seen) in replies.into_iter().zip(expected()) {
-        assert_eq!(rt; show(reply.seen), seen);
-    }
-    for (event, seen) in events(&block).into_iter().zip(expected()).skip(count) {
-        assert_eq!(rt; happen(&mut fleet, event), seen);
+    expect_replies(&rt, replies, &expected());
+    let (events, expected) = (events(&block), expected());
+    for at in count..events.len() {
+        assert_eq!(rt; happen(&mut fleet, events[at]), expected[at]);
     }
     assert_eq!(rt; fleet.data(), block.as_slice());
     Ok(())
@@ -98,10 +109,9 @@ fn a_completion_queue_goes_round(rt: HostRuntime) -> Result<(), Fail> {
     Ok(())
 }
 
-/// Three requests are rung for when their controller is reset; a fourth is placed once it is up again.
-fn reset_events() -> [FleetEvent<'static>; 14] {
+/// Three requests are rung for when their controller is reset; a fourth is executed once it is up again.
+fn reset_events() -> [FleetEvent<'static>; 10] {
     let place = FleetEvent::Place(1, read(1, 0, 1));
-    let poll = FleetEvent::Poll(1);
     [
         place,
         place,
@@ -113,10 +123,6 @@ fn reset_events() -> [FleetEvent<'static>; 14] {
         FleetEvent::Ring(1),
         FleetEvent::Fetch(1, 1),
         FleetEvent::Execute(1, 0),
-        poll,
-        poll,
-        poll,
-        poll,
     ]
 }
 
@@ -125,10 +131,10 @@ fn aborted_requests_are_handed_up_before_new_answers(rt: HostRuntime) -> Result<
     let mut fleet = open_up(rt.alloc())?;
     let mut replies = Vec::new(rt.alloc());
     fleet.run(rt.alloc(), &reset_events(), &mut replies)?;
+    replies.clear();
+    fleet.run(rt.alloc(), &[FleetEvent::Poll(1); 4], &mut replies)?;
     let expected = [aborted(1), aborted(2), aborted(3), answered(4, 512)];
-    for (reply, seen) in replies.into_iter().skip(10).zip(expected) {
-        assert_eq!(rt; show(reply.seen), seen);
-    }
+    expect_replies(&rt, replies, &expected);
     // The new request has the slot behind those of the aborted ones.
     assert_eq!(rt;
         completions(&fleet).and_then(|bytes| bytes.get(..16)),
