@@ -15,6 +15,3 @@ mod structure;
 pub use execution::execute_admin;
 pub use nvme_spec::{AdminCommand, QueueChange, Queues};
 pub use outcome::AdminOutcome;
-
-#[cfg(test)]
-mod tests;

@@ -15,6 +15,3 @@ mod submission_queue;
 
 pub use controller::Controller;
 pub use nvme_machine::{Executed, Fetched};
-
-#[cfg(test)]
-mod tests;

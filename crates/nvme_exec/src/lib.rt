@@ -16,6 +16,3 @@ mod transfer;
 pub use execution::execute;
 pub use lanes::lanes_equal;
 pub use nvme_spec::{Marks, Outcome};
-
-#[cfg(test)]
-mod tests;

@@ -11,6 +11,3 @@ pub use marking::mark_after;
 pub use nvme_machine::{Event, Executed, Fetched, Seen};
 pub use opening::{NewFault, controllers_of};
 pub use subsystem::Subsystem;
-
-#[cfg(test)]
-mod tests;

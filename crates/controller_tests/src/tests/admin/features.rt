@@ -1,0 +1,90 @@
+//! Features are set and read.
+
+use crate::tests::admin::bench::{ADMIN_QUEUES, denied, done, open_bench, run, run_with};
+use crate::tests::entries::{GET_FEATURES, SET_FEATURES, entry};
+use crate::tests::memory::holds;
+use nvme_admin::Queues;
+use nvme_wire::Status;
+use std::test::Fail;
+
+#[test]
+fn four_queues_are_allocated(rt: HostRuntime) -> Result<(), Fail> {
+    let mut bench = open_bench(rt.alloc())?;
+    let set = entry(SET_FEATURES, 0, 0, [0x07, 0x0007_0007]);
+    assert_eq!(rt; run(&mut bench, 1, &set), done(0x0003_0003));
+    let some = Queues {
+        cq: [true, true, false, false, false],
+        ..ADMIN_QUEUES
+    };
+    assert_eq!(rt;
+        run_with(&mut bench, &some, 1, &set),
+        denied(6, Status::COMMAND_SEQUENCE_ERROR)
+    );
+    let most = entry(SET_FEATURES, 0, 0, [0x07, 0x0000_ffff]);
+    assert_eq!(rt;
+        run(&mut bench, 1, &most),
+        denied(6, Status::INVALID_FIELD_IN_COMMAND)
+    );
+    let get = entry(GET_FEATURES, 0, 0, [0x07, 0]);
+    assert_eq!(rt; run_with(&mut bench, &some, 1, &get), done(0x0003_0003));
+    Ok(())
+}
+
+#[test]
+fn protection_is_set_for_all_controllers(rt: HostRuntime) -> Result<(), Fail> {
+    let mut bench = open_bench(rt.alloc())?;
+    let saved = entry(SET_FEATURES, 1, 0, [0x8000_0084, 1]);
+    assert_eq!(rt;
+        run(&mut bench, 1, &saved),
+        denied(6, Status::FEATURE_IDENTIFIER_NOT_SAVEABLE)
+    );
+    let permanent = entry(SET_FEATURES, 1, 0, [0x84, 2]);
+    assert_eq!(rt;
+        run(&mut bench, 1, &permanent),
+        denied(6, Status::INVALID_FIELD_IN_COMMAND)
+    );
+    assert_eq!(rt; bench.spaces.protection(1), Some(false));
+    let protect = entry(SET_FEATURES, 1, 0, [0x84, 1]);
+    assert_eq!(rt; run(&mut bench, 1, &protect), done(0));
+    assert_eq!(rt; bench.spaces.protection(1), Some(true));
+    let get = entry(GET_FEATURES, 1, 0, [0x84, 0]);
+    assert_eq!(rt; run(&mut bench, 2, &get), done(1));
+    let private = entry(SET_FEATURES, 2, 0, [0x84, 1]);
+    assert_eq!(rt;
+        run(&mut bench, 2, &private),
+        denied(5, Status::INVALID_FIELD_IN_COMMAND)
+    );
+    assert_eq!(rt; bench.spaces.protection(2), Some(false));
+    Ok(())
+}
+
+#[test]
+fn each_controller_tells_its_host(rt: HostRuntime) -> Result<(), Fail> {
+    let mut bench = open_bench(rt.alloc())?;
+    bench.window.store(0x5000, &[0xee; 12])?;
+    let get = entry(GET_FEATURES, 0, 0x5000, [0x81, 0]);
+    assert_eq!(rt; run(&mut bench, 2, &get), done(0));
+    assert!(rt;
+        holds(
+            &bench.window,
+            0x5000,
+            &[0xb2, 0, 0, 0, 0, 0, 0, 0, 0xee, 0xee, 0xee, 0xee]
+        )
+    );
+    let extended = entry(GET_FEATURES, 0, 0x5000, [0x81, 1]);
+    assert_eq!(rt;
+        run(&mut bench, 2, &extended),
+        denied(6, Status::INVALID_FIELD_IN_COMMAND)
+    );
+    let set = entry(SET_FEATURES, 0, 0x5000, [0x81, 0]);
+    assert_eq!(rt;
+        run(&mut bench, 2, &set),
+        denied(6, Status::INVALID_FIELD_IN_COMMAND)
+    );
+    let odd = entry(GET_FEATURES, 0, 0x5002, [0x81, 0]);
+    assert_eq!(rt;
+        run(&mut bench, 2, &odd),
+        denied(10, Status::PRP_OFFSET_INVALID)
+    );
+    Ok(())
+}

@@ -1,0 +1,47 @@
+//! The configurations that subsystems are opened with.
+
+use nvme_spec::{Config, ControllerConfig, NsConfig};
+use std::alloc::{AllocError, Global};
+
+fn controller(cntlid: u16, host: u64) -> ControllerConfig {
+    ControllerConfig {
+        cntlid,
+        host,
+        raw: false,
+    }
+}
+
+fn namespace(nsid: u32, blocks: u64, shared: bool) -> NsConfig {
+    NsConfig {
+        nsid,
+        blocks,
+        shared,
+    }
+}
+
+/// Controllers 1 to 4, of which 1 and 3 have one host; namespace 1 of 64 blocks, shared and attached to all of them;
+/// and namespace 2 of so many blocks, private and attached to controller 1.
+pub(crate) fn configuration(alloc: Global, private_blocks: u64) -> Result<Config, AllocError> {
+    Ok(Config {
+        controllers: vec![in alloc;
+            controller(1, 0xa1),
+            controller(2, 0xb2),
+            controller(3, 0xa1),
+            controller(4, 0xc3),
+        ]?,
+        namespaces: vec![in alloc; namespace(1, 64, true), namespace(2, private_blocks, false)]?,
+        attached: vec![in alloc; (1, 1), (2, 1), (3, 1), (4, 1), (1, 2)]?,
+    })
+}
+
+/// Controllers 1 and 2 of two hosts, and namespaces 1 and 2 of so many blocks, shared and attached to both.
+pub(crate) fn shared_configuration(alloc: Global, blocks: [u64; 2]) -> Result<Config, AllocError> {
+    Ok(Config {
+        controllers: vec![in alloc; controller(1, 0xa1), controller(2, 0xb2)]?,
+        namespaces: vec![in alloc;
+            namespace(1, blocks[0], true),
+            namespace(2, blocks[1], true),
+        ]?,
+        attached: vec![in alloc; (1, 1), (2, 1), (1, 2), (2, 2)]?,
+    })
+}

@@ -1,0 +1,8 @@
+//! I/O commands by their entries, over the memory of a host.
+
+mod bench;
+mod faults;
+mod lanes;
+mod pointers;
+mod ranges;
+mod reservations;

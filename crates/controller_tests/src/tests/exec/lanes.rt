@@ -1,0 +1,28 @@
+//! Bytes compared by lanes.
+
+use nvme_exec::lanes_equal;
+use std::test::Fail;
+
+fn differs_at(a: &[u8], i: usize) -> bool {
+    let mut other = [7; 512];
+    if i >= a.len() || a.len() > 512 {
+        return false;
+    }
+    other[i] = 8;
+    !lanes_equal(a, &other[..a.len()])
+}
+
+#[test]
+fn every_kind_of_length(rt: HostRuntime) -> Result<(), Fail> {
+    let bytes = [7; 512];
+    for len in [0usize, 1, 31, 32, 33, 512] {
+        let a = &bytes[..len];
+        assert!(rt; lanes_equal(a, a));
+        if len > 0 {
+            assert!(rt; differs_at(a, 0));
+            assert!(rt; differs_at(a, len - 1));
+        }
+    }
+    assert!(rt; !lanes_equal(&bytes[..32], &bytes[..33]));
+    Ok(())
+}

@@ -1,5 +1,0 @@
-use Rattle.nvme_spec.proofs.Worlds.{known-opening}
-use Rattle.nvme_exec.proofs.tests.bench.bench_over.Goals as goal
-
-pub returns-clause-known : goal.returns-clause-known
-returns-clause-known g c = rw c.in_ok-spaces.ensures.opened (known-opening _)
