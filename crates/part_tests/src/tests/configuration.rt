@@ -6,7 +6,7 @@ use std::test::Fail;
 
 /// Four controllers of three hosts; a shared namespace of 64 blocks, attached to all, and a private one of 8 blocks,
 /// attached to controller 1.
-pub fn cluster(alloc: Global) -> Result<Config, AllocError> {
+pub(crate) fn cluster(alloc: Global) -> Result<Config, AllocError> {
     let mut controllers = Vec::new(alloc);
     for (cntlid, host) in [(1, 0xa1), (2, 0xb2), (3, 0xa1), (4, 0xc3)] {
         controllers.push(ControllerConfig {
@@ -31,7 +31,7 @@ pub fn cluster(alloc: Global) -> Result<Config, AllocError> {
 }
 
 /// The access state of that cluster, over the 72 blocks of its namespaces.
-pub fn opened(alloc: Global) -> Result<Spaces, Fail> {
+pub(crate) fn opened(alloc: Global) -> Result<Spaces, Fail> {
     let config = cluster(alloc)?;
     Ok(Spaces::new(&config, 72)?)
 }

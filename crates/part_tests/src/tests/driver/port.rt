@@ -33,7 +33,7 @@ pub struct TestPort {
 impl TestPort {
     /// A controller that answers at once, as it should: it is ready, and completes the driver's own commands, whose
     /// identifier is that of no slot, with success.
-    pub fn honest(alloc: Global) -> Result<TestPort, NoMemory>
+    pub(crate) fn honest(alloc: Global) -> Result<TestPort, NoMemory>
         ensures ready { IfOk result (λ port. is_ready port.csts ≡ true) }
         ensures at_once { IfOk result (λ port. port.delay ≡ 0) }
         ensures own { IfOk result (λ port. port.cid ≡ slot_count) }
