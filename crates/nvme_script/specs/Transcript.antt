@@ -1,5 +1,5 @@
 -- The transcript: one line for each event.
-use Rattle.std.specs.Prelude.{ℕ, ◌^◌, ◌-◌, false, List, [], ◌∷◌, ◌++◌, codes, length, Some, None, Ok, Err}
+use Rattle.std.specs.Prelude.{ℕ, ◌^◌, ◌-◌, false, List, [], ◌∷◌, ◌++◌, codes, length, Option, Some, None, Result, Ok, Err}
 use Rattle.std.specs.List.{flat_map, zip}
 use Rattle.std.specs.Fmt.{decimal, digits, padded_integral, format_spec}
 use Rattle.nvme_wire.specs.StatusNames.{status_text}
@@ -9,6 +9,8 @@ use Rattle.nvme_machine.specs.declared.seen.Fetched.TheVariants.{Took, Idle}
 use Rattle.nvme_machine.specs.declared.seen.Executed.{Executed}
 use Rattle.nvme_machine.specs.declared.seen.Executed.TheVariants.{Posted, NoSuch, CqFull}
 use Rattle.nvme_driver.specs.FaultNames.{up_fault_text, refusal_text, poll_fault_text}
+use Rattle.nvme_driver.specs.declared.faults.UpFault.{UpFault}
+use Rattle.nvme_driver.specs.declared.faults.PollFault.{PollFault}
 use Rattle.nvme_driver.specs.declared.answer.Answer.{Answer}
 use Rattle.nvme_driver.specs.declared.answer.Answer.TheVariants.{Done, Aborted}
 use Rattle.nvme_fleet.specs.declared.event.FleetEvent.{FleetEvent}
@@ -52,6 +54,10 @@ answer_text (Done ticket status dw0 len) bytes =
     decimal ticket.0 ++ codes " " ++ status_text status ++ codes " " ++ double_word_text dw0 ++ data_text bytes
 answer_text (Aborted ticket) bytes = decimal ticket.0 ++ codes " aborted"
 
+abbrev pub up_text : Result (Unit {0}) UpFault → List ℕ
+up_text (Ok up) = codes "ok"
+up_text (Err fault) = up_fault_text fault
+
 abbrev pub fetched_text : Fetched → List ℕ
 fetched_text Took = codes "took"
 fetched_text Idle = codes "idle"
@@ -61,19 +67,22 @@ executed_text (Posted outcome) = codes "posted " ++ status_text outcome.status +
 executed_text NoSuch = codes "none"
 executed_text CqFull = codes "full"
 
+-- what a poll handed up, and the data that came with it
+abbrev pub polled_text : Result (Option Answer) PollFault → List ℕ → List ℕ
+polled_text (Ok (Some answer)) bytes = answer_text answer bytes
+polled_text (Ok None) bytes = codes "nothing"
+polled_text (Err fault) bytes = poll_fault_text fault
+
 -- what an event gave to see, by its controller and its subject, and the data that came with it
 abbrev pub seen_text : List ℕ → List ℕ → FleetSeen → List ℕ → List ℕ
-seen_text c s (seen.Up (Ok up)) bytes = codes "up " ++ c ++ codes " ok"
-seen_text c s (seen.Up (Err fault)) bytes = codes "up " ++ c ++ codes " " ++ up_fault_text fault
+seen_text c s (seen.Up up) bytes = codes "up " ++ c ++ codes " " ++ up_text up
 seen_text c s (seen.Placed (Ok ticket)) bytes = codes "placed " ++ c ++ codes " " ++ decimal ticket.0
 seen_text c s (seen.Placed (Err refusal)) bytes = codes "refused " ++ c ++ codes " " ++ refusal_text refusal
 seen_text c s (seen.Rung (Ok rung)) bytes = codes "rung " ++ c
 seen_text c s (seen.Rung (Err fault)) bytes = codes "rung " ++ c ++ codes " NotUp"
 seen_text c s (seen.Fetched fetched) bytes = codes "fetch " ++ s ++ codes " " ++ fetched_text fetched
 seen_text c s (seen.Executed executed) bytes = codes "execute " ++ s ++ codes " " ++ executed_text executed
-seen_text c s (seen.Polled (Ok (Some answer))) bytes = codes "poll " ++ c ++ codes " " ++ answer_text answer bytes
-seen_text c s (seen.Polled (Ok None)) bytes = codes "poll " ++ c ++ codes " nothing"
-seen_text c s (seen.Polled (Err fault)) bytes = codes "poll " ++ c ++ codes " " ++ poll_fault_text fault
+seen_text c s (seen.Polled polled) bytes = codes "poll " ++ c ++ codes " " ++ polled_text polled bytes
 seen_text c s seen.Reset bytes = codes "reset " ++ c
 seen_text c s seen.Stored bytes = codes "stored " ++ c
 seen_text c s seen.Outside bytes = codes "outside " ++ c

@@ -171,6 +171,42 @@ fn run_events<W: Write, M: Medium>(
     Ok(())
 }
 
+/// Runs a script that was read: opens its configuration over the medium, and lets its events happen.
+fn run_ready<W: Write, M: Medium>(
+    alloc: Global,
+    ready: &mut Ready,
+    writer: &mut W,
+    medium: M,
+) -> Result<M, (ScriptFault, M)>
+    requires script { IsReady ready.old.text.items ready.old.script }
+    requires bytes_room { HasBytesRoom ready.old.text.items ready.old.buffers.bytes.items }
+    requires identifiers_room { most_words ready.old.text.items ≤ vec_len ready.old.buffers.identifiers }
+    ensures ok { IfOk result (λ after. IsScript ready.old.text.items (M.size medium)
+        × Runs M.tells ready.old.text.items (M.device medium) (M.device after) (W.contents writer.old) (W.contents writer.new)) }
+    ensures fault { IfErr result (λ e.
+        IsFault M.tells e.0 ready.old.text.items (M.size medium) (M.device medium) (M.device e.1) (W.contents writer.old) (W.contents writer.new)) }
+    ensures early { IfErr result (λ e. IsWrite e.0 ⊎ ((e.1 ≡ medium) × (writer.new ≡ writer.old))) }
+{
+    let mut fleet = match Fleet::new(alloc, &ready.script.config, medium) {
+        Ok(fleet) => fleet,
+        Err(NewFault { fault, medium }) => {
+            return Err((refused_at(ready.script.start, fault), medium));
+        }
+    };
+    let outcome = run_events(
+        ready.text.as_slice(),
+        &mut fleet,
+        &mut ready.buffers.bytes,
+        &mut ready.buffers.identifiers,
+        &mut ready.line,
+        writer,
+    );
+    match outcome {
+        Ok(()) => Ok(fleet.into_medium()),
+        Err(_) => Err((ScriptFault::Write, fleet.into_medium())),
+    }
+}
+
 /// Runs a script: reads it whole, opens its configuration over the medium, and lets its events happen in their order, each
 /// of which adds its line to the transcript.
 ///
@@ -194,26 +230,8 @@ pub fn run_script<R: Read, W: Write, M: Medium>(
     // Each fault but one of the writer comes before the first event.
     ensures early { IfErr result (λ e. IsWrite e.0 ⊎ ((e.1 ≡ medium) × (writer.new ≡ writer.old))) }
 {
-    let mut ready = match prepare(alloc, reader) {
-        Ok(ready) => ready,
-        Err(fault) => return Err((fault, medium)),
-    };
-    let mut fleet = match Fleet::new(alloc, &ready.script.config, medium) {
-        Ok(fleet) => fleet,
-        Err(NewFault { fault, medium }) => {
-            return Err((refused_at(ready.script.start, fault), medium));
-        }
-    };
-    let outcome = run_events(
-        ready.text.as_slice(),
-        &mut fleet,
-        &mut ready.buffers.bytes,
-        &mut ready.buffers.identifiers,
-        &mut ready.line,
-        writer,
-    );
-    match outcome {
-        Ok(()) => Ok(fleet.into_medium()),
-        Err(_) => Err((ScriptFault::Write, fleet.into_medium())),
+    match prepare(alloc, reader) {
+        Ok(mut ready) => run_ready(alloc, &mut ready, writer, medium),
+        Err(fault) => Err((fault, medium)),
     }
 }

@@ -1,9 +1,9 @@
 //! How the transcript shows what an event gave.
 
 ghost use Rattle.std.specs.Prelude.{◌≡◌, Some};
-ghost use Rattle.nvme_script.specs.Transcript.{answer_text, controller_of, data_text, event_text, subject_text};
+ghost use Rattle.nvme_script.specs.Transcript.{answer_text, controller_of, data_text, event_text, executed_text, fetched_text, polled_text, subject_text, up_text};
 
-use nvme_fleet::{Answer, Executed, Fetched, FleetEvent, FleetSeen};
+use nvme_fleet::{Answer, Executed, Fetched, FleetEvent, FleetSeen, PollFault, UpFault};
 use script_text::HexText;
 use std::fmt;
 
@@ -22,29 +22,19 @@ impl fmt::Display for TranscriptLine<'_> {
         let cntlid = cntlid_of(self.event);
         let subject = Subject(self.event);
         match self.seen {
-            FleetSeen::Up(Ok(())) => write!(f, "up {cntlid} ok"),
-            FleetSeen::Up(Err(fault)) => write!(f, "up {cntlid} {fault}"),
+            FleetSeen::Up(up) => write!(f, "up {cntlid} {}", UpText(up)),
             FleetSeen::Placed(Ok(ticket)) => write!(f, "placed {cntlid} {}", ticket.0),
             FleetSeen::Placed(Err(refusal)) => write!(f, "refused {cntlid} {refusal}"),
             FleetSeen::Rung(Ok(())) => write!(f, "rung {cntlid}"),
             FleetSeen::Rung(Err(fault)) => write!(f, "rung {cntlid} {fault}"),
-            FleetSeen::Fetched(Fetched::Took) => write!(f, "fetch {subject} took"),
-            FleetSeen::Fetched(Fetched::Idle) => write!(f, "fetch {subject} idle"),
-            FleetSeen::Executed(Executed::Posted(outcome)) => {
-                write!(
-                    f,
-                    "execute {subject} posted {} {}",
-                    outcome.status, outcome.rule
-                )
+            FleetSeen::Fetched(fetched) => write!(f, "fetch {subject} {}", FetchedText(fetched)),
+            FleetSeen::Executed(executed) => {
+                write!(f, "execute {subject} {}", ExecutedText(executed))
             }
-            FleetSeen::Executed(Executed::NoSuch) => write!(f, "execute {subject} none"),
-            FleetSeen::Executed(Executed::CqFull) => write!(f, "execute {subject} full"),
-            FleetSeen::Polled(Ok(Some(answer))) => {
+            FleetSeen::Polled(polled) => {
                 let bytes = self.bytes;
-                write!(f, "poll {cntlid} {}", AnswerText { answer, bytes })
+                write!(f, "poll {cntlid} {}", PolledText { polled, bytes })
             }
-            FleetSeen::Polled(Ok(None)) => write!(f, "poll {cntlid} nothing"),
-            FleetSeen::Polled(Err(fault)) => write!(f, "poll {cntlid} {fault}"),
             FleetSeen::Reset => write!(f, "reset {cntlid}"),
             FleetSeen::Stored => write!(f, "stored {cntlid}"),
             FleetSeen::Outside => write!(f, "outside {cntlid}"),
@@ -85,6 +75,74 @@ impl fmt::Display for Subject<'_> {
             FleetEvent::Fetch(cntlid, qid) => write!(f, "{cntlid} {qid}"),
             FleetEvent::Execute(cntlid, i) => write!(f, "{cntlid} {i}"),
             event => write!(f, "{}", cntlid_of(event)),
+        }
+    }
+}
+
+/// What came of bringing a controller up.
+#[derive(Clone, Copy)]
+struct UpText<'a>(&'a Result<(), UpFault>);
+
+impl fmt::Display for UpText<'_> {
+    ghost output = { λ text. Some (up_text text.0.now) };
+
+    fn fmt<W: fmt::Write>(&self, f: &mut fmt::Formatter<W>) -> fmt::Result {
+        match self.0 {
+            Ok(()) => write!(f, "ok"),
+            Err(fault) => write!(f, "{fault}"),
+        }
+    }
+}
+
+/// What came of a fetch.
+#[derive(Clone, Copy)]
+struct FetchedText<'a>(&'a Fetched);
+
+impl fmt::Display for FetchedText<'_> {
+    ghost output = { λ text. Some (fetched_text text.0.now) };
+
+    fn fmt<W: fmt::Write>(&self, f: &mut fmt::Formatter<W>) -> fmt::Result {
+        match self.0 {
+            Fetched::Took => write!(f, "took"),
+            Fetched::Idle => write!(f, "idle"),
+        }
+    }
+}
+
+/// What came of an execution.
+#[derive(Clone, Copy)]
+struct ExecutedText<'a>(&'a Executed);
+
+impl fmt::Display for ExecutedText<'_> {
+    ghost output = { λ text. Some (executed_text text.0.now) };
+
+    fn fmt<W: fmt::Write>(&self, f: &mut fmt::Formatter<W>) -> fmt::Result {
+        match self.0 {
+            Executed::Posted(outcome) => write!(f, "posted {} {}", outcome.status, outcome.rule),
+            Executed::NoSuch => write!(f, "none"),
+            Executed::CqFull => write!(f, "full"),
+        }
+    }
+}
+
+/// What a poll handed up, and the data that came with it.
+#[derive(Clone, Copy)]
+struct PolledText<'a> {
+    polled: &'a Result<Option<Answer>, PollFault>,
+    bytes: &'a [u8],
+}
+
+impl fmt::Display for PolledText<'_> {
+    ghost output = { λ text. Some (polled_text text.polled.now text.bytes.now) };
+
+    fn fmt<W: fmt::Write>(&self, f: &mut fmt::Formatter<W>) -> fmt::Result {
+        match self.polled {
+            Ok(Some(answer)) => {
+                let bytes = self.bytes;
+                write!(f, "{}", AnswerText { answer, bytes })
+            }
+            Ok(None) => write!(f, "nothing"),
+            Err(fault) => write!(f, "{fault}"),
         }
     }
 }

@@ -1,0 +1,31 @@
+use Rattle.nvme_script.specs.Faults.{of_opening}
+use Rattle.nvme_script.proofs.Preparing.{refused_script}
+use Rattle.nvme_script.proofs.Ending.{early_fault, ran_whole, ran_in_part, opening_is_early}
+use Rattle.nvme_script.proofs.run.run_ready.Goals as goal
+
+pub returns-in-Err-clause-fault : goal.returns-in-Err-clause-fault
+returns-in-Err-clause-fault g c =
+    let ready = c.args.ready.now in
+    let text = ready.text.items in
+    let size = g.M.Medium.size c.args.medium in
+    let device = g.M.Medium.device c.args.medium in
+    let left = g.M.Medium.device c.in-Err.field-0.medium in
+    let written = g.W.Write.contents c.args.writer.now in
+    let fault = c.in-Err.field-0.fault in
+    rw (c.refused_at.ensures)
+    (early_fault g.M.Medium.tells text size device left written written (of_opening ready.script.start fault) (opening_is_early ready.script.start fault)
+    (refused_script text size ready.script fault c.requires.script c.in-Err.ensures.fault))
+
+pub returns-in-Ok-outcome-clause-ok : goal.returns-in-Ok-outcome-clause-ok
+returns-in-Ok-outcome-clause-ok g c =
+    let ready = c.args.ready.now in
+    ran_whole g.M.Medium.tells ready.text.items (g.M.Medium.size c.args.medium) (g.M.Medium.device c.args.medium) (g.M.Medium.device c.into_medium.result)
+    (g.W.Write.contents c.args.writer.now) (g.W.Write.contents c.run_events-outcome.new.writer) ready.script c.in-Ok.fleet c.run_events-outcome.new.fleet c.requires.script
+    c.in-Ok.ensures.accepted c.in-Ok.ensures.opened c.into_medium.ensures (rw (c.as_slice.ensures.value) at c.in-Ok-outcome.ensures.ok)
+
+pub returns-in-Err-outcome-clause-fault : goal.returns-in-Err-outcome-clause-fault
+returns-in-Err-outcome-clause-fault g c =
+    let ready = c.args.ready.now in
+    ran_in_part g.M.Medium.tells ready.text.items (g.M.Medium.size c.args.medium) (g.M.Medium.device c.args.medium) (g.M.Medium.device c.into_medium-in-Err-outcome.result)
+    (g.W.Write.contents c.args.writer.now) (g.W.Write.contents c.run_events-outcome.new.writer) ready.script c.in-Ok.fleet c.run_events-outcome.new.fleet c.requires.script
+    c.in-Ok.ensures.accepted c.in-Ok.ensures.opened c.into_medium-in-Err-outcome.ensures (rw (c.as_slice.ensures.value) at c.in-Err-outcome.ensures.err)
