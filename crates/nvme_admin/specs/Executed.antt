@@ -5,4 +5,11 @@ use Rattle.nvme_spec.specs.AdminEffects.{AdminExecution}
 use Rattle.nvme_admin.specs.declared.outcome.AdminOutcome.{AdminOutcome}
 
 abbrev pub execution_of : AdminOutcome → World → List ℕ → AdminExecution
-execution_of o w memory = record { status = o.status; dw0 = o.dw0; rule = o.rule; change = o.change; world = w; window = memory }
+execution_of o w memory = record {
+  status = o.status;
+  dw0 = o.dw0;
+  rule = o.rule;
+  change = o.change;
+  world = w;
+  window = memory;
+}

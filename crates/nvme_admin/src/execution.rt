@@ -86,7 +86,8 @@ fn carry_out(
     requires admitted { IsAdmitted spaces.old sqe.now admitted.now }
     requires placed { IsPlaced window.old sqe.now admitted.now (addresses pieces.now.parts.items) }
     ensures passed { OnOk result
-        (judgement_by (rules.list_rule (Some admitted.now.command) spaces.old sqe.now (rules.data_of window.old sqe.now))
+        (judgement_by (rules.list_rule (Some admitted.now.command) spaces.old sqe.now
+        (rules.data_of window.old sqe.now))
         ≡ Ok tt) }
     ensures done { IfOk result (λ outcome. effects.performance spaces.old cntlid window.old admitted.now.command sqe.now
         ≡ execution_of outcome spaces.new window.new) }

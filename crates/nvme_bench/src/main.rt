@@ -1,5 +1,6 @@
-//! `nvme_bench WHAT ROUNDS` measures a part of the product beside plain work on as many bytes. `WHAT` is one of `pointers`,
-//! `transfers`, `events` and `text`, or `image`, behind which stands the name of an image of 512 blocks at least.
+//! `nvme_bench WHAT ROUNDS` measures a part of the product beside plain work on as many bytes. `WHAT` is one of
+//! `pointers`, `transfers`, `events` and `text`, or `image`, behind which stands the name of an image of 512 blocks at
+//! least.
 #![tactic(auto)]
 
 mod events;

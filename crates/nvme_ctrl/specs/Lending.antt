@@ -7,4 +7,5 @@ use Rattle.nvme_ctrl.specs.contracts.controller.Controller.{the_row as controlle
 
 -- the controller ends with the window that is left behind the result, and with all else as it was
 abbrev pub LendsWindow : MutBor State → MutBor (List ℕ) → Fml
-LendsWindow controller result = Lends controller_row window_row controller result (λ bytes. record controller.now { window = bytes })
+LendsWindow controller result = Lends controller_row window_row controller result
+    (λ bytes. record controller.now { window = bytes })

@@ -9,8 +9,8 @@ ghost use Rattle.nvme_machine.specs.Controllers.{completion_slot, with_head};
 use nvme_ring::CqTail;
 use std::marker::Model;
 
-/// A completion queue: its address in host memory, and its tail. It lies in host memory. Contracts see it as the record of
-/// these.
+/// A completion queue: its address in host memory, and its tail. It lies in host memory. Contracts see it as the record
+/// of these.
 #[derive(Clone, Copy, Debug)]
 pub struct CompletionQueue {
     base: u64,
@@ -31,8 +31,8 @@ impl Model for CompletionQueue {
 }
 
 impl CompletionQueue {
-    /// An empty queue of `size` entries at `base`. That it begins a page, lies in host memory and has 2 to 64 entries is the
-    /// caller's condition.
+    /// An empty queue of `size` entries at `base`. That it begins a page, lies in host memory and has 2 to 64 entries
+    /// is the caller's condition.
     pub fn new(base: u64, size: u16) -> Self
         requires { IsQueuePlace base size 16 }
         ensures { result ≡ record { base = base; tail = empty_completion_tail size } }

@@ -15,8 +15,8 @@ use nvme_wire::NoMemory;
 use std::alloc::Global;
 use std::marker::Model;
 
-/// A controller: its identifier (CNTLID), registers, queues, fetched commands, and the window of host memory. Contracts see
-/// it as the record `Controller` of these.
+/// A controller: its identifier (CNTLID), registers, queues, fetched commands, and the window of host memory. Contracts
+/// see it as the record `Controller` of these.
 #[derive(Drop)]
 pub struct Controller {
     pub(crate) cntlid: u16,
@@ -32,7 +32,14 @@ impl Model for Controller {
 
     ghost Value = { State };
 
-    ghost view = { λ c. record { cntlid = c.cntlid; registers = c.registers; submission = c.submission; completion = c.completion; fetched = c.fetched.items; window = c.window } };
+    ghost view = { λ c. record {
+      cntlid = c.cntlid;
+      registers = c.registers;
+      submission = c.submission;
+      completion = c.completion;
+      fetched = c.fetched.items;
+      window = c.window;
+    } };
 }
 
 impl Controller {

@@ -32,16 +32,17 @@ fn command_at(commands: &[FetchedCommand], i: usize) -> Option<FetchedCommand>
 }
 
 impl Controller {
-    /// Executes the i-th of its fetched commands, in the access state and over the medium as they are now, and posts its
-    /// completion; or answers that there is no such command, or that its completion queue has no room, and changes nothing.
-    /// The data that go to the host stand in its memory before the completion.
+    /// Executes the i-th of its fetched commands, in the access state and over the medium as they are now, and posts
+    /// its completion; or answers that there is no such command, or that its completion queue has no room, and changes
+    /// nothing. The data that go to the host stand in its memory before the completion.
     ///
     /// That the controller is configured, that all namespaces lie within the medium, and that every registrant is a
     /// controller's host are the caller's conditions; they hold again afterwards.
     pub fn execute<M: Medium>(&mut self, i: usize, spaces: &mut Spaces, medium: &mut M) -> Executed
         requires ready { CanExecute spaces.old (M.size medium.old) self.old.cntlid }
         ensures executed { ExecutesNth M.tells i
-            (setting self.old spaces.old (M.device medium.old)) result (setting self.new spaces.new (M.device medium.new)) }
+            (setting self.old spaces.old (M.device medium.old)) result
+            (setting self.new spaces.new (M.device medium.new)) }
         ensures ready { CanExecute spaces.new (M.size medium.new) self.new.cntlid }
         ensures controllers { spaces.new.controllers ≡ spaces.old.controllers }
         ensures size { M.size medium.new ≡ M.size medium.old }
@@ -96,8 +97,16 @@ impl Controller {
 
     /// Executes an admin command.
     fn perform_admin(&mut self, command: &FetchedCommand, spaces: &mut Spaces) -> Answered
-        ensures executed { admin.admin_execution spaces.old (queues_of self.old) self.old.cntlid command.now.entry self.old.window
-            ≡ record { status = result.outcome.status; dw0 = result.outcome.dw0; rule = result.outcome.rule; change = result.change; world = spaces.new; window = self.new.window } }
+        ensures executed { admin.admin_execution spaces.old (queues_of self.old) self.old.cntlid command.now.entry
+            self.old.window
+            ≡ record {
+              status = result.outcome.status;
+              dw0 = result.outcome.dw0;
+              rule = result.outcome.rule;
+              change = result.change;
+              world = spaces.new;
+              window = self.new.window;
+            } }
         ensures marks { result.outcome.marks ≡ no_marks }
         ensures rest { self.new ≡ record self.old { window = self.new.window } }
     {

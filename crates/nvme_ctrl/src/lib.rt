@@ -1,5 +1,6 @@
-//! One controller: its registers, its queues, the commands that it has fetched, and the memory that it shares with its host
-//! (NVM Express Base Specification 2.0: Controller Registers, Command Fetching, Command Completion, Controller Reset).
+//! One controller: its registers, its queues, the commands that it has fetched, and the memory that it shares with its
+//! host (NVM Express Base Specification 2.0: Controller Registers, Command Fetching, Command Completion, Controller
+//! Reset).
 #![tactic(auto)]
 
 mod completion_queue;

@@ -151,8 +151,8 @@ impl Controller {
         }
     }
 
-    /// Does what an admin command asks of the queues. With a submission queue its fetched commands go. That a new queue lies
-    /// in host memory is the caller's condition.
+    /// Does what an admin command asks of the queues. With a submission queue its fetched commands go. That a new queue
+    /// lies in host memory is the caller's condition.
     #[tactic(auto, unfolding(nvme_machine::specs::Controllers::after_queue_change))]
     pub(crate) fn change_queues(&mut self, change: QueueChange)
         requires { IsPlaced change }

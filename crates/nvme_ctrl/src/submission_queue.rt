@@ -9,8 +9,8 @@ ghost use Rattle.nvme_machine.specs.Controllers.{with_tail};
 use nvme_ring::SqHead;
 use std::marker::Model;
 
-/// A submission queue: its address in host memory, the completion queue that its completions go to, and its head. It lies
-/// in host memory. Contracts see it as the record of these.
+/// A submission queue: its address in host memory, the completion queue that its completions go to, and its head. It
+/// lies in host memory. Contracts see it as the record of these.
 #[derive(Clone, Copy, Debug)]
 pub struct SubmissionQueue {
     base: u64,
@@ -32,8 +32,8 @@ impl Model for SubmissionQueue {
 }
 
 impl SubmissionQueue {
-    /// An empty queue of `size` entries at `base`, whose completions go to the queue `cqid`. That it begins a page, lies in
-    /// host memory and has 2 to 64 entries is the caller's condition.
+    /// An empty queue of `size` entries at `base`, whose completions go to the queue `cqid`. That it begins a page,
+    /// lies in host memory and has 2 to 64 entries is the caller's condition.
     pub fn new(base: u64, size: u16, cqid: u16) -> Self
         requires { IsQueuePlace base size 64 }
         ensures { result ≡ record { base = base; cqid = cqid; head = empty_submission_head size } }

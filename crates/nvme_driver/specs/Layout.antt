@@ -1,6 +1,6 @@
 -- Where the parts of a driver's window lie: the queue pages of its two lanes, and for each of its 24 slots a page for a
--- PRP list and an area for data. The doorbells too (Base Specification: Submission Queue Tail Doorbell, Completion Queue
--- Head Doorbell).
+-- PRP list and an area for data. The doorbells too (Base Specification: Submission Queue Tail Doorbell, Completion
+-- Queue Head Doorbell).
 use Rattle.std.specs.Prelude.{ℕ, ◌+◌, ◌*◌, ◌<◌, ◌≤◌, ◌≢◌, ◌⊎◌}
 use Rattle.nvme_spec.specs.Limits.{memory_page, most_bytes}
 use Rattle.nvme_spec.specs.Memory.{LiesInWindow}

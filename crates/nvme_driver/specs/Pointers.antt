@@ -72,8 +72,8 @@ SlotsAreContiguous =
     (window : List ℕ) (slot bytes : ℕ) → IsRequest window slot bytes → HasList window slot bytes
     → IsContiguous (slot_transfer window slot bytes)
 
--- Its addresses are one run. What such a transfer gathers is the slot's data, and what is scattered over the front of it
--- replaces their front.
+-- Its addresses are one run. What such a transfer gathers is the slot's data, and what is scattered over the front of
+-- it replaces their front.
 pub record IsOneRun (window : List ℕ) (slot bytes : ℕ) (places : List ℕ) : Type 0 where
   pub run : places ≡ range_with_len (data_area slot) bytes
   pub gathering : gathered_bytes window places ≡ slice_range window (data_area slot) (data_area slot + bytes)

@@ -98,7 +98,8 @@ is_success s = (s.sct == 0) && (s.sc == 0)
 abbrev pub answer_len : ℕ → Status → ℕ
 answer_len received s = if is_success s then received else 0
 
--- What a poll comes to: its answer, the driver after it, its calls of the port, and the bytes at the front of the buffer.
+-- What a poll comes to: its answer, the driver after it, its calls of the port, and the bytes at the front of the
+-- buffer.
 pub record Poll : Type 0 where
   pub answer : Result (Option Answer) PollFault
   pub driver : Driver
@@ -145,8 +146,8 @@ polled d (Some slot) window = aborted_poll d slot
 polled d None window =
     if is_up d.state then found_poll d window (found d window) else without_calls (Err NotUp) d
 
--- A poll of a driver over a window, by its calls of the port: some request, or none, is the oldest aborted one, and what
--- the poll then comes to is the answer, the driver after it, the calls, and the front of the buffer.
+-- A poll of a driver over a window, by its calls of the port: some request, or none, is the oldest aborted one, and
+-- what the poll then comes to is the answer, the driver after it, the calls, and the front of the buffer.
 abbrev pub IsPolled :
     {S : Type 0} → (S → Call → S → Type 0) → Driver → List ℕ → S → Result (Option Answer) PollFault → Driver → S
     → List ℕ

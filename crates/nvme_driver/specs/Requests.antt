@@ -16,8 +16,8 @@ use Rattle.nvme_driver.specs.declared.lane.Lane.TheVariants.{Admin, Io}
 use Rattle.nvme_driver.specs.declared.request.Request.{Request}
 use Rattle.nvme_driver.specs.declared.request.Request.TheVariants.{Read, Write, Compare, WriteZeroes, Flush, Register, Acquire, Release, Report, Identify, Protect, Protection, Attach, Detach}
 
--- What a request gives of its command: its lane, its opcode, its namespace and the double words 10, 11 and 12. All other
--- fields are its slot's, or 0.
+-- What a request gives of its command: its lane, its opcode, its namespace and the double words 10, 11 and 12. All
+-- other fields are its slot's, or 0.
 pub record Command : Type 0 where
   pub lane : Lane
   pub opcode : ℕ

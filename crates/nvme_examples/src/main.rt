@@ -1,5 +1,5 @@
-//! Runs each script that the file `examples` lists, in the folder that it is started in, and compares the transcript with
-//! the one that lies beside it.
+//! Runs each script that the file `examples` lists, in the folder that it is started in, and compares the transcript
+//! with the one that lies beside it.
 #![tactic(auto)]
 
 use nvme_script::run_program;

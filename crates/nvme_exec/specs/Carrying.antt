@@ -25,8 +25,10 @@ pub record CanExecute (w : World) (size cntlid : ℕ) : Type 0 where
   pub within : LiesWithin size w.namespaces
   pub known : HasKnownRegistrants w
 
--- A command on blocks has had its effect, by the data at these addresses; and the data that return to the host stand there.
-pub record ActsAt (tells : Bool) (command : Command) (first blocks : ℕ) (addresses : List ℕ) (before after : Device) (old new : List ℕ) (answer : Status) : Type 0 where
+-- A command on blocks has had its effect, by the data at these addresses; and the data that return to the host stand
+-- there.
+pub record ActsAt (tells : Bool) (command : Command) (first blocks : ℕ) (addresses : List ℕ) (before after : Device)
+    (old new : List ℕ) (answer : Status) : Type 0 where
   pub returned : List ℕ
   pub effect : BlockEffect tells command first blocks (gathered_bytes old addresses) before after answer returned
   pub window : new ≡ with_scattered old (take (length returned) addresses) returned
@@ -50,7 +52,8 @@ comparison_answer (Ok false) = status.compare_failure
 comparison_answer (Err e) = status.unrecovered_read_error
 
 -- the medium was flushed, and this is answered
-pub record IsFlushed {M E : Type 0} (flushes : M → Result (Unit {0}) E → M → Type 0) (old new : M) (answer : Status) : Type 0 where
+pub record IsFlushed {M E : Type 0} (flushes : M → Result (Unit {0}) E → M → Type 0) (old new : M)
+    (answer : Status) : Type 0 where
   pub result : Result (Unit {0}) E
   pub flushed : flushes old result new
   pub answered : answer ≡ answer_of result status.write_fault
@@ -80,7 +83,8 @@ IsUnrefused None = Unit {0}
 IsUnrefused (Some outcome) = IsOk outcome
 
 -- An admitted command is carried out.
-pub record IsCarriedOut (tells : Bool) (command : Command) (cntlid : ℕ) (e : List ℕ) (old new : Scene) (outcome : Outcome) : Type 0 where
+pub record IsCarriedOut (tells : Bool) (command : Command) (cntlid : ℕ) (e : List ℕ) (old new : Scene)
+    (outcome : Outcome) : Type 0 where
   pub performed : IsPerformed tells command cntlid e old new outcome
   pub unrefused : IsUnrefused (reservation_outcome old.world cntlid e (data_of old.window e))
 
@@ -90,7 +94,8 @@ pub record IsRefused (cntlid : ℕ) (e : List ℕ) (old : Scene) (denial : Denia
   pub refused : reservation_outcome old.world cntlid e (data_of old.window e) ≡ Some (Err denial.status)
 
 -- all rules allow a command, and it has been performed
-pub record IsAllowed (tells : Bool) (verdict : Verdict) (cntlid : ℕ) (e : List ℕ) (old new : Scene) (outcome : Outcome) : Type 0 where
+pub record IsAllowed (tells : Bool) (verdict : Verdict) (cntlid : ℕ) (e : List ℕ) (old new : Scene)
+    (outcome : Outcome) : Type 0 where
   pub plan : Plan
   pub allowed : verdict ≡ Allowed plan
   pub performed : IsPerformed tells plan.kind cntlid e old new outcome

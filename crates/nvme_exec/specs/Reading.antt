@@ -3,15 +3,18 @@ use Rattle.std.specs.Prelude.{◌≡◌, ◌<◌, ℕ, ◌*◌, Bool, List, leng
 use Rattle.nvme_spec.specs.Blocks.{Told, blocks_from}
 use Rattle.nvme_spec.specs.Transfers.{with_scattered}
 
--- so many blocks of the content, from block `first` on, stand at the first of the addresses, and nothing else has changed
-pub record HasReadBlocks (tells : Bool) (content : List ℕ) (first blocks : ℕ) (addresses old new : List ℕ) : Type 0 where
+-- so many blocks of the content, from block `first` on, stand at the first of the addresses, and nothing else has
+-- changed
+pub record HasReadBlocks (tells : Bool) (content : List ℕ) (first blocks : ℕ)
+    (addresses old new : List ℕ) : Type 0 where
   pub read : List ℕ
   pub size : length read ≡ 512 * blocks
   pub told : Told tells (read ≡ blocks_from content first (512 * blocks))
   pub window : new ≡ with_scattered old (take (512 * blocks) addresses) read
 
 -- a read that stopped at one of so many blocks: those before it have been read
-pub record StoppedReading (tells : Bool) (content : List ℕ) (first blocks : ℕ) (addresses old new : List ℕ) : Type 0 where
+pub record StoppedReading (tells : Bool) (content : List ℕ) (first blocks : ℕ)
+    (addresses old new : List ℕ) : Type 0 where
   pub at : ℕ
   pub within : at < blocks
   pub front : HasReadBlocks tells content first at addresses old new

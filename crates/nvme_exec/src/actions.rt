@@ -30,8 +30,8 @@ fn other(keys: &[u8]) -> u64
     LittleEndian::read_u64(&keys[8..16])
 }
 
-/// Reservation Register: registers, unregisters or replaces the key of a host, by the two keys of the Reservation Register
-/// Data Structure.
+/// Reservation Register: registers, unregisters or replaces the key of a host, by the two keys of the Reservation
+/// Register Data Structure.
 ///
 /// # Errors
 ///
@@ -45,7 +45,8 @@ pub fn register(
 ) -> Result<Change, Status>
     requires room { HasRoomFor reservation.old host }
     requires size { 16 ≤ length keys.now }
-    ensures { FollowsSome (action_outcome ReservationRegister reservation.old host sqe.now keys.now) reservation.old result reservation.new }
+    ensures { FollowsSome (action_outcome ReservationRegister reservation.old host sqe.now keys.now) reservation.old
+        result reservation.new }
 {
     match action(sqe) {
         0 => reservation.register(host, other(keys)),
@@ -54,8 +55,8 @@ pub fn register(
     }
 }
 
-/// Reservation Acquire: acquires the reservation, or preempts registrants, by the two keys of the Reservation Acquire Data
-/// Structure.
+/// Reservation Acquire: acquires the reservation, or preempts registrants, by the two keys of the Reservation Acquire
+/// Data Structure.
 ///
 /// # Errors
 ///
@@ -69,7 +70,8 @@ pub fn acquire(
 ) -> Result<Change, Status>
     requires rtype { (1 ≤ rtype sqe.now) × (rtype sqe.now ≤ 6) }
     requires size { 16 ≤ length keys.now }
-    ensures { FollowsSome (action_outcome ReservationAcquire reservation.old host sqe.now keys.now) reservation.old result reservation.new }
+    ensures { FollowsSome (action_outcome ReservationAcquire reservation.old host sqe.now keys.now) reservation.old
+        result reservation.new }
 {
     match action(sqe) {
         0 => reservation.acquire(host, rtype(sqe), current(keys)),
@@ -90,7 +92,8 @@ pub fn release(
     keys: &[u8],
 ) -> Result<Change, Status>
     requires size { 8 ≤ length keys.now }
-    ensures { FollowsSome (action_outcome ReservationRelease reservation.old host sqe.now keys.now) reservation.old result reservation.new }
+    ensures { FollowsSome (action_outcome ReservationRelease reservation.old host sqe.now keys.now) reservation.old
+        result reservation.new }
 {
     match action(sqe) {
         0 => reservation.release(host, rtype(sqe), current(keys)),

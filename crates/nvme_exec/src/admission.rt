@@ -36,7 +36,8 @@ pub struct Admission {
     pub pieces: Pieces,
 }
 
-/// Applies the rules on access, and then that on the data pointer, which is walked whole. The medium has so many blocks.
+/// Applies the rules on access, and then that on the data pointer, which is walked whole. The medium has so many
+/// blocks.
 ///
 /// # Errors
 ///
@@ -55,7 +56,8 @@ pub fn admit(
     ensures sound { IfOk result (λ a. rules.data_fault (data_length a.plan.kind sqe.now) window.now sqe.now ≡ None) }
     ensures admitted { IfOk result (IsAdmitted spaces.now cntlid window.now sqe.now) }
     ensures within { IfOk result (λ a. a.extent.first + a.extent.blocks ≤ medium_blocks) }
-    ensures denied { IfErr result (λ d. io_verdict spaces.now cntlid sqe.now marked window.now ≡ Denied d.rule d.status) }
+    ensures denied { IfErr result (λ d. io_verdict spaces.now cntlid sqe.now marked window.now
+        ≡ Denied d.rule d.status) }
 {
     let Admitted { plan, namespace } = match nvme_policy::admit(spaces, cntlid, sqe, marked) {
         Ok(admitted) => admitted,

@@ -41,7 +41,8 @@ pub fn carry_out<M: Medium>(
     ensures flushed { IfOk result (λ outcome. admission.now.plan.kind ≡ Flush
         → IsFlushed M.flushes medium.old medium.new outcome.status) }
     ensures refused { IfErr result (IsRefused cntlid sqe.now (scene spaces.old window.old (M.device medium.old))) }
-    ensures unchanged { OnErr result ((spaces.new ≡ spaces.old) × (window.new ≡ window.old) × (medium.new ≡ medium.old)) }
+    ensures unchanged { OnErr result ((spaces.new ≡ spaces.old) × (window.new ≡ window.old)
+        × (medium.new ≡ medium.old)) }
     ensures size { M.size medium.new ≡ M.size medium.old }
 {
     let plan = &admission.plan;
@@ -63,8 +64,8 @@ pub fn carry_out<M: Medium>(
     }
 }
 
-/// What a command marks that has removed these hosts: their fetched commands on the namespace, where it is a Preempt and
-/// Abort, else nothing.
+/// What a command marks that has removed these hosts: their fetched commands on the namespace, where it is a Preempt
+/// and Abort, else nothing.
 fn marks_of(command: Command, sqe: &Sqe, change: Change) -> Marks
     ensures { result ≡ spec.marks_for command sqe.now change.removed.items }
 {

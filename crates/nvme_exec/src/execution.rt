@@ -22,9 +22,9 @@ use nvme_wire::Sqe;
 ///
 /// A command that a rule denies is answered with the number and the status of the first such rule, and changes
 /// nothing. One that all rules allow takes its effect, and is answered with rule 0: Read, Write, Compare, Write Zeroes
-/// and Flush may then meet a fault of the medium, which is told by a status of the type Media and Data Integrity Errors.
-/// The data pointer is walked whole before any block is touched. `marked` says that a Preempt and Abort has caught the
-/// command.
+/// and Flush may then meet a fault of the medium, which is told by a status of the type Media and Data Integrity
+/// Errors. The data pointer is walked whole before any block is touched. `marked` says that a Preempt and Abort has
+/// caught the command.
 ///
 /// That the controller is configured, that all namespaces lie within the medium, and that every registrant is a
 /// controller's host are the caller's conditions; they hold again afterwards.
@@ -69,12 +69,15 @@ fn perform<M: Medium>(
     marked: bool,
 ) -> Result<Outcome, Denial>
     requires ready { CanExecute spaces.old (M.size medium.old) cntlid }
-    ensures allowed { IfOk result (IsAllowed M.tells (io_verdict spaces.old cntlid sqe.now marked window.old) cntlid sqe.now
+    ensures allowed { IfOk result
+        (IsAllowed M.tells (io_verdict spaces.old cntlid sqe.now marked window.old) cntlid sqe.now
         (scene spaces.old window.old (M.device medium.old)) (scene spaces.new window.new (M.device medium.new))) }
     ensures flushed { IfOk result (λ outcome. IfAllowed (io_verdict spaces.old cntlid sqe.now marked window.old)
         (λ plan. plan.kind ≡ Flush → IsFlushed M.flushes medium.old medium.new outcome.status)) }
-    ensures denied { IfErr result (λ d. io_verdict spaces.old cntlid sqe.now marked window.old ≡ Denied d.rule d.status) }
-    ensures unchanged { OnErr result ((spaces.new ≡ spaces.old) × (window.new ≡ window.old) × (medium.new ≡ medium.old)) }
+    ensures denied { IfErr result (λ d. io_verdict spaces.old cntlid sqe.now marked window.old
+        ≡ Denied d.rule d.status) }
+    ensures unchanged { OnErr result ((spaces.new ≡ spaces.old) × (window.new ≡ window.old)
+        × (medium.new ≡ medium.old)) }
     ensures size { M.size medium.new ≡ M.size medium.old }
 {
     match admit(spaces, medium.blocks(), window, cntlid, sqe, marked) {

@@ -23,9 +23,11 @@ pub fn act_on_blocks<M: Medium>(
 ) -> Status
     requires kind { kind_of admission.now.plan.kind ≡ WorksOnBlocks }
     requires within { admission.now.extent.first + admission.now.extent.blocks ≤ M.size medium.old }
-    requires bytes { MovesBlocks admission.now.plan.kind admission.now.extent.blocks (length (addresses admission.now.pieces.parts.items)) }
+    requires bytes { MovesBlocks admission.now.plan.kind admission.now.extent.blocks
+        (length (addresses admission.now.pieces.parts.items)) }
     ensures acts { ActsAt M.tells admission.now.plan.kind admission.now.extent.first admission.now.extent.blocks
-        (addresses admission.now.pieces.parts.items) (M.device medium.old) (M.device medium.new) window.old window.new result }
+        (addresses admission.now.pieces.parts.items) (M.device medium.old) (M.device medium.new) window.old
+        window.new result }
     ensures flushed { admission.now.plan.kind ≡ Flush → IsFlushed M.flushes medium.old medium.new result }
     ensures size { M.size medium.new ≡ M.size medium.old }
 {

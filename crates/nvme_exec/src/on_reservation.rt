@@ -23,7 +23,8 @@ use nvme_wire::{Sqe, Status};
 /// The most bytes of data that such a command has: two keys.
 const MAX_KEYS: usize = 16;
 
-/// Does to the reservation of its namespace what an admitted command of a controller is to do, and answers whom it removed.
+/// Does to the reservation of its namespace what an admitted command of a controller is to do, and answers whom it
+/// removed.
 ///
 /// # Errors
 ///
@@ -39,9 +40,12 @@ pub fn act_on_reservation(
     requires known { HasKnownRegistrants spaces.old }
     requires admitted { IsAdmitted spaces.old cntlid window.now sqe.now admission.now }
     ensures acts { MatchResult result
-        (λ change. Removes (reservation_outcome spaces.old cntlid sqe.now (data_of window.now sqe.now)) change.removed.items)
-        (λ d. (d.rule ≡ 11) × (reservation_outcome spaces.old cntlid sqe.now (data_of window.now sqe.now) ≡ Some (Err d.status))) }
-    ensures world { spaces.new ≡ world_after spaces.old (nsid sqe.now) (reservation_outcome spaces.old cntlid sqe.now (data_of window.now sqe.now)) }
+        (λ change. Removes (reservation_outcome spaces.old cntlid sqe.now (data_of window.now sqe.now))
+        change.removed.items)
+        (λ d. (d.rule ≡ 11) × (reservation_outcome spaces.old cntlid sqe.now (data_of window.now sqe.now)
+        ≡ Some (Err d.status))) }
+    ensures world { spaces.new ≡ world_after spaces.old (nsid sqe.now)
+        (reservation_outcome spaces.old cntlid sqe.now (data_of window.now sqe.now)) }
 {
     let mut data = [0; MAX_KEYS];
     let keys = &mut data[..admission.plan.bytes as usize];
@@ -61,7 +65,8 @@ fn act(spaces: &mut Spaces, sqe: &Sqe, admission: &Admission, keys: &[u8]) -> Re
     requires named { IsSome (namespace_of spaces.old (nsid sqe.now)) }
     requires rtype { admission.now.plan.kind ≡ ReservationAcquire → (1 ≤ rtype sqe.now) × (rtype sqe.now ≤ 6) }
     requires size { length keys.now ≡ data_length admission.now.plan.kind sqe.now }
-    ensures { Settles (outcome_in (Some admission.now.plan.kind) (namespace_of spaces.old (nsid sqe.now)) (Some admission.now.host) sqe.now keys.now)
+    ensures { Settles (outcome_in (Some admission.now.plan.kind) (namespace_of spaces.old (nsid sqe.now))
+        (Some admission.now.host) sqe.now keys.now)
         (nsid sqe.now) spaces.old result spaces.new }
 {
     let host = admission.host;

@@ -22,8 +22,10 @@ pub fn read_into<M: Medium>(
 ) -> Result<(), MediumFault>
     requires all { length (addresses pieces.now.parts.items) ≡ 512 * blocks }
     requires within { first + blocks ≤ M.size medium.old }
-    ensures read { OnOk result (HasReadBlocks M.tells (M.device medium.old).content first blocks (addresses pieces.now.parts.items) window.old window.new) }
-    ensures fault { OnErr result (StoppedReading M.tells (M.device medium.old).content first blocks (addresses pieces.now.parts.items) window.old window.new) }
+    ensures read { OnOk result (HasReadBlocks M.tells (M.device medium.old).content first blocks
+        (addresses pieces.now.parts.items) window.old window.new) }
+    ensures fault { OnErr result (StoppedReading M.tells (M.device medium.old).content first blocks
+        (addresses pieces.now.parts.items) window.old window.new) }
     ensures kept { Told M.tells ((M.device medium.new).content ≡ (M.device medium.old).content) }
     ensures size { M.size medium.new ≡ M.size medium.old }
     ensures count { CountsFaults (M.device medium.old).failures (M.device medium.new).failures result }
@@ -45,8 +47,12 @@ pub fn compare_blocks<M: Medium, S: Source>(
 ) -> Result<bool, MediumFault>
     requires all { length (S.bytes source.now) ≡ 512 * blocks }
     requires within { first + blocks ≤ M.size medium.old }
-    ensures same { IfOk result (λ same. Told M.tells (IsTrue same ↔ (blocks_from (M.device medium.old).content first (length (S.bytes source.now)) ≡ S.bytes source.now))) }
-    ensures fault { OnErr result (Told M.tells (HasSameFront first (S.bytes source.now) (M.device medium.old).content)) }
+    ensures same { IfOk result
+        (λ same. Told M.tells
+        (IsTrue same ↔ (blocks_from (M.device medium.old).content first (length (S.bytes source.now))
+        ≡ S.bytes source.now))) }
+    ensures fault { OnErr result
+        (Told M.tells (HasSameFront first (S.bytes source.now) (M.device medium.old).content)) }
     ensures kept { Told M.tells ((M.device medium.new).content ≡ (M.device medium.old).content) }
     ensures size { M.size medium.new ≡ M.size medium.old }
     ensures count { CountsFaults (M.device medium.old).failures (M.device medium.new).failures result }

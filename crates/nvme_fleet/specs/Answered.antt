@@ -1,5 +1,5 @@
--- What is handed up as done is what an execution of its own request answered, and that request was placed: both in the run
--- since the mailbox was clear, as each reset leaves it.
+-- What is handed up as done is what an execution of its own request answered, and that request was placed: both in the
+-- run since the mailbox was clear, as each reset leaves it.
 use Rattle.std.specs.Prelude.{◌≡◌, ◌⊎◌, ℕ, Bool, List, [], ◌∷◌, length, Some, Ok, slice_get}
 use Rattle.nvme_wire.specs.declared.status.Status.{Status}
 use Rattle.nvme_machine.specs.declared.seen.Executed.TheVariants.{Posted}
@@ -33,7 +33,8 @@ abbrev pub conclusion_of : Response → Conclusion
 conclusion_of r = record { status = r.outcome.status; dw0 = r.outcome.dw0; bytes = r.bytes }
 
 -- controller k executes the request, in the site of that moment, and it comes to this
-pub record Executes (tells : Bool) (k : ℕ) (item : Item) (conclusion : Conclusion) (old : Fleet) (event : FleetEvent) (reply : Reply) (new : Fleet) : Type 0 where
+pub record Executes (tells : Bool) (k : ℕ) (item : Item) (conclusion : Conclusion) (old : Fleet) (event : FleetEvent)
+    (reply : Reply) (new : Fleet) : Type 0 where
   pub place : ℕ
   pub event_is : event ≡ Execute k place
   pub mailbox : Mailbox
@@ -52,7 +53,8 @@ abbrev pub Happening : Type 1
 Happening = Fleet → FleetEvent → Reply → Fleet → Type 0
 
 -- it happens in an event of the run
-abbrev pub Happens : Happening → (tells : Bool) → (old : Fleet) → (events : List FleetEvent) → (replies : List Reply) → (new : Fleet) → Run tells old events replies new → Type 0
+abbrev pub Happens : Happening → (tells : Bool) → (old : Fleet) → (events : List FleetEvent) → (replies : List Reply)
+    → (new : Fleet) → Run tells old events replies new → Type 0
 Happens what tells old [] [] new run = ⊥
 Happens what tells old (event ∷ events) (reply ∷ later) new run =
     what old event reply run.0 ⊎ Happens what tells run.0 events later new run.2
@@ -60,7 +62,8 @@ Happens what tells old [] (reply ∷ later) new run = ⊥
 Happens what tells old (event ∷ events) [] new run = ⊥
 
 -- one happens in an event of the run, and the other in a later one
-abbrev pub HappensThen : Happening → Happening → (tells : Bool) → (old : Fleet) → (events : List FleetEvent) → (replies : List Reply) → (new : Fleet) → Run tells old events replies new → Type 0
+abbrev pub HappensThen : Happening → Happening → (tells : Bool) → (old : Fleet) → (events : List FleetEvent)
+    → (replies : List Reply) → (new : Fleet) → Run tells old events replies new → Type 0
 HappensThen first then tells old [] [] new run = ⊥
 HappensThen first then tells old (event ∷ events) (reply ∷ later) new run =
     (first old event reply run.0 × Happens then tells run.0 events later new run.2)
@@ -80,7 +83,9 @@ abbrev pub NewIsClear : Type 0
 NewIsClear = (first : ℕ) → IsClear (new_mailbox first)
 
 -- The request with this ticket was placed in the run, was executed in a later event of it, and came to this.
-pub record WasPlacedAndExecuted (tells : Bool) (k ticket : ℕ) (conclusion : Conclusion) (old : Fleet) (events : List FleetEvent) (replies : List Reply) (new : Fleet) (run : Run tells old events replies new) : Type 0 where
+pub record WasPlacedAndExecuted (tells : Bool) (k ticket : ℕ) (conclusion : Conclusion) (old : Fleet)
+    (events : List FleetEvent) (replies : List Reply) (new : Fleet)
+    (run : Run tells old events replies new) : Type 0 where
   pub item : Item
   pub ticket_is : item.ticket ≡ ticket
   pub happened : HappensThen (Places k item) (Executes tells k item conclusion) tells old events replies new run
@@ -95,7 +100,8 @@ DoneIsItsExecution =
     → (ticket dw0 len : ℕ) → (status : Status)
     → reply.seen ≡ Polled (Ok (Some (Done (record { 0 = ticket }) status dw0 len)))
     → (len ≡ length reply.bytes)
-    × WasPlacedAndExecuted tells k ticket (record { status = status; dw0 = dw0; bytes = reply.bytes }) old events replies mid run
+    × WasPlacedAndExecuted tells k ticket (record { status = status; dw0 = dw0; bytes = reply.bytes }) old events
+    replies mid run
 
 -- A ticket is given for one request: those that are placed in a run under the same ticket are the same.
 abbrev pub TicketNamesItsRequest : Type 0
@@ -106,8 +112,8 @@ TicketNamesItsRequest =
     → Happens (Places k x) tells old events replies new run → Happens (Places k y) tells old events replies new run
     → x.ticket ≡ y.ticket → x ≡ y
 
--- So what is handed up as done under the ticket of a request that was placed in such a run is what the execution of that
--- very request came to, after it was placed.
+-- So what is handed up as done under the ticket of a request that was placed in such a run is what the execution of
+-- that very request came to, after it was placed.
 abbrev pub DoneAnswersItsRequest : Type 0
 DoneAnswersItsRequest =
     (tells : Bool) → (old mid new : Fleet) → (events : List FleetEvent) → (replies : List Reply)
@@ -118,4 +124,5 @@ DoneAnswersItsRequest =
     → (dw0 len : ℕ) → (status : Status)
     → reply.seen ≡ Polled (Ok (Some (Done (record { 0 = item.ticket }) status dw0 len)))
     → HappensThen (Places k item)
-    (Executes tells k item (record { status = status; dw0 = dw0; bytes = reply.bytes })) tells old events replies mid run
+    (Executes tells k item (record { status = status; dw0 = dw0; bytes = reply.bytes })) tells old events
+    replies mid run

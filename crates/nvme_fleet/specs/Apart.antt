@@ -1,5 +1,5 @@
--- What an event makes of the mailbox of one host: an event of its own all that is made of it, one of another host nothing,
--- but the marks that an execution says.
+-- What an event makes of the mailbox of one host: an event of its own all that is made of it, one of another host
+-- nothing, but the marks that an execution says.
 use Rattle.std.specs.Prelude.{◌≡◌, ℕ, ◌==◌, Bool, true, false, if◌then◌else◌, Option, None, Some, slice_get}
 use Rattle.nvme_spec.specs.declared.outcome.Marks.{Marks}
 use Rattle.nvme_spec.specs.World.{World, host_of}
@@ -36,8 +36,8 @@ abbrev pub marks_seen : FleetSeen → Marks
 marks_seen (ExecutedSeen executed) = marks_in executed
 marks_seen other = no_marks
 
--- the mailbox of controller k's host, where that host is among those that are marked: what it has fetched on the namespace
--- is marked
+-- the mailbox of controller k's host, where that host is among those that are marked: what it has fetched on the
+-- namespace is marked
 abbrev pub marked_by : Marks → World → ℕ → Mailbox → Mailbox
 marked_by marks w k m = if is_host_among marks.hosts.items (host_of w k) then with_marks marks.nsid m else m
 
@@ -45,7 +45,8 @@ abbrev pub Becomes : Reaction → Reply → Mailbox → Type 0
 Becomes r reply n = (reply ≡ r.reply) × (n ≡ r.mailbox)
 
 -- the i-th fetched request is executed in this site, which leaves that one
-pub record Posts (tells : Bool) (k : ℕ) (s : Site) (m : Mailbox) (i : ℕ) (x : FetchedItem) (reply : Reply) (left : Site) (n : Mailbox) : Type 0 where
+pub record Posts (tells : Bool) (k : ℕ) (s : Site) (m : Mailbox) (i : ℕ) (x : FetchedItem) (reply : Reply) (left : Site)
+    (n : Mailbox) : Type 0 where
   pub response : Response
   pub answers : Answers tells k x s response
   pub gives : reply ≡ plain (ExecutedSeen (Posted response.outcome))
@@ -77,9 +78,10 @@ abbrev pub MailboxStep : Bool → FleetEvent → Bool → ℕ → Site → Mailb
 MailboxStep true event tells k s m reply left n = OwnStep event tells k s m reply left n
 MailboxStep false event tells k s m reply left n = OthersStep event k m reply left n
 
--- Whatever event it is, of whichever host: a host that has a driver goes on having one, and its mailbox becomes what its own
--- events make of it; another's leave it as it is, but for the marks that an execution says.
-pub record MovesOn (tells : Bool) (old : Fleet) (event : FleetEvent) (reply : Reply) (new : Fleet) (k : ℕ) (m : Mailbox) : Type 0 where
+-- Whatever event it is, of whichever host: a host that has a driver goes on having one, and its mailbox becomes what
+-- its own events make of it; another's leave it as it is, but for the marks that an execution says.
+pub record MovesOn (tells : Bool) (old : Fleet) (event : FleetEvent) (reply : Reply) (new : Fleet) (k : ℕ)
+    (m : Mailbox) : Type 0 where
   pub mailbox : Mailbox
   pub host : HasMailbox new k mailbox
   pub moves : MailboxStep (controller_of event == k) event tells k old.site m reply new.site mailbox

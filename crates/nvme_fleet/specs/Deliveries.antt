@@ -109,8 +109,8 @@ fetched_of (Some lane) m = fetched_first lane (box_at lane m).rung m
 abbrev pub fetched : ℕ → Mailbox → Reaction
 fetched q m = fetched_of (lane_at q) m
 
--- The driver hands up the first aborted request; else, where it is up, the first answer of the admin lane, and then of the
--- I/O lane.
+-- The driver hands up the first aborted request; else, where it is up, the first answer of the admin lane, and then of
+-- the I/O lane.
 abbrev pub without_first : LaneBox → PostedAnswer → List PostedAnswer → LaneBox
 without_first b first rest = record b { posted = rest; unheard = b.unheard - first.step }
 

@@ -1,6 +1,6 @@
--- The execution of a request that was fetched, in the world as it is then. It is judged by all rules but that of the data
--- pointer, which passes: the data that go in are the request's. Of an allowed I/O command a fault of the medium may choose
--- the answer; of every other request the answer is a function.
+-- The execution of a request that was fetched, in the world as it is then. It is judged by all rules but that of the
+-- data pointer, which passes: the data that go in are the request's. Of an allowed I/O command a fault of the medium
+-- may choose the answer; of every other request the answer is a function.
 use Rattle.std.specs.Prelude.{◌≡◌, ℕ, Bool, true, false, if◌then◌else◌, List, [], ◌∷◌, ◌++◌, Option, None, Some, Ok, Err}
 use Rattle.nvme_wire.specs.Submission.{submission_entry, opcode}
 use Rattle.nvme_wire.specs.declared.sqe.fields.SqeFields.{SqeFields}
@@ -134,7 +134,8 @@ admin_response_by (Ok u) (Some command) s cntlid a = admin_served s cntlid a com
 
 unfoldable pub admin_response : Site → ℕ → Asked → Response
 admin_response s cntlid a =
-    admin_response_by (admin_judgement s.world cntlid a) (admin_commands.command_of (opcode (command_entry a))) s cntlid a
+    admin_response_by (admin_judgement s.world cntlid a)
+    (admin_commands.command_of (opcode (command_entry a))) s cntlid a
 
 -- a request of a controller that was fetched, executed now, comes to this
 abbrev pub AnswersAs : Lane → Bool → ℕ → Asked → Bool → Site → Response → Type 0

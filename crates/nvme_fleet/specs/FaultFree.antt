@@ -1,4 +1,5 @@
--- Steps and runs over a medium none of whose calls fails, as functions: what a list of events gives, and what it leaves.
+-- Steps and runs over a medium none of whose calls fails, as functions: what a list of events gives, and what it
+-- leaves.
 use Rattle.std.specs.Prelude.{ℕ, Bool, List, [], ◌∷◌, Option, None, Some, slice_get}
 use Rattle.nvme_spec.specs.declared.command.Command.{Command}
 use Rattle.nvme_spec.specs.declared.verdict.Verdict.{Verdict}
@@ -39,7 +40,8 @@ served command cntlid a s p = record {
 }
 
 abbrev pub performance_of : Command → ℕ → Asked → Site → Performance
-performance_of command cntlid a s = performance_as (kind_of command) command cntlid (command_entry a) a.sent (scene_at s)
+performance_of command cntlid a s = performance_as (kind_of command) command cntlid (command_entry a) a.sent
+    (scene_at s)
 
 abbrev pub io_response : Verdict → ℕ → Asked → Site → Response
 io_response (Denied number why) cntlid a s = denial_response s number why

@@ -1,6 +1,6 @@
--- Hosts of a fleet that a reservation keeps from writing a namespace, hosts with a driver and raw ones alike: their writes are
--- refused, whatever any host does, until a reservation command on it is executed that all rules let pass (Base
--- Specification: Reservations).
+-- Hosts of a fleet that a reservation keeps from writing a namespace, hosts with a driver and raw ones alike: their
+-- writes are refused, whatever any host does, until a reservation command on it is executed that all rules let pass
+-- (Base Specification: Reservations).
 use Rattle.std.specs.Prelude.{◌≡◌, ◌⊎◌, ℕ, Bool, true, false, List, [], ◌∷◌, take, Some, Ok, Err}
 use Rattle.nvme_wire.specs.Submission.{opcode, nsid}
 use Rattle.nvme_spec.specs.declared.command.Command.{Command}
@@ -45,11 +45,12 @@ Allows commands f (Reset k) n = ⊥
 Allows commands f (RawStore k address bytes) n = ⊥
 Allows commands f (RawWrite32 k offset v) n = ⊥
 
--- The reservation of a namespace changes only where a Reservation Register, Acquire or Release on it is executed that all
--- rules let pass.
+-- The reservation of a namespace changes only where a Reservation Register, Acquire or Release on it is executed that
+-- all rules let pass.
 abbrev pub OnlyAllowedActionsReserve : Type 0
 OnlyAllowedActionsReserve =
-    (tells : Bool) → (old new : Fleet) → (event : FleetEvent) → (reply : Reply) → (n : ℕ) → Step tells old event reply new
+    (tells : Bool) → (old new : Fleet) → (event : FleetEvent) → (reply : Reply) → (n : ℕ)
+    → Step tells old event reply new
     → (reservation_of new.site.world n ≡ reservation_of old.site.world n) ⊎ Allows reserving old event n
 
 -- a run in which each event is so in the state that it finds
@@ -71,8 +72,8 @@ PermissionsStay =
     → RunWhere (LeavesReservation n) tells old events replies new
     → (k : ℕ) → may_write new.site.world k n ≡ may_write old.site.world k n
 
--- The rules before that of the reservation: the command is marked, it is none, its form, its namespace, the attachment, its
--- fields.
+-- The rules before that of the reservation: the command is marked, it is none, its form, its namespace, the attachment,
+-- its fields.
 abbrev pub rules_before : World → ℕ → IoCommand → List Rule
 rules_before w k x = take 6 (access_rules w k x.entry x.marked)
 
@@ -90,13 +91,16 @@ FencedWritesAreDenied =
     (f : Fleet) → (n k i : ℕ) → (x : IoCommand) → AreNumbered f → command_at f k i ≡ Some x → IsOn n writers x
     → may_write f.site.world k n ≡ false → x.judgement ≡ Err (fenced f.site.world k x)
 
--- Fencing holds: while no reservation command on a namespace is executed but denied ones, each write of a host that may not
--- write it is answered Reservation Conflict, or with the denial of a rule before, and changes neither access state nor
--- medium, whatever any host places, rings, fetches, executes, polls, resets, stores and writes until then, in any order.
+-- Fencing holds: while no reservation command on a namespace is executed but denied ones, each write of a host that may
+-- not write it is answered Reservation Conflict, or with the denial of a rule before, and changes neither access state
+-- nor medium, whatever any host places, rings, fetches, executes, polls, resets, stores and writes until then, in any
+-- order.
 abbrev pub FencingHolds : Type 0
 FencingHolds =
-    (tells : Bool) → (old mid new : Fleet) → (events : List FleetEvent) → (replies : List Reply) → (n k i : ℕ) → (x : IoCommand) → (outcome : Outcome)
-    → AreNumbered old → may_write old.site.world k n ≡ false → RunWhere (LeavesReservation n) tells old events replies mid
+    (tells : Bool) → (old mid new : Fleet) → (events : List FleetEvent) → (replies : List Reply) → (n k i : ℕ)
+    → (x : IoCommand) → (outcome : Outcome)
+    → AreNumbered old → may_write old.site.world k n ≡ false
+    → RunWhere (LeavesReservation n) tells old events replies mid
     → command_at mid k i ≡ Some x → IsOn n writers x
     → Step tells mid (Execute k i) (plain (ExecutedSeen (Posted outcome))) new
     → (outcome ≡ denial_outcome (fenced mid.site.world k x).rule (fenced mid.site.world k x).status)

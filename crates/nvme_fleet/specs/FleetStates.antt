@@ -1,5 +1,5 @@
--- What contracts see of a fleet: its subsystem, the driver of each controller's host, and the room for the data of the last
--- event. The k-th driver is that of controller k; a raw host has none.
+-- What contracts see of a fleet: its subsystem, the driver of each controller's host, and the room for the data of the
+-- last event. The k-th driver is that of controller k; a raw host has none.
 use Rattle.std.specs.Prelude.{◌≡◌, ◌≤◌, ℕ, List, [], ◌∷◌, length, take, Option, None, Some, slice_get, Ok, if◌then◌else◌}
 use Rattle.nvme_spec.specs.declared.config.ControllerConfig.{ControllerConfig}
 use Rattle.nvme_spec.specs.Limits.{most_bytes}
@@ -76,10 +76,11 @@ abbrev pub IsCalled : Option Driver → Controller → DriverCall → Option Dri
 IsCalled None c call e d reply = (e ≡ None) × (d ≡ c) × (reply ≡ plain NoDriver)
 IsCalled (Some f) c call e d reply = (g : Driver) × (e ≡ Some g) × IsStep (reaction_to call (mailbox f c)) g d reply
 
--- What a fleet keeps: there is a place for a driver at each controller, and each driver that there is, is sound with its
--- controller; there is room for the data of any request, and the data lie in it.
+-- What a fleet keeps: there is a place for a driver at each controller, and each driver that there is, is sound with
+-- its controller; there is room for the data of any request, and the data lie in it.
 pub record IsSoundFleet (s : FleetState) : Type 0 where
   pub pairs : length s.drivers ≡ length s.subsystem.controllers
-  pub sound : (i : ℕ) (d : Option Driver) (c : Controller) → slice_get s.drivers i ≡ Some d → slice_get s.subsystem.controllers i ≡ Some c → SoundBy d c
+  pub sound : (i : ℕ) (d : Option Driver) (c : Controller) → slice_get s.drivers i ≡ Some d
+      → slice_get s.subsystem.controllers i ≡ Some c → SoundBy d c
   pub room : length s.buffer ≡ most_bytes
   pub fits : s.filled ≤ length s.buffer

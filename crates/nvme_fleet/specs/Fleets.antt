@@ -140,7 +140,8 @@ after_answer i x r m =
 abbrev pub after_execution : Fleet → ℕ → Mailbox → ℕ → FetchedItem → Response → Fleet
 after_execution f k m i x r = settled f k r.left (WithDriver (after_answer i x r m)) r.outcome.marks
 
-pub record Completes (tells : Bool) (old : Fleet) (k : ℕ) (m : Mailbox) (i : ℕ) (x : FetchedItem) (reply : Reply) (new : Fleet) : Type 0 where
+pub record Completes (tells : Bool) (old : Fleet) (k : ℕ) (m : Mailbox) (i : ℕ) (x : FetchedItem) (reply : Reply)
+    (new : Fleet) : Type 0 where
   pub response : Response
   pub answers : Answers tells k x old.site response
   pub gives : reply ≡ plain (ExecutedSeen (Posted response.outcome))
@@ -165,7 +166,8 @@ setting_of f c = setting c f.site.world f.site.device
 abbrev pub after_raw : Fleet → ℕ → Executed → Setting → Fleet
 after_raw f k executed left = settled f k (site_of left) (Raw left.controller) (marks_in executed)
 
-pub record ExecutesRaw (tells : Bool) (old : Fleet) (k : ℕ) (c : machine.Controller) (i : ℕ) (reply : Reply) (new : Fleet) : Type 0 where
+pub record ExecutesRaw (tells : Bool) (old : Fleet) (k : ℕ) (c : machine.Controller) (i : ℕ) (reply : Reply)
+    (new : Fleet) : Type 0 where
   pub executed : Executed
   pub left : Setting
   pub executes : ExecutesNth tells i (setting_of old c) executed left
@@ -174,7 +176,8 @@ pub record ExecutesRaw (tells : Bool) (old : Fleet) (k : ℕ) (c : machine.Contr
 
 abbrev pub ExecutesAt : Option Host → Bool → Fleet → ℕ → ℕ → Reply → Fleet → Type 0
 ExecutesAt None tells old k i reply new = (reply ≡ plain NoController) × (new ≡ old)
-ExecutesAt (Some (WithDriver m)) tells old k i reply new = ExecutesItem (slice_get m.fetched i) tells old k m i reply new
+ExecutesAt (Some (WithDriver m)) tells old k i reply new =
+    ExecutesItem (slice_get m.fetched i) tells old k m i reply new
 ExecutesAt (Some (Raw c)) tells old k i reply new = ExecutesRaw tells old k c i reply new
 
 -- One event: the fleet before it, what it gave, and the fleet after it.

@@ -1,5 +1,5 @@
--- The I/O commands that the controllers of a fleet have fetched, of hosts with a driver and of raw ones alike, as their rules
--- read them; and that each is executed as these say.
+-- The I/O commands that the controllers of a fleet have fetched, of hosts with a driver and of raw ones alike, as their
+-- rules read them; and that each is executed as these say.
 use Rattle.std.specs.Prelude.{◌≡◌, ℕ, ◌==◌, Bool, if◌then◌else◌, List, Option, None, Some, slice_get}
 use Rattle.nvme_wire.specs.Submission.{opcode}
 use Rattle.nvme_spec.specs.declared.command.Command.{Command}
@@ -27,8 +27,8 @@ use Rattle.nvme_fleet.specs.Deliveries.{Reply, plain}
 use Rattle.nvme_fleet.specs.Executions.{Site, scene_at, command_entry, io_judgement}
 use Rattle.nvme_fleet.specs.Fleets.{Host, WithDriver, Raw, Fleet, Step, Run, host_at, opening}
 
--- An I/O command that a host's controller has fetched, as its rules read it: its entry, whether it is marked, the data that
--- its host sends with it, and what all rules say to it now.
+-- An I/O command that a host's controller has fetched, as its rules read it: its entry, whether it is marked, the data
+-- that its host sends with it, and what all rules say to it now.
 pub record IoCommand : Type 0 where
   pub entry : List ℕ
   pub marked : Bool
@@ -83,7 +83,8 @@ abbrev pub AreNumbered : Fleet → Type 0
 AreNumbered f = (k : ℕ) → (h : Host) → host_at f k ≡ Some h → BearsItsNumber k h
 
 abbrev pub OpeningIsNumbered : Type 0
-OpeningIsNumbered = (c : Configuration) → (d : Device) → (blocks : ℕ) → first_config_fault c blocks ≡ None → AreNumbered (opening c d)
+OpeningIsNumbered = (c : Configuration) → (d : Device) → (blocks : ℕ) → first_config_fault c blocks ≡ None
+    → AreNumbered (opening c d)
 
 abbrev pub NumbersStay : Type 0
 NumbersStay =
@@ -91,15 +92,16 @@ NumbersStay =
     → Run tells old events replies new → AreNumbered old → AreNumbered new
 
 -- An allowed command has done its effect on the namespaces as they were at that moment, by the data of its own host.
-pub record HasItsEffect (tells : Bool) (command : Command) (k : ℕ) (x : IoCommand) (old : Site) (outcome : Outcome) (new : Site) : Type 0 where
+pub record HasItsEffect (tells : Bool) (command : Command) (k : ℕ) (x : IoCommand) (old : Site) (outcome : Outcome)
+    (new : Site) : Type 0 where
   pub returned : List ℕ
   pub effect : Performs tells command k x.entry x.sent (scene_at old) (scene_at new) outcome.status returned
   pub dw0 : outcome.dw0 ≡ 0
   pub rule : outcome.rule ≡ 0
   pub marks : outcome.marks ≡ marks_of command x.entry (spec.reservation_outcome old.world k x.entry x.sent)
 
--- A denied one is answered with the number and the status of the first rule that fails, and changes neither access state nor
--- medium.
+-- A denied one is answered with the number and the status of the first rule that fails, and changes neither access
+-- state nor medium.
 abbrev pub IsExecutedBy : Verdict → Bool → ℕ → IoCommand → Site → Outcome → Site → Type 0
 IsExecutedBy (Denied number why) tells k x old outcome new = (outcome ≡ denial_outcome number why) × (new ≡ old)
 IsExecutedBy (Allowed plan) tells k x old outcome new = HasItsEffect tells plan.kind k x old outcome new

@@ -1,5 +1,5 @@
--- A driver and its controller as two lanes over one window: of each side what a mailbox stands for, of the window the queue
--- pages of both lanes and the data and the list page of each slot.
+-- A driver and its controller as two lanes over one window: of each side what a mailbox stands for, of the window the
+-- queue pages of both lanes and the data and the list page of each slot.
 use Rattle.std.specs.Prelude.{◌≡◌, ℕ, suc, ◌+◌, ◌-◌, ◌*◌, ◌%◌, nat_lt, Bool, true, false, ◌&&◌, cond, List, [], ◌∷◌, ◌++◌, length, map, take, drop, remove, Option, None, Some, slice_set}
 use Rattle.nvme_wire.specs.Submission.{cid}
 use Rattle.nvme_wire.specs.Completion.{Completion}
@@ -204,12 +204,14 @@ next_pair p = record p { posted = (p.posted + 1) % 64; unread = p.unread + 1 }
 
 abbrev pub executed_window : Lane → DeviceSide → List ℕ → Effect → List ℕ
 executed_window lane c x ans =
-    with_bytes (with_bytes c.window (data_area (cid x)) ans.bytes) (base lane + (4096 + 16 * ((pair lane c).posted % 32)))
+    with_bytes (with_bytes c.window (data_area (cid x)) ans.bytes)
+    (base lane + (4096 + 16 * ((pair lane c).posted % 32)))
     (finished_bytes (state lane c) ans x)
 
 abbrev pub executed_at : Lane → DeviceSide → ℕ → List ℕ → Effect → DeviceSide
 executed_at lane c i x ans =
-    with_pair lane (next_pair (pair lane c)) (record c { window = executed_window lane c x ans; taken = remove c.taken i })
+    with_pair lane (next_pair (pair lane c))
+    (record c { window = executed_window lane c x ans; taken = remove c.taken i })
 
 -- Fetching and ringing.
 abbrev pub fetched_pair : DeviceEnds → DeviceEnds
@@ -237,7 +239,8 @@ abbrev pub heard_ends : HostEnds → ℕ → HostEnds
 heard_ends e head = record { put = e.put; unheard = (e.put + 8 - head) % 8; consumed = (e.consumed + 1) % 64 }
 
 abbrev pub consume : Lane → HostSide → Completion → HostSide
-consume lane d e = with_ends lane (heard_ends (ends lane d) e.sq_head) (record d { slots = slice_set d.slots e.cid None })
+consume lane d e = with_ends lane (heard_ends (ends lane d) e.sq_head)
+    (record d { slots = slice_set d.slots e.cid None })
 
 abbrev pub told_pair : DeviceEnds → DeviceEnds
 told_pair p = record p { unread = p.unread - 1 }
@@ -266,7 +269,8 @@ turned_off c =
 -- Coming up: the queue pages zeroed.
 abbrev pub zeroed_all : List ℕ → List ℕ
 zeroed_all w =
-    with_bytes (with_bytes (with_bytes (with_bytes w (base Admin + 0) zeros) (base Admin + 4096) zeros) (base Io + 0) zeros)
+    with_bytes (with_bytes (with_bytes (with_bytes w (base Admin + 0) zeros) (base Admin + 4096) zeros)
+    (base Io + 0) zeros)
     (base Io + 4096) zeros
 
 -- The driver's own commands: the n-th, from 0, in the admin lane, with its completion.
@@ -295,8 +299,8 @@ brought_up c first second = record {
   taken = [];
 }
 
--- the doorbells of a controller: a tail below the size makes what lies before it wait, a head below the size leaves unread
--- what lies behind it
+-- the doorbells of a controller: a tail below the size makes what lies before it wait, a head below the size leaves
+-- unread what lies behind it
 abbrev pub with_tail : Lane → DeviceSide → ℕ → DeviceSide
 with_tail lane c v = cond (is_ready lane c && nat_lt v 8) (with_pair lane (ring_pair (pair lane c) v) c) c
 

@@ -1,5 +1,5 @@
--- A driver brings its controller up over their port: each call is an event of the controller, and a turn is a fetch from
--- its admin queue and an execution of the first command that it has fetched.
+-- A driver brings its controller up over their port: each call is an event of the controller, and a turn is a fetch
+-- from its admin queue and an execution of the first command that it has fetched.
 use Rattle.std.specs.Prelude.{◌≡◌, ℕ, Bool, List, Result, Ok}
 use Rattle.nvme_spec.specs.Registers.{value_at}
 use Rattle.nvme_driver.specs.declared.state.State.TheVariants.{Down}
@@ -30,7 +30,8 @@ abbrev pub window_in : Setting → List ℕ
 window_in s = s.controller.window
 
 -- It came up: the mailbox is up, it is the same controller, and access state and medium are as they were.
-pub record HasComeUp (d : Driver) (old : Setting) (result : Result (Unit {0}) UpFault) (d' : Driver) (new : Setting) : Type 0 where
+pub record HasComeUp (d : Driver) (old : Setting) (result : Result (Unit {0}) UpFault) (d' : Driver)
+    (new : Setting) : Type 0 where
   pub answered : result ≡ Ok tt
   pub sound : Sound d' new.controller
   pub mail : (brought_up (mailbox d old.controller)).mailbox ≡ mailbox d' new.controller

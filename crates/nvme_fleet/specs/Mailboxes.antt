@@ -25,9 +25,9 @@ pub record PostedAnswer : Type 0 where
   pub bytes : List ℕ
   pub step : ℕ
 
--- One lane: the requests that were placed since the last ring, those that were rung and not fetched, and the answers that
--- were not handed up, each in its order. Two numbers beside: how many requests were placed that no answer which was handed
--- up told to be fetched, and how many were fetched since the last answer.
+-- One lane: the requests that were placed since the last ring, those that were rung and not fetched, and the answers
+-- that were not handed up, each in its order. Two numbers beside: how many requests were placed that no answer which
+-- was handed up told to be fetched, and how many were fetched since the last answer.
 pub record LaneBox : Type 0 where
   pub placed : List Item
   pub rung : List Item
@@ -35,8 +35,8 @@ pub record LaneBox : Type 0 where
   pub unheard : ℕ
   pub since : ℕ
 
--- A mailbox: whether its driver is up; the next ticket; its lanes; what its controller has fetched of both lanes, in the
--- order of the fetches; and the tickets of the aborted requests, in the order in which they are handed up.
+-- A mailbox: whether its driver is up; the next ticket; its lanes; what its controller has fetched of both lanes, in
+-- the order of the fetches; and the tickets of the aborted requests, in the order in which they are handed up.
 pub record Mailbox : Type 0 where
   pub up : Bool
   pub next : ℕ

@@ -1,5 +1,6 @@
--- A host that is preempted writes the namespace no more, whoever holds it, until a Reservation Register of its own is executed
--- that all rules let pass (Base Specification: Reservations, Reservation Acquire command, Preempt, Preempt and Abort).
+-- A host that is preempted writes the namespace no more, whoever holds it, until a Reservation Register of its own is
+-- executed that all rules let pass (Base Specification: Reservations, Reservation Acquire command, Preempt, Preempt and
+-- Abort).
 use Rattle.std.specs.Prelude.{◌≡◌, ℕ, ◌==◌, Bool, true, false, List, [], ◌∷◌, Some, Ok}
 use Rattle.nvme_spec.specs.declared.command.Command.TheVariants.{ReservationRegister, ReservationAcquire}
 use Rattle.nvme_spec.specs.declared.outcome.Outcome.{Outcome}
@@ -34,7 +35,8 @@ abbrev pub OutsidersMayNotWrite : Type 0
 OutsidersMayNotWrite =
     (w : World) → (n k host : ℕ) → host_of w k ≡ Some host → IsOutside w n host → IsHeld w n → may_write w k n ≡ false
 
--- an event registers the host: one of its controllers executes a Reservation Register on the namespace that all rules let pass
+-- an event registers the host: one of its controllers executes a Reservation Register on the namespace that all rules
+-- let pass
 abbrev pub Registers : ℕ → ℕ → Fleet → FleetEvent → Type 0
 Registers n host f (BringUp k) = ⊥
 Registers n host f (Place k request) = ⊥
@@ -52,7 +54,8 @@ LeavesOutside n host f event = Registers n host f event → ⊥
 -- Nobody gets a key but by its own command.
 abbrev pub OutsidersStayOutside : Type 0
 OutsidersStayOutside =
-    (tells : Bool) → (old new : Fleet) → (events : List FleetEvent) → (replies : List Reply) → (n host : ℕ) → AreNumbered old
+    (tells : Bool) → (old new : Fleet) → (events : List FleetEvent) → (replies : List Reply) → (n host : ℕ)
+    → AreNumbered old
     → RunWhere (LeavesOutside n host) tells old events replies new
     → IsOutside old.site.world n host → IsOutside new.site.world n host
 
@@ -72,17 +75,21 @@ removed_hosts f k x = removed_by (reservation_outcome f.site.world k x.entry x.s
 -- They have no key then.
 abbrev pub PreemptedIsOutside : Type 0
 PreemptedIsOutside =
-    (tells : Bool) → (old new : Fleet) → (n k i host : ℕ) → (x : IoCommand) → AreNumbered old → Preempts tells n old k i x new
+    (tells : Bool) → (old new : Fleet) → (n k i host : ℕ) → (x : IoCommand) → AreNumbered old
+    → Preempts tells n old k i x new
     → is_host_among (removed_hosts old k x) (Some host) ≡ true → IsOutside new.site.world n host
 
--- Preempted stays out: once a host was preempted, each of its writes that is executed while the namespace is held, by whom it
--- may be, is answered Reservation Conflict, or with the denial of a rule before, and changes neither access state nor medium,
--- until a Reservation Register of its own is executed that all rules let pass; whatever any host does until then.
+-- Preempted stays out: once a host was preempted, each of its writes that is executed while the namespace is held, by
+-- whom it may be, is answered Reservation Conflict, or with the denial of a rule before, and changes neither access
+-- state nor medium, until a Reservation Register of its own is executed that all rules let pass; whatever any host does
+-- until then.
 abbrev pub PreemptedStaysOut : Type 0
 PreemptedStaysOut =
-    (tells : Bool) → (old mid last new : Fleet) → (n k i host : ℕ) → (x : IoCommand) → AreNumbered old → Preempts tells n old k i x mid
+    (tells : Bool) → (old mid last new : Fleet) → (n k i host : ℕ) → (x : IoCommand) → AreNumbered old
+    → Preempts tells n old k i x mid
     → is_host_among (removed_hosts old k x) (Some host) ≡ true
-    → (events : List FleetEvent) → (replies : List Reply) → RunWhere (LeavesOutside n host) tells mid events replies last → IsHeld last.site.world n
+    → (events : List FleetEvent) → (replies : List Reply)
+    → RunWhere (LeavesOutside n host) tells mid events replies last → IsHeld last.site.world n
     → (j l : ℕ) → (y : IoCommand) → (outcome : Outcome) → host_of last.site.world j ≡ Some host
     → command_at last j l ≡ Some y → IsOn n writers y
     → Step tells last (Execute j l) (plain (ExecutedSeen (Posted outcome))) new

@@ -6,13 +6,15 @@ use Rattle.nvme_fleet.specs.declared.event.FleetEvent.TheVariants.{Poll}
 use Rattle.nvme_fleet.specs.Deliveries.{Reply}
 use Rattle.nvme_fleet.specs.Fleets.{Fleet, Run}
 
-pub record RunsBehind (tells : Bool) (before : List Reply) (old : Fleet) (events : List FleetEvent) (after : List Reply) (new : Fleet) : Type 0 where
+pub record RunsBehind (tells : Bool) (before : List Reply) (old : Fleet) (events : List FleetEvent) (after : List Reply)
+    (new : Fleet) : Type 0 where
   pub added : List Reply
   pub behind : after ≡ before ++ added
   pub ran : Run tells old events added new
 
 -- not all of the events have happened, but those before some place
-pub record RunsInPart (tells : Bool) (before : List Reply) (old : Fleet) (events : List FleetEvent) (after : List Reply) (new : Fleet) : Type 0 where
+pub record RunsInPart (tells : Bool) (before : List Reply) (old : Fleet) (events : List FleetEvent) (after : List Reply)
+    (new : Fleet) : Type 0 where
   pub count : ℕ
   pub fewer : count < length events
   pub runs : RunsBehind tells before old (take count events) after new

@@ -1,4 +1,5 @@
--- A driver and its controller, seen as two lanes: the mailbox that they stand for, and the one fact that is kept of them.
+-- A driver and its controller, seen as two lanes: the mailbox that they stand for, and the one fact that is kept of
+-- them.
 use Rattle.std.specs.Prelude.{◌≡◌, ◌≤◌, ◌⊎◌, ℕ, ◌==◌, Bool, true, false, if◌then◌else◌, List, [], ◌∷◌, map, Option, None, Some, is_some}
 use Rattle.std.specs.List.{AllByRecursion}
 use Rattle.nvme_spec.specs.declared.registers.ControllerState.TheVariants.{Off, Ready}

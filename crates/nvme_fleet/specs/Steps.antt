@@ -1,4 +1,5 @@
--- What each event of a host with a driver makes of the driver and its controller, and that it is the step of their mailbox.
+-- What each event of a host with a driver makes of the driver and its controller, and that it is the step of their
+-- mailbox.
 use Rattle.std.specs.Prelude.{◌≡◌, ◌≤◌, length, take, slice_get, ℕ, Bool, true, false, List, [], ◌∷◌, Ok, Err, Option, Some, None}
 use Rattle.nvme_wire.specs.Submission.{submission_of, cid}
 use Rattle.nvme_wire.specs.Completion.{FitsCompletion}
@@ -38,7 +39,8 @@ use Rattle.nvme_fleet.specs.Deliveries as mail
 use Rattle.nvme_fleet.specs.Fleets.{Fleet, WithDriver, Step, raw_fetch, host_at, settled, site_of, setting_of, marks_in, after_answer}
 use Rattle.nvme_fleet.specs.Sound.{Sound, mailbox}
 
--- A driver's calls of its port are events of its controller, one after the other. Only bringing up reads and grants turns.
+-- A driver's calls of its port are events of its controller, one after the other. Only bringing up reads and grants
+-- turns.
 abbrev pub after_call : Call → Controller → Controller
 after_call (Stores address bytes) c = (after_store address bytes c).controller
 after_call (Writes offset v) c = after_write32 offset v c
@@ -100,9 +102,10 @@ PlaceIsAStep =
     → IsStep (mail.placed (mailbox d c) request) (driver.placed d request slot)
     (after_calls (driver.stores_of d request slot) c) (mail.plain (Placed (Ok (record { 0 = d.next }))))
 
--- What an execution stores is in its request's slot: the data that come with the answer, from the slot's place on, as many
--- as the request receives where it succeeded; the queues stay, and the completion's fields are within their width.
-pub record AnswersInItsSlot (d : driver.Driver) (c : Controller) (t : FetchedCommand) (p : QueuePair) (a : Answer) : Type 0 where
+-- What an execution stores is in its request's slot: the data that come with the answer, from the slot's place on, as
+-- many as the request receives where it succeeded; the queues stay, and the completion's fields are within their width.
+pub record AnswersInItsSlot (d : driver.Driver) (c : Controller) (t : FetchedCommand) (p : QueuePair)
+    (a : Answer) : Type 0 where
   pub bytes : List ℕ
   pub queues : a.change ≡ Keep
   pub window : a.left.window ≡ with_bytes c.window (data_area (cid t.entry)) bytes
@@ -125,7 +128,8 @@ response_with d t a bytes = record {
   left = record { world = a.left.world; device = a.left.device };
 }
 
-pub record IsPosted (d : driver.Driver) (c : Controller) (i : ℕ) (t : FetchedCommand) (a : Answer) (bytes : List ℕ) (new : Controller) : Type 0 where
+pub record IsPosted (d : driver.Driver) (c : Controller) (i : ℕ) (t : FetchedCommand) (a : Answer) (bytes : List ℕ)
+    (new : Controller) : Type 0 where
   pub item : FetchedItem
   pub found : slice_get (mailbox d c).fetched i ≡ Some item
   pub sound : Sound d new
@@ -146,7 +150,8 @@ PostingHasRoom =
 -- there is no request to execute where there is no command
 abbrev pub NothingToExecute : Type 0
 NothingToExecute =
-    (d : driver.Driver) (c : Controller) (i : ℕ) → slice_get c.fetched i ≡ None → slice_get (mailbox d c).fetched i ≡ None
+    (d : driver.Driver) (c : Controller) (i : ℕ) → slice_get c.fetched i ≡ None
+    → slice_get (mailbox d c).fetched i ≡ None
 
 -- Marks reach the mailbox where they reach its controller.
 pub record IsMarked (d : driver.Driver) (c : Controller) (n : ℕ) : Type 0 where
@@ -156,33 +161,39 @@ pub record IsMarked (d : driver.Driver) (c : Controller) (n : ℕ) : Type 0 wher
 abbrev pub MarksAreSteps : Type 0
 MarksAreSteps = (d : driver.Driver) (c : Controller) (n : ℕ) → Sound d c → IsMarked d c n
 
--- A fetched command of the I/O lane is judged as the request that the mailbox has in its place: its data pointer has no fault.
+-- A fetched command of the I/O lane is judged as the request that the mailbox has in its place: its data pointer has no
+-- fault.
 abbrev pub JudgedAsItsRequest : Type 0
 JudgedAsItsRequest =
-    (d : driver.Driver) (c : Controller) (i : ℕ) (t : FetchedCommand) (x : FetchedItem) (w : World) (cntlid : ℕ) → Sound d c
+    (d : driver.Driver) (c : Controller) (i : ℕ) (t : FetchedCommand) (x : FetchedItem) (w : World) (cntlid : ℕ)
+    → Sound d c
     → slice_get c.fetched i ≡ Some t → slice_get (mailbox d c).fetched i ≡ Some x → t.queue ≡ 1
     → spec.io_judgement w cntlid t.entry t.marked c.window ≡ io_judgement w cntlid x.item.asked x.marked
 
--- What an allowed I/O command does to the access state and the medium is what its request does; the data that come with its
--- answer lie in the request's slot, as many as the request receives where it succeeded.
-pub record IsServedInItsSlot (tells : Bool) (d : driver.Driver) (c : Controller) (t : FetchedCommand) (x : FetchedItem) (w : World) (device : Device) (cntlid : ℕ) (kind : Command) (a : Answer) : Type 0 where
+-- What an allowed I/O command does to the access state and the medium is what its request does; the data that come with
+-- its answer lie in the request's slot, as many as the request receives where it succeeded.
+pub record IsServedInItsSlot (tells : Bool) (d : driver.Driver) (c : Controller) (t : FetchedCommand) (x : FetchedItem)
+    (w : World) (device : Device) (cntlid : ℕ) (kind : Command) (a : Answer) : Type 0 where
   pub bytes : List ℕ
   pub window : a.left.window ≡ with_bytes c.window (data_area (cid t.entry)) bytes
   pub few : length bytes ≤ most_bytes
   pub whole : poll.answer_len (received_in (poll.waiting_at d.slots (cid t.entry))) a.outcome.status ≤ length bytes
-  pub served : IsServed tells kind cntlid x.item.asked (record { world = w; device = device }) (response_with d t a bytes)
+  pub served : IsServed tells kind cntlid x.item.asked (record { world = w; device = device })
+      (response_with d t a bytes)
 
 abbrev pub AllowedServesItsRequest : Type 0
 AllowedServesItsRequest =
-    (tells : Bool) (d : driver.Driver) (c : Controller) (i : ℕ) (t : FetchedCommand) (x : FetchedItem) (w : World) (device : Device) (cntlid : ℕ) (plan : Plan) (a : Answer)
+    (tells : Bool) (d : driver.Driver) (c : Controller) (i : ℕ) (t : FetchedCommand) (x : FetchedItem) (w : World)
+    (device : Device) (cntlid : ℕ) (plan : Plan) (a : Answer)
     → Sound d c → slice_get c.fetched i ≡ Some t → slice_get (mailbox d c).fetched i ≡ Some x → t.queue ≡ 1
     → spec.io_verdict w cntlid t.entry t.marked c.window ≡ Allowed plan
     → IsPerformed tells plan.kind cntlid t.entry (scene w c.window device) a.left a.outcome
     → IsServedInItsSlot tells d c t x w device cntlid plan.kind a
 
--- What an I/O command may be answered, allowed or denied, its request may be answered; the data that come with the answer
--- lie in the request's slot.
-pub record IsAnsweredInItsSlot (tells : Bool) (d : driver.Driver) (c : Controller) (t : FetchedCommand) (x : FetchedItem) (w : World) (device : Device) (cntlid : ℕ) (a : Answer) : Type 0 where
+-- What an I/O command may be answered, allowed or denied, its request may be answered; the data that come with the
+-- answer lie in the request's slot.
+pub record IsAnsweredInItsSlot (tells : Bool) (d : driver.Driver) (c : Controller) (t : FetchedCommand)
+    (x : FetchedItem) (w : World) (device : Device) (cntlid : ℕ) (a : Answer) : Type 0 where
   pub bytes : List ℕ
   pub window : a.left.window ≡ with_bytes c.window (data_area (cid t.entry)) bytes
   pub few : length bytes ≤ most_bytes
@@ -191,30 +202,34 @@ pub record IsAnsweredInItsSlot (tells : Bool) (d : driver.Driver) (c : Controlle
 
 abbrev pub AnswersItsRequest : Type 0
 AnswersItsRequest =
-    (tells : Bool) (d : driver.Driver) (c : Controller) (i : ℕ) (t : FetchedCommand) (x : FetchedItem) (w : World) (device : Device) (cntlid : ℕ) (a : Answer)
+    (tells : Bool) (d : driver.Driver) (c : Controller) (i : ℕ) (t : FetchedCommand) (x : FetchedItem) (w : World)
+    (device : Device) (cntlid : ℕ) (a : Answer)
     → Sound d c → slice_get c.fetched i ≡ Some t → slice_get (mailbox d c).fetched i ≡ Some x → t.queue ≡ 1
     → Executes tells cntlid t.entry t.marked (scene w c.window device) a.left a.outcome
     → IsAnsweredInItsSlot tells d c t x w device cntlid a
 
--- A fetched command of the admin lane is judged as the request that the mailbox has in its place, by the two pairs of queues
--- that the mailbox's driver has made: its data pointer has no fault.
+-- A fetched command of the admin lane is judged as the request that the mailbox has in its place, by the two pairs of
+-- queues that the mailbox's driver has made: its data pointer has no fault.
 abbrev pub AdminJudgedAsItsRequest : Type 0
 AdminJudgedAsItsRequest =
-    (d : driver.Driver) (c : Controller) (i : ℕ) (t : FetchedCommand) (x : FetchedItem) (w : World) (cntlid : ℕ) → Sound d c
+    (d : driver.Driver) (c : Controller) (i : ℕ) (t : FetchedCommand) (x : FetchedItem) (w : World) (cntlid : ℕ)
+    → Sound d c
     → slice_get c.fetched i ≡ Some t → slice_get (mailbox d c).fetched i ≡ Some x → t.queue ≡ 0
     → admin.admin_judgement w (queues_of c) cntlid t.entry c.window ≡ admin_judgement w cntlid x.item.asked
 
 -- What an admin command is answered is what its request is answered, its data in the request's slot; the queues stay.
 abbrev pub AdminAnswersItsRequest : Type 0
 AdminAnswersItsRequest =
-    (tells : Bool) (d : driver.Driver) (c : Controller) (i : ℕ) (t : FetchedCommand) (x : FetchedItem) (w : World) (device : Device) (cntlid : ℕ) (a : Answer)
+    (tells : Bool) (d : driver.Driver) (c : Controller) (i : ℕ) (t : FetchedCommand) (x : FetchedItem) (w : World)
+    (device : Device) (cntlid : ℕ) (a : Answer)
     → Sound d c → slice_get c.fetched i ≡ Some t → slice_get (mailbox d c).fetched i ≡ Some x → t.queue ≡ 0
     → a ≡ admin_answer (scene w c.window device) (admin_execution w (queues_of c) cntlid t.entry c.window)
     → (a.change ≡ Keep) × IsAnsweredInItsSlot tells d c t x w device cntlid a
 
--- An execution of an I/O command, in the world and over the medium as they are, is the step of the mailbox: the request in its
--- place has an answer, which stands at the end of the lane then.
-pub record IsExecuted (tells : Bool) (d : driver.Driver) (i : ℕ) (old : Setting) (executed : Executed) (new : Setting) : Type 0 where
+-- An execution of an I/O command, in the world and over the medium as they are, is the step of the mailbox: the request
+-- in its place has an answer, which stands at the end of the lane then.
+pub record IsExecuted (tells : Bool) (d : driver.Driver) (i : ℕ) (old : Setting) (executed : Executed)
+    (new : Setting) : Type 0 where
   pub item : FetchedItem
   pub response : Response
   pub found : slice_get (mailbox d old.controller).fetched i ≡ Some item
@@ -227,36 +242,45 @@ pub record IsExecuted (tells : Bool) (d : driver.Driver) (i : ℕ) (old : Settin
 
 abbrev pub IoExecutionIsAStep : Type 0
 IoExecutionIsAStep =
-    (tells : Bool) (d : driver.Driver) (i : ℕ) (t : FetchedCommand) (old : Setting) (executed : Executed) (new : Setting) → Sound d old.controller
+    (tells : Bool) (d : driver.Driver) (i : ℕ) (t : FetchedCommand) (old : Setting) (executed : Executed)
+    (new : Setting) → Sound d old.controller
     → slice_get old.controller.fetched i ≡ Some t → t.queue ≡ 1 → ExecutesNth tells i old executed new
     → IsExecuted tells d i old executed new
 
 -- So is an execution of an admin command.
 abbrev pub AdminExecutionIsAStep : Type 0
 AdminExecutionIsAStep =
-    (tells : Bool) (d : driver.Driver) (i : ℕ) (t : FetchedCommand) (old : Setting) (executed : Executed) (new : Setting) → Sound d old.controller
+    (tells : Bool) (d : driver.Driver) (i : ℕ) (t : FetchedCommand) (old : Setting) (executed : Executed)
+    (new : Setting) → Sound d old.controller
     → slice_get old.controller.fetched i ≡ Some t → t.queue ≡ 0 → ExecutesNth tells i old executed new
     → IsExecuted tells d i old executed new
 
 -- So is the execution of any command of a driver, whatever its lane is.
 abbrev pub ExecutionIsAStep : Type 0
 ExecutionIsAStep =
-    (tells : Bool) (d : driver.Driver) (i : ℕ) (t : FetchedCommand) (old : Setting) (executed : Executed) (new : Setting) → Sound d old.controller
+    (tells : Bool) (d : driver.Driver) (i : ℕ) (t : FetchedCommand) (old : Setting) (executed : Executed)
+    (new : Setting) → Sound d old.controller
     → slice_get old.controller.fetched i ≡ Some t → ExecutesNth tells i old executed new
     → IsExecuted tells d i old executed new
 
--- In a fleet whose k-th host is the mailbox of a driver and its controller, an execution of the controller is the fleet's step:
--- the host is the mailbox of the driver and the controller as that leaves it. Where there is no command, nothing changes.
+-- In a fleet whose k-th host is the mailbox of a driver and its controller, an execution of the controller is the
+-- fleet's step: the host is the mailbox of the driver and the controller as that leaves it. Where there is no command,
+-- nothing changes.
 abbrev pub ExecutionIsAFleetStep : Type 0
 ExecutionIsAFleetStep =
-    (tells : Bool) (f : Fleet) (k : ℕ) (d : driver.Driver) (c : Controller) (i : ℕ) (t : FetchedCommand) (executed : Executed) (left : Setting) → Sound d c → c.cntlid ≡ k
-    → host_at f k ≡ Some (WithDriver (mailbox d c)) → slice_get c.fetched i ≡ Some t → ExecutesNth tells i (setting_of f c) executed left
-    → Step tells f (Execute k i) (mail.plain (ExecutedSeen executed)) (settled f k (site_of left) (WithDriver (mailbox d left.controller)) (marks_in executed))
+    (tells : Bool) (f : Fleet) (k : ℕ) (d : driver.Driver) (c : Controller) (i : ℕ) (t : FetchedCommand)
+    (executed : Executed) (left : Setting) → Sound d c → c.cntlid ≡ k
+    → host_at f k ≡ Some (WithDriver (mailbox d c)) → slice_get c.fetched i ≡ Some t
+    → ExecutesNth tells i (setting_of f c) executed left
+    → Step tells f (Execute k i) (mail.plain (ExecutedSeen executed))
+    (settled f k (site_of left) (WithDriver (mailbox d left.controller)) (marks_in executed))
 
 abbrev pub NoExecutionIsAFleetStep : Type 0
 NoExecutionIsAFleetStep =
-    (tells : Bool) (f : Fleet) (k : ℕ) (d : driver.Driver) (c : Controller) (i : ℕ) (executed : Executed) (left : Setting)
-    → host_at f k ≡ Some (WithDriver (mailbox d c)) → slice_get c.fetched i ≡ None → ExecutesNth tells i (setting_of f c) executed left
+    (tells : Bool) (f : Fleet) (k : ℕ) (d : driver.Driver) (c : Controller) (i : ℕ) (executed : Executed)
+    (left : Setting)
+    → host_at f k ≡ Some (WithDriver (mailbox d c)) → slice_get c.fetched i ≡ None
+    → ExecutesNth tells i (setting_of f c) executed left
     → (left ≡ setting_of f c) × Step tells f (Execute k i) (mail.plain (ExecutedSeen executed)) f
 
 -- A driver that never came up, at a controller that was never enabled, is the mailbox of an opening.

@@ -1,5 +1,5 @@
--- The tickets of a host with a driver: which requests its mailbox holds, which tickets a run gives it, executes for it and
--- hands up to it.
+-- The tickets of a host with a driver: which requests its mailbox holds, which tickets a run gives it, executes for it
+-- and hands up to it.
 use Rattle.std.specs.Prelude.{◌≡◌, ◌≤◌, ℕ, ◌+◌, ◌==◌, nat_lt, zero, suc, Bool, false, if◌then◌else◌, List, [], ◌∷◌, ◌++◌, length, map, Option, None, Some, Ok, slice_get}
 use Rattle.nvme_spec.specs.Blocks.{Device}
 use Rattle.nvme_spec.specs.Configuration.{Configuration}
@@ -92,7 +92,8 @@ abbrev pub aborted : ℕ → Fleet → FleetEvent → Reply → List ℕ
 aborted k f event reply = own k event (aborted_in reply.seen)
 
 -- the tickets of a run, event by event
-abbrev pub along : (Fleet → FleetEvent → Reply → List ℕ) → (tells : Bool) → (old : Fleet) → (events : List FleetEvent) → (replies : List Reply) → (new : Fleet) → Run tells old events replies new → List ℕ
+abbrev pub along : (Fleet → FleetEvent → Reply → List ℕ) → (tells : Bool) → (old : Fleet) → (events : List FleetEvent)
+    → (replies : List Reply) → (new : Fleet) → Run tells old events replies new → List ℕ
 along each tells old [] [] new run = []
 along each tells old (event ∷ events) (reply ∷ later) new run =
     each old event reply ++ along each tells run.0 events later new run.2
@@ -101,9 +102,9 @@ along each tells old (event ∷ events) [] new run = []
 
 -- Balances.
 
--- Tickets are given, executed, done and aborted while a mailbox goes from one state to another. Whatever each ticket weighs
--- (all alike, so that they are counted, or one ticket alone): what was held and what was given is held or handed up, done or
--- aborted; what is executed was waiting or given; what is done was answered or executed.
+-- Tickets are given, executed, done and aborted while a mailbox goes from one state to another. Whatever each ticket
+-- weighs (all alike, so that they are counted, or one ticket alone): what was held and what was given is held or handed
+-- up, done or aborted; what is executed was waiting or given; what is done was answered or executed.
 pub record Balance (weight : ℕ → ℕ) (old new : Mailbox) (given executed done aborted : List ℕ) : Type 0 where
   pub held : total weight (held_tickets new) + total weight done + total weight aborted
       ≡ total weight (held_tickets old) + total weight given
@@ -168,7 +169,8 @@ OpeningIsNew =
 -- and each host that its configuration does not call raw has one
 abbrev pub OpeningHasDrivers : Type 0
 OpeningHasDrivers =
-    (c : Configuration) → (d : Device) → (i : ℕ) → (k : ControllerConfig) → slice_get c.controllers i ≡ Some k → k.raw ≡ false
+    (c : Configuration) → (d : Device) → (i : ℕ) → (k : ControllerConfig) → slice_get c.controllers i ≡ Some k
+    → k.raw ≡ false
     → HasMailbox (opening c d) (i + 1) (new_mailbox 1)
 
 -- and so it stays
@@ -178,8 +180,8 @@ EachIsHeldOnce =
     → Run tells old events replies new
     → (k : ℕ) → (m n : Mailbox) → HasMailbox old k m → HasMailbox new k n → HoldsEachOnce m → HoldsEachOnce n
 
--- A ticket is given at most once, executed at most once, and handed up at most once, be it done or aborted, and is held no
--- longer then; one that is given is held or was handed up.
+-- A ticket is given at most once, executed at most once, and handed up at most once, be it done or aborted, and is held
+-- no longer then; one that is given is held or was handed up.
 pub record GoesOnce (t : ℕ) (new : Mailbox) (given executed done aborted : List ℕ) : Type 0 where
   pub given_once : times t given ≤ 1
   pub executed_once : times t executed ≤ 1
@@ -198,9 +200,12 @@ EachTicketGoesOnce =
 -- So it is of each host with a driver, over every run from an opening.
 abbrev pub TicketsOfAnOpeningGoOnce : Type 0
 TicketsOfAnOpeningGoOnce =
-    (c : Configuration) → (d : Device) → (i : ℕ) → (k : ControllerConfig) → slice_get c.controllers i ≡ Some k → k.raw ≡ false
+    (c : Configuration) → (d : Device) → (i : ℕ) → (k : ControllerConfig) → slice_get c.controllers i ≡ Some k
+    → k.raw ≡ false
     → (tells : Bool) → (new : Fleet) → (events : List FleetEvent) → (replies : List Reply)
     → (run : Run tells (opening c d) events replies new)
     → (n : Mailbox) × HasMailbox new (i + 1) n × ((t : ℕ) → GoesOnce t n
-    (along (given (i + 1)) tells (opening c d) events replies new run) (along (executed (i + 1)) tells (opening c d) events replies new run)
-    (along (done (i + 1)) tells (opening c d) events replies new run) (along (aborted (i + 1)) tells (opening c d) events replies new run))
+    (along (given (i + 1)) tells (opening c d) events replies new run)
+    (along (executed (i + 1)) tells (opening c d) events replies new run)
+    (along (done (i + 1)) tells (opening c d) events replies new run)
+    (along (aborted (i + 1)) tells (opening c d) events replies new run))

@@ -1,5 +1,5 @@
--- What no event of a host with a driver gives: a completion queue that has no room, a completion that answers no request,
--- and a controller that does not come up.
+-- What no event of a host with a driver gives: a completion queue that has no room, a completion that answers no
+-- request, and a controller that does not come up.
 use Rattle.std.specs.Prelude.{◌≡◌, ℕ, Bool, List, Err}
 use Rattle.nvme_machine.specs.declared.seen.Executed.TheVariants.{CqFull}
 use Rattle.nvme_driver.specs.declared.faults.UpFault.TheVariants.{NotReady, NoAnswer, Refused}

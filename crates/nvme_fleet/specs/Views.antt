@@ -1,6 +1,6 @@
--- One lane of a driver and its controller, as far as the requests of that lane go: the slots of the driver with the bytes
--- that lie there, the lane's two queue pages, and the counts of its queues. Places count from the start of the pages: the
--- submission queue lies in the first, the completion queue in the second.
+-- One lane of a driver and its controller, as far as the requests of that lane go: the slots of the driver with the
+-- bytes that lie there, the lane's two queue pages, and the counts of its queues. Places count from the start of the
+-- pages: the submission queue lies in the first, the completion queue in the second.
 use Rattle.std.specs.Prelude.{◌≡◌, ℕ, zero, suc, ◌+◌, ◌-◌, ◌*◌, ◌%◌, ◌<◌, ◌≤◌, nat_lt, nat_le, ◌==◌, Bool, true, false, not, ◌&&◌, ◌||◌, is_some, if◌then◌else◌, cond, List, [], ◌∷◌, ◌++◌, length, map, take, drop, remove, replicate, Option, None, Some, slice_get, slice_set}
 use Rattle.std.specs.Str.{bytes_eq}
 use Rattle.nvme_wire.specs.Submission.{submission_entry, opcode, cid, nsid, cdw10, cdw11, cdw12}
@@ -32,8 +32,8 @@ pub record Slot : Type 0 where
 abbrev pub empty : Slot
 empty = record { waiting = None; bytes = []; list = [] }
 
--- The driver's side of a lane: the slots of its requests, the commands that it has put (modulo 8), of these the ones not
--- heard of, and the completions that it has consumed (modulo 64).
+-- The driver's side of a lane: the slots of its requests, the commands that it has put (modulo 8), of these the ones
+-- not heard of, and the completions that it has consumed (modulo 64).
 pub record Host : Type 0 where
   pub up : Bool
   pub failed : Bool
@@ -123,8 +123,8 @@ item_in s x = record { ticket = ticket_in s.waiting; asked = asked_in s x }
 abbrev pub item : (ℕ → Slot) → List ℕ → Item
 item slots x = item_in (slots (cid x)) x
 
--- What some request asks for: of the I/O lane a command that receives all that it moves, or nothing, by its kind; of the
--- admin lane Identify, the write protection state set or got, or a Namespace Attachment.
+-- What some request asks for: of the I/O lane a command that receives all that it moves, or nothing, by its kind; of
+-- the admin lane Identify, the write protection state set or got, or a Namespace Attachment.
 abbrev pub received_by : ℕ → ℕ → ℕ
 received_by code moved =
     if io_commands.is_one_of (io_commands.command_of code) (Read ∷ ReservationReport ∷ []) then moved else 0
@@ -144,8 +144,8 @@ is_plain_in Admin a =
 unfoldable pub is_plain : Asked → Bool
 is_plain a = is_plain_in a.command.lane a
 
--- A command is as the driver put it there: its fields and zeros elsewhere, its pointer names the slot's data, and the list
--- is there where the pointer names it.
+-- A command is as the driver put it there: its fields and zeros elsewhere, its pointer names the slot's data, and the
+-- list is there where the pointer names it.
 unfoldable pub suits : Slot → List ℕ → Bool
 suits s x =
     let a : Asked = asked_in s x in
@@ -256,7 +256,8 @@ Phases d c =
 abbrev pub Carried : Host → State → Type 0
 Carried d c =
     (slot : ℕ) →
-    commands_of slot c.taken + commands_of slot (commands c.window c.fetched (in_flight d c)) + answers_of slot (unread d c) ≡
+    commands_of slot c.taken + commands_of slot (commands c.window c.fetched (in_flight d c)) + answers_of slot
+    (unread d c) ≡
     live_at d.slots slot
 
 -- each command suits its slot: those that do not are none
@@ -284,7 +285,16 @@ pub record Running (d : Host) (c : State) : Type 0 where
 
 -- a controller that is off has no queues and no commands; it keeps its window
 abbrev pub off : State → State
-off c = record { lane = c.lane; window = c.window; ready = false; fetched = 0; waiting = 0; posted = 0; unread = 0; taken = [] }
+off c = record {
+  lane = c.lane;
+  window = c.window;
+  ready = false;
+  fetched = 0;
+  waiting = 0;
+  posted = 0;
+  unread = 0;
+  taken = [];
+}
 
 -- What holds of a lane whose driver is down.
 pub record Resting (d : Host) (c : State) : Type 0 where
@@ -436,7 +446,16 @@ abbrev pub fresh_host : Host → Host
 fresh_host d = record d { up = true; put = 0; unheard = 0; consumed = 0 }
 
 abbrev pub fresh_state : State → State
-fresh_state c = record { lane = c.lane; window = zeroed c.window; ready = true; fetched = 0; waiting = 0; posted = 0; unread = 0; taken = [] }
+fresh_state c = record {
+  lane = c.lane;
+  window = zeroed c.window;
+  ready = true;
+  fetched = 0;
+  waiting = 0;
+  posted = 0;
+  unread = 0;
+  taken = [];
+}
 
 -- the lane once one more of the driver's own commands was placed, fetched, answered and heard
 abbrev pub own_host : Host → Host

@@ -39,7 +39,8 @@ fn deliver_over<S: Reach>(
 ) -> FleetSeen
     requires sound { Sound driver.old (linked_controller link.old) }
     requires room { most_bytes ≤ length buffer.old }
-    ensures step { IsStep (reaction_to call.entry (mailbox driver.old (linked_controller link.old))) driver.new (linked_controller link.new) (reply_in result buffer.new) }
+    ensures step { IsStep (reaction_to call.entry (mailbox driver.old (linked_controller link.old))) driver.new
+        (linked_controller link.new) (reply_in result buffer.new) }
     ensures fits { data_len result ≤ length buffer.new }
     ensures site { KeepsSite link.old link.new }
     ensures name { link.new.name ≡ link.old.name }
@@ -68,10 +69,15 @@ fn deliver_at<S: Reach>(
     requires there { place < length (let s : Subsystem = S.subsystem seats.old in s.controllers) }
     requires sound { Sound driver.old (controller_in (S.subsystem seats.old) place) }
     requires room { most_bytes ≤ length buffer.old }
-    ensures step { IsStep (reaction_to call.entry (mailbox driver.old (controller_in (S.subsystem seats.old) place))) driver.new (controller_in (S.subsystem seats.new) place) (reply_in result buffer.new) }
+    ensures step { IsStep (reaction_to call.entry (mailbox driver.old (controller_in (S.subsystem seats.old) place)))
+        driver.new (controller_in (S.subsystem seats.new) place) (reply_in result buffer.new) }
     ensures fits { data_len result ≤ length buffer.new }
-    ensures site { KeepsSite (record { subsystem = S.subsystem seats.old; place = place; name = seats.entry.ghost_name }) (record { subsystem = S.subsystem seats.new; place = place; name = seats.entry.ghost_name }) }
-    ensures events { IsLinkRun S.tells (record { subsystem = S.subsystem seats.old; place = place; name = seats.entry.ghost_name }) (record { subsystem = S.subsystem seats.new; place = place; name = seats.entry.ghost_name }) }
+    ensures site { KeepsSite
+        (record { subsystem = S.subsystem seats.old; place = place; name = seats.entry.ghost_name })
+        (record { subsystem = S.subsystem seats.new; place = place; name = seats.entry.ghost_name }) }
+    ensures events { IsLinkRun S.tells
+        (record { subsystem = S.subsystem seats.old; place = place; name = seats.entry.ghost_name })
+        (record { subsystem = S.subsystem seats.new; place = place; name = seats.entry.ghost_name }) }
 {
     let mut link = Link { seats, place };
     let seen = deliver_over(driver, &mut link, buffer, call);
@@ -91,12 +97,16 @@ pub(crate) fn deliver<S: Reach>(
     requires there { place < length (let s : Subsystem = S.subsystem seats.old in s.controllers) }
     requires sound { SoundBy driver.old (controller_in (S.subsystem seats.old) place) }
     requires room { most_bytes ≤ length buffer.old }
-    ensures called { IsCalled driver.old (controller_in (S.subsystem seats.old) place) call.entry driver.new (controller_in (S.subsystem seats.new) place) (reply_in result buffer.new) }
+    ensures called { IsCalled driver.old (controller_in (S.subsystem seats.old) place) call.entry driver.new
+        (controller_in (S.subsystem seats.new) place) (reply_in result buffer.new) }
     ensures fits { data_len result ≤ length buffer.new }
-    ensures world { (let s : Subsystem = S.subsystem seats.new in s.world) ≡ (let s : Subsystem = S.subsystem seats.old in s.world) }
-    ensures device { (let s : Subsystem = S.subsystem seats.new in s.device) ≡ (let s : Subsystem = S.subsystem seats.old in s.device) }
+    ensures world { (let s : Subsystem = S.subsystem seats.new in s.world) ≡ (let s : Subsystem = S.subsystem seats.old
+        in s.world) }
+    ensures device { (let s : Subsystem = S.subsystem seats.new in s.device)
+        ≡ (let s : Subsystem = S.subsystem seats.old in s.device) }
     ensures others { KeepsOthers place (S.subsystem seats.old) (S.subsystem seats.new) }
-    ensures events { (controller_in (S.subsystem seats.old) place).cntlid ≡ place + 1 → IsOwnRun S.tells (place + 1) (S.subsystem seats.old) (S.subsystem seats.new) }
+    ensures events { (controller_in (S.subsystem seats.old) place).cntlid ≡ place + 1
+        → IsOwnRun S.tells (place + 1) (S.subsystem seats.old) (S.subsystem seats.new) }
 {
     match driver {
         Some(driver) => deliver_at(driver, seats, place, buffer, call),

@@ -16,10 +16,15 @@ use nvme_machine::{Executed, Fetched};
 
 /// A host that never came up, one that came up twice, and one that is not there.
 fn coming_up()
-    ensures not_ready { seen_after (FleetEvent.Reset 1 ∷ []) (FleetEvent.Place 1 a_read ∷ FleetEvent.Ring 1 ∷ FleetEvent.Poll 1 ∷ []) ≡ FleetSeen.Placed (Err PlaceRefusal.NotReady) ∷ FleetSeen.Rung (Err (record {})) ∷ FleetSeen.Polled (Err PollFault.NotUp) ∷ [] }
-    ensures up { seen_in (FleetEvent.Reset 1 ∷ FleetEvent.BringUp 1 ∷ FleetEvent.BringUp 1 ∷ []) ≡ FleetSeen.Reset ∷ FleetSeen.Up (Ok tt) ∷ FleetSeen.Up (Err UpFault.AlreadyUp) ∷ [] }
-    ensures nothing_there { seen_in (FleetEvent.Fetch 1 1 ∷ FleetEvent.Execute 1 0 ∷ FleetEvent.Poll 9 ∷ []) ≡ FleetSeen.Fetched Fetched.Idle ∷ FleetSeen.Executed Executed.NoSuch ∷ FleetSeen.NoController ∷ [] }
-    ensures not_raw { seen_in (FleetEvent.RawWrite32 1 0 0 ∷ FleetEvent.RawWrite32 9 0 0 ∷ []) ≡ FleetSeen.NotRaw ∷ FleetSeen.NoController ∷ [] }
+    ensures not_ready { seen_after (FleetEvent.Reset 1 ∷ [])
+        (FleetEvent.Place 1 a_read ∷ FleetEvent.Ring 1 ∷ FleetEvent.Poll 1 ∷ []) ≡ FleetSeen.Placed
+        (Err PlaceRefusal.NotReady) ∷ FleetSeen.Rung (Err (record {})) ∷ FleetSeen.Polled (Err PollFault.NotUp) ∷ [] }
+    ensures up { seen_in (FleetEvent.Reset 1 ∷ FleetEvent.BringUp 1 ∷ FleetEvent.BringUp 1 ∷ []) ≡ FleetSeen.Reset
+        ∷ FleetSeen.Up (Ok tt) ∷ FleetSeen.Up (Err UpFault.AlreadyUp) ∷ [] }
+    ensures nothing_there { seen_in (FleetEvent.Fetch 1 1 ∷ FleetEvent.Execute 1 0 ∷ FleetEvent.Poll 9 ∷ [])
+        ≡ FleetSeen.Fetched Fetched.Idle ∷ FleetSeen.Executed Executed.NoSuch ∷ FleetSeen.NoController ∷ [] }
+    ensures not_raw { seen_in (FleetEvent.RawWrite32 1 0 0 ∷ FleetEvent.RawWrite32 9 0 0 ∷ []) ≡ FleetSeen.NotRaw
+        ∷ FleetSeen.NoController ∷ [] }
 {}
 
 /// Ranges that end past a namespace, and requests that no command can carry.
@@ -29,54 +34,87 @@ fn ranges()
     ensures data { bytes_after [] (carried 1 (Request.Read 2 0 1)) ≡ [] ∷ [] ∷ [] ∷ [] ∷ replicate 512 0 ∷ [] }
     ensures past { outcomes (carried 1 (Request.Read 2 0 2)) ≡ (status.lba_out_of_range, 9) ∷ [] }
     ensures private { outcomes (carried 2 (Request.Read 2 0 1)) ≡ (status.invalid_field_in_command, 5) ∷ [] }
-    ensures refused { seen_in (FleetEvent.Place 1 (Request.Read 1 0 257) ∷ []) ≡ FleetSeen.Placed (Err PlaceRefusal.BadRequest) ∷ [] }
+    ensures refused { seen_in (FleetEvent.Place 1 (Request.Read 1 0 257) ∷ []) ≡ FleetSeen.Placed
+        (Err PlaceRefusal.BadRequest) ∷ [] }
 {}
 
-/// A host that reserved the namespace keeps another from writing, until it releases it; rules are tested in their order.
+/// A host that reserved the namespace keeps another from writing, until it releases it; rules are tested in their
+/// order.
 fn fencing()
-    ensures fenced { outcomes (carried 1 (Request.Register 1 0 false 0 0 0x11) ++ carried 1 (Request.Acquire 1 0 1 0x11 0) ++ carried 2 (Request.WriteZeroes 1 0 1) ++ carried 2 a_read ++ carried 2 (Request.WriteZeroes 1 2 1)) ≡ done ∷ done ∷ (status.reservation_conflict, 7) ∷ done ∷ (status.reservation_conflict, 7) ∷ [] }
-    ensures released { outcomes (carried 1 (Request.Register 1 0 false 0 0 0x11) ++ carried 1 (Request.Acquire 1 0 1 0x11 0) ++ carried 1 (Request.Release 1 0 3 0x11) ++ carried 1 (Request.Release 1 0 1 0x11) ++ carried 2 (Request.WriteZeroes 1 2 1)) ≡ done ∷ done ∷ (status.invalid_field_in_command, 11) ∷ done ∷ (status.lba_out_of_range, 9) ∷ [] }
-    ensures by_host { outcomes (carried 1 (Request.Register 1 0 false 0 0 0x11) ++ carried 1 (Request.Acquire 1 0 4 0x11 0) ++ carried 3 a_read ++ carried 2 a_read) ≡ done ∷ done ∷ done ∷ (status.reservation_conflict, 7) ∷ [] }
+    ensures fenced { outcomes (carried 1 (Request.Register 1 0 false 0 0 0x11)
+        ++ carried 1 (Request.Acquire 1 0 1 0x11 0) ++ carried 2 (Request.WriteZeroes 1 0 1) ++ carried 2 a_read
+        ++ carried 2 (Request.WriteZeroes 1 2 1)) ≡ done ∷ done ∷ (status.reservation_conflict, 7) ∷ done
+        ∷ (status.reservation_conflict, 7) ∷ [] }
+    ensures released { outcomes (carried 1 (Request.Register 1 0 false 0 0 0x11)
+        ++ carried 1 (Request.Acquire 1 0 1 0x11 0) ++ carried 1 (Request.Release 1 0 3 0x11)
+        ++ carried 1 (Request.Release 1 0 1 0x11) ++ carried 2 (Request.WriteZeroes 1 2 1)) ≡ done ∷ done
+        ∷ (status.invalid_field_in_command, 11) ∷ done ∷ (status.lba_out_of_range, 9) ∷ [] }
+    ensures by_host { outcomes (carried 1 (Request.Register 1 0 false 0 0 0x11)
+        ++ carried 1 (Request.Acquire 1 0 4 0x11 0) ++ carried 3 a_read ++ carried 2 a_read) ≡ done ∷ done ∷ done
+        ∷ (status.reservation_conflict, 7) ∷ [] }
 {}
 
 /// A Preempt and Abort catches what the other host has fetched; what it fetches later is judged anew.
 fn preempting()
-    ensures { outcomes caught_read ≡ done ∷ done ∷ done ∷ done ∷ (status.command_aborted_due_to_preempt_and_abort, 1) ∷ (status.reservation_conflict, 7) ∷ [] }
+    ensures { outcomes caught_read ≡ done ∷ done ∷ done ∷ done ∷ (status.command_aborted_due_to_preempt_and_abort, 1)
+        ∷ (status.reservation_conflict, 7) ∷ [] }
 {}
 
 /// All registrants hold the namespace until the last has unregistered.
 fn holding()
-    ensures left { outcomes (all_registrants ++ carried 1 (Request.Register 1 1 false 0 0x11 0) ++ carried 2 (Request.Register 1 1 false 0 0x22 0) ++ carried 1 (Request.WriteZeroes 1 0 1)) ≡ done ∷ done ∷ done ∷ done ∷ done ∷ done ∷ (status.reservation_conflict, 7) ∷ [] }
-    ensures free { outcomes (all_registrants ++ carried 1 (Request.Register 1 1 false 0 0x11 0) ++ carried 2 (Request.Register 1 1 false 0 0x22 0) ++ carried 4 (Request.Register 1 1 false 0 0x33 0) ++ carried 1 (Request.WriteZeroes 1 0 1)) ≡ done ∷ done ∷ done ∷ done ∷ done ∷ done ∷ done ∷ done ∷ [] }
-    ensures report { bytes_after (all_registrants ++ carried 1 (Request.Register 1 1 false 0 0x11 0) ++ carried 2 (Request.Register 1 1 false 0 0x22 0) ++ carried 4 (Request.Register 1 1 false 0 0x33 0)) (carried 4 (Request.Report 1 2)) ≡ [] ∷ [] ∷ [] ∷ [] ∷ (6 ∷ replicate 7 0) ∷ [] }
+    ensures left { outcomes (all_registrants ++ carried 1 (Request.Register 1 1 false 0 0x11 0)
+        ++ carried 2 (Request.Register 1 1 false 0 0x22 0) ++ carried 1 (Request.WriteZeroes 1 0 1)) ≡ done ∷ done
+        ∷ done ∷ done ∷ done ∷ done ∷ (status.reservation_conflict, 7) ∷ [] }
+    ensures free { outcomes (all_registrants ++ carried 1 (Request.Register 1 1 false 0 0x11 0)
+        ++ carried 2 (Request.Register 1 1 false 0 0x22 0) ++ carried 4 (Request.Register 1 1 false 0 0x33 0)
+        ++ carried 1 (Request.WriteZeroes 1 0 1)) ≡ done ∷ done ∷ done ∷ done ∷ done ∷ done ∷ done ∷ done ∷ [] }
+    ensures report { bytes_after (all_registrants ++ carried 1 (Request.Register 1 1 false 0 0x11 0)
+        ++ carried 2 (Request.Register 1 1 false 0 0x22 0) ++ carried 4 (Request.Register 1 1 false 0 0x33 0))
+        (carried 4 (Request.Report 1 2)) ≡ [] ∷ [] ∷ [] ∷ [] ∷ (6 ∷ replicate 7 0) ∷ [] }
 {}
 
 /// A raw host's events are its own: its driver is not there, and its controller works as every controller does.
 fn raw_hosts()
-    ensures { raw_seen_in (FleetEvent.BringUp 2 ∷ FleetEvent.RawWrite32 2 0x24 0x001f0007 ∷ FleetEvent.RawWrite32 2 0x30 0x1000 ∷ FleetEvent.RawWrite32 2 0x14 0x00460001 ∷ FleetEvent.Fetch 2 0 ∷ FleetEvent.Execute 2 0 ∷ FleetEvent.BringUp 1 ∷ FleetEvent.RawWrite32 1 0x14 0 ∷ []) ≡ FleetSeen.NoDriver ∷ FleetSeen.Wrote ∷ FleetSeen.Wrote ∷ FleetSeen.Wrote ∷ FleetSeen.Fetched Fetched.Idle ∷ FleetSeen.Executed Executed.NoSuch ∷ FleetSeen.Up (Ok tt) ∷ FleetSeen.NotRaw ∷ [] }
+    ensures { raw_seen_in (FleetEvent.BringUp 2 ∷ FleetEvent.RawWrite32 2 0x24 0x001f0007 ∷ FleetEvent.RawWrite32 2 0x30
+        0x1000 ∷ FleetEvent.RawWrite32 2 0x14 0x00460001 ∷ FleetEvent.Fetch 2 0 ∷ FleetEvent.Execute 2 0
+        ∷ FleetEvent.BringUp 1 ∷ FleetEvent.RawWrite32 1 0x14 0 ∷ []) ≡ FleetSeen.NoDriver ∷ FleetSeen.Wrote
+        ∷ FleetSeen.Wrote ∷ FleetSeen.Wrote ∷ FleetSeen.Fetched Fetched.Idle ∷ FleetSeen.Executed Executed.NoSuch
+        ∷ FleetSeen.Up (Ok tt) ∷ FleetSeen.NotRaw ∷ [] }
 {}
 
 /// Write protection is set by one host, seen by another, and keeps both from writing.
 fn protecting()
-    ensures { outcomes (carried_by_admin 1 (Request.Protect 1 1) ++ carried 2 (Request.WriteZeroes 1 0 1) ++ carried 2 a_read ++ carried 2 (Request.Flush 1)) ≡ done ∷ (status.namespace_is_write_protected, 8) ∷ done ∷ done ∷ [] }
+    ensures { outcomes (carried_by_admin 1 (Request.Protect 1 1) ++ carried 2 (Request.WriteZeroes 1 0 1)
+        ++ carried 2 a_read ++ carried 2 (Request.Flush 1)) ≡ done ∷ (status.namespace_is_write_protected, 8) ∷ done
+        ∷ done ∷ [] }
 {}
 
 /// Three reads, of which two are executed, are aborted by a reset, in the order of their tickets.
 fn resetting()
-    ensures { seen_after (fetched_reads 3 ++ times 2 (FleetEvent.Execute 1 0 ∷ [])) (FleetEvent.Reset 1 ∷ times 4 (FleetEvent.Poll 1 ∷ []) ++ FleetEvent.BringUp 1 ∷ FleetEvent.Poll 1 ∷ []) ≡ FleetSeen.Reset ∷ aborted 1 ∷ aborted 2 ∷ aborted 3 ∷ FleetSeen.Polled (Err PollFault.NotUp) ∷ FleetSeen.Up (Ok tt) ∷ FleetSeen.Polled (Ok None) ∷ [] }
+    ensures { seen_after (fetched_reads 3 ++ times 2 (FleetEvent.Execute 1 0 ∷ []))
+        (FleetEvent.Reset 1 ∷ times 4 (FleetEvent.Poll 1 ∷ []) ++ FleetEvent.BringUp 1 ∷ FleetEvent.Poll 1 ∷ [])
+        ≡ FleetSeen.Reset ∷ aborted 1 ∷ aborted 2 ∷ aborted 3 ∷ FleetSeen.Polled (Err PollFault.NotUp) ∷ FleetSeen.Up
+        (Ok tt) ∷ FleetSeen.Polled (Ok None) ∷ [] }
 {}
 
 /// Seven requests of a lane are placed before one is heard of; an answer tells of all that were fetched before it.
 fn rooms()
-    ensures full { seen_after (times 7 (FleetEvent.Place 1 a_read ∷ [])) (FleetEvent.Place 1 a_read ∷ []) ≡ FleetSeen.Placed (Err PlaceRefusal.RingFull) ∷ [] }
+    ensures full { seen_after (times 7 (FleetEvent.Place 1 a_read ∷ [])) (FleetEvent.Place 1 a_read ∷ [])
+        ≡ FleetSeen.Placed (Err PlaceRefusal.RingFull) ∷ [] }
     ensures heard { seen_after seven_reads (FleetEvent.Place 1 a_read ∷ []) ≡ placed 8 ∷ [] }
-    ensures last { seen_after (times 3 seven_reads ++ times 5 (FleetEvent.Place 1 a_read ∷ [])) (FleetEvent.Place 1 a_read ∷ FleetEvent.Place 1 a_read ∷ []) ≡ placed 27 ∷ FleetSeen.Placed (Err PlaceRefusal.NoSlot) ∷ [] }
+    ensures last { seen_after (times 3 seven_reads ++ times 5 (FleetEvent.Place 1 a_read ∷ []))
+        (FleetEvent.Place 1 a_read ∷ FleetEvent.Place 1 a_read ∷ []) ≡ placed 27 ∷ FleetSeen.Placed
+        (Err PlaceRefusal.NoSlot) ∷ [] }
 {}
 
 /// Answers come in the order of the executions, each with its own data.
 fn ordering()
-    ensures seen { seen_after (FleetEvent.Place 1 a_read ∷ FleetEvent.Place 1 (Request.Flush 1) ∷ FleetEvent.Ring 1 ∷ FleetEvent.Fetch 1 1 ∷ FleetEvent.Fetch 1 1 ∷ FleetEvent.Execute 1 1 ∷ FleetEvent.Execute 1 0 ∷ []) (FleetEvent.Poll 1 ∷ FleetEvent.Poll 1 ∷ []) ≡ done_with 2 0 ∷ done_with 1 512 ∷ [] }
-    ensures bytes { bytes_after (FleetEvent.Place 1 a_read ∷ FleetEvent.Place 1 (Request.Flush 1) ∷ FleetEvent.Ring 1 ∷ FleetEvent.Fetch 1 1 ∷ FleetEvent.Fetch 1 1 ∷ FleetEvent.Execute 1 1 ∷ FleetEvent.Execute 1 0 ∷ []) (FleetEvent.Poll 1 ∷ FleetEvent.Poll 1 ∷ []) ≡ [] ∷ replicate 512 0 ∷ [] }
+    ensures seen { seen_after (FleetEvent.Place 1 a_read ∷ FleetEvent.Place 1 (Request.Flush 1) ∷ FleetEvent.Ring 1
+        ∷ FleetEvent.Fetch 1 1 ∷ FleetEvent.Fetch 1 1 ∷ FleetEvent.Execute 1 1 ∷ FleetEvent.Execute 1 0 ∷ [])
+        (FleetEvent.Poll 1 ∷ FleetEvent.Poll 1 ∷ []) ≡ done_with 2 0 ∷ done_with 1 512 ∷ [] }
+    ensures bytes { bytes_after (FleetEvent.Place 1 a_read ∷ FleetEvent.Place 1 (Request.Flush 1) ∷ FleetEvent.Ring 1
+        ∷ FleetEvent.Fetch 1 1 ∷ FleetEvent.Fetch 1 1 ∷ FleetEvent.Execute 1 1 ∷ FleetEvent.Execute 1 0 ∷ [])
+        (FleetEvent.Poll 1 ∷ FleetEvent.Poll 1 ∷ []) ≡ [] ∷ replicate 512 0 ∷ [] }
 {}
 
 /// Of two requests one is answered, whatever it came to, and the other waits; a reset aborts both.

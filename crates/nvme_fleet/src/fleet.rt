@@ -28,8 +28,8 @@ use nvme_wire::NoMemory;
 use std::alloc::Global;
 use std::marker::Model;
 
-/// Hosts over one subsystem: controller k is that of the k-th host, which has a driver, or is raw and has none. Contracts
-/// see it as the record `FleetState`, and as the fleet of mailboxes that this is.
+/// Hosts over one subsystem: controller k is that of the k-th host, which has a driver, or is raw and has none.
+/// Contracts see it as the record `FleetState`, and as the fleet of mailboxes that this is.
 #[derive(Drop)]
 pub struct Fleet<M: Medium> {
     seats: Seats<M>,
@@ -43,14 +43,25 @@ impl<M: Medium> Model for Fleet<M> {
 
     ghost Value = { FleetState };
 
-    ghost view = { λ f. record { subsystem = f.seats; drivers = f.drivers.items; buffer = f.buffer.items; filled = f.filled } };
+    ghost view = { λ f. record {
+      subsystem = f.seats;
+      drivers = f.drivers.items;
+      buffer = f.buffer.items;
+      filled = f.filled;
+    } };
 
-    ghost invariant = { λ f. IsSoundFleet (record { subsystem = f.seats; drivers = f.drivers.items; buffer = f.buffer.items; filled = f.filled }) };
+    ghost invariant = { λ f.
+        IsSoundFleet (record {
+          subsystem = f.seats;
+          drivers = f.drivers.items;
+          buffer = f.buffer.items;
+          filled = f.filled;
+        }) };
 }
 
 impl<M: Medium> Fleet<M> {
-    /// Opens a configuration over a medium: nobody has registered, nothing is reserved or write protected, no controller was
-    /// ever enabled, every window is of zeros, and every driver is down. Memory is asked for last.
+    /// Opens a configuration over a medium: nobody has registered, nothing is reserved or write protected, no
+    /// controller was ever enabled, every window is of zeros, and every driver is down. Memory is asked for last.
     ///
     /// # Errors
     ///
@@ -59,7 +70,9 @@ impl<M: Medium> Fleet<M> {
         ensures opened { IfOk result (λ fleet. fleet_of fleet ≡ opening (configuration config.now) (M.device medium)) }
         ensures quiet { IfOk result (λ fleet. data_in fleet ≡ []) }
         ensures accepted { IfOk result (λ _. first_config_fault (configuration config.now) (M.size medium) ≡ None) }
-        ensures fault { IfErr result (λ refused. refused.fault ≡ unwrap_or (first_config_fault (configuration config.now) (M.size medium)) WantOfMemory) }
+        ensures fault { IfErr result
+            (λ refused. refused.fault ≡ unwrap_or (first_config_fault (configuration config.now) (M.size medium))
+            WantOfMemory) }
         ensures kept { IfErr result (λ refused. refused.medium ≡ medium) }
     {
         let spaces = match Spaces::new(config, medium.blocks()) {
@@ -103,7 +116,8 @@ impl<M: Medium> Fleet<M> {
 
     /// A call of a host's driver.
     fn deliver(&mut self, cntlid: u16, call: DriverCall<'_>) -> FleetSeen
-        ensures step { Is (called (fleet_of self.old) cntlid (reaction_to call.entry)) (reply_in result self.new.buffer) (fleet_of self.new) }
+        ensures step { Is (called (fleet_of self.old) cntlid (reaction_to call.entry)) (reply_in result self.new.buffer)
+            (fleet_of self.new) }
         ensures fits { data_len result ≤ length self.new.buffer }
         ensures events { IsOwnRun M.tells cntlid self.old.subsystem self.new.subsystem }
     {
@@ -121,7 +135,8 @@ impl<M: Medium> Fleet<M> {
 
     /// A fetch of a controller.
     fn fetch(&mut self, cntlid: u16, qid: u16) -> FleetSeen
-        ensures step { Is (fetched_at (host_at (fleet_of self.old) cntlid) (fleet_of self.old) cntlid qid) (reply_in result self.new.buffer) (fleet_of self.new) }
+        ensures step { Is (fetched_at (host_at (fleet_of self.old) cntlid) (fleet_of self.old) cntlid qid)
+            (reply_in result self.new.buffer) (fleet_of self.new) }
         ensures fits { data_len result ≤ length self.new.buffer }
         ensures events { IsOwnRun M.tells cntlid self.old.subsystem self.new.subsystem }
     {
@@ -133,7 +148,8 @@ impl<M: Medium> Fleet<M> {
 
     /// An execution of a controller, and what it marks.
     fn execute(&mut self, cntlid: u16, i: usize) -> FleetSeen
-        ensures step { ExecutesAt (host_at (fleet_of self.old) cntlid) M.tells (fleet_of self.old) cntlid i (reply_in result self.new.buffer) (fleet_of self.new) }
+        ensures step { ExecutesAt (host_at (fleet_of self.old) cntlid) M.tells (fleet_of self.old) cntlid i
+            (reply_in result self.new.buffer) (fleet_of self.new) }
         ensures fits { data_len result ≤ length self.new.buffer }
         ensures events { IsOwnRun M.tells cntlid self.old.subsystem self.new.subsystem }
     {
@@ -145,7 +161,8 @@ impl<M: Medium> Fleet<M> {
 
     /// A store of a raw host.
     fn store(&mut self, cntlid: u16, address: u64, bytes: &[u8]) -> FleetSeen
-        ensures step { Is (raw_stored (fleet_of self.old) cntlid address bytes.now) (reply_in result self.new.buffer) (fleet_of self.new) }
+        ensures step { Is (raw_stored (fleet_of self.old) cntlid address bytes.now) (reply_in result self.new.buffer)
+            (fleet_of self.new) }
         ensures fits { data_len result ≤ length self.new.buffer }
         ensures events { IsOwnRun M.tells cntlid self.old.subsystem self.new.subsystem }
     {
@@ -160,7 +177,8 @@ impl<M: Medium> Fleet<M> {
 
     /// A write to a register of a raw host's controller.
     fn write32(&mut self, cntlid: u16, offset: u64, value: u32) -> FleetSeen
-        ensures step { Is (raw_wrote (fleet_of self.old) cntlid offset value) (reply_in result self.new.buffer) (fleet_of self.new) }
+        ensures step { Is (raw_wrote (fleet_of self.old) cntlid offset value) (reply_in result self.new.buffer)
+            (fleet_of self.new) }
         ensures fits { data_len result ≤ length self.new.buffer }
         ensures events { IsOwnRun M.tells cntlid self.old.subsystem self.new.subsystem }
     {
@@ -174,10 +192,11 @@ impl<M: Medium> Fleet<M> {
         FleetSeen::Wrote
     }
 
-    /// One event of the host that it names; where there is no such controller, or its host is of the other kind, nothing
-    /// happens.
+    /// One event of the host that it names; where there is no such controller, or its host is of the other kind,
+    /// nothing happens.
     fn happen(&mut self, event: FleetEvent<'_>) -> FleetSeen
-        ensures step { Step M.tells (fleet_of self.old) event.entry (reply_in result self.new.buffer) (fleet_of self.new) }
+        ensures step { Step M.tells (fleet_of self.old) event.entry (reply_in result self.new.buffer)
+            (fleet_of self.new) }
         ensures fits { data_len result ≤ length self.new.buffer }
         ensures events { IsOwnRun M.tells (controller_of event.entry) self.old.subsystem self.new.subsystem }
     {
@@ -194,9 +213,11 @@ impl<M: Medium> Fleet<M> {
         }
     }
 
-    /// One event: the step of the fleet of mailboxes. At the subsystem it is a list of events of the host's own controller.
+    /// One event: the step of the fleet of mailboxes. At the subsystem it is a list of events of the host's own
+    /// controller.
     pub fn apply(&mut self, event: FleetEvent<'_>) -> FleetSeen
-        ensures step { Step M.tells (fleet_of self.old) event.entry (record { seen = result; bytes = data_in self.new }) (fleet_of self.new) }
+        ensures step { Step M.tells (fleet_of self.old) event.entry (record { seen = result; bytes = data_in self.new })
+            (fleet_of self.new) }
         ensures events { IsOwnRun M.tells (controller_of event.entry) self.old.subsystem self.new.subsystem }
     {
         let seen = self.happen(event);

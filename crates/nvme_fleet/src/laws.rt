@@ -26,8 +26,8 @@ pub fn opening_is_sound()
     ensures opening { OpeningIsSound }
 {}
 
-/// Each event of a driver and its controller is the step of the mailbox that they stand for, and keeps the fact that this
-/// rests on.
+/// Each event of a driver and its controller is the step of the mailbox that they stand for, and keeps the fact that
+/// this rests on.
 pub fn events_are_steps()
     ensures refused { RefusalIsAStep }
     ensures place { PlaceIsAStep }
@@ -39,18 +39,18 @@ pub fn events_are_steps()
 {}
 
 /// A driver that is down, at its controller that is off, always comes up: each call of its port being an event of the
-/// controller, and each turn a fetch from the admin queue and an execution, both queues are created, and this is the step
-/// of the mailbox. Access state and medium stay.
+/// controller, and each turn a fetch from the admin queue and an execution, both queues are created, and this is the
+/// step of the mailbox. Access state and medium stay.
 pub fn bringing_up_is_a_step()
     ensures up { BringUpIsAStep }
 {}
 
 /// What a controller answers to a command that it fetched from its driver stands at the end of the lane in the mailbox,
 /// whatever it is, where its data lie in the request's slot; there is room for it, and no answer without a request. A
-/// command is judged as its request, whose data pointer passes. An allowed I/O command does what its request does, by the
-/// request's data, whatever a fault of the medium chooses; and what it may be answered, its request may be answered. An
-/// admin command is answered what its request is answered, and the queues stay. So an execution of a command of either
-/// lane is the step of the mailbox.
+/// command is judged as its request, whose data pointer passes. An allowed I/O command does what its request does, by
+/// the request's data, whatever a fault of the medium chooses; and what it may be answered, its request may be
+/// answered. An admin command is answered what its request is answered, and the queues stay. So an execution of a
+/// command of either lane is the step of the mailbox.
 pub fn postings_are_steps()
     ensures judged { JudgedAsItsRequest }
     ensures serves { AllowedServesItsRequest }
@@ -64,8 +64,8 @@ pub fn postings_are_steps()
     ensures admin_executes { AdminExecutionIsAStep }
 {}
 
-/// An execution of any command that a controller fetched from its driver is the step of their mailbox. In a fleet with this
-/// mailbox it is the fleet's step, and where there is no command, nothing changes.
+/// An execution of any command that a controller fetched from its driver is the step of their mailbox. In a fleet with
+/// this mailbox it is the fleet's step, and where there is no command, nothing changes.
 #[tactic(auto, using(crate::proofs::ExecuteStep::execution_is_a_step, crate::proofs::FleetStep::execution_is_a_fleet_step, crate::proofs::FleetStep::no_execution_is_a_fleet_step))]
 pub fn executions_are_steps()
     ensures mailbox { ExecutionIsAStep }
@@ -73,15 +73,15 @@ pub fn executions_are_steps()
     ensures idle { NoExecutionIsAFleetStep }
 {}
 
-/// A host that has a driver goes on having one, and its mailbox becomes what its own events make of it, whatever all others
-/// do: their events leave it as it is, but for the marks of a Preempt and Abort.
+/// A host that has a driver goes on having one, and its mailbox becomes what its own events make of it, whatever all
+/// others do: their events leave it as it is, but for the marks of a Preempt and Abort.
 #[tactic(auto, using(crate::proofs::Apart::hosts_are_apart))]
 pub fn hosts_are_apart()
     ensures apart { HostsAreApart }
 {}
 
-/// Over every run, whatever each ticket weighs: of a host with a driver, the tickets that were held or given are those that
-/// are held, done or aborted; what is executed was waiting or given, and what is done was answered or executed.
+/// Over every run, whatever each ticket weighs: of a host with a driver, the tickets that were held or given are those
+/// that are held, done or aborted; what is executed was waiting or given, and what is done was answered or executed.
 #[tactic(auto, using(crate::proofs::TicketCounts::held_are_counted, crate::proofs::TicketRuns::drivers_stay))]
 pub fn tickets_balance()
     ensures counted { HeldAreCounted }
@@ -89,8 +89,8 @@ pub fn tickets_balance()
     ensures balance { TicketsBalance }
 {}
 
-/// Of a host with a driver the tickets are given in order, each once. From an opening on, over every run, each ticket is
-/// executed at most once, and handed up at most once, as done or as aborted; one that was given is held until then.
+/// Of a host with a driver the tickets are given in order, each once. From an opening on, over every run, each ticket
+/// is executed at most once, and handed up at most once, as done or as aborted; one that was given is held until then.
 #[tactic(auto, using(crate::proofs::TicketCounts::tickets_are_consecutive, crate::proofs::TicketCounts::opening_is_new, crate::proofs::TicketCounts::opening_has_drivers, crate::proofs::TicketCounts::new_holds_each_once, crate::proofs::TicketCounts::each_is_held_once))]
 pub fn tickets_go_once()
     ensures consecutive { TicketsAreConsecutive }
@@ -103,9 +103,9 @@ pub fn tickets_go_once()
 {}
 
 /// What a driver hands up as done is what the execution of its own request came to, in the site of that moment: status,
-/// double word 0 and data. That request was placed, and then executed, since the mailbox was clear, as a new one is and each
-/// reset leaves it; so nothing from before a reset is handed up as done. A ticket names the one request that was placed under
-/// it, so what is done under its ticket is what the execution of that request came to.
+/// double word 0 and data. That request was placed, and then executed, since the mailbox was clear, as a new one is and
+/// each reset leaves it; so nothing from before a reset is handed up as done. A ticket names the one request that was
+/// placed under it, so what is done under its ticket is what the execution of that request came to.
 pub fn done_is_its_execution()
     ensures new { NewIsClear }
     ensures reset { ResetClears }
@@ -114,24 +114,24 @@ pub fn done_is_its_execution()
     ensures request { DoneAnswersItsRequest }
 {}
 
-/// No event of a host with a driver finds a completion queue without room, hands up that a completion answers no request, or
-/// brings a controller up that does not come up.
+/// No event of a host with a driver finds a completion queue without room, hands up that a completion answers no
+/// request, or brings a controller up that does not come up.
 pub fn trouble_never_comes()
     ensures unseen { UnseenNeverComes }
 {}
 
-/// Each I/O command that a controller of a fleet executes, of a driver or of a raw host, is judged by the rules in the access
-/// state of that moment: denied, it is answered with the number and the status of the first rule that fails, and changes
-/// neither access state nor medium; allowed, it does exactly its effect. A raw host's controller bears its number, at the
-/// opening and over every run.
+/// Each I/O command that a controller of a fleet executes, of a driver or of a raw host, is judged by the rules in the
+/// access state of that moment: denied, it is answered with the number and the status of the first rule that fails, and
+/// changes neither access state nor medium; allowed, it does exactly its effect. A raw host's controller bears its
+/// number, at the opening and over every run.
 pub fn executed_as_the_policy_allows()
     ensures opening { OpeningIsNumbered }
     ensures numbers { NumbersStay }
     ensures executed { ExecutedAsThePolicyAllows }
 {}
 
-/// A host that may not write a namespace is answered Reservation Conflict for each of its writes, or the denial of a rule
-/// before, until a reservation command on the namespace is executed that all rules let pass.
+/// A host that may not write a namespace is answered Reservation Conflict for each of its writes, or the denial of a
+/// rule before, until a reservation command on the namespace is executed that all rules let pass.
 pub fn fencing_is_kept()
     ensures reserves { OnlyAllowedActionsReserve }
     ensures permissions { PermissionsStay }
@@ -139,8 +139,8 @@ pub fn fencing_is_kept()
     ensures run { FencingHolds }
 {}
 
-/// A host that a Preempt has removed stays out: while the namespace is held, by whom it may be, its writes are answered so,
-/// until it has a key again, which it gets by its own Reservation Register alone.
+/// A host that a Preempt has removed stays out: while the namespace is held, by whom it may be, its writes are answered
+/// so, until it has a key again, which it gets by its own Reservation Register alone.
 pub fn preempted_hosts_stay_out()
     ensures outsiders { OutsidersMayNotWrite }
     ensures outside { OutsidersStayOutside }

@@ -1,7 +1,7 @@
 //! The fleet: hosts over one subsystem. Most have a driver, which its controller and the memory between them stand
 //! beside; a raw host has none, and its controller is used by single stores and register writes. `specs` says what a
-//! host may rely on, in terms of a mailbox for each driver: what it has asked for and where that stands, with nothing of
-//! queues, phase tags, identifiers of commands or addresses.
+//! host may rely on, in terms of a mailbox for each driver: what it has asked for and where that stands, with nothing
+//! of queues, phase tags, identifiers of commands or addresses.
 #![tactic(auto)]
 
 mod delivery;

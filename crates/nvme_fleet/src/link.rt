@@ -5,8 +5,8 @@ use nvme_driver::Port;
 use nvme_mem::Window;
 use std::marker::Model;
 
-/// The controller at a place, as its host's driver reaches it. A turn is a fetch from the admin queue, and an execution of
-/// the first command that was fetched.
+/// The controller at a place, as its host's driver reaches it. A turn is a fetch from the admin queue, and an execution
+/// of the first command that was fetched.
 #[derive(Drop)]
 pub(crate) struct Link<'a, S: Reach> {
     pub(crate) seats: &'a mut S,
@@ -32,7 +32,8 @@ impl<S: Reach> Port for Link<'_, S> {
 
     ghost bytes = { λ p. (linked_controller p).window };
 
-    ghost step = { λ p call q. LinkStep S.tells (linked_setting p) call (linked_setting q) × KeepsOthers p.place p.subsystem q.subsystem × (q.place ≡ p.place) };
+    ghost step = { λ p call q. LinkStep S.tells (linked_setting p) call (linked_setting q)
+        × KeepsOthers p.place p.subsystem q.subsystem × (q.place ≡ p.place) };
 
     ghost links = { λ p. p.name ∷ [] };
 

@@ -19,7 +19,8 @@ use nvme_driver::{Driver, NotUp, UpFault};
 /// `AlreadyUp` where the driver is up; nothing changes then.
 pub fn bring_up<S: Reach>(driver: &mut Driver, link: &mut Link<'_, S>) -> Result<(), UpFault>
     requires sound { Sound driver.old (linked_controller link.old) }
-    ensures step { IsStep (brought_up (mailbox driver.old (linked_controller link.old))) driver.new (linked_controller link.new) (plain (Up result)) }
+    ensures step { IsStep (brought_up (mailbox driver.old (linked_controller link.old))) driver.new
+        (linked_controller link.new) (plain (Up result)) }
     ensures site { KeepsSite link.old link.new }
     ensures events { IsLinkRun S.tells link.old link.new }
 {
@@ -32,7 +33,8 @@ pub fn bring_up<S: Reach>(driver: &mut Driver, link: &mut Link<'_, S>) -> Result
 /// `NotUp` where the driver is not up; nothing changes then.
 pub fn ring<S: Reach>(driver: &mut Driver, link: &mut Link<'_, S>) -> Result<(), NotUp>
     requires sound { Sound driver.old (linked_controller link.old) }
-    ensures step { IsStep (rung (mailbox driver.old (linked_controller link.old))) driver.new (linked_controller link.new) (plain (Rung result)) }
+    ensures step { IsStep (rung (mailbox driver.old (linked_controller link.old))) driver.new
+        (linked_controller link.new) (plain (Rung result)) }
     ensures site { KeepsSite link.old link.new }
     ensures events { IsLinkRun S.tells link.old link.new }
 {
@@ -42,7 +44,8 @@ pub fn ring<S: Reach>(driver: &mut Driver, link: &mut Link<'_, S>) -> Result<(),
 /// Resets the controller. All requests that were not handed up are aborted.
 pub fn reset<S: Reach>(driver: &mut Driver, link: &mut Link<'_, S>)
     requires sound { Sound driver.old (linked_controller link.old) }
-    ensures step { IsStep (reset_mailbox (mailbox driver.old (linked_controller link.old))) driver.new (linked_controller link.new) (plain Reset) }
+    ensures step { IsStep (reset_mailbox (mailbox driver.old (linked_controller link.old))) driver.new
+        (linked_controller link.new) (plain Reset) }
     ensures site { KeepsSite link.old link.new }
     ensures events { IsLinkRun S.tells link.old link.new }
 {

@@ -55,7 +55,8 @@ fn drivers_of(alloc: Global, configs: &[ControllerConfig]) -> Result<Vec<Option<
 ///
 /// `NoMemory` where the allocator has no room for it.
 pub(crate) fn rooms_of(alloc: Global, configs: &[ControllerConfig]) -> Result<Rooms, NoMemory>
-    ensures controllers { IfOk result (λ rooms. rooms.controllers.items ≡ map (λ (k : Configured). new_controller k.cntlid) configs.now) }
+    ensures controllers { IfOk result
+        (λ rooms. rooms.controllers.items ≡ map (λ (k : Configured). new_controller k.cntlid) configs.now) }
     ensures drivers { IfOk result (λ rooms. rooms.drivers.items ≡ map opening_driver configs.now) }
     ensures buffer { IfOk result (λ rooms. rooms.buffer.items ≡ replicate 131072 0) }
 {

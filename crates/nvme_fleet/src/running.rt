@@ -26,22 +26,27 @@ fn room_of(event: FleetEvent<'_>) -> usize
 }
 
 impl<M: Medium> Fleet<M> {
-    /// Events, one after the other; what each gave is added behind the replies. The memory that a reply takes is asked for
-    /// before its event. At the subsystem those that have happened are a list of events, each host's of its own controller.
+    /// Events, one after the other; what each gave is added behind the replies. The memory that a reply takes is asked
+    /// for before its event. At the subsystem those that have happened are a list of events, each host's of its own
+    /// controller.
     ///
     /// # Errors
     ///
-    /// `NoMemory` where the allocator has no room for the next reply: the events before it have happened, and their replies
-    /// are added; that event and those behind it have not.
+    /// `NoMemory` where the allocator has no room for the next reply: the events before it have happened, and their
+    /// replies are added; that event and those behind it have not.
     pub fn run(
         &mut self,
         alloc: Global,
         events: &[FleetEvent<'_>],
         replies: &mut Vec<Reply>,
     ) -> Result<(), NoMemory>
-        ensures ran { OnOk result (RunsBehind M.tells replies.old.items (fleet_of self.old) events.now replies.new.items (fleet_of self.new)) }
-        ensures stopped { OnErr result (RunsInPart M.tells replies.old.items (fleet_of self.old) events.now replies.new.items (fleet_of self.new)) }
-        ensures events { AreOwnRuns M.tells (replied replies.old.items replies.new.items events.now) self.old.subsystem self.new.subsystem }
+        ensures ran { OnOk result (RunsBehind M.tells replies.old.items (fleet_of self.old) events.now replies.new.items
+            (fleet_of self.new)) }
+        ensures stopped { OnErr result
+            (RunsInPart M.tells replies.old.items (fleet_of self.old) events.now replies.new.items
+            (fleet_of self.new)) }
+        ensures events { AreOwnRuns M.tells (replied replies.old.items replies.new.items events.now) self.old.subsystem
+            self.new.subsystem }
     {
         for event in events {
             replies.reserve(1)?;

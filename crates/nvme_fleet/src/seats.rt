@@ -21,8 +21,8 @@ use nvme_spec::Piece;
 use nvme_subsys::mark_after;
 use std::marker::Model;
 
-/// Controllers that are reached by their places, as a driver's port reaches one: each call is one event of the controller at
-/// the place, and all other controllers stay as they are.
+/// Controllers that are reached by their places, as a driver's port reaches one: each call is one event of the
+/// controller at the place, and all other controllers stay as they are.
 pub(crate) trait Reach {
     ghost subsystem: { Self → Subsystem };
 
@@ -37,26 +37,31 @@ pub(crate) trait Reach {
     fn store(&mut self, place: usize, addr: u64, part: &[u8])
         requires there { place < length (subsystem self.old).controllers }
         requires fits { addr + length part.now ≤ window_size }
-        ensures step { LinkStep tells (setting_in (subsystem self.old) place) (Stores addr part.now) (setting_in (subsystem self.new) place) }
+        ensures step { LinkStep tells (setting_in (subsystem self.old) place) (Stores addr part.now)
+            (setting_in (subsystem self.new) place) }
         ensures others { KeepsOthers place (subsystem self.old) (subsystem self.new) }
         ensures whole { length (controller_in (subsystem self.old) place).window ≡ window_size }
-        ensures bytes { (controller_in (subsystem self.new) place).window ≡ with_bytes (controller_in (subsystem self.old) place).window addr part.now };
+        ensures bytes { (controller_in (subsystem self.new) place).window
+            ≡ with_bytes (controller_in (subsystem self.old) place).window addr part.now };
 
     /// What its register at an offset reads.
     fn read32(&self, place: usize, offset: u64) -> u32
         requires { place < length (subsystem self.now).controllers }
-        ensures { LinkStep tells (setting_in (subsystem self.now) place) (Reads offset result) (setting_in (subsystem self.now) place) };
+        ensures { LinkStep tells (setting_in (subsystem self.now) place) (Reads offset result)
+            (setting_in (subsystem self.now) place) };
 
     /// Writes its register at an offset.
     fn write32(&mut self, place: usize, offset: u64, value: u32)
         requires { place < length (subsystem self.old).controllers }
-        ensures step { LinkStep tells (setting_in (subsystem self.old) place) (Writes offset value) (setting_in (subsystem self.new) place) }
+        ensures step { LinkStep tells (setting_in (subsystem self.old) place) (Writes offset value)
+            (setting_in (subsystem self.new) place) }
         ensures others { KeepsOthers place (subsystem self.old) (subsystem self.new) };
 
     /// Fetches a command from its admin queue, and executes the first that it has fetched.
     fn turn(&mut self, place: usize)
         requires { place < length (subsystem self.old).controllers }
-        ensures step { LinkStep tells (setting_in (subsystem self.old) place) Turns (setting_in (subsystem self.new) place) }
+        ensures step { LinkStep tells (setting_in (subsystem self.old) place) Turns
+            (setting_in (subsystem self.new) place) }
         ensures others { KeepsOthers place (subsystem self.old) (subsystem self.new) };
 }
 
@@ -100,7 +105,8 @@ impl<M: Medium> Seats<M> {
     pub(crate) fn fetch(&mut self, place: usize, qid: u16) -> Fetched
         requires { place < length self.old.controllers }
         ensures seen { WasFetched result ≡ (after_fetch qid (controller_in self.old place)).seen }
-        ensures after { self.new ≡ with_controller_at self.old place (after_fetch qid (controller_in self.old place)).controller }
+        ensures after { self.new ≡ with_controller_at self.old place
+            (after_fetch qid (controller_in self.old place)).controller }
     {
         self.controllers[place].fetch(qid)
     }
@@ -124,7 +130,8 @@ impl<M: Medium> Seats<M> {
     pub(crate) fn store_raw(&mut self, place: usize, address: u64, bytes: &[u8]) -> FleetSeen
         requires { place < length self.old.controllers }
         ensures seen { result ≡ stored_seen address bytes.now }
-        ensures after { self.new ≡ with_controller_at self.old place (after_store address bytes.now (controller_in self.old place)).controller }
+        ensures after { self.new ≡ with_controller_at self.old place
+            (after_store address bytes.now (controller_in self.old place)).controller }
     {
         match self.controllers[place].store(address, bytes) {
             Ok(()) => FleetSeen::Stored,

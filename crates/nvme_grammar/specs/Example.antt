@@ -6,7 +6,8 @@ use Rattle.nvme_fleet.specs.declared.event.FleetEvent.TheVariants.{BringUp, Plac
 
 -- a controller, a namespace and a start
 abbrev pub example_setup : List (List ℕ)
-example_setup = codes "controller 1 host 0xa1" ∷ codes "namespace 1 blocks 64 shared" ∷ codes "attached 1 1" ∷ codes "start" ∷ []
+example_setup = codes "controller 1 host 0xa1" ∷ codes "namespace 1 blocks 64 shared" ∷ codes "attached 1 1"
+    ∷ codes "start" ∷ []
 
 -- two events
 abbrev pub example_events : List (List ℕ)

@@ -35,5 +35,6 @@ list_event word c n numbers = do
 
 -- what the first words of a line say with the rest of it, where that goes on with a list
 abbrev pub long_line : List (List ℕ) → List ℕ → Option Line
-long_line (w ∷ c ∷ n ∷ front) rest = option_map Event (list_event w c n (if is_line_text rest then numbers_at 16 (front ++ line_words rest) else None))
+long_line (w ∷ c ∷ n ∷ front) rest =
+    option_map Event (list_event w c n (if is_line_text rest then numbers_at 16 (front ++ line_words rest) else None))
 long_line words rest = None

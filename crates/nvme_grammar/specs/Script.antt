@@ -12,7 +12,8 @@ use Rattle.nvme_grammar.specs.declared.script.Script.{Script}
 use Rattle.nvme_grammar.specs.declared.script.ParseFault.{ParseFault}
 use Rattle.nvme_grammar.specs.declared.script.ParseFault.TheVariants.{Syntax, NoMemory}
 
--- the lines of a text: a line feed ends each but the last. Behind a last line feed stands an empty line, which says nothing.
+-- the lines of a text: a line feed ends each but the last. Behind a last line feed stands an empty line, which says
+-- nothing.
 abbrev pub text_lines : List ℕ → List (List ℕ)
 text_lines text = slice_split (λ b. b == 10) text
 

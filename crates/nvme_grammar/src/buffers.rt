@@ -19,8 +19,8 @@ pub struct Buffers {
 }
 
 impl Buffers {
-    /// Room for each line of a text: 131,072 bytes, or one byte for each two bytes of the text where that is more, and one
-    /// identifier for each two bytes of the text. `AllocError` where memory is refused.
+    /// Room for each line of a text: 131,072 bytes, or one byte for each two bytes of the text where that is more, and
+    /// one identifier for each two bytes of the text. `AllocError` where memory is refused.
     pub fn for_text(alloc: Global, text: &[u8]) -> Result<Buffers, AllocError>
         ensures bytes { IfOk result (λ buffers. HasBytesRoom text.now buffers.bytes.items) }
         ensures identifiers { IfOk result (λ buffers. most_words text.now ≤ length buffers.identifiers.items) }

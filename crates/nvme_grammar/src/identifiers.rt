@@ -11,7 +11,8 @@ use script_text::{first_word, number_u16};
 /// spells none.
 fn identifiers_in(words: &[&[u8]], buffer: &mut [u16]) -> Option<usize>
     requires room { length words.now ≤ length buffer.old }
-    ensures list { option_map (λ count. take count buffer.new) result ≡ numbers_at 16 (map (λ word. word.now) words.now) }
+    ensures list { option_map (λ count. take count buffer.new) result ≡ numbers_at 16
+        (map (λ word. word.now) words.now) }
     ensures count { IfSome result (λ count. count ≡ length words.now) }
 {
     for i in 0..words.len() {
@@ -53,7 +54,8 @@ pub fn long_list_of<'a>(words: &[&[u8]], rest: &[u8], buffer: &'a mut [u16]) -> 
     requires apart { starts_apart rest.now ≡ true }
     requires room { length words.now + most_words rest.now ≤ length buffer.old }
     ensures { option_map (λ list. list.now) result
-        ≡ (if is_line_text rest.now then numbers_at 16 (map (λ word. word.now) words.now ++ line_words rest.now) else None) }
+        ≡ (if is_line_text rest.now then numbers_at 16 (map (λ word. word.now) words.now ++ line_words rest.now)
+        else None) }
 {
     let count = identifiers_in(words, buffer)?;
     let more = identifiers_behind(rest, &mut buffer[count..])?;

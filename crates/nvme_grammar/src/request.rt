@@ -70,7 +70,8 @@ fn compare_of<'a>(nsid: u32, words: &[&[u8]], bytes: &'a mut [u8]) -> Option<Req
 
 /// A request with no words of its own.
 fn plain<'a>(request: Request<'a>, words: &[&[u8]]) -> Option<Request<'a>>
-    ensures { option_map request_by_value result ≡ zero_words (request_by_value request.entry) (map (λ word. word.now) words.now) }
+    ensures { option_map request_by_value result ≡ zero_words (request_by_value request.entry)
+        (map (λ word. word.now) words.now) }
 {
     if words.is_empty() {
         Some(request)

@@ -13,8 +13,8 @@ use super::line::{Line, parse_line};
 use nvme_spec::Config;
 use std::alloc::{AllocError, Global};
 
-/// What a script sets up. Its events stay in its text: whoever runs them parses the lines behind `start` again, one after
-/// the other, so that no memory is kept for them.
+/// What a script sets up. Its events stay in its text: whoever runs them parses the lines behind `start` again, one
+/// after the other, so that no memory is kept for them.
 #[derive(Drop)]
 pub struct Script {
     /// What the lines before `start` set up, in their order; nothing where there is no `start`. Nothing about
@@ -72,7 +72,8 @@ impl Script {
     /// Takes the next line, which has this number.
     fn add(&mut self, number: usize, line: Line) -> Result<(), AllocError>
         ensures { OnOk result ((lines : List Line) → Reads self.old lines → number ≡ length lines + 1
-            → fits_behind lines (line_by_value line.entry) ≡ true → Reads self.new (lines ++ line_by_value line.entry ∷ [])) }
+            → fits_behind lines (line_by_value line.entry) ≡ true
+            → Reads self.new (lines ++ line_by_value line.entry ∷ [])) }
     {
         match line {
             Line::Blank | Line::Event(_) => {}
@@ -99,8 +100,8 @@ impl Script {
     }
 }
 
-/// The script that a text spells. A line feed ends a line; the last line may lack it. The buffers need room for what any
-/// of its lines says.
+/// The script that a text spells. A line feed ends a line; the last line may lack it. The buffers need room for what
+/// any of its lines says.
 ///
 /// `Syntax` bears the number of the first line that is outside the grammar: one that says nothing the grammar
 /// has, a configuration line or a second `start` behind `start`, or an event before it. `NoMemory` where memory is

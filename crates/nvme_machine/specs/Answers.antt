@@ -1,5 +1,5 @@
--- What the execution of a fetched command answers and leaves, in the world as it is then. An admin command and a denied one
--- have one answer; of an allowed I/O command a fault of the medium may choose.
+-- What the execution of a fetched command answers and leaves, in the world as it is then. An admin command and a denied
+-- one have one answer; of an allowed I/O command a fault of the medium may choose.
 use Rattle.std.specs.Prelude.{◌≡◌, ◌==◌, ℕ, Bool, true, false, if◌then◌else◌}
 use Rattle.nvme_spec.specs.declared.outcome.Outcome.{Outcome}
 use Rattle.nvme_spec.specs.declared.queues.Queues.{Queues}

@@ -119,8 +119,10 @@ taking_effect Nothing c = c
 taking_effect Enable c = with_admin_queues (register.admin_queues c.registers) c
 taking_effect Disable c = without_queues c
 taking_effect Shutdown c = c
-taking_effect (SqTail q v) c = record c { submission = slice_set c.submission q (option_map (with_tail v) (submission_at c q)) }
-taking_effect (CqHead q v) c = record c { completion = slice_set c.completion q (option_map (with_head v) (completion_at c q)) }
+taking_effect (SqTail q v) c =
+    record c { submission = slice_set c.submission q (option_map (with_tail v) (submission_at c q)) }
+taking_effect (CqHead q v) c =
+    record c { completion = slice_set c.completion q (option_map (with_head v) (completion_at c q)) }
 
 unfoldable pub after_write32 : ℕ → ℕ → Controller → Controller
 after_write32 offset v c =
@@ -153,7 +155,8 @@ if_waiting (Some q) = if nat_lt 0 q.head.waiting then Some q else None
 -- the submission queue that a command can be fetched from
 unfoldable pub fetchable : Controller → ℕ → Option SubmissionQueue
 fetchable c q =
-    if may_fetch c.registers.state && nat_lt (length c.fetched) most_fetched then if_waiting (submission_at c q) else None
+    if may_fetch c.registers.state && nat_lt (length c.fetched) most_fetched
+    then if_waiting (submission_at c q) else None
 
 -- the entry at the head of a submission queue
 abbrev pub head_entry : Controller → SubmissionQueue → List ℕ
@@ -213,7 +216,8 @@ completion_slot q = ring.completion_place q.base q.tail.size q.tail.posted
 unfoldable pub after_posting : ℕ → FetchedCommand → QueuePair → Status → ℕ → Controller → Controller
 after_posting i t p why first c = record c {
   fetched = remove c.fetched i;
-  completion = slice_set c.completion p.submission.cqid (Some (record p.completion { tail = ring.after_post p.completion.tail }));
+  completion = slice_set c.completion p.submission.cqid
+      (Some (record p.completion { tail = ring.after_post p.completion.tail }));
   window = with_bytes c.window (completion_slot p.completion) (completion_of t p why first);
 }
 
@@ -225,9 +229,15 @@ without_queue qid fetched = filter (λ (t : FetchedCommand). not (t.queue == qid
 unfoldable pub after_queue_change : QueueChange → Controller → Controller
 after_queue_change Keep c = c
 after_queue_change (MakeCq qid size at) c =
-    record c { completion = slice_set c.completion qid (Some (record { base = at; tail = ring.empty_completion_tail size })) }
+    record c {
+      completion = slice_set c.completion qid
+          (Some (record { base = at; tail = ring.empty_completion_tail size }));
+    }
 after_queue_change (MakeSq qid size at to) c =
-    record c { submission = slice_set c.submission qid (Some (record { base = at; cqid = to; head = ring.empty_submission_head size })) }
+    record c {
+      submission = slice_set c.submission qid
+          (Some (record { base = at; cqid = to; head = ring.empty_submission_head size }));
+    }
 after_queue_change (DropCq qid) c = record c { completion = slice_set c.completion qid None }
 after_queue_change (DropSq qid) c =
     record c { submission = slice_set c.submission qid None; fetched = without_queue qid c.fetched }

@@ -1,4 +1,5 @@
--- The execution of a fetched command as its controller sees it, with the access state and the medium of its subsystem at hand.
+-- The execution of a fetched command as its controller sees it, with the access state and the medium of its subsystem
+-- at hand.
 use Rattle.std.specs.Prelude.{◌≡◌, ℕ, Bool, Option, None, Some, slice_get}
 use Rattle.nvme_spec.specs.Blocks.{Device}
 use Rattle.nvme_spec.specs.World.{World}
@@ -23,7 +24,8 @@ abbrev pub scene_in : Setting → Scene
 scene_in s = record { world = s.world; window = s.controller.window; device = s.device }
 
 -- the i-th command has an answer, and all is as that says
-pub record Finishes (tells : Bool) (i : ℕ) (t : FetchedCommand) (p : QueuePair) (old : Setting) (executed : Executed) (new : Setting) : Type 0 where
+pub record Finishes (tells : Bool) (i : ℕ) (t : FetchedCommand) (p : QueuePair) (old : Setting) (executed : Executed)
+    (new : Setting) : Type 0 where
   pub answer : Answer
   pub answers : Answers tells (queues_of old.controller) old.controller.cntlid t (scene_in old) answer
   pub gives : executed ≡ Posted answer.outcome

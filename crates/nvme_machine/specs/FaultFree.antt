@@ -61,7 +61,8 @@ fault_free_step s (Execute k i) = executing (controller_at s k) s k i
 -- what the events give, one after the other
 abbrev pub fault_free_seen : Subsystem → List Event → List Seen
 fault_free_seen s [] = []
-fault_free_seen s (event ∷ events) = (fault_free_step s event).seen ∷ fault_free_seen (fault_free_step s event).left events
+fault_free_seen s (event ∷ events) = (fault_free_step s event).seen ∷ fault_free_seen
+    (fault_free_step s event).left events
 
 -- the subsystem after them
 abbrev pub fault_free_left : Subsystem → List Event → Subsystem

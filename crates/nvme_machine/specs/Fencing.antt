@@ -40,7 +40,8 @@ OnlyAllowedWritesWrite =
     → Step true old event seen new
     → (namespace_bytes new n ≡ namespace_bytes old n) ⊎ Allows altering old event n
 
--- Its reservation changes only where a Reservation Register, Acquire or Release on it is executed that all rules let pass.
+-- Its reservation changes only where a Reservation Register, Acquire or Release on it is executed that all rules let
+-- pass.
 abbrev pub OnlyAllowedActionsReserve : Type 0
 OnlyAllowedActionsReserve =
     (tells : Bool) → (old new : Subsystem) → (event : Event) → (seen : Seen) → (n : ℕ) → Step tells old event seen new
@@ -77,11 +78,13 @@ PermissionsStay =
     (tells : Bool) → (old new : Subsystem) → (event : Event) → (seen : Seen) → (n : ℕ) → Step tells old event seen new
     → LeavesReservation n old event → (k : ℕ) → may_write new.world k n ≡ may_write old.world k n
 
--- Fencing holds: while no reservation command on a namespace is executed but denied ones, hosts that may not write it change
--- none of its bytes, whatever they store, write, fetch, execute and reset, in any order; and they still may not write it.
+-- Fencing holds: while no reservation command on a namespace is executed but denied ones, hosts that may not write it
+-- change none of its bytes, whatever they store, write, fetch, execute and reset, in any order; and they still may not
+-- write it.
 abbrev pub FencingHolds : Type 0
 FencingHolds =
-    (old new : Subsystem) → (events : List Event) → (seen : List Seen) → (n : ℕ) → IsLaidOut old.world old.device.content
+    (old new : Subsystem) → (events : List Event) → (seen : List Seen) → (n : ℕ)
+    → IsLaidOut old.world old.device.content
     → RunWhere (LeavesReservation n) old events seen new
     → AllByRecursion (λ event. may_write old.world (controller_of event) n ≡ false) events
     → (namespace_bytes new n ≡ namespace_bytes old n) × ((k : ℕ) → may_write new.world k n ≡ may_write old.world k n)

@@ -1,5 +1,5 @@
--- What becomes of the commands of a host that is preempted (Base Specification: Reservation Acquire command, Preempt and
--- Abort).
+-- What becomes of the commands of a host that is preempted (Base Specification: Reservation Acquire command, Preempt
+-- and Abort).
 use Rattle.std.specs.Prelude.{◌≡◌, ℕ, ◌==◌, Bool, true, false, Some, Ok, slice_get}
 use Rattle.nvme_wire.specs.Submission.{opcode}
 use Rattle.nvme_spec.specs.declared.command.Command.TheVariants.{ReservationAcquire}
@@ -18,11 +18,12 @@ use Rattle.nvme_machine.specs.Answers.{judgement}
 use Rattle.nvme_machine.specs.Subsystems.{Subsystem, Step, controller_at, with_controller, scene_of, is_host_among}
 use Rattle.nvme_machine.specs.Runs.{Waits}
 
--- A marked I/O command is answered Command Aborted due to Preempt and Abort, by the first rule, whatever it asks for; and
--- it changes its completion entry, the counts of its completion queue and its list, and nothing else.
+-- A marked I/O command is answered Command Aborted due to Preempt and Abort, by the first rule, whatever it asks for;
+-- and it changes its completion entry, the counts of its completion queue and its list, and nothing else.
 abbrev pub MarkedIsAborted : Type 0
 MarkedIsAborted =
-    (tells : Bool) → (old new : Subsystem) → (k i : ℕ) → (c : Controller) → (t : FetchedCommand) → (p : QueuePair) → (seen : Seen)
+    (tells : Bool) → (old new : Subsystem) → (k i : ℕ) → (c : Controller) → (t : FetchedCommand) → (p : QueuePair)
+    → (seen : Seen)
     → Step tells old (Execute k i) seen new → Waits old k i c t p
     → t.marked ≡ true → (t.queue == 0) ≡ false
     → (seen ≡ Executed (Posted (denial_outcome 1 status.command_aborted_due_to_preempt_and_abort)))
@@ -36,10 +37,12 @@ AllMarked n c = (i : ℕ) → (t : FetchedCommand) → slice_get c.fetched i ≡
 -- namespace.
 abbrev pub PreemptedCommandsAreMarked : Type 0
 PreemptedCommandsAreMarked =
-    (tells : Bool) → (old new : Subsystem) → (k i n : ℕ) → (c : Controller) → (t : FetchedCommand) → (p : QueuePair) → (seen : Seen)
+    (tells : Bool) → (old new : Subsystem) → (k i n : ℕ) → (c : Controller) → (t : FetchedCommand) → (p : QueuePair)
+    → (seen : Seen)
     → Step tells old (Execute k i) seen new → Waits old k i c t p
     → names n t ≡ true → command_of (opcode t.entry) ≡ Some ReservationAcquire → action t.entry ≡ 2
     → judgement (queues_of c) k t (scene_of old c) ≡ Ok tt
     → (other : ℕ) → (d : Controller) → controller_at new other ≡ Some d
-    → is_host_among (removed_by (reservation_outcome old.world k t.entry (data_of c.window t.entry))) (host_of new.world other) ≡ true
+    → is_host_among (removed_by (reservation_outcome old.world k t.entry (data_of c.window t.entry)))
+    (host_of new.world other) ≡ true
     → AllMarked n d

@@ -55,7 +55,8 @@ pub record StandsUnread (e : PostedEntry) (c : Controller) : Type 0 where
 -- A command that is executed has its completion stand unread in the queue that it was posted to.
 abbrev pub PostedIsUnread : Type 0
 PostedIsUnread =
-    (tells : Bool) → (old new : Subsystem) → (k i : ℕ) → (c : Controller) → (t : FetchedCommand) → (p : QueuePair) → (outcome : Outcome)
+    (tells : Bool) → (old new : Subsystem) → (k i : ℕ) → (c : Controller) → (t : FetchedCommand) → (p : QueuePair)
+    → (outcome : Outcome)
     → Step tells old (Execute k i) (Executed (Posted outcome)) new → Waits old k i c t p → AreAllPlaced old
     → (d : Controller) × (controller_at new k ≡ Some d)
     × StandsUnread (record {
@@ -82,8 +83,8 @@ addresses_of c t =
     then data_addresses (admin.data_length_of (admin.command_of (opcode t.entry)) t.entry) c.window t.entry
     else data_addresses (io.data_length_of (io.command_of (opcode t.entry)) t.entry) c.window t.entry
 
--- The i-th command of its controller is executed, and takes it: its data may go there, its completion may go to another queue
--- that lies over this one, or it deletes the queue.
+-- The i-th command of its controller is executed, and takes it: its data may go there, its completion may go to another
+-- queue that lies over this one, or it deletes the queue.
 pub record TakesByExecution (s : Subsystem) (k : ℕ) (c : Controller) (i : ℕ) (e : PostedEntry) : Type 0 where
   pub command : FetchedCommand
   pub pair : QueuePair
@@ -116,11 +117,12 @@ TakesEntry s j c e (Read32 k offset) = ⊥
 TakesEntry s j c e (Fetch k q) = ⊥
 TakesEntry s j c e (Execute k i) = (k ≡ j) × TakesByExecution s k c i e
 
--- An unread entry stands, whatever any controller does, and no later completion takes its slot, until an event of its own
--- host takes it.
+-- An unread entry stands, whatever any controller does, and no later completion takes its slot, until an event of its
+-- own host takes it.
 abbrev pub UnreadStands : Type 0
 UnreadStands =
-    (tells : Bool) → (old new : Subsystem) → (event : Event) → (seen : Seen) → Step tells old event seen new → AreAllPlaced old
+    (tells : Bool) → (old new : Subsystem) → (event : Event) → (seen : Seen) → Step tells old event seen new
+    → AreAllPlaced old
     → (j : ℕ) → (c : Controller) → (e : PostedEntry) → controller_at old j ≡ Some c → StandsUnread e c
     → ((d : Controller) × (controller_at new j ≡ Some d) × StandsUnread e d) ⊎ TakesEntry old j c e event
 

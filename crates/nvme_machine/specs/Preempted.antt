@@ -1,6 +1,6 @@
--- Preempted commands stay out, over runs: what a controller had fetched when its host was preempted is aborted, whenever it
--- is executed (Base Specification: Reservation Acquire command, Preempt and Abort). A command is followed by its place in
--- its controller's list.
+-- Preempted commands stay out, over runs: what a controller had fetched when its host was preempted is aborted,
+-- whenever it is executed (Base Specification: Reservation Acquire command, Preempt and Abort). A command is followed
+-- by its place in its controller's list.
 use Rattle.std.specs.Prelude.{◌≡◌, ℕ, ◌-◌, ◌==◌, nat_lt, Bool, true, false, ◌||◌, ◌&&◌, if◌then◌else◌, List, [], ◌∷◌, length, take, remove, Option, None, Some, Ok, slice_get}
 use Rattle.nvme_wire.specs.Submission.{opcode}
 use Rattle.nvme_spec.specs.declared.command.Command.TheVariants.{ReservationAcquire}
@@ -92,7 +92,8 @@ pub record StandsAt (t : FetchedCommand) (commands : List FetchedCommand) (l : �
 abbrev pub CommandsAreFollowed : Type 0
 CommandsAreFollowed =
     (tells : Bool) → (old new : Subsystem) → (event : Event) → (seen : Seen) → Step tells old event seen new
-    → (j m l : ℕ) → (c : Controller) → (t : FetchedCommand) → controller_at old j ≡ Some c → slice_get c.fetched m ≡ Some t
+    → (j m l : ℕ) → (c : Controller) → (t : FetchedCommand) → controller_at old j ≡ Some c
+    → slice_get c.fetched m ≡ Some t
     → place_after old j m event ≡ Some l
     → (d : Controller) × (controller_at new j ≡ Some d) × StandsAt t d.fetched l
 
@@ -106,7 +107,8 @@ RunKeeping tells j old m [] (seen ∷ later) new l = ⊥
 RunKeeping tells j old m (event ∷ events) [] new l = ⊥
 
 -- The i-th command of controller k is executed: a Preempt and Abort on the namespace that all rules let pass.
-pub record Preempts (tells : Bool) (n : ℕ) (old : Subsystem) (k i : ℕ) (c : Controller) (t : FetchedCommand) (new : Subsystem) : Type 0 where
+pub record Preempts (tells : Bool) (n : ℕ) (old : Subsystem) (k i : ℕ) (c : Controller) (t : FetchedCommand)
+    (new : Subsystem) : Type 0 where
   pub pair : QueuePair
   pub seen : Seen
   pub step : Step tells old (Execute k i) seen new
@@ -129,12 +131,14 @@ IsAbortedAt tells s j l =
     → (seen ≡ Executed (Posted (denial_outcome 1 status.command_aborted_due_to_preempt_and_abort)))
     × (new ≡ with_controller s j (after_posting l t p status.command_aborted_due_to_preempt_and_abort 0 c))
 
--- Preempted stays out: after a Preempt and Abort that is not denied, each command on that namespace that a controller of a
--- removed host had fetched before is aborted, whenever it is executed, whatever happens until then.
+-- Preempted stays out: after a Preempt and Abort that is not denied, each command on that namespace that a controller
+-- of a removed host had fetched before is aborted, whenever it is executed, whatever happens until then.
 abbrev pub PreemptedStaysOut : Type 0
 PreemptedStaysOut =
-    (tells : Bool) → (n : ℕ) → (old mid new : Subsystem) → (k i : ℕ) → (c : Controller) → (t : FetchedCommand) → Preempts tells n old k i c t mid
-    → (j m : ℕ) → (d : Controller) → (u : FetchedCommand) → controller_at mid j ≡ Some d → slice_get d.fetched m ≡ Some u → names n u ≡ true
+    (tells : Bool) → (n : ℕ) → (old mid new : Subsystem) → (k i : ℕ) → (c : Controller) → (t : FetchedCommand)
+    → Preempts tells n old k i c t mid
+    → (j m : ℕ) → (d : Controller) → (u : FetchedCommand) → controller_at mid j ≡ Some d
+    → slice_get d.fetched m ≡ Some u → names n u ≡ true
     → is_host_among (removed_hosts old k c t) (host_of mid.world j) ≡ true
     → (events : List Event) → (seen : List Seen) → (l : ℕ) → RunKeeping tells j mid m events seen new l
     → IsAbortedAt tells new j l

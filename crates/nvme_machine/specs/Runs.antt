@@ -50,11 +50,12 @@ pub record Waits (s : Subsystem) (k i : ℕ) (c : Controller) (t : FetchedComman
   pub found : slice_get c.fetched i ≡ Some t
   pub room : open_pair c t ≡ Some p
 
--- A command that a rule denies is answered with the status of the first such rule, and changes its completion entry, the
--- counts of its completion queue and its list, and nothing else.
+-- A command that a rule denies is answered with the status of the first such rule, and changes its completion entry,
+-- the counts of its completion queue and its list, and nothing else.
 abbrev pub DeniedChangesItsEntryAlone : Type 0
 DeniedChangesItsEntryAlone =
-    (tells : Bool) → (old new : Subsystem) → (k i : ℕ) → (c : Controller) → (t : FetchedCommand) → (p : QueuePair) → (denial : Denial) → (seen : Seen)
+    (tells : Bool) → (old new : Subsystem) → (k i : ℕ) → (c : Controller) → (t : FetchedCommand) → (p : QueuePair)
+    → (denial : Denial) → (seen : Seen)
     → Step tells old (Execute k i) seen new → Waits old k i c t p
     → judgement (queues_of c) k t (scene_of old c) ≡ Err denial
     → (seen ≡ Executed (Posted (denial_outcome denial.rule denial.status)))
@@ -62,7 +63,8 @@ DeniedChangesItsEntryAlone =
 
 -- An I/O command that all rules let pass, in the world of its execution, does its effect there, and only then is its
 -- completion posted.
-pub record DoesItsEffect (tells : Bool) (plan : Plan) (old new : Subsystem) (k i : ℕ) (c : Controller) (t : FetchedCommand) (p : QueuePair) (seen : Seen) : Type 0 where
+pub record DoesItsEffect (tells : Bool) (plan : Plan) (old new : Subsystem) (k i : ℕ) (c : Controller)
+    (t : FetchedCommand) (p : QueuePair) (seen : Seen) : Type 0 where
   pub outcome : Outcome
   pub left : Scene
   pub performed : IsPerformed tells plan.kind k t.entry (scene_of old c) left outcome
@@ -71,7 +73,8 @@ pub record DoesItsEffect (tells : Bool) (plan : Plan) (old new : Subsystem) (k i
 
 abbrev pub AllowedDoesItsEffect : Type 0
 AllowedDoesItsEffect =
-    (tells : Bool) → (old new : Subsystem) → (k i : ℕ) → (c : Controller) → (t : FetchedCommand) → (p : QueuePair) → (plan : Plan) → (seen : Seen)
+    (tells : Bool) → (old new : Subsystem) → (k i : ℕ) → (c : Controller) → (t : FetchedCommand) → (p : QueuePair)
+    → (plan : Plan) → (seen : Seen)
     → Step tells old (Execute k i) seen new → Waits old k i c t p → (t.queue == 0) ≡ false
     → io_verdict old.world k t.entry t.marked c.window ≡ Allowed plan
     → DoesItsEffect tells plan old new k i c t p seen
@@ -120,8 +123,8 @@ IsReset Shutdown = ⊥
 IsReset (SqTail q v) = ⊥
 IsReset (CqHead q v) = ⊥
 
--- an event takes the m-th command of controller j out of its list: the command is executed, its queue is deleted, or the
--- controller is reset
+-- an event takes the m-th command of controller j out of its list: the command is executed, its queue is deleted, or
+-- the controller is reset
 abbrev pub TakesOut : Subsystem → Controller → ℕ → ℕ → FetchedCommand → Event → Type 0
 TakesOut old c j m t (Execute k i) = (k ≡ j) × ((i ≡ m) ⊎ Deletes (scene_of old c) c k i t.queue)
 TakesOut old c j m t (Write32 k offset v) = (k ≡ j) × IsReset (after_write c.registers offset v).effect
@@ -133,5 +136,6 @@ TakesOut old c j m t (Fetch k q) = ⊥
 abbrev pub FetchedStays : Type 0
 FetchedStays =
     (tells : Bool) → (old new : Subsystem) → (event : Event) → (seen : Seen) → Step tells old event seen new
-    → (j m : ℕ) → (c : Controller) → (t : FetchedCommand) → controller_at old j ≡ Some c → slice_get c.fetched m ≡ Some t
+    → (j m : ℕ) → (c : Controller) → (t : FetchedCommand) → controller_at old j ≡ Some c
+    → slice_get c.fetched m ≡ Some t
     → ((d : Controller) × (controller_at new j ≡ Some d) × StandsIn t d) ⊎ TakesOut old c j m t event

@@ -13,7 +13,8 @@ use Rattle.nvme_machine.specs.Fencing.{RunWhere, LeavesReservation}
 abbrev pub over : Device → Subsystem → Subsystem
 over d s = record s { device = d }
 
--- two media have as many bytes and have counted as many failures, and the bytes of every namespace but this one are the same
+-- two media have as many bytes and have counted as many failures, and the bytes of every namespace but this one are the
+-- same
 pub record DifferIn (n : ℕ) (w : World) (d e : Device) : Type 0 where
   pub failures : e.failures ≡ d.failures
   pub size : length e.content ≡ length d.content
@@ -23,21 +24,25 @@ pub record DifferIn (n : ℕ) (w : World) (d e : Device) : Type 0 where
 abbrev pub MayNotRead : World → ℕ → List Event → Type 0
 MayNotRead w n events = AllByRecursion (λ event. may_read w (controller_of event) n ≡ false) events
 
--- Fenced reading: while no reservation command on a namespace is executed but denied ones, whatever hosts that may not read
--- it see and find in their memory, they can see and find as well where its bytes are others.
+-- Fenced reading: while no reservation command on a namespace is executed but denied ones, whatever hosts that may not
+-- read it see and find in their memory, they can see and find as well where its bytes are others.
 abbrev pub FencedReading : Type 0
 FencedReading =
-    (old new : Subsystem) → (medium : Device) → (events : List Event) → (seen : List Seen) → (n : ℕ) → IsLaidOut old.world old.device.content
+    (old new : Subsystem) → (medium : Device) → (events : List Event) → (seen : List Seen) → (n : ℕ)
+    → IsLaidOut old.world old.device.content
     → DifferIn n old.world old.device medium
     → RunWhere (LeavesReservation n) old events seen new → MayNotRead old.world n events
-    → (left : Device) × RunWhere (LeavesReservation n) (over medium old) events seen (over left new) × DifferIn n new.world new.device left
+    → (left : Device) × RunWhere (LeavesReservation n) (over medium old) events seen (over left new)
+    × DifferIn n new.world new.device left
 
 -- And without a fault of the medium they do see and find the same: all answers, windows and controllers are equal.
 abbrev pub FencedReadingIsSame : Type 0
 FencedReadingIsSame =
-    (old new other : Subsystem) → (medium : Device) → (events : List Event) → (seen others : List Seen) → (n : ℕ) → IsLaidOut old.world old.device.content
+    (old new other : Subsystem) → (medium : Device) → (events : List Event) → (seen others : List Seen) → (n : ℕ)
+    → IsLaidOut old.world old.device.content
     → DifferIn n old.world old.device medium
     → RunWhere (LeavesReservation n) old events seen new → MayNotRead old.world n events
     → Run true (over medium old) events others other
-    → new.device.failures ≡ old.device.failures → other.device.failures ≡ old.device.failures → old.device.failures < 2 ^ 64 - 1
+    → new.device.failures ≡ old.device.failures → other.device.failures ≡ old.device.failures
+    → old.device.failures < 2 ^ 64 - 1
     → (others ≡ seen) × (other ≡ over other.device new) × DifferIn n new.world new.device other.device

@@ -1,5 +1,6 @@
--- The subsystem: the access state, the medium and the controllers; and what an event makes of it. An event is one store, one
--- access to a register, one fetch or one execution, of one controller (Base Specification: NVM Subsystem, Controllers).
+-- The subsystem: the access state, the medium and the controllers; and what an event makes of it. An event is one
+-- store, one access to a register, one fetch or one execution, of one controller (Base Specification: NVM Subsystem,
+-- Controllers).
 use Rattle.std.specs.Prelude.{◌≡◌, ◌+◌, ◌==◌, ℕ, zero, suc, Bool, false, if◌then◌else◌, List, [], ◌∷◌, map, Option, None, Some, slice_get, slice_set}
 use Rattle.std.specs.List.{list_any}
 use Rattle.nvme_spec.specs.declared.config.ControllerConfig.{ControllerConfig}
@@ -80,7 +81,8 @@ marked_from w m k (c ∷ rest) =
 -- its controller, once the i-th command has been answered so: the data stand in the window first, then the completion
 unfoldable pub after_answer : ℕ → FetchedCommand → QueuePair → Answer → Controller → Controller
 after_answer i t p a c =
-    after_queue_change a.change (after_posting i t p a.outcome.status a.outcome.dw0 (record c { window = a.left.window }))
+    after_queue_change a.change
+    (after_posting i t p a.outcome.status a.outcome.dw0 (record c { window = a.left.window }))
 
 -- the subsystem then
 unfoldable pub after_execution : Subsystem → ℕ → Controller → ℕ → FetchedCommand → QueuePair → Answer → Subsystem
@@ -91,14 +93,16 @@ after_execution s k c i t p a = record {
 }
 
 -- A command is executed: it has an answer, and all is as that says.
-pub record Completes (tells : Bool) (old : Subsystem) (k : ℕ) (c : Controller) (i : ℕ) (t : FetchedCommand) (p : QueuePair) (seen : Seen) (new : Subsystem) : Type 0 where
+pub record Completes (tells : Bool) (old : Subsystem) (k : ℕ) (c : Controller) (i : ℕ) (t : FetchedCommand)
+    (p : QueuePair) (seen : Seen) (new : Subsystem) : Type 0 where
   pub answer : Answer
   pub answers : Answers tells (queues_of c) k t (scene_of old c) answer
   pub gives : seen ≡ Executed (Posted answer.outcome)
   pub leaves : new ≡ after_execution old k c i t p answer
 
 -- Its completion queue may be full; then all stays.
-abbrev pub ExecutesOver : Option QueuePair → Bool → Subsystem → ℕ → Controller → ℕ → FetchedCommand → Seen → Subsystem → Type 0
+abbrev pub ExecutesOver : Option QueuePair → Bool → Subsystem → ℕ → Controller → ℕ → FetchedCommand → Seen
+    → Subsystem → Type 0
 ExecutesOver None tells old k c i t seen new = (seen ≡ Executed CqFull) × (new ≡ old)
 ExecutesOver (Some p) tells old k c i t seen new = Completes tells old k c i t p seen new
 
@@ -121,6 +125,7 @@ Step tells old (Execute k i) seen new = ExecutesAt (controller_at old k) tells o
 -- Events, one after the other, and what each gave.
 abbrev pub Run : Bool → Subsystem → List Event → List Seen → Subsystem → Type 0
 Run tells old [] [] new = new ≡ old
-Run tells old (event ∷ events) (seen ∷ later) new = (mid : Subsystem) × Step tells old event seen mid × Run tells mid events later new
+Run tells old (event ∷ events) (seen ∷ later) new = (mid : Subsystem) × Step tells old event seen mid
+    × Run tells mid events later new
 Run tells old [] (seen ∷ later) new = ⊥
 Run tells old (event ∷ events) [] new = ⊥

@@ -11,8 +11,10 @@ use Rattle.nvme_machine.specs.Subsystems.{Subsystem, Step, controller_at, openin
 
 -- each fetched command's submission queue exists, and each submission queue's completion queue
 pub record IsWired (c : Controller) : Type 0 where
-  pub fetched : (i : ℕ) → (t : FetchedCommand) → slice_get c.fetched i ≡ Some t → (s : SubmissionQueue) × (submission_at c t.queue ≡ Some s)
-  pub completes : (q : ℕ) → (s : SubmissionQueue) → submission_at c q ≡ Some s → (x : CompletionQueue) × (completion_at c s.cqid ≡ Some x)
+  pub fetched : (i : ℕ) → (t : FetchedCommand) → slice_get c.fetched i ≡ Some t → (s : SubmissionQueue)
+      × (submission_at c t.queue ≡ Some s)
+  pub completes : (q : ℕ) → (s : SubmissionQueue) → submission_at c q ≡ Some s → (x : CompletionQueue)
+      × (completion_at c s.cqid ≡ Some x)
 
 abbrev pub AreWired : Subsystem → Type 0
 AreWired s = (k : ℕ) → (c : Controller) → controller_at s k ≡ Some c → IsWired c
@@ -23,10 +25,13 @@ OpeningIsWired = (c : Configuration) → (d : Device) → AreWired (opening c d)
 
 abbrev pub WiringStays : Type 0
 WiringStays =
-    (tells : Bool) → (old new : Subsystem) → (event : Event) → (seen : Seen) → Step tells old event seen new → AreWired old → AreWired new
+    (tells : Bool) → (old new : Subsystem) → (event : Event) → (seen : Seen) → Step tells old event seen new
+    → AreWired old → AreWired new
 
 -- A fetched command waits for its completion queue only where that is full.
 abbrev pub WaitsWhereFull : Type 0
 WaitsWhereFull =
-    (c : Controller) → IsWired c → (i : ℕ) → (t : FetchedCommand) → slice_get c.fetched i ≡ Some t → open_pair c t ≡ None
-    → (s : SubmissionQueue) × (x : CompletionQueue) × (submission_at c t.queue ≡ Some s) × (completion_at c s.cqid ≡ Some x) × (completion_room x.tail ≡ 0)
+    (c : Controller) → IsWired c → (i : ℕ) → (t : FetchedCommand) → slice_get c.fetched i ≡ Some t
+    → open_pair c t ≡ None
+    → (s : SubmissionQueue) × (x : CompletionQueue) × (submission_at c t.queue ≡ Some s)
+    × (completion_at c s.cqid ≡ Some x) × (completion_room x.tail ≡ 0)

@@ -2,8 +2,8 @@
 
 use nvme_wire::Sqe;
 
-/// A fetched command: its submission queue entry, the submission queue that it came from, and whether a Preempt and Abort
-/// has caught it.
+/// A fetched command: its submission queue entry, the submission queue that it came from, and whether a Preempt and
+/// Abort has caught it.
 #[derive(Clone, Copy, Debug, Default)]
 pub struct FetchedCommand {
     /// The submission queue entry, as it stood in host memory when it was fetched.

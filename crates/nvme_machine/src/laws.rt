@@ -18,8 +18,8 @@ pub fn run_is_determined()
     ensures unique { RunIsUnique }
 {}
 
-/// Every executed command is judged by the rules on the world of its execution: denied, it changes its completion entry,
-/// the counts of its completion queue and its list; allowed, it does exactly its effect.
+/// Every executed command is judged by the rules on the world of its execution: denied, it changes its completion
+/// entry, the counts of its completion queue and its list; allowed, it does exactly its effect.
 #[tactic(auto, using(crate::proofs::Denials::allowed_does_its_effect))]
 pub fn executed_as_the_policy_allows()
     ensures denied { DeniedChangesItsEntryAlone }
@@ -34,8 +34,8 @@ pub fn only_allowed_commands_change()
     ensures layout { LayoutStays }
 {}
 
-/// A host that may not write a namespace changes none of its bytes, until a reservation command on it is executed that all
-/// rules let pass.
+/// A host that may not write a namespace changes none of its bytes, until a reservation command on it is executed that
+/// all rules let pass.
 #[tactic(auto, using(crate::proofs::Layouts::fenced_events_write_nothing, crate::proofs::Fencing::permissions_stay, crate::proofs::Fencing::fencing_holds))]
 pub fn fencing_is_kept()
     ensures event { FencedEventsWriteNothing }
@@ -43,8 +43,8 @@ pub fn fencing_is_kept()
     ensures run { FencingHolds }
 {}
 
-/// Hosts that may not read a namespace learn nothing of its bytes, until a reservation command on it is executed that all
-/// rules let pass.
+/// Hosts that may not read a namespace learn nothing of its bytes, until a reservation command on it is executed that
+/// all rules let pass.
 #[tactic(auto, using(crate::proofs::Secrecy::fenced_reading, crate::proofs::Secrecy::fenced_reading_is_same))]
 pub fn fenced_hosts_read_nothing()
     ensures possible { FencedReading }
@@ -58,8 +58,8 @@ pub fn others_are_untouched()
     ensures { OthersChangeInMarksAlone }
 {}
 
-/// A fetched command leaves its list only by its execution, the deletion of its queue or a reset; it has its queues, so that
-/// it waits only where its completion queue is full.
+/// A fetched command leaves its list only by its execution, the deletion of its queue or a reset; it has its queues, so
+/// that it waits only where its completion queue is full.
 #[tactic(auto, using(crate::proofs::Staying::fetched_stays, crate::proofs::Wirings::opening_is_wired, crate::proofs::Wirings::wiring_stays, crate::proofs::Wirings::waits_where_full))]
 pub fn nothing_is_lost()
     ensures fetched { FetchedStays }
@@ -74,8 +74,8 @@ pub fn windows_keep_their_bytes()
     ensures run { WindowsKeepTheirLength }
 {}
 
-/// A completion that was posted stands unread in its queue, and no later one takes its slot, until its host's doorbell says
-/// that it has consumed it; what else may take it is named, all of it its own host's doing.
+/// A completion that was posted stands unread in its queue, and no later one takes its slot, until its host's doorbell
+/// says that it has consumed it; what else may take it is named, all of it its own host's doing.
 pub fn completions_stand()
     ensures posted { PostedIsUnread }
     ensures event { UnreadStands }

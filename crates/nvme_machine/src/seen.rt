@@ -7,7 +7,8 @@ use nvme_spec::Outcome;
 pub enum Fetched {
     /// A command was taken.
     Took,
-    /// None was: the controller does not run, has fetched as many as it can keep, has no such queue, or none waits there.
+    /// None was: the controller does not run, has fetched as many as it can keep, has no such queue, or none waits
+    /// there.
     Idle,
 }
 

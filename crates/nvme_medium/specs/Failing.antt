@@ -24,7 +24,8 @@ own_failures (Some n) = 0
 
 -- the medium below, with one failure more once the call has failed
 abbrev pub device_of : {M : Type 0} → (M → Device) → Failing M → Device
-device_of device m = record { content = (device m.inner).content; failures = (device m.inner).failures + own_failures m.left }
+device_of device m =
+    record { content = (device m.inner).content; failures = (device m.inner).failures + own_failures m.left }
 
 -- a call that fails here does not reach the medium below
 pub record IsSkipped {M T E : Type 0} (old new : Failing M) (result : Result T E) : Type 0 where
@@ -33,7 +34,8 @@ pub record IsSkipped {M T E : Type 0} (old new : Failing M) (result : Result T E
 
 -- A flush counts as a call. The one that fails does not reach the medium below; any other flushes it, and answers as it
 -- does.
-pub record FlushesInner {M E : Type 0} (flushes : M → Result (Unit {0}) E → M → Type 0) (old : Failing M) (result : Result (Unit {0}) E) (new : Failing M) : Type 0 where
+pub record FlushesInner {M E : Type 0} (flushes : M → Result (Unit {0}) E → M → Type 0) (old : Failing M)
+    (result : Result (Unit {0}) E) (new : Failing M) : Type 0 where
   pub later : calls_left new ≡ one_call_later (calls_left old)
   pub skipped : calls_left old ≡ Some 0 → IsSkipped old new result
   pub passed : calls_left old ≢ Some 0 → flushes (inner_of old) result (inner_of new)

@@ -5,7 +5,8 @@ use Rattle.std.proofs.lemmas.List.{length-take}
 use Rattle.nvme_medium.specs.Memory.{whole_blocks}
 
 -- a file of so many bytes has so many whole blocks
-pub length-whole_blocks : (bytes : List ℕ) (size : ℕ) → length bytes ≡ size → length (whole_blocks bytes) ≡ 512 * (size / 512)
+pub length-whole_blocks : (bytes : List ℕ) (size : ℕ) → length bytes ≡ size → length (whole_blocks bytes)
+    ≡ 512 * (size / 512)
 length-whole_blocks bytes size long = simp length-take (omega arith)
 
 -- they are counted by as many bits as the bytes

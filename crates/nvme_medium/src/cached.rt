@@ -1,3 +1,5 @@
+//! A bounded cache of blocks before a medium.
+
 ghost use Rattle.std.specs.Prelude.{◌≡◌, ◌≢◌, ℕ, List, IsTrue, IfOk, IfErr, Some, None, nat_eq};
 ghost use Rattle.std.specs.Map.{lookup};
 ghost use Rattle.nvme_medium.specs.Cached.{Keeps};
@@ -46,7 +48,8 @@ impl<M: Medium> Cached<M> {
 /// alone is compiled to a fifth of what it costs otherwise.
 fn keep(kept: &mut LruCache<u64, [u8; BLOCK]>, i: u64, block: &[u8; BLOCK])
     ensures this { (bytes : List ℕ) → lookup (nat_eq i) kept.new.entries ≡ Some bytes → bytes ≡ block.now }
-    ensures others { (j : ℕ) (bytes : List ℕ) → j ≢ i → lookup (nat_eq j) kept.new.entries ≡ Some bytes → lookup (nat_eq j) kept.old.entries ≡ Some bytes }
+    ensures others { (j : ℕ) (bytes : List ℕ) → j ≢ i → lookup (nat_eq j) kept.new.entries ≡ Some bytes
+        → lookup (nat_eq j) kept.old.entries ≡ Some bytes }
 {
     let _ = kept.put(i, *block);
 }

@@ -1,3 +1,5 @@
+//! A medium of which one call fails, for tests of what a fault does.
+
 ghost use Rattle.std.specs.Prelude.{◌≡◌, ◌≢◌, ◌+◌, ◌*◌, ◌<◌, IsTrue, OnOk, OnErr, Some};
 ghost use Rattle.nvme_spec.specs.Blocks.{Told, block_at, Torn, CountsFaults};
 ghost use Rattle.nvme_spec.specs.Bytes.{with_bytes};
@@ -71,7 +73,8 @@ impl<M: Medium> Medium for Failing<M> {
         ensures ok { OnOk result (Told M.tells (buffer.new ≡ block_at (M.device (inner_of self.old)).content i)) }
         ensures kept { Told M.tells ((M.device (inner_of self.new)).content ≡ (M.device (inner_of self.old)).content) }
         ensures size { M.size (inner_of self.new) ≡ M.size (inner_of self.old) }
-        ensures count { CountsFaults (device_of M.device self.old).failures (device_of M.device self.new).failures result }
+        ensures count { CountsFaults (device_of M.device self.old).failures
+            (device_of M.device self.new).failures result }
         ensures later { calls_left self.new ≡ one_call_later (calls_left self.old) }
         ensures fails { calls_left self.old ≡ Some 0 → IsSkipped self.old self.new result }
         ensures untouched { calls_left self.old ≡ Some 0 → buffer.new ≡ buffer.old }
@@ -86,9 +89,11 @@ impl<M: Medium> Medium for Failing<M> {
         requires { i < M.size (inner_of self.old) }
         ensures ok { OnOk result (Told M.tells ((M.device (inner_of self.new)).content
             ≡ with_bytes (M.device (inner_of self.old)).content (512 * i) block.now)) }
-        ensures err { OnErr result (Told M.tells (Torn i (M.device (inner_of self.old)).content (M.device (inner_of self.new)).content)) }
+        ensures err { OnErr result
+            (Told M.tells (Torn i (M.device (inner_of self.old)).content (M.device (inner_of self.new)).content)) }
         ensures size { M.size (inner_of self.new) ≡ M.size (inner_of self.old) }
-        ensures count { CountsFaults (device_of M.device self.old).failures (device_of M.device self.new).failures result }
+        ensures count { CountsFaults (device_of M.device self.old).failures
+            (device_of M.device self.new).failures result }
         ensures later { calls_left self.new ≡ one_call_later (calls_left self.old) }
         ensures fails { calls_left self.old ≡ Some 0 → IsSkipped self.old self.new result }
         ensures passes { calls_left self.old ≢ Some 0
@@ -101,7 +106,8 @@ impl<M: Medium> Medium for Failing<M> {
     fn flush(&mut self) -> Result<(), MediumFault>
         ensures kept { Told M.tells ((M.device (inner_of self.new)).content ≡ (M.device (inner_of self.old)).content) }
         ensures size { M.size (inner_of self.new) ≡ M.size (inner_of self.old) }
-        ensures count { CountsFaults (device_of M.device self.old).failures (device_of M.device self.new).failures result }
+        ensures count { CountsFaults (device_of M.device self.old).failures
+            (device_of M.device self.new).failures result }
         ensures flushed { FlushesInner M.flushes self.old result self.new }
         ensures passes { calls_left self.old ≢ Some 0
             → CountsFaults (M.device (inner_of self.old)).failures (M.device (inner_of self.new)).failures result }

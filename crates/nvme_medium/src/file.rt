@@ -1,3 +1,5 @@
+//! A medium in the blocks of a file.
+
 ghost use Rattle.std.specs.Prelude.{◌≡◌, ◌/◌};
 
 use crate::{Medium, MediumFault, RawFile};

@@ -1,3 +1,5 @@
+//! What a medium is: the calls that read, write and flush its blocks, and what each says.
+
 ghost use Rattle.std.specs.Prelude.{◌≡◌, ◌*◌, ◌^◌, ◌<◌, ℕ, Bool, Result, length, IsTrue, OnOk, OnErr};
 ghost use Rattle.nvme_spec.specs.Blocks.{Device, Told, block_at, Torn, CountsFaults};
 ghost use Rattle.nvme_spec.specs.Bytes.{with_bytes};
@@ -43,7 +45,8 @@ pub trait Medium {
     /// Writes block `i`, which there has to be. A failed write leaves any bytes in that block, and changes no other.
     fn write(&mut self, i: u64, block: &[u8; 512]) -> Result<(), MediumFault>
         requires { i < size self.old }
-        ensures ok { OnOk result (Told tells ((device self.new).content ≡ with_bytes (device self.old).content (512 * i) block.now)) }
+        ensures ok { OnOk result
+            (Told tells ((device self.new).content ≡ with_bytes (device self.old).content (512 * i) block.now)) }
         ensures err { OnErr result (Told tells (Torn i (device self.old).content (device self.new).content)) }
         ensures size { size self.new ≡ size self.old }
         ensures count { CountsFaults (device self.old).failures (device self.new).failures result };

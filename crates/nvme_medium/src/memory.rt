@@ -1,3 +1,5 @@
+//! A medium in memory.
+
 ghost use Rattle.std.specs.Prelude.{◌≡◌, ◌*◌, ◌<◌, ◌^◌, true, length, take, IfOk, IsOk};
 ghost use Rattle.nvme_spec.specs.Blocks.{block_at};
 ghost use Rattle.nvme_spec.specs.Bytes.{with_bytes};

@@ -1,3 +1,5 @@
+//! What a file in place is: calls that move bytes, and may move fewer than they are asked to.
+
 ghost use Rattle.std.specs.Prelude.{◌≡◌, ◌+◌, ◌<◌, ◌≤◌, ◌^◌, List, ℕ, Bool, Result, length, take, drop, slice_range, IsTrue, IfOk, OnErr};
 ghost use Rattle.nvme_spec.specs.Blocks.{Told, CountsFaults};
 ghost use Rattle.nvme_spec.specs.Bytes.{with_bytes};
@@ -37,7 +39,8 @@ pub trait RawFile {
         requires some { 0 < length part.old }
         requires within { offset + length part.old ≤ size self.old }
         ensures moved { IfOk result (λ n. (0 < n) × (n ≤ length part.old)) }
-        ensures read { IfOk result (λ n. Told tells (take n part.new ≡ slice_range (bytes self.old) offset (offset + n))) }
+        ensures read { IfOk result
+            (λ n. Told tells (take n part.new ≡ slice_range (bytes self.old) offset (offset + n))) }
         ensures rest { IfOk result (λ n. drop n part.new ≡ drop n part.old) }
         ensures kept { Told tells (bytes self.new ≡ bytes self.old) }
         ensures size { size self.new ≡ size self.old }
@@ -49,7 +52,8 @@ pub trait RawFile {
         requires some { 0 < length part.now }
         requires within { offset + length part.now ≤ size self.old }
         ensures moved { IfOk result (λ n. (0 < n) × (n ≤ length part.now)) }
-        ensures written { IfOk result (λ n. Told tells (bytes self.new ≡ with_bytes (bytes self.old) offset (take n part.now))) }
+        ensures written { IfOk result
+            (λ n. Told tells (bytes self.new ≡ with_bytes (bytes self.old) offset (take n part.now))) }
         ensures err { OnErr result (Told tells (TornPart offset (length part.now) (bytes self.old) (bytes self.new))) }
         ensures size { size self.new ≡ size self.old }
         ensures count { CountsFaults (failures self.old) (failures self.new) result };

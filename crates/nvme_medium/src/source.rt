@@ -1,3 +1,5 @@
+//! The data of a write, a block at a time.
+
 ghost use Rattle.std.specs.Prelude.{◌≡◌, ◌+◌, ◌*◌, ◌≤◌, List, ℕ, length, replicate};
 ghost use Rattle.nvme_spec.specs.Blocks.{block_at};
 

@@ -1,3 +1,5 @@
+//! Blocks from one on, written and read in rising order up to the first fault.
+
 ghost use Rattle.std.specs.Prelude.{◌≡◌, ◌+◌, ◌*◌, ◌≤◌, ◌<◌, ◌%◌, ◌^◌, length, OnOk, OnErr};
 ghost use Rattle.nvme_spec.specs.Blocks.{Told, blocks_from, CountsFaults, StopsWriting};
 ghost use Rattle.nvme_spec.specs.Bytes.{with_bytes};
@@ -14,8 +16,12 @@ pub fn write_blocks<M: Medium, S: Source>(
 ) -> Result<(), MediumFault>
     requires all { length (S.bytes source.now) ≡ 512 * blocks }
     requires within { first + blocks ≤ M.size medium.old }
-    ensures written { OnOk result (Told M.tells ((M.device medium.new).content ≡ with_bytes (M.device medium.old).content (512 * first) (S.bytes source.now))) }
-    ensures fault { OnErr result (Told M.tells (StopsWriting first (S.bytes source.now) (M.device medium.old).content (M.device medium.new).content)) }
+    ensures written { OnOk result
+        (Told M.tells ((M.device medium.new).content ≡ with_bytes (M.device medium.old).content (512 * first)
+        (S.bytes source.now))) }
+    ensures fault { OnErr result
+        (Told M.tells (StopsWriting first (S.bytes source.now) (M.device medium.old).content
+        (M.device medium.new).content)) }
     ensures size { M.size medium.new ≡ M.size medium.old }
     ensures count { CountsFaults (M.device medium.old).failures (M.device medium.new).failures result }
 {
@@ -36,7 +42,8 @@ pub fn read_blocks<M: Medium>(
 ) -> Result<(), MediumFault>
     requires whole { length buffer.old % 512 ≡ 0 }
     requires within { 512 * first + length buffer.old ≤ 512 * M.size medium.old }
-    ensures read { OnOk result (Told M.tells (buffer.new ≡ blocks_from (M.device medium.old).content first (length buffer.old))) }
+    ensures read { OnOk result
+        (Told M.tells (buffer.new ≡ blocks_from (M.device medium.old).content first (length buffer.old))) }
     ensures fault { OnErr result (StopsReading M.tells first (M.device medium.old).content buffer.old buffer.new) }
     ensures kept { Told M.tells ((M.device medium.new).content ≡ (M.device medium.old).content) }
     ensures size { M.size medium.new ≡ M.size medium.old }

@@ -1,3 +1,5 @@
+//! The window of host memory that a controller reaches.
+
 ghost use Rattle.std.specs.Prelude.{◌≡◌, ◌+◌, ◌-◌, ◌<◌, ◌≤◌, ◌↔◌, IsSome, IfSome, IfOk, OnOk, OnErr, IsOk, IsTrue, length, slice_range};
 ghost use Rattle.std.specs.Borrow.{sem};
 ghost use Rattle.nvme_spec.specs.Bytes.{with_bytes};
@@ -66,8 +68,8 @@ impl Window {
         &self.bytes[start..start + piece.len as usize]
     }
 
-    /// The bytes of a piece, to be written. Writing them changes no other byte. That the piece lies in the window is the
-    /// caller's condition.
+    /// The bytes of a piece, to be written. Writing them changes no other byte. That the piece lies in the window is
+    /// the caller's condition.
     pub fn bytes_mut(&mut self, piece: Piece) -> &mut [u8]
         requires inside { LiesInWindow piece }
         ensures* writes_back { sem 𝓛 (LendsPart self.entry piece.address result) }

@@ -23,11 +23,13 @@ pub fn check(config: &Config, medium_blocks: u64) -> Result<(), ConfigFault>
     ensures passed { OnOk result (spec.first_config_fault (configuration config.now) medium_blocks ≡ None) }
     ensures numbered { OnOk result (spec.are_numbered config.now.controllers.items ≡ true) }
     ensures known { OnOk result (spec.has_foreign_nsid config.now.namespaces.items ≡ false) }
-    ensures attached { OnOk result (spec.has_bad_attachment (configuration config.now) config.now.attached.items ≡ false) }
+    ensures attached { OnOk result
+        (spec.has_bad_attachment (configuration config.now) config.now.attached.items ≡ false) }
     ensures counts { OnOk result (spec.has_too_many (configuration config.now) ≡ false) }
     ensures total { OnOk result (spec.total_blocks config.now.namespaces.items < 2 ^ 64) }
     ensures fits { OnOk result (spec.total_blocks config.now.namespaces.items ≤ medium_blocks) }
-    ensures fault { IfErr result (λ fault. spec.first_config_fault (configuration config.now) medium_blocks ≡ Some fault) }
+    ensures fault { IfErr result (λ fault. spec.first_config_fault (configuration config.now) medium_blocks
+        ≡ Some fault) }
 {
     if has_too_many(config) {
         return Err(ConfigFault::TooMany);

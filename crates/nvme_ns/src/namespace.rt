@@ -1,3 +1,5 @@
+//! A namespace.
+
 ghost use Rattle.std.specs.Prelude.{◌≡◌, ◌+◌, ◌≤◌, false};
 ghost use Rattle.std.specs.Borrow.{sem};
 ghost use Rattle.nvme_spec.specs.Reservation.{unreserved};
@@ -26,12 +28,26 @@ impl Model for Namespace {
     // Identifiers are 1 to 8.
     ghost invariant = { λ a. (1 ≤ a.nsid) × (a.nsid ≤ 8) };
 
-    ghost view = { λ a. record { nsid = a.nsid; first = a.first; blocks = a.blocks; shared = a.shared; protected = a.protected; reservation = a.reservation } };
+    ghost view = { λ a. record {
+      nsid = a.nsid;
+      first = a.first;
+      blocks = a.blocks;
+      shared = a.shared;
+      protected = a.protected;
+      reservation = a.reservation;
+    } };
 }
 
 impl Default for Namespace {
     fn default() -> Self
-        ensures { result ≡ record { nsid = 1; first = 0; blocks = 0; shared = false; protected = false; reservation = unreserved } }
+        ensures { result ≡ record {
+          nsid = 1;
+          first = 0;
+          blocks = 0;
+          shared = false;
+          protected = false;
+          reservation = unreserved;
+        } }
     {
         let empty = NsConfig {
             nsid: 1,
@@ -49,7 +65,14 @@ impl Namespace {
     /// That its identifier is 1 to 8 is the caller's condition.
     pub fn new(config: &NsConfig, first: u64) -> Self
         requires { (1 ≤ config.now.nsid) × (config.now.nsid ≤ 8) }
-        ensures { result ≡ record { nsid = config.now.nsid; first = first; blocks = config.now.blocks; shared = config.now.shared; protected = false; reservation = unreserved } }
+        ensures { result ≡ record {
+          nsid = config.now.nsid;
+          first = first;
+          blocks = config.now.blocks;
+          shared = config.now.shared;
+          protected = false;
+          reservation = unreserved;
+        } }
     {
         Namespace {
             nsid: config.nsid,

@@ -1,3 +1,5 @@
+//! The access state of a subsystem: hosts, namespaces and attachments.
+
 ghost use Rattle.std.specs.Prelude.{◌≡◌, ◌==◌, ◌≤◌, None, Some, length, map, IfOk, IfErr, option_map, option_copied, IsSome, position};
 ghost use Rattle.nvme_spec.specs.Configuration.{first_config_fault};
 ghost use Rattle.nvme_spec.specs.Report.{HasRisingIds};
@@ -33,7 +35,11 @@ impl Model for Spaces {
 
     ghost Value = { State };
 
-    ghost view = { λ a. record { controllers = a.controllers.items; namespaces = a.namespaces.items; attachments = a.attachments.items } };
+    ghost view = { λ a. record {
+      controllers = a.controllers.items;
+      namespaces = a.namespaces.items;
+      attachments = a.attachments.items;
+    } };
 
     ghost invariant = { λ a. HasRisingIds a.controllers.items × HasSmallIds a.controllers.items
         × IsAttachmentTable a.attachments.items };
@@ -49,7 +55,8 @@ impl Spaces {
         ensures accepted { IfOk result (λ _. first_config_fault (configuration config.now) medium_blocks ≡ None) }
         ensures opened { IfOk result (λ spaces. spaces ≡ world.opening_world (configuration config.now)) }
         ensures within { IfOk result (λ spaces. world.LiesWithin medium_blocks spaces.namespaces) }
-        ensures fault { IfErr result (λ fault. first_config_fault (configuration config.now) medium_blocks ≡ Some fault) }
+        ensures fault { IfErr result (λ fault. first_config_fault (configuration config.now) medium_blocks
+            ≡ Some fault) }
     {
         check(config, medium_blocks)?;
         Ok(Spaces {

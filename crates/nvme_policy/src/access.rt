@@ -1,3 +1,5 @@
+//! What a reservation permits (Base Specification: Reservation Types).
+
 ghost use Rattle.std.specs.Prelude.{◌≡◌, Some};
 ghost use Rattle.nvme_spec.specs.Access.{is_permitted};
 ghost use Rattle.nvme_spec.specs.IoRules as policy;

@@ -1,3 +1,5 @@
+//! What an allowed command is to do.
+
 ghost use Rattle.std.specs.Prelude.{◌≡◌};
 ghost use Rattle.nvme_spec.specs.Commands.{plan_of};
 

@@ -46,8 +46,10 @@ pub fn check_mark(marked: bool) -> Result<(), Denial>
 #[tactic(auto, unfolding(nvme_spec::specs::IoRules::opcode_rule, nvme_spec::specs::Rules::judgement_by))]
 pub fn check_opcode(sqe: &Sqe) -> Result<Command, Denial>
     ensures named { IfOk result (λ command. commands.command_of (entry.opcode sqe.now) ≡ Some command) }
-    ensures passed { IfOk result (λ _. judgement_by (policy.opcode_rule (commands.command_of (entry.opcode sqe.now))) ≡ Ok tt) }
-    ensures denied { IfErr result (λ d. judgement_by (policy.opcode_rule (commands.command_of (entry.opcode sqe.now))) ≡ Err d) }
+    ensures passed { IfOk result
+        (λ _. judgement_by (policy.opcode_rule (commands.command_of (entry.opcode sqe.now))) ≡ Ok tt) }
+    ensures denied { IfErr result
+        (λ d. judgement_by (policy.opcode_rule (commands.command_of (entry.opcode sqe.now))) ≡ Err d) }
 {
     command_of(sqe.opcode()).ok_or(Denial {
         rule: 2,

@@ -1,3 +1,5 @@
+//! The rules on access in their order.
+
 ghost use Rattle.std.specs.Prelude.{◌≡◌, ◌+◌, ◌≤◌, Some, IfOk, IfErr};
 ghost use Rattle.nvme_wire.specs.Submission as entry;
 ghost use Rattle.nvme_spec.specs.World.{namespace_of};
@@ -52,7 +54,8 @@ pub fn admit<'a>(
     ensures allowed { IfOk result (λ a. policy.verdict spaces.now cntlid sqe.now marked ≡ Allowed a.plan) }
     ensures named { IfOk result (λ a. namespace_of spaces.now (entry.nsid sqe.now) ≡ Some a.namespace.now) }
     ensures in_range { IfOk result (λ a. a.plan.first + a.plan.blocks ≤ a.namespace.now.blocks) }
-    ensures denied { IfErr result (λ denial. policy.verdict spaces.now cntlid sqe.now marked ≡ Denied denial.rule denial.status) }
+    ensures denied { IfErr result (λ denial. policy.verdict spaces.now cntlid sqe.now marked
+        ≡ Denied denial.rule denial.status) }
 {
     check_mark(marked)?;
     let command = check_opcode(sqe)?;

@@ -27,7 +27,8 @@ fn byte_place(pieces: &Pieces, at: u64) -> (usize, u64)
     requires { at + 512 ≤ length (addresses pieces.now.parts.items) }
     ensures place { LiesAt pieces.now.parts.items at result.0 result.1 }
     ensures block { place_at pieces.now.parts.items at
-        ≡ placed (slice_index_or pieces.now.parts.items result.0 no_piece) (slice_index_or pieces.now.parts.items (result.0 + 1) no_piece) result.1 }
+        ≡ placed (slice_index_or pieces.now.parts.items result.0 no_piece)
+        (slice_index_or pieces.now.parts.items (result.0 + 1) no_piece) result.1 }
 {
     let first = pieces.parts.as_slice()[0].len;
     if at < first {

@@ -22,7 +22,8 @@ pub fn locate(window: &Window, sqe: &Sqe, bytes: u64) -> Result<Pieces, Denial>
     requires few { bytes ≤ 131072 }
     ensures sound { OnOk result (rules.data_fault bytes window.now sqe.now ≡ None) }
     ensures passed { OnOk result (judgement_by (rules.pointer_rule bytes window.now sqe.now) ≡ Ok tt) }
-    ensures placed { IfOk result (λ pieces. addresses pieces.parts.items ≡ rules.data_addresses bytes window.now sqe.now) }
+    ensures placed { IfOk result
+        (λ pieces. addresses pieces.parts.items ≡ rules.data_addresses bytes window.now sqe.now) }
     ensures size { IfOk result (λ pieces. length (addresses pieces.parts.items) ≡ bytes) }
     ensures denied { IfErr result (λ d. judgement_by (rules.pointer_rule bytes window.now sqe.now) ≡ Err d) }
 {

@@ -1,3 +1,5 @@
+//! Where the bytes of a transfer lie (Base Specification: Physical Region Page Entry and List).
+
 ghost use Rattle.std.specs.Prelude.{◌≡◌, ◌+◌, ◌*◌, ◌/◌, ◌%◌, ◌≤◌, ◌<◌, ◌++◌, length, map, None, Some, IsTrue, MatchResult, OnOk, IfOk, IfErr};
 ghost use Rattle.std.specs.List.{range_with_len};
 ghost use Rattle.arrayvec.specs.ArrayVec.{array_vec_len};
@@ -51,7 +53,8 @@ fn follow(window: &Window, slot: u64, more: bool) -> Result<u64, DataFault>
     ensures ok { IfOk result (λ at. Follows window.now slot more at) }
     ensures still_aligned { IfOk result (λ at. at % 8 ≡ 0) }
     ensures still_in_window { IfOk result (λ at. at < 4194304) }
-    ensures err { IfErr result (λ e. IsTrue more × (slot % 4096 ≡ 4088) × (fault_of (page_test (qword window.now slot)) ≡ Some e)) }
+    ensures err { IfErr result (λ e. IsTrue more × (slot % 4096 ≡ 4088)
+        × (fault_of (page_test (qword window.now slot)) ≡ Some e)) }
 {
     if !more || slot % PAGE != PAGE - 8 {
         return Ok(slot);

@@ -1,3 +1,5 @@
+//! What an action on a reservation did to other hosts.
+
 ghost use Rattle.std.specs.Prelude.{◌≡◌, []};
 
 use arrayvec::ArrayVec;

@@ -1,3 +1,5 @@
+//! The reservation of a namespace (Base Specification: Reservations).
+
 ghost use Rattle.std.specs.Prelude.{◌≡◌, ◌↔◌, IsTrue};
 ghost use Rattle.nvme_spec.specs.Reservation as resv;
 ghost use Rattle.nvme_resv.specs.Answers.{HasRoomFor};

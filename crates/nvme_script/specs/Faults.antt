@@ -35,14 +35,16 @@ abbrev pub fleet_of_text : List ℕ → Device → Fleet
 fleet_of_text text device = opening (configuration_of (text_lines text)) device
 
 -- Events ran, and the line of each and its reply was added to what was written.
-pub record Transcribes (tells : Bool) (old : Fleet) (events : List FleetEvent) (new : Fleet) (before after : Option (List ℕ)) : Type 0 where
+pub record Transcribes (tells : Bool) (old : Fleet) (events : List FleetEvent) (new : Fleet)
+    (before after : Option (List ℕ)) : Type 0 where
   pub replies : List Reply
   pub ran : Run tells old events replies new
   pub wrote : Appends before after (transcript events replies)
 
--- The line of an event, and no other, was cut: the events up to and including that one happened and no later one did; the
--- lines before it were written, and of its own the first bytes, not all.
-pub record StopsAt (tells : Bool) (old : Fleet) (events : List FleetEvent) (new : Fleet) (before after : Option (List ℕ)) : Type 0 where
+-- The line of an event, and no other, was cut: the events up to and including that one happened and no later one did;
+-- the lines before it were written, and of its own the first bytes, not all.
+pub record StopsAt (tells : Bool) (old : Fleet) (events : List FleetEvent) (new : Fleet)
+    (before after : Option (List ℕ)) : Type 0 where
   pub index : ℕ
   pub event : FleetEvent
   pub is : slice_get events index ≡ Some event
@@ -109,7 +111,8 @@ IsEarlyFault Write text medium_blocks = ⊥
 
 -- what a fault says of the text, of the medium before and after, and of what was written before and after
 abbrev pub IsFault : Bool → ScriptFault → List ℕ → ℕ → Device → Device → Option (List ℕ) → Option (List ℕ) → Type 0
-IsFault tells Write text medium_blocks old new before after = IsScript text medium_blocks × Stops tells text old new before after
+IsFault tells Write text medium_blocks old new before after = IsScript text medium_blocks
+    × Stops tells text old new before after
 IsFault tells fault text medium_blocks old new before after = IsEarlyFault fault text medium_blocks
 
 abbrev pub IsWrite : ScriptFault → Type 0

@@ -1,5 +1,5 @@
--- The exit status of a run that failed: 1 a fault of the script, 2 of a file or a stream, 3 of the command line, 4 want of
--- memory.
+-- The exit status of a run that failed: 1 a fault of the script, 2 of a file or a stream, 3 of the command line, 4 want
+-- of memory.
 use Rattle.std.specs.Prelude.{ℕ}
 use Rattle.nvme_script.specs.declared.run.ScriptFault.{ScriptFault}
 use Rattle.nvme_script.specs.declared.run.ScriptFault.TheVariants.{Syntax, Config, TooLong, NoMemory, Read, Write}

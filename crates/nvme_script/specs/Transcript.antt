@@ -47,7 +47,8 @@ double_word_text n = padded_integral (format_spec 32 0 4 8 (2 ^ 64 - 1)) false [
 -- how many bytes came, and the bytes in hexadecimal without their trailing zeros; where none came, nothing
 abbrev pub data_text : List ℕ → List ℕ
 data_text [] = []
-data_text (b ∷ bs) = codes " " ++ decimal (length (b ∷ bs)) ++ codes " " ++ hex_or_dash (without_trailing_zeros (b ∷ bs))
+data_text (b ∷ bs) = codes " " ++ decimal (length (b ∷ bs)) ++ codes " "
+    ++ hex_or_dash (without_trailing_zeros (b ∷ bs))
 
 abbrev pub answer_text : Answer → List ℕ → List ℕ
 answer_text (Done ticket status dw0 len) bytes =

@@ -57,7 +57,8 @@ impl Failure {
 }
 
 impl From<io::Error> for Failure {
-    ghost from_gives = { λ error e. (error_kind error ≡ OutOfMemory → e ≡ MemoryRefused) × (error_kind error ≢ OutOfMemory → e ≡ FileRefused) };
+    ghost from_gives = { λ error e. (error_kind error ≡ OutOfMemory → e ≡ MemoryRefused)
+        × (error_kind error ≢ OutOfMemory → e ≡ FileRefused) };
 
     fn from(error: io::Error) -> Failure {
         match error.kind() {
@@ -68,7 +69,8 @@ impl From<io::Error> for Failure {
 }
 
 impl From<FileFault> for Failure {
-    ghost from_gives = { λ fault e. (fault ≡ NoFileMemory → e ≡ MemoryRefused) × (fault ≢ NoFileMemory → e ≡ FileRefused) };
+    ghost from_gives = { λ fault e. (fault ≡ NoFileMemory → e ≡ MemoryRefused)
+        × (fault ≢ NoFileMemory → e ≡ FileRefused) };
 
     fn from(fault: FileFault) -> Failure {
         match fault {
@@ -180,9 +182,9 @@ fn run_scratch<R: Files + AllocGlobal, I: Read, O: Write>(
     run_named(rt, script, input, output, medium)
 }
 
-/// The program over the streams that it is handed: its words, the first of which is its name, its standard input, output
-/// and error. The answer is its exit status: 0 done; 1 a fault of the script; 2 a file or stream that can't be opened,
-/// read or written; 3 a refused command line; 4 want of memory. For all but 0 one line goes to standard error.
+/// The program over the streams that it is handed: its words, the first of which is its name, its standard input,
+/// output and error. The answer is its exit status: 0 done; 1 a fault of the script; 2 a file or stream that can't be
+/// opened, read or written; 3 a refused command line; 4 want of memory. For all but 0 one line goes to standard error.
 pub fn run_program<R: Files<File = File> + AllocGlobal, I: Read, O: Write, E: Write>(
     rt: &R,
     words: &[String],

@@ -91,7 +91,8 @@ fn prepare<R: Read>(alloc: Global, reader: &mut R) -> Result<Ready, ScriptFault>
     ensures script { IfOk result (λ ready. IsReady ready.text.items ready.script) }
     ensures bytes_room { IfOk result (λ ready. HasBytesRoom ready.text.items ready.buffers.bytes.items) }
     ensures identifiers_room { IfOk result (λ ready. most_words ready.text.items ≤ vec_len ready.buffers.identifiers) }
-    ensures fault { IfErr result (λ fault. IfSome (R.remaining reader.old) (λ text. (size : ℕ) → IsEarlyFault fault text size)) }
+    ensures fault { IfErr result
+        (λ fault. IfSome (R.remaining reader.old) (λ text. (size : ℕ) → IsEarlyFault fault text size)) }
     ensures early { IfErr result (λ fault. ¬ IsWrite fault) }
 {
     let text = read_text(alloc, reader)?;
@@ -132,8 +133,10 @@ fn run_line<W: Write, M: Medium>(
 ) -> io::Result<()>
     requires bytes_room { HasBytesRoom raw.now bytes.old }
     requires identifiers_room { most_words raw.now ≤ length identifiers.old }
-    ensures ok { OnOk result (Transcribes M.tells (fleet_of fleet.old) (events_of (raw.now ∷ [])) (fleet_of fleet.new) (W.contents writer.old) (W.contents writer.new)) }
-    ensures err { OnErr result (StopsAt M.tells (fleet_of fleet.old) (events_of (raw.now ∷ [])) (fleet_of fleet.new) (W.contents writer.old) (W.contents writer.new)) }
+    ensures ok { OnOk result (Transcribes M.tells (fleet_of fleet.old) (events_of (raw.now ∷ [])) (fleet_of fleet.new)
+        (W.contents writer.old) (W.contents writer.new)) }
+    ensures err { OnErr result (StopsAt M.tells (fleet_of fleet.old) (events_of (raw.now ∷ [])) (fleet_of fleet.new)
+        (W.contents writer.old) (W.contents writer.new)) }
 {
     let Some(Line::Event(event)) = parse_line(raw, bytes, identifiers) else {
         return Ok(());
@@ -159,8 +162,10 @@ fn run_events<W: Write, M: Medium>(
 ) -> io::Result<()>
     requires bytes_room { HasBytesRoom text.now bytes.old }
     requires identifiers_room { most_words text.now ≤ length identifiers.old }
-    ensures ok { OnOk result (Transcribes M.tells (fleet_of fleet.old) (events_in text.now) (fleet_of fleet.new) (W.contents writer.old) (W.contents writer.new)) }
-    ensures err { OnErr result (StopsAt M.tells (fleet_of fleet.old) (events_in text.now) (fleet_of fleet.new) (W.contents writer.old) (W.contents writer.new)) }
+    ensures ok { OnOk result (Transcribes M.tells (fleet_of fleet.old) (events_in text.now) (fleet_of fleet.new)
+        (W.contents writer.old) (W.contents writer.new)) }
+    ensures err { OnErr result (StopsAt M.tells (fleet_of fleet.old) (events_in text.now) (fleet_of fleet.new)
+        (W.contents writer.old) (W.contents writer.new)) }
 {
     let mut rest = Some(text);
     while let Some(lines) = rest {
@@ -182,9 +187,11 @@ fn run_ready<W: Write, M: Medium>(
     requires bytes_room { HasBytesRoom ready.old.text.items ready.old.buffers.bytes.items }
     requires identifiers_room { most_words ready.old.text.items ≤ vec_len ready.old.buffers.identifiers }
     ensures ok { IfOk result (λ after. IsScript ready.old.text.items (M.size medium)
-        × Runs M.tells ready.old.text.items (M.device medium) (M.device after) (W.contents writer.old) (W.contents writer.new)) }
+        × Runs M.tells ready.old.text.items (M.device medium) (M.device after) (W.contents writer.old)
+        (W.contents writer.new)) }
     ensures fault { IfErr result (λ e.
-        IsFault M.tells e.0 ready.old.text.items (M.size medium) (M.device medium) (M.device e.1) (W.contents writer.old) (W.contents writer.new)) }
+        IsFault M.tells e.0 ready.old.text.items (M.size medium) (M.device medium) (M.device e.1)
+        (W.contents writer.old) (W.contents writer.new)) }
     ensures early { IfErr result (λ e. IsWrite e.0 ⊎ ((e.1 ≡ medium) × (writer.new ≡ writer.old))) }
 {
     let mut fleet = match Fleet::new(alloc, &ready.script.config, medium) {
@@ -207,8 +214,8 @@ fn run_ready<W: Write, M: Medium>(
     }
 }
 
-/// Runs a script: reads it whole, opens its configuration over the medium, and lets its events happen in their order, each
-/// of which adds its line to the transcript.
+/// Runs a script: reads it whole, opens its configuration over the medium, and lets its events happen in their order,
+/// each of which adds its line to the transcript.
 ///
 /// A text that tells its bytes is answered exactly as the definitions say. Faults are found in the order reading
 /// (`Read`, `TooLong`), grammar (`Syntax`), configuration (`Config`), writing (`Write`). `NoMemory` may come at any
@@ -226,7 +233,8 @@ pub fn run_script<R: Read, W: Write, M: Medium>(
         × Runs M.tells text (M.device medium) (M.device after) (W.contents writer.old) (W.contents writer.new))) }
     // What each fault says.
     ensures fault { IfErr result (λ e. IfSome (R.remaining reader.old) (λ text.
-        IsFault M.tells e.0 text (M.size medium) (M.device medium) (M.device e.1) (W.contents writer.old) (W.contents writer.new))) }
+        IsFault M.tells e.0 text (M.size medium) (M.device medium) (M.device e.1) (W.contents writer.old)
+        (W.contents writer.new))) }
     // Each fault but one of the writer comes before the first event.
     ensures early { IfErr result (λ e. IsWrite e.0 ⊎ ((e.1 ≡ medium) × (writer.new ≡ writer.old))) }
 {

@@ -29,14 +29,19 @@ fn write_whole<W: Write>(writer: &mut W, bytes: &[u8]) -> io::Result<()>
     Ok(())
 }
 
-/// Writes a line of the transcript, by way of a text with room for it. Where that fails, not all of the line was written.
+/// Writes a line of the transcript, by way of a text with room for it. Where that fails, not all of the line was
+/// written.
 pub fn write_line<W: Write>(
     writer: &mut W,
     text: &mut String,
     line: &TranscriptLine<'_>,
 ) -> io::Result<()>
-    ensures ok { OnOk result (Appends (W.contents writer.old) (W.contents writer.new) (seen_line line.now.event line.now.seen.now line.now.bytes.now)) }
-    ensures err { OnErr result (Cuts (W.contents writer.old) (W.contents writer.new) (seen_line line.now.event line.now.seen.now line.now.bytes.now)) }
+    ensures ok { OnOk result
+        (Appends (W.contents writer.old) (W.contents writer.new)
+        (seen_line line.now.event line.now.seen.now line.now.bytes.now)) }
+    ensures err { OnErr result
+        (Cuts (W.contents writer.old) (W.contents writer.new)
+        (seen_line line.now.event line.now.seen.now line.now.bytes.now)) }
 {
     text.clear();
     if writeln!(text, "{line}").is_err() {

@@ -80,7 +80,8 @@ write_protection = 0x84
 unfoldable pub sv : List ℕ → Bool
 sv e = bits (cdw10 e) 31 31 == 1
 
--- Number of I/O Submission Queues Requested (NSQR) and Number of I/O Completion Queues Requested (NCQR): the halves of double word 11
+-- Number of I/O Submission Queues Requested (NSQR) and Number of I/O Completion Queues Requested (NCQR): the halves of
+-- double word 11
 unfoldable pub nsqr : List ℕ → ℕ
 nsqr e = bits (cdw11 e) 15 0
 

@@ -175,7 +175,8 @@ attachment_outcome w e sent =
 
 -- 11: the list is refused
 unfoldable pub list_rule : Option AdminCommand → World → List ℕ → List ℕ → Rule
-list_rule (Some NamespaceAttachment) w e sent = record { number = 11; tests = refusal_tests (attachment_outcome w e sent) }
+list_rule (Some NamespaceAttachment) w e sent =
+    record { number = 11; tests = refusal_tests (attachment_outcome w e sent) }
 list_rule command w e sent = record { number = 11; tests = [] }
 
 -- the data that a command finds in its host's memory

@@ -1,10 +1,10 @@
--- The content of a medium, a list of bytes, 512 to a logical block (NVM Command Set Specification: LBA formats), and what
--- a transfer that stops at a fault may leave.
+-- The content of a medium, a list of bytes, 512 to a logical block (NVM Command Set Specification: LBA formats), and
+-- what a transfer that stops at a fault may leave.
 use Rattle.std.specs.Prelude.{◌≡◌, ◌<◌, ◌≤◌, ℕ, ◌+◌, ◌-◌, ◌*◌, ◌^◌, min, Bool, IsTrue, List, length, take, slice_range, Result, IsOk, IsErr}
 use Rattle.nvme_spec.specs.Bytes.{with_bytes}
 
--- A medium as the definitions see it: its content, and how often one of its calls has failed. What is said of the content
--- is said of a medium that tells it.
+-- A medium as the definitions see it: its content, and how often one of its calls has failed. What is said of the
+-- content is said of a medium that tells it.
 pub record Device : Type 0 where
   pub content : List ℕ
   pub failures : ℕ

@@ -24,13 +24,25 @@ keys current other = to_le_bytes w64 current ++ to_le_bytes w64 other
 
 -- Reservation Register, Acquire and Release on namespace 1: the controller, the action, and what the action takes
 abbrev pub registers : ℕ → ℕ → ℕ → ℕ → Sent
-registers c action crkey nrkey = record { cntlid = c; entry = command_entry 0x0d 1 0 action 0; window = keys crkey nrkey }
+registers c action crkey nrkey = record {
+  cntlid = c;
+  entry = command_entry 0x0d 1 0 action 0;
+  window = keys crkey nrkey;
+}
 
 abbrev pub acquires : ℕ → ℕ → ℕ → ℕ → ℕ → Sent
-acquires c action rtype crkey prkey = record { cntlid = c; entry = command_entry 0x11 1 0 (action + 2 ^ 8 * rtype) 0; window = keys crkey prkey }
+acquires c action rtype crkey prkey = record {
+  cntlid = c;
+  entry = command_entry 0x11 1 0 (action + 2 ^ 8 * rtype) 0;
+  window = keys crkey prkey;
+}
 
 abbrev pub releases : ℕ → ℕ → ℕ → ℕ → Sent
-releases c action rtype crkey = record { cntlid = c; entry = command_entry 0x15 1 0 (action + 2 ^ 8 * rtype) 0; window = keys crkey 0 }
+releases c action rtype crkey = record {
+  cntlid = c;
+  entry = command_entry 0x15 1 0 (action + 2 ^ 8 * rtype) 0;
+  window = keys crkey 0;
+}
 
 abbrev pub verdict_on : World → Sent → Verdict
 verdict_on w s = io_verdict w s.cntlid s.entry false s.window

@@ -1,5 +1,5 @@
--- The data of a command, of any kind: where its two PRP entries say that they lie, and the rule that looks at them (Base
--- Specification: Data Pointer of the Common Command Format, Physical Region Page Entry and List).
+-- The data of a command, of any kind: where its two PRP entries say that they lie, and the rule that looks at them
+-- (Base Specification: Data Pointer of the Common Command Format, Physical Region Page Entry and List).
 use Rattle.std.specs.Prelude.{ℕ, ◌==◌, true, if◌then◌else◌, List, [], ◌∷◌, Option, None, Some}
 use Rattle.nvme_wire.specs.Submission.{prp1, prp2}
 use Rattle.nvme_wire.specs.declared.status.Status.{Status}

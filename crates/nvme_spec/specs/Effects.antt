@@ -1,6 +1,7 @@
 -- What an allowed command does to the blocks of a medium, and what a fault of the medium leaves (NVM Command Set
--- Specification: Read, Write, Compare, Write Zeroes, Flush; Base Specification: Media and Data Integrity Errors). Blocks
--- are counted on the medium. Each effect says what becomes of the count of failures: it stays, or a fault is answered.
+-- Specification: Read, Write, Compare, Write Zeroes, Flush; Base Specification: Media and Data Integrity Errors).
+-- Blocks are counted on the medium. Each effect says what becomes of the count of failures: it stays, or a fault is
+-- answered.
 use Rattle.std.specs.Prelude.{◌≡◌, ◌≢◌, ◌<◌, ◌⊎◌, ℕ, ◌*◌, Bool, List, length, take}
 use Rattle.nvme_wire.specs.declared.status.Status.{Status}
 use Rattle.nvme_spec.specs.Bytes.{with_bytes}

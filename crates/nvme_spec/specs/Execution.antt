@@ -42,8 +42,8 @@ start_of (Some n) = n.first
 abbrev pub medium_block : World → List ℕ → ℕ
 medium_block w e = start_of (namespace_of w (nsid e)) + starting_lba e
 
--- What a command on so many blocks, from `first` on, does to the medium, by the data that its host has sent; and the data
--- that return to the host.
+-- What a command on so many blocks, from `first` on, does to the medium, by the data that its host has sent; and the
+-- data that return to the host.
 abbrev pub BlockEffect : Bool → Command → ℕ → ℕ → List ℕ → Device → Device → Status → List ℕ → Type 0
 BlockEffect tells Flush first blocks sent old new answer returned = FlushEffect tells old new answer × (returned ≡ [])
 BlockEffect tells Write first blocks sent old new answer returned =
@@ -68,12 +68,15 @@ report_of None controllers size = []
 report_of (Some n) controllers size = report_data n.reservation controllers size
 
 -- A command on blocks changes the medium alone.
-pub record ActsOnBlocks (tells : Bool) (command : Command) (e sent : List ℕ) (old new : Scene) (answer : Status) (returned : List ℕ) : Type 0 where
+pub record ActsOnBlocks (tells : Bool) (command : Command) (e sent : List ℕ) (old new : Scene) (answer : Status)
+    (returned : List ℕ) : Type 0 where
   pub world : new.world ≡ old.world
-  pub effect : BlockEffect tells command (medium_block old.world e) (block_count e) sent old.device new.device answer returned
+  pub effect : BlockEffect tells command (medium_block old.world e) (block_count e) sent old.device new.device
+      answer returned
 
 -- A reservation command changes the reservation of its namespace alone.
-pub record ActsOnReservation (cntlid : ℕ) (e sent : List ℕ) (old new : Scene) (answer : Status) (returned : List ℕ) : Type 0 where
+pub record ActsOnReservation (cntlid : ℕ) (e sent : List ℕ) (old new : Scene) (answer : Status)
+    (returned : List ℕ) : Type 0 where
   pub answered : answer ≡ status.successful_completion
   pub world : new.world ≡ world_after old.world (nsid e) (reservation_outcome old.world cntlid e sent)
   pub device : new.device ≡ old.device
@@ -129,13 +132,15 @@ marks_of command e outcome = marks_for command e (removed_by outcome)
 abbrev pub denial_outcome : ℕ → Status → Outcome
 denial_outcome number why = record { status = why; dw0 = 0; rule = number; marks = no_marks }
 
--- An allowed command is performed. Its data stand in host memory then, the first byte at the first address, and no other
--- byte there has changed.
-pub record IsPerformed (tells : Bool) (command : Command) (cntlid : ℕ) (e : List ℕ) (old new : Scene) (outcome : Outcome) : Type 0 where
+-- An allowed command is performed. Its data stand in host memory then, the first byte at the first address, and no
+-- other byte there has changed.
+pub record IsPerformed (tells : Bool) (command : Command) (cntlid : ℕ) (e : List ℕ) (old new : Scene)
+    (outcome : Outcome) : Type 0 where
   pub returned : List ℕ
   pub effect : Performs tells command cntlid e (data_of old.window e) old new outcome.status returned
   pub window : new.window
-      ≡ with_scattered old.window (take (length returned) (data_addresses (data_length command e) old.window e)) returned
+      ≡ with_scattered old.window (take (length returned) (data_addresses (data_length command e) old.window e))
+      returned
   pub dw0 : outcome.dw0 ≡ 0
   pub rule : outcome.rule ≡ 0
   pub marks : outcome.marks ≡ marks_of command e (reservation_outcome old.world cntlid e (data_of old.window e))
@@ -153,4 +158,6 @@ Executes tells cntlid e marked old new outcome =
 -- every registrant of every namespace is the host of a controller
 abbrev pub HasKnownRegistrants : World → Type 0
 HasKnownRegistrants w =
-    AllByRecursion (λ (n : Namespace). AllByRecursion (λ r. IsTrue (list_any (λ (k : ControllerHost). r.host == k.1) w.controllers)) n.reservation.registrants) w.namespaces
+    AllByRecursion (λ (n : Namespace).
+    AllByRecursion (λ r. IsTrue (list_any (λ (k : ControllerHost). r.host == k.1) w.controllers))
+    n.reservation.registrants) w.namespaces

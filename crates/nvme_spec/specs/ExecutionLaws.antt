@@ -1,5 +1,5 @@
--- What holds of the execution of every I/O command: it is determined but for faults of the medium, it leaves all but what
--- the policy allows it, and so a host that its reservation keeps from writing writes nothing.
+-- What holds of the execution of every I/O command: it is determined but for faults of the medium, it leaves all but
+-- what the policy allows it, and so a host that its reservation keeps from writing writes nothing.
 use Rattle.std.specs.Prelude.{◌≡◌, ◌≢◌, ◌⊎◌, ◌<◌, ◌≤◌, ◌-◌, ◌^◌, ℕ, Bool, true, false, List, length}
 use Rattle.nvme_wire.specs.Submission.{nsid}
 use Rattle.nvme_spec.specs.declared.command.Command.{Command}
@@ -24,7 +24,8 @@ FailuresNeverFall =
 abbrev pub FaultFreeExecutes : Type 0
 FaultFreeExecutes =
     (cntlid : ℕ) → (e : List ℕ) → (marked : Bool) → (s : Scene) → IsLaidOut s.world s.device.content
-    → Executes true cntlid e marked s (fault_free_execution cntlid e marked s).left (fault_free_execution cntlid e marked s).outcome
+    → Executes true cntlid e marked s (fault_free_execution cntlid e marked s).left
+    (fault_free_execution cntlid e marked s).outcome
 
 -- and that is the one execution without a fault: all of what is left and answered is determined
 abbrev pub ExecutesAlone : Type 0
@@ -48,7 +49,8 @@ ExecutionKeepsTheRest =
     → Executes tells cntlid e marked old new outcome → KeepsTheRest (nsid e) old new
 
 -- all rules let a command pass, and it is one of these
-pub record IsAllowed (commands : List Command) (w : World) (cntlid : ℕ) (e : List ℕ) (marked : Bool) (window : List ℕ) : Type 0 where
+pub record IsAllowed (commands : List Command) (w : World) (cntlid : ℕ) (e : List ℕ) (marked : Bool)
+    (window : List ℕ) : Type 0 where
   pub plan : Plan
   pub allowed : io_verdict w cntlid e marked window ≡ Allowed plan
   pub is_one : is_one_of (Some plan.kind) commands ≡ true

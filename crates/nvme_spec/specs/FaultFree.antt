@@ -76,7 +76,8 @@ abbrev pub performed : Command → ℕ → List ℕ → Scene → Performance �
 performed command cntlid e s p = record {
   left = record {
     world = p.world;
-    window = with_scattered s.window (take (length p.returned) (data_addresses (data_length command e) s.window e)) p.returned;
+    window = with_scattered s.window (take (length p.returned) (data_addresses (data_length command e) s.window e))
+        p.returned;
     device = record { content = p.content; failures = s.device.failures };
   };
   outcome = record {

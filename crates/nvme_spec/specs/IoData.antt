@@ -13,8 +13,8 @@ use Rattle.nvme_spec.specs.Rules.{Rule, Test, Judgement, refusal_tests, first_fa
 use Rattle.nvme_spec.specs.IoRules.{access_rules, conclusion}
 use Rattle.nvme_spec.specs.DataRules.{data_in, pointer_rule}
 
--- The data of a reservation command are two keys: the current one (CRKEY), and that which is to be registered (NRKEY) or
--- preempted (PRKEY).
+-- The data of a reservation command are two keys: the current one (CRKEY), and that which is to be registered (NRKEY)
+-- or preempted (PRKEY).
 abbrev pub current_key : List ℕ → ℕ
 current_key keys = qword keys 0
 

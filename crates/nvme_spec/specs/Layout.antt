@@ -1,5 +1,5 @@
--- Which bytes of a medium are a namespace's, and which hosts its reservation lets read and write them (Base Specification:
--- Namespaces, Reservations).
+-- Which bytes of a medium are a namespace's, and which hosts its reservation lets read and write them (Base
+-- Specification: Namespaces, Reservations).
 use Rattle.std.specs.Prelude.{◌≡◌, ◌≢◌, ◌⊎◌, ◌≤◌, ℕ, ◌+◌, ◌*◌, Bool, List, [], map, length, Option, None, Some, option_map}
 use Rattle.nvme_spec.specs.declared.access.Group.TheVariants.{Read as Reading, Write as Writing}
 use Rattle.nvme_spec.specs.Blocks.{blocks_from}

@@ -1,5 +1,5 @@
--- The limits of this subsystem (Base Specification: Identify Controller, MDTS and NN; Controller Capabilities, MQES; NVM
--- Command Set Specification: LBA formats).
+-- The limits of this subsystem (Base Specification: Identify Controller, MDTS and NN; Controller Capabilities, MQES;
+-- NVM Command Set Specification: LBA formats).
 use Rattle.std.specs.Prelude.{ℕ}
 
 -- a logical block, in bytes

@@ -115,7 +115,8 @@ preempts r next = Ok (record { next = next; removed = removed_hosts r.registrant
 
 -- these registrants and this hold, and one more generation: the counter has 32 bits
 abbrev pub next_generation : Reservation → List Registrant → Hold → Reservation
-next_generation r registrants hold = record { registrants = registrants; hold = hold; generation = (r.generation + 1) % 2 ^ 32 }
+next_generation r registrants hold =
+    record { registrants = registrants; hold = hold; generation = (r.generation + 1) % 2 ^ 32 }
 
 -- these registrants, what is left of the hold, and one more generation
 abbrev pub remaining : Reservation → List Registrant → Reservation
@@ -150,8 +151,8 @@ acquire r host rtype crkey =
     else (if is_of_type r.hold rtype && is_holder r host then becomes r
     else Err status.reservation_conflict))
 
--- Reservation Acquire command, Preempt. Key 0 stands for all other registrants of a reservation that all hold; the key of
--- a single holder takes its reservation; any other key only removes the registrants that have it.
+-- Reservation Acquire command, Preempt. Key 0 stands for all other registrants of a reservation that all hold; the key
+-- of a single holder takes its reservation; any other key only removes the registrants that have it.
 abbrev pub preempt : Reservation → ℕ → ℕ → ℕ → ℕ → Outcome
 preempt r host rtype crkey prkey =
     if not (is_registered_with r.registrants host crkey) then Err status.reservation_conflict
@@ -177,4 +178,5 @@ release r host rtype crkey =
 -- Reservation Release command, Clear.
 abbrev pub clear : Reservation → ℕ → ℕ → Outcome
 clear r host crkey =
-    if is_registered_with r.registrants host crkey then becomes (next_generation r [] Free) else Err status.reservation_conflict
+    if is_registered_with r.registrants host crkey then becomes (next_generation r [] Free)
+    else Err status.reservation_conflict

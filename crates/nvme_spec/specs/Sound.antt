@@ -1,5 +1,5 @@
--- A world that is well formed: every opening is, and every command keeps it so (Base Specification: NVM Subsystem, Shared
--- and Private Namespaces, Namespace Attachment command, Reservations).
+-- A world that is well formed: every opening is, and every command keeps it so (Base Specification: NVM Subsystem,
+-- Shared and Private Namespaces, Namespace Attachment command, Reservations).
 use Rattle.std.specs.Prelude.{◌≢◌, ◌≡◌, ℕ, ◌+◌, ◌≤◌, ◌==◌, Bool, not, ◌&&◌, ◌||◌, IsTrue, List, [], ◌∷◌, map, None, is_some}
 use Rattle.std.specs.List.{list_any, AllByRecursion}
 use Rattle.nvme_spec.specs.declared.access.Hold.{Hold}

@@ -1,5 +1,5 @@
--- The statuses that a command is answered with, and that each fits its field: the status code type has three bits and the
--- status code eight (Base Specification: Completion Queue Entry, Status Field).
+-- The statuses that a command is answered with, and that each fits its field: the status code type has three bits and
+-- the status code eight (Base Specification: Completion Queue Entry, Status Field).
 use Rattle.std.specs.Prelude.{◌≡◌, ◌<◌, ◌==◌, ◌&&◌, ℕ, Bool, true, List, [], ◌∷◌}
 use Rattle.std.specs.List.{list_any}
 use Rattle.nvme_wire.specs.declared.status.Status.{Status}
@@ -37,7 +37,8 @@ denials =
 
 -- these, and those of commands that all rules let pass
 abbrev pub answers : List Status
-answers = status.successful_completion ∷ status.write_fault ∷ status.unrecovered_read_error ∷ status.compare_failure ∷ denials
+answers = status.successful_completion ∷ status.write_fault ∷ status.unrecovered_read_error
+    ∷ status.compare_failure ∷ denials
 
 abbrev pub is_same : Status → Status → Bool
 is_same x y = (x.sct == y.sct) && (x.sc == y.sc)

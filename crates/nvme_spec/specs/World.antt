@@ -48,7 +48,14 @@ controller_host k = (k.cntlid, k.host)
 abbrev pub laid_out : ℕ → List NsConfig → List Namespace
 laid_out first [] = []
 laid_out first (n ∷ rest) =
-    record { nsid = n.nsid; first = first; blocks = n.blocks; shared = n.shared; protected = false; reservation = unreserved }
+    record {
+      nsid = n.nsid;
+      first = first;
+      blocks = n.blocks;
+      shared = n.shared;
+      protected = false;
+      reservation = unreserved;
+    }
     ∷ laid_out (first + n.blocks) rest
 
 -- the world that a configuration opens with

@@ -9,8 +9,8 @@ pub struct ControllerConfig {
     pub cntlid: u16,
     /// The host identifier, not 0. Several controllers may belong to one host.
     pub host: u64,
-    /// Whether its host is a raw one: it has no driver, and its controller is used by single stores and register writes.
-    /// This is of a `Fleet`; a `Subsystem` has no drivers, and reads nothing of it.
+    /// Whether its host is a raw one: it has no driver, and its controller is used by single stores and register
+    /// writes. This is of a `Fleet`; a `Subsystem` has no drivers, and reads nothing of it.
     pub raw: bool,
 }
 

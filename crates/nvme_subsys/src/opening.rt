@@ -26,7 +26,8 @@ pub fn controllers_of(
     alloc: Global,
     configs: &[ControllerConfig],
 ) -> Result<Vec<Controller>, NoMemory>
-    ensures { IfOk result (λ controllers. controllers.items ≡ map (λ (k : Configured). new_controller k.cntlid) configs.now) }
+    ensures { IfOk result (λ controllers. controllers.items ≡ map (λ (k : Configured). new_controller k.cntlid)
+        configs.now) }
 {
     let mut controllers = Vec::with_capacity(alloc, configs.len())?;
     for config in configs {

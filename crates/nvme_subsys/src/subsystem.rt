@@ -39,8 +39,8 @@ impl<M: Medium> Model for Subsystem<M> {
 }
 
 impl<M: Medium> Subsystem<M> {
-    /// Opens a configuration over a medium: nobody has registered, nothing is reserved or write protected, no controller was
-    /// ever enabled, and every window is of zeros. Memory is asked for last.
+    /// Opens a configuration over a medium: nobody has registered, nothing is reserved or write protected, no
+    /// controller was ever enabled, and every window is of zeros. Memory is asked for last.
     ///
     /// # Errors
     ///
@@ -48,7 +48,9 @@ impl<M: Medium> Subsystem<M> {
     pub fn new(alloc: Global, config: &Config, medium: M) -> Result<Subsystem<M>, NewFault<M>>
         ensures opened { IfOk result (λ subsystem. subsystem ≡ opening (configuration config.now) (M.device medium)) }
         ensures accepted { IfOk result (λ _. first_config_fault (configuration config.now) (M.size medium) ≡ None) }
-        ensures fault { IfErr result (λ refused. refused.fault ≡ unwrap_or (first_config_fault (configuration config.now) (M.size medium)) WantOfMemory) }
+        ensures fault { IfErr result
+            (λ refused. refused.fault ≡ unwrap_or (first_config_fault (configuration config.now) (M.size medium))
+            WantOfMemory) }
         ensures kept { IfErr result (λ refused. refused.medium ≡ medium) }
     {
         let spaces = match Spaces::new(config, medium.blocks()) {

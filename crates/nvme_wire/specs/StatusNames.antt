@@ -74,7 +74,8 @@ name_of s =
 
 -- `SCT:SC` in lower-case hexadecimal, one digit and two
 abbrev pub status_text : Status → List ℕ
-status_text s = digits 16 false s.sct ++ (codes ":" ++ padded_integral (format_spec 32 0 4 2 (2 ^ 64 - 1)) false [] (digits 16 false s.sc))
+status_text s = digits 16 false s.sct
+    ++ (codes ":" ++ padded_integral (format_spec 32 0 4 2 (2 ^ 64 - 1)) false [] (digits 16 false s.sc))
 
 -- a status has this type and code, and this name
 abbrev pub IsNamed : Status → ℕ → ℕ → List ℕ → Type 0

@@ -22,7 +22,8 @@ fn value_of(digit: u8) -> u8
 /// No digit stops it early: without a branch on each, a processor does several at once.
 pub fn decode(digits: &[u8], bytes: &mut [u8]) -> bool
     requires pairs { length digits.now ≡ 2 * length bytes.old }
-    ensures { MatchResult (decode_pairs 0 digits.now) (λ all. (result ≡ true) × (bytes.new ≡ all)) (λ _. result ≡ false) }
+    ensures { MatchResult (decode_pairs 0 digits.now) (λ all. (result ≡ true) × (bytes.new ≡ all))
+        (λ _. result ≡ false) }
 {
     let mut good = true;
     for i in 0..bytes.len() {

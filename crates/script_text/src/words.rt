@@ -88,8 +88,8 @@ pub fn first_word(line: &[u8]) -> Option<FirstWord<'_>>
 pub struct FrontWords<'a> {
     /// The first words, from left to right.
     pub words: ArrayVec<&'a [u8], MOST_WORDS>,
-    /// What is left of the line behind `MOST_WORDS` words and the separators that follow them. It is empty where the line
-    /// has no more words.
+    /// What is left of the line behind `MOST_WORDS` words and the separators that follow them. It is empty where the
+    /// line has no more words.
     pub rest: &'a [u8],
 }
 
@@ -101,7 +101,8 @@ pub fn words_of(line: &[u8]) -> Option<FrontWords<'_>>
         → line_words line.now ≡ map (λ word. word.now) front.words.items ++ line_words front.rest.now) }
     ensures all { IfSome result (λ front. 0 < length front.rest.now → length front.words.items ≡ 8) }
     ensures apart { IfSome result (λ front. starts_apart front.rest.now ≡ true) }
-    ensures within { IfSome result (λ front. AllByRecursion (λ word. length word.now ≤ length line.now) front.words.items) }
+    ensures within { IfSome result
+        (λ front. AllByRecursion (λ word. length word.now ≤ length line.now) front.words.items) }
     ensures room { IfSome result (λ front. length front.words.items + most_words front.rest.now ≤ most_words line.now) }
     ensures none { IsNone result → is_line_text line.now ≡ false }
 {

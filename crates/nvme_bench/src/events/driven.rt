@@ -25,8 +25,8 @@ pub(crate) enum Kind {
 }
 
 impl Kind {
-    /// How many of them are placed at once: of one block as many as a driver's lane takes, of 256 blocks one, which then
-    /// always has the same place in host memory, as a plain copy has.
+    /// How many of them are placed at once: of one block as many as a driver's lane takes, of 256 blocks one, which
+    /// then always has the same place in host memory, as a plain copy has.
     fn count(self) -> u32
         ensures { 1 ≤ result }
     {

@@ -72,7 +72,8 @@ impl Driver {
     /// The slot and the ticket of the next request, or the first reason to refuse this one.
     fn admit(&self, request: &Request<'_>) -> Result<(usize, Ticket), PlaceRefusal>
         ensures refused { IfErr result (λ refusal. place_refusal self.now request.now ≡ Some refusal) }
-        ensures admitted { IfOk result (λ p. (place_refusal self.now request.now ≡ None) × (free_slot self.now ≡ Some p.0)
+        ensures admitted { IfOk result (λ p. (place_refusal self.now request.now ≡ None)
+            × (free_slot self.now ≡ Some p.0)
             × (p.1 ≡ record { 0 = self.now.next })) }
         ensures good { OnOk result (bad request.now ≡ false) }
         ensures room { OnOk result ((0 < submission_room (ends_of (lane_of request.now) self.now).tail)

@@ -69,7 +69,8 @@ impl Driver {
 
     /// The request that a completion answers, and the ends of its lane once the completion is consumed.
     fn answered(&self, lane: Lane, entry: Cqe) -> Option<(Waiting, Ends)>
-        ensures request { MatchOption result (spec_answered self.now lane entry ≡ None) (λ r. spec_answered self.now lane entry
+        ensures request { MatchOption result (spec_answered self.now lane entry ≡ None)
+            (λ r. spec_answered self.now lane entry
             ≡ Some r.0) }
         ensures ends { IfSome result (λ r. r.1 ≡ consumed_ends (ends_of lane self.now) (sq_head entry)) }
         ensures slot { IfSome result (λ r. cid entry < slot_count) }

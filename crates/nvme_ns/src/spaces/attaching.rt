@@ -156,7 +156,8 @@ fn append(attachments: &mut Attachments, nsid: u32, controllers: &[u16])
 /// Takes the namespace's attachments to these controllers out.
 fn remove(attachments: &mut Attachments, nsid: u32, controllers: &[u16])
     ensures { attachments.new.items
-        ≡ filter (λ a. not ((a.1 == nsid) && list_any (λ cntlid. cntlid == a.0) controllers.now)) attachments.old.items }
+        ≡ filter (λ a. not ((a.1 == nsid) && list_any (λ cntlid. cntlid == a.0) controllers.now))
+        attachments.old.items }
 {
     attachments.retain(|a| !(a.1 == nsid && is_one_of(a.0, controllers)));
 }

@@ -12,8 +12,8 @@ use nvme_spec::{Hold, Registrant};
 use nvme_wire::Status;
 
 impl Reservation {
-    /// Registers the host with the key NRKEY (Reservation Register command, Register Reservation Key). A registered host
-    /// may repeat its key.
+    /// Registers the host with the key NRKEY (Reservation Register command, Register Reservation Key). A registered
+    /// host may repeat its key.
     ///
     /// Where the host is not registered, fewer than sixteen hosts are.
     ///
@@ -35,8 +35,8 @@ impl Reservation {
     ///
     /// # Errors
     ///
-    /// Reservation Conflict where the host is not registered, or where IEKEY is clear and CRKEY is not its key. Nothing is
-    /// changed then.
+    /// Reservation Conflict where the host is not registered, or where IEKEY is clear and CRKEY is not its key. Nothing
+    /// is changed then.
     pub fn unregister(&mut self, host: u64, iekey: bool, crkey: u64) -> Result<Change, Status>
         ensures { Follows (resv.unregister self.old host iekey crkey) self.old result self.new }
     {
@@ -100,8 +100,8 @@ impl Reservation {
 
     /// Removes other registrants by the key PRKEY (Reservation Acquire command, Preempt), and answers them.
     ///
-    /// Where the reservation is all registrants', key 0 removes all others, and the host takes it with type RTYPE, 1 to 6.
-    /// Where PRKEY is the key of the single holder, the others that have it are removed, and the host takes the
+    /// Where the reservation is all registrants', key 0 removes all others, and the host takes it with type RTYPE, 1 to
+    /// 6. Where PRKEY is the key of the single holder, the others that have it are removed, and the host takes the
     /// reservation likewise. Any other key removes each registrant that has it, this host too, and the hold only ends
     /// where no registrant of types 5 and 6 is left.
     ///
@@ -142,8 +142,8 @@ impl Reservation {
     ///
     /// # Errors
     ///
-    /// Reservation Conflict where the host is not registered with CRKEY; Invalid Field in Command where it is a holder and
-    /// RTYPE is not the type that it holds. Nothing is changed then.
+    /// Reservation Conflict where the host is not registered with CRKEY; Invalid Field in Command where it is a holder
+    /// and RTYPE is not the type that it holds. Nothing is changed then.
     pub fn release(&mut self, host: u64, rtype: u8, crkey: u64) -> Result<Change, Status>
         ensures { Follows (resv.release self.old host rtype crkey) self.old result self.new }
     {
@@ -210,7 +210,8 @@ impl Reservation {
 
     /// Removes the others with this key, or all others, and takes the reservation.
     fn take_over(&mut self, host: u64, rtype: u8, key: Option<u64>) -> Change
-        ensures next { self.new ≡ resv.next_generation self.old (filter (λ r. not (leaves_test key (Some host) r)) self.old.registrants) (resv.taken_by host rtype) }
+        ensures next { self.new ≡ resv.next_generation self.old
+            (filter (λ r. not (leaves_test key (Some host) r)) self.old.registrants) (resv.taken_by host rtype) }
         ensures removed { result.removed.items ≡ resv.removed_hosts self.old.registrants self.new.registrants }
     {
         let removed = expel(&mut self.registrants, key, Some(host));

@@ -15,8 +15,8 @@ type Part = ArrayVec<u8, 24>;
 type Report = ArrayVec<u8, 408>;
 
 impl Reservation {
-    /// Fills the buffer with the data of Reservation Report (Reservation Status Data Structure): as much of the report as
-    /// it takes, and zeros behind a shorter one. All numbers are little-endian. There is an entry for each of the
+    /// Fills the buffer with the data of Reservation Report (Reservation Status Data Structure): as much of the report
+    /// as it takes, and zeros behind a shorter one. All numbers are little-endian. There is an entry for each of the
     /// controllers, given with their hosts, whose host is registered.
     ///
     /// There are at most sixteen controllers, by rising identifier, each once.

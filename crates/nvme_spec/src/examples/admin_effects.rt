@@ -15,9 +15,12 @@ use crate::queues::QueueChange;
 
 /// Queues are created and deleted.
 fn queue_changes()
-    ensures completion { (admin_execution cluster_world only_admin_queues 1 (command_entry 5 0 0x3000 0x001f0001 1) []).change
+    ensures completion { (admin_execution cluster_world only_admin_queues 1
+        (command_entry 5 0 0x3000 0x001f0001 1) []).change
         ≡ QueueChange.MakeCq 1 32 0x3000 }
-    ensures submission { (admin_execution cluster_world one_completion_queue 1 (command_entry 1 0 0x2000 0x00070001 0x00010001) []).change ≡ QueueChange.MakeSq 1 8 0x2000 1 }
+    ensures submission { (admin_execution cluster_world one_completion_queue 1
+        (command_entry 1 0 0x2000 0x00070001 0x00010001)
+        []).change ≡ QueueChange.MakeSq 1 8 0x2000 1 }
     ensures one_queue { after_change only_admin_queues (QueueChange.MakeCq 1 32 0x3000) ≡ one_completion_queue }
     ensures a_pair { after_change one_completion_queue (QueueChange.MakeSq 1 8 0x2000 1) ≡ one_queue_pair }
     ensures deleted { (admin_execution cluster_world one_queue_pair 1 (command_entry 0 0 0 1 0) []).change
@@ -39,23 +42,28 @@ fn protection()
         ≡ with_protection cluster_world 1 true }
     ensures done { (admin_execution cluster_world one_queue_pair 1 (command_entry 9 1 0 0x84 1) []).status
         ≡ status.successful_completion }
-    ensures seen { (admin_execution (with_protection cluster_world 1 true) one_queue_pair 2 (command_entry 10 1 0 0x84 0) []).dw0
+    ensures seen { (admin_execution (with_protection cluster_world 1 true) one_queue_pair 2
+        (command_entry 10 1 0 0x84 0) []).dw0
         ≡ 1 }
-    ensures unprotected { (admin_execution (with_protection cluster_world 1 true) one_queue_pair 1 (command_entry 9 1 0 0x84 0) []).world
+    ensures unprotected { (admin_execution (with_protection cluster_world 1 true) one_queue_pair 1
+        (command_entry 9 1 0 0x84 0) []).world
         ≡ cluster_world }
     ensures not_seen { (admin_execution cluster_world one_queue_pair 2 (command_entry 10 1 0 0x84 0) []).dw0 ≡ 0 }
 {}
 
 /// The number of queues, and the host's identifier.
 fn features()
-    ensures requested { (admin_execution cluster_world only_admin_queues 1 (command_entry 9 0 0 0x07 0x00070007) []).dw0 ≡ 0x00030003 }
+    ensures requested { (admin_execution cluster_world only_admin_queues 1 (command_entry 9 0 0 0x07 0x00070007) []).dw0
+        ≡ 0x00030003 }
     ensures counted { (admin_execution cluster_world one_queue_pair 1 (command_entry 10 0 0 0x07 0) []).dw0
         ≡ 0x00030003 }
     ensures refused { (admin_execution cluster_world one_queue_pair 1 (command_entry 9 0 0 0x07 0x00070007) []).dw0
         ≡ 0 }
-    ensures host { (admin_execution cluster_world only_admin_queues 2 (command_entry 10 0 4 0x81 0) (replicate 16 7)).window
+    ensures host { (admin_execution cluster_world only_admin_queues 2 (command_entry 10 0 4 0x81 0)
+        (replicate 16 7)).window
         ≡ replicate 4 7 ++ 0xb2 ∷ replicate 7 0 ++ replicate 4 7 }
-    ensures no_word { (admin_execution cluster_world only_admin_queues 2 (command_entry 10 0 4 0x81 0) (replicate 16 7)).dw0 ≡ 0 }
+    ensures no_word { (admin_execution cluster_world only_admin_queues 2 (command_entry 10 0 4 0x81 0)
+        (replicate 16 7)).dw0 ≡ 0 }
 {}
 
 /// Structures that are asked for.
@@ -71,7 +79,8 @@ fn structures()
 
 /// Controller 2 is detached from the shared namespace, and attached again.
 fn attachments()
-    ensures detached { (admin_execution cluster_world one_queue_pair 2 (command_entry 0x15 1 0 1 0) (listing (2 ∷ []))).world
+    ensures detached { (admin_execution cluster_world one_queue_pair 2 (command_entry 0x15 1 0 1 0)
+        (listing (2 ∷ []))).world
         ≡ without_attached cluster_world 1 (2 ∷ []) }
     ensures no_more { is_attached (without_attached cluster_world 1 (2 ∷ [])) 2 1 ≡ false }
     ensures others { is_attached (without_attached cluster_world 1 (2 ∷ [])) 3 1 ≡ true }
@@ -82,6 +91,7 @@ fn attachments()
         ∷ [])) one_queue_pair 2 (command_entry 0x15 1 0 1 0) (listing (2 ∷ []))).rule ≡ 11 }
     ensures attached { is_attached (admin_execution (without_attached cluster_world 1 (2
         ∷ [])) one_queue_pair 2 (command_entry 0x15 1 0 0 0) (listing (2 ∷ []))).world 2 1 ≡ true }
-    ensures refused { (admin_execution cluster_world one_queue_pair 1 (command_entry 0x15 2 0 0 0) (listing (2 ∷ []))).world
+    ensures refused { (admin_execution cluster_world one_queue_pair 1 (command_entry 0x15 2 0 0 0)
+        (listing (2 ∷ []))).world
         ≡ cluster_world }
 {}

@@ -41,11 +41,14 @@ fn write_exclusive()
         ≡ Allowed (record { kind = Command.Read; first = 0; blocks = 1; bytes = 512 }) }
     ensures reservation_before_range { verdict (after_sent cluster_world (registers 1 0 0 0x11 ∷ acquires 1 0 1 0x11 0
         ∷ [])) 2 (transfer_entry 1 1 64 1) false ≡ Denied 7 status.reservation_conflict }
-    ensures other_type { verdict_on (after_sent cluster_world (registers 1 0 0 0x11 ∷ acquires 1 0 1 0x11 0 ∷ [])) (releases 1 0 3 0x11)
+    ensures other_type { verdict_on (after_sent cluster_world (registers 1 0 0 0x11 ∷ acquires 1 0 1 0x11 0 ∷ []))
+        (releases 1 0 3 0x11)
         ≡ Denied 11 status.invalid_field_in_command }
-    ensures released { after_sent cluster_world (registers 1 0 0 0x11 ∷ acquires 1 0 1 0x11 0 ∷ releases 1 0 1 0x11 ∷ [])
+    ensures released { after_sent cluster_world
+        (registers 1 0 0 0x11 ∷ acquires 1 0 1 0x11 0 ∷ releases 1 0 1 0x11 ∷ [])
         ≡ with_reservation cluster_world 1 (state (a1 0x11 ∷ []) Hold.Free 1) }
-    ensures range { verdict (after_sent cluster_world (registers 1 0 0 0x11 ∷ acquires 1 0 1 0x11 0 ∷ releases 1 0 1 0x11
+    ensures range { verdict
+        (after_sent cluster_world (registers 1 0 0 0x11 ∷ acquires 1 0 1 0x11 0 ∷ releases 1 0 1 0x11
         ∷ [])) 2 (transfer_entry 1 1 64 1) false ≡ Denied 9 status.lba_out_of_range }
 {}
 
@@ -71,10 +74,12 @@ fn preempted()
     ensures removed { after_sent cluster_world (registers 1 0 0 0x11 ∷ registers 2 0 0 0x22 ∷ acquires 1 0 2 0x11 0
         ∷ acquires 1 1 2 0x11 0x22 ∷ [])
         ≡ with_reservation cluster_world 1 (state (a1 0x11 ∷ []) (Hold.One 2 0xa1) 3) }
-    ensures marked { verdict (after_sent cluster_world (registers 1 0 0 0x11 ∷ registers 2 0 0 0x22 ∷ acquires 1 0 2 0x11 0
+    ensures marked { verdict
+        (after_sent cluster_world (registers 1 0 0 0x11 ∷ registers 2 0 0 0x22 ∷ acquires 1 0 2 0x11 0
         ∷ acquires 1 1 2 0x11 0x22 ∷ [])) 2 (transfer_entry 2 1 0 1) true
         ≡ Denied 1 status.command_aborted_due_to_preempt_and_abort }
-    ensures later { verdict (after_sent cluster_world (registers 1 0 0 0x11 ∷ registers 2 0 0 0x22 ∷ acquires 1 0 2 0x11 0
+    ensures later { verdict
+        (after_sent cluster_world (registers 1 0 0 0x11 ∷ registers 2 0 0 0x22 ∷ acquires 1 0 2 0x11 0
         ∷ acquires 1 1 2 0x11 0x22 ∷ [])) 2 (transfer_entry 2 1 0 1) false ≡ Denied 7 status.reservation_conflict }
     ensures no_registrant { verdict_on cluster_world (acquires 1 0 2 0x11 0) ≡ Denied 11 status.reservation_conflict }
 {}
@@ -84,8 +89,10 @@ fn preempted_all()
     ensures taken { after_sent cluster_world (registers 1 0 0 0x11 ∷ registers 2 0 0 0x22 ∷ acquires 1 0 6 0x11 0
         ∷ acquires 2 1 1 0x22 0 ∷ []) ≡ with_reservation cluster_world 1 (state (b2 0x22 ∷ []) (Hold.One 1 0xb2) 3) }
     ensures report { report_on (with_reservation cluster_world 1 (state (b2 0x22 ∷ []) (Hold.One 1 0xb2) 3)) 1 48 ≡
-        3 ∷ 0 ∷ 0 ∷ 0 ∷ 1 ∷ 1 ∷ replicate 18 0 ++ 2 ∷ 0 ∷ 1 ∷ replicate 5 0 ++ 0xb2 ∷ replicate 7 0 ++ 0x22 ∷ replicate 7 0 }
-    ensures single { verdict_on (after_sent cluster_world (registers 1 0 0 0x11 ∷ registers 2 0 0 0x22 ∷ acquires 1 0 6 0x11 0
+        3 ∷ 0 ∷ 0 ∷ 0 ∷ 1 ∷ 1 ∷ replicate 18 0 ++ 2 ∷ 0 ∷ 1 ∷ replicate 5 0 ++ 0xb2 ∷ replicate 7 0
+        ++ 0x22 ∷ replicate 7 0 }
+    ensures single { verdict_on
+        (after_sent cluster_world (registers 1 0 0 0x11 ∷ registers 2 0 0 0x22 ∷ acquires 1 0 6 0x11 0
         ∷ acquires 2 1 1 0x22 0 ∷ [])) (acquires 2 1 3 0x22 0) ≡ Denied 11 status.invalid_field_in_command }
 {}
 
@@ -96,10 +103,12 @@ fn last_registrant()
         ≡ with_reservation cluster_world 1 (state (c3 0x33 ∷ []) (Hold.All 5) 5) }
     ensures outsider { verdict (with_reservation cluster_world 1 (state (c3 0x33
         ∷ []) (Hold.All 5) 5)) 1 (transfer_entry 1 1 0 1) false ≡ Denied 7 status.reservation_conflict }
-    ensures none_left { after_sent (with_reservation cluster_world 1 (state (c3 0x33 ∷ []) (Hold.All 5) 5)) (registers 4 1 0x33 0 ∷ [])
+    ensures none_left { after_sent (with_reservation cluster_world 1 (state (c3 0x33 ∷ []) (Hold.All 5) 5))
+        (registers 4 1 0x33 0 ∷ [])
         ≡ with_reservation cluster_world 1 (state [] Hold.Free 6) }
     ensures report { report_on (with_reservation cluster_world 1 (state [] Hold.Free 6)) 1 24 ≡ 6 ∷ replicate 23 0 }
-    ensures everyone { verdict (with_reservation cluster_world 1 (state [] Hold.Free 6)) 1 (transfer_entry 1 1 0 1) false
+    ensures everyone { verdict (with_reservation cluster_world 1 (state [] Hold.Free 6)) 1
+        (transfer_entry 1 1 0 1) false
         ≡ Allowed (record { kind = Command.Write; first = 0; blocks = 1; bytes = 512 }) }
 {}
 
@@ -112,11 +121,15 @@ fn one_reservation_changes()
 
 /// Preempt and Abort names the host that it removed; Preempt names none.
 fn marks()
-    ensures aborting { marks_on (with_reservation cluster_world 1 (state (a1 0x11 ∷ b2 0x22 ∷ []) (Hold.One 2 0xa1) 2)) (acquires 1 2 2 0x11 0x22)
+    ensures aborting { marks_on (with_reservation cluster_world 1 (state (a1 0x11 ∷ b2 0x22 ∷ []) (Hold.One 2 0xa1) 2))
+        (acquires 1 2 2 0x11 0x22)
         ≡ record { nsid = 1; hosts = record { items = 0xb2 ∷ [] } } }
-    ensures preempting { marks_on (with_reservation cluster_world 1 (state (a1 0x11 ∷ b2 0x22 ∷ []) (Hold.One 2 0xa1) 2)) (acquires 1 1 2 0x11 0x22)
+    ensures preempting { marks_on
+        (with_reservation cluster_world 1 (state (a1 0x11 ∷ b2 0x22 ∷ []) (Hold.One 2 0xa1) 2))
+        (acquires 1 1 2 0x11 0x22)
         ≡ no_marks }
-    ensures refused { marks_on (with_reservation cluster_world 1 (state (a1 0x11 ∷ b2 0x22 ∷ []) (Hold.One 2 0xa1) 2)) (acquires 1 2 2 0x11 0x33)
+    ensures refused { marks_on (with_reservation cluster_world 1 (state (a1 0x11 ∷ b2 0x22 ∷ []) (Hold.One 2 0xa1) 2))
+        (acquires 1 2 2 0x11 0x33)
         ≡ no_marks }
 {}
 

@@ -16,7 +16,14 @@ fn cluster_fits()
     ensures empty { first_config_fault empty_configuration 0 ≡ None }
     ensures laid_out { (opening_world cluster).namespaces ≡
         record { nsid = 1; first = 0; blocks = 64; shared = true; protected = false; reservation = unreserved }
-        ∷ record { nsid = 2; first = 64; blocks = 8; shared = false; protected = false; reservation = unreserved } ∷ [] }
+        ∷ record {
+          nsid = 2;
+          first = 64;
+          blocks = 8;
+          shared = false;
+          protected = false;
+          reservation = unreserved;
+        } ∷ [] }
 {}
 
 /// Identifiers.
@@ -29,7 +36,8 @@ fn bad_ids()
         ≡ Some BadId }
     ensures nsid_nine { first_config_fault (record single { namespaces = namespace 9 64 true ∷ []; attached = [] }) 64
         ≡ Some BadId }
-    ensures nsid_twice { first_config_fault (record single { namespaces = namespace 1 8 true ∷ namespace 1 8 true ∷ [] }) 64 ≡ Some BadId }
+    ensures nsid_twice { first_config_fault
+        (record single { namespaces = namespace 1 8 true ∷ namespace 1 8 true ∷ [] }) 64 ≡ Some BadId }
     ensures attached_twice { first_config_fault (record single { attached = (1, 1) ∷ (1, 1) ∷ [] }) 64 ≡ Some BadId }
     ensures unknown_controller { first_config_fault (record single { attached = (2, 1) ∷ [] }) 64 ≡ Some BadId }
     ensures unknown_namespace { first_config_fault (record single { attached = (1, 2) ∷ [] }) 64 ≡ Some BadId }
@@ -43,16 +51,22 @@ fn bad_sizes_and_counts()
     ensures largest { first_config_fault (record single { namespaces = namespace 1 65536 true ∷ [] }) 65536 ≡ None }
     ensures too_large { first_config_fault (record single { namespaces = namespace 1 65537 true ∷ [] }) 65537
         ≡ Some BadSize }
-    ensures nine_namespaces { first_config_fault (record single { namespaces = map (λ (k : ℕ). namespace (k + 1) 1 true) (range_with_len 0 9) }) 64 ≡ Some TooMany }
-    ensures sixteen_controllers { first_config_fault (record single { controllers = map (λ (k : ℕ). controller (k + 1) 0xa1) (range_with_len 0 16) }) 64 ≡ None }
-    ensures seventeen_controllers { first_config_fault (record single { controllers = map (λ (k : ℕ). controller (k + 1) 0xa1) (range_with_len 0 17) }) 64 ≡ Some TooMany }
-    ensures most_attachments { first_config_fault (record single { attached = map (λ (k : ℕ). (k, 1)) (range_with_len 0 129) }) 64
+    ensures nine_namespaces { first_config_fault
+        (record single { namespaces = map (λ (k : ℕ). namespace (k + 1) 1 true) (range_with_len 0 9) }) 64
         ≡ Some TooMany }
+    ensures sixteen_controllers { first_config_fault
+        (record single { controllers = map (λ (k : ℕ). controller (k + 1) 0xa1) (range_with_len 0 16) }) 64 ≡ None }
+    ensures seventeen_controllers { first_config_fault
+        (record single { controllers = map (λ (k : ℕ). controller (k + 1) 0xa1) (range_with_len 0 17) }) 64
+        ≡ Some TooMany }
+    ensures most_attachments { first_config_fault
+        (record single { attached = map (λ (k : ℕ). (k, 1)) (range_with_len 0 129) }) 64 ≡ Some TooMany }
 {}
 
 /// Of two faults the first in the order of the tests is named.
 fn two_faults()
-    ensures count_before_id { first_config_fault (record single { namespaces = map (λ (k : ℕ). namespace k 1 true) (range_with_len 0 9) }) 64
+    ensures count_before_id { first_config_fault
+        (record single { namespaces = map (λ (k : ℕ). namespace k 1 true) (range_with_len 0 9) }) 64
         ≡ Some TooMany }
     ensures id_before_size { first_config_fault (record single { namespaces = namespace 9 0 true ∷ [] }) 64
         ≡ Some BadId }

@@ -24,16 +24,52 @@ fn write()
     ensures count { block_count (command_entry 0x00070001 1 0x5000 0 0) ≡ 1 }
 {}
 
-/// The first completion of queue 1 of 32 entries at 3000h, for a submission queue of 8 entries of which one was fetched.
+/// The first completion of queue 1 of 32 entries at 3000h, for a submission queue of 8 entries of which one was
+/// fetched.
 fn first_completion()
     ensures place { completion_place 0x3000 32 0 ≡ 0x3000 }
     ensures head { (after_fetch (after_tail_doorbell (empty_submission_head 8) 1)).fetched ≡ 1 }
-    ensures successful { completion_entry (record { dw0 = 0; sq_head = 1; sq_id = 1; cid = 7; phase = phase_tag 32 0; status = status.successful_completion }) ≡ replicate 8 0 ++ 0x01 ∷ 0x00 ∷ 0x01 ∷ 0x00 ∷ 0x07 ∷ 0x00 ∷ 0x01 ∷ 0x00 ∷ [] }
-    ensures denied { completion_entry (record { dw0 = 0; sq_head = 1; sq_id = 1; cid = 7; phase = phase_tag 32 0; status = status.reservation_conflict }) ≡ replicate 8 0 ++ 0x01 ∷ 0x00 ∷ 0x01 ∷ 0x00 ∷ 0x07 ∷ 0x00 ∷ 0x07 ∷ 0x01 ∷ [] }
+    ensures successful { completion_entry
+        (record {
+          dw0 = 0;
+          sq_head = 1;
+          sq_id = 1;
+          cid = 7;
+          phase = phase_tag 32 0;
+          status = status.successful_completion;
+        }) ≡ replicate 8 0 ++ 0x01 ∷ 0x00 ∷ 0x01 ∷ 0x00 ∷ 0x07 ∷ 0x00 ∷ 0x01
+        ∷ 0x00 ∷ [] }
+    ensures denied { completion_entry
+        (record {
+          dw0 = 0;
+          sq_head = 1;
+          sq_id = 1;
+          cid = 7;
+          phase = phase_tag 32 0;
+          status = status.reservation_conflict;
+        }) ≡ replicate 8 0 ++ 0x01 ∷ 0x00 ∷ 0x01 ∷ 0x00 ∷ 0x07 ∷ 0x00 ∷ 0x07
+        ∷ 0x01 ∷ [] }
 {}
 
 /// After 33 reads the first slot holds the 33rd completion, of the other phase, and the second slot still the second.
 fn next_turn()
-    ensures first_slot { completion_entry (record { dw0 = 0; sq_head = 1; sq_id = 1; cid = 0; phase = phase_tag 32 32; status = status.successful_completion }) ≡ replicate 8 0 ++ 0x01 ∷ 0x00 ∷ 0x01 ∷ replicate 5 0 }
-    ensures second_slot { completion_entry (record { dw0 = 0; sq_head = 2; sq_id = 1; cid = 0; phase = phase_tag 32 1; status = status.successful_completion }) ≡ replicate 8 0 ++ 0x02 ∷ 0x00 ∷ 0x01 ∷ 0x00 ∷ 0x00 ∷ 0x00 ∷ 0x01 ∷ 0x00 ∷ [] }
+    ensures first_slot { completion_entry
+        (record {
+          dw0 = 0;
+          sq_head = 1;
+          sq_id = 1;
+          cid = 0;
+          phase = phase_tag 32 32;
+          status = status.successful_completion;
+        }) ≡ replicate 8 0 ++ 0x01 ∷ 0x00 ∷ 0x01 ∷ replicate 5 0 }
+    ensures second_slot { completion_entry
+        (record {
+          dw0 = 0;
+          sq_head = 2;
+          sq_id = 1;
+          cid = 0;
+          phase = phase_tag 32 1;
+          status = status.successful_completion;
+        }) ≡ replicate 8 0 ++ 0x02 ∷ 0x00 ∷ 0x01 ∷ 0x00 ∷ 0x00 ∷ 0x00 ∷ 0x01
+        ∷ 0x00 ∷ [] }
 {}

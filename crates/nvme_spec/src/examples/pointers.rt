@@ -1,3 +1,5 @@
+//! Data pointers over page lists that are chained, and pages that are named twice.
+
 ghost use Rattle.std.specs.Prelude.{◌≡◌, ◌-◌, [], ◌∷◌, None, Some, length, drop, replicate};
 ghost use Rattle.nvme_spec.specs.Pointer.{transfer, pointer_fault, address};
 ghost use Rattle.std.specs.List.{range_with_len};

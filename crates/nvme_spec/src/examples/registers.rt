@@ -30,7 +30,8 @@ fn life_of_a_controller()
     ensures shut_down { value_at (after_writes ready_registers ((0x14, 0x00464001) ∷ [])) 0x1c ≡ 9 }
     ensures again { (after_write (after_writes ready_registers ((0x14, 0x00464001) ∷ [])) 0x14 0x00468001).effect
         ≡ RegEffect.Shutdown }
-    ensures stays_shut_down { value_at (after_writes ready_registers ((0x14, 0x00464001) ∷ (0x14, 0x00460001) ∷ [])) 0x1c ≡ 9 }
+    ensures stays_shut_down { value_at (after_writes ready_registers ((0x14, 0x00464001) ∷ (0x14, 0x00460001) ∷ []))
+        0x1c ≡ 9 }
     ensures reset { (after_write ready_registers 0x14 0).effect ≡ RegEffect.Disable }
     ensures off { value_at (after_writes ready_registers ((0x14, 0x00464001) ∷ (0x14, 0) ∷ [])) 0x1c ≡ 0 }
     ensures admin_queues_stay { value_at (after_writes ready_registers ((0x14, 0) ∷ [])) 0x24 ≡ 0x001f0007 }
@@ -58,11 +59,14 @@ fn failed_enablings()
         ≡ ControllerState.Failed }
     ensures one_command { (after_writes prepared_registers ((0x24, 0x001f0000) ∷ (0x14, 0x00460001) ∷ [])).state
         ≡ ControllerState.Failed }
-    ensures sixty_five_commands { (after_writes prepared_registers ((0x24, 0x001f0040) ∷ (0x14, 0x00460001) ∷ [])).state ≡ ControllerState.Failed }
-    ensures sixty_four_commands { (after_writes prepared_registers ((0x24, 0x001f003f) ∷ (0x14, 0x00460001) ∷ [])).state ≡ ControllerState.Ready }
+    ensures sixty_five_commands { (after_writes prepared_registers ((0x24, 0x001f0040) ∷ (0x14, 0x00460001) ∷ [])).state
+        ≡ ControllerState.Failed }
+    ensures sixty_four_commands { (after_writes prepared_registers ((0x24, 0x001f003f) ∷ (0x14, 0x00460001) ∷ [])).state
+        ≡ ControllerState.Ready }
     ensures one_completion { (after_writes prepared_registers ((0x24, 0x00000007) ∷ (0x14, 0x00460001) ∷ [])).state
         ≡ ControllerState.Failed }
-    ensures sixty_five_completions { (after_writes prepared_registers ((0x24, 0x00400007) ∷ (0x14, 0x00460001) ∷ [])).state ≡ ControllerState.Failed }
+    ensures sixty_five_completions { (after_writes prepared_registers ((0x24, 0x00400007)
+        ∷ (0x14, 0x00460001) ∷ [])).state ≡ ControllerState.Failed }
     ensures submission_offset { (after_writes prepared_registers ((0x28, 0x800) ∷ (0x14, 0x00460001) ∷ [])).state
         ≡ ControllerState.Failed }
     ensures submission_outside { (after_writes prepared_registers ((0x28, 0x400000) ∷ (0x14, 0x00460001) ∷ [])).state

@@ -1,3 +1,5 @@
+//! What follows from the definition of what admin commands do.
+
 ghost use Rattle.nvme_spec.specs.AdminLaws.{ChangesOnlyProtection, KeepsReservations, AttachesByCommand, DenialsChangeNothing};
 
 /// Whatever an admin command does, no block of a medium and no reservation changes; attachments change by an allowed

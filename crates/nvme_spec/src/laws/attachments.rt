@@ -1,3 +1,5 @@
+//! What follows from the definitions of attaching and detaching.
+
 ghost use Rattle.nvme_spec.specs.AttachmentLaws.{AddsTheListed, RemovesTheListed};
 
 /// Which controllers a namespace is attached to after a list was attached, or detached.

@@ -40,8 +40,8 @@ fn bounded()
     ensures completion_head { CompletionHeadStays }
 {}
 
-/// A change of the queues that an admin command is allowed can be done: a new queue lies in host memory, and no submission
-/// queue is left without its completion queue.
+/// A change of the queues that an admin command is allowed can be done: a new queue lies in host memory, and no
+/// submission queue is left without its completion queue.
 #[tactic(auto, using(crate::proofs::QueueChanges::admin_changes_suit))]
 fn suited()
     ensures { AdminChangesSuit }

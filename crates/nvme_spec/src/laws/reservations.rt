@@ -1,4 +1,5 @@
-//! What follows from the definitions of reservations. That a denied action changes nothing needs no law: it gives no state.
+//! What follows from the definitions of reservations. That a denied action changes nothing needs no law: it gives no
+//! state.
 
 ghost use Rattle.std.specs.Prelude.{◌≡◌, ℕ, Bool, true, false, List, length};
 ghost use Rattle.nvme_spec.specs.Reservation.{Reservation, IsRising, unreserved, is_registered, is_of_all, role_of, register, unregister, replace, acquire, preempt, release, clear};

@@ -1,3 +1,5 @@
+//! What follows from the definitions of transfers between a medium and host memory.
+
 ghost use Rattle.nvme_spec.specs.TransferLaws.{LastByteIsKept, OthersStay, BlocksMakeTheWhole, BlocksScatterTheWhole, SmallIsContiguous, GatheredIsScattered, RunIsWritten, ScatteringKeepsTheLength};
 
 /// Which byte an address keeps, that blocks make up the whole, and where a small transfer lies.
