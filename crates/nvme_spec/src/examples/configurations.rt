@@ -1,5 +1,4 @@
 //! Configurations that are accepted, and each fault alone and before another.
-#![tactic(auto, unfolding(crate::specs::Configuration::first_config_fault, crate::specs::World::opening_world))]
 
 ghost use Rattle.std.specs.Prelude.{◌≡◌, ◌+◌, ◌/◌, ◌%◌, ℕ, [], ◌∷◌, map, None, Some, true, false};
 ghost use Rattle.std.specs.List.{range_with_len};

@@ -1,5 +1,4 @@
 //! Entries as bytes: a Write, and the completions that it may get.
-#![tactic(auto, unfolding(nvme_wire::specs::Submission::opcode, nvme_wire::specs::Submission::fuse, nvme_wire::specs::Submission::psdt, nvme_wire::specs::Submission::cid, nvme_wire::specs::Submission::nsid, nvme_wire::specs::Submission::prp1, nvme_wire::specs::Submission::cdw10, nvme_wire::specs::Submission::cdw11, nvme_wire::specs::Submission::cdw12, crate::specs::Commands::command_of, crate::specs::Commands::starting_lba, crate::specs::Commands::block_count, crate::specs::Entries::command_entry, nvme_wire::specs::Completion::completion_entry))]
 
 ghost use Rattle.std.specs.Prelude.{◌≡◌, ◌++◌, [], ◌∷◌, Some, replicate, true, false};
 ghost use Rattle.nvme_wire.specs.Submission as entry;

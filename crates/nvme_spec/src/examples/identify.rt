@@ -1,5 +1,4 @@
 //! What controllers of a cluster tell of themselves and of namespaces.
-#![tactic(auto, unfolding(crate::specs::World::namespace_of, crate::specs::World::is_attached, crate::specs::World::opening_world, crate::specs::AdminExamples::cluster_world, crate::specs::Identify::identify_namespace, crate::specs::Identify::identify_controller, crate::specs::Identify::namespace_list))]
 
 ghost use Rattle.std.specs.Prelude.{◌≡◌, ◌++◌, [], ◌∷◌, codes, length, replicate, slice_range, true};
 ghost use Rattle.nvme_spec.specs.Identify.{identify_controller, identify_attached, attached_above, namespace_list, no_fields};

@@ -1,5 +1,4 @@
 //! A new controller is prepared, enabled, shut down and reset.
-#![tactic(auto, unfolding(crate::specs::Registers::value_at, crate::specs::Registers::can_enable, crate::specs::Registers::configured, crate::specs::Registers::prepared, crate::specs::Registers::doorbell, crate::specs::Registers::after_write))]
 
 ghost use Rattle.std.specs.Prelude.{◌≡◌, [], ◌∷◌, Some, None, true, false};
 ghost use Rattle.nvme_spec.specs.Registers.{initial_registers, value_at, after_write, after_writes, admin_queues};

@@ -1,5 +1,4 @@
 //! What the rules answer to reads and writes of one controller.
-#![tactic(auto, unfolding(nvme_wire::specs::Submission::opcode, nvme_wire::specs::Submission::fuse, nvme_wire::specs::Submission::psdt, nvme_wire::specs::Submission::nsid, nvme_wire::specs::Submission::cdw10, nvme_wire::specs::Submission::cdw11, nvme_wire::specs::Submission::cdw12, crate::specs::Entries::transfer_entry, crate::specs::World::host_of, crate::specs::World::namespace_of, crate::specs::World::is_attached, crate::specs::World::opening_world, crate::specs::Commands::command_of, crate::specs::Commands::starting_lba, crate::specs::Commands::block_count, crate::specs::Rules::judgement_by, crate::specs::IoRules::mark_rule, crate::specs::IoRules::opcode_rule, crate::specs::IoRules::form_rule, crate::specs::IoRules::nsid_rule, crate::specs::IoRules::attachment_rule, crate::specs::IoRules::field_rule, crate::specs::IoRules::reservation_rule, crate::specs::IoRules::protection_rule, crate::specs::IoRules::range_rule, crate::specs::IoRules::verdict))]
 
 ghost use Rattle.std.specs.Prelude.{◌≡◌, true, false};
 ghost use Rattle.nvme_spec.specs.Examples.{single};
