@@ -82,8 +82,10 @@ fn each_fault_of_bring_up_leaves_the_driver_down(rt: HostRuntime) -> Result<(), 
         port.cid = cid;
         port.status = status;
         let mut driver = Driver::new();
-        assert_eq!(rt; driver.bring_up(&mut port), Err(fault));
-        assert_eq!(rt; port.turns, turns);
+        assert_eq!(rt;
+            (driver.bring_up(&mut port), port.turns),
+            (Err(fault), turns)
+        );
         assert_eq!(rt; driver.place(&mut port, &READ), Err(PlaceRefusal::NotReady));
         let mut port = TestPort::honest(rt.alloc())?;
         assert_eq!(rt; driver.bring_up(&mut port), Ok(()));
@@ -165,11 +167,14 @@ fn completions_are_matched_by_identifier(rt: HostRuntime) -> Result<(), Fail> {
         assert_eq!(rt; driver.place(&mut port, &READ), Ok(Ticket(ticket)));
     }
     assert_eq!(rt; driver.place(&mut port, &READ), Err(PlaceRefusal::RingFull));
-    assert_eq!(rt; driver.ring(&mut port), Ok(()));
-    assert_eq!(rt; port.doorbells, [2, 2, 7, 0]);
+    assert_eq!(rt;
+        (driver.ring(&mut port), port.doorbells),
+        (Ok(()), [2, 2, 7, 0])
+    );
     port.window.store(0x12_0000, &[7; 512])?;
-    port.window.store(0x3000, &done(2, 1, true))?;
-    port.window.store(0x3010, &done(2, 0, true))?;
+    for (address, cid) in [(0x3000, 1), (0x3010, 0)] {
+        port.window.store(address, &done(2, cid, true))?;
+    }
     for (ticket, head) in [(2, 1), (1, 2)] {
         let answer = Answer::Done {
             ticket: Ticket(ticket),
@@ -177,8 +182,10 @@ fn completions_are_matched_by_identifier(rt: HostRuntime) -> Result<(), Fail> {
             dw0: 0,
             len: 512,
         };
-        assert_eq!(rt; driver.poll_into(&mut port, &mut buffer), Ok(Some(answer)));
-        assert_eq!(rt; port.doorbells, [2, 2, 7, head]);
+        assert_eq!(rt;
+            (driver.poll_into(&mut port, &mut buffer), port.doorbells),
+            (Ok(Some(answer)), [2, 2, 7, head])
+        );
         assert_eq!(rt; buffer[511], if ticket == 2 { 7 } else { 0 });
     }
     assert_eq!(rt; driver.poll_into(&mut port, &mut buffer), Ok(None));

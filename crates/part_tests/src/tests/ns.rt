@@ -14,15 +14,18 @@ fn a_cluster_opens(rt: HostRuntime) -> Result<(), Fail> {
         Some(ConfigFault::DoesNotFit)
     );
     let spaces = Spaces::new(&config, 72)?;
-    assert_eq!(rt; spaces.host_of(3), Some(0xa1));
-    assert_eq!(rt; spaces.host_of(5), None);
-    assert!(rt; spaces.is_attached(4, 1));
-    assert!(rt; !spaces.is_attached(4, 2));
-    assert!(rt; !spaces.is_attached(5, 1));
-    assert_eq!(rt; spaces.first_block(2), Some(64));
-    assert_eq!(rt; spaces.blocks(2), Some(8));
-    assert_eq!(rt; spaces.blocks(3), None);
-    assert_eq!(rt; spaces.protection(1), Some(false));
+    assert_eq!(rt; [spaces.host_of(3), spaces.host_of(5)], [Some(0xa1), None]);
+    for (cntlid, nsid, is_attached) in [(4, 1, true), (4, 2, false), (5, 1, false)] {
+        assert_eq!(rt; spaces.is_attached(cntlid, nsid), is_attached);
+    }
+    assert_eq!(rt;
+        (spaces.first_block(2), spaces.blocks(2)),
+        (Some(64), Some(8))
+    );
+    assert_eq!(rt;
+        (spaces.blocks(3), spaces.protection(1)),
+        (None, Some(false))
+    );
     Ok(())
 }
 
@@ -90,12 +93,15 @@ fn a_namespace_is_protected_alone(rt: HostRuntime) -> Result<(), Fail> {
 #[test]
 fn a_list_is_taken_whole_or_refused(rt: HostRuntime) -> Result<(), Fail> {
     let mut spaces = opened(rt.alloc())?;
-    assert_eq!(rt; spaces.shared(1), Some(true));
-    assert_eq!(rt; spaces.shared(2), Some(false));
-    assert_eq!(rt; spaces.shared(3), None);
+    assert_eq!(rt;
+        [spaces.shared(1), spaces.shared(2), spaces.shared(3)],
+        [Some(true), Some(false), None]
+    );
     assert_eq!(rt; spaces.detach(1, &[2, 4]), Ok(()));
-    assert!(rt; !spaces.is_attached(2, 1));
-    assert!(rt; spaces.is_attached(3, 1));
+    assert_eq!(rt;
+        [spaces.is_attached(2, 1), spaces.is_attached(3, 1)],
+        [false, true]
+    );
     assert_eq!(rt;
         spaces.detach(1, &[1, 2]),
         Err(Status::NAMESPACE_NOT_ATTACHED)

@@ -108,16 +108,16 @@ fn a_reservation_fences_by_host(rt: HostRuntime) -> Result<(), Fail> {
         assert!(rt; reservation.has_room_for(0xa1));
         assert!(rt; reservation.register(0xa1, 0x11).is_ok());
         assert!(rt; reservation.acquire(0xa1, rtype, 0x11).is_ok());
-        assert_eq!(rt; judge(&spaces, 2, &write_past_the_end, false), CONFLICT);
-        assert_eq!(rt;
-            judge(&spaces, 3, &write_past_the_end, false),
-            LBA_OUT_OF_RANGE
-        );
-        assert!(rt; matches!(judge(&spaces, 3, &read, false), Verdict::Allowed(_)));
-        assert_eq!(rt;
-            matches!(judge(&spaces, 2, &read, false), Verdict::Allowed(_)),
-            reads
-        );
+        for (cntlid, write, is_read) in [(2, CONFLICT, reads), (3, LBA_OUT_OF_RANGE, true)] {
+            let verdict = judge(&spaces, cntlid, &read, false);
+            assert_eq!(rt;
+                (
+                    judge(&spaces, cntlid, &write_past_the_end, false),
+                    matches!(verdict, Verdict::Allowed(_))
+                ),
+                (write, is_read)
+            );
+        }
         assert!(rt; spaces.blocks(1).is_some());
         assert!(rt; spaces.reservation_mut(1).clear(0xa1, 0x11).is_ok());
     }

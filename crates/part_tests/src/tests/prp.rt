@@ -64,10 +64,10 @@ fn the_later_block_is_kept(rt: HostRuntime) -> Result<(), Fail> {
         scatter_block(&mut window, &pieces, j, &[j as u8; 512]);
     }
     for block in 0..8 {
-        let first = window.piece(0x5000 + 512 * block, 512).ok_or("outside")?;
-        assert_eq!(rt; first, [block as u8; 512].as_slice());
-        let second = window.piece(0x6000 + 512 * block, 512).ok_or("outside")?;
-        assert_eq!(rt; second, [block as u8 + 16; 512].as_slice());
+        for (page, first) in [(0x5000, 0), (0x6000, 16)] {
+            let kept = window.piece(page + 512 * block, 512).ok_or("outside")?;
+            assert_eq!(rt; kept, [first + block as u8; 512].as_slice());
+        }
     }
     Ok(())
 }
@@ -112,9 +112,10 @@ fn thirty_three_pages(rt: HostRuntime) -> Result<(), Fail> {
         address: 0x2_f000,
         len: 3588,
     };
-    assert_eq!(rt; parts[0], first);
-    assert_eq!(rt; parts[31], whole(0x2_e000));
-    assert_eq!(rt; parts[32], last);
+    assert_eq!(rt;
+        [parts[0], parts[31], parts[32]],
+        [first, whole(0x2_e000), last]
+    );
     window.store(0x2_f000 + 3076, &[9; 512])?;
     let mut block = [0; 512];
     gather_block(&window, &pieces, 255, &mut block);

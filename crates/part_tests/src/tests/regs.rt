@@ -1,6 +1,7 @@
 //! The registers of a controller: what reads give, and what writes leave and ask.
 
-use nvme_regs::{AdminQueues, ControllerState, RegEffect, Registers};
+use nvme_regs::ControllerState::{Failed, Off, Ready, ShutDown};
+use nvme_regs::{AdminQueues, RegEffect, Registers};
 
 const CC: u64 = 0x14;
 
@@ -30,17 +31,19 @@ fn from_enabled_to_shut_down_off_and_failed(rt: HostRuntime) {
         cq_size: 32,
     };
     assert_eq!(rt; registers.admin_queues(), Some(queues));
-    assert_eq!(rt; registers.write32(CC, 0x0046_4001), RegEffect::Shutdown);
-    assert_eq!(rt; registers.read32(CSTS), 0x0000_0009);
-    assert_eq!(rt; registers.write32(CC, 0x0046_8001), RegEffect::Shutdown);
-    assert_eq!(rt; registers.write32(CC, 0x0046_0001), RegEffect::Nothing);
-    assert_eq!(rt; registers.state(), ControllerState::ShutDown);
-    assert_eq!(rt; registers.write32(CC, 0), RegEffect::Disable);
-    assert_eq!(rt; registers.read32(CSTS), 0);
-    assert_eq!(rt; registers.write32(CC, 0x0000_0001), RegEffect::Nothing);
-    assert_eq!(rt; registers.read32(CSTS), 0x0000_0002);
-    assert_eq!(rt; registers.write32(CC, 0), RegEffect::Disable);
-    assert_eq!(rt; registers.write32(CC, 0x0046_0001), RegEffect::Enable);
+    let steps = [
+        (0x0046_4001, RegEffect::Shutdown, ShutDown, 9),
+        (0x0046_8001, RegEffect::Shutdown, ShutDown, 9),
+        (0x0046_0001, RegEffect::Nothing, ShutDown, 9),
+        (0, RegEffect::Disable, Off, 0),
+        (0x0000_0001, RegEffect::Nothing, Failed, 2),
+        (0, RegEffect::Disable, Off, 0),
+        (0x0046_0001, RegEffect::Enable, Ready, 1),
+    ];
+    for (cc, effect, state, csts) in steps {
+        assert_eq!(rt; registers.write32(CC, cc), effect);
+        assert_eq!(rt; (registers.state(), registers.read32(CSTS)), (state, csts));
+    }
 }
 
 // Of each attempt to enable: AQA, ASQ, ACQ, CC, and CSTS afterwards.
@@ -116,12 +119,17 @@ fn an_enabled_controller_takes_a_notification_alone(rt: HostRuntime) {
     for offset in [0x24, 0x28, 0x2c, 0x30, 0x34, 0x08, CSTS, 0x38, 0x15] {
         assert_eq!(rt; registers.write32(offset, 0xffff_ffff), RegEffect::Nothing);
     }
-    assert_eq!(rt; registers.read32(0x24), 0x001f_0007);
-    assert_eq!(rt; registers.read32(0x28), 0);
-    assert_eq!(rt; registers.read32(0x2c), 0);
-    assert_eq!(rt; registers.read32(0x30), 0x1000);
-    assert_eq!(rt; registers.read32(0x34), 0);
-    assert_eq!(rt; registers.read32(CSTS), 1);
+    let kept = [
+        (0x24, 0x001f_0007),
+        (0x28, 0),
+        (0x2c, 0),
+        (0x30, 0x1000),
+        (0x34, 0),
+        (CSTS, 1),
+    ];
+    for (offset, value) in kept {
+        assert_eq!(rt; registers.read32(offset), value);
+    }
     assert_eq!(rt; registers.write32(CC, 0xffff_ffff), RegEffect::Nothing);
     assert_eq!(rt; registers.read32(CC), 0x0046_c001);
 }

@@ -52,8 +52,10 @@ fn preempt_of_all_registrants(rt: HostRuntime) -> Result<(), Fail> {
     reservation.acquire(0xa1, 6, 0x11)?;
     assert_eq!(rt; reservation.role(0xb2), Role::Holder);
     let change = reservation.preempt(0xb2, 1, 0x22, 0)?;
-    assert_eq!(rt; change.removed.as_slice(), [0xa1].as_slice());
-    assert_eq!(rt; reservation.hold(), Hold::One(1, 0xb2));
+    assert_eq!(rt;
+        (change.removed.as_slice(), reservation.hold()),
+        ([0xa1].as_slice(), Hold::One(1, 0xb2))
+    );
 
     let report = [
         3, 0, 0, 0, 1, 1, 0, 0, 0, 0, 0, 0, 0, 0, 0, 0, 0, 0, 0, 0, 0, 0, 0, 0, // header
@@ -65,13 +67,12 @@ fn preempt_of_all_registrants(rt: HostRuntime) -> Result<(), Fail> {
 
     for rtype in [1, 3] {
         let again = reservation.preempt(0xb2, rtype, 0x22, 0);
+        reservation.report_into(&CONTROLLERS, &mut data);
         assert_eq!(rt;
-            again.err(),
-            Some(Status::INVALID_FIELD_IN_COMMAND),
+            (again.err(), data.as_slice()),
+            (Some(Status::INVALID_FIELD_IN_COMMAND), report.as_slice()),
             "type {rtype}"
         );
-        reservation.report_into(&CONTROLLERS, &mut data);
-        assert_eq!(rt; data.as_slice(), report.as_slice(), "type {rtype}");
     }
     Ok(())
 }
@@ -79,14 +80,17 @@ fn preempt_of_all_registrants(rt: HostRuntime) -> Result<(), Fail> {
 #[test]
 fn registrants_leave(rt: HostRuntime) -> Result<(), Fail> {
     let mut reservation = Reservation::new();
-    register(&rt, &mut reservation, 0xa1, 0x11)?;
-    register(&rt, &mut reservation, 0xb2, 0x22)?;
-    register(&rt, &mut reservation, 0xc3, 0x33)?;
+    for (host, key) in [(0xa1, 0x11), (0xb2, 0x22), (0xc3, 0x33)] {
+        register(&rt, &mut reservation, host, key)?;
+    }
     reservation.acquire(0xa1, 5, 0x11)?;
-    reservation.unregister(0xa1, false, 0x11)?;
-    reservation.unregister(0xb2, false, 0x22)?;
-    assert_eq!(rt; reservation.hold(), Hold::All(5));
-    assert_eq!(rt; reservation.role(0xa1), Role::Outsider);
+    for (host, key) in [(0xa1, 0x11), (0xb2, 0x22)] {
+        reservation.unregister(host, false, key)?;
+        assert_eq!(rt;
+            (reservation.hold(), reservation.role(host)),
+            (Hold::All(5), Role::Outsider)
+        );
+    }
     reservation.unregister(0xc3, false, 0x33)?;
     assert_eq!(rt; reservation.hold(), Hold::Free);
 
@@ -111,17 +115,19 @@ fn key_zero(rt: HostRuntime) -> Result<(), Fail> {
     reservation.report_into(&CONTROLLERS, &mut generation);
     assert_eq!(rt; generation, [2, 0, 0, 0]);
     let other = register(&rt, &mut reservation, 0xa1, 1);
-    assert_eq!(rt; other.err(), Some(Status::RESERVATION_CONFLICT));
+    let preempt = reservation.preempt(0xa1, 1, 0, 5);
     assert_eq!(rt;
-        reservation.preempt(0xa1, 1, 0, 5).err(),
-        Some(Status::RESERVATION_CONFLICT)
+        [other.err(), preempt.err()],
+        [Some(Status::RESERVATION_CONFLICT); 2]
     );
     reservation.release(0xa1, 1, 0)?;
     assert_eq!(rt; reservation.hold(), Hold::Free);
     reservation.acquire(0xa1, 1, 0)?;
     let own_key = reservation.preempt(0xa1, 1, 0, 0);
-    assert_eq!(rt; own_key.err(), Some(Status::INVALID_FIELD_IN_COMMAND));
-    assert_eq!(rt; reservation.hold(), Hold::One(1, 0xa1));
+    assert_eq!(rt;
+        (own_key.err(), reservation.hold()),
+        (Some(Status::INVALID_FIELD_IN_COMMAND), Hold::One(1, 0xa1))
+    );
     Ok(())
 }
 

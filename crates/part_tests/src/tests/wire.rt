@@ -30,19 +30,24 @@ fn reads_each_double_word(rt: HostRuntime) {
         bytes[i] = i as u8;
     }
     let sqe = Sqe::from_bytes(&bytes);
-    assert_eq!(rt; sqe.opcode(), 0x00);
-    assert_eq!(rt; sqe.fuse(), 0b01);
-    assert_eq!(rt; sqe.psdt(), 0b00);
+    assert_eq!(rt; [sqe.opcode(), sqe.fuse(), sqe.psdt()], [0x00, 0b01, 0b00]);
     assert_eq!(rt; sqe.cid(), 0x0302);
-    assert_eq!(rt; sqe.nsid(), 0x0706_0504);
-    assert_eq!(rt; sqe.prp1(), 0x1f1e_1d1c_1b1a_1918);
-    assert_eq!(rt; sqe.prp2(), 0x2726_2524_2322_2120);
-    assert_eq!(rt; sqe.cdw10(), 0x2b2a_2928);
-    assert_eq!(rt; sqe.cdw11(), 0x2f2e_2d2c);
-    assert_eq!(rt; sqe.cdw12(), 0x3332_3130);
-    assert_eq!(rt; sqe.cdw13(), 0x3736_3534);
-    assert_eq!(rt; sqe.cdw14(), 0x3b3a_3938);
-    assert_eq!(rt; sqe.cdw15(), 0x3f3e_3d3c);
+    assert_eq!(rt;
+        [sqe.prp1(), sqe.prp2()],
+        [0x1f1e_1d1c_1b1a_1918, 0x2726_2524_2322_2120]
+    );
+    let double_words = [
+        (sqe.nsid(), 0x0706_0504),
+        (sqe.cdw10(), 0x2b2a_2928),
+        (sqe.cdw11(), 0x2f2e_2d2c),
+        (sqe.cdw12(), 0x3332_3130),
+        (sqe.cdw13(), 0x3736_3534),
+        (sqe.cdw14(), 0x3b3a_3938),
+        (sqe.cdw15(), 0x3f3e_3d3c),
+    ];
+    for (double_word, expected) in double_words {
+        assert_eq!(rt; double_word, expected);
+    }
     assert_eq!(rt; sqe.to_bytes().as_slice(), bytes.as_slice());
 }
 
