@@ -12,16 +12,18 @@ use Rattle.nvme_driver.specs.declared.faults.PlaceRefusal.{PlaceRefusal}
 use Rattle.nvme_driver.specs.declared.faults.UpFault.TheVariants.{AlreadyUp}
 use Rattle.nvme_driver.specs.declared.faults.PollFault.TheVariants as poll_fault
 use Rattle.nvme_driver.specs.Requests.{asked_of}
-use Rattle.nvme_fleet.specs.declared.event.FleetEvent.{FleetEvent}
-use Rattle.nvme_fleet.specs.declared.event.FleetEvent.TheVariants.{BringUp, Place, Ring, Fetch, Execute, Poll, Reset, RawStore, RawWrite32}
-use Rattle.nvme_fleet.specs.declared.seen.FleetSeen.{FleetSeen}
-use Rattle.nvme_fleet.specs.declared.seen.FleetSeen.TheVariants as seen
+use Rattle.nvme_event.specs.declared.event.FleetEvent.{FleetEvent}
+use Rattle.nvme_event.specs.declared.event.FleetEvent.TheVariants.{BringUp, Place, Ring, Fetch, Execute, Poll, Reset, RawStore, RawWrite32}
+use Rattle.nvme_event.specs.declared.seen.FleetSeen.{FleetSeen}
+use Rattle.nvme_event.specs.declared.seen.FleetSeen.TheVariants as seen
+use Rattle.nvme_event.specs.Replies.{Reply}
+use Rattle.nvme_event.specs.Events.{controller_of}
 use Rattle.nvme_fleet.specs.Mailboxes.{Item, FetchedItem, PostedAnswer, LaneBox, Mailbox, box_at, with_box, lane_of, names, with_mark}
-use Rattle.nvme_fleet.specs.Deliveries.{Reply, Reaction, reaction, recounted, ring_lane, brought_up, refusal, new_item, with_placed, placed_by, placed, rung, fetched_first, lane_at, fetched_of, answer_reply, handed_up, polled_io, polled_admin, polled_aborted, polled}
+use Rattle.nvme_fleet.specs.Deliveries.{Reaction, reaction, recounted, ring_lane, brought_up, refusal, new_item, with_placed, placed_by, placed, rung, fetched_first, lane_at, fetched_of, answer_reply, handed_up, polled_io, polled_admin, polled_aborted, polled}
 use Rattle.nvme_fleet.specs.Executions.{Response}
 use Rattle.nvme_fleet.specs.Fleets.{WithDriver, Fleet, Run, Is, called_at, host_at, after_answer, with_posted, answer_for}
 use Rattle.nvme_fleet.proofs.MailboxMarks.{DiffersInMarks, differs, others-differ}
-use Rattle.nvme_fleet.specs.Apart.{HasMailbox, ExecutesOwn, OwnStep, MailboxStep, controller_of}
+use Rattle.nvme_fleet.specs.Apart.{HasMailbox, ExecutesOwn, OwnStep, MailboxStep}
 use Rattle.nvme_fleet.specs.Tickets.{waiting, posted_answers, requests_in}
 use Rattle.nvme_fleet.specs.Answered.{Places, Conclusion, conclusion_of, Executes, Happens, HappensThen, IsClear, ResetClears, NewIsClear, WasPlacedAndExecuted, DoneIsItsExecution}
 use Rattle.nvme_fleet.proofs.Apart.{is-same, hosts_are_apart}

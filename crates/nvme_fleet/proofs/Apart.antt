@@ -6,15 +6,17 @@ use Rattle.nvme_spec.specs.declared.outcome.Marks.{Marks}
 use Rattle.nvme_machine.specs.declared.seen.Executed.{Executed}
 use Rattle.nvme_machine.specs.declared.seen.Executed.TheVariants.{Posted, NoSuch}
 use Rattle.nvme_machine.specs.Controllers.{Controller}
-use Rattle.nvme_fleet.specs.declared.event.FleetEvent.{FleetEvent}
-use Rattle.nvme_fleet.specs.declared.event.FleetEvent.TheVariants.{BringUp, Place, Ring, Fetch, Execute, Poll, Reset, RawStore, RawWrite32}
-use Rattle.nvme_fleet.specs.declared.seen.FleetSeen.{FleetSeen}
-use Rattle.nvme_fleet.specs.declared.seen.FleetSeen.TheVariants.{Executed as ExecutedSeen, NoController, NotRaw}
+use Rattle.nvme_event.specs.declared.event.FleetEvent.{FleetEvent}
+use Rattle.nvme_event.specs.declared.event.FleetEvent.TheVariants.{BringUp, Place, Ring, Fetch, Execute, Poll, Reset, RawStore, RawWrite32}
+use Rattle.nvme_event.specs.declared.seen.FleetSeen.{FleetSeen}
+use Rattle.nvme_event.specs.declared.seen.FleetSeen.TheVariants.{Executed as ExecutedSeen, NoController, NotRaw}
+use Rattle.nvme_event.specs.Replies.{Reply}
+use Rattle.nvme_event.specs.Events.{controller_of}
 use Rattle.nvme_fleet.specs.Mailboxes.{FetchedItem, Mailbox}
-use Rattle.nvme_fleet.specs.Deliveries.{Reply, Reaction, plain, fetched}
+use Rattle.nvme_fleet.specs.Deliveries.{Reaction, plain, fetched}
 use Rattle.nvme_fleet.specs.Executions.{Site, Answers}
 use Rattle.nvme_fleet.specs.Fleets.{Host, WithDriver, Raw, Fleet, Is, Completes, ExecutesItem, ExecutesAt, host_at, with_host, called_at, raw_at, fetched_at, settled, after_answer, site_of, marks_in, replaced, numbered}
-use Rattle.nvme_fleet.specs.Apart.{HasMailbox, Becomes, Posts, ExecutesOwn, OwnStep, OthersStep, MailboxStep, MovesOn, HostsAreApart, controller_of, marks_seen, marked_by}
+use Rattle.nvme_fleet.specs.Apart.{HasMailbox, Becomes, Posts, ExecutesOwn, OwnStep, OthersStep, MailboxStep, MovesOn, HostsAreApart, marks_seen, marked_by}
 use Rattle.nvme_fleet.proofs.MailboxMarks.{spared}
 use Rattle.nvme_fleet.proofs.HostPlaces.{replaced-other, replaced-here, own-set, called-other, raw-other, fetched-other, marks-numbered}
 

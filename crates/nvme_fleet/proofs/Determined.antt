@@ -20,12 +20,13 @@ use Rattle.nvme_machine.specs.Subsystems.{after_answer as after_machine_answer}
 use Rattle.nvme_machine.specs.Executing.{Setting, FinishesOne, FinishesOver, scene_in}
 use Rattle.nvme_machine.specs.Answers as machine
 use Rattle.nvme_machine.proofs.Determined as machine_proofs
-use Rattle.nvme_fleet.specs.declared.event.FleetEvent.{FleetEvent}
-use Rattle.nvme_fleet.specs.declared.event.FleetEvent.TheVariants.{BringUp, Place, Ring, Fetch, Execute, Poll, Reset, RawStore, RawWrite32}
-use Rattle.nvme_fleet.specs.declared.seen.FleetSeen.{FleetSeen}
-use Rattle.nvme_fleet.specs.declared.seen.FleetSeen.TheVariants.{Executed as ExecutedSeen}
+use Rattle.nvme_event.specs.declared.event.FleetEvent.{FleetEvent}
+use Rattle.nvme_event.specs.declared.event.FleetEvent.TheVariants.{BringUp, Place, Ring, Fetch, Execute, Poll, Reset, RawStore, RawWrite32}
+use Rattle.nvme_event.specs.declared.seen.FleetSeen.{FleetSeen}
+use Rattle.nvme_event.specs.declared.seen.FleetSeen.TheVariants.{Executed as ExecutedSeen}
+use Rattle.nvme_event.specs.Replies.{Reply}
 use Rattle.nvme_fleet.specs.Mailboxes.{FetchedItem, Mailbox, lane_of}
-use Rattle.nvme_fleet.specs.Deliveries.{Reply, Reaction, plain}
+use Rattle.nvme_fleet.specs.Deliveries.{Reaction, plain}
 use Rattle.nvme_fleet.specs.Executions.{Site, Response, scene_at, IsServed, AnswersIo, AnswersAs, Answers, io_verdict, admin_judgement, admin_response_by, admin_response, bytes_with, command_entry}
 use Rattle.nvme_fleet.specs.Fleets.{Host, WithDriver, Raw, Fleet, Moment, Is, Step, host_at, with_host, settled, called_at, raw_at, fetched_at, after_execution, after_raw, ExecutesItem, ExecutesRaw, ExecutesAt, setting_of}
 use Rattle.nvme_fleet.specs.FaultFree.{served, performance_of, io_response, response_as, response, executing_item, RawExecution, raw_over, raw_one, executing, fault_free_step, fault_free_replies, fault_free_left}

@@ -8,8 +8,8 @@ use Rattle.nvme_spec.specs.Layout.{reservation_of, may_write}
 use Rattle.nvme_spec.specs.World.{World, host_of}
 use Rattle.nvme_spec.proofs.Namespaces.{IsReserved, is-reserved}
 use Rattle.nvme_machine.proofs.Fencing.{may-still}
-use Rattle.nvme_fleet.specs.declared.event.FleetEvent.{FleetEvent}
-use Rattle.nvme_fleet.specs.Deliveries.{Reply}
+use Rattle.nvme_event.specs.declared.event.FleetEvent.{FleetEvent}
+use Rattle.nvme_event.specs.Replies.{Reply}
 use Rattle.nvme_fleet.specs.Fleets.{Fleet, Step, Run}
 use Rattle.nvme_fleet.specs.IoCommands.{IoCommand}
 use Rattle.nvme_fleet.specs.Fencing.{Allows, OnlyAllowedActionsReserve, LeavesReservation, PermissionsStay, RunWhere}

@@ -11,7 +11,7 @@ use Rattle.nvme_driver.specs.Drivers.{Driver, is_up}
 use Rattle.nvme_machine.specs.declared.fetched.FetchedCommand.{FetchedCommand}
 use Rattle.nvme_machine.specs.declared.seen.Fetched.TheVariants.{Idle}
 use Rattle.nvme_machine.specs.Controllers.{Controller, SubmissionQueue, fetchable, after_fetch, fetched_from, submission_at, most_fetched}
-use Rattle.nvme_fleet.specs.declared.seen.FleetSeen.TheVariants.{Fetched}
+use Rattle.nvme_event.specs.declared.seen.FleetSeen.TheVariants.{Fetched}
 use Rattle.nvme_fleet.specs.Mailboxes.{Item, Mailbox, box_at}
 use Rattle.nvme_fleet.specs.Deliveries.{Reaction, reaction, plain, fetched, fetched_first, fetched_of, lane_at}
 use Rattle.nvme_fleet.specs.Fleets.{raw_fetch}

@@ -9,10 +9,11 @@ use Rattle.nvme_machine.specs.Controllers.{Controller, after_fetch, after_write3
 use Rattle.nvme_machine.specs.Subsystems.{Subsystem}
 use Rattle.nvme_machine.specs.Executing.{Setting}
 use Rattle.nvme_driver.specs.Drivers.{Driver}
+use Rattle.nvme_event.specs.declared.seen.FleetSeen.{FleetSeen}
+use Rattle.nvme_event.specs.declared.seen.FleetSeen.TheVariants as seen
+use Rattle.nvme_event.specs.Replies.{Reply}
 use Rattle.nvme_fleet.specs.declared.delivery.DriverCall.{DriverCall}
-use Rattle.nvme_fleet.specs.declared.seen.FleetSeen.{FleetSeen}
-use Rattle.nvme_fleet.specs.declared.seen.FleetSeen.TheVariants as seen
-use Rattle.nvme_fleet.specs.Deliveries.{Reply, plain}
+use Rattle.nvme_fleet.specs.Deliveries.{plain}
 use Rattle.nvme_fleet.specs.Fleets.{Fleet, Is, ExecutesAt, called, fetched_at, host_at, raw_at, stored_seen}
 use Rattle.nvme_fleet.specs.Links.{LinkStep}
 use Rattle.nvme_driver.specs.Calls.{Writes}

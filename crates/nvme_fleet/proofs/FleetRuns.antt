@@ -7,11 +7,12 @@ use Rattle.nvme_driver.specs.declared.request.Request.{Request}
 use Rattle.nvme_driver.specs.declared.faults.PlaceRefusal.{PlaceRefusal}
 use Rattle.nvme_driver.specs.declared.lane.Lane.{Lane}
 use Rattle.nvme_machine.specs.Controllers as machine
-use Rattle.nvme_fleet.specs.declared.event.FleetEvent.{FleetEvent}
-use Rattle.nvme_fleet.specs.declared.event.FleetEvent.TheVariants.{BringUp, Place, Ring, Fetch, Execute, Poll, Reset, RawStore, RawWrite32}
-use Rattle.nvme_fleet.specs.declared.seen.FleetSeen.{FleetSeen}
+use Rattle.nvme_event.specs.declared.event.FleetEvent.{FleetEvent}
+use Rattle.nvme_event.specs.declared.event.FleetEvent.TheVariants.{BringUp, Place, Ring, Fetch, Execute, Poll, Reset, RawStore, RawWrite32}
+use Rattle.nvme_event.specs.declared.seen.FleetSeen.{FleetSeen}
+use Rattle.nvme_event.specs.Replies.{Reply}
 use Rattle.nvme_fleet.specs.Mailboxes.{Item, FetchedItem, Mailbox, box_at}
-use Rattle.nvme_fleet.specs.Deliveries.{Reply, Reaction, brought_up, refusal, placed_by, placed, rung, lane_at, fetched_first, fetched_of, reset}
+use Rattle.nvme_fleet.specs.Deliveries.{Reaction, brought_up, refusal, placed_by, placed, rung, lane_at, fetched_first, fetched_of, reset}
 use Rattle.nvme_fleet.specs.Fleets.{Host, WithDriver, Raw, Fleet, Is, Step, Run, ExecutesItem, ExecutesAt, called_at, raw_at, fetched_at, host_at}
 use Rattle.nvme_fleet.specs.Running.{RunsBehind, replied, room_for}
 use Rattle.nvme_fleet.specs.OwnRuns.{AreOwnRuns}

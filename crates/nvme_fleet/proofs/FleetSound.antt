@@ -12,8 +12,8 @@ use Rattle.nvme_machine.specs.Subsystems.{is_host_among, marked_from}
 use Rattle.nvme_subsys.specs.Marked.{marks_after}
 use Rattle.nvme_subsys.proofs.Sound.{length-after}
 use Rattle.nvme_driver.specs.Drivers.{Driver}
+use Rattle.nvme_event.specs.Replies.{Reply}
 use Rattle.nvme_fleet.specs.declared.delivery.DriverCall.{DriverCall}
-use Rattle.nvme_fleet.specs.Deliveries.{Reply}
 use Rattle.nvme_fleet.specs.FleetStates.{FleetState, SoundBy, IsCalled, IsSoundFleet}
 use Rattle.nvme_fleet.proofs.Hosting.{driver-same, mark-sound}
 use Rattle.nvme_fleet.proofs.HostedExecutions.{AllSound}

@@ -4,7 +4,7 @@ use Rattle.nvme_machine.specs.declared.seen.Executed.{Executed}
 use Rattle.nvme_machine.specs.Controllers.{Controller}
 use Rattle.nvme_machine.specs.Executing.{Setting, FinishesOne}
 use Rattle.nvme_driver.specs.Drivers.{Driver}
-use Rattle.nvme_fleet.specs.declared.seen.FleetSeen.TheVariants.{Executed as ExecutedSeen}
+use Rattle.nvme_event.specs.declared.seen.FleetSeen.TheVariants.{Executed as ExecutedSeen}
 use Rattle.nvme_fleet.specs.Deliveries.{plain}
 use Rattle.nvme_fleet.specs.Executions.{Answers}
 use Rattle.nvme_fleet.specs.Fleets.{Fleet, WithDriver, Completes, ExecutesItem, ExecutesAt, settled, site_of, setting_of, marks_in}

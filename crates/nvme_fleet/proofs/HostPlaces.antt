@@ -5,7 +5,7 @@ use Rattle.nvme_spec.specs.declared.outcome.Marks.{Marks}
 use Rattle.nvme_spec.specs.World.{World, host_of}
 use Rattle.nvme_machine.specs.Controllers.{Controller}
 use Rattle.nvme_machine.specs.Subsystems.{is_host_among}
-use Rattle.nvme_fleet.specs.declared.seen.FleetSeen.{FleetSeen}
+use Rattle.nvme_event.specs.declared.seen.FleetSeen.{FleetSeen}
 use Rattle.nvme_fleet.specs.Mailboxes.{Mailbox, with_marks}
 use Rattle.nvme_fleet.specs.Deliveries.{Reaction}
 use Rattle.nvme_fleet.specs.Fleets.{Host, WithDriver, Raw, Fleet, host_at, with_host, called_at, raw_at, fetched_at, marked, marked_from, numbered, replaced}

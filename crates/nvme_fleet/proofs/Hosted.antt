@@ -10,11 +10,12 @@ use Rattle.nvme_machine.specs.declared.seen.Fetched.{Fetched}
 use Rattle.nvme_machine.specs.declared.seen.Fetched.TheVariants.{Took, Idle}
 use Rattle.nvme_machine.specs.Controllers.{Controller, SubmissionQueue, after_fetch, fetched_from, fetchable}
 use Rattle.nvme_driver.specs.Drivers.{Driver}
+use Rattle.nvme_event.specs.declared.seen.FleetSeen.{FleetSeen}
+use Rattle.nvme_event.specs.declared.seen.FleetSeen.TheVariants as seen
+use Rattle.nvme_event.specs.Replies.{Reply}
 use Rattle.nvme_fleet.specs.declared.delivery.DriverCall.{DriverCall}
-use Rattle.nvme_fleet.specs.declared.seen.FleetSeen.{FleetSeen}
-use Rattle.nvme_fleet.specs.declared.seen.FleetSeen.TheVariants as seen
 use Rattle.nvme_fleet.specs.Mailboxes.{Mailbox}
-use Rattle.nvme_fleet.specs.Deliveries.{Reply, plain}
+use Rattle.nvme_fleet.specs.Deliveries.{plain}
 use Rattle.nvme_fleet.specs.Fleets.{WithDriver, Raw, Fleet, Is, host_at, with_host, called_at, called, raw_at, fetched_at, raw_fetch}
 use Rattle.nvme_fleet.specs.Sound.{mailbox}
 use Rattle.nvme_fleet.specs.FleetStates.{host_by, hosts_of, SoundBy, IsCalled, reaction_to}

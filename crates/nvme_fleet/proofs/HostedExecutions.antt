@@ -13,7 +13,7 @@ use Rattle.nvme_machine.specs.Executing.{Setting, setting, FinishesOne, Executes
 use Rattle.nvme_subsys.specs.Marked.{marks_after}
 use Rattle.nvme_subsys.proofs.Numbers.{set-same}
 use Rattle.nvme_driver.specs.Drivers.{Driver}
-use Rattle.nvme_fleet.specs.declared.seen.FleetSeen.TheVariants as seen
+use Rattle.nvme_event.specs.declared.seen.FleetSeen.TheVariants as seen
 use Rattle.nvme_fleet.specs.Deliveries.{plain}
 use Rattle.nvme_fleet.specs.Fleets.{Host, Fleet, ExecutesAt, host_at, marked, marked_from, marks_in, settled, site_of}
 use Rattle.nvme_fleet.specs.Sound.{Sound}

@@ -28,11 +28,12 @@ use Rattle.nvme_machine.specs.Answers as machine
 use Rattle.nvme_machine.specs.Executing.{Setting, FinishesOne, FinishesOver, scene_in}
 use Rattle.nvme_machine.proofs.AdminWorlds.{HasSameReservations, same-reservations, admin-keeps, command-becomes, still}
 use Rattle.nvme_machine.proofs.Denials.{io-answer}
-use Rattle.nvme_fleet.specs.declared.event.FleetEvent.{FleetEvent}
-use Rattle.nvme_fleet.specs.declared.event.FleetEvent.TheVariants.{Execute}
-use Rattle.nvme_fleet.specs.declared.seen.FleetSeen.TheVariants.{Executed as ExecutedSeen}
+use Rattle.nvme_event.specs.declared.event.FleetEvent.{FleetEvent}
+use Rattle.nvme_event.specs.declared.event.FleetEvent.TheVariants.{Execute}
+use Rattle.nvme_event.specs.declared.seen.FleetSeen.TheVariants.{Executed as ExecutedSeen}
+use Rattle.nvme_event.specs.Replies.{Reply}
 use Rattle.nvme_fleet.specs.Mailboxes.{FetchedItem, Mailbox, lane_of}
-use Rattle.nvme_fleet.specs.Deliveries.{Reply, plain}
+use Rattle.nvme_fleet.specs.Deliveries.{plain}
 use Rattle.nvme_fleet.specs.Executions.{Site, Response, scene_at, Answers, AnswersAs, AnswersIo, io_verdict, admin_judgement, admin_response_by, admin_response, command_entry}
 use Rattle.nvme_fleet.specs.Fleets.{Host, WithDriver, Raw, Fleet, host_at, settled, site_of, setting_of, ExecutesItem, ExecutesRaw, ExecutesAt}
 use Rattle.nvme_fleet.specs.IoCommands.{IoCommand, asked_command, raw_command, asked_in, asked_by, sent_by, command_in, command_at, AreNumbered, IsExecutedBy, verdict_on, ExecutedAsThePolicyAllows}

@@ -18,9 +18,10 @@ use Rattle.nvme_driver.specs.Drivers.{Driver, is_up}
 use Rattle.nvme_driver.specs.Polls as poll
 use Rattle.nvme_machine.specs.Controllers.{Controller}
 use Rattle.nvme_machine.specs.Executing.{Setting}
-use Rattle.nvme_fleet.specs.declared.seen.FleetSeen.TheVariants.{Placed, Polled}
+use Rattle.nvme_event.specs.declared.seen.FleetSeen.TheVariants.{Placed, Polled}
+use Rattle.nvme_event.specs.Replies.{Reply}
 use Rattle.nvme_fleet.specs.Deliveries as mail
-use Rattle.nvme_fleet.specs.Deliveries.{Reply, Reaction}
+use Rattle.nvme_fleet.specs.Deliveries.{Reaction}
 use Rattle.nvme_fleet.specs.Linked.{Linked, linked_controller, linked_setting}
 use Rattle.nvme_fleet.specs.Links.{with_controller}
 use Rattle.nvme_fleet.specs.Sound.{Sound, mailbox}

@@ -12,7 +12,7 @@ use Rattle.nvme_driver.specs.Drivers.{Driver, is_up, is_down, ring_calls, reset_
 use Rattle.nvme_driver.specs.Rises.{Rises}
 use Rattle.std.specs.Borrow.{GName}
 use Rattle.nvme_machine.specs.Executing.{Setting}
-use Rattle.nvme_fleet.specs.declared.seen.FleetSeen.TheVariants as seen
+use Rattle.nvme_event.specs.declared.seen.FleetSeen.TheVariants as seen
 use Rattle.nvme_fleet.specs.Mailboxes.{Mailbox}
 use Rattle.nvme_fleet.specs.Deliveries.{Reaction, brought_up, rung, reset, plain}
 use Rattle.nvme_fleet.specs.Sound.{Sound, is_failed, mailbox}

@@ -15,11 +15,12 @@ use Rattle.nvme_machine.specs.Executing.{Setting, FinishesOne, FinishesOver}
 use Rattle.nvme_machine.specs.Subsystems.{is_host_among, after_answer as after_machine_answer}
 use Rattle.nvme_subsys.proofs.Openings.{numbers}
 use Rattle.nvme_subsys.proofs.Sound.{store-id, write-id, fetch-id}
-use Rattle.nvme_fleet.specs.declared.event.FleetEvent.{FleetEvent}
-use Rattle.nvme_fleet.specs.declared.event.FleetEvent.TheVariants.{BringUp, Place, Ring, Fetch, Execute, Poll, Reset, RawStore, RawWrite32}
-use Rattle.nvme_fleet.specs.declared.seen.FleetSeen.{FleetSeen}
+use Rattle.nvme_event.specs.declared.event.FleetEvent.{FleetEvent}
+use Rattle.nvme_event.specs.declared.event.FleetEvent.TheVariants.{BringUp, Place, Ring, Fetch, Execute, Poll, Reset, RawStore, RawWrite32}
+use Rattle.nvme_event.specs.declared.seen.FleetSeen.{FleetSeen}
+use Rattle.nvme_event.specs.Replies.{Reply}
 use Rattle.nvme_fleet.specs.Mailboxes.{FetchedItem, Mailbox, new_mailbox}
-use Rattle.nvme_fleet.specs.Deliveries.{Reply, Reaction}
+use Rattle.nvme_fleet.specs.Deliveries.{Reaction}
 use Rattle.nvme_fleet.specs.Executions.{Site}
 use Rattle.nvme_fleet.specs.Fleets.{Host, WithDriver, Raw, Fleet, Moment, Is, Step, new_host, opening, replaced, host_at, with_host, marked, marked_from, settled, called_at, raw_at, fetched_at, ExecutesItem, ExecutesAt, setting_of}
 use Rattle.nvme_fleet.specs.IoCommands.{BearsItsNumber, AreNumbered, OpeningIsNumbered, NumbersStay}

@@ -13,10 +13,10 @@ use Rattle.nvme_machine.specs.Subsystems.{Subsystem}
 use Rattle.nvme_subsys.specs.Sound.{IsSound}
 use Rattle.nvme_subsys.proofs.Numbers as numbers
 use Rattle.nvme_subsys.proofs.Sound.{named-at}
+use Rattle.nvme_event.specs.Events as hosts
+use Rattle.nvme_event.specs.declared.event.FleetEvent.{FleetEvent}
 use Rattle.nvme_fleet.specs.Linked.{KeepsOthers, setting_in, controller_in, with_controller_at, ExecutesSeat}
 use Rattle.nvme_fleet.specs.Links.{LinkStep}
-use Rattle.nvme_fleet.specs.Apart as apart
-use Rattle.nvme_fleet.specs.declared.event.FleetEvent.{FleetEvent}
 use Rattle.nvme_fleet.specs.OwnRuns.{IsOwnRun, AreEventsOf, AreOwnEvents, AreOwnRuns, joined}
 use Rattle.nvme_fleet.proofs.OwnEvents.{one-own, reacted, plain-own, runs-both}
 use Rattle.nvme_fleet.proofs.Seating.{subsystem-of, controller-there, within-view}
@@ -60,7 +60,7 @@ joined-more : (own : List (List Event)) (more : List Event) → joined (own ++ m
 joined-more [] more = append-nil more
 joined-more (events ∷ own) more = ap (λ later. events ++ later) (joined-more own more) ∙ sym (append_assoc events (joined own) more)
 
-own-more : (events : List FleetEvent) (own : List (List Event)) (event : FleetEvent) (more : List Event) → AreOwnEvents events own → AreEventsOf (apart.controller_of event) more
+own-more : (events : List FleetEvent) (own : List (List Event)) (event : FleetEvent) (more : List Event) → AreOwnEvents events own → AreEventsOf (hosts.controller_of event) more
     → AreOwnEvents (events ++ event ∷ []) (own ++ more ∷ [])
 own-more [] [] event more h last = (last, tt)
 own-more [] (es ∷ own) event more h last = absurd h
@@ -72,7 +72,7 @@ no-runs tells a = record { own = []; seen = []; each = tt; run = refl }
 
 -- over the front of a list of events
 pub own-runs-next : (tells : Bool) (events : List FleetEvent) (i : ℕ) (d : FleetEvent) (a b c : Subsystem) → i < length events → AreOwnRuns tells (take i events) a b
-    → IsOwnRun tells (apart.controller_of (get_or events i d)) b c → AreOwnRuns tells (take (i + 1) events) a c
+    → IsOwnRun tells (hosts.controller_of (get_or events i d)) b c → AreOwnRuns tells (take (i + 1) events) a c
 own-runs-next tells events i d a b c inside runs last = record {
   own = runs.own ++ last.events ∷ [];
   seen = runs.seen ++ last.seen;

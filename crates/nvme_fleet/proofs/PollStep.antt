@@ -1,17 +1,17 @@
 use Rattle.nvme_driver.specs.declared.found.Found.{Found}
 use Rattle.nvme_driver.specs.declared.answer.Answer.TheVariants.{Done, Aborted}
 use Rattle.nvme_driver.specs.declared.faults.PollFault.TheVariants as poll_fault
-use Rattle.nvme_fleet.specs.declared.seen.FleetSeen.TheVariants.{Polled}
-use Rattle.nvme_fleet.specs.Views.{Slot, ticket_in}
+use Rattle.nvme_event.specs.declared.seen.FleetSeen.TheVariants.{Polled}
+use Rattle.nvme_event.specs.Replies.{Reply}
+use Rattle.nvme_fleet.specs.Views.{Slot, ticket_in, can_hear}
 use Rattle.nvme_fleet.specs.Lanes.{area}
 use Rattle.nvme_fleet.specs.Deliveries as step
-use Rattle.nvme_fleet.specs.Deliveries.{Reply, Reaction, reaction, plain, answer_reply, handed_up, polled_aborted, polled_admin, polled_io}
+use Rattle.nvme_fleet.specs.Deliveries.{Reaction, reaction, plain, answer_reply, handed_up, polled_aborted, polled_admin, polled_io}
 use Rattle.nvme_fleet.specs.Steps.{IsStep, PollIsAStep, after_calls}
 use Rattle.nvme_fleet.proofs.Places.{no-way}
 use Rattle.nvme_spec.specs.Limits.{most_bytes}
 use Rattle.nvme_spec.specs.Queues.{can_be_heard}
 use Rattle.nvme_driver.specs.Polls.{waiting_at}
-use Rattle.nvme_fleet.specs.Views.{can_hear}
 use Rattle.nvme_fleet.proofs.Slots.{few}
 use Rattle.nvme_fleet.proofs.Queues.{self-eqb}
 use Rattle.nvme_fleet.proofs.Orders.{pending-same, pending-other}

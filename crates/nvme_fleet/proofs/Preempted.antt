@@ -12,9 +12,9 @@ use Rattle.nvme_spec.specs.IoRules.{permits_group, conclusion}
 use Rattle.nvme_spec.specs.Layout.{reservation_of, may_write}
 use Rattle.nvme_spec.specs.World.{World, Namespace, host_of, namespace_of}
 use Rattle.nvme_machine.specs.declared.seen.Executed.TheVariants.{Posted}
-use Rattle.nvme_fleet.specs.declared.event.FleetEvent.{FleetEvent}
-use Rattle.nvme_fleet.specs.declared.event.FleetEvent.TheVariants.{Execute}
-use Rattle.nvme_fleet.specs.declared.seen.FleetSeen.TheVariants.{Executed as ExecutedSeen}
+use Rattle.nvme_event.specs.declared.event.FleetEvent.{FleetEvent}
+use Rattle.nvme_event.specs.declared.event.FleetEvent.TheVariants.{Execute}
+use Rattle.nvme_event.specs.declared.seen.FleetSeen.TheVariants.{Executed as ExecutedSeen}
 use Rattle.nvme_fleet.specs.Deliveries.{plain}
 use Rattle.nvme_fleet.specs.Fleets.{Fleet}
 use Rattle.nvme_fleet.specs.IoCommands.{IoCommand, AreNumbered, HasItsEffect, IsExecutedBy, verdict_on}

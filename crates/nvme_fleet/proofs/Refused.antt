@@ -22,8 +22,8 @@ use Rattle.nvme_machine.specs.declared.fetched.FetchedCommand.{FetchedCommand}
 use Rattle.nvme_machine.specs.declared.seen.Executed.TheVariants.{Posted}
 use Rattle.nvme_machine.specs.Controllers.{Controller}
 use Rattle.nvme_machine.proofs.Denials.{denied-verdict}
-use Rattle.nvme_fleet.specs.declared.event.FleetEvent.TheVariants.{Execute}
-use Rattle.nvme_fleet.specs.declared.seen.FleetSeen.TheVariants.{Executed as ExecutedSeen}
+use Rattle.nvme_event.specs.declared.event.FleetEvent.TheVariants.{Execute}
+use Rattle.nvme_event.specs.declared.seen.FleetSeen.TheVariants.{Executed as ExecutedSeen}
 use Rattle.nvme_fleet.specs.Mailboxes.{FetchedItem, lane_of}
 use Rattle.nvme_fleet.specs.Deliveries.{plain}
 use Rattle.nvme_fleet.specs.Executions.{io_judgement, action_of}

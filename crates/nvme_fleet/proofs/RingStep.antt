@@ -8,7 +8,7 @@ use Rattle.nvme_driver.specs.Layout.{queue_id, tail_doorbell}
 use Rattle.nvme_driver.specs.Drivers.{Driver, is_up, tail_of, ring_calls}
 use Rattle.nvme_driver.specs.Calls.{Writes}
 use Rattle.nvme_machine.specs.Controllers.{Controller, with_tail, submission_at, after_write32}
-use Rattle.nvme_fleet.specs.declared.seen.FleetSeen.TheVariants.{Rung}
+use Rattle.nvme_event.specs.declared.seen.FleetSeen.TheVariants.{Rung}
 use Rattle.nvme_fleet.specs.Deliveries.{Reaction, reaction, rung, ring_lane}
 use Rattle.nvme_fleet.specs.Lanes.{Both, pair, with_pair, mail, ring, ring_pair}
 use Rattle.nvme_fleet.specs.Sound.{Sound, IsPaired, host_side, device_side, mailbox}

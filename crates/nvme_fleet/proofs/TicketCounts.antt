@@ -13,15 +13,17 @@ use Rattle.nvme_driver.specs.declared.faults.PlaceRefusal.{PlaceRefusal}
 use Rattle.nvme_driver.specs.declared.faults.UpFault.TheVariants.{AlreadyUp}
 use Rattle.nvme_driver.specs.declared.faults.PollFault.TheVariants as poll_fault
 use Rattle.nvme_driver.specs.Requests.{asked_of}
-use Rattle.nvme_fleet.specs.declared.event.FleetEvent.{FleetEvent}
-use Rattle.nvme_fleet.specs.declared.event.FleetEvent.TheVariants.{BringUp, Place, Ring, Fetch, Execute, Poll, Reset, RawStore, RawWrite32}
-use Rattle.nvme_fleet.specs.declared.seen.FleetSeen.TheVariants as seen
+use Rattle.nvme_event.specs.declared.event.FleetEvent.{FleetEvent}
+use Rattle.nvme_event.specs.declared.event.FleetEvent.TheVariants.{BringUp, Place, Ring, Fetch, Execute, Poll, Reset, RawStore, RawWrite32}
+use Rattle.nvme_event.specs.declared.seen.FleetSeen.TheVariants as seen
+use Rattle.nvme_event.specs.Replies.{Reply}
+use Rattle.nvme_event.specs.Events.{controller_of}
 use Rattle.nvme_fleet.specs.Mailboxes.{Item, FetchedItem, PostedAnswer, LaneBox, Mailbox, box_at, with_box, lane_of, new_mailbox}
-use Rattle.nvme_fleet.specs.Deliveries.{Reply, Reaction, reaction, plain, recounted, ring_lane, brought_up, refusal, new_item, with_placed, placed_by, rung, fetched_first, lane_at, fetched_of, handed_up, polled_io, polled_admin, polled_aborted, reset}
+use Rattle.nvme_fleet.specs.Deliveries.{Reaction, reaction, plain, recounted, ring_lane, brought_up, refusal, new_item, with_placed, placed_by, rung, fetched_first, lane_at, fetched_of, handed_up, polled_io, polled_admin, polled_aborted, reset}
 use Rattle.nvme_fleet.specs.Executions.{Site, Response}
 use Rattle.nvme_fleet.specs.Fleets.{WithDriver, Raw, Fleet, Run, host_at, after_answer, new_host, numbered, opening}
 use Rattle.nvme_fleet.proofs.MailboxMarks.{DiffersInMarks, differs, others-differ}
-use Rattle.nvme_fleet.specs.Apart.{HasMailbox, Becomes, ExecutesOwn, OwnStep, MailboxStep, controller_of}
+use Rattle.nvme_fleet.specs.Apart.{HasMailbox, Becomes, ExecutesOwn, OwnStep, MailboxStep}
 use Rattle.nvme_fleet.specs.Tickets.{given_in, given, executed, done, aborted, along, held_tickets, waiting_tickets, answered_tickets, Balance, counting, TicketsAreConsecutive, is_ticket, times, below, GoesOnce, EachTicketGoesOnce, EachIsHeldOnce, NewHoldsEachOnce, OpeningHasDrivers, OpeningIsNew, TicketsOfAnOpeningGoOnce, HeldAreCounted, waiting, posted_answers, requests_in}
 use Rattle.nvme_fleet.proofs.Totals.{total-append}
 use Rattle.nvme_fleet.proofs.Apart.{hosts_are_apart}

@@ -9,7 +9,7 @@ use Rattle.nvme_driver.specs.declared.faults.PlaceRefusal.{PlaceRefusal}
 use Rattle.nvme_driver.specs.declared.faults.UpFault.TheVariants.{AlreadyUp}
 use Rattle.nvme_driver.specs.declared.faults.PollFault.TheVariants as poll_fault
 use Rattle.nvme_driver.specs.Requests.{asked_of}
-use Rattle.nvme_fleet.specs.declared.seen.FleetSeen.TheVariants.{Up, Rung, Polled}
+use Rattle.nvme_event.specs.declared.seen.FleetSeen.TheVariants.{Up, Rung, Polled}
 use Rattle.nvme_fleet.specs.Mailboxes.{Item, FetchedItem, PostedAnswer, LaneBox, Mailbox, box_at, with_box, lane_of, tickets_in, ranked, rising, open_tickets, names, with_mark, with_marks}
 use Rattle.nvme_fleet.specs.Deliveries.{Reaction, reaction, recounted, ring_lane, brought_up, refusal, new_item, with_placed, placed_by, placed, rung, fetched_first, lane_at, fetched_of, fetched, handed_up, polled_io, polled_admin, polled_aborted, polled, reset}
 use Rattle.nvme_fleet.specs.Executions.{Response}

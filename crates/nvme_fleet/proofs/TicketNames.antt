@@ -1,12 +1,13 @@
 -- A ticket names one request of a run.
 use Rattle.std.proofs.Common.{◌≡◌, inl, inr, ℕ, zero, suc, ◌+◌, ◌≤◌, ◌==◌, Bool, true, List, [], ◌∷◌, refl, sym, ap, subst, ◌∙◌, arith}
 use Rattle.nvme_driver.specs.Requests.{Asked, asked_of}
-use Rattle.nvme_fleet.specs.declared.event.FleetEvent.{FleetEvent}
-use Rattle.nvme_fleet.specs.declared.event.FleetEvent.TheVariants.{Place}
+use Rattle.nvme_event.specs.declared.event.FleetEvent.{FleetEvent}
+use Rattle.nvme_event.specs.declared.event.FleetEvent.TheVariants.{Place}
+use Rattle.nvme_event.specs.Replies.{Reply}
+use Rattle.nvme_event.specs.Events.{controller_of}
 use Rattle.nvme_fleet.specs.Mailboxes.{Item, Mailbox}
-use Rattle.nvme_fleet.specs.Deliveries.{Reply}
 use Rattle.nvme_fleet.specs.Fleets.{Fleet, Run}
-use Rattle.nvme_fleet.specs.Apart.{HasMailbox, MailboxStep, controller_of}
+use Rattle.nvme_fleet.specs.Apart.{HasMailbox, MailboxStep}
 use Rattle.nvme_fleet.specs.Tickets.{given_in, counting}
 use Rattle.nvme_fleet.specs.Answered.{Places, Executes, Happening, Happens, HappensThen, TicketNamesItsRequest, DoneAnswersItsRequest}
 use Rattle.nvme_fleet.proofs.Apart.{same-is, hosts_are_apart}

@@ -2,16 +2,18 @@
 use Rattle.std.proofs.Common.{◌≡◌, ℕ, ◌+◌, ◌==◌, Bool, true, false, List, [], ◌∷◌, Option, None, Some, refl, sym, ap, subst, ◌∙◌, arith}
 use Rattle.std.specs.Prelude.{if◌then◌else◌, slice_get}
 use Rattle.nvme_machine.specs.declared.seen.Executed.TheVariants.{Posted}
-use Rattle.nvme_fleet.specs.declared.event.FleetEvent.{FleetEvent}
-use Rattle.nvme_fleet.specs.declared.event.FleetEvent.TheVariants.{BringUp, Place, Ring, Fetch, Execute, Poll, Reset, RawStore, RawWrite32}
-use Rattle.nvme_fleet.specs.declared.seen.FleetSeen.{FleetSeen}
-use Rattle.nvme_fleet.specs.declared.seen.FleetSeen.TheVariants as seen
+use Rattle.nvme_event.specs.declared.event.FleetEvent.{FleetEvent}
+use Rattle.nvme_event.specs.declared.event.FleetEvent.TheVariants.{BringUp, Place, Ring, Fetch, Execute, Poll, Reset, RawStore, RawWrite32}
+use Rattle.nvme_event.specs.declared.seen.FleetSeen.{FleetSeen}
+use Rattle.nvme_event.specs.declared.seen.FleetSeen.TheVariants as seen
+use Rattle.nvme_event.specs.Replies.{Reply}
+use Rattle.nvme_event.specs.Events.{controller_of}
 use Rattle.nvme_fleet.specs.Mailboxes.{FetchedItem, Mailbox}
-use Rattle.nvme_fleet.specs.Deliveries.{Reply, Reaction, plain}
+use Rattle.nvme_fleet.specs.Deliveries.{Reaction, plain}
 use Rattle.nvme_fleet.specs.Executions.{Site}
 use Rattle.nvme_fleet.specs.Fleets.{Host, WithDriver, Fleet, Run, host_at, after_answer}
 use Rattle.nvme_fleet.specs.Views.{total}
-use Rattle.nvme_fleet.specs.Apart.{HasMailbox, Becomes, ExecutesOwn, OwnStep, MailboxStep, controller_of}
+use Rattle.nvme_fleet.specs.Apart.{HasMailbox, Becomes, ExecutesOwn, OwnStep, MailboxStep}
 use Rattle.nvme_fleet.specs.Tickets.{given_in, done_in, aborted_in, fetched_by, named_by, ticket_of, where_posted, given, executed, done, aborted, along, Balance, TicketsBalance, DriversStay}
 use Rattle.nvme_fleet.proofs.Totals.{total-append}
 use Rattle.nvme_fleet.proofs.Apart.{is-same, hosts_are_apart}

@@ -6,13 +6,15 @@ use Rattle.nvme_driver.specs.declared.request.Request.{Request}
 use Rattle.nvme_driver.specs.declared.faults.PlaceRefusal.{PlaceRefusal}
 use Rattle.nvme_driver.specs.declared.faults.UpFault.TheVariants.{AlreadyUp}
 use Rattle.nvme_driver.specs.declared.faults.PollFault.TheVariants as poll_fault
-use Rattle.nvme_fleet.specs.declared.event.FleetEvent.{FleetEvent}
-use Rattle.nvme_fleet.specs.declared.event.FleetEvent.TheVariants.{BringUp, Place, Ring, Fetch, Execute, Poll, Reset, RawStore, RawWrite32}
-use Rattle.nvme_fleet.specs.declared.seen.FleetSeen.TheVariants as seen
+use Rattle.nvme_event.specs.declared.event.FleetEvent.{FleetEvent}
+use Rattle.nvme_event.specs.declared.event.FleetEvent.TheVariants.{BringUp, Place, Ring, Fetch, Execute, Poll, Reset, RawStore, RawWrite32}
+use Rattle.nvme_event.specs.declared.seen.FleetSeen.TheVariants as seen
+use Rattle.nvme_event.specs.Replies.{Reply}
+use Rattle.nvme_event.specs.Events.{controller_of}
 use Rattle.nvme_fleet.specs.Mailboxes.{Item, FetchedItem, PostedAnswer, Mailbox, box_at}
-use Rattle.nvme_fleet.specs.Deliveries.{Reply, Reaction, reaction, recounted, ring_lane, brought_up, refusal, placed_by, rung, fetched_first, lane_at, fetched_of, polled_io, polled_admin, polled_aborted}
+use Rattle.nvme_fleet.specs.Deliveries.{Reaction, reaction, recounted, ring_lane, brought_up, refusal, placed_by, rung, fetched_first, lane_at, fetched_of, polled_io, polled_admin, polled_aborted}
 use Rattle.nvme_fleet.specs.Executions.{Site}
-use Rattle.nvme_fleet.specs.Apart.{Becomes, ExecutesOwn, OwnStep, MailboxStep, controller_of}
+use Rattle.nvme_fleet.specs.Apart.{Becomes, ExecutesOwn, OwnStep, MailboxStep}
 use Rattle.nvme_fleet.specs.Unseen.{IsUnseen, UnseenNeverComes}
 use Rattle.nvme_fleet.proofs.Apart.{same-is, hosts_are_apart}
 

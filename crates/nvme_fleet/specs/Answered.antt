@@ -6,11 +6,12 @@ use Rattle.nvme_machine.specs.declared.seen.Executed.TheVariants.{Posted}
 use Rattle.nvme_driver.specs.declared.answer.Answer.TheVariants.{Done}
 use Rattle.nvme_driver.specs.declared.request.Request.{Request}
 use Rattle.nvme_driver.specs.Requests.{asked_of}
-use Rattle.nvme_fleet.specs.declared.event.FleetEvent.{FleetEvent}
-use Rattle.nvme_fleet.specs.declared.event.FleetEvent.TheVariants.{Place, Execute, Poll}
-use Rattle.nvme_fleet.specs.declared.seen.FleetSeen.TheVariants.{Placed, Executed, Polled}
+use Rattle.nvme_event.specs.declared.event.FleetEvent.{FleetEvent}
+use Rattle.nvme_event.specs.declared.event.FleetEvent.TheVariants.{Place, Execute, Poll}
+use Rattle.nvme_event.specs.declared.seen.FleetSeen.TheVariants.{Placed, Executed, Polled}
+use Rattle.nvme_event.specs.Replies.{Reply}
 use Rattle.nvme_fleet.specs.Mailboxes.{Item, FetchedItem, Mailbox, new_mailbox}
-use Rattle.nvme_fleet.specs.Deliveries.{Reply, plain, reset}
+use Rattle.nvme_fleet.specs.Deliveries.{plain, reset}
 use Rattle.nvme_fleet.specs.Executions.{Response, Answers}
 use Rattle.nvme_fleet.specs.Fleets.{Fleet, Step, Run}
 use Rattle.nvme_fleet.specs.Apart.{HasMailbox}

@@ -6,26 +6,16 @@ use Rattle.nvme_spec.specs.World.{World, host_of}
 use Rattle.nvme_spec.specs.Execution.{no_marks}
 use Rattle.nvme_machine.specs.Subsystems.{is_host_among}
 use Rattle.nvme_machine.specs.declared.seen.Executed.TheVariants.{Posted, NoSuch}
-use Rattle.nvme_fleet.specs.declared.event.FleetEvent.{FleetEvent}
-use Rattle.nvme_fleet.specs.declared.event.FleetEvent.TheVariants.{BringUp, Place, Ring, Fetch, Execute, Poll, Reset, RawStore, RawWrite32}
-use Rattle.nvme_fleet.specs.declared.seen.FleetSeen.{FleetSeen}
-use Rattle.nvme_fleet.specs.declared.seen.FleetSeen.TheVariants.{Executed as ExecutedSeen, NotRaw}
+use Rattle.nvme_event.specs.declared.event.FleetEvent.{FleetEvent}
+use Rattle.nvme_event.specs.declared.event.FleetEvent.TheVariants.{BringUp, Place, Ring, Fetch, Execute, Poll, Reset, RawStore, RawWrite32}
+use Rattle.nvme_event.specs.declared.seen.FleetSeen.{FleetSeen}
+use Rattle.nvme_event.specs.declared.seen.FleetSeen.TheVariants.{Executed as ExecutedSeen, NotRaw}
+use Rattle.nvme_event.specs.Events.{controller_of}
+use Rattle.nvme_event.specs.Replies.{Reply}
 use Rattle.nvme_fleet.specs.Mailboxes.{FetchedItem, Mailbox, with_marks}
-use Rattle.nvme_fleet.specs.Deliveries.{Reply, plain, Reaction, brought_up, placed, rung, fetched, polled, reset}
+use Rattle.nvme_fleet.specs.Deliveries.{plain, Reaction, brought_up, placed, rung, fetched, polled, reset}
 use Rattle.nvme_fleet.specs.Executions.{Site, Response, Answers}
 use Rattle.nvme_fleet.specs.Fleets.{WithDriver, Fleet, Step, host_at, after_answer, marks_in}
-
--- the controller of an event's host
-abbrev pub controller_of : FleetEvent → ℕ
-controller_of (BringUp k) = k
-controller_of (Place k request) = k
-controller_of (Ring k) = k
-controller_of (Fetch k q) = k
-controller_of (Execute k i) = k
-controller_of (Poll k) = k
-controller_of (Reset k) = k
-controller_of (RawStore k address bytes) = k
-controller_of (RawWrite32 k offset v) = k
 
 -- controller k's host has a driver, whose mailbox this is
 abbrev pub HasMailbox : Fleet → ℕ → Mailbox → Type 0

@@ -11,14 +11,10 @@ use Rattle.nvme_driver.specs.declared.faults.PollFault.TheVariants as poll_fault
 use Rattle.nvme_driver.specs.Requests.{asked_of, is_bad}
 use Rattle.nvme_driver.specs.Drivers.{ticket_count}
 use Rattle.nvme_machine.specs.declared.seen.Fetched.TheVariants.{Took, Idle}
-use Rattle.nvme_fleet.specs.declared.seen.FleetSeen.{FleetSeen}
-use Rattle.nvme_fleet.specs.declared.seen.FleetSeen.TheVariants.{Up, Placed, Rung, Fetched, Polled, Reset}
+use Rattle.nvme_event.specs.declared.seen.FleetSeen.{FleetSeen}
+use Rattle.nvme_event.specs.declared.seen.FleetSeen.TheVariants.{Up, Placed, Rung, Fetched, Polled, Reset}
+use Rattle.nvme_event.specs.Replies.{Reply}
 use Rattle.nvme_fleet.specs.Mailboxes.{Item, PostedAnswer, LaneBox, Mailbox, empty_box, box_at, with_box, held, open_tickets}
-
--- What an event gives: what is seen, and the bytes that come with it.
-pub record Reply : Type 0 where
-  pub seen : FleetSeen
-  pub bytes : List ℕ
 
 abbrev pub plain : FleetSeen → Reply
 plain what = record { seen = what; bytes = [] }

@@ -1,8 +1,8 @@
 -- What a list of events gives is determined, but for faults of the medium.
 use Rattle.std.specs.Prelude.{◌≡◌, ◌<◌, ◌≤◌, ◌-◌, ◌^◌, ℕ, Bool, true, List}
 use Rattle.nvme_spec.specs.Layout.{IsLaidOut}
-use Rattle.nvme_fleet.specs.declared.event.FleetEvent.{FleetEvent}
-use Rattle.nvme_fleet.specs.Deliveries.{Reply}
+use Rattle.nvme_event.specs.declared.event.FleetEvent.{FleetEvent}
+use Rattle.nvme_event.specs.Replies.{Reply}
 use Rattle.nvme_fleet.specs.Fleets.{Fleet, Run}
 use Rattle.nvme_fleet.specs.FaultFree.{fault_free_replies, fault_free_left}
 

@@ -10,13 +10,13 @@ use Rattle.nvme_driver.specs.declared.answer.Answer.TheVariants.{Done, Aborted}
 use Rattle.nvme_driver.specs.declared.request.Request.{Request}
 use Rattle.nvme_driver.specs.declared.request.Request.TheVariants as request
 use Rattle.nvme_driver.specs.Requests.{asked_of}
-use Rattle.nvme_fleet.specs.declared.event.FleetEvent.{FleetEvent}
-use Rattle.nvme_fleet.specs.declared.event.FleetEvent.TheVariants.{BringUp, Place, Ring, Fetch, Execute, Poll}
-use Rattle.nvme_fleet.specs.declared.seen.FleetSeen.{FleetSeen}
-use Rattle.nvme_fleet.specs.declared.seen.FleetSeen.TheVariants as seen
+use Rattle.nvme_event.specs.declared.event.FleetEvent.{FleetEvent}
+use Rattle.nvme_event.specs.declared.event.FleetEvent.TheVariants.{BringUp, Place, Ring, Fetch, Execute, Poll}
+use Rattle.nvme_event.specs.declared.seen.FleetSeen.{FleetSeen}
+use Rattle.nvme_event.specs.declared.seen.FleetSeen.TheVariants as seen
+use Rattle.nvme_event.specs.Replies.{Reply}
 use Rattle.nvme_fleet.specs.Mailboxes.{FetchedItem, Mailbox, new_mailbox}
 use Rattle.nvme_fleet.specs.Deliveries as mail
-use Rattle.nvme_fleet.specs.Deliveries.{Reply}
 use Rattle.nvme_fleet.specs.Executions.{Response}
 use Rattle.nvme_fleet.specs.Fleets.{Fleet, opening, after_answer}
 use Rattle.nvme_fleet.specs.FaultFree.{fault_free_replies, fault_free_left}

@@ -18,11 +18,12 @@ use Rattle.nvme_machine.specs.Subsystems.{after_answer as after_machine_answer}
 use Rattle.nvme_machine.specs.Executing.{Setting, setting, scene_in}
 use Rattle.nvme_machine.specs.Answers as machine
 use Rattle.nvme_machine.specs.FaultFree.{fault_free_answer}
-use Rattle.nvme_fleet.specs.declared.event.FleetEvent.{FleetEvent}
-use Rattle.nvme_fleet.specs.declared.event.FleetEvent.TheVariants.{BringUp, Place, Ring, Fetch, Execute, Poll, Reset, RawStore, RawWrite32}
-use Rattle.nvme_fleet.specs.declared.seen.FleetSeen.TheVariants.{Executed as ExecutedSeen, NoController}
+use Rattle.nvme_event.specs.declared.event.FleetEvent.{FleetEvent}
+use Rattle.nvme_event.specs.declared.event.FleetEvent.TheVariants.{BringUp, Place, Ring, Fetch, Execute, Poll, Reset, RawStore, RawWrite32}
+use Rattle.nvme_event.specs.declared.seen.FleetSeen.TheVariants.{Executed as ExecutedSeen, NoController}
+use Rattle.nvme_event.specs.Replies.{Reply}
 use Rattle.nvme_fleet.specs.Mailboxes.{FetchedItem, Mailbox, lane_of}
-use Rattle.nvme_fleet.specs.Deliveries.{Reply, plain, brought_up, placed, rung, polled, reset}
+use Rattle.nvme_fleet.specs.Deliveries.{plain, brought_up, placed, rung, polled, reset}
 use Rattle.nvme_fleet.specs.Executions.{Site, Response, scene_at, command_entry, denial_response, bytes_with, action_of, io_verdict, admin_response}
 use Rattle.nvme_fleet.specs.Fleets.{Host, WithDriver, Raw, Fleet, Moment, moment, host_at, called, raw_stored, raw_wrote, fetched_at, after_execution, setting_of, after_raw}
 

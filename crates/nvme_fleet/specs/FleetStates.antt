@@ -1,19 +1,19 @@
 -- What contracts see of a fleet: its subsystem, the driver of each controller's host, and the room for the data of the
 -- last event. The k-th driver is that of controller k; a raw host has none.
-use Rattle.std.specs.Prelude.{◌≡◌, ◌≤◌, ℕ, List, [], ◌∷◌, length, take, Option, None, Some, slice_get, Ok, if◌then◌else◌}
+use Rattle.std.specs.Prelude.{◌≡◌, ◌≤◌, ℕ, List, [], ◌∷◌, length, take, Option, None, Some, slice_get, if◌then◌else◌}
 use Rattle.nvme_spec.specs.declared.config.ControllerConfig.{ControllerConfig}
 use Rattle.nvme_spec.specs.Limits.{most_bytes}
-use Rattle.nvme_driver.specs.declared.answer.Answer.TheVariants.{Done}
 use Rattle.nvme_driver.specs.Drivers.{Driver, new_driver}
 use Rattle.nvme_machine.specs.Controllers.{Controller}
 use Rattle.nvme_machine.specs.Subsystems.{Subsystem}
+use Rattle.nvme_event.specs.declared.seen.FleetSeen.{FleetSeen}
+use Rattle.nvme_event.specs.declared.seen.FleetSeen.TheVariants.{NoDriver}
+use Rattle.nvme_event.specs.Replies.{Reply, data_len}
 use Rattle.nvme_fleet.specs.declared.delivery.DriverCall.{DriverCall}
 use Rattle.nvme_fleet.specs.declared.delivery.DriverCall.TheVariants.{BringUp, Place, Ring, Poll, Reset}
-use Rattle.nvme_fleet.specs.declared.seen.FleetSeen.{FleetSeen}
-use Rattle.nvme_fleet.specs.declared.seen.FleetSeen.TheVariants.{Polled, NoDriver}
 use Rattle.nvme_fleet.specs.Mailboxes.{Mailbox}
 use Rattle.nvme_fleet.specs.Deliveries as mail
-use Rattle.nvme_fleet.specs.Deliveries.{Reply, Reaction, plain}
+use Rattle.nvme_fleet.specs.Deliveries.{Reaction, plain}
 use Rattle.nvme_fleet.specs.Fleets.{Host, WithDriver, Raw, Fleet}
 use Rattle.nvme_fleet.specs.Sound.{Sound, mailbox}
 use Rattle.nvme_fleet.specs.Steps.{IsStep}
@@ -48,11 +48,6 @@ fleet_of s = record {
 
 abbrev pub data_in : FleetState → List ℕ
 data_in s = take s.filled s.buffer
-
--- how many bytes come with what an event gives: those of a poll that hands data up
-abbrev pub data_len : FleetSeen → ℕ
-data_len (Polled (Ok (Some (Done ticket status dw0 len)))) = len
-data_len other = 0
 
 -- the reply: the bytes lie at the front of the buffer
 abbrev pub reply_in : FleetSeen → List ℕ → Reply

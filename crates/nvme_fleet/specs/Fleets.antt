@@ -15,12 +15,13 @@ use Rattle.nvme_machine.specs.declared.seen.Executed.TheVariants.{Posted, NoSuch
 use Rattle.nvme_machine.specs.Controllers as machine
 use Rattle.nvme_machine.specs.Subsystems.{is_host_among}
 use Rattle.nvme_machine.specs.Executing.{Setting, setting, ExecutesNth}
-use Rattle.nvme_fleet.specs.declared.event.FleetEvent.{FleetEvent}
-use Rattle.nvme_fleet.specs.declared.event.FleetEvent.TheVariants.{BringUp, Place, Ring, Fetch, Execute, Poll, Reset, RawStore, RawWrite32}
-use Rattle.nvme_fleet.specs.declared.seen.FleetSeen.{FleetSeen}
-use Rattle.nvme_fleet.specs.declared.seen.FleetSeen.TheVariants.{Fetched as FetchedSeen, Executed as ExecutedSeen, Stored, Outside, Wrote, NoController, NoDriver, NotRaw}
+use Rattle.nvme_event.specs.declared.event.FleetEvent.{FleetEvent}
+use Rattle.nvme_event.specs.declared.event.FleetEvent.TheVariants.{BringUp, Place, Ring, Fetch, Execute, Poll, Reset, RawStore, RawWrite32}
+use Rattle.nvme_event.specs.declared.seen.FleetSeen.{FleetSeen}
+use Rattle.nvme_event.specs.declared.seen.FleetSeen.TheVariants.{Fetched as FetchedSeen, Executed as ExecutedSeen, Stored, Outside, Wrote, NoController, NoDriver, NotRaw}
+use Rattle.nvme_event.specs.Replies.{Reply}
 use Rattle.nvme_fleet.specs.Mailboxes.{FetchedItem, PostedAnswer, LaneBox, Mailbox, new_mailbox, box_at, with_box, lane_of, with_marks}
-use Rattle.nvme_fleet.specs.Deliveries.{Reply, plain, Reaction, brought_up, placed, rung, fetched, polled, reset}
+use Rattle.nvme_fleet.specs.Deliveries.{plain, Reaction, brought_up, placed, rung, fetched, polled, reset}
 use Rattle.nvme_fleet.specs.Executions.{Site, Response, Answers}
 
 -- A host with a driver, or a raw one.

@@ -19,11 +19,12 @@ use Rattle.nvme_driver.specs.declared.lane.Lane.TheVariants.{Admin, Io}
 use Rattle.nvme_machine.specs.declared.fetched.FetchedCommand.{FetchedCommand}
 use Rattle.nvme_machine.specs.declared.seen.Executed.TheVariants.{Posted}
 use Rattle.nvme_machine.specs.Controllers.{Controller}
-use Rattle.nvme_fleet.specs.declared.event.FleetEvent.{FleetEvent}
-use Rattle.nvme_fleet.specs.declared.event.FleetEvent.TheVariants.{Execute}
-use Rattle.nvme_fleet.specs.declared.seen.FleetSeen.TheVariants.{Executed as ExecutedSeen}
+use Rattle.nvme_event.specs.declared.event.FleetEvent.{FleetEvent}
+use Rattle.nvme_event.specs.declared.event.FleetEvent.TheVariants.{Execute}
+use Rattle.nvme_event.specs.declared.seen.FleetSeen.TheVariants.{Executed as ExecutedSeen}
+use Rattle.nvme_event.specs.Replies.{Reply}
 use Rattle.nvme_fleet.specs.Mailboxes.{FetchedItem, lane_of}
-use Rattle.nvme_fleet.specs.Deliveries.{Reply, plain}
+use Rattle.nvme_fleet.specs.Deliveries.{plain}
 use Rattle.nvme_fleet.specs.Executions.{Site, scene_at, command_entry, io_judgement}
 use Rattle.nvme_fleet.specs.Fleets.{Host, WithDriver, Raw, Fleet, Step, Run, host_at, opening}
 

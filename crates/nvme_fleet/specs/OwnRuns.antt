@@ -4,8 +4,8 @@ use Rattle.std.specs.List.{AllByRecursion}
 use Rattle.nvme_machine.specs.declared.event.Event.{Event}
 use Rattle.nvme_machine.specs.declared.seen.Seen.{Seen}
 use Rattle.nvme_machine.specs.Subsystems.{Subsystem, Run, controller_of}
-use Rattle.nvme_fleet.specs.declared.event.FleetEvent.{FleetEvent}
-use Rattle.nvme_fleet.specs.Apart as apart
+use Rattle.nvme_event.specs.declared.event.FleetEvent.{FleetEvent}
+use Rattle.nvme_event.specs.Events as hosts
 use Rattle.nvme_fleet.specs.Linked.{Linked, linked_controller}
 
 abbrev pub AreEventsOf : ℕ → List Event → Type 0
@@ -26,7 +26,7 @@ joined (events ∷ later) = events ++ joined later
 -- for each event of hosts a list of events of its own controller
 abbrev pub AreOwnEvents : List FleetEvent → List (List Event) → Type 0
 AreOwnEvents [] [] = Unit {0}
-AreOwnEvents (event ∷ events) (own ∷ later) = AreEventsOf (apart.controller_of event) own × AreOwnEvents events later
+AreOwnEvents (event ∷ events) (own ∷ later) = AreEventsOf (hosts.controller_of event) own × AreOwnEvents events later
 AreOwnEvents [] (own ∷ later) = ⊥
 AreOwnEvents (event ∷ events) [] = ⊥
 

@@ -12,10 +12,11 @@ use Rattle.nvme_spec.specs.Reservation.{Reservation, is_registered, is_free}
 use Rattle.nvme_spec.specs.World.{World, host_of}
 use Rattle.nvme_machine.specs.declared.seen.Executed.TheVariants.{Posted}
 use Rattle.nvme_machine.specs.Subsystems.{is_host_among}
-use Rattle.nvme_fleet.specs.declared.event.FleetEvent.{FleetEvent}
-use Rattle.nvme_fleet.specs.declared.event.FleetEvent.TheVariants.{BringUp, Place, Ring, Fetch, Execute, Poll, Reset, RawStore, RawWrite32}
-use Rattle.nvme_fleet.specs.declared.seen.FleetSeen.TheVariants.{Executed as ExecutedSeen}
-use Rattle.nvme_fleet.specs.Deliveries.{Reply, plain}
+use Rattle.nvme_event.specs.declared.event.FleetEvent.{FleetEvent}
+use Rattle.nvme_event.specs.declared.event.FleetEvent.TheVariants.{BringUp, Place, Ring, Fetch, Execute, Poll, Reset, RawStore, RawWrite32}
+use Rattle.nvme_event.specs.declared.seen.FleetSeen.TheVariants.{Executed as ExecutedSeen}
+use Rattle.nvme_event.specs.Replies.{Reply}
+use Rattle.nvme_fleet.specs.Deliveries.{plain}
 use Rattle.nvme_fleet.specs.Fleets.{Fleet, Step}
 use Rattle.nvme_fleet.specs.IoCommands.{IoCommand, command_at, AreNumbered}
 use Rattle.nvme_fleet.specs.Fencing.{IsOn, IsAllowedAt, RunWhere, fenced}

@@ -1,9 +1,9 @@
 -- A run of events whose replies are added behind others.
 use Rattle.std.specs.Prelude.{◌≡◌, ◌<◌, ℕ, ◌-◌, Bool, List, ◌++◌, length, take}
 use Rattle.nvme_spec.specs.Limits.{most_bytes}
-use Rattle.nvme_fleet.specs.declared.event.FleetEvent.{FleetEvent}
-use Rattle.nvme_fleet.specs.declared.event.FleetEvent.TheVariants.{Poll}
-use Rattle.nvme_fleet.specs.Deliveries.{Reply}
+use Rattle.nvme_event.specs.declared.event.FleetEvent.{FleetEvent}
+use Rattle.nvme_event.specs.declared.event.FleetEvent.TheVariants.{Poll}
+use Rattle.nvme_event.specs.Replies.{Reply}
 use Rattle.nvme_fleet.specs.Fleets.{Fleet, Run}
 
 pub record RunsBehind (tells : Bool) (before : List Reply) (old : Fleet) (events : List FleetEvent) (after : List Reply)

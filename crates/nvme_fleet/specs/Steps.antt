@@ -23,6 +23,9 @@ use Rattle.nvme_machine.specs.declared.seen.Executed.{Executed}
 use Rattle.nvme_machine.specs.declared.seen.Executed.TheVariants.{Posted}
 use Rattle.nvme_machine.specs.Executing.{Setting, ExecutesNth}
 use Rattle.nvme_machine.specs.Subsystems.{after_answer as after_machine_answer}
+use Rattle.nvme_event.specs.declared.event.FleetEvent.TheVariants.{Execute}
+use Rattle.nvme_event.specs.declared.seen.FleetSeen.TheVariants.{Placed, Polled, Rung, Fetched, Reset, Executed as ExecutedSeen}
+use Rattle.nvme_event.specs.Replies.{Reply}
 use Rattle.nvme_fleet.specs.Mailboxes.{FetchedItem, new_mailbox, with_marks as mark_mailbox}
 use Rattle.nvme_fleet.specs.Executions.{Response, io_judgement, admin_judgement, IsServed, Answers}
 use Rattle.nvme_fleet.specs.Views.{received_in}
@@ -33,8 +36,6 @@ use Rattle.nvme_driver.specs.Calls.{Call, Stores, Writes, Reads, Turns}
 use Rattle.nvme_driver.specs.Drivers as driver
 use Rattle.nvme_driver.specs.Polls as poll
 use Rattle.nvme_machine.specs.Controllers.{Controller, new_controller, QueuePair, queues_of, with_marks, open_pair, after_store, after_write32, after_fetch}
-use Rattle.nvme_fleet.specs.declared.event.FleetEvent.TheVariants.{Execute}
-use Rattle.nvme_fleet.specs.declared.seen.FleetSeen.TheVariants.{Placed, Polled, Rung, Fetched, Reset, Executed as ExecutedSeen}
 use Rattle.nvme_fleet.specs.Deliveries as mail
 use Rattle.nvme_fleet.specs.Fleets.{Fleet, WithDriver, Step, raw_fetch, host_at, settled, site_of, setting_of, marks_in, after_answer}
 use Rattle.nvme_fleet.specs.Sound.{Sound, mailbox}
@@ -52,7 +53,7 @@ after_calls [] c = c
 after_calls (call ∷ calls) c = after_calls calls (after_call call c)
 
 -- The driver and its controller are sound then, and are the mailbox of a reaction; the event gives this.
-pub record IsStep (r : mail.Reaction) (d : driver.Driver) (c : Controller) (reply : mail.Reply) : Type 0 where
+pub record IsStep (r : mail.Reaction) (d : driver.Driver) (c : Controller) (reply : Reply) : Type 0 where
   pub sound : Sound d c
   pub mail : r.mailbox ≡ mailbox d c
   pub gives : r.reply ≡ reply
@@ -64,7 +65,7 @@ FetchIsAStep =
     → IsStep (mail.fetched q (mailbox d c)) d (after_fetch q c).controller (mail.plain (Fetched (raw_fetch c q)))
 
 -- A ring writes both lanes' tails to their doorbells, where the driver is up.
-abbrev pub rung_reply : Bool → mail.Reply
+abbrev pub rung_reply : Bool → Reply
 rung_reply true = mail.plain (Rung (Ok tt))
 rung_reply false = mail.plain (Rung (Err (record {})))
 

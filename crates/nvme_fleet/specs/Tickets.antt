@@ -6,15 +6,16 @@ use Rattle.nvme_spec.specs.Configuration.{Configuration}
 use Rattle.nvme_spec.specs.declared.config.ControllerConfig.{ControllerConfig}
 use Rattle.nvme_machine.specs.declared.seen.Executed.TheVariants.{Posted}
 use Rattle.nvme_driver.specs.declared.answer.Answer.TheVariants.{Done, Aborted}
-use Rattle.nvme_fleet.specs.declared.event.FleetEvent.{FleetEvent}
-use Rattle.nvme_fleet.specs.declared.event.FleetEvent.TheVariants.{Execute}
-use Rattle.nvme_fleet.specs.declared.seen.FleetSeen.{FleetSeen}
-use Rattle.nvme_fleet.specs.declared.seen.FleetSeen.TheVariants.{Placed, Executed, Polled}
+use Rattle.nvme_event.specs.declared.event.FleetEvent.{FleetEvent}
+use Rattle.nvme_event.specs.declared.event.FleetEvent.TheVariants.{Execute}
+use Rattle.nvme_event.specs.declared.seen.FleetSeen.{FleetSeen}
+use Rattle.nvme_event.specs.declared.seen.FleetSeen.TheVariants.{Placed, Executed, Polled}
+use Rattle.nvme_event.specs.Replies.{Reply}
+use Rattle.nvme_event.specs.Events.{controller_of}
 use Rattle.nvme_fleet.specs.Mailboxes.{Item, FetchedItem, PostedAnswer, LaneBox, Mailbox, new_mailbox, held}
-use Rattle.nvme_fleet.specs.Deliveries.{Reply}
 use Rattle.nvme_fleet.specs.Fleets.{Host, WithDriver, Raw, Fleet, Run, host_at, opening}
 use Rattle.nvme_fleet.specs.Views.{total}
-use Rattle.nvme_fleet.specs.Apart.{HasMailbox, controller_of}
+use Rattle.nvme_fleet.specs.Apart.{HasMailbox}
 
 -- What a mailbox holds.
 

@@ -4,13 +4,14 @@ use Rattle.std.specs.Prelude.{◌≡◌, ℕ, Bool, List, Err}
 use Rattle.nvme_machine.specs.declared.seen.Executed.TheVariants.{CqFull}
 use Rattle.nvme_driver.specs.declared.faults.UpFault.TheVariants.{NotReady, NoAnswer, Refused}
 use Rattle.nvme_driver.specs.declared.faults.PollFault.TheVariants.{UnknownCommand}
-use Rattle.nvme_fleet.specs.declared.event.FleetEvent.{FleetEvent}
-use Rattle.nvme_fleet.specs.declared.seen.FleetSeen.{FleetSeen}
-use Rattle.nvme_fleet.specs.declared.seen.FleetSeen.TheVariants.{Up, Executed, Polled}
+use Rattle.nvme_event.specs.declared.event.FleetEvent.{FleetEvent}
+use Rattle.nvme_event.specs.declared.seen.FleetSeen.{FleetSeen}
+use Rattle.nvme_event.specs.declared.seen.FleetSeen.TheVariants.{Up, Executed, Polled}
+use Rattle.nvme_event.specs.Replies.{Reply}
+use Rattle.nvme_event.specs.Events.{controller_of}
 use Rattle.nvme_fleet.specs.Mailboxes.{Mailbox}
-use Rattle.nvme_fleet.specs.Deliveries.{Reply}
 use Rattle.nvme_fleet.specs.Fleets.{Fleet, Run}
-use Rattle.nvme_fleet.specs.Apart.{HasMailbox, controller_of}
+use Rattle.nvme_fleet.specs.Apart.{HasMailbox}
 use Rattle.nvme_fleet.specs.Answered.{Happens}
 
 abbrev pub IsUnseen : FleetSeen → Type 0

@@ -3,7 +3,8 @@
 ghost use Rattle.std.specs.Prelude.{◌≡◌, ◌<◌, ◌≤◌, ◌+◌, length};
 ghost use Rattle.nvme_spec.specs.Limits.{most_bytes};
 ghost use Rattle.nvme_machine.specs.Subsystems.{Subsystem};
-ghost use Rattle.nvme_fleet.specs.FleetStates.{IsCalled, SoundBy, data_len, reaction_to, reply_in};
+ghost use Rattle.nvme_event.specs.Replies.{data_len};
+ghost use Rattle.nvme_fleet.specs.FleetStates.{IsCalled, SoundBy, reaction_to, reply_in};
 ghost use Rattle.nvme_fleet.specs.Linked.{KeepsOthers, KeepsSite, controller_in, linked_controller};
 ghost use Rattle.nvme_fleet.specs.OwnRuns.{IsLinkRun, IsOwnRun};
 ghost use Rattle.nvme_fleet.specs.Sound.{Sound, mailbox};
@@ -12,8 +13,8 @@ ghost use Rattle.nvme_fleet.specs.Steps.{IsStep};
 use crate::link::Link;
 use crate::member;
 use crate::seats::Reach;
-use crate::seen::FleetSeen;
 use nvme_driver::{Driver, Request};
+use nvme_event::FleetSeen;
 
 /// What is asked of a driver.
 #[derive(Clone, Copy)]

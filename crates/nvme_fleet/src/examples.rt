@@ -9,9 +9,8 @@ ghost use Rattle.nvme_fleet.specs.Executions.{Response};
 ghost use Rattle.nvme_fleet.specs.Tickets.{waiting_tickets, answered_tickets, held_tickets};
 ghost use Rattle.nvme_fleet.specs.Examples.{first_answered, carried, carried_by_admin, times, a_read, fetched_reads, seven_reads, caught_read, outcomes, done, done_with, aborted, placed, all_registrants, raw_seen_in, seen_in, seen_after, bytes_after};
 
-use crate::event::FleetEvent;
-use crate::seen::FleetSeen;
 use nvme_driver::{PlaceRefusal, PollFault, Request, UpFault};
+use nvme_event::{FleetEvent, FleetSeen};
 use nvme_machine::{Executed, Fetched};
 
 /// A host that never came up, one that came up twice, and one that is not there.

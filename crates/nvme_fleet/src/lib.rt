@@ -5,7 +5,6 @@
 #![tactic(auto)]
 
 mod delivery;
-mod event;
 mod examples;
 mod fleet;
 mod laws;
@@ -14,15 +13,11 @@ mod member;
 mod opening;
 mod place;
 mod poll;
-mod reply;
 mod running;
 mod seats;
-mod seen;
 
-pub use event::FleetEvent;
 pub use fleet::Fleet;
 pub use nvme_driver::{Answer, NotUp, PlaceRefusal, PollFault, Request, Ticket, UpFault};
+pub use nvme_event::{FleetEvent, FleetSeen, Reply};
 pub use nvme_machine::{Executed, Fetched};
 pub use nvme_subsys::NewFault;
-pub use reply::Reply;
-pub use seen::FleetSeen;

@@ -1,11 +1,11 @@
 //! A host's driver at its controller: each call is one event of a fleet, and the step of their mailbox.
 
+ghost use Rattle.nvme_event.specs.declared.seen.FleetSeen.TheVariants.{Up, Rung, Reset};
 ghost use Rattle.nvme_fleet.specs.Deliveries.{brought_up, rung, reset as reset_mailbox, plain};
 ghost use Rattle.nvme_fleet.specs.Linked.{KeepsSite, linked_controller};
 ghost use Rattle.nvme_fleet.specs.OwnRuns.{IsLinkRun};
 ghost use Rattle.nvme_fleet.specs.Sound.{Sound, mailbox};
 ghost use Rattle.nvme_fleet.specs.Steps.{IsStep};
-ghost use Rattle.nvme_fleet.specs.declared.seen.FleetSeen.TheVariants.{Up, Rung, Reset};
 
 use crate::link::Link;
 pub use crate::place::place;

@@ -1,6 +1,6 @@
 //! A placing by a fleet's driver.
 
-ghost use Rattle.nvme_fleet.specs.declared.seen.FleetSeen.TheVariants.{Placed};
+ghost use Rattle.nvme_event.specs.declared.seen.FleetSeen.TheVariants.{Placed};
 ghost use Rattle.nvme_fleet.specs.Deliveries.{placed, plain};
 ghost use Rattle.nvme_fleet.specs.Linked.{KeepsSite, linked_controller};
 ghost use Rattle.nvme_fleet.specs.OwnRuns.{IsLinkRun};

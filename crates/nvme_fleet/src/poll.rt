@@ -2,7 +2,7 @@
 
 ghost use Rattle.std.specs.Prelude.{◌≡◌, ◌≤◌, length, take};
 ghost use Rattle.nvme_spec.specs.Limits.{most_bytes};
-ghost use Rattle.nvme_fleet.specs.declared.seen.FleetSeen.TheVariants.{Polled};
+ghost use Rattle.nvme_event.specs.declared.seen.FleetSeen.TheVariants.{Polled};
 ghost use Rattle.nvme_fleet.specs.Deliveries.{polled};
 ghost use Rattle.nvme_fleet.specs.Linked.{KeepsSite, linked_controller};
 ghost use Rattle.nvme_fleet.specs.OwnRuns.{IsLinkRun};

@@ -1,16 +1,15 @@
 //! A run of events over a fleet.
 
 ghost use Rattle.std.specs.Prelude.{◌≡◌, ◌≤◌, [], vec_capacity, OnOk, OnErr};
-ghost use Rattle.nvme_fleet.specs.Apart.{controller_of};
+ghost use Rattle.nvme_event.specs.Events.{controller_of};
 ghost use Rattle.nvme_fleet.specs.FleetStates.{fleet_of};
 ghost use Rattle.nvme_fleet.specs.Fleets.{Step};
 ghost use Rattle.nvme_fleet.specs.OwnRuns.{AreOwnRuns, IsOwnRun};
 ghost use Rattle.nvme_fleet.specs.Running.{RunsBehind, RunsInPart, replied, room_for};
 
-use crate::event::FleetEvent;
 use crate::fleet::Fleet;
 use crate::opening::MOST_BYTES;
-use crate::reply::Reply;
+use nvme_event::{FleetEvent, Reply};
 use nvme_medium::Medium;
 use nvme_wire::NoMemory;
 use std::alloc::Global;

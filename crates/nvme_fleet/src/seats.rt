@@ -11,8 +11,8 @@ ghost use Rattle.nvme_fleet.specs.Fleets.{stored_seen};
 ghost use Rattle.nvme_fleet.specs.Linked.{controller_in, setting_in, with_controller_at, ExecutesSeat, KeepsOthers};
 ghost use Rattle.nvme_fleet.specs.Links.{LinkStep};
 
-use crate::seen::FleetSeen;
 use nvme_ctrl::Controller;
+use nvme_event::FleetSeen;
 use nvme_machine::{Executed, Fetched};
 use nvme_medium::Medium;
 use nvme_mem::Window;

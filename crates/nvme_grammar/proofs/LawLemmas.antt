@@ -5,9 +5,9 @@ use Rattle.std.specs.List.{filter_map, list_any}
 use Rattle.std.specs.Option.{is_some}
 use Rattle.std.proofs.lemmas.Bool.{false≢true, cases_lt}
 use Rattle.std.proofs.lemmas.List.Folds.{list_any-append}
+use Rattle.nvme_event.specs.declared.event.FleetEvent.{FleetEvent}
 use Rattle.nvme_grammar.specs.Script.{Begins, ArePlaced, IsFirstOutside, said, fits_behind, is_start, event_in, start_of, events_of}
 use Rattle.nvme_grammar.specs.declared.line.Line.{Line}
-use Rattle.nvme_fleet.specs.declared.event.FleetEvent.{FleetEvent}
 use Rattle.nvme_grammar.specs.declared.line.Line.TheVariants.{Blank, Controller, Namespace, Attached, Start, Event}
 use Rattle.nvme_grammar.proofs.ReadingLemmas.{started}
 use Rattle.nvme_grammar.proofs.ScriptLemmas.{Begins-take}

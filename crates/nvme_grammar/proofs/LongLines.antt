@@ -3,18 +3,18 @@ use Rattle.std.proofs.Common.{◌≡◌, ℕ, ◌<◌, ◌≤◌, Bool, true, fa
 use Rattle.std.specs.Prelude.{codes, if◌then◌else◌}
 use Rattle.std.specs.Str.{bytes_eq}
 use Rattle.std.proofs.lemmas.Slice.Eq.{bytes_eq-Decides}
-use Rattle.script_text.specs.Numbers.{number_at}
-use Rattle.nvme_fleet.specs.declared.event.FleetEvent.TheVariants.{Place}
+use Rattle.nvme_event.specs.declared.event.FleetEvent.TheVariants.{Place}
 use Rattle.nvme_driver.specs.declared.request.Request.{Request}
 use Rattle.nvme_driver.specs.declared.request.Request.TheVariants.{Attach, Detach}
+use Rattle.script_text.specs.Numbers.{number_at}
+use Rattle.script_text.specs.Words.{line_words, is_line_text, starts_apart}
+use Rattle.script_text.proofs.WordLemmas.{some_words}
 use Rattle.nvme_grammar.specs.Arity.{◌>>=◌}
 use Rattle.nvme_grammar.specs.Lent.{lent}
 use Rattle.nvme_grammar.specs.Requests.{request_at, numbers_at}
 use Rattle.nvme_grammar.specs.Events.{event_at}
 use Rattle.nvme_grammar.specs.Line.{sentence, event_line}
 use Rattle.nvme_grammar.specs.Lists.{list_event, list_request, long_line}
-use Rattle.script_text.specs.Words.{line_words, is_line_text, starts_apart}
-use Rattle.script_text.proofs.WordLemmas.{some_words}
 use Rattle.std.proofs.lemmas.List.{length-append}
 
 either : {B : Type 0} (b : Bool) (x y z : Option B) → x ≡ z → y ≡ z → (if b then x else y) ≡ z

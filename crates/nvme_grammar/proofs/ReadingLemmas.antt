@@ -8,7 +8,7 @@ use Rattle.std.proofs.lemmas.List.{append-nil}
 use Rattle.std.proofs.lemmas.List.Elements.{filter_map-append}
 use Rattle.nvme_spec.specs.declared.config.ControllerConfig.{ControllerConfig}
 use Rattle.nvme_spec.specs.declared.config.NsConfig.{NsConfig}
-use Rattle.nvme_fleet.specs.declared.event.FleetEvent.{FleetEvent}
+use Rattle.nvme_event.specs.declared.event.FleetEvent.{FleetEvent}
 use Rattle.nvme_grammar.specs.Script.{is_start, controller_in, namespace_in, attachment_in, fits_behind, start_in, Says}
 use Rattle.nvme_grammar.specs.Lent.{line_by_value}
 use Rattle.nvme_grammar.specs.Reading.{Reads}

@@ -1,11 +1,11 @@
 -- What a line behind `start` says: one event of a fleet.
 use Rattle.std.specs.Prelude.{ℕ, List, ◌∷◌, codes, Option, Some, None, option_map, if◌then◌else◌}
 use Rattle.std.specs.Str.{bytes_eq}
+use Rattle.nvme_event.specs.declared.event.FleetEvent.{FleetEvent}
+use Rattle.nvme_event.specs.declared.event.FleetEvent.TheVariants.{BringUp, Place, Ring, Fetch, Execute, Poll, Reset, RawStore, RawWrite32}
+use Rattle.nvme_driver.specs.declared.request.Request.TheVariants.{Identify}
 use Rattle.script_text.specs.Numbers.{number_at}
 use Rattle.script_text.specs.Data.{bytes_at}
-use Rattle.nvme_driver.specs.declared.request.Request.TheVariants.{Identify}
-use Rattle.nvme_fleet.specs.declared.event.FleetEvent.{FleetEvent}
-use Rattle.nvme_fleet.specs.declared.event.FleetEvent.TheVariants.{BringUp, Place, Ring, Fetch, Execute, Poll, Reset, RawStore, RawWrite32}
 use Rattle.nvme_grammar.specs.Arity.{◌>>=◌, one, two, three}
 use Rattle.nvme_grammar.specs.Lent.{lent}
 use Rattle.nvme_grammar.specs.Requests.{request_at}

@@ -1,8 +1,8 @@
 -- The lines of a worked example.
 use Rattle.std.specs.Prelude.{ℕ, List, [], ◌∷◌, codes}
 use Rattle.nvme_driver.specs.declared.request.Request.TheVariants.{Read}
-use Rattle.nvme_fleet.specs.declared.event.FleetEvent.{FleetEvent}
-use Rattle.nvme_fleet.specs.declared.event.FleetEvent.TheVariants.{BringUp, Place}
+use Rattle.nvme_event.specs.declared.event.FleetEvent.{FleetEvent}
+use Rattle.nvme_event.specs.declared.event.FleetEvent.TheVariants.{BringUp, Place}
 
 -- a controller, a namespace and a start
 abbrev pub example_setup : List (List ℕ)

@@ -1,9 +1,9 @@
 -- What one line of a script says.
 use Rattle.std.specs.Prelude.{ℕ, Bool, true, false, ◌==◌, List, [], ◌∷◌, codes, Option, Some, None, option_map, if◌then◌else◌}
 use Rattle.std.specs.Str.{bytes_eq}
+use Rattle.nvme_event.specs.declared.event.FleetEvent.{FleetEvent}
 use Rattle.script_text.specs.Numbers.{number_at}
 use Rattle.script_text.specs.Words.{line_words, is_line_text}
-use Rattle.nvme_fleet.specs.declared.event.FleetEvent.{FleetEvent}
 use Rattle.nvme_grammar.specs.Arity.{◌>>=◌, two, four}
 use Rattle.nvme_grammar.specs.Events.{event_at}
 use Rattle.nvme_grammar.specs.declared.line.Line.{Line}

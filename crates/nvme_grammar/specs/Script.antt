@@ -1,21 +1,16 @@
 -- A script: lines of the grammar, each where it may stand.
-use Rattle.std.specs.Prelude.{◌≡◌, ℕ, ◌+◌, ◌<◌, ◌≤◌, ◌==◌, Bool, true, false, not, List, [], ◌∷◌, ◌++◌, length, take, Option, Some, None, is_some, option_map, if◌then◌else◌}
-use Rattle.std.specs.List.{slice_split, filter_map, list_any, list_all}
+use Rattle.std.specs.Prelude.{◌≡◌, ℕ, ◌+◌, ◌<◌, ◌≤◌, Bool, true, false, not, List, [], ◌∷◌, ◌++◌, length, take, Option, Some, None, is_some, option_map, if◌then◌else◌}
+use Rattle.std.specs.List.{filter_map, list_any, list_all}
 use Rattle.nvme_spec.specs.Configuration.{Configuration, empty_configuration}
 use Rattle.nvme_spec.specs.declared.config.ControllerConfig.{ControllerConfig}
 use Rattle.nvme_spec.specs.declared.config.NsConfig.{NsConfig}
+use Rattle.nvme_event.specs.declared.event.FleetEvent.{FleetEvent}
 use Rattle.nvme_grammar.specs.Line.{line_at}
 use Rattle.nvme_grammar.specs.declared.line.Line.{Line}
 use Rattle.nvme_grammar.specs.declared.line.Line.TheVariants.{Blank, Controller, Namespace, Attached, Start, Event}
-use Rattle.nvme_fleet.specs.declared.event.FleetEvent.{FleetEvent}
 use Rattle.nvme_grammar.specs.declared.script.Script.{Script}
 use Rattle.nvme_grammar.specs.declared.script.ParseFault.{ParseFault}
 use Rattle.nvme_grammar.specs.declared.script.ParseFault.TheVariants.{Syntax, NoMemory}
-
--- the lines of a text: a line feed ends each but the last. Behind a last line feed stands an empty line, which says
--- nothing.
-abbrev pub text_lines : List ℕ → List (List ℕ)
-text_lines text = slice_split (λ b. b == 10) text
 
 abbrev pub is_start : Line → Bool
 is_start Start = true

@@ -8,7 +8,8 @@ ghost use Rattle.nvme_grammar.specs.Events.{alone, pair, identify, store, write3
 ghost use Rattle.nvme_grammar.specs.Lists.{list_request, list_event};
 
 use super::request::request_of;
-use nvme_fleet::{FleetEvent, Request};
+use nvme_driver::Request;
+use nvme_event::FleetEvent;
 use script_text::{bytes_in, number_u8, number_u16, number_u32, number_u64};
 
 /// `C`

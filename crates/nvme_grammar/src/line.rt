@@ -12,7 +12,7 @@ ghost use Rattle.nvme_grammar.specs.Lists.{long_line};
 use super::configuration::{attached_of, controller_of, namespace_of, start_of};
 use super::event::{event_of, list_event_of};
 use super::identifiers::long_list_of;
-use nvme_fleet::FleetEvent;
+use nvme_event::FleetEvent;
 use nvme_spec::{ControllerConfig, NsConfig};
 use script_text::words_of;
 

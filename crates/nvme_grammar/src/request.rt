@@ -9,7 +9,7 @@ ghost use Rattle.nvme_grammar.specs.Lent.{request_by_value};
 ghost use Rattle.nvme_grammar.specs.Requests.{on_blocks, with_data, bit_of, bit_at, keys_at, register, acquire, release, report, protect, with_list, request_at};
 
 use super::identifiers::list_of;
-use nvme_fleet::Request;
+use nvme_driver::Request;
 use script_text::{data_in, number_u8, number_u16, number_u32, number_u64};
 
 /// `SLBA BLOCKS`

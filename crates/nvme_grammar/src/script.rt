@@ -2,9 +2,10 @@
 
 ghost use Rattle.std.specs.Prelude.{◌≡◌, ◌+◌, ◌≤◌, ◌++◌, ◌∷◌, [], List, true, length, IfOk, IfErr, OnOk};
 ghost use Rattle.script_text.specs.Words.{most_words};
+ghost use Rattle.script_text.specs.Lines.{text_lines};
 ghost use Rattle.nvme_grammar.specs.Lent.{line_by_value};
 ghost use Rattle.nvme_grammar.specs.Room.{HasBytesRoom};
-ghost use Rattle.nvme_grammar.specs.Script.{text_lines, said, fits_behind, Begins, Says, IsParseFault};
+ghost use Rattle.nvme_grammar.specs.Script.{said, fits_behind, Begins, Says, IsParseFault};
 ghost use Rattle.nvme_grammar.specs.Reading.{Reads};
 ghost use Rattle.nvme_grammar.specs.declared.line.Line.{Line};
 ghost use Rattle.nvme_grammar.specs.declared.script.ParseFault.TheVariants.{NoMemory as MemoryRefused};

@@ -3,13 +3,14 @@ use Rattle.std.proofs.Common.{◌≡◌, ℕ, Bool, Option, None, Some, refl, sy
 use Rattle.nvme_driver.specs.declared.request.Request.{Request}
 use Rattle.nvme_driver.specs.declared.request.Request.TheVariants as request
 use Rattle.nvme_driver.specs.declared.faults.PlaceRefusal.{PlaceRefusal}
-use Rattle.nvme_fleet.specs.declared.event.FleetEvent.{FleetEvent}
-use Rattle.nvme_fleet.specs.declared.event.FleetEvent.TheVariants.{BringUp, Place, Ring, Fetch, Execute, Poll, Reset, RawStore, RawWrite32}
+use Rattle.nvme_event.specs.declared.event.FleetEvent.{FleetEvent}
+use Rattle.nvme_event.specs.declared.event.FleetEvent.TheVariants.{BringUp, Place, Ring, Fetch, Execute, Poll, Reset, RawStore, RawWrite32}
+use Rattle.nvme_event.specs.Replies.{Reply}
 use Rattle.nvme_fleet.specs.Mailboxes.{Mailbox}
-use Rattle.nvme_fleet.specs.Deliveries.{Reply, Reaction, placed, placed_by, refusal}
+use Rattle.nvme_fleet.specs.Deliveries.{Reaction, placed, placed_by, refusal}
 use Rattle.nvme_fleet.specs.Fleets.{Host, WithDriver, Raw, Fleet, Moment, Is, Step, called_at, host_at}
+use Rattle.nvme_transcript.specs.Transcript.{line_of}
 use Rattle.nvme_grammar.specs.Lent.{request_by_value, event_by_value}
-use Rattle.nvme_script.specs.Transcript.{line_of}
 
 -- a request is placed by what it asks
 placed-by_value : (m : Mailbox) (r : Request) → placed m (request_by_value r) ≡ placed m r

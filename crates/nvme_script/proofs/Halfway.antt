@@ -2,10 +2,10 @@
 use Rattle.std.proofs.Common.{◌≡◌, ◌≤◌, ◌<◌, ◌+◌, ℕ, Bool, List, [], ◌∷◌, ◌++◌, length, Option, Some, None, Bor, refl, sym, ap, ◌∙◌, subst, append_assoc, arith}
 use Rattle.std.specs.Prelude.{IfSome}
 use Rattle.std.proofs.lemmas.List.{append-nil}
-use Rattle.nvme_fleet.specs.declared.event.FleetEvent.{FleetEvent}
+use Rattle.nvme_event.specs.declared.event.FleetEvent.{FleetEvent}
 use Rattle.nvme_fleet.specs.Fleets.{Fleet}
-use Rattle.nvme_grammar.specs.Script.{text_lines, events_of}
-use Rattle.nvme_script.specs.Lines.{lines_left}
+use Rattle.script_text.specs.Lines.{text_lines, lines_left}
+use Rattle.nvme_grammar.specs.Script.{events_of}
 use Rattle.nvme_script.specs.Faults.{Transcribes, StopsAt, events_in}
 use Rattle.nvme_script.proofs.Texts.{events-append}
 use Rattle.nvme_script.proofs.Running.{Transcribes-none, Transcribes-append, StopsAt-behind}

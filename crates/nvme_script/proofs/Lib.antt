@@ -1,5 +1,4 @@
 pub mod ByValue
-pub mod LineLemmas
 pub mod Texts
 pub mod Lining
 pub mod Halfway

@@ -1,7 +1,7 @@
 -- The event of one line.
 use Rattle.std.proofs.Common.{◌≡◌, ℕ, List, [], ◌∷◌, Option, Some, None, refl, sym, ap, ◌∙◌}
 use Rattle.std.specs.Prelude.{option_map}
-use Rattle.nvme_fleet.specs.declared.event.FleetEvent.{FleetEvent}
+use Rattle.nvme_event.specs.declared.event.FleetEvent.{FleetEvent}
 use Rattle.nvme_grammar.specs.declared.line.Line.{Line}
 use Rattle.nvme_grammar.specs.declared.line.Line.TheVariants.{Blank, Controller, Namespace, Attached, Start, Event}
 use Rattle.nvme_grammar.specs.Lent.{line_by_value, event_by_value}

@@ -12,9 +12,10 @@ use Rattle.nvme_spec.specs.declared.config.ConfigFault.TheVariants as fault_of
 use Rattle.nvme_spec.specs.declared.config.ConfigFault.TheVariants.{NoMemory as WantOfMemory}
 use Rattle.nvme_fleet.specs.Fleets.{opening}
 use Rattle.nvme_ns.specs.Configured.{configuration}
+use Rattle.script_text.specs.Lines.{text_lines}
 use Rattle.nvme_grammar.specs.declared.line.Line.{Line}
 use Rattle.nvme_grammar.specs.declared.script.Script.{Script}
-use Rattle.nvme_grammar.specs.Script.{text_lines, said, Says, is_start, start_in, configuration_in, configuration_of}
+use Rattle.nvme_grammar.specs.Script.{said, Says, is_start, start_in, configuration_in, configuration_of}
 use Rattle.nvme_grammar.proofs.ReadingLemmas.{started}
 use Rattle.nvme_script.specs.declared.run.ScriptFault.TheVariants.{Config}
 use Rattle.nvme_script.specs.Faults.{IsScript, IsReady, IsEarlyFault, fleet_of_text, of_opening}

@@ -5,20 +5,15 @@ use Rattle.std.proofs.lemmas.Grind.{flat_map-append}
 use Rattle.std.specs.List.{flat_map, zip}
 use Rattle.std.specs.Io.KnownBytes.{Appends}
 use Rattle.std.specs.Prelude.{Result, Ok, Err, OnOk, OnErr, slice_get}
-use Rattle.nvme_fleet.specs.declared.event.FleetEvent.{FleetEvent}
-use Rattle.nvme_fleet.specs.Deliveries.{Reply}
+use Rattle.nvme_event.specs.declared.event.FleetEvent.{FleetEvent}
+use Rattle.nvme_event.specs.Replies.{Reply}
 use Rattle.nvme_fleet.specs.Fleets.{Fleet, Step, Run}
+use Rattle.script_text.specs.Writing.{Cuts}
+use Rattle.script_text.proofs.WritingLemmas.{Appends-more}
+use Rattle.nvme_transcript.specs.Transcript.{line_of, transcript}
 use Rattle.nvme_grammar.specs.Lent.{event_by_value}
 use Rattle.nvme_script.specs.Faults.{Transcribes, StopsAt}
-use Rattle.nvme_script.specs.Writing.{Cuts}
-use Rattle.nvme_script.specs.Transcript.{line_of, transcript}
 use Rattle.nvme_script.proofs.ByValue.{Step-by_value, line-by_value}
-
-pub Appends-more : (x y z : Option (List ℕ)) (p q : List ℕ) → Appends x y p → Appends y z q → Appends x z (p ++ q)
-Appends-more None y z p q h k = tt
-Appends-more (Some xs) None z p q h k = absurd h
-Appends-more (Some xs) (Some ys) None p q h k = absurd k
-Appends-more (Some xs) (Some ys) (Some zs) p q h k = k ∙ ap (λ t. t ++ q) h ∙ append_assoc xs p q
 
 Appends-none : (x : Option (List ℕ)) → Appends x x []
 Appends-none None = tt

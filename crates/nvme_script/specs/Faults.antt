@@ -1,31 +1,24 @@
 -- What a script's run gives, and what each fault says.
-use Rattle.std.specs.Prelude.{◌≡◌, ℕ, Bool, ◌<◌, ◌≤◌, List, [], ◌∷◌, ◌++◌, length, take, slice_get, Option, None, Some, IfSome, unwrap_or}
+use Rattle.std.specs.Prelude.{◌≡◌, ℕ, Bool, ◌<◌, ◌≤◌, List, [], ◌∷◌, ◌++◌, length, take, slice_get, Option, None, Some, unwrap_or}
 use Rattle.std.specs.Io.KnownBytes.{Appends}
 use Rattle.nvme_spec.specs.Blocks.{Device}
 use Rattle.nvme_spec.specs.Configuration.{first_config_fault}
-use Rattle.nvme_fleet.specs.declared.event.FleetEvent.{FleetEvent}
-use Rattle.nvme_fleet.specs.Deliveries.{Reply}
+use Rattle.nvme_event.specs.declared.event.FleetEvent.{FleetEvent}
+use Rattle.nvme_event.specs.Replies.{Reply}
 use Rattle.nvme_fleet.specs.Fleets.{Fleet, Run, opening}
 use Rattle.nvme_spec.specs.declared.config.ConfigFault.{ConfigFault}
 use Rattle.nvme_spec.specs.declared.config.ConfigFault.TheVariants.{NoMemory as WantOfMemory}
+use Rattle.script_text.specs.Lines.{text_lines}
+use Rattle.script_text.specs.Reading.{longest}
+use Rattle.script_text.specs.declared.reading.ReadFault.{ReadFault}
+use Rattle.script_text.specs.declared.reading.ReadFault.TheVariants as reading
+use Rattle.nvme_transcript.specs.Transcript.{line_of, transcript}
 use Rattle.nvme_grammar.specs.declared.script.Script.{Script}
-use Rattle.nvme_grammar.specs.Script.{text_lines, said, Begins, Says, IsFirstOutside, configuration_of, start_of, events_of}
+use Rattle.nvme_grammar.specs.Script.{said, Begins, Says, IsFirstOutside, configuration_of, start_of, events_of}
 use Rattle.nvme_grammar.specs.declared.script.ParseFault.{ParseFault}
 use Rattle.nvme_grammar.specs.declared.script.ParseFault.TheVariants as grammar
-use Rattle.nvme_script.specs.Transcript.{line_of, transcript}
-use Rattle.nvme_script.specs.declared.reading.ReadFault.{ReadFault}
-use Rattle.nvme_script.specs.declared.reading.ReadFault.TheVariants as reading
 use Rattle.nvme_script.specs.declared.run.ScriptFault.{ScriptFault}
 use Rattle.nvme_script.specs.declared.run.ScriptFault.TheVariants.{Syntax, Config, TooLong, NoMemory, Read, Write}
-
--- the longest script, in bytes
-abbrev pub longest : ℕ
-longest = 4194304
-
-abbrev pub IsReadFault : ReadFault → Option (List ℕ) → Type 0
-IsReadFault reading.TooLong input = IfSome input (λ text. longest < length text)
-IsReadFault reading.Read input = Unit {0}
-IsReadFault reading.NoMemory input = Unit {0}
 
 -- the events of a text, and the fleet that its configuration opens over a medium
 abbrev pub events_in : List ℕ → List FleetEvent

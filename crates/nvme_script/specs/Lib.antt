@@ -6,9 +6,6 @@ pub use Rattle.nvme_grammar.specs.Lent
 pub use Rattle.nvme_fleet.specs.Fleets
 pub use Rattle.nvme_fleet.specs.FleetStates
 pub use Rattle.nvme_fleet.specs.Deliveries
-pub mod Transcript
-pub mod Writing
 pub mod Faults
-pub mod Lines
 pub mod RunLaws
 pub mod Statuses

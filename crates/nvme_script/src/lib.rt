@@ -2,12 +2,8 @@
 #![tactic(auto)]
 
 mod laws;
-mod lines;
 mod program;
-mod reading;
 mod run;
-mod transcript;
-mod writing;
 
 pub use program::run_program;
 pub use run::{ScriptFault, run_script};

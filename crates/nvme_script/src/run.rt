@@ -8,14 +8,12 @@ ghost use Rattle.nvme_grammar.specs.Script.{events_of};
 ghost use Rattle.nvme_script.specs.Faults.{IsScript, IsReady, Transcribes, StopsAt, Runs, IsEarlyFault, IsFault, IsWrite, events_in, of_reading, of_grammar, of_opening};
 ghost use Rattle.nvme_script.specs.declared.run.ScriptFault.TheVariants.{NoMemory as MemoryRefused};
 
-use crate::lines::front_line;
-use crate::reading::{ReadFault, read_text};
-use crate::transcript::TranscriptLine;
-use crate::writing::{LONGEST_LINE, write_line};
 use nvme_fleet::{Fleet, NewFault};
 use nvme_grammar::{Buffers, Line, ParseFault, Script, parse, parse_line};
 use nvme_medium::Medium;
 use nvme_spec::ConfigFault;
+use nvme_transcript::{LONGEST_LINE, TranscriptLine, write_line};
+use script_text::{ReadFault, front_line, read_text};
 use std::alloc::{AllocError, Global};
 use std::io;
 use std::io::{Read, Write};

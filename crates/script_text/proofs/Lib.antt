@@ -1,7 +1,9 @@
 mod DecodeLemmas
 mod FillLemmas
 mod HexTextLemmas
+mod LineLemmas
 pub mod OnLiterals
 mod NumberLemmas
 mod TrimLemmas
 pub mod WordLemmas
+pub mod WritingLemmas

@@ -1,15 +1,21 @@
-//! The pieces of a script's text: the words of a line, the numbers and the data that words spell, and the
-//! data that a transcript shows.
+//! The pieces of a script's text: a text read to its end, its lines, the words of a line, the numbers and the data that
+//! words spell, the data that a transcript shows, and bytes on their way to a writer.
 #![tactic(auto)]
 
 mod data;
 mod decoding;
 mod examples;
 mod hex_text;
+mod lines;
 mod number;
+mod reading;
 mod words;
+mod writing;
 
 pub use data::{bytes_in, data_in};
 pub use hex_text::HexText;
+pub use lines::front_line;
 pub use number::{number_u8, number_u16, number_u32, number_u64};
+pub use reading::{ReadFault, read_text};
 pub use words::{FirstWord, FrontWords, MOST_WORDS, first_word, words_of};
+pub use writing::write_whole;

@@ -1,9 +1,10 @@
 use Rattle.std.proofs.Common.{◌≡◌, ◌+◌, List, ℕ, length, take, true, false, None, refl, sym, ap, subst, ◌∙◌, rules, tests, of_calls, arith, take_all, length-append}
 use Rattle.std.specs.Prelude.{◌==◌, option_map}
+use Rattle.script_text.specs.Lines.{text_lines}
 use Rattle.nvme_grammar.specs.Lent.{line_by_value}
 use Rattle.std.proofs.lemmas.Iterator.Consumers.{YieldsList-from_enumerate, YieldsList-at}
 use Rattle.std.proofs.lemmas.Iterator.Splits.{YieldsList-from_slice_split}
-use Rattle.nvme_grammar.specs.Script.{text_lines, said, Begins}
+use Rattle.nvme_grammar.specs.Script.{said, Begins}
 use Rattle.nvme_grammar.specs.Reading.{Reads}
 use Rattle.nvme_grammar.specs.declared.line.Line.{Line}
 use Rattle.nvme_grammar.proofs.ScriptLemmas.{AllBegin-none, first_unread, first_misplaced, AllBegin-next, said-next, length-said-taken, line_turn, line_end}

@@ -1,7 +1,8 @@
 use Rattle.std.proofs.Common.{take, length}
 use Rattle.std.specs.List.{enumerate_from}
 use Rattle.std.proofs.lemmas.Iterator.{YieldsList}
-use Rattle.nvme_grammar.specs.Script.{text_lines, said}
+use Rattle.script_text.specs.Lines.{text_lines}
+use Rattle.nvme_grammar.specs.Script.{said}
 use Rattle.nvme_grammar.specs.Reading.{Reads}
 use Rattle.nvme_grammar.proofs.ScriptLemmas.{AllBegin}
 use Rattle.nvme_grammar.proofs.script.parse.Given as goal

@@ -1,6 +1,6 @@
 use Rattle.std.proofs.Common.{take, sym, subst}
-use Rattle.nvme_fleet.specs.Apart.{controller_of}
-use Rattle.nvme_fleet.specs.Deliveries.{Reply}
+use Rattle.nvme_event.specs.Events.{controller_of}
+use Rattle.nvme_event.specs.Replies.{Reply}
 use Rattle.nvme_fleet.specs.Fleets.{Step}
 use Rattle.nvme_fleet.specs.FleetStates.{FleetState, fleet_of, reply_in}
 use Rattle.nvme_fleet.specs.OwnRuns.{IsOwnRun}

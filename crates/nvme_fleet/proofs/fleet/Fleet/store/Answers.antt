@@ -1,6 +1,6 @@
 use Rattle.std.proofs.Common.{◌<◌, ◌∙◌, length, sym, ap, subst, arith, refl}
 use Rattle.nvme_machine.specs.Controllers.{Controller, after_store}
-use Rattle.nvme_fleet.specs.Deliveries.{Reply}
+use Rattle.nvme_event.specs.Replies.{Reply}
 use Rattle.nvme_fleet.specs.Fleets.{Is, host_at, raw_at, stored_seen}
 use Rattle.nvme_fleet.specs.FleetStates.{FleetState, fleet_of, reply_in}
 use Rattle.nvme_fleet.proofs.FleetCalls.{changes, is-not-raw, no-data, with-subsystem}

@@ -1,6 +1,6 @@
 use Rattle.std.proofs.Common.{◌<◌, ◌∙◌, length, sym, subst, arith, refl}
 use Rattle.nvme_machine.specs.Controllers.{after_write32}
-use Rattle.nvme_fleet.specs.declared.seen.FleetSeen.TheVariants as seen
+use Rattle.nvme_event.specs.declared.seen.FleetSeen.TheVariants as seen
 use Rattle.nvme_fleet.specs.FleetStates.{FleetState}
 use Rattle.nvme_fleet.proofs.FleetCalls.{changes, is-not-raw, written}
 use Rattle.nvme_fleet.proofs.OwnEvents.{none-own}

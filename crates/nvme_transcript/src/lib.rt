@@ -1,0 +1,8 @@
+//! The transcript of a script: a line for each event, which shows what it gave to see.
+#![tactic(auto)]
+
+mod line;
+mod writing;
+
+pub use line::TranscriptLine;
+pub use writing::{LONGEST_LINE, write_line};

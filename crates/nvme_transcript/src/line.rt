@@ -1,0 +1,171 @@
+//! How the transcript shows what an event gave.
+
+ghost use Rattle.std.specs.Prelude.{Some};
+ghost use Rattle.nvme_transcript.specs.Transcript.{answer_text, data_text, event_text, executed_text, fetched_text, polled_text, subject_text, up_text};
+
+use nvme_driver::{Answer, PollFault, UpFault};
+use nvme_event::{FleetEvent, FleetSeen};
+use nvme_machine::{Executed, Fetched};
+use script_text::HexText;
+use std::fmt;
+
+/// The line of an event: what it gave to see, and the data that came with it.
+#[derive(Clone, Copy)]
+pub struct TranscriptLine<'a> {
+    pub event: FleetEvent<'a>,
+    pub seen: &'a FleetSeen,
+    pub bytes: &'a [u8],
+}
+
+impl fmt::Display for TranscriptLine<'_> {
+    ghost output = { λ line. Some (event_text line.event line.seen.now line.bytes.now) };
+
+    fn fmt<W: fmt::Write>(&self, f: &mut fmt::Formatter<W>) -> fmt::Result {
+        let cntlid = self.event.cntlid();
+        let subject = Subject(self.event);
+        match self.seen {
+            FleetSeen::Up(up) => write!(f, "up {cntlid} {}", UpText(up)),
+            FleetSeen::Placed(Ok(ticket)) => write!(f, "placed {cntlid} {}", ticket.0),
+            FleetSeen::Placed(Err(refusal)) => write!(f, "refused {cntlid} {refusal}"),
+            FleetSeen::Rung(Ok(())) => write!(f, "rung {cntlid}"),
+            FleetSeen::Rung(Err(fault)) => write!(f, "rung {cntlid} {fault}"),
+            FleetSeen::Fetched(fetched) => write!(f, "fetch {subject} {}", FetchedText(fetched)),
+            FleetSeen::Executed(executed) => {
+                write!(f, "execute {subject} {}", ExecutedText(executed))
+            }
+            FleetSeen::Polled(polled) => {
+                let bytes = self.bytes;
+                write!(f, "poll {cntlid} {}", PolledText { polled, bytes })
+            }
+            FleetSeen::Reset => write!(f, "reset {cntlid}"),
+            FleetSeen::Stored => write!(f, "stored {cntlid}"),
+            FleetSeen::Outside => write!(f, "outside {cntlid}"),
+            FleetSeen::Wrote => write!(f, "wrote32 {cntlid}"),
+            FleetSeen::NoController => write!(f, "nocontroller {cntlid}"),
+            FleetSeen::NoDriver => write!(f, "nodriver {cntlid}"),
+            FleetSeen::NotRaw => write!(f, "notraw {cntlid}"),
+        }
+    }
+}
+
+/// The controller of an event, with the queue of a fetch or the place of an execution.
+#[derive(Clone, Copy)]
+struct Subject<'a>(FleetEvent<'a>);
+
+impl fmt::Display for Subject<'_> {
+    ghost output = { λ subject. Some (subject_text subject.0) };
+
+    fn fmt<W: fmt::Write>(&self, f: &mut fmt::Formatter<W>) -> fmt::Result {
+        match self.0 {
+            FleetEvent::Fetch(cntlid, qid) => write!(f, "{cntlid} {qid}"),
+            FleetEvent::Execute(cntlid, i) => write!(f, "{cntlid} {i}"),
+            event => write!(f, "{}", event.cntlid()),
+        }
+    }
+}
+
+/// What came of bringing a controller up.
+#[derive(Clone, Copy)]
+struct UpText<'a>(&'a Result<(), UpFault>);
+
+impl fmt::Display for UpText<'_> {
+    ghost output = { λ text. Some (up_text text.0.now) };
+
+    fn fmt<W: fmt::Write>(&self, f: &mut fmt::Formatter<W>) -> fmt::Result {
+        match self.0 {
+            Ok(()) => write!(f, "ok"),
+            Err(fault) => write!(f, "{fault}"),
+        }
+    }
+}
+
+/// What came of a fetch.
+#[derive(Clone, Copy)]
+struct FetchedText<'a>(&'a Fetched);
+
+impl fmt::Display for FetchedText<'_> {
+    ghost output = { λ text. Some (fetched_text text.0.now) };
+
+    fn fmt<W: fmt::Write>(&self, f: &mut fmt::Formatter<W>) -> fmt::Result {
+        match self.0 {
+            Fetched::Took => write!(f, "took"),
+            Fetched::Idle => write!(f, "idle"),
+        }
+    }
+}
+
+/// What came of an execution.
+#[derive(Clone, Copy)]
+struct ExecutedText<'a>(&'a Executed);
+
+impl fmt::Display for ExecutedText<'_> {
+    ghost output = { λ text. Some (executed_text text.0.now) };
+
+    fn fmt<W: fmt::Write>(&self, f: &mut fmt::Formatter<W>) -> fmt::Result {
+        match self.0 {
+            Executed::Posted(outcome) => write!(f, "posted {} {}", outcome.status, outcome.rule),
+            Executed::NoSuch => write!(f, "none"),
+            Executed::CqFull => write!(f, "full"),
+        }
+    }
+}
+
+/// What a poll handed up, and the data that came with it.
+#[derive(Clone, Copy)]
+struct PolledText<'a> {
+    polled: &'a Result<Option<Answer>, PollFault>,
+    bytes: &'a [u8],
+}
+
+impl fmt::Display for PolledText<'_> {
+    ghost output = { λ text. Some (polled_text text.polled.now text.bytes.now) };
+
+    fn fmt<W: fmt::Write>(&self, f: &mut fmt::Formatter<W>) -> fmt::Result {
+        match self.polled {
+            Ok(Some(answer)) => {
+                let bytes = self.bytes;
+                write!(f, "{}", AnswerText { answer, bytes })
+            }
+            Ok(None) => write!(f, "nothing"),
+            Err(fault) => write!(f, "{fault}"),
+        }
+    }
+}
+
+/// An answer that is handed up, and the data that came with it.
+#[derive(Clone, Copy)]
+struct AnswerText<'a> {
+    answer: &'a Answer,
+    bytes: &'a [u8],
+}
+
+impl fmt::Display for AnswerText<'_> {
+    ghost output = { λ text. Some (answer_text text.answer.now text.bytes.now) };
+
+    fn fmt<W: fmt::Write>(&self, f: &mut fmt::Formatter<W>) -> fmt::Result {
+        match self.answer {
+            Answer::Done {
+                ticket,
+                status,
+                dw0,
+                ..
+            } => write!(f, "{} {status} {dw0:08x}{}", ticket.0, DataText(self.bytes)),
+            Answer::Aborted { ticket } => write!(f, "{} aborted", ticket.0),
+        }
+    }
+}
+
+/// How many bytes came, and the bytes; where none came, nothing.
+#[derive(Clone, Copy)]
+struct DataText<'a>(&'a [u8]);
+
+impl fmt::Display for DataText<'_> {
+    ghost output = { λ text. Some (data_text text.0.now) };
+
+    fn fmt<W: fmt::Write>(&self, f: &mut fmt::Formatter<W>) -> fmt::Result {
+        if self.0.is_empty() {
+            return Ok(());
+        }
+        write!(f, " {} {}", self.0.len(), HexText(self.0))
+    }
+}

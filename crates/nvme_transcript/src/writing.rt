@@ -1,0 +1,36 @@
+//! The lines of a transcript on their way to a writer.
+
+ghost use Rattle.std.specs.Prelude.{OnOk, OnErr};
+ghost use Rattle.std.specs.Io.KnownBytes.{Appends};
+ghost use Rattle.script_text.specs.Writing.{Cuts};
+ghost use Rattle.nvme_transcript.specs.Transcript.{seen_line};
+
+use crate::line::TranscriptLine;
+use script_text::write_whole;
+use std::fmt::Write as _;
+use std::io;
+use std::io::{ErrorKind, Write};
+
+/// How many bytes the longest line has, and a few more: the answer of a Read of 256 blocks.
+pub const LONGEST_LINE: usize = 2 * 131_072 + 96;
+
+/// Writes a line of the transcript, by way of a text with room for it. Where that fails, not all of the line was
+/// written.
+pub fn write_line<W: Write>(
+    writer: &mut W,
+    text: &mut String,
+    line: &TranscriptLine<'_>,
+) -> io::Result<()>
+    ensures ok { OnOk result
+        (Appends (W.contents writer.old) (W.contents writer.new)
+        (seen_line line.now.event line.now.seen.now line.now.bytes.now)) }
+    ensures err { OnErr result
+        (Cuts (W.contents writer.old) (W.contents writer.new)
+        (seen_line line.now.event line.now.seen.now line.now.bytes.now)) }
+{
+    text.clear();
+    if writeln!(text, "{line}").is_err() {
+        return Err(io::Error::from(ErrorKind::OutOfMemory));
+    }
+    write_whole(writer, text.as_bytes())
+}

@@ -1,0 +1,25 @@
+//! The lines of a text, one after the other.
+
+ghost use Rattle.std.specs.Prelude.{◌≡◌, ◌<◌, ◌≤◌, ◌∷◌, length, IfSome};
+ghost use Rattle.std.specs.List.{prefix_len};
+ghost use Rattle.script_text.specs.Lines.{text_lines, is_of_line, lines_left};
+
+/// How many bytes the first line of a text has.
+fn line_len(text: &[u8]) -> usize
+    ensures { result ≡ prefix_len is_of_line text.now }
+{
+    text.iter().take_while(|byte| **byte != b'\n').count()
+}
+
+/// The first line of a text, without the line feed that ends it, and the text behind that, if there is a line feed.
+pub fn front_line(text: &[u8]) -> (&[u8], Option<&[u8]>)
+    ensures lines { text_lines text.now ≡ result.0.now ∷ lines_left result.1 }
+    ensures short { length result.0.now ≤ length text.now }
+    ensures shorter { IfSome result.1 (λ rest. length rest.now < length text.now) }
+{
+    let (line, behind) = text.split_at(line_len(text));
+    match behind.split_first() {
+        Some((_, rest)) => (line, Some(rest)),
+        None => (line, None),
+    }
+}
