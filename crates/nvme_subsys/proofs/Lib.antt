@@ -3,3 +3,4 @@ pub mod Sound
 pub mod Openings
 pub mod Runs
 pub mod Unmarked
+pub mod Counts

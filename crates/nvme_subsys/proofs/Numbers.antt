@@ -7,7 +7,7 @@ use Rattle.nvme_spec.specs.Blocks.{Device}
 use Rattle.nvme_spec.specs.World.{World}
 use Rattle.nvme_machine.specs.declared.fetched.FetchedCommand.{FetchedCommand}
 use Rattle.nvme_machine.specs.declared.seen.Executed as executed
-use Rattle.nvme_machine.specs.declared.seen.Executed.TheVariants.{NoSuch, CqFull}
+use Rattle.nvme_machine.specs.declared.seen.Executed.TheVariants.{Posted, NoSuch, CqFull}
 use Rattle.nvme_machine.specs.declared.seen.Seen.{Seen}
 use Rattle.nvme_machine.specs.declared.seen.Seen.TheVariants.{NoController, Executed}
 use Rattle.nvme_machine.specs.Controllers.{Controller, QueuePair, queues_of, Reaction, reaction, open_pair}
@@ -22,7 +22,7 @@ numbered-at : (cs : List Controller) (k i : ℕ) → k ≡ i + 1 → numbered cs
 numbered-at cs zero i h = absurd (omega (arith, h))
 numbered-at cs (suc n) i h = let same : n ≡ i = omega (arith, h) in ap (slice_get cs) same
 
-replaced-at : (cs : List Controller) (k i : ℕ) (c : Controller) → k ≡ i + 1 → replaced cs k c ≡ slice_set cs i c
+pub replaced-at : (cs : List Controller) (k i : ℕ) (c : Controller) → k ≡ i + 1 → replaced cs k c ≡ slice_set cs i c
 replaced-at cs zero i c h = absurd (omega (arith, h))
 replaced-at cs (suc n) i c h = let same : n ≡ i = omega (arith, h) in ap (λ m. slice_set cs m c) same
 
@@ -126,6 +126,57 @@ pub executes : (tells : Bool) (old : Subsystem) (k place : ℕ) (c : Controller)
 executes tells old k place c i x s at found named h =
     subst (λ o. ExecutesAt o tells old k i (Executed x) (with_outcome x (after-set old place s))) (sym (at-place old k place c at found))
     (one (slice_get c.fetched i) tells old k place c i x s at found named h)
+
+-- And back: an execution in the subsystem is one of its controller, with the marks of what came of it.
+pub record IsExecutedAs (P : executed.Executed → Setting → Type 0) (old : Subsystem) (place : ℕ) (seen : Seen) (new : Subsystem) : Type 0 where
+  pub executed : executed.Executed
+  pub left : Setting
+  pub gives : seen ≡ Executed executed
+  pub executes : P executed left
+  pub leaves : new ≡ with_outcome executed (after-set old place left)
+
+over-back : (o : Option QueuePair) (tells : Bool) (old : Subsystem) (k place : ℕ) (c : Controller) (i : ℕ) (t : FetchedCommand) (seen : Seen) (new : Subsystem) → k ≡ place + 1 → slice_get old.controllers place ≡ Some c → c.cntlid ≡ k
+    → ExecutesOver o tells old k c i t seen new → IsExecutedAs (FinishesOver o tells i t (setting c old.world old.device)) old place seen new
+unfolding after_execution
+over-back None tells old k place c i t seen new at found named h = record {
+  executed = CqFull;
+  left = setting c old.world old.device;
+  gives = h.0;
+  executes = (refl, refl);
+  leaves = h.1 ∙ sym (whole old place c found);
+}
+over-back (Some p) tells old k place c i t seen new at found named h = record {
+  executed = Posted h.answer.outcome;
+  left = setting (after_answer i t p h.answer c) h.answer.left.world h.answer.left.device;
+  gives = h.gives;
+  executes = record {
+    answer = h.answer;
+    answers = subst (λ n. Answers tells (queues_of c) n t (scene_of old c) h.answer) (sym named) h.answers;
+    gives = refl;
+    controller = refl;
+    world = refl;
+    device = refl;
+  };
+  leaves = h.leaves
+      ∙ ap (λ cs. (let b : Subsystem = record { world = h.answer.left.world; device = h.answer.left.device; controllers = marked_from h.answer.left.world h.answer.outcome.marks 1 cs } in b))
+      (replaced-at old.controllers k place (after_answer i t p h.answer c) at);
+}
+
+one-back : (o : Option FetchedCommand) (tells : Bool) (old : Subsystem) (k place : ℕ) (c : Controller) (i : ℕ) (seen : Seen) (new : Subsystem) → k ≡ place + 1 → slice_get old.controllers place ≡ Some c → c.cntlid ≡ k
+    → ExecutesOne o tells old k c i seen new → IsExecutedAs (FinishesOne o tells i (setting c old.world old.device)) old place seen new
+one-back None tells old k place c i seen new at found named h = record {
+  executed = NoSuch;
+  left = setting c old.world old.device;
+  gives = h.0;
+  executes = (refl, refl);
+  leaves = h.1 ∙ sym (whole old place c found);
+}
+one-back (Some t) tells old k place c i seen new at found named h = over-back (open_pair c t) tells old k place c i t seen new at found named h
+
+pub executed-back : (tells : Bool) (old : Subsystem) (k place : ℕ) (c : Controller) (i : ℕ) (seen : Seen) (new : Subsystem) → k ≡ place + 1 → slice_get old.controllers place ≡ Some c → c.cntlid ≡ k
+    → ExecutesAt (controller_at old k) tells old k i seen new → IsExecutedAs (ExecutesNth tells i (setting c old.world old.device)) old place seen new
+executed-back tells old k place c i seen new at found named h =
+    one-back (slice_get c.fetched i) tells old k place c i seen new at found named (subst (λ o. ExecutesAt o tells old k i seen new) (at-place old k place c at found) h)
 
 -- what a `Vec` has after a slice of all its elements was lent
 pub refill-all : {A : Type 0} (n : ℕ) (xs ws : List A) → n ≡ length ws → take n (ws ++ drop (length ws) xs) ≡ ws

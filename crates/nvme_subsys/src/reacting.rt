@@ -7,6 +7,7 @@ use nvme_ctrl::Controller;
 use nvme_machine::Seen;
 
 /// Its host stores bytes.
+#[inline(always)]
 pub fn store(controller: &mut Controller, address: u64, bytes: &[u8]) -> Seen
     ensures { after_store address bytes.now controller.old ≡ reaction controller.new result }
 {
@@ -17,6 +18,7 @@ pub fn store(controller: &mut Controller, address: u64, bytes: &[u8]) -> Seen
 }
 
 /// Its host writes a register.
+#[inline(always)]
 pub fn write32(controller: &mut Controller, offset: u64, value: u32) -> Seen
     ensures { wrote offset value controller.old ≡ reaction controller.new result }
 {
@@ -25,6 +27,7 @@ pub fn write32(controller: &mut Controller, offset: u64, value: u32) -> Seen
 }
 
 /// Its host reads a register.
+#[inline(always)]
 pub fn read32(controller: &Controller, offset: u64) -> Seen
     ensures { has_read offset controller.now ≡ reaction controller.now result }
 {
@@ -32,6 +35,7 @@ pub fn read32(controller: &Controller, offset: u64) -> Seen
 }
 
 /// It fetches a command.
+#[inline(always)]
 pub fn fetch(controller: &mut Controller, qid: u16) -> Seen
     ensures { after_fetch qid controller.old ≡ reaction controller.new result }
 {

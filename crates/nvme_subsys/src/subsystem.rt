@@ -11,7 +11,7 @@ use crate::marking::mark_after;
 use crate::opening::{NewFault, controllers_of};
 use crate::reacting;
 use nvme_ctrl::Controller;
-use nvme_machine::{Event, Seen};
+use nvme_machine::{Event, Executed, Seen};
 use nvme_medium::Medium;
 use nvme_ns::Spaces;
 use nvme_spec::{Config, ConfigFault};
@@ -77,10 +77,12 @@ impl<M: Medium> Subsystem<M> {
         self.medium
     }
 
-    /// The controller of an identifier, if there is one.
+    /// The controller of an identifier, if there is one. It bears that identifier.
+    #[inline(always)]
     pub fn controller(&self, cntlid: u16) -> Option<&Controller>
         ensures none { IfNone result (controller_at self.now cntlid ≡ None) }
         ensures some { IfSome result (λ controller. controller_at self.now cntlid ≡ Some controller.now) }
+        ensures named { IfSome result (λ controller. controller.now.cntlid ≡ cntlid) }
     {
         let Some(place) = self.place_of(cntlid) else {
             return None;
@@ -89,6 +91,7 @@ impl<M: Medium> Subsystem<M> {
     }
 
     /// The place of a controller.
+    #[inline(always)]
     fn place_of(&self, cntlid: u16) -> Option<usize>
         ensures none { IfNone result (controller_at self.now cntlid ≡ None) }
         ensures some { IfSome result (λ place. (cntlid ≡ place + 1) × (place < length self.now.controllers)) }
@@ -104,6 +107,7 @@ impl<M: Medium> Subsystem<M> {
     }
 
     /// One event of the controller that it names; where there is no such controller, nothing happens.
+    #[inline(always)]
     pub fn apply(&mut self, event: Event) -> Seen
         ensures { Step M.tells self.old event.entry result self.new }
     {
@@ -116,6 +120,7 @@ impl<M: Medium> Subsystem<M> {
         }
     }
 
+    #[inline(always)]
     fn store(&mut self, cntlid: u16, address: u64, bytes: &[u8]) -> Seen
         ensures { Reacts self.old cntlid (after_store address bytes.now) result self.new }
     {
@@ -125,6 +130,7 @@ impl<M: Medium> Subsystem<M> {
         reacting::store(&mut self.controllers[place], address, bytes)
     }
 
+    #[inline(always)]
     fn write32(&mut self, cntlid: u16, offset: u64, value: u32) -> Seen
         ensures { Reacts self.old cntlid (wrote offset value) result self.new }
     {
@@ -134,6 +140,7 @@ impl<M: Medium> Subsystem<M> {
         reacting::write32(&mut self.controllers[place], offset, value)
     }
 
+    #[inline(always)]
     fn read32(&self, cntlid: u16, offset: u64) -> Seen
         ensures { Reacts self.now cntlid (has_read offset) result self.now }
     {
@@ -143,6 +150,7 @@ impl<M: Medium> Subsystem<M> {
         reacting::read32(&self.controllers[place], offset)
     }
 
+    #[inline(always)]
     fn fetch(&mut self, cntlid: u16, qid: u16) -> Seen
         ensures { Reacts self.old cntlid (after_fetch qid) result self.new }
     {
@@ -152,17 +160,27 @@ impl<M: Medium> Subsystem<M> {
         reacting::fetch(&mut self.controllers[place], qid)
     }
 
-    // Not inlined, so that the other events do not pay for the room of its locals.
-    #[inline(never)]
+    #[inline(always)]
     fn execute(&mut self, cntlid: u16, i: usize) -> Seen
         ensures { ExecutesAt (controller_at self.old cntlid) M.tells self.old cntlid i result self.new }
     {
         let Some(place) = self.place_of(cntlid) else {
             return Seen::NoController;
         };
+        Seen::Executed(self.execute_at(place, i))
+    }
+
+    /// The controller at a place executes a command, and the controllers of the hosts that this removes are marked.
+    // Not inlined, so that the other events do not pay for the room of its locals.
+    #[inline(never)]
+    fn execute_at(&mut self, place: usize, i: usize) -> Executed
+        requires { place < length self.old.controllers }
+        ensures { ExecutesAt (controller_at self.old (place + 1)) M.tells self.old (place + 1) i (Seen.Executed result)
+            self.new }
+    {
         let executed = self.controllers[place].execute(i, &mut self.spaces, &mut self.medium);
         mark_after(&mut self.controllers, &self.spaces, &executed);
-        Seen::Executed(executed)
+        executed
     }
 }
 

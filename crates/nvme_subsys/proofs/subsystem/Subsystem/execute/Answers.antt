@@ -1,42 +1,8 @@
-use Rattle.std.proofs.Common.{◌≡◌, ◌++◌, ◌∙◌, sym, subst, length, take, drop, arith}
-use Rattle.std.specs.Prelude.{slice_set}
+use Rattle.std.proofs.Common.{sym, subst}
 use Rattle.nvme_machine.specs.declared.seen.Seen.TheVariants.{Executed}
-use Rattle.nvme_machine.specs.Executing.{setting}
-use Rattle.nvme_machine.specs.Subsystems.{Subsystem, controller_at, ExecutesAt}
-use Rattle.nvme_subsys.specs.Sound.{IsSound}
-use Rattle.nvme_subsys.specs.Marked.{marks_after}
-use Rattle.nvme_subsys.proofs.Numbers.{executes, refill-all, found-at}
-use Rattle.nvme_subsys.proofs.Sound.{configured-at, named-at, sound-after}
+use Rattle.nvme_machine.specs.Subsystems.{ExecutesAt, controller_at}
 use Rattle.nvme_subsys.proofs.subsystem.Subsystem.execute.Goals as goal
-
-pub execute-executed-requires : goal.execute-executed-requires
-execute-executed-requires g c =
-    let items = c.self.inside.controllers.items in
-    let found = found-at _ _ items c.args.self.now c.in-Some.place c.index_mut.result.now c.self.view_is c.in-Some.ensures.some.1 c.index_mut.ensures.value in
-    let sound = c.self.invariant in
-    record { ready = record { configured = configured-at _ _ items c.in-Some.place c.index_mut.result.now found sound; within = sound.within; known = sound.known } }
-
-pub invariant_of-self : goal.invariant_of-self
-invariant_of-self g c =
-    let items = c.self.inside.controllers.items in
-    let found = found-at _ _ items c.args.self.now c.in-Some.place c.index_mut.result.now c.self.view_is c.in-Some.ensures.some.1 c.index_mut.ensures.value in
-    let ms : c.mark_after.new.controllers ≡ marks_after c.execute-executed.new.spaces c.execute-executed.result (slice_set items c.in-Some.place c.execute-executed.new.self) = rw c.deref_mut.ensures.value at c.mark_after.ensures in
-    let whole : take c.self.inside.controllers.len (c.mark_after.new.controllers ++ drop (length c.mark_after.new.controllers) (slice_set items c.in-Some.place c.execute-executed.new.self)) ≡ c.mark_after.new.controllers =
-    refill-all c.self.inside.controllers.len _ c.mark_after.new.controllers (omega (arith, c.deref_mut.ensures.len, c.mark_after.auto.controllers)) in
-    let ready = c.execute-executed.ensures.ready in
-    subst (λ cs. IsSound c.execute-executed.new.spaces (g.M.Medium.size c.execute-executed.new.medium) cs) (sym (whole ∙ ms))
-    (sound-after c.self.inside.spaces c.execute-executed.new.spaces (g.M.Medium.size c.self.inside.medium) (g.M.Medium.size c.execute-executed.new.medium) items c.in-Some.place c.index_mut.result.now c.execute-executed.new.self c.execute-executed.result
-    found c.execute-executed.ensures.cntlid c.execute-executed.ensures.controllers ready.within ready.known c.self.invariant)
 
 pub returns : goal.returns
 returns g c =
-    let items = c.self.inside.controllers.items in
-    let found = found-at _ _ items c.args.self.now c.in-Some.place c.index_mut.result.now c.self.view_is c.in-Some.ensures.some.1 c.index_mut.ensures.value in
-    let ms : c.mark_after.new.controllers ≡ marks_after c.execute-executed.new.spaces c.execute-executed.result (slice_set items c.in-Some.place c.execute-executed.new.self) = rw c.deref_mut.ensures.value at c.mark_after.ensures in
-    let whole : take c.self.inside.controllers.len (c.mark_after.new.controllers ++ drop (length c.mark_after.new.controllers) (slice_set items c.in-Some.place c.execute-executed.new.self)) ≡ c.mark_after.new.controllers =
-    refill-all c.self.inside.controllers.len _ c.mark_after.new.controllers (omega (arith, c.deref_mut.ensures.len, c.mark_after.auto.controllers)) in
-    let old : Subsystem = record { world = c.self.inside.spaces; device = g.M.Medium.device c.self.inside.medium; controllers = items } in
-    rw (← c.self.view_is)
-    (subst (λ cs. ExecutesAt (controller_at old c.args.cntlid) g.M.Medium.tells old c.args.cntlid c.args.i (Executed c.execute-executed.result) (record { world = c.execute-executed.new.spaces; device = g.M.Medium.device c.execute-executed.new.medium; controllers = cs })) (sym (whole ∙ ms))
-    (executes g.M.Medium.tells old c.args.cntlid c.in-Some.place c.index_mut.result.now c.args.i c.execute-executed.result (setting c.execute-executed.new.self c.execute-executed.new.spaces (g.M.Medium.device c.execute-executed.new.medium))
-    c.in-Some.ensures.some.0 found (named-at _ _ items c.args.cntlid c.in-Some.place c.index_mut.result.now c.in-Some.ensures.some.0 found c.self.invariant) c.execute-executed.ensures.executed))
+    subst (λ n. ExecutesAt (controller_at c.args.self.now n) g.M.Medium.tells c.args.self.now n c.args.i (Executed c.execute_at.result) c.execute_at.new.self) (sym c.in-Some.ensures.some.0) c.execute_at.ensures
