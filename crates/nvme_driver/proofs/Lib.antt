@@ -7,3 +7,4 @@ pub mod Placing
 pub mod Risen
 pub mod Once
 pub mod Moving
+pub mod Mapped

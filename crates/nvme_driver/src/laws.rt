@@ -7,21 +7,21 @@ ghost use Rattle.nvme_driver.specs.Drivers.{EntriesMoveTheirData};
 
 /// The parts of the window: each lies in it, no two have a common byte, and entries lie in their queue's page.
 #[tactic(auto, using(crate::proofs::Areas::areas_lie_in_window, crate::proofs::Areas::areas_are_apart, crate::proofs::Areas::entries_lie_in_their_pages))]
-fn layout()
+pub fn layout()
     ensures inside { AreasLieInWindow }
     ensures apart { AreasAreApart }
     ensures entries { EntriesLieInTheirPages }
 {}
 
 /// The pointer of a slot has no fault and names the slot's data, byte after byte, as one run.
-fn pointers()
+pub fn pointers()
     ensures contiguous { SlotsAreContiguous }
     ensures moves { SlotsMoveOneRun }
 {}
 
 /// What stores keep of the window, and of the lists in it.
 #[tactic(auto, using(crate::proofs::PageLists::other_parts_stay, crate::proofs::PageLists::stored_list_is_there, crate::proofs::PageLists::stores_keep_lists, crate::proofs::PageLists::lists_keep_others))]
-fn lists()
+pub fn lists()
     ensures apart { OtherPartsStay }
     ensures there { StoredListIsThere }
     ensures stores { StoresKeepLists }
@@ -30,13 +30,13 @@ fn lists()
 
 /// A ticket that is handed up is that of a request that waits, and none is handed up twice: whatever a host calls, in
 /// any order, and whatever stands in the window.
-fn tickets()
+pub fn tickets()
     ensures outstanding { HandsUpOutstanding }
     ensures once { HandsUpOnce }
 {}
 
 /// A controller that reads the entry of a request moves as many bytes as the request.
 #[tactic(auto, using(crate::proofs::Moving::entries_move_their_data))]
-fn data()
+pub fn data()
     ensures { EntriesMoveTheirData }
 {}

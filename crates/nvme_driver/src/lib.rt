@@ -13,7 +13,7 @@ mod examples;
 mod faults;
 mod found;
 mod lane;
-mod laws;
+pub mod laws;
 mod layout;
 mod length;
 mod opcode;
