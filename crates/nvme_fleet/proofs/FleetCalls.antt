@@ -19,7 +19,7 @@ use Rattle.nvme_fleet.specs.Links.{LinkStep}
 use Rattle.nvme_driver.specs.Calls.{Writes}
 use Rattle.nvme_spec.specs.Memory.{window_size}
 use Rattle.nvme_fleet.specs.Linked.{controller_in, setting_in, with_setting, with_controller_at, ExecutesSeat, KeepsOthers}
-use Rattle.nvme_fleet.specs.FleetStates.{FleetState, SoundBy, IsCalled, IsSoundFleet, fleet_of, reaction_to, reply_in}
+use Rattle.nvme_fleet.specs.FleetStates.{FleetState, SoundBy, IsCalled, IsSoundFleet, fleet_in, fleet_of, reaction_to, reply_in}
 use Rattle.nvme_fleet.proofs.Seating.{controller-there}
 use Rattle.nvme_fleet.proofs.Hosted.{over, called-step, fetched-step, fetched-sound, raw-step, not-raw}
 use Rattle.nvme_fleet.proofs.HostedExecutions.{AllSound, executed-step, executed-sound}
@@ -36,7 +36,7 @@ pub record HasFetched (a : FleetState) (k q : ℕ) (what : Fetched) (new : Subsy
 
 pub fetches : (a : FleetState) (new : Subsystem) (k i q : ℕ) (what : Fetched) → k ≡ i + 1 → i < length a.subsystem.controllers → IsSoundFleet a
     → machine_seen.Fetched what ≡ (after_fetch q (controller_in a.subsystem i)).seen → new ≡ with_controller_at a.subsystem i (after_fetch q (controller_in a.subsystem i)).controller → HasFetched a k q what new
-unfolding fleet_of
+unfolding fleet_in
 fetches a new k i q what at lt s is after =
     let c : Controller = controller_in a.subsystem i in
     let g = controller-there a.subsystem i lt in
@@ -56,7 +56,7 @@ pub record HasExecuted (tells : Bool) (a : FleetState) (k n : ℕ) (what : Execu
 
 pub executes : (tells : Bool) (a : FleetState) (new : Subsystem) (k i n : ℕ) (what : Executed) → k ≡ i + 1 → i < length a.subsystem.controllers → (controller_in a.subsystem i).cntlid ≡ i + 1 → IsSoundFleet a
     → ExecutesSeat tells n i a.subsystem what new → HasExecuted tells a k n what new
-unfolding fleet_of
+unfolding fleet_in
 executes tells a new k i n what at lt named s e =
     let c : Controller = controller_in a.subsystem i in
     let g = controller-there a.subsystem i lt in
@@ -85,7 +85,7 @@ pub record HasCalled (a b : FleetState) (k : ℕ) (call : DriverCall) (reply : R
 pub delivers : (a : FleetState) (new : Subsystem) (buffer : List ℕ) (k i : ℕ) (d e : Option Driver) (call : DriverCall) (reply : Reply) → k ≡ i + 1 → i < length a.subsystem.controllers → i < length a.drivers → d ≡ get_or a.drivers i d → IsSoundFleet a
     → IsCalled d (controller_in a.subsystem i) call e (controller_in new i) reply → new.world ≡ a.subsystem.world → new.device ≡ a.subsystem.device → KeepsOthers i a.subsystem new → length buffer ≡ length a.buffer
     → HasCalled a (record { subsystem = new; drivers = slice_set a.drivers i e; buffer = buffer; filled = a.filled }) k call reply
-unfolding fleet_of
+unfolding fleet_in
 delivers a new buffer k i d e call reply at lt there is s calls world device others long =
     let c : Controller = controller_in a.subsystem i in
     let x : Controller = controller_in new i in
@@ -113,7 +113,7 @@ none-is (Some d) h = absurd (cc)
 
 pub changes : (a : FleetState) (new : Subsystem) (k i : ℕ) (d : Option Driver) (change : Controller → Controller) (what : FleetSeen) → k ≡ i + 1 → i < length a.subsystem.controllers → i < length a.drivers → d ≡ get_or a.drivers i d
     → is_some d ≡ false → IsSoundFleet a → new ≡ with_controller_at a.subsystem i (change (controller_in a.subsystem i)) → HasChanged a k change what new
-unfolding fleet_of
+unfolding fleet_in
 changes a new k i d change what at lt there is none s after =
     let c : Controller = controller_in a.subsystem i in
     let g = controller-there a.subsystem i lt in
@@ -127,7 +127,7 @@ changes a new k i d change what at lt there is none s after =
 
 pub is-not-raw : (a : FleetState) (k i : ℕ) (d : Option Driver) (change : Controller → Controller) (what : FleetSeen) → k ≡ i + 1 → i < length a.subsystem.controllers → i < length a.drivers → d ≡ get_or a.drivers i d
     → is_some d ≡ true → Is (raw_at (host_at (fleet_of a) k) (fleet_of a) k change what) (plain seen.NotRaw) (fleet_of a)
-unfolding fleet_of
+unfolding fleet_in
 is-not-raw a k i d change what at lt there is some =
     let c : Controller = controller_in a.subsystem i in
     not-raw a.subsystem.world a.subsystem.device a.drivers a.subsystem.controllers k i d c change what at

@@ -9,9 +9,11 @@ use Rattle.nvme_spec.specs.Configuration.{Configuration}
 use Rattle.nvme_spec.specs.World.{World, opening_world}
 use Rattle.nvme_driver.specs.Drivers.{Driver, new_driver}
 use Rattle.nvme_machine.specs.Controllers.{Controller, new_controller}
+use Rattle.nvme_machine.specs.Subsystems as machine
+use Rattle.nvme_machine.specs.Subsystems.{Subsystem}
 use Rattle.nvme_fleet.specs.Mailboxes.{new_mailbox}
 use Rattle.nvme_fleet.specs.Fleets.{WithDriver, Raw, new_host, opening}
-use Rattle.nvme_fleet.specs.FleetStates.{FleetState, SoundBy, IsSoundFleet, host_by, hosts_of, opening_driver, fleet_of}
+use Rattle.nvme_fleet.specs.FleetStates.{FleetState, SoundBy, IsSoundFleet, host_by, hosts_of, opening_driver, fleet_in, fleet_of}
 use Rattle.nvme_fleet.proofs.SoundOpening.{opening_is_sound}
 
 abbrev pub opening-controllers : List ControllerConfig → List Controller
@@ -56,7 +58,21 @@ hosts-each (k ∷ ks) =
 
 pub opened-fleet : (c : Configuration) (w : World) (v : Device) (cs : List Controller) (ds : List (Option Driver)) (buffer : List ℕ) → w ≡ opening_world c → cs ≡ opening-controllers c.controllers → ds ≡ map opening_driver c.controllers
     → fleet_of (opened-state w v cs ds buffer) ≡ opening c v
-unfolding fleet_of opening
+unfolding fleet_in opening
 opened-fleet c w v cs ds buffer opened made driven =
     let hosts : hosts_of ds cs ≡ map new_host c.controllers = ap (λ xs. hosts_of ds xs) made ∙ ap (λ ys. hosts_of ys (opening-controllers c.controllers)) driven ∙ hosts-each c.controllers in
     λ j. record { site = record { world = opened j; device = v }; hosts = hosts j }
+
+-- over a subsystem that was opened
+pub opened-over : (c : Configuration) (v : Device) (s : Subsystem) (ds : List (Option Driver)) (buffer : List ℕ) → s ≡ machine.opening c v → ds ≡ map opening_driver c.controllers → buffer ≡ replicate 131072 0
+    → IsSoundFleet (record { subsystem = s; drivers = ds; buffer = buffer; filled = 0 })
+unfolding machine.opening
+opened-over c v s ds buffer opened driven room =
+    subst (λ x. IsSoundFleet (record { subsystem = x; drivers = ds; buffer = buffer; filled = 0 })) (sym opened)
+    (opened-sound (opening_world c) v c.controllers (opening-controllers c.controllers) ds buffer refl driven room)
+
+pub opened-mailboxes : (c : Configuration) (v : Device) (s : Subsystem) (ds : List (Option Driver)) (buffer : List ℕ) → s ≡ machine.opening c v → ds ≡ map opening_driver c.controllers
+    → fleet_of (record { subsystem = s; drivers = ds; buffer = buffer; filled = 0 }) ≡ opening c v
+unfolding machine.opening
+opened-mailboxes c v s ds buffer opened driven =
+    ap (λ x. fleet_of (record { subsystem = x; drivers = ds; buffer = buffer; filled = 0 })) opened ∙ opened-fleet c (opening_world c) v (opening-controllers c.controllers) ds buffer refl refl driven

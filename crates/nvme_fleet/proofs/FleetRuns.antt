@@ -1,7 +1,7 @@
 -- A run goes on by one event, and what an event gives fits its room.
-use Rattle.std.proofs.Common.{◌≡◌, ℕ, suc, ◌+◌, ◌-◌, ◌<◌, ◌≤◌, get_or, Bool, true, false, List, [], ◌∷◌, ◌++◌, ◌∙◌, length, take, Option, None, Some, refl, sym, ap, subst, arith}
+use Rattle.std.proofs.Common.{◌≡◌, ℕ, ◌+◌, ◌<◌, ◌≤◌, get_or, Bool, true, false, List, [], ◌∷◌, ◌++◌, ◌∙◌, length, take, Option, None, Some, refl, sym, ap, subst, arith}
 use Rattle.std.specs.Prelude.{slice_get, Result, Ok, Err, is_ok, IsOk, if◌then◌else◌}
-use Rattle.std.proofs.lemmas.List.{take_more, append-nil, append_assoc, length-append, length-take-le}
+use Rattle.std.proofs.lemmas.List.{take_more, append-nil, append_assoc}
 use Rattle.nvme_spec.specs.Limits.{most_bytes}
 use Rattle.nvme_driver.specs.declared.request.Request.{Request}
 use Rattle.nvme_driver.specs.declared.faults.PlaceRefusal.{PlaceRefusal}
@@ -13,10 +13,10 @@ use Rattle.nvme_event.specs.declared.seen.FleetSeen.{FleetSeen}
 use Rattle.nvme_event.specs.Replies.{Reply}
 use Rattle.nvme_fleet.specs.Mailboxes.{Item, FetchedItem, Mailbox, box_at}
 use Rattle.nvme_fleet.specs.Deliveries.{Reaction, brought_up, refusal, placed_by, placed, rung, lane_at, fetched_first, fetched_of, reset}
-use Rattle.nvme_fleet.specs.Fleets.{Host, WithDriver, Raw, Fleet, Is, Step, Run, ExecutesItem, ExecutesAt, called_at, raw_at, fetched_at, host_at}
-use Rattle.nvme_fleet.specs.Running.{RunsBehind, replied, room_for}
-use Rattle.nvme_fleet.specs.OwnRuns.{AreOwnRuns}
-use Rattle.nvme_machine.specs.Subsystems.{Subsystem}
+use Rattle.nvme_fleet.specs.Fleets.{Host, WithDriver, Raw, Fleet, Is, Step, ExecutesItem, ExecutesAt, called_at, raw_at, fetched_at, host_at}
+use Rattle.nvme_fleet.specs.FleetStates.{FleetState, Layers, data_in, layers_of}
+use Rattle.nvme_fleet.specs.Layers as layers
+use Rattle.nvme_fleet.specs.Running.{RunsBehind, data_behind, room_for}
 
 -- The replies that have no bytes.
 abbrev pub IsQuiet : Reply → Type 0
@@ -98,44 +98,27 @@ copied (Ok u) before after bytes is ok none = is ∙ ap (λ xs. xs ++ bytes) non
 copied (Err e) before after bytes is ok none = absurd (cc)
 
 -- Runs.
-more : (tells : Bool) (events : List FleetEvent) (replies : List Reply) (old mid new : Fleet) (event : FleetEvent) (last : Reply)
-    → Run tells old events replies mid → Step tells mid event last new → Run tells old (events ++ event ∷ []) (replies ++ last ∷ []) new
-more tells [] [] old mid new event last ran step = (new, subst (λ (f : Fleet). Step tells f event last new) ran step, refl)
+more : (tells : Bool) (events : List FleetEvent) (replies : List Reply) (old mid new : Layers) (event : FleetEvent) (last : Reply)
+    → layers.Run tells old events replies mid → layers.Step tells mid event last new → layers.Run tells old (events ++ event ∷ []) (replies ++ last ∷ []) new
+more tells [] [] old mid new event last ran step = (new, subst (λ (l : Layers). layers.Step tells l event last new) ran step, refl)
 more tells [] (r ∷ replies) old mid new event last ran step = absurd ran
 more tells (e ∷ events) [] old mid new event last ran step = absurd ran
 more tells (e ∷ events) (r ∷ replies) old mid new event last ran step = (ran.0, ran.1, more tells events replies ran.0 mid new event last ran.2 step)
 
-pub runs-none : (tells : Bool) (before : List Reply) (old : Fleet) → RunsBehind tells before old [] before old
-runs-none tells before old = record { added = []; behind = sym (append-nil before); ran = refl }
+pub runs-none : (tells : Bool) (before : List Reply) (old : FleetState) → RunsBehind tells before old [] before old
+runs-none tells before old = record { added = []; behind = sym (append-nil before); ran = refl; holds = refl }
+
+data-more : (before : List ℕ) (replies : List Reply) (last : Reply) → data_behind before (replies ++ last ∷ []) ≡ last.bytes
+data-more before [] last = refl
+data-more before (r ∷ replies) last = data-more r.bytes replies last
 
 -- over the front of a list of events
-pub runs-next : (tells : Bool) (before now : List Reply) (events : List FleetEvent) (i : ℕ) (d : FleetEvent) (old mid new : Fleet) (last : Reply) → i < length events
-    → RunsBehind tells before old (take i events) now mid → Step tells mid (get_or events i d) last new → RunsBehind tells before old (take (i + 1) events) (now ++ last ∷ []) new
-runs-next tells before now events i d old mid new last inside runs step = record {
+pub runs-next : (tells : Bool) (before now : List Reply) (events : List FleetEvent) (i : ℕ) (d : FleetEvent) (old mid new : FleetState) (last : Reply) → i < length events
+    → RunsBehind tells before old (take i events) now mid → layers.Step tells (layers_of mid) (get_or events i d) last (layers_of new) → last.bytes ≡ data_in new
+    → RunsBehind tells before old (take (i + 1) events) (now ++ last ∷ []) new
+runs-next tells before now events i d old mid new last inside runs step bytes = record {
   added = runs.added ++ last ∷ [];
   behind = ap (λ xs. xs ++ last ∷ []) runs.behind ∙ append_assoc before runs.added (last ∷ []);
-  ran = rw (take_more events i d inside) (more tells (take i events) runs.added old mid new (get_or events i d) last runs.ran step);
+  ran = rw (take_more events i d inside) (more tells (take i events) runs.added (layers_of old) (layers_of mid) (layers_of new) (get_or events i d) last runs.ran step);
+  holds = sym (data-more (data_in old) runs.added last ∙ bytes);
 }
-
--- as many replies as events
-replies-counted : (tells : Bool) (events : List FleetEvent) (replies : List Reply) (old new : Fleet) → Run tells old events replies new → length replies ≡ length events
-replies-counted tells [] [] old new ran = refl
-replies-counted tells [] (r ∷ replies) old new ran = absurd ran
-replies-counted tells (e ∷ events) [] old new ran = absurd ran
-replies-counted tells (e ∷ events) (r ∷ replies) old new ran = ap suc (replies-counted tells events replies ran.0 new ran.2)
-
--- the events whose replies were added are those that have happened
-replied-are : (tells : Bool) (before after : List Reply) (events : List FleetEvent) (i : ℕ) (old new : Fleet) → i ≤ length events
-    → RunsBehind tells before old (take i events) after new → replied before after events ≡ take i events
-replied-are tells before after events i old new inside runs =
-    let long : length after ≡ length before + length runs.added = ap length runs.behind ∙ length-append before runs.added in
-    let few : length runs.added ≡ i = replies-counted tells (take i events) runs.added old new runs.ran ∙ length-take-le i events inside in
-    let count : length after - length before ≡ i = omega (arith, long, few) in
-    ap (λ n. take n events) count
-
--- and those at the subsystem are theirs
-pub replied-own : (tells : Bool) (before now after : List Reply) (events : List FleetEvent) (i : ℕ) (old new : Fleet) (a b : Subsystem) → i ≤ length events
-    → RunsBehind tells before old (take i events) now new → after ≡ now → AreOwnRuns tells (take i events) a b → AreOwnRuns tells (replied before after events) a b
-replied-own tells before now after events i old new a b inside runs same own =
-    subst (λ (es : List FleetEvent). AreOwnRuns tells es a b)
-    (sym (ap (λ (rs : List Reply). replied before rs events) same ∙ replied-are tells before now events i old new inside runs)) own

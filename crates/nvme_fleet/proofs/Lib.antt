@@ -54,7 +54,6 @@ pub mod FleetStep
 pub mod RiseLink
 pub mod LinkOthers
 pub mod Seating
-pub mod Members
 pub mod SoundOpening
 pub mod LinkedStep
 pub mod Hosting
@@ -80,6 +79,13 @@ pub mod Numbered
 pub mod Refused
 pub mod Outsiders
 pub mod Preempted
-pub mod OwnEvents
-pub mod OwnTurns
-pub mod OwnFleets
+pub mod AdminTurns
+pub mod Reaching
+pub mod LinkDeeds
+pub mod Members
+pub mod Happening
+pub mod Storing
+pub mod Links
+pub mod Handing
+pub mod Bytes
+pub mod SinceUp

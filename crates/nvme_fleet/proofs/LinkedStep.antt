@@ -1,5 +1,5 @@
 -- What a driver does over its port, and that it is the step of its mailbox.
-use Rattle.std.proofs.Common.{◌≡◌, ◌+◌, ℕ, Bool, true, false, List, length, take, Option, None, Some, refl, sym, ap, subst, ◌∙◌}
+use Rattle.std.proofs.Common.{◌≡◌, ℕ, Bool, true, false, List, length, take, Option, None, Some, refl, sym, ap, subst, ◌∙◌}
 use Rattle.std.specs.Prelude.{Result, Ok, Err, IfOk, IfErr, OnOk, OnErr, if◌then◌else◌}
 use Rattle.nvme_wire.specs.Submission.{submission_of}
 use Rattle.nvme_driver.specs.declared.request.Request.{Request}
@@ -29,8 +29,6 @@ use Rattle.nvme_fleet.specs.Steps.{IsStep, after_calls}
 use Rattle.nvme_fleet.proofs.StartStep.{IsPlain, calls-are, calls-id}
 use Rattle.nvme_fleet.proofs.LinkOthers.{Stays, calls-stay, stays-same}
 use Rattle.nvme_fleet.proofs.RiseLink.{step_of, settings}
-use Rattle.nvme_fleet.specs.OwnRuns.{IsLinkRun}
-use Rattle.nvme_fleet.proofs.OwnEvents.{none-own, calls-own}
 use Rattle.nvme_fleet.proofs.PlaceStep.{place_is_a_step, refusal_is_a_step}
 use Rattle.nvme_fleet.proofs.PollStep.{poll_is_a_step}
 
@@ -67,7 +65,7 @@ plain-up : (d : Driver) (window : List ℕ) (u : Bool) → IsPlain (if u then po
 plain-up d window true = plain-found d window (poll.found d window)
 plain-up d window false = tt
 
-plain-polled : (d : Driver) (oldest : Option ℕ) (window : List ℕ) → IsPlain (poll.polled d oldest window).calls
+pub plain-polled : (d : Driver) (oldest : Option ℕ) (window : List ℕ) → IsPlain (poll.polled d oldest window).calls
 plain-polled d (Some i) window = tt
 plain-polled d None window = plain-up d window (is_up d.state)
 
@@ -125,14 +123,3 @@ pub polls-stay : (tells : Bool) (d d' : Driver) (p q : Linked) (result : Result 
     → poll.IsPolled (step_of tells) d (linked_controller p).window p result d' q buffer → Stays p q
 polls-stay tells d d' p q result buffer (oldest, is-oldest, gives, after, calls, front) =
     calls-stay tells (poll.polled d oldest (linked_controller p).window).calls p q calls
-
--- And the calls are events of the controller.
-pub places-own : (tells : Bool) (d d' : Driver) (p q : Linked) (request : Request) (result : Result Ticket PlaceRefusal) → OnErr result ((d' ≡ d) × (q ≡ p))
-    → OnOk result (driver.IsPlaced (step_of tells) d request p d' q) → IsLinkRun tells p q
-places-own tells d d' p q request (Err why) unchanged put at = none-own tells (p.place + 1) p.subsystem q.subsystem (ap (λ (x : Linked). x.subsystem) unchanged.1)
-places-own tells d d' p q request (Ok ticket) unchanged (slot, free, after, calls) at = calls-own tells (driver.stores_of d request slot) p q tt calls at
-
-pub polls-own : (tells : Bool) (d d' : Driver) (p q : Linked) (result : Result (Option Answer) PollFault) (buffer : List ℕ)
-    → poll.IsPolled (step_of tells) d (linked_controller p).window p result d' q buffer → IsLinkRun tells p q
-polls-own tells d d' p q result buffer (oldest, is-oldest, gives, after, calls, front) =
-    calls-own tells (poll.polled d oldest (linked_controller p).window).calls p q (plain-polled d oldest (linked_controller p).window) calls

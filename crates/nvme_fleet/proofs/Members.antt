@@ -1,5 +1,5 @@
 -- What a driver's calls come to at its controller.
-use Rattle.std.proofs.Common.{◌≡◌, ◌+◌, ℕ, Bool, true, false, List, [], ◌∷◌, Result, Ok, Err, refl, sym, ap, ◌∙◌}
+use Rattle.std.proofs.Common.{◌≡◌, ◌+◌, ℕ, Bool, true, false, List, [], ◌∷◌, Result, Ok, Err, refl, sym, ap, subst, ◌∙◌}
 use Rattle.std.specs.Prelude.{is_ok, if◌then◌else◌}
 use Rattle.nvme_driver.specs.declared.lane.Lane.TheVariants.{Admin}
 use Rattle.nvme_driver.specs.declared.state.State.{State}
@@ -17,13 +17,15 @@ use Rattle.nvme_fleet.specs.Mailboxes.{Mailbox}
 use Rattle.nvme_fleet.specs.Deliveries.{Reaction, brought_up, rung, reset, plain}
 use Rattle.nvme_fleet.specs.Sound.{Sound, is_failed, mailbox}
 use Rattle.nvme_fleet.specs.Steps.{IsStep, after_calls, rung_reply}
-use Rattle.nvme_fleet.specs.Linked.{Linked, KeepsSite, linked_controller, linked_setting}
+use Rattle.std.specs.List.{AllByRecursion}
+use Rattle.nvme_fleet.proofs.AdminTurns.{IsAdmin}
+use Rattle.nvme_fleet.specs.Linked.{Linked, KeepsSite, Reaches, linked_controller, linked_setting}
 use Rattle.nvme_fleet.proofs.StartStep.{IsPlain, calls-are, calls-id}
 use Rattle.nvme_fleet.proofs.LinkOthers.{Stays, calls-stay, rises-stay, stays-same}
 use Rattle.nvme_fleet.proofs.RiseLink.{step_of, bytes_of, settings, rises-in}
-use Rattle.nvme_fleet.specs.OwnRuns.{IsLinkRun}
-use Rattle.nvme_fleet.proofs.OwnEvents.{none-own}
-use Rattle.nvme_fleet.proofs.OwnTurns.{rises-own}
+use Rattle.nvme_fleet.specs.Deeds.{CallOver, ComesUp}
+use Rattle.nvme_fleet.proofs.LinkDeeds.{comes-up-below, stays-below}
+use Rattle.nvme_fleet.proofs.Reaching.{IsFresh, rises-there}
 use Rattle.nvme_fleet.proofs.Places.{no-way}
 use Rattle.nvme_fleet.proofs.RiseStep.{bring_up_is_a_step}
 use Rattle.nvme_fleet.proofs.RingStep.{ring_is_a_step}
@@ -76,7 +78,7 @@ pub record HasRisen (tells : Bool) (d d' : Driver) (old new : Linked) (result : 
   pub world : (linked_setting new).world ≡ (linked_setting old).world
   pub device : (linked_setting new).device ≡ (linked_setting old).device
   pub stays : Stays old new
-  pub events : IsLinkRun tells old new
+  pub below : ComesUp tells (old.place + 1) d old.subsystem result d' new.subsystem
 
 already-up : (m : Mailbox) → m.up ≡ true → brought_up m ≡ record { mailbox = m; reply = plain (seen.Up (Err AlreadyUp)) }
 already-up m h = rw h refl
@@ -94,12 +96,19 @@ stays-up tells d d' old new result s u r e n =
       world = ap (λ (p : Linked). (linked_setting p).world) n;
       device = ap (λ (p : Linked). (linked_setting p).device) n;
       stays = stays-same old new n;
-      events = λ at. none-own tells (old.place + 1) old.subsystem new.subsystem (ap (λ (p : Linked). p.subsystem) n);
+      below = stays-below tells d d' old new result r e n;
     }
 
-comes-up : (tells : Bool) (d d' : Driver) (old new : Linked) (result : Result (Unit {0}) UpFault) → Sound d (linked_controller old) → d.state ≡ Down
-    → Rises (step_of tells) bytes_of d old result d' new → HasRisen tells d d' old new result
-comes-up tells d d' old new result s u h =
+fresh-down : (d : Driver) (p : Linked) → Sound d (linked_controller p) → d.state ≡ Down → Reaches p → IsFresh p.place p
+fresh-down d p s u at =
+    let off = s.down (ap is_up u) in
+    record { reaches = at; admin = subst (AllByRecursion IsAdmin) (sym off.fetched) tt; place = refl }
+
+comes-up : (tells : Bool) (d d' : Driver) (old new : Linked) (result : Result (Unit {0}) UpFault) → Sound d (linked_controller old) → d.state ≡ Down → Reaches old
+    → Rises (CallOver tells) bytes_of d old result d' new → HasRisen tells d d' old new result
+comes-up tells d d' old new result s u at over =
+    let fresh = fresh-down d old s u at in
+    let h = rises-there tells old.place d d' old new result fresh over in
     let r = bring_up_is_a_step tells d d' (linked_setting old) (linked_setting new) result s u (rises-in tells d d' old new result h) in
     record {
       step = record { sound = r.sound; mail = r.mail; gives = reply-up (mailbox d (linked_controller old)) (ap is_up u) ∙ ap (λ x. plain (seen.Up x)) (sym r.answered) };
@@ -107,19 +116,19 @@ comes-up tells d d' old new result s u h =
       world = r.world;
       device = r.device;
       stays = rises-stay tells d d' old new result h;
-      events = (let off = s.down (ap is_up u) in rises-own tells d d' old new result h off.fetched);
+      below = comes-up-below tells d d' old new result fresh r.answered over;
     }
 
-risen-by : (tells : Bool) (d d' : Driver) (old new : Linked) (result : Result (Unit {0}) UpFault) (s : State) → d.state ≡ s → Sound d (linked_controller old)
-    → (is_down s ≡ false → (result ≡ Err AlreadyUp) × (d' ≡ d) × (new ≡ old)) → (is_down s ≡ true → Rises (step_of tells) bytes_of d old result d' new) → HasRisen tells d d' old new result
-risen-by tells d d' old new result Down e s already rises = comes-up tells d d' old new result s e (rises refl)
-risen-by tells d d' old new result Up e s already rises =
+risen-by : (tells : Bool) (d d' : Driver) (old new : Linked) (result : Result (Unit {0}) UpFault) (s : State) → d.state ≡ s → Sound d (linked_controller old) → Reaches old
+    → (is_down s ≡ false → (result ≡ Err AlreadyUp) × (d' ≡ d) × (new ≡ old)) → (is_down s ≡ true → Rises (CallOver tells) bytes_of d old result d' new) → HasRisen tells d d' old new result
+risen-by tells d d' old new result Down e s at already rises = comes-up tells d d' old new result s e at (rises refl)
+risen-by tells d d' old new result Up e s at already rises =
     let a = already refl in stays-up tells d d' old new result s (ap is_up e) a.0 a.1 a.2
-risen-by tells d d' old new result Failed e s already rises = absurd (no-way true (ap is_failed (sym e) ∙ (s.both.each Admin).failed) refl)
+risen-by tells d d' old new result Failed e s at already rises = absurd (no-way true (ap is_failed (sym e) ∙ (s.both.each Admin).failed) refl)
 
-pub bring-up-step : (tells : Bool) (d d' : Driver) (old new : Linked) (result : Result (Unit {0}) UpFault) → Sound d (linked_controller old)
-    → (is_down d.state ≡ false → (result ≡ Err AlreadyUp) × (d' ≡ d) × (new ≡ old)) → (is_down d.state ≡ true → Rises (step_of tells) bytes_of d old result d' new) → HasRisen tells d d' old new result
-bring-up-step tells d d' old new result s already rises = risen-by tells d d' old new result d.state refl s already rises
+pub bring-up-step : (tells : Bool) (d d' : Driver) (old new : Linked) (result : Result (Unit {0}) UpFault) → Sound d (linked_controller old) → Reaches old
+    → (is_down d.state ≡ false → (result ≡ Err AlreadyUp) × (d' ≡ d) × (new ≡ old)) → (is_down d.state ≡ true → Rises (CallOver tells) bytes_of d old result d' new) → HasRisen tells d d' old new result
+bring-up-step tells d d' old new result s at already rises = risen-by tells d d' old new result d.state refl s at already rises
 
 pub bring-up-site : (tells : Bool) (d d' : Driver) (old new : Linked) (result : Result (Unit {0}) UpFault) → HasRisen tells d d' old new result → new.name ∷ [] ≡ old.name ∷ [] → KeepsSite old new
 bring-up-site tells d d' old new result r n = let k = r.stays in record { cntlid = r.cntlid; world = r.world; device = r.device; others = k.others; place = k.place; name = same-name new.name old.name n }

@@ -1,10 +1,13 @@
 -- What contracts see of a fleet: its subsystem, the driver of each controller's host, and the room for the data of the
 -- last event. The k-th driver is that of controller k; a raw host has none.
-use Rattle.std.specs.Prelude.{◌≡◌, ◌≤◌, ℕ, List, [], ◌∷◌, length, take, Option, None, Some, slice_get, if◌then◌else◌}
+use Rattle.std.specs.Prelude.{◌≡◌, ◌≤◌, ℕ, List, [], ◌∷◌, length, map, take, Option, None, Some, slice_get, if◌then◌else◌}
 use Rattle.nvme_spec.specs.declared.config.ControllerConfig.{ControllerConfig}
 use Rattle.nvme_spec.specs.Limits.{most_bytes}
 use Rattle.nvme_driver.specs.Drivers.{Driver, new_driver}
 use Rattle.nvme_machine.specs.Controllers.{Controller}
+use Rattle.nvme_spec.specs.Blocks.{Device}
+use Rattle.nvme_spec.specs.Configuration.{Configuration}
+use Rattle.nvme_machine.specs.Subsystems as machine
 use Rattle.nvme_machine.specs.Subsystems.{Subsystem}
 use Rattle.nvme_event.specs.declared.seen.FleetSeen.{FleetSeen}
 use Rattle.nvme_event.specs.declared.seen.FleetSeen.TheVariants.{NoDriver}
@@ -39,12 +42,27 @@ hosts_of (d ∷ ds) (c ∷ cs) = host_by d c ∷ hosts_of ds cs
 abbrev pub opening_driver : ControllerConfig → Option Driver
 opening_driver k = if k.raw then None else Some (new_driver 1)
 
--- the fleet that it is
-unfoldable pub fleet_of : FleetState → Fleet
-fleet_of s = record {
-  site = record { world = s.subsystem.world; device = s.subsystem.device };
-  hosts = hosts_of s.drivers s.subsystem.controllers;
+-- its two layers: the subsystem, and the drivers over it
+pub record Layers : Type 0 where
+  pub subsystem : Subsystem
+  pub drivers : List (Option Driver)
+
+abbrev pub layers_of : FleetState → Layers
+layers_of s = record { subsystem = s.subsystem; drivers = s.drivers }
+
+-- the fleet of mailboxes that they are
+unfoldable pub fleet_in : Layers → Fleet
+fleet_in l = record {
+  site = record { world = l.subsystem.world; device = l.subsystem.device };
+  hosts = hosts_of l.drivers l.subsystem.controllers;
 }
+
+abbrev pub fleet_of : FleetState → Fleet
+fleet_of s = fleet_in (layers_of s)
+
+-- as a configuration opens over a medium: the subsystem opened, every driver down
+abbrev pub opening_layers : Configuration → Device → Layers
+opening_layers c d = record { subsystem = machine.opening c d; drivers = map opening_driver c.controllers }
 
 abbrev pub data_in : FleetState → List ℕ
 data_in s = take s.filled s.buffer

@@ -15,10 +15,14 @@ pub mod Sound
 pub mod Steps
 pub mod Links
 pub mod Linked
-pub mod OwnRuns
 pub mod FleetStates
+pub mod Deeds
+pub mod Layers
+pub mod RawEvents
 pub mod Running
 pub mod Apart
 pub mod Tickets
 pub mod Answered
 pub mod Unseen
+pub mod Bytes
+pub mod SinceUp

@@ -1,6 +1,6 @@
 -- What contracts see of a host's way to its controller: the subsystem, the place of the controller that is reached, and
 -- the reference through which it is.
-use Rattle.std.specs.Prelude.{◌≡◌, ℕ, Bool, get_or, slice_set}
+use Rattle.std.specs.Prelude.{◌≡◌, ◌<◌, ◌≤◌, ℕ, ◌+◌, Bool, get_or, length, slice_set}
 use Rattle.std.specs.Borrow.{GName}
 use Rattle.nvme_machine.specs.Controllers.{Controller, new_controller}
 use Rattle.nvme_machine.specs.Subsystems.{Subsystem}
@@ -43,6 +43,10 @@ pub record Linked : Type 0 where
   pub place : ℕ
   pub name : GName
 
+-- there is a controller of this identifier
+abbrev pub IsThere : Subsystem → ℕ → Type 0
+IsThere s k = (1 ≤ k) × (k ≤ length s.controllers)
+
 abbrev pub linked_setting : Linked → Setting
 linked_setting p = setting_in p.subsystem p.place
 
@@ -57,3 +61,7 @@ pub record KeepsSite (old new : Linked) : Type 0 where
   pub others : KeepsOthers old.place old.subsystem new.subsystem
   pub place : new.place ≡ old.place
   pub name : new.name ≡ old.name
+
+-- a link reaches a controller of its subsystem, which bears the number of its place
+abbrev pub Reaches : Linked → Type 0
+Reaches p = (p.place < length p.subsystem.controllers) × ((linked_controller p).cntlid ≡ p.place + 1)

@@ -1,20 +1,20 @@
 //! A call of a host's driver, and the step of its mailbox.
 
-ghost use Rattle.std.specs.Prelude.{◌≡◌, ◌<◌, ◌≤◌, ◌+◌, length};
+ghost use Rattle.std.specs.Prelude.{◌≡◌, ◌≤◌, ◌+◌, ◌-◌, length};
 ghost use Rattle.nvme_spec.specs.Limits.{most_bytes};
-ghost use Rattle.nvme_machine.specs.Subsystems.{Subsystem};
 ghost use Rattle.nvme_event.specs.Replies.{data_len};
+ghost use Rattle.nvme_fleet.specs.Deeds.{Does, DoesIfAny};
 ghost use Rattle.nvme_fleet.specs.FleetStates.{IsCalled, SoundBy, reaction_to, reply_in};
-ghost use Rattle.nvme_fleet.specs.Linked.{KeepsOthers, KeepsSite, controller_in, linked_controller};
-ghost use Rattle.nvme_fleet.specs.OwnRuns.{IsLinkRun, IsOwnRun};
+ghost use Rattle.nvme_fleet.specs.Linked.{IsThere, KeepsOthers, KeepsSite, Reaches, controller_in, linked_controller};
 ghost use Rattle.nvme_fleet.specs.Sound.{Sound, mailbox};
 ghost use Rattle.nvme_fleet.specs.Steps.{IsStep};
 
 use crate::link::Link;
 use crate::member;
-use crate::seats::Reach;
 use nvme_driver::{Driver, Request};
 use nvme_event::FleetSeen;
+use nvme_medium::Medium;
+use nvme_subsys::Subsystem;
 
 /// What is asked of a driver.
 #[derive(Clone, Copy)]
@@ -32,20 +32,22 @@ pub(crate) enum DriverCall<'a> {
 }
 
 /// A driver's call over the link to its controller. The data that it hands up stand at the front of the buffer.
-fn deliver_over<S: Reach>(
+fn deliver_over<M: Medium>(
     driver: &mut Driver,
-    link: &mut Link<'_, S>,
+    link: &mut Link<'_, M>,
     buffer: &mut [u8],
     call: DriverCall<'_>,
 ) -> FleetSeen
+    requires there { Reaches link.old }
     requires sound { Sound driver.old (linked_controller link.old) }
     requires room { most_bytes ≤ length buffer.old }
     ensures step { IsStep (reaction_to call.entry (mailbox driver.old (linked_controller link.old))) driver.new
         (linked_controller link.new) (reply_in result buffer.new) }
+    ensures below { Does M.tells (link.old.place + 1) call.entry driver.old link.old.subsystem result driver.new
+        link.new.subsystem }
     ensures fits { data_len result ≤ length buffer.new }
     ensures site { KeepsSite link.old link.new }
     ensures name { link.new.name ≡ link.old.name }
-    ensures events { IsLinkRun S.tells link.old link.new }
 {
     match call {
         DriverCall::BringUp => FleetSeen::Up(member::bring_up(driver, link)),
@@ -60,57 +62,57 @@ fn deliver_over<S: Reach>(
 }
 
 /// A driver's call at its controller: the access state, the medium and all other controllers stay as they are.
-fn deliver_at<S: Reach>(
+fn deliver_at<M: Medium>(
     driver: &mut Driver,
-    seats: &mut S,
-    place: usize,
+    subsystem: &mut Subsystem<M>,
+    cntlid: u16,
     buffer: &mut [u8],
     call: DriverCall<'_>,
 ) -> FleetSeen
-    requires there { place < length (let s : Subsystem = S.subsystem seats.old in s.controllers) }
-    requires sound { Sound driver.old (controller_in (S.subsystem seats.old) place) }
+    requires there { IsThere subsystem.old cntlid }
+    requires named { (controller_in subsystem.old (cntlid - 1)).cntlid ≡ cntlid }
+    requires sound { Sound driver.old (controller_in subsystem.old (cntlid - 1)) }
     requires room { most_bytes ≤ length buffer.old }
-    ensures step { IsStep (reaction_to call.entry (mailbox driver.old (controller_in (S.subsystem seats.old) place)))
-        driver.new (controller_in (S.subsystem seats.new) place) (reply_in result buffer.new) }
+    ensures step { IsStep (reaction_to call.entry (mailbox driver.old (controller_in subsystem.old (cntlid - 1))))
+        driver.new (controller_in subsystem.new (cntlid - 1)) (reply_in result buffer.new) }
+    ensures below { Does M.tells cntlid call.entry driver.old subsystem.old result driver.new subsystem.new }
     ensures fits { data_len result ≤ length buffer.new }
-    ensures site { KeepsSite
-        (record { subsystem = S.subsystem seats.old; place = place; name = seats.entry.ghost_name })
-        (record { subsystem = S.subsystem seats.new; place = place; name = seats.entry.ghost_name }) }
-    ensures events { IsLinkRun S.tells
-        (record { subsystem = S.subsystem seats.old; place = place; name = seats.entry.ghost_name })
-        (record { subsystem = S.subsystem seats.new; place = place; name = seats.entry.ghost_name }) }
+    ensures world { subsystem.new.world ≡ subsystem.old.world }
+    ensures device { subsystem.new.device ≡ subsystem.old.device }
+    ensures others { KeepsOthers (cntlid - 1) subsystem.old subsystem.new }
 {
-    let mut link = Link { seats, place };
+    let mut link = Link { subsystem, cntlid };
     let seen = deliver_over(driver, &mut link, buffer, call);
     // Taken apart, so that what it leaves behind its reference is known.
-    let Link { seats: _seats, .. } = link;
+    let Link {
+        subsystem: _subsystem,
+        ..
+    } = link;
     seen
 }
 
 /// A call of a host's driver, if it has one.
-pub(crate) fn deliver<S: Reach>(
+pub(crate) fn deliver<M: Medium>(
     driver: &mut Option<Driver>,
-    seats: &mut S,
-    place: usize,
+    subsystem: &mut Subsystem<M>,
+    cntlid: u16,
     buffer: &mut [u8],
     call: DriverCall<'_>,
 ) -> FleetSeen
-    requires there { place < length (let s : Subsystem = S.subsystem seats.old in s.controllers) }
-    requires sound { SoundBy driver.old (controller_in (S.subsystem seats.old) place) }
+    requires there { IsThere subsystem.old cntlid }
+    requires named { (controller_in subsystem.old (cntlid - 1)).cntlid ≡ cntlid }
+    requires sound { SoundBy driver.old (controller_in subsystem.old (cntlid - 1)) }
     requires room { most_bytes ≤ length buffer.old }
-    ensures called { IsCalled driver.old (controller_in (S.subsystem seats.old) place) call.entry driver.new
-        (controller_in (S.subsystem seats.new) place) (reply_in result buffer.new) }
+    ensures called { IsCalled driver.old (controller_in subsystem.old (cntlid - 1)) call.entry driver.new
+        (controller_in subsystem.new (cntlid - 1)) (reply_in result buffer.new) }
+    ensures below { DoesIfAny M.tells cntlid call.entry driver.old subsystem.old result driver.new subsystem.new }
     ensures fits { data_len result ≤ length buffer.new }
-    ensures world { (let s : Subsystem = S.subsystem seats.new in s.world) ≡ (let s : Subsystem = S.subsystem seats.old
-        in s.world) }
-    ensures device { (let s : Subsystem = S.subsystem seats.new in s.device)
-        ≡ (let s : Subsystem = S.subsystem seats.old in s.device) }
-    ensures others { KeepsOthers place (S.subsystem seats.old) (S.subsystem seats.new) }
-    ensures events { (controller_in (S.subsystem seats.old) place).cntlid ≡ place + 1
-        → IsOwnRun S.tells (place + 1) (S.subsystem seats.old) (S.subsystem seats.new) }
+    ensures world { subsystem.new.world ≡ subsystem.old.world }
+    ensures device { subsystem.new.device ≡ subsystem.old.device }
+    ensures others { KeepsOthers (cntlid - 1) subsystem.old subsystem.new }
 {
     match driver {
-        Some(driver) => deliver_at(driver, seats, place, buffer, call),
+        Some(driver) => deliver_at(driver, subsystem, cntlid, buffer, call),
         None => FleetSeen::NoDriver,
     }
 }

@@ -1,38 +1,37 @@
 //! The fleet, and one event of it.
 
-ghost use Rattle.std.specs.Prelude.{◌≡◌, ◌<◌, ◌≤◌, ◌+◌, length, IfOk, IfErr, IfSome, IfNone, None, Some, [], unwrap_or};
+ghost use Rattle.std.specs.Prelude.{◌≡◌, ◌≤◌, ◌-◌, length, IfOk, IfErr, IfSome, IfNone, None, Some, [], unwrap_or};
 ghost use Rattle.nvme_spec.specs.Configuration.{first_config_fault};
 ghost use Rattle.nvme_spec.specs.Limits.{most_bytes};
 ghost use Rattle.nvme_spec.specs.declared.config.ConfigFault.TheVariants.{NoMemory as WantOfMemory};
 ghost use Rattle.nvme_ns.specs.Configured.{configuration};
-ghost use Rattle.nvme_machine.specs.Subsystems.{controller_at};
-ghost use Rattle.nvme_event.specs.Events.{controller_of};
+ghost use Rattle.nvme_machine.specs.Subsystems.{controller_at, controller_of};
 ghost use Rattle.nvme_event.specs.Replies.{data_len};
-ghost use Rattle.nvme_fleet.specs.Deliveries.{plain};
-ghost use Rattle.nvme_fleet.specs.FleetStates.{fleet_of, data_in, reply_in, reaction_to};
-ghost use Rattle.nvme_fleet.specs.Linked.{controller_in};
-ghost use Rattle.nvme_fleet.specs.OwnRuns.{IsOwnRun};
-ghost use Rattle.nvme_fleet.specs.Fleets.{Is, Step, ExecutesAt, called, fetched_at, host_at, opening, raw_stored, raw_wrote};
+ghost use Rattle.nvme_fleet.specs.FleetStates.{fleet_of, layers_of, opening_layers, data_in, reply_in, reaction_to};
+ghost use Rattle.nvme_fleet.specs.Layers.{Applies, AppliesRaw, CallsAt, Happens, driver_at, told as told_of};
+ghost use Rattle.nvme_fleet.specs.Linked.{IsThere, controller_in};
+ghost use Rattle.nvme_fleet.specs.Fleets.{Is, Step, ExecutesAt, called, fetched_at, host_at, opening};
+ghost use Rattle.nvme_fleet.specs.RawEvents.{IsOfHost, raw_moment};
 
 use crate::delivery::{DriverCall, deliver};
-use crate::opening::rooms_of;
-use crate::seats::{Reach, Seats};
+use crate::opening::{fault_of, rooms_of};
 use nvme_ctrl::Controller;
 use nvme_driver::Driver;
 use nvme_event::{FleetEvent, FleetSeen};
+use nvme_machine::{Event, Seen};
 use nvme_medium::Medium;
-use nvme_ns::Spaces;
-use nvme_spec::{Config, ConfigFault};
-use nvme_subsys::NewFault;
+use nvme_spec::Config;
+use nvme_subsys::{NewFault, Subsystem};
 use nvme_wire::NoMemory;
 use std::alloc::Global;
 use std::marker::Model;
 
 /// Hosts over one subsystem: controller k is that of the k-th host, which has a driver, or is raw and has none.
-/// Contracts see it as the record `FleetState`, and as the fleet of mailboxes that this is.
+/// Contracts see it as the record `FleetState`, as its two layers, which are the subsystem and the drivers, and as the
+/// fleet of mailboxes that these are.
 #[derive(Drop)]
 pub struct Fleet<M: Medium> {
-    seats: Seats<M>,
+    subsystem: Subsystem<M>,
     drivers: Vec<Option<Driver>>,
     buffer: Vec<u8>,
     filled: usize,
@@ -44,7 +43,7 @@ impl<M: Medium> Model for Fleet<M> {
     ghost Value = { FleetState };
 
     ghost view = { λ f. record {
-      subsystem = f.seats;
+      subsystem = f.subsystem;
       drivers = f.drivers.items;
       buffer = f.buffer.items;
       filled = f.filled;
@@ -52,22 +51,40 @@ impl<M: Medium> Model for Fleet<M> {
 
     ghost invariant = { λ f.
         IsSoundFleet (record {
-          subsystem = f.seats;
+          subsystem = f.subsystem;
           drivers = f.drivers.items;
           buffer = f.buffer.items;
           filled = f.filled;
         }) };
 }
 
+/// What an event of the subsystem gives to see at a fleet, where no event reads a register.
+#[inline(always)]
+fn told(seen: Seen) -> FleetSeen
+    ensures { result ≡ told_of seen }
+{
+    match seen {
+        Seen::Stored => FleetSeen::Stored,
+        Seen::Outside => FleetSeen::Outside,
+        Seen::Wrote | Seen::Value(_) => FleetSeen::Wrote,
+        Seen::Fetched(fetched) => FleetSeen::Fetched(fetched),
+        Seen::Executed(executed) => FleetSeen::Executed(executed),
+        Seen::NoController => FleetSeen::NoController,
+    }
+}
+
 impl<M: Medium> Fleet<M> {
     /// Opens a configuration over a medium: nobody has registered, nothing is reserved or write protected, no
-    /// controller was ever enabled, every window is of zeros, and every driver is down. Memory is asked for last.
+    /// controller was ever enabled, every window is of zeros, and every driver is down.
     ///
     /// # Errors
     ///
     /// The first fault of the configuration, or, where it has none, `NoMemory`; with the medium as it was.
     pub fn new(alloc: Global, config: &Config, medium: M) -> Result<Fleet<M>, NewFault<M>>
-        ensures opened { IfOk result (λ fleet. fleet_of fleet ≡ opening (configuration config.now) (M.device medium)) }
+        ensures opened { IfOk result
+            (λ fleet. layers_of fleet ≡ opening_layers (configuration config.now) (M.device medium)) }
+        ensures mailboxes { IfOk result
+            (λ fleet. fleet_of fleet ≡ opening (configuration config.now) (M.device medium)) }
         ensures quiet { IfOk result (λ fleet. data_in fleet ≡ []) }
         ensures accepted { IfOk result (λ _. first_config_fault (configuration config.now) (M.size medium) ≡ None) }
         ensures fault { IfErr result
@@ -75,96 +92,93 @@ impl<M: Medium> Fleet<M> {
             WantOfMemory) }
         ensures kept { IfErr result (λ refused. refused.medium ≡ medium) }
     {
-        let spaces = match Spaces::new(config, medium.blocks()) {
-            Ok(spaces) => spaces,
-            Err(fault) => return Err(NewFault { fault, medium }),
-        };
         match rooms_of(alloc, &config.controllers) {
             Ok(rooms) => Ok(Fleet {
-                seats: Seats {
-                    spaces,
-                    medium,
-                    controllers: rooms.controllers,
-                },
+                subsystem: Subsystem::new(alloc, config, medium)?,
                 drivers: rooms.drivers,
                 buffer: rooms.buffer,
                 filled: 0,
             }),
             Err(NoMemory) => Err(NewFault {
-                fault: ConfigFault::NoMemory,
+                fault: fault_of(config, medium.blocks()),
                 medium,
             }),
         }
     }
 
     /// The place of a controller.
+    #[inline(always)]
     fn place_of(&self, cntlid: u16) -> Option<usize>
         ensures none { IfNone result (host_at (fleet_of self.now) cntlid ≡ None) }
         ensures absent { IfNone result (controller_at self.now.subsystem cntlid ≡ None) }
-        ensures some { IfSome result (λ place. (cntlid ≡ place + 1) × (place < length self.now.subsystem.controllers)) }
-        ensures named { IfSome result (λ place. (controller_in self.now.subsystem place).cntlid ≡ place + 1) }
+        ensures some { IfSome result (λ place. (place ≡ cntlid - 1) × IsThere self.now.subsystem cntlid) }
+        ensures named { IfSome result (λ _. (controller_in self.now.subsystem (cntlid - 1)).cntlid ≡ cntlid) }
     {
-        if cntlid == 0 {
+        let Some(_controller) = self.subsystem.controller(cntlid) else {
             return None;
-        }
-        let place = usize::from(cntlid - 1);
-        if place >= self.seats.len() {
-            return None;
-        }
-        Some(place)
+        };
+        Some(usize::from(cntlid - 1))
     }
 
     /// A call of a host's driver.
+    #[inline(never)]
     fn deliver(&mut self, cntlid: u16, call: DriverCall<'_>) -> FleetSeen
         ensures step { Is (called (fleet_of self.old) cntlid (reaction_to call.entry)) (reply_in result self.new.buffer)
             (fleet_of self.new) }
+        ensures below { CallsAt (driver_at self.old.drivers cntlid) M.tells (layers_of self.old) cntlid call.entry
+            result (layers_of self.new) }
         ensures fits { data_len result ≤ length self.new.buffer }
-        ensures events { IsOwnRun M.tells cntlid self.old.subsystem self.new.subsystem }
     {
         let Some(place) = self.place_of(cntlid) else {
             return FleetSeen::NoController;
         };
         deliver(
             &mut self.drivers[place],
-            &mut self.seats,
-            place,
+            &mut self.subsystem,
+            cntlid,
             &mut self.buffer,
             call,
         )
     }
 
     /// A fetch of a controller.
+    #[inline(never)]
     fn fetch(&mut self, cntlid: u16, qid: u16) -> FleetSeen
         ensures step { Is (fetched_at (host_at (fleet_of self.old) cntlid) (fleet_of self.old) cntlid qid)
             (reply_in result self.new.buffer) (fleet_of self.new) }
+        ensures below { Applies M.tells (layers_of self.old) (Event.Fetch cntlid qid) result (layers_of self.new) }
         ensures fits { data_len result ≤ length self.new.buffer }
-        ensures events { IsOwnRun M.tells cntlid self.old.subsystem self.new.subsystem }
     {
-        let Some(place) = self.place_of(cntlid) else {
+        let Some(_place) = self.place_of(cntlid) else {
             return FleetSeen::NoController;
         };
-        FleetSeen::Fetched(self.seats.fetch(place, qid))
+        told(self.subsystem.apply(Event::Fetch(cntlid, qid)))
     }
 
     /// An execution of a controller, and what it marks.
+    #[inline(never)]
     fn execute(&mut self, cntlid: u16, i: usize) -> FleetSeen
         ensures step { ExecutesAt (host_at (fleet_of self.old) cntlid) M.tells (fleet_of self.old) cntlid i
             (reply_in result self.new.buffer) (fleet_of self.new) }
+        ensures below { Applies M.tells (layers_of self.old) (Event.Execute cntlid i) result (layers_of self.new) }
         ensures fits { data_len result ≤ length self.new.buffer }
-        ensures events { IsOwnRun M.tells cntlid self.old.subsystem self.new.subsystem }
     {
-        let Some(place) = self.place_of(cntlid) else {
+        let Some(_place) = self.place_of(cntlid) else {
             return FleetSeen::NoController;
         };
-        FleetSeen::Executed(self.seats.execute(place, i))
+        told(self.subsystem.apply(Event::Execute(cntlid, i)))
     }
 
-    /// A store of a raw host.
-    fn store(&mut self, cntlid: u16, address: u64, bytes: &[u8]) -> FleetSeen
-        ensures step { Is (raw_stored (fleet_of self.old) cntlid address bytes.now) (reply_in result self.new.buffer)
+    /// A store or a register write of a raw host.
+    #[inline(never)]
+    fn apply_raw(&mut self, cntlid: u16, event: Event<'_>) -> FleetSeen
+        requires own { controller_of event ≡ cntlid }
+        requires host { IsOfHost event }
+        ensures step { Is (raw_moment (fleet_of self.old) event.entry) (reply_in result self.new.buffer)
             (fleet_of self.new) }
+        ensures below { AppliesRaw (driver_at self.old.drivers cntlid) M.tells (layers_of self.old) event.entry result
+            (layers_of self.new) }
         ensures fits { data_len result ≤ length self.new.buffer }
-        ensures events { IsOwnRun M.tells cntlid self.old.subsystem self.new.subsystem }
     {
         let Some(place) = self.place_of(cntlid) else {
             return FleetSeen::NoController;
@@ -172,33 +186,17 @@ impl<M: Medium> Fleet<M> {
         if self.drivers[place].is_some() {
             return FleetSeen::NotRaw;
         }
-        self.seats.store_raw(place, address, bytes)
-    }
-
-    /// A write to a register of a raw host's controller.
-    fn write32(&mut self, cntlid: u16, offset: u64, value: u32) -> FleetSeen
-        ensures step { Is (raw_wrote (fleet_of self.old) cntlid offset value) (reply_in result self.new.buffer)
-            (fleet_of self.new) }
-        ensures fits { data_len result ≤ length self.new.buffer }
-        ensures events { IsOwnRun M.tells cntlid self.old.subsystem self.new.subsystem }
-    {
-        let Some(place) = self.place_of(cntlid) else {
-            return FleetSeen::NoController;
-        };
-        if self.drivers[place].is_some() {
-            return FleetSeen::NotRaw;
-        }
-        self.seats.write32(place, offset, value);
-        FleetSeen::Wrote
+        told(self.subsystem.apply(event))
     }
 
     /// One event of the host that it names; where there is no such controller, or its host is of the other kind,
     /// nothing happens.
+    #[inline(always)]
     fn happen(&mut self, event: FleetEvent<'_>) -> FleetSeen
         ensures step { Step M.tells (fleet_of self.old) event.entry (reply_in result self.new.buffer)
             (fleet_of self.new) }
+        ensures below { Happens M.tells (layers_of self.old) event.entry result (layers_of self.new) }
         ensures fits { data_len result ≤ length self.new.buffer }
-        ensures events { IsOwnRun M.tells (controller_of event.entry) self.old.subsystem self.new.subsystem }
     {
         match event {
             FleetEvent::BringUp(cntlid) => self.deliver(cntlid, DriverCall::BringUp),
@@ -208,17 +206,21 @@ impl<M: Medium> Fleet<M> {
             FleetEvent::Execute(cntlid, i) => self.execute(cntlid, i),
             FleetEvent::Poll(cntlid) => self.deliver(cntlid, DriverCall::Poll),
             FleetEvent::Reset(cntlid) => self.deliver(cntlid, DriverCall::Reset),
-            FleetEvent::RawStore(cntlid, address, bytes) => self.store(cntlid, address, bytes),
-            FleetEvent::RawWrite32(cntlid, offset, value) => self.write32(cntlid, offset, value),
+            FleetEvent::RawStore(cntlid, address, bytes) => {
+                self.apply_raw(cntlid, Event::Store(cntlid, address, bytes))
+            }
+            FleetEvent::RawWrite32(cntlid, offset, value) => {
+                self.apply_raw(cntlid, Event::Write32(cntlid, offset, value))
+            }
         }
     }
 
-    /// One event: the step of the fleet of mailboxes. At the subsystem it is a list of events of the host's own
-    /// controller.
+    /// One event: the step of the fleet of mailboxes, and exactly these events of the subsystem. One that is refused,
+    /// or finds nothing to do, leaves both layers as they were.
     pub fn apply(&mut self, event: FleetEvent<'_>) -> FleetSeen
         ensures step { Step M.tells (fleet_of self.old) event.entry (record { seen = result; bytes = data_in self.new })
             (fleet_of self.new) }
-        ensures events { IsOwnRun M.tells (controller_of event.entry) self.old.subsystem self.new.subsystem }
+        ensures below { Happens M.tells (layers_of self.old) event.entry result (layers_of self.new) }
     {
         let seen = self.happen(event);
         self.filled = seen.data_len();
@@ -238,16 +240,13 @@ impl<M: Medium> Fleet<M> {
         ensures none { IfNone result (controller_at self.now.subsystem cntlid ≡ None) }
         ensures some { IfSome result (λ controller. controller_at self.now.subsystem cntlid ≡ Some controller.now) }
     {
-        let Some(place) = self.place_of(cntlid) else {
-            return None;
-        };
-        Some(self.seats.controller(place))
+        self.subsystem.controller(cntlid)
     }
 
     /// The medium, with the content that the commands have left.
     pub fn into_medium(self) -> M
         ensures { M.device result ≡ self.subsystem.device }
     {
-        self.seats.into_medium()
+        self.subsystem.into_medium()
     }
 }

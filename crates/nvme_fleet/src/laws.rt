@@ -2,11 +2,13 @@
 
 ghost use Rattle.nvme_fleet.specs.Answered.{DoneAnswersItsRequest, DoneIsItsExecution, NewIsClear, ResetClears, TicketNamesItsRequest};
 ghost use Rattle.nvme_fleet.specs.Apart.{HostsAreApart};
+ghost use Rattle.nvme_fleet.specs.Bytes.{RunsOfMailboxes, LayoutStays, FencedEventsWriteNothing, PermissionsStay as BytePermissionsStay, FencingHolds as ByteFencingHolds, OthersWindowsStay};
 ghost use Rattle.nvme_fleet.specs.Determined.{FailuresNeverFall, RunExists, RunIsUnique};
 ghost use Rattle.nvme_fleet.specs.Fencing.{OnlyAllowedActionsReserve, PermissionsStay, FencedWritesAreDenied, FencingHolds};
 ghost use Rattle.nvme_fleet.specs.IoCommands.{OpeningIsNumbered, NumbersStay, ExecutedAsThePolicyAllows};
 ghost use Rattle.nvme_fleet.specs.Preempting.{OutsidersMayNotWrite, OutsidersStayOutside, PreemptedIsOutside, PreemptedStaysOut};
 ghost use Rattle.nvme_fleet.specs.Links.{BringUpIsAStep};
+ghost use Rattle.nvme_fleet.specs.SinceUp.{DownIsClear, DoneSinceItCameUp};
 ghost use Rattle.nvme_fleet.specs.Tickets.{DriversStay, EachIsHeldOnce, EachTicketGoesOnce, HeldAreCounted, NewHoldsEachOnce, OpeningHasDrivers, OpeningIsNew, TicketsAreConsecutive, TicketsBalance, TicketsOfAnOpeningGoOnce};
 ghost use Rattle.nvme_fleet.specs.Steps.{OpeningIsSound, JudgedAsItsRequest, AllowedServesItsRequest, AnswersItsRequest, NothingToExecute, PostingHasRoom, PostingIsAStep, IoExecutionIsAStep, AdminJudgedAsItsRequest, AdminAnswersItsRequest, AdminExecutionIsAStep, ExecutionIsAStep, ExecutionIsAFleetStep, NoExecutionIsAFleetStep, RefusalIsAStep, PlaceIsAStep, RingIsAStep, FetchIsAStep, MarksAreSteps, PollIsAStep, ResetIsAStep};
 ghost use Rattle.nvme_fleet.specs.Unseen.{UnseenNeverComes};
@@ -146,4 +148,23 @@ pub fn preempted_hosts_stay_out()
     ensures outside { OutsidersStayOutside }
     ensures preempted { PreemptedIsOutside }
     ensures run { PreemptedStaysOut }
+{}
+
+/// A run of both layers is one of the mailboxes. Fencing is kept below as well: a host that may not write a namespace
+/// changes none of its bytes, until a reservation command on it is executed that all rules let pass; and no event
+/// changes a byte of the memory that another host shares with its controller.
+pub fn bytes_are_kept()
+    ensures mailboxes { RunsOfMailboxes }
+    ensures layout { LayoutStays }
+    ensures event { FencedEventsWriteNothing }
+    ensures permissions { BytePermissionsStay }
+    ensures run { ByteFencingHolds }
+    ensures windows { OthersWindowsStay }
+{}
+
+/// A driver that is down waits for nothing, from an opening on. So what it hands up as done after any moment at which it
+/// was down was placed, and then executed, since then: since it last came up.
+pub fn done_since_it_came_up()
+    ensures clear { DownIsClear }
+    ensures done { DoneSinceItCameUp }
 {}

@@ -7,14 +7,13 @@
 mod delivery;
 mod examples;
 mod fleet;
-mod laws;
+pub mod laws;
 mod link;
 mod member;
 mod opening;
 mod place;
 mod poll;
 mod running;
-mod seats;
 
 pub use fleet::Fleet;
 pub use nvme_driver::{Answer, NotUp, PlaceRefusal, PollFault, Request, Ticket, UpFault};

@@ -1,59 +1,84 @@
 //! A host's way to its controller.
 
-use crate::seats::Reach;
+ghost use Rattle.std.specs.Prelude.{◌≡◌, length};
+ghost use Rattle.nvme_spec.specs.Memory.{window_size};
+ghost use Rattle.nvme_fleet.specs.Linked.{linked_controller};
+
 use nvme_driver::Port;
+use nvme_machine::{Event, Seen};
+use nvme_medium::Medium;
 use nvme_mem::Window;
+use nvme_spec::Piece;
+use nvme_subsys::Subsystem;
 use std::marker::Model;
 
-/// The controller at a place, as its host's driver reaches it. A turn is a fetch from the admin queue, and an execution
-/// of the first command that was fetched.
+/// A controller of a subsystem, as its host's driver reaches it: each call is events of that controller. A turn is a
+/// fetch from the admin queue, and an execution of the first command that was fetched.
 #[derive(Drop)]
-pub(crate) struct Link<'a, S: Reach> {
-    pub(crate) seats: &'a mut S,
-    pub(crate) place: usize,
+pub(crate) struct Link<'a, M: Medium> {
+    pub(crate) subsystem: &'a mut Subsystem<M>,
+    pub(crate) cntlid: u16,
 }
 
-impl<'a, S: Reach> Model for Link<'a, S> {
-    ghost use Rattle.std.specs.Prelude.{◌<◌, length};
-    ghost use Rattle.nvme_machine.specs.Subsystems.{Subsystem};
-    ghost use Rattle.nvme_fleet.specs.Linked.{Linked};
+impl<'a, M: Medium> Model for Link<'a, M> {
+    ghost use Rattle.std.specs.Prelude.{◌-◌};
+    ghost use Rattle.nvme_fleet.specs.Linked.{Linked, IsThere};
 
     ghost Value = { Linked };
 
-    ghost view = { λ p. record { subsystem = S.subsystem p.seats.now; place = p.place; name = p.seats.ghost_name } };
+    ghost view = { λ p. record { subsystem = p.subsystem.now; place = p.cntlid - 1; name = p.subsystem.ghost_name } };
 
-    ghost invariant = { λ p. p.place < length (let s : Subsystem = S.subsystem p.seats.now in s.controllers) };
+    ghost invariant = { λ p. IsThere p.subsystem.now p.cntlid };
 }
 
-impl<S: Reach> Port for Link<'_, S> {
+impl<M: Medium> Link<'_, M> {
+    /// Its window is whole, as every window is.
+    #[inline(always)]
+    fn is_whole(&self)
+        ensures { length (linked_controller self.now).window ≡ window_size }
+    {
+        self.window().bytes(Piece { address: 0, len: 0 });
+    }
+}
+
+impl<M: Medium> Port for Link<'_, M> {
     ghost use Rattle.std.specs.Prelude.{◌≡◌, [], ◌∷◌};
-    ghost use Rattle.nvme_fleet.specs.Linked.{linked_controller, linked_setting, KeepsOthers};
-    ghost use Rattle.nvme_fleet.specs.Links.{LinkStep};
+    ghost use Rattle.nvme_fleet.specs.Deeds.{CallOver};
+    ghost use Rattle.nvme_fleet.specs.Linked.{linked_controller};
 
     ghost bytes = { λ p. (linked_controller p).window };
 
-    ghost step = { λ p call q. LinkStep S.tells (linked_setting p) call (linked_setting q)
-        × KeepsOthers p.place p.subsystem q.subsystem × (q.place ≡ p.place) };
+    ghost step = { CallOver M.tells };
 
     ghost links = { λ p. p.name ∷ [] };
 
+    #[inline(always)]
     fn window(&self) -> &Window {
-        self.seats.window(self.place)
+        self.subsystem.controller(self.cntlid).unwrap().window()
     }
 
+    #[inline(always)]
     fn store(&mut self, addr: u64, part: &[u8]) {
-        self.seats.store(self.place, addr, part);
+        self.is_whole();
+        self.subsystem.apply(Event::Store(self.cntlid, addr, part));
     }
 
+    #[inline(always)]
     fn read32(&mut self, offset: u64) -> u32 {
-        self.seats.read32(self.place, offset)
+        match self.subsystem.apply(Event::Read32(self.cntlid, offset)) {
+            Seen::Value(value) => value,
+            _ => unreachable!(),
+        }
     }
 
+    #[inline(always)]
     fn write32(&mut self, offset: u64, value: u32) {
-        self.seats.write32(self.place, offset, value);
+        self.subsystem
+            .apply(Event::Write32(self.cntlid, offset, value));
     }
 
     fn turn(&mut self) {
-        self.seats.turn(self.place);
+        self.subsystem.apply(Event::Fetch(self.cntlid, 0));
+        self.subsystem.apply(Event::Execute(self.cntlid, 0));
     }
 }

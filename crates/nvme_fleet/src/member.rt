@@ -1,28 +1,33 @@
 //! A host's driver at its controller: each call is one event of a fleet, and the step of their mailbox.
 
+ghost use Rattle.std.specs.Prelude.{◌+◌};
 ghost use Rattle.nvme_event.specs.declared.seen.FleetSeen.TheVariants.{Up, Rung, Reset};
+ghost use Rattle.nvme_fleet.specs.Deeds.{ComesUp, Rings, Resets};
 ghost use Rattle.nvme_fleet.specs.Deliveries.{brought_up, rung, reset as reset_mailbox, plain};
-ghost use Rattle.nvme_fleet.specs.Linked.{KeepsSite, linked_controller};
-ghost use Rattle.nvme_fleet.specs.OwnRuns.{IsLinkRun};
+ghost use Rattle.nvme_fleet.specs.Linked.{KeepsSite, Reaches, linked_controller};
 ghost use Rattle.nvme_fleet.specs.Sound.{Sound, mailbox};
 ghost use Rattle.nvme_fleet.specs.Steps.{IsStep};
 
 use crate::link::Link;
 pub use crate::place::place;
 pub use crate::poll::poll;
-use crate::seats::Reach;
 use nvme_driver::{Driver, NotUp, UpFault};
+use nvme_medium::Medium;
 
 /// Brings the controller up. A driver that is down always comes up.
 ///
 /// # Errors
 /// `AlreadyUp` where the driver is up; nothing changes then.
-pub fn bring_up<S: Reach>(driver: &mut Driver, link: &mut Link<'_, S>) -> Result<(), UpFault>
+// Not inlined, so that the other calls do not pay for the room of its locals.
+#[inline(never)]
+pub fn bring_up<M: Medium>(driver: &mut Driver, link: &mut Link<'_, M>) -> Result<(), UpFault>
+    requires there { Reaches link.old }
     requires sound { Sound driver.old (linked_controller link.old) }
     ensures step { IsStep (brought_up (mailbox driver.old (linked_controller link.old))) driver.new
         (linked_controller link.new) (plain (Up result)) }
     ensures site { KeepsSite link.old link.new }
-    ensures events { IsLinkRun S.tells link.old link.new }
+    ensures below { ComesUp M.tells (link.old.place + 1) driver.old link.old.subsystem result driver.new
+        link.new.subsystem }
 {
     driver.bring_up(link)
 }
@@ -31,23 +36,26 @@ pub fn bring_up<S: Reach>(driver: &mut Driver, link: &mut Link<'_, S>) -> Result
 ///
 /// # Errors
 /// `NotUp` where the driver is not up; nothing changes then.
-pub fn ring<S: Reach>(driver: &mut Driver, link: &mut Link<'_, S>) -> Result<(), NotUp>
+pub fn ring<M: Medium>(driver: &mut Driver, link: &mut Link<'_, M>) -> Result<(), NotUp>
+    requires there { Reaches link.old }
     requires sound { Sound driver.old (linked_controller link.old) }
     ensures step { IsStep (rung (mailbox driver.old (linked_controller link.old))) driver.new
         (linked_controller link.new) (plain (Rung result)) }
     ensures site { KeepsSite link.old link.new }
-    ensures events { IsLinkRun S.tells link.old link.new }
+    ensures below { Rings M.tells (link.old.place + 1) driver.old link.old.subsystem result driver.new
+        link.new.subsystem }
 {
     driver.ring(link)
 }
 
 /// Resets the controller. All requests that were not handed up are aborted.
-pub fn reset<S: Reach>(driver: &mut Driver, link: &mut Link<'_, S>)
+pub fn reset<M: Medium>(driver: &mut Driver, link: &mut Link<'_, M>)
+    requires there { Reaches link.old }
     requires sound { Sound driver.old (linked_controller link.old) }
     ensures step { IsStep (reset_mailbox (mailbox driver.old (linked_controller link.old))) driver.new
         (linked_controller link.new) (plain Reset) }
     ensures site { KeepsSite link.old link.new }
-    ensures events { IsLinkRun S.tells link.old link.new }
+    ensures below { Resets M.tells (link.old.place + 1) driver.old link.old.subsystem driver.new link.new.subsystem }
 {
     driver.reset(link);
 }

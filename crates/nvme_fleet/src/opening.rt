@@ -1,24 +1,24 @@
 //! Opening a fleet.
 
-ghost use Rattle.std.specs.Prelude.{◌≡◌, map, replicate, IfOk};
-ghost use Rattle.nvme_spec.specs.declared.config.ControllerConfig.{ControllerConfig as Configured};
-ghost use Rattle.nvme_machine.specs.Controllers.{new_controller};
+ghost use Rattle.std.specs.Prelude.{◌≡◌, map, replicate, IfOk, unwrap_or};
+ghost use Rattle.nvme_spec.specs.Configuration.{first_config_fault};
+ghost use Rattle.nvme_spec.specs.declared.config.ConfigFault.TheVariants.{NoMemory as WantOfMemory};
+ghost use Rattle.nvme_ns.specs.Configured.{configuration};
 ghost use Rattle.nvme_fleet.specs.FleetStates.{opening_driver};
 
-use nvme_ctrl::Controller;
 use nvme_driver::Driver;
-use nvme_spec::ControllerConfig;
-use nvme_subsys::controllers_of;
+use nvme_ns::Spaces;
+use nvme_spec::{Config, ConfigFault, ControllerConfig};
 use nvme_wire::NoMemory;
 use std::alloc::Global;
 
 /// How many bytes of data a request moves at most.
 pub(crate) const MOST_BYTES: usize = 131_072;
 
-/// What a fleet asks memory for: its controllers, the driver of each one's host, and room for the data of an event.
+/// What a fleet asks memory for beside its subsystem: the driver of each controller's host, and room for the data of an
+/// event.
 #[derive(Drop)]
 pub(crate) struct Rooms {
-    pub(crate) controllers: Vec<Controller>,
     pub(crate) drivers: Vec<Option<Driver>>,
     pub(crate) buffer: Vec<u8>,
 }
@@ -49,20 +49,27 @@ fn drivers_of(alloc: Global, configs: &[ControllerConfig]) -> Result<Vec<Option<
     Ok(drivers)
 }
 
-/// All that a fleet of these controllers asks memory for.
+/// All that a fleet of these controllers asks memory for beside its subsystem.
 ///
 /// # Errors
 ///
 /// `NoMemory` where the allocator has no room for it.
 pub(crate) fn rooms_of(alloc: Global, configs: &[ControllerConfig]) -> Result<Rooms, NoMemory>
-    ensures controllers { IfOk result
-        (λ rooms. rooms.controllers.items ≡ map (λ (k : Configured). new_controller k.cntlid) configs.now) }
     ensures drivers { IfOk result (λ rooms. rooms.drivers.items ≡ map opening_driver configs.now) }
     ensures buffer { IfOk result (λ rooms. rooms.buffer.items ≡ replicate 131072 0) }
 {
     Ok(Rooms {
-        controllers: controllers_of(alloc, configs)?,
         drivers: drivers_of(alloc, configs)?,
         buffer: vec![in alloc; 0; MOST_BYTES]?,
     })
+}
+
+/// Why a configuration can't be opened where there is no memory for it: its first fault, or that.
+pub(crate) fn fault_of(config: &Config, blocks: u64) -> ConfigFault
+    ensures { result ≡ unwrap_or (first_config_fault (configuration config.now) blocks) WantOfMemory }
+{
+    match Spaces::new(config, blocks) {
+        Ok(_) => ConfigFault::NoMemory,
+        Err(fault) => fault,
+    }
 }

@@ -1,17 +1,17 @@
 //! A poll of a fleet's driver.
 
-ghost use Rattle.std.specs.Prelude.{◌≡◌, ◌≤◌, length, take};
+ghost use Rattle.std.specs.Prelude.{◌≡◌, ◌≤◌, ◌+◌, length, take};
 ghost use Rattle.nvme_spec.specs.Limits.{most_bytes};
 ghost use Rattle.nvme_event.specs.declared.seen.FleetSeen.TheVariants.{Polled};
+ghost use Rattle.nvme_fleet.specs.Deeds.{Polls};
 ghost use Rattle.nvme_fleet.specs.Deliveries.{polled};
-ghost use Rattle.nvme_fleet.specs.Linked.{KeepsSite, linked_controller};
-ghost use Rattle.nvme_fleet.specs.OwnRuns.{IsLinkRun};
+ghost use Rattle.nvme_fleet.specs.Linked.{KeepsSite, Reaches, linked_controller};
 ghost use Rattle.nvme_fleet.specs.Sound.{Sound, mailbox};
 ghost use Rattle.nvme_fleet.specs.Steps.{IsStep};
 
 use crate::link::Link;
-use crate::seats::Reach;
 use nvme_driver::{Answer, Driver, PollFault};
+use nvme_medium::Medium;
 
 /// Hands up the next answer, as the driver's mailbox does, with its data at the front of the buffer, or `None` where
 /// there is no new one. That the buffer has at least 131,072 bytes is the caller's condition. The access state and
@@ -20,11 +20,12 @@ use nvme_driver::{Answer, Driver, PollFault};
 /// # Errors
 /// `NotUp` where no aborted request is left to hand up and the driver is not up. No other fault comes: each
 /// completion of its controller answers a request.
-pub fn poll<S: Reach>(
+pub fn poll<M: Medium>(
     driver: &mut Driver,
-    link: &mut Link<'_, S>,
+    link: &mut Link<'_, M>,
     buffer: &mut [u8],
 ) -> Result<Option<Answer>, PollFault>
+    requires there { Reaches link.old }
     requires sound { Sound driver.old (linked_controller link.old) }
     requires room { most_bytes ≤ length buffer.old }
     ensures step { IsStep (polled (mailbox driver.old (linked_controller link.old))) driver.new
@@ -36,7 +37,8 @@ pub fn poll<S: Reach>(
     ensures bytes { take (length (polled (mailbox driver.old (linked_controller link.old))).reply.bytes) buffer.new
         ≡ (polled (mailbox driver.old (linked_controller link.old))).reply.bytes }
     ensures site { KeepsSite link.old link.new }
-    ensures events { IsLinkRun S.tells link.old link.new }
+    ensures below { Polls M.tells (link.old.place + 1) driver.old link.old.subsystem result driver.new
+        link.new.subsystem }
 {
     driver.poll_into(link, buffer)
 }

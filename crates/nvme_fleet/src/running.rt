@@ -1,11 +1,9 @@
 //! A run of events over a fleet.
 
 ghost use Rattle.std.specs.Prelude.{◌≡◌, ◌≤◌, [], vec_capacity, OnOk, OnErr};
-ghost use Rattle.nvme_event.specs.Events.{controller_of};
-ghost use Rattle.nvme_fleet.specs.FleetStates.{fleet_of};
-ghost use Rattle.nvme_fleet.specs.Fleets.{Step};
-ghost use Rattle.nvme_fleet.specs.OwnRuns.{AreOwnRuns, IsOwnRun};
-ghost use Rattle.nvme_fleet.specs.Running.{RunsBehind, RunsInPart, replied, room_for};
+ghost use Rattle.nvme_fleet.specs.FleetStates.{data_in, layers_of};
+ghost use Rattle.nvme_fleet.specs.Layers.{Step};
+ghost use Rattle.nvme_fleet.specs.Running.{RunsBehind, RunsInPart, room_for};
 
 use crate::fleet::Fleet;
 use crate::opening::MOST_BYTES;
@@ -25,9 +23,8 @@ fn room_of(event: FleetEvent<'_>) -> usize
 }
 
 impl<M: Medium> Fleet<M> {
-    /// Events, one after the other; what each gave is added behind the replies. The memory that a reply takes is asked
-    /// for before its event. At the subsystem those that have happened are a list of events, each host's of its own
-    /// controller.
+    /// Events, one after the other, each a step of both layers at once; what each gave is added behind the replies. The
+    /// memory that a reply takes is asked for before its event. The data are then those of the last event that happened.
     ///
     /// # Errors
     ///
@@ -39,13 +36,10 @@ impl<M: Medium> Fleet<M> {
         events: &[FleetEvent<'_>],
         replies: &mut Vec<Reply>,
     ) -> Result<(), NoMemory>
-        ensures ran { OnOk result (RunsBehind M.tells replies.old.items (fleet_of self.old) events.now replies.new.items
-            (fleet_of self.new)) }
+        ensures ran { OnOk result
+            (RunsBehind M.tells replies.old.items self.old events.now replies.new.items self.new) }
         ensures stopped { OnErr result
-            (RunsInPart M.tells replies.old.items (fleet_of self.old) events.now replies.new.items
-            (fleet_of self.new)) }
-        ensures events { AreOwnRuns M.tells (replied replies.old.items replies.new.items events.now) self.old.subsystem
-            self.new.subsystem }
+            (RunsInPart M.tells replies.old.items self.old events.now replies.new.items self.new) }
     {
         for event in events {
             replies.reserve(1)?;
@@ -59,8 +53,8 @@ impl<M: Medium> Fleet<M> {
     fn reply_to(&mut self, event: FleetEvent<'_>, mut bytes: Vec<u8>) -> Reply
         requires empty { bytes.items ≡ [] }
         requires room { room_for event ≤ vec_capacity bytes }
-        ensures step { Step M.tells (fleet_of self.old) event.entry result (fleet_of self.new) }
-        ensures events { IsOwnRun M.tells (controller_of event.entry) self.old.subsystem self.new.subsystem }
+        ensures step { Step M.tells (layers_of self.old) event.entry result (layers_of self.new) }
+        ensures bytes { result.bytes ≡ data_in self.new }
     {
         let seen = self.apply(event);
         // There is room for them, so that no memory is asked for.

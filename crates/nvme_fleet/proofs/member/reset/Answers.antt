@@ -1,13 +1,15 @@
 use Rattle.nvme_driver.specs.Drivers.{reset_calls}
+use Rattle.nvme_fleet.proofs.LinkDeeds.{resets-below}
 use Rattle.nvme_fleet.proofs.Members.{reset-step, site-kept}
-use Rattle.nvme_fleet.proofs.OwnEvents.{calls-own}
+use Rattle.nvme_fleet.proofs.Reaching.{calls-over}
 use Rattle.nvme_fleet.proofs.member.reset.Goals as goal
 
 pub returns-clause-step : goal.returns-clause-step
-returns-clause-step g c = reset-step g.S.Reach.tells _ _ c.args.link.now c.reset.new.port c.requires.sound c.reset.ensures.driver c.reset.ensures.calls
+returns-clause-step g c =
+    reset-step g.M.Medium.tells _ _ c.args.link.now c.reset.new.port c.requires.sound c.reset.ensures.driver (calls-over g.M.Medium.tells reset_calls _ _ tt c.requires.there c.reset.ensures.calls)
 
 pub returns-clause-site : goal.returns-clause-site
-returns-clause-site g c = site-kept g.S.Reach.tells reset_calls _ _ tt c.reset.ensures.calls c.reset.ensures.links
+returns-clause-site g c = site-kept g.M.Medium.tells reset_calls _ _ tt (calls-over g.M.Medium.tells reset_calls _ _ tt c.requires.there c.reset.ensures.calls) c.reset.ensures.links
 
-pub returns-clause-events : goal.returns-clause-events
-returns-clause-events g c = calls-own g.S.Reach.tells reset_calls c.args.link.now c.reset.new.port tt c.reset.ensures.calls
+pub returns-clause-below : goal.returns-clause-below
+returns-clause-below g c = resets-below g.M.Medium.tells c.args.driver.now c.reset.new.self c.args.link.now c.reset.new.port c.reset.ensures.driver c.reset.ensures.calls

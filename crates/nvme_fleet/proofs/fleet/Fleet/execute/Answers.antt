@@ -1,27 +1,29 @@
-use Rattle.std.proofs.Common.{◌<◌, length, sym, subst, refl}
+use Rattle.std.proofs.Common.{◌≡◌, ◌-◌, refl, sym, subst}
+use Rattle.nvme_machine.specs.declared.seen.Seen.TheVariants as given
+use Rattle.nvme_subsys.proofs.Numbers.{none-executes}
 use Rattle.nvme_fleet.specs.FleetStates.{FleetState}
-use Rattle.nvme_fleet.proofs.FleetCalls.{executes}
-use Rattle.nvme_fleet.proofs.OwnEvents.{none-own}
-use Rattle.nvme_fleet.proofs.OwnFleets.{executed-own}
+use Rattle.nvme_fleet.specs.Linked.{IsThere, controller_in}
+use Rattle.nvme_fleet.proofs.Happening.{executed-there}
 use Rattle.nvme_fleet.proofs.fleet.Fleet.execute.Goals as goal
+
+pub returns-in_default-clause-below : goal.returns-in_default-clause-below
+returns-in_default-clause-below g c = record {
+  given = given.NoController;
+  step = none-executes g.M.Medium.tells c.args.self.now.subsystem c.args.cntlid c.args.i c.in_default.ensures.absent;
+  gives = refl;
+  drivers = refl;
+}
 
 pub invariant_of-self : goal.invariant_of-self
 invariant_of-self g c =
-    let lt = subst (λ (s : FleetState). c.in-Some.place < length s.subsystem.controllers) (sym c.self.view_is) c.in-Some.ensures.some.1 in
-    let r = executes g.M.Medium.tells _ c.execute.new.self c.args.cntlid c.in-Some.place c.args.i c.execute.result c.in-Some.ensures.some.0 lt c.execute.ensures.named c.self.invariant c.execute.ensures.executes in
-    r.sound
+    let a : FleetState = record { subsystem = c.self.inside.subsystem; drivers = c.self.inside.drivers.items; buffer = c.self.inside.buffer.items; filled = c.self.inside.filled } in
+    let there = subst (λ (t : FleetState). IsThere t.subsystem c.args.cntlid) (sym c.self.view_is) c.in-Some.ensures.some.1 in
+    let named = subst (λ (t : FleetState). (controller_in t.subsystem (c.args.cntlid - 1)).cntlid ≡ c.args.cntlid) (sym c.self.view_is) c.in-Some.ensures.named in
+    (executed-there g.M.Medium.tells a c.apply.new.self c.args.cntlid c.args.i c.apply.result c.self.invariant there named c.apply.ensures).sound
 
 pub returns-clause-step : goal.returns-clause-step
 returns-clause-step g c =
-    let lt = subst (λ (s : FleetState). c.in-Some.place < length s.subsystem.controllers) (sym c.self.view_is) c.in-Some.ensures.some.1 in
-    let r = executes g.M.Medium.tells _ c.execute.new.self c.args.cntlid c.in-Some.place c.args.i c.execute.result c.in-Some.ensures.some.0 lt c.execute.ensures.named c.self.invariant c.execute.ensures.executes in
-    rw (← c.self.view_is) r.step
-
-pub returns-clause-events : goal.returns-clause-events
-returns-clause-events g c =
-    let lt = subst (λ (s : FleetState). c.in-Some.place < length s.subsystem.controllers) (sym c.self.view_is) c.in-Some.ensures.some.1 in
-    rw (← c.self.view_is)
-    (executed-own g.M.Medium.tells _ c.execute.new.self c.args.cntlid c.in-Some.place c.args.i c.execute.result c.in-Some.ensures.some.0 lt c.execute.ensures.named c.execute.ensures.executes)
-
-pub returns-in_default-clause-events : goal.returns-in_default-clause-events
-returns-in_default-clause-events g c = none-own g.M.Medium.tells c.args.cntlid _ _ refl
+    let a : FleetState = record { subsystem = c.self.inside.subsystem; drivers = c.self.inside.drivers.items; buffer = c.self.inside.buffer.items; filled = c.self.inside.filled } in
+    let there = subst (λ (t : FleetState). IsThere t.subsystem c.args.cntlid) (sym c.self.view_is) c.in-Some.ensures.some.1 in
+    let named = subst (λ (t : FleetState). (controller_in t.subsystem (c.args.cntlid - 1)).cntlid ≡ c.args.cntlid) (sym c.self.view_is) c.in-Some.ensures.named in
+    rw (← c.self.view_is, c.told.ensures) ((executed-there g.M.Medium.tells a c.apply.new.self c.args.cntlid c.args.i c.apply.result c.self.invariant there named c.apply.ensures).step)

@@ -1,26 +1,25 @@
-use Rattle.std.proofs.Common.{◌<◌, length, sym, subst, refl}
+use Rattle.std.proofs.Common.{refl}
+use Rattle.nvme_machine.specs.declared.seen.Seen.TheVariants as given
+use Rattle.nvme_machine.specs.Controllers.{after_fetch}
+use Rattle.nvme_subsys.proofs.Numbers.{misses}
 use Rattle.nvme_fleet.specs.FleetStates.{FleetState}
-use Rattle.nvme_fleet.proofs.FleetCalls.{fetches}
-use Rattle.nvme_fleet.proofs.OwnEvents.{none-own}
-use Rattle.nvme_fleet.proofs.OwnFleets.{fetched-own}
+use Rattle.nvme_fleet.proofs.Happening.{fetched-there}
 use Rattle.nvme_fleet.proofs.fleet.Fleet.fetch.Goals as goal
+
+pub returns-in_default-clause-below : goal.returns-in_default-clause-below
+returns-in_default-clause-below g c = record {
+  given = given.NoController;
+  step = misses c.args.self.now.subsystem c.args.cntlid (after_fetch c.args.qid) c.in_default.ensures.absent;
+  gives = refl;
+  drivers = refl;
+}
 
 pub invariant_of-self : goal.invariant_of-self
 invariant_of-self g c =
-    let lt = subst (λ (s : FleetState). c.in-Some.place < length s.subsystem.controllers) (sym c.self.view_is) c.in-Some.ensures.some.1 in
-    let r = fetches _ c.fetch.new.self c.args.cntlid c.in-Some.place c.args.qid c.fetch.result c.in-Some.ensures.some.0 lt c.self.invariant c.fetch.ensures.seen c.fetch.ensures.after in
-    r.sound
+    let a : FleetState = record { subsystem = c.self.inside.subsystem; drivers = c.self.inside.drivers.items; buffer = c.self.inside.buffer.items; filled = c.self.inside.filled } in
+    (fetched-there a c.apply.new.self c.args.cntlid c.args.qid c.apply.result c.self.invariant c.apply.ensures).sound
 
 pub returns-clause-step : goal.returns-clause-step
 returns-clause-step g c =
-    let lt = subst (λ (s : FleetState). c.in-Some.place < length s.subsystem.controllers) (sym c.self.view_is) c.in-Some.ensures.some.1 in
-    let r = fetches _ c.fetch.new.self c.args.cntlid c.in-Some.place c.args.qid c.fetch.result c.in-Some.ensures.some.0 lt c.self.invariant c.fetch.ensures.seen c.fetch.ensures.after in
-    rw (← c.self.view_is) r.step
-
-pub returns-clause-events : goal.returns-clause-events
-returns-clause-events g c =
-    let lt = subst (λ (s : FleetState). c.in-Some.place < length s.subsystem.controllers) (sym c.self.view_is) c.in-Some.ensures.some.1 in
-    rw (← c.self.view_is) (fetched-own g.M.Medium.tells _ c.fetch.new.self c.args.cntlid c.in-Some.place c.args.qid c.in-Some.ensures.some.0 lt c.fetch.ensures.after)
-
-pub returns-in_default-clause-events : goal.returns-in_default-clause-events
-returns-in_default-clause-events g c = none-own g.M.Medium.tells c.args.cntlid _ _ refl
+    let a : FleetState = record { subsystem = c.self.inside.subsystem; drivers = c.self.inside.drivers.items; buffer = c.self.inside.buffer.items; filled = c.self.inside.filled } in
+    rw (← c.self.view_is, c.told.ensures) ((fetched-there a c.apply.new.self c.args.cntlid c.args.qid c.apply.result c.self.invariant c.apply.ensures).step)

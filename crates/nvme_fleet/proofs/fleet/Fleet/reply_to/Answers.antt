@@ -1,7 +1,7 @@
 use Rattle.std.proofs.Common.{◌≡◌, ◌≤◌, ◌∙◌, length, sym, ap, subst, arith}
 use Rattle.nvme_spec.specs.Limits.{most_bytes}
 use Rattle.nvme_fleet.specs.FleetStates.{fleet_of, data_in}
-use Rattle.nvme_fleet.specs.Fleets.{Step}
+use Rattle.nvme_fleet.specs.Fleets as mailboxes
 use Rattle.nvme_fleet.proofs.FleetRuns.{copied, fits-room}
 use Rattle.nvme_fleet.proofs.fleet.Fleet.reply_to.Goals as goal
 
@@ -17,4 +17,10 @@ returns g c =
     let none : length c.args.bytes.items ≡ 0 = ap length c.requires.empty in
     let ok = c.extend_from_slice-fits.ensures.succeeds (omega (arith, c.args.bytes.ok.0, none, long, room, c.requires.room)) in
     let whole = copied c.extend_from_slice-fits.result c.args.bytes.items c.extend_from_slice-fits.new.self.items c.data.result.now c.extend_from_slice-fits.ensures.items ok c.requires.empty in
-    record { step = subst (λ xs. Step g.M.Medium.tells old c.args.event (record { seen = c.apply-seen.result; bytes = xs }) new) (sym (whole ∙ c.data.ensures.value)) step; events = c.apply-seen.ensures.events }
+    record {
+      step = record {
+        mailboxes = subst (λ xs. mailboxes.Step g.M.Medium.tells old c.args.event (record { seen = c.apply-seen.result; bytes = xs }) new) (sym (whole ∙ c.data.ensures.value)) step;
+        below = c.apply-seen.ensures.below;
+      };
+      bytes = whole ∙ c.data.ensures.value;
+    }

@@ -1,0 +1,150 @@
+-- A controller that fetches from its admin queue alone executes admin commands alone, and these mark nothing.
+use Rattle.std.proofs.Common.{◌≡◌, ℕ, ◌+◌, ◌==◌, Bool, true, false, cond, List, [], ◌∷◌, ◌++◌, length, filter, Option, None, Some, refl, sym, ap, subst, ◌∙◌}
+use Rattle.std.specs.Prelude.{slice_get, remove, nat_le, if◌then◌else◌}
+use Rattle.std.specs.List.{AllByRecursion}
+use Rattle.std.proofs.lemmas.Option.{none-some, same_Some}
+use Rattle.nvme_spec.specs.declared.queues.QueueChange.{QueueChange}
+use Rattle.nvme_spec.specs.declared.queues.QueueChange.TheVariants.{Keep, MakeCq, MakeSq, DropCq, DropSq}
+use Rattle.nvme_spec.specs.declared.registers.AdminQueues.{AdminQueues}
+use Rattle.nvme_spec.specs.declared.registers.RegEffect.{RegEffect}
+use Rattle.nvme_spec.specs.declared.registers.RegEffect.TheVariants.{Nothing, Enable, Disable, Shutdown, SqTail, CqHead}
+use Rattle.nvme_spec.specs.Bytes.{with_bytes}
+use Rattle.nvme_spec.specs.Execution.{no_marks}
+use Rattle.nvme_spec.specs.Memory.{window_size}
+use Rattle.nvme_spec.specs.Registers as register
+use Rattle.nvme_spec.specs.World.{World}
+use Rattle.nvme_machine.specs.declared.fetched.FetchedCommand.{FetchedCommand}
+use Rattle.nvme_machine.specs.declared.seen.Executed.{Executed}
+use Rattle.nvme_machine.specs.declared.seen.Executed.TheVariants.{NoSuch, CqFull}
+use Rattle.nvme_machine.specs.declared.seen.Seen.TheVariants.{Stored, Outside}
+use Rattle.nvme_machine.specs.Answers as machine
+use Rattle.nvme_machine.specs.Controllers.{Controller, SubmissionQueue, QueuePair, reaction, queues_of, open_pair, after_store, after_write32, after_fetch, fetched_from, fetchable, taking_effect, with_admin_queues, after_posting, after_queue_change}
+use Rattle.nvme_machine.specs.Executing.{Setting, FinishesOne, FinishesOver, scene_in}
+use Rattle.nvme_machine.specs.Subsystems.{marked_from, after_answer}
+use Rattle.nvme_machine.proofs.Denials.{unmarked}
+use Rattle.nvme_driver.specs.Calls.{Call, Stores, Writes, Reads, Turns}
+use Rattle.nvme_subsys.specs.Marked.{marks_after}
+use Rattle.nvme_subsys.proofs.Sound.{fetch-id, store-id, write-id}
+use Rattle.nvme_fleet.specs.Links.{LinkStep, with_controller}
+use Rattle.nvme_fleet.proofs.Numbered.{one-id}
+
+-- Only admin commands were fetched.
+
+abbrev pub IsAdmin : FetchedCommand → Type 0
+IsAdmin t = (t.queue == 0) ≡ true
+
+abbrev pub AreAdmin : Controller → Type 0
+AreAdmin c = AllByRecursion IsAdmin c.fetched
+
+all-joined : (xs ys : List FetchedCommand) → AllByRecursion IsAdmin xs → AllByRecursion IsAdmin ys → AllByRecursion IsAdmin (xs ++ ys)
+all-joined [] ys h g = g
+all-joined (x ∷ xs) ys h g = (h.0, all-joined xs ys h.1 g)
+
+all-filtered : (q : FetchedCommand → Bool) (xs : List FetchedCommand) → AllByRecursion IsAdmin xs → AllByRecursion IsAdmin (filter q xs)
+all-filtered q [] h = tt
+all-filtered q (x ∷ xs) h =
+    let rest = all-filtered q xs h.1 in
+    elim (q x) as (λ b. AllByRecursion IsAdmin (cond b (x ∷ filter q xs) (filter q xs))) [
+      | true ↦ (h.0, rest)
+      | false ↦ rest
+    ]
+
+first-of : (xs : List FetchedCommand) (t : FetchedCommand) → AllByRecursion IsAdmin xs → slice_get xs 0 ≡ Some t → IsAdmin t
+first-of [] t h at = absurd (none-some _ at)
+first-of (x ∷ xs) t h at = subst IsAdmin (same_Some _ _ at) h.0
+
+all-but-first : (xs : List FetchedCommand) → AllByRecursion IsAdmin xs → AllByRecursion IsAdmin (remove xs 0)
+all-but-first [] h = tt
+all-but-first (x ∷ xs) h = h.1
+
+store-admin : (address : ℕ) (bytes : List ℕ) (c : Controller) → AreAdmin c → AreAdmin (after_store address bytes c).controller
+unfolding after_store
+store-admin address bytes c h =
+    elim (nat_le (address + length bytes) window_size)
+    as (λ b. AreAdmin (if b then reaction (record c { window = with_bytes c.window address bytes }) Stored else reaction c Outside).controller) [
+      | true ↦ h
+      | false ↦ h
+    ]
+
+enabled-admin : (o : Option AdminQueues) (c : Controller) → AreAdmin (with_admin_queues o c)
+enabled-admin None c = tt
+enabled-admin (Some q) c = tt
+
+effect-admin : (effect : RegEffect) (c : Controller) → AreAdmin c → AreAdmin (taking_effect effect c)
+unfolding taking_effect
+effect-admin Nothing c h = h
+effect-admin Enable c h = enabled-admin (register.admin_queues c.registers) c
+effect-admin Disable c h = tt
+effect-admin Shutdown c h = h
+effect-admin (SqTail q v) c h = h
+effect-admin (CqHead q v) c h = h
+
+write-admin : (offset v : ℕ) (c : Controller) → AreAdmin c → AreAdmin (after_write32 offset v c)
+unfolding after_write32
+write-admin offset v c h = effect-admin (register.after_write c.registers offset v).effect (record c { registers = (register.after_write c.registers offset v).registers }) h
+
+from-admin : (c : Controller) (o : Option SubmissionQueue) → AreAdmin c → AreAdmin (fetched_from 0 c o).controller
+from-admin c None h = h
+from-admin c (Some q) h = all-joined c.fetched _ h (refl, tt)
+
+pub fetch-admin : (c : Controller) → AreAdmin c → AreAdmin (after_fetch 0 c).controller
+unfolding after_fetch
+fetch-admin c h = from-admin c (fetchable c 0) h
+
+change-admin : (change : QueueChange) (c : Controller) → AreAdmin c → AreAdmin (after_queue_change change c)
+unfolding after_queue_change
+change-admin Keep c h = h
+change-admin (MakeCq qid size at) c h = h
+change-admin (MakeSq qid size at to) c h = h
+change-admin (DropCq qid) c h = h
+change-admin (DropSq qid) c h = all-filtered _ c.fetched h
+
+-- The execution of an admin command marks nothing.
+pub record IsQuiet (x : Executed) (left : Setting) : Type 0 where
+  pub marks : (w : World) (cs : List Controller) → marks_after w x cs ≡ cs
+  pub admin : AreAdmin left.controller
+
+left-alone : (old left : Setting) (x y : Executed) → x ≡ y → ((w : World) (cs : List Controller) → marks_after w y cs ≡ cs) → left ≡ old → AreAdmin old.controller → IsQuiet x left
+left-alone old left x y is quiet same h = record {
+  marks = λ w cs. ap (λ z. marks_after w z cs) is ∙ quiet w cs;
+  admin = subst (λ (s : Setting). AreAdmin s.controller) (sym same) h;
+}
+
+over-quiet : (o : Option QueuePair) (tells : Bool) (t : FetchedCommand) (old : Setting) (x : Executed) (left : Setting) → IsAdmin t → AreAdmin old.controller → FinishesOver o tells 0 t old x left → IsQuiet x left
+unfolding machine.Answers after_answer after_posting
+over-quiet None tells t old x left is h f = left-alone old left x CqFull f.0 (λ w cs. refl) f.1 h
+over-quiet (Some p) tells t old x left is h f =
+    let a : machine.Answer = f.answer in
+    let admin = subst (λ b. machine.AnswersAs b tells (queues_of old.controller) old.controller.cntlid t (scene_in old) a) is f.answers in
+    let none : a.outcome.marks ≡ no_marks = ap (λ (y : machine.Answer). y.outcome.marks) admin in
+    record {
+      marks = λ w cs. ap (λ z. marks_after w z cs) f.gives ∙ ap (λ m. marked_from w m 1 cs) none ∙ unmarked w 1 cs;
+      admin = subst AreAdmin (sym f.controller)
+          (change-admin a.change (after_posting 0 t p a.outcome.status a.outcome.dw0 (record old.controller { window = a.left.window })) (all-but-first old.controller.fetched h));
+    }
+
+pub one-quiet : (o : Option FetchedCommand) (tells : Bool) (old : Setting) (x : Executed) (left : Setting) → slice_get old.controller.fetched 0 ≡ o → AreAdmin old.controller → FinishesOne o tells 0 old x left → IsQuiet x left
+one-quiet None tells old x left at h f = left-alone old left x NoSuch f.0 (λ w cs. refl) f.1 h
+one-quiet (Some t) tells old x left at h f = over-quiet (open_pair old.controller t) tells t old x left (first-of old.controller.fetched t h at) h f
+
+-- Over calls of a link.
+
+abbrev pub fetched_by : Controller → Controller
+fetched_by c = (after_fetch 0 c).controller
+
+pub call-admin : (tells : Bool) (call : Call) (old new : Setting) → LinkStep tells old call new → AreAdmin old.controller → AreAdmin new.controller
+call-admin tells (Stores address bytes) old new h f = subst (λ (s : Setting). AreAdmin s.controller) (sym h) (store-admin address bytes old.controller f)
+call-admin tells (Writes offset v) old new h f = subst (λ (s : Setting). AreAdmin s.controller) (sym h) (write-admin offset v old.controller f)
+call-admin tells (Reads offset v) old new h f = subst (λ (s : Setting). AreAdmin s.controller) (sym h.1) f
+call-admin tells Turns old new (x, h) f =
+    let d : Controller = fetched_by old.controller in
+    let quiet = one-quiet (slice_get d.fetched 0) tells (with_controller old d) x new refl (fetch-admin old.controller f) h in
+    quiet.admin
+
+pub call-named : (tells : Bool) (call : Call) (old new : Setting) → LinkStep tells old call new → new.controller.cntlid ≡ old.controller.cntlid
+call-named tells (Stores address bytes) old new h = ap (λ (s : Setting). s.controller.cntlid) h ∙ store-id address bytes old.controller
+call-named tells (Writes offset v) old new h = ap (λ (s : Setting). s.controller.cntlid) h ∙ write-id offset v old.controller
+call-named tells (Reads offset v) old new h = ap (λ (s : Setting). s.controller.cntlid) h.1
+call-named tells Turns old new (x, h) =
+    let d : Controller = fetched_by old.controller in
+    one-id (slice_get d.fetched 0) tells 0 (with_controller old d) x new h ∙ fetch-id 0 old.controller

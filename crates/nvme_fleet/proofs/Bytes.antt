@@ -1,0 +1,212 @@
+-- Bytes of namespaces change only by executions, which are one event of the subsystem each; and windows of other hosts
+-- stay over every event.
+use Rattle.std.proofs.Common.{◌≡◌, ◌≢◌, ◌⊎◌, inl, inr, ℕ, Bool, true, false, List, [], ◌∷◌, ◌++◌, Option, None, Some, Result, Ok, Err, refl, sym, ap, subst, ◌∙◌}
+use Rattle.std.specs.Prelude.{option_map}
+use Rattle.std.specs.List.{AllByRecursion}
+use Rattle.nvme_spec.specs.Blocks.{Device}
+use Rattle.nvme_spec.specs.Layout.{IsLaidOut, bytes_of, may_write}
+use Rattle.nvme_spec.specs.World.{World}
+use Rattle.nvme_driver.specs.declared.faults.NotUp.{NotUp}
+use Rattle.nvme_driver.specs.declared.faults.PlaceRefusal.{PlaceRefusal}
+use Rattle.nvme_driver.specs.declared.faults.UpFault.{UpFault}
+use Rattle.nvme_driver.specs.declared.request.Request.{Request}
+use Rattle.nvme_driver.specs.declared.ticket.Ticket.{Ticket}
+use Rattle.nvme_driver.specs.Calls.{Call, Stores, Writes, Reads, Turns}
+use Rattle.nvme_driver.specs.Drivers.{Driver, stores_of}
+use Rattle.nvme_driver.specs.Polls.{polled}
+use Rattle.nvme_driver.specs.Rises.{Rises}
+use Rattle.nvme_driver.proofs.Mapped.{IsMapped, rises-mapped}
+use Rattle.nvme_machine.specs.declared.event.Event.{Event}
+use Rattle.nvme_machine.specs.declared.event.Event.TheVariants as event
+use Rattle.nvme_machine.specs.declared.seen.Seen.{Seen}
+use Rattle.nvme_machine.specs.Controllers.{Controller, with_marks}
+use Rattle.nvme_machine.specs.Runs.{IsMarkedBy}
+use Rattle.nvme_machine.specs.Subsystems as machine
+use Rattle.nvme_machine.specs.Subsystems.{Subsystem, controller_at}
+use Rattle.nvme_machine.proofs.Fencing as fencing
+use Rattle.nvme_machine.proofs.Layouts as layouts
+use Rattle.nvme_machine.proofs.Others.{others_change_in_marks_alone}
+use Rattle.nvme_event.specs.declared.event.FleetEvent.{FleetEvent}
+use Rattle.nvme_event.specs.declared.event.FleetEvent.TheVariants.{BringUp, Place, Ring, Fetch, Execute, Poll, Reset, RawStore, RawWrite32}
+use Rattle.nvme_event.specs.declared.seen.FleetSeen.{FleetSeen}
+use Rattle.nvme_event.specs.Events.{controller_of}
+use Rattle.nvme_event.specs.Replies.{Reply}
+use Rattle.nvme_fleet.specs.declared.delivery.DriverCall.{DriverCall}
+use Rattle.nvme_fleet.specs.declared.delivery.DriverCall.TheVariants as call
+use Rattle.nvme_fleet.specs.Bytes.{FencedEventsWriteNothing, FencingHolds, LayoutStays, LeavesReservation, OthersWindowsStay, PermissionsStay, RunsOfMailboxes, is_laid_out, namespace_bytes}
+use Rattle.nvme_fleet.specs.Deeds.{CallStep, ComesUp, Does, DoesIfAny, Places, Rings, events_of, events_of_calls, reset_events, ring_events, window_at, window_of}
+use Rattle.nvme_fleet.specs.Executions.{Site}
+use Rattle.nvme_fleet.specs.Fleets.{Fleet, Is, Moment, host_at}
+use Rattle.nvme_fleet.specs.FleetStates.{Layers, fleet_in}
+use Rattle.nvme_fleet.specs.Layers.{Applies, AppliesRaw, CallsAt, Step, driver_at}
+use Rattle.nvme_fleet.proofs.Existing.{called-site, fetched-site, raw-site}
+
+-- Runs of the mailboxes.
+pub runs_of_mailboxes : RunsOfMailboxes
+runs_of_mailboxes tells old new [] [] run = ap fleet_in run
+runs_of_mailboxes tells old new [] (reply ∷ later) run = absurd run
+runs_of_mailboxes tells old new (e ∷ events) [] run = absurd run
+runs_of_mailboxes tells old new (e ∷ events) (reply ∷ later) run = (let s = run.1 in (fleet_in run.0, s.mailboxes, runs_of_mailboxes tells run.0 new events later run.2))
+
+abbrev content-of : Device → List ℕ
+content-of d = d.content
+
+-- All events but executions leave access state and medium.
+
+record IsSameSite (old new : Layers) : Type 0 where
+  world : new.subsystem.world ≡ old.subsystem.world
+  device : new.subsystem.device ≡ old.subsystem.device
+
+same-site : (old new : Layers) (m : Moment) (reply : Reply) → m.fleet.site ≡ (fleet_in old).site → Is m reply (fleet_in new) → IsSameSite old new
+unfolding fleet_in
+same-site old new m reply same h =
+    let e : (fleet_in new).site ≡ (fleet_in old).site = ap (λ (f : Fleet). f.site) h.1 ∙ same in
+    record { world = ap (λ (s : Site). s.world) e; device = ap (λ (s : Site). s.device) e }
+
+by-event : (tells : Bool) (old new : Layers) (e : FleetEvent) (reply : Reply) (P : Type 0) → Step tells old e reply new → (IsSameSite old new → P)
+    → ((k i : ℕ) → e ≡ Execute k i → (given : Seen) → machine.Step tells old.subsystem (event.Execute k i) given new.subsystem → P) → P
+by-event tells old new (BringUp k) reply P s alone executes = alone (same-site old new _ reply (called-site (host_at (fleet_in old) k) (fleet_in old) k _) s.mailboxes)
+by-event tells old new (Place k request) reply P s alone executes = alone (same-site old new _ reply (called-site (host_at (fleet_in old) k) (fleet_in old) k _) s.mailboxes)
+by-event tells old new (Ring k) reply P s alone executes = alone (same-site old new _ reply (called-site (host_at (fleet_in old) k) (fleet_in old) k _) s.mailboxes)
+by-event tells old new (Fetch k q) reply P s alone executes = alone (same-site old new _ reply (fetched-site (host_at (fleet_in old) k) (fleet_in old) k q) s.mailboxes)
+by-event tells old new (Execute k i) reply P s alone executes = (let b = s.below in executes k i refl b.given b.step)
+by-event tells old new (Poll k) reply P s alone executes = alone (same-site old new _ reply (called-site (host_at (fleet_in old) k) (fleet_in old) k _) s.mailboxes)
+by-event tells old new (Reset k) reply P s alone executes = alone (same-site old new _ reply (called-site (host_at (fleet_in old) k) (fleet_in old) k _) s.mailboxes)
+by-event tells old new (RawStore k address bytes) reply P s alone executes = alone (same-site old new _ reply (raw-site (host_at (fleet_in old) k) (fleet_in old) k _ _) s.mailboxes)
+by-event tells old new (RawWrite32 k offset v) reply P s alone executes = alone (same-site old new _ reply (raw-site (host_at (fleet_in old) k) (fleet_in old) k _ _) s.mailboxes)
+
+pub fenced_events_write_nothing : FencedEventsWriteNothing
+fenced_events_write_nothing old new e reply n laid step may =
+    by-event true old new e reply (namespace_bytes new n ≡ namespace_bytes old n) step
+    (λ same. let w = same.world in let d = same.device in (ap (λ x. bytes_of x new.subsystem.device.content n) w ∙ ap (λ x. bytes_of old.subsystem.world (content-of x) n) d))
+    (λ k i is given one.
+    layouts.fenced_events_write_nothing old.subsystem new.subsystem (event.Execute k i) given n laid one
+    (subst (λ x. may_write old.subsystem.world (controller_of x) n ≡ false) is may))
+
+pub layout_stays : LayoutStays
+layout_stays old new e reply laid step =
+    by-event true old new e reply (is_laid_out new) step
+    (λ same. let w = same.world in let d = same.device in subst (λ x. IsLaidOut x new.subsystem.device.content) (sym w) (subst (λ x. IsLaidOut old.subsystem.world (content-of x)) (sym d) laid))
+    (λ k i is given one. layouts.layout_stays old.subsystem new.subsystem (event.Execute k i) given laid one)
+
+pub permissions_stay : PermissionsStay
+permissions_stay tells old new e reply n step leaves k =
+    by-event tells old new e reply (may_write new.subsystem.world k n ≡ may_write old.subsystem.world k n) step
+    (λ same. ap (λ x. may_write x k n) same.world)
+    (λ j i is given one. fencing.permissions_stay tells old.subsystem new.subsystem (event.Execute j i) given n one (subst (LeavesReservation n old) is leaves) k)
+
+still-fenced : (v w : World) (n : ℕ) (events : List FleetEvent) → ((k : ℕ) → may_write w k n ≡ may_write v k n) → AllByRecursion (λ e. may_write v (controller_of e) n ≡ false) events
+    → AllByRecursion (λ e. may_write w (controller_of e) n ≡ false) events
+still-fenced v w n [] same h = tt
+still-fenced v w n (e ∷ events) same h = (same (controller_of e) ∙ h.0, still-fenced v w n events same h.1)
+
+pub fencing_holds : FencingHolds
+fencing_holds old new [] [] n laid run fenced = (ap (λ l. namespace_bytes l n) run, λ k. ap (λ (l : Layers). may_write l.subsystem.world k n) run)
+fencing_holds old new [] (reply ∷ later) n laid run fenced = absurd run
+fencing_holds old new (e ∷ events) [] n laid run fenced = absurd run
+fencing_holds old new (e ∷ events) (reply ∷ later) n laid (mid, leaves, step, rest) fenced =
+    let may = permissions_stay true old mid e reply n step leaves in
+    let r = fencing_holds mid new events later n (layout_stays old mid e reply laid step) rest (still-fenced old.subsystem.world mid.subsystem.world n events may fenced.1) in
+    (r.0 ∙ fenced_events_write_nothing old mid e reply n laid step fenced.0, λ k. r.1 k ∙ may k)
+
+-- The windows of other hosts.
+
+marked-window : (n : ℕ) (o : Option Controller) → window_of (option_map (with_marks n) o) ≡ window_of o
+marked-window n None = refl
+marked-window n (Some c) = refl
+
+other-window : (w : World) (x : Seen) (j : ℕ) (old new : Option Controller) → (new ≡ old) ⊎ IsMarkedBy w x j old new → window_of new ≡ window_of old
+other-window w x j old new (inl e) = ap window_of e
+other-window w x j old new (inr m) = ap window_of m.marked ∙ marked-window m.outcome.marks.nsid old
+
+step-window : (tells : Bool) (old new : Subsystem) (e : Event) (x : Seen) (j : ℕ) → machine.Step tells old e x new → j ≢ machine.controller_of e → window_at new j ≡ window_at old j
+step-window tells old new e x j step other = other-window new.world x j (controller_at old j) (controller_at new j) (others_change_in_marks_alone tells old new e x step j other)
+
+abbrev AreOf : ℕ → List Event → Type 0
+AreOf k events = AllByRecursion (λ e. machine.controller_of e ≡ k) events
+
+ran-window : (tells : Bool) (k j : ℕ) (events : List Event) (given : List Seen) (old new : Subsystem) → j ≢ k → AreOf k events → machine.Run tells old events given new → window_at new j ≡ window_at old j
+ran-window tells k j [] [] old new other own run = ap (λ s. window_at s j) run
+ran-window tells k j [] (x ∷ given) old new other own run = absurd run
+ran-window tells k j (e ∷ events) [] old new other own run = absurd run
+ran-window tells k j (e ∷ events) (x ∷ given) old new other own (mid, step, rest) =
+    ran-window tells k j events given mid new other own.1 rest ∙ step-window tells old mid e x j step (λ is. other (is ∙ own.0))
+
+of-call : (k : ℕ) (one : Call) → AreOf k (events_of k one)
+of-call k (Stores address bytes) = (refl, tt)
+of-call k (Writes offset v) = (refl, tt)
+of-call k (Reads offset v) = (refl, tt)
+of-call k Turns = (refl, (refl, tt))
+
+of-both : (k : ℕ) (es fs : List Event) → AreOf k es → AreOf k fs → AreOf k (es ++ fs)
+of-both k [] fs h g = g
+of-both k (e ∷ es) fs h g = (h.0, of-both k es fs h.1 g)
+
+of-calls : (k : ℕ) (calls : List Call) → AreOf k (events_of_calls k calls)
+of-calls k [] = tt
+of-calls k (one ∷ calls) = of-both k (events_of k one) (events_of_calls k calls) (of-call k one) (of-calls k calls)
+
+call-window : (tells : Bool) (k j : ℕ) (one : Call) (old new : Subsystem) → j ≢ k → CallStep tells k old one new → window_at new j ≡ window_at old j
+call-window tells k j one old new other h = ran-window tells k j (events_of k one) h.given old new other (of-call k one) h.run
+
+rises-window : (tells : Bool) (k j : ℕ) (d d' : Driver) (old new : Subsystem) (result : Result (Unit {0}) UpFault) → j ≢ k → Rises (CallStep tells k) (λ s. window_at s k) d old result d' new → window_at new j ≡ window_at old j
+rises-window tells k j d d' old new result other h =
+    let m : IsMapped (λ (s : Subsystem). s) (CallStep tells k) (CallStep tells k) (λ s. window_at s k) (λ s. window_at s k) (λ s. window_at s j ≡ window_at old j) = record {
+      call = λ one p q fact over. (over, call-window tells k j one p q other over ∙ fact);
+      same = λ p fact. refl;
+    } in
+    let r = rises-mapped (λ (s : Subsystem). s) (CallStep tells k) (CallStep tells k) (λ s. window_at s k) (λ s. window_at s k) (λ s. window_at s j ≡ window_at old j) m d d' old new result refl h in
+    r.1
+
+same-window : (j : ℕ) (old new : Subsystem) → new ≡ old → window_at new j ≡ window_at old j
+same-window j old new e = ap (λ s. window_at s j) e
+
+up-window : (tells : Bool) (k j : ℕ) (d d' : Driver) (old new : Subsystem) (result : Result (Unit {0}) UpFault) → j ≢ k → ComesUp tells k d old result d' new → window_at new j ≡ window_at old j
+up-window tells k j d d' old new (Ok u) other h = rises-window tells k j d d' old new (Ok u) other h
+up-window tells k j d d' old new (Err fault) other h = same-window j old new h.1
+
+place-window : (tells : Bool) (k j : ℕ) (request : Request) (d d' : Driver) (old new : Subsystem) (result : Result Ticket PlaceRefusal) → j ≢ k → Places tells k request d old result d' new → window_at new j ≡ window_at old j
+place-window tells k j request d d' old new (Ok t) other (slot, free, is, ran) = ran-window tells k j (events_of_calls k (stores_of d request slot)) ran.0 old new other (of-calls k (stores_of d request slot)) ran.1
+place-window tells k j request d d' old new (Err why) other h = same-window j old new h.1
+
+ring-window : (tells : Bool) (k j : ℕ) (d d' : Driver) (old new : Subsystem) (result : Result (Unit {0}) NotUp) → j ≢ k → Rings tells k d old result d' new → window_at new j ≡ window_at old j
+ring-window tells k j d d' old new (Ok u) other (same, ran) = ran-window tells k j (ring_events k d) ran.0 old new other (refl, (refl, tt)) ran.1
+ring-window tells k j d d' old new (Err e) other h = same-window j old new h.1
+
+does-window : (tells : Bool) (k j : ℕ) (what : DriverCall) (d d' : Driver) (old new : Subsystem) (x : FleetSeen) → j ≢ k → Does tells k what d old x d' new → window_at new j ≡ window_at old j
+does-window tells k j call.BringUp d d' old new x other (result, is, h) = up-window tells k j d d' old new result other h
+does-window tells k j (call.Place request) d d' old new x other (result, is, h) = place-window tells k j request d d' old new result other h
+does-window tells k j call.Ring d d' old new x other (result, is, h) = ring-window tells k j d d' old new result other h
+does-window tells k j call.Poll d d' old new x other (result, is, h) =
+    (let r = h.ran in ran-window tells k j (events_of_calls k (polled d h.oldest (window_at old k)).calls) r.0 old new other (of-calls k (polled d h.oldest (window_at old k)).calls) r.1)
+does-window tells k j call.Reset d d' old new x other (is, h) = (let r = h.1 in ran-window tells k j (reset_events k) r.0 old new other (refl, tt) r.1)
+
+any-window : (tells : Bool) (k j : ℕ) (what : DriverCall) (o e : Option Driver) (old new : Subsystem) (x : FleetSeen) → j ≢ k → DoesIfAny tells k what o old x e new → window_at new j ≡ window_at old j
+any-window tells k j what None e old new x other h = same-window j old new h.2
+any-window tells k j what (Some d) e old new x other (d', is, h) = does-window tells k j what d d' old new x other h
+
+same-layers : (j : ℕ) (old new : Layers) → new ≡ old → window_at new.subsystem j ≡ window_at old.subsystem j
+same-layers j old new e = ap (λ (l : Layers). window_at l.subsystem j) e
+
+calls-window : (o : Option (Option Driver)) (tells : Bool) (old new : Layers) (k j : ℕ) (what : DriverCall) (x : FleetSeen) → j ≢ k → CallsAt o tells old k what x new → window_at new.subsystem j ≡ window_at old.subsystem j
+calls-window None tells old new k j what x other h = same-layers j old new h.1
+calls-window (Some d) tells old new k j what x other (e, is, h) = any-window tells k j what d e old.subsystem new.subsystem x other h
+
+applies-window : (tells : Bool) (old new : Layers) (e : Event) (x : FleetSeen) (j : ℕ) → j ≢ machine.controller_of e → Applies tells old e x new → window_at new.subsystem j ≡ window_at old.subsystem j
+applies-window tells old new e x j other h = step-window tells old.subsystem new.subsystem e h.given j h.step other
+
+raw-window : (o : Option (Option Driver)) (tells : Bool) (old new : Layers) (e : Event) (x : FleetSeen) (j : ℕ) → j ≢ machine.controller_of e → AppliesRaw o tells old e x new → window_at new.subsystem j ≡ window_at old.subsystem j
+raw-window None tells old new e x j other h = same-layers j old new h.1
+raw-window (Some None) tells old new e x j other h = applies-window tells old new e x j other h
+raw-window (Some (Some d)) tells old new e x j other h = same-layers j old new h.1
+
+pub others_windows_stay : OthersWindowsStay
+others_windows_stay tells old new (BringUp k) reply s j other = calls-window (driver_at old.drivers k) tells old new k j call.BringUp reply.seen other s.below
+others_windows_stay tells old new (Place k request) reply s j other = calls-window (driver_at old.drivers k) tells old new k j (call.Place request) reply.seen other s.below
+others_windows_stay tells old new (Ring k) reply s j other = calls-window (driver_at old.drivers k) tells old new k j call.Ring reply.seen other s.below
+others_windows_stay tells old new (Fetch k q) reply s j other = applies-window tells old new (event.Fetch k q) reply.seen j other s.below
+others_windows_stay tells old new (Execute k i) reply s j other = applies-window tells old new (event.Execute k i) reply.seen j other s.below
+others_windows_stay tells old new (Poll k) reply s j other = calls-window (driver_at old.drivers k) tells old new k j call.Poll reply.seen other s.below
+others_windows_stay tells old new (Reset k) reply s j other = calls-window (driver_at old.drivers k) tells old new k j call.Reset reply.seen other s.below
+others_windows_stay tells old new (RawStore k address bytes) reply s j other = raw-window (driver_at old.drivers k) tells old new (event.Store k address bytes) reply.seen j other s.below
+others_windows_stay tells old new (RawWrite32 k offset v) reply s j other = raw-window (driver_at old.drivers k) tells old new (event.Write32 k offset v) reply.seen j other s.below

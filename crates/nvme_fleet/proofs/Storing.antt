@@ -1,0 +1,20 @@
+-- A store that fits stores.
+use Rattle.std.proofs.Common.{◌≡◌, ℕ, ◌+◌, ◌-◌, ◌≤◌, List, length, ap, ◌∙◌}
+use Rattle.nvme_spec.specs.Bytes.{with_bytes}
+use Rattle.nvme_spec.specs.Memory.{window_size}
+use Rattle.nvme_machine.specs.declared.seen.Seen.{Seen}
+use Rattle.nvme_machine.specs.Controllers.{Controller, after_store, new_controller}
+use Rattle.nvme_machine.specs.Subsystems.{Subsystem, Reacts}
+use Rattle.nvme_fleet.specs.Linked.{IsThere, controller_in}
+use Rattle.nvme_fleet.proofs.Happening.{place-below, place-is}
+use Rattle.nvme_fleet.proofs.Reaching.{reacted-as}
+use Rattle.nvme_fleet.proofs.Seating.{get-set}
+use Rattle.nvme_fleet.proofs.StartStep.{stored-at}
+
+pub stored-there : (old new : Subsystem) (k address : ℕ) (bytes : List ℕ) (given : Seen) → IsThere old k → Reacts old k (after_store address bytes) given new → address + length bytes ≤ window_size
+    → (controller_in new (k - 1)).window ≡ with_bytes (controller_in old (k - 1)).window address bytes
+stored-there old new k address bytes given there h fits =
+    let c : Controller = controller_in old (k - 1) in
+    let r = reacted-as old new k (k - 1) (after_store address bytes) given (place-is k there.0) (place-below old k there) h in
+    ap (λ (s : Subsystem). (controller_in s (k - 1)).window) r.leaves
+    ∙ ap (λ (x : Controller). x.window) (get-set old.controllers (k - 1) (after_store address bytes c).controller (new_controller 0) (place-below old k there) ∙ stored-at address bytes c fits)

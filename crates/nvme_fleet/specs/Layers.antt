@@ -1,0 +1,87 @@
+-- A fleet as both of its layers at once: the subsystem, and the driver of each controller's host. What each event makes
+-- of both: of the mailboxes that they stand for, and of the subsystem, event by event.
+use Rattle.std.specs.Prelude.{◌≡◌, ℕ, zero, suc, Bool, List, [], ◌∷◌, Option, None, Some, slice_get, slice_set}
+use Rattle.nvme_driver.specs.Drivers.{Driver}
+use Rattle.nvme_machine.specs.declared.event.Event.{Event}
+use Rattle.nvme_machine.specs.declared.event.Event.TheVariants as event
+use Rattle.nvme_machine.specs.declared.seen.Seen.{Seen}
+use Rattle.nvme_machine.specs.declared.seen.Seen.TheVariants as given
+use Rattle.nvme_machine.specs.Subsystems as machine
+use Rattle.nvme_machine.specs.Subsystems.{Subsystem}
+use Rattle.nvme_event.specs.declared.event.FleetEvent.{FleetEvent}
+use Rattle.nvme_event.specs.declared.event.FleetEvent.TheVariants.{BringUp, Place, Ring, Fetch, Execute, Poll, Reset, RawStore, RawWrite32}
+use Rattle.nvme_event.specs.declared.seen.FleetSeen.{FleetSeen}
+use Rattle.nvme_event.specs.declared.seen.FleetSeen.TheVariants as seen
+use Rattle.nvme_event.specs.Replies.{Reply}
+use Rattle.nvme_fleet.specs.declared.delivery.DriverCall.{DriverCall}
+use Rattle.nvme_fleet.specs.declared.delivery.DriverCall.TheVariants as call
+use Rattle.nvme_fleet.specs.Deeds.{DoesIfAny}
+use Rattle.nvme_fleet.specs.FleetStates.{Layers, fleet_in}
+use Rattle.nvme_fleet.specs.Fleets as mailboxes
+
+-- the driver's place of controller k, which is empty where its host is raw
+abbrev pub driver_at : List (Option Driver) → ℕ → Option (Option Driver)
+driver_at drivers zero = None
+driver_at drivers (suc n) = slice_get drivers n
+
+abbrev pub with_driver : List (Option Driver) → ℕ → Option Driver → List (Option Driver)
+with_driver drivers zero d = drivers
+with_driver drivers (suc n) d = slice_set drivers n d
+
+-- A call of the driver of controller k; where there is no such controller, nothing happens.
+abbrev pub CallsAt : Option (Option Driver) → Bool → Layers → ℕ → DriverCall → FleetSeen → Layers → Type 0
+CallsAt None tells old k call what new = (what ≡ seen.NoController) × (new ≡ old)
+CallsAt (Some d) tells old k call what new =
+    (e : Option Driver) × (new.drivers ≡ with_driver old.drivers k e)
+    × DoesIfAny tells k call d old.subsystem what e new.subsystem
+
+-- what an event of the subsystem gives to see at a fleet, where no event reads a register
+abbrev pub told : Seen → FleetSeen
+told given.Stored = seen.Stored
+told given.Outside = seen.Outside
+told given.Wrote = seen.Wrote
+told (given.Value v) = seen.Wrote
+told (given.Fetched fetched) = seen.Fetched fetched
+told (given.Executed executed) = seen.Executed executed
+told given.NoController = seen.NoController
+
+-- One event of the subsystem; all drivers stay.
+pub record Applies (tells : Bool) (old : Layers) (event : Event) (what : FleetSeen) (new : Layers) : Type 0 where
+  pub given : Seen
+  pub step : machine.Step tells old.subsystem event given new.subsystem
+  pub gives : what ≡ told given
+  pub drivers : new.drivers ≡ old.drivers
+
+-- An event of a raw host; one that has a driver is refused, and nothing happens.
+abbrev pub AppliesRaw : Option (Option Driver) → Bool → Layers → Event → FleetSeen → Layers → Type 0
+AppliesRaw None tells old event what new = (what ≡ seen.NoController) × (new ≡ old)
+AppliesRaw (Some None) tells old event what new = Applies tells old event what new
+AppliesRaw (Some (Some d)) tells old event what new = (what ≡ seen.NotRaw) × (new ≡ old)
+
+-- What an event of a fleet is at the subsystem: exactly which of its events, and what they leave.
+abbrev pub Happens : Bool → Layers → FleetEvent → FleetSeen → Layers → Type 0
+Happens tells old (BringUp k) what new = CallsAt (driver_at old.drivers k) tells old k call.BringUp what new
+Happens tells old (Place k request) what new =
+    CallsAt (driver_at old.drivers k) tells old k (call.Place request) what new
+Happens tells old (Ring k) what new = CallsAt (driver_at old.drivers k) tells old k call.Ring what new
+Happens tells old (Fetch k q) what new = Applies tells old (event.Fetch k q) what new
+Happens tells old (Execute k i) what new = Applies tells old (event.Execute k i) what new
+Happens tells old (Poll k) what new = CallsAt (driver_at old.drivers k) tells old k call.Poll what new
+Happens tells old (Reset k) what new = CallsAt (driver_at old.drivers k) tells old k call.Reset what new
+Happens tells old (RawStore k address bytes) what new =
+    AppliesRaw (driver_at old.drivers k) tells old (event.Store k address bytes) what new
+Happens tells old (RawWrite32 k offset v) what new =
+    AppliesRaw (driver_at old.drivers k) tells old (event.Write32 k offset v) what new
+
+-- One event, seen from both layers at once.
+pub record Step (tells : Bool) (old : Layers) (event : FleetEvent) (reply : Reply) (new : Layers) : Type 0 where
+  pub mailboxes : mailboxes.Step tells (fleet_in old) event reply (fleet_in new)
+  pub below : Happens tells old event reply.seen new
+
+-- Events, one after the other, and what each gave. Between two of them there is one state of both layers.
+abbrev pub Run : Bool → Layers → List FleetEvent → List Reply → Layers → Type 0
+Run tells old [] [] new = new ≡ old
+Run tells old (event ∷ events) (reply ∷ later) new =
+    (mid : Layers) × Step tells old event reply mid × Run tells mid events later new
+Run tells old [] (reply ∷ later) new = ⊥
+Run tells old (event ∷ events) [] new = ⊥
