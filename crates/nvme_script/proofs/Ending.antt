@@ -6,7 +6,7 @@ use Rattle.nvme_spec.specs.Configuration.{first_config_fault}
 use Rattle.nvme_spec.specs.declared.config.ConfigFault.{ConfigFault}
 use Rattle.nvme_spec.specs.declared.config.ConfigFault.TheVariants as fault_of
 use Rattle.nvme_ns.specs.Configured.{configuration}
-use Rattle.nvme_fleet.specs.FleetStates.{FleetState, fleet_of}
+use Rattle.nvme_fleet.specs.FleetStates.{FleetState, fleet_in, fleet_of}
 use Rattle.nvme_fleet.specs.Fleets.{Fleet, opening}
 use Rattle.nvme_grammar.specs.declared.script.Script.{Script}
 use Rattle.nvme_script.specs.declared.run.ScriptFault.{ScriptFault}
@@ -34,7 +34,7 @@ module _ (tells : Bool) (text : List ℕ) (size : ℕ) (old new : Device) (befor
     of_text = opens ∙ opened_fleet text script old ready
 
     leaves : new ≡ (fleet_of now).site.device
-    unfolding fleet_of
+    unfolding fleet_in
     leaves = left
 
     pub ran_whole : Transcribes tells (fleet_of opened) (events_in text) (fleet_of now) before after → IsScript text size × Runs tells text old new before after

@@ -4,7 +4,7 @@ ghost use Rattle.nvme_script.specs.RunLaws.{TranscriptExists, TranscriptIsUnique
 
 /// A script has one run without a fault of the medium, and one alone: its transcript, and what is left on the medium,
 /// is what the definitions compute.
-fn transcript_is_determined()
+pub fn transcript_is_determined()
     ensures unique { TranscriptIsUnique }
     ensures exists { TranscriptExists }
 {}

@@ -1,7 +1,7 @@
 //! Scripts: what hosts do to a subsystem, line by line, and the transcript of what it answers.
 #![tactic(auto)]
 
-mod laws;
+pub mod laws;
 mod program;
 mod run;
 

@@ -21,11 +21,11 @@ returns-in-Ok-outcome-clause-ok g c =
     let ready = c.args.ready.now in
     ran_whole g.M.Medium.tells ready.text.items (g.M.Medium.size c.args.medium) (g.M.Medium.device c.args.medium) (g.M.Medium.device c.into_medium.result)
     (g.W.Write.contents c.args.writer.now) (g.W.Write.contents c.run_events-outcome.new.writer) ready.script c.in-Ok.fleet c.run_events-outcome.new.fleet c.requires.script
-    c.in-Ok.ensures.accepted c.in-Ok.ensures.opened c.into_medium.ensures (rw (c.as_slice.ensures.value) at c.in-Ok-outcome.ensures.ok)
+    c.in-Ok.ensures.accepted c.in-Ok.ensures.mailboxes c.into_medium.ensures (rw (c.as_slice.ensures.value) at c.in-Ok-outcome.ensures.ok)
 
 pub returns-in-Err-outcome-clause-fault : goal.returns-in-Err-outcome-clause-fault
 returns-in-Err-outcome-clause-fault g c =
     let ready = c.args.ready.now in
     ran_in_part g.M.Medium.tells ready.text.items (g.M.Medium.size c.args.medium) (g.M.Medium.device c.args.medium) (g.M.Medium.device c.into_medium-in-Err-outcome.result)
     (g.W.Write.contents c.args.writer.now) (g.W.Write.contents c.run_events-outcome.new.writer) ready.script c.in-Ok.fleet c.run_events-outcome.new.fleet c.requires.script
-    c.in-Ok.ensures.accepted c.in-Ok.ensures.opened c.into_medium-in-Err-outcome.ensures (rw (c.as_slice.ensures.value) at c.in-Err-outcome.ensures.err)
+    c.in-Ok.ensures.accepted c.in-Ok.ensures.mailboxes c.into_medium-in-Err-outcome.ensures (rw (c.as_slice.ensures.value) at c.in-Err-outcome.ensures.err)
