@@ -120,6 +120,17 @@ pub(crate) fn run(
     execute(bench, host, 0)
 }
 
+/// A controller that runs, without I/O queues.
+pub(crate) fn start_bare(alloc: Global, cntlid: u16) -> Result<Host, Fail> {
+    let mut controller = Controller::new(alloc, cntlid)?;
+    enable(&mut controller);
+    Ok(Host {
+        controller,
+        cntlid,
+        tails: [0, 0],
+    })
+}
+
 /// A controller that runs, with completion queue 1 of 32 entries at 3000h and submission queue 1 of 8 at 2000h.
 pub(crate) fn start(alloc: Global, bench: &mut Bench, cntlid: u16) -> Result<Host, Fail>
     requires within { LiesWithin (⟦<MemMedium as Medium>⟧.size bench.old.medium) bench.old.spaces.namespaces }
@@ -127,13 +138,7 @@ pub(crate) fn start(alloc: Global, bench: &mut Bench, cntlid: u16) -> Result<Hos
     ensures within { LiesWithin (⟦<MemMedium as Medium>⟧.size bench.new.medium) bench.new.spaces.namespaces }
     ensures known { HasKnownRegistrants bench.new.spaces }
 {
-    let mut controller = Controller::new(alloc, cntlid)?;
-    enable(&mut controller);
-    let mut host = Host {
-        controller,
-        cntlid,
-        tails: [0, 0],
-    };
+    let mut host = start_bare(alloc, cntlid)?;
     run(bench, &mut host, &completion_queue(), false);
     run(bench, &mut host, &submission_queue(), false);
     Ok(host)
