@@ -1,0 +1,140 @@
+"""Wrong bodies as their files have them, and which function each changes."""
+import re
+from dataclasses import dataclass
+from pathlib import Path
+
+from support.source import Function, functions_of
+
+FOLDERS = ("must-fail", "wrong-bodies")
+
+
+class BadEdit(Exception):
+    """A wrong body that can't be tried."""
+
+
+@dataclass(frozen=True)
+class Change:
+    path: str
+    old: str
+    new: str
+
+
+@dataclass(frozen=True)
+class Edit:
+    """A wrong body: its crate, its file, and what it changes; the function, where it changes the body of one alone."""
+    crate: str
+    file: Path
+    text: str
+    changes: tuple
+    function: Function = None
+    path: str = ""
+    body: str = ""
+
+    @property
+    def name(self):
+        return self.file.name
+
+    @property
+    def label(self):
+        return f"{self.crate}/{self.name}"
+
+
+def changes_of(text):
+    """An edit's changes, as its own file has them."""
+    changes, path, old = [], "", ""
+    for line in text.split("\n"):
+        if line.startswith("file: "):
+            path = line.removeprefix("file: ").strip()
+        elif line.startswith("old: "):
+            old = line.removeprefix("old: ")
+        elif line.startswith("new:"):
+            changes.append(Change(path, old, line.removeprefix("new:").removeprefix(" ")))
+    return tuple(changes)
+
+
+def changed_function(folder, changes):
+    """The file and the one function whose body the changes are in, or none."""
+    found, texts = set(), {}
+    for it in changes:
+        if not it.path.startswith("src/"):
+            return "", None
+        text = texts.get(it.path) or (folder / it.path).read_text()
+        # A later change may apply to what an earlier one made, which leaves each line where it was.
+        line = text[:text.index(it.old)].count("\n")
+        texts[it.path] = text.replace(it.old, it.new)
+        here = [f for f in functions_of((folder / it.path).read_text(), it.path) if f.body < line < f.last]
+        if len(here) != 1:
+            return "", None
+        found.add((it.path, here[0]))
+    return found.pop() if len(found) == 1 else ("", None)
+
+
+def read_edit(rt, crate, file):
+    """Reads a wrong body, and finds where it belongs."""
+    folder = Path(crate.folder)
+    why = rt.read_edit(str(file), crate.folder)[1]
+    if why:
+        raise BadEdit(f"{crate.name}/{file.name}: it can't be applied: {why}")
+    text = file.read_text()
+    changes = changes_of(text)
+    path, function = changed_function(folder, changes)
+    body = ""
+    if function:
+        body = "\n".join((folder / path).read_text().split("\n")[function.body + 1:function.last])
+    return Edit(crate.name, file, text, changes, function, path, body)
+
+
+def files_of(crate, folders=FOLDERS):
+    """The files of a crate's wrong bodies; a file that is none, or a name that two of them have, is a fault."""
+    found = {}
+    for folder in folders:
+        for file in sorted(Path(crate.folder, folder).rglob("*")):
+            if file.suffix == ".md":
+                continue
+            if not re.fullmatch(r"[A-Za-z0-9_-][A-Za-z0-9_.-]*\.edit", file.name) or file.parent.name != folder:
+                raise BadEdit(f"{crate.name}: {folder}/{file.name} is no wrong body, which is a file NAME.edit")
+            if file.name in found:
+                raise BadEdit(f"{crate.name}/{file.name} stands in two folders")
+            found[file.name] = file
+    return list(found.values())
+
+
+def orphans(root, crates):
+    """The folders of wrong bodies that stand in no crate, so that nobody tries them."""
+    found = [it for folder in FOLDERS for it in root.glob(f"**/{folder}") if it.is_dir()]
+    homes = {Path(it.folder) for it in crates}
+    return [it for it in found if it.parent not in homes and "out" not in it.relative_to(root).parts]
+
+
+def texts_of(folder, edits):
+    """The crate's files with these wrong bodies in them, by their paths: each changes the lines of its own function."""
+    texts = {}
+    for edit in edits:
+        whole = own = (folder / edit.path).read_text()
+        for it in edit.changes:
+            own = own.replace(it.old, it.new)
+        lines = texts.setdefault(edit.path, whole.split("\n"))
+        body = slice(edit.function.body + 1, edit.function.last)
+        lines[body] = own.split("\n")[body]
+    return {path: "\n".join(lines) for path, lines in texts.items()}
+
+
+def are_apart(one, other):
+    """Whether two wrong bodies can share a check: of two functions, neither of which names the other."""
+    def names(body, function):
+        return re.search(rf"\b{function.word}\b", body)
+
+    return (one.function.name != other.function.name and not names(one.body, other.function)
+            and not names(other.body, one.function))
+
+
+def batches_of(edits, most):
+    """The wrong bodies of one crate in as few checks as may be, and those that need a check in full."""
+    batches = []
+    for edit in (it for it in edits if it.function):
+        room = next((b for b in batches if len(b) < most and all(are_apart(edit, it) for it in b)), None)
+        if room is None:
+            batches.append([edit])
+        else:
+            room.append(edit)
+    return batches, [it for it in edits if not it.function]

@@ -1,0 +1,184 @@
+"""Tries wrong bodies of one crate over a copy of its kept work."""
+import os
+import re
+import shutil
+import subprocess
+import tempfile
+import threading
+from dataclasses import dataclass, field
+from pathlib import Path
+from types import SimpleNamespace
+
+from support.edits import texts_of
+
+NOTE = re.compile(r"note: (?:\./)?(src/\S+):(\d+):\d+: it is not proved that (.*?) ?\(`([^`]+)`\)")
+ANSWER = re.compile(r"(?:note: )?(?:\./)?proofs/(\S+)/\w+\.antt:\d+:\d+: (?:error: )?`([^`]+)`: (.*)")
+CLAUSE = re.compile(r"^ +ensures\*? (?:([\w-]+) )?(\{.*?\});?$(?=\n +(?:requires|ensures|ghost)|\s*\Z)", re.M | re.S)
+OPEN = re.compile(r"did not prove ((?:`[^`]+`(?:, | and )?)+)")
+
+
+@dataclass(frozen=True)
+class Result:
+    """What came of a wrong body: whether it was refused, how it was tried, and by which goal or why not."""
+    edit: object
+    is_refused: bool
+    how: str
+    goal: str
+
+
+@dataclass
+class Said:
+    """What a check said, and the processor seconds that it took."""
+    status: int
+    text: str
+    seconds: float
+    lines: list = field(init=False)
+
+    def __post_init__(self):
+        self.lines = self.text.split("\n")
+
+    def verdicts(self, crate, name):
+        """The prover's own lines on a function."""
+        head = re.compile(rf"fn {crate}::(?:\w+::)*{re.escape(name)}: (.*)")
+        return [it[1] for it in map(head.match, self.lines) if it]
+
+    def own_goals(self, edit):
+        """The goals of the edited function that stayed open, each with what it says."""
+        function, found = edit.function, {}
+        for note in filter(None, map(NOTE.match, self.lines)):
+            if note[1] == edit.path and function.first <= int(note[2]) - 1 <= function.last:
+                found.setdefault(note[4], note[3])
+        of_file = function.name.replace("::", "/")
+        for answer in filter(None, map(ANSWER.match, self.lines)):
+            if f"/{answer[1]}/".endswith(f"/{of_file}/"):
+                found.setdefault(answer[2], answer[3])
+        for line in self.verdicts(edit.crate, function.name):
+            for name in re.findall(r"`([^`]+)`", "".join(it[0] for it in OPEN.finditer(line))):
+                found.setdefault(name, "")
+        found.pop("search", None)
+        return found
+
+    def refuses(self, edit):
+        """Whether the edited function is refused, for the sake of a goal of its own."""
+        lines = self.verdicts(edit.crate, edit.function.name)
+        return any(it.startswith(("not proved", "no proof: expected")) for it in lines) and bool(self.own_goals(edit))
+
+
+def told(goals, clauses=None):
+    """Goals in a line: the clauses of the contract that stayed open, else the first three and what the first says."""
+    names = [clause_of(it, clauses or {}) for it in goals]
+    if clauses and all(names):
+        return " ".join("; ".join(dict.fromkeys(names)).split())[:200]
+    more = f" and {len(goals) - 3} more" if len(goals) > 3 else ""
+    words = next((it for it in goals.values() if it), "")
+    return " ".join(f"{', '.join([*goals][:3])}{more}{': ' + words if words else ''}".split())[:200]
+
+
+def clause_of(goal, clauses):
+    """The clause of the contract that a goal at the function's return is of."""
+    if not goal.startswith("returns"):
+        return ""
+    name = goal.rpartition("-clause-")[2] if "-clause-" in goal else ""
+    found = clauses.get(name) or (next(iter(clauses.values())) if len(clauses) == 1 else "")
+    return f"ensures {name + ' ' if name else ''}{found}" if found else ""
+
+
+def clauses_of(text, function):
+    """The clauses that a function ensures, by their names."""
+    head = "\n".join(text.split("\n")[function.first:function.body])
+    return dict(CLAUSE.findall(head))
+
+
+class Bench:
+    """A crate, and a copy of its kept work that one worker tries wrong bodies over."""
+
+    def __init__(self, rt, crate):
+        self.rt, self.crate = rt, crate
+        self.folder = Path(crate.folder)
+        self.room = tempfile.mkdtemp(prefix="wrong-bodies-")
+        self.kept = f"{self.room}/kept"
+        self.tried, self.spent, self.output = set(), 0.0, ""
+        shutil.copytree(self.folder / "out/incremental", self.kept)
+
+    def close(self):
+        shutil.rmtree(self.room, ignore_errors=True)
+
+    def check(self, texts, only, kept):
+        """One check of the crate with these texts in place of its own, of these functions alone or in full."""
+        with tempfile.TemporaryDirectory(dir=self.room) as room:
+            for part in self.rt.rtlib.PARTS:
+                if (self.folder / part).is_dir():
+                    shutil.copytree(self.folder / part, f"{room}/{part}")
+            for path, text in texts.items():
+                Path(room, path).write_text(text)
+            words = [*self.rt.rtlib.guarded(), self.rt.rtlib.RATTLE, "check"]
+            words += self.crate.words(["--jobs", "1"], keeps=False)
+            words += ["--incremental", kept] if kept else []
+            said = run([*words, *(word for it in only for word in ("--only", it))], room)
+        self.spent += said.seconds
+        self.output = said.text
+        return said
+
+    def is_spoiled(self, said, texts):
+        """Whether the text could not be read, or no check came of it."""
+        is_unread = any(self.rt.unread(line, texts) for line in said.lines)
+        return is_unread or said.status != 1 or not any(it.startswith("only=") for it in said.lines)
+
+    def try_batch(self, batch):
+        """Tries wrong bodies in one check, and each that is not refused there for its own sake alone."""
+        texts = texts_of(self.folder, batch)
+        said = self.check(texts, [it.function.name for it in batch], self.kept)
+        how = f"with {len(batch) - 1} others" if len(batch) > 1 else "alone"
+        is_spoiled = self.is_spoiled(said, texts)
+        for edit in batch:
+            if not is_spoiled and said.refuses(edit):
+                self.tried.add(edit.function.name)
+                yield Result(edit, True, how, told(said.own_goals(edit), self.clauses(edit)))
+            elif len(batch) > 1:
+                yield from self.try_batch([edit])
+            else:
+                yield self.try_in_full(edit)
+
+    def try_in_full(self, edit):
+        """Tries a wrong body as `rt` does: over the kept work, and from nothing where it is not refused so."""
+        HERE.bench = self
+        is_refused, words = self.rt.must_fail(self.crate, str(edit.file), ["--jobs", "1"], self.kept)
+        if not is_refused and "BAD EDIT" not in words:
+            is_refused, words = self.rt.must_fail(self.crate, str(edit.file), ["--jobs", "1"])
+        words = words.split(f"{edit.name}: ", 1)[-1]
+        goals = {it[4]: it[3] for it in map(NOTE.match, self.output.split("\n")) if it}
+        first = re.sub(r"^refused, as it must be(?:: )?", "", words) or "not proved"
+        told_goals = told(goals, self.clauses(edit) if edit.function else None) if goals else first
+        return Result(edit, is_refused, "in full", " ".join(told_goals.split()) if is_refused else words)
+
+    def clauses(self, edit):
+        """The clauses of the edited function's contract."""
+        return clauses_of((self.folder / edit.path).read_text(), edit.function)
+
+    def is_sound(self):
+        """Whether the functions whose wrong bodies were refused are proved as they stand over the same kept work."""
+        return not self.tried or self.check({}, sorted(self.tried), self.kept).status == 0
+
+
+# The bench that a worker's check in full is made on.
+HERE = threading.local()
+
+
+def lend(rt):
+    """Has `rt` make its checks of wrong bodies on the worker's bench, where their time is counted."""
+    def checked(_crate, texts, _flags, kept):
+        said = HERE.bench.check(texts, (), kept)
+        return SimpleNamespace(returncode=said.status, stdout=said.text)
+
+    rt.checked = checked
+
+
+def run(words, folder):
+    """Runs a command, and tells its processor seconds too."""
+    with tempfile.TemporaryFile("w+", errors="replace") as out:
+        how = {"cwd": folder, "stdin": subprocess.DEVNULL, "stdout": out, "stderr": subprocess.STDOUT}
+        started = subprocess.Popen(words, **how)
+        _, status, spent = os.wait4(started.pid, 0)
+        started.returncode = os.waitstatus_to_exitcode(status)
+        out.seek(0)
+        return Said(started.returncode, out.read(), spent.ru_utime + spent.ru_stime)
