@@ -149,9 +149,6 @@ impl<M: Medium> Fleet<M> {
         ensures below { Applies M.tells (layers_of self.old) (Event.Fetch cntlid qid) result (layers_of self.new) }
         ensures fits { data_len result ≤ length self.new.buffer }
     {
-        let Some(_place) = self.place_of(cntlid) else {
-            return FleetSeen::NoController;
-        };
         told(self.subsystem.apply(Event::Fetch(cntlid, qid)))
     }
 
