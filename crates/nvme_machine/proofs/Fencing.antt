@@ -29,7 +29,7 @@ pub may-still : (old new : World) (n k : ℕ) → host_of new k ≡ host_of old 
 unfolding may_write reservation_of
 may-still old new n k hosts same = ap (λ h. permits_group (namespace_of new n) h Writing) hosts ∙ permits-by (namespace_of new n) (namespace_of old n) (host_of old k) Writing same
 
-read-still : (old new : World) (n k : ℕ) → host_of new k ≡ host_of old k → reservation_of new n ≡ reservation_of old n → may_read new k n ≡ may_read old k n
+pub read-still : (old new : World) (n k : ℕ) → host_of new k ≡ host_of old k → reservation_of new n ≡ reservation_of old n → may_read new k n ≡ may_read old k n
 unfolding may_read reservation_of
 read-still old new n k hosts same = ap (λ h. permits_group (namespace_of new n) h Reading) hosts ∙ permits-by (namespace_of new n) (namespace_of old n) (host_of old k) Reading same
 

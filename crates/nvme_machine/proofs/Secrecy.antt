@@ -17,7 +17,7 @@ use Rattle.nvme_spec.specs.Access.{Row, rights_table, rights_of, allows, is_perm
 use Rattle.nvme_spec.specs.Bytes.{with_bytes}
 use Rattle.nvme_spec.specs.Blocks.{Device, HasFailed, blocks_from}
 use Rattle.nvme_spec.specs.World.{World, Namespace, namespace_of, host_of, is_attached}
-use Rattle.nvme_spec.specs.Commands.{starting_lba, block_count, data_length_of, command_of}
+use Rattle.nvme_spec.specs.Commands.{starting_lba, block_count, data_length_of, command_of, is_one_of}
 use Rattle.nvme_spec.specs.Effects.{Completes, Faults, ReadEffect, WriteEffect, CompareEffect, FlushEffect}
 use Rattle.nvme_spec.specs.declared.outcome.Outcome.{Outcome}
 use Rattle.nvme_spec.specs.declared.queues.Queues.{Queues}
@@ -125,7 +125,7 @@ lies w k e attached below =
 -- What a command does over one medium it can do over the other.
 
 -- over a medium that differs in a namespace: the other medium after it, with what it did there
-abbrev Mirrors : ℕ → World → Device → (Device → Type 0) → Type 0
+abbrev pub Mirrors : ℕ → World → Device → (Device → Type 0) → Type 0
 Mirrors n w new does = (e : Device) × does e × DifferIn n w new e
 
 completes : (old new d e : Device) (answer why : Status) → d.failures ≡ old.failures → e.failures ≡ new.failures → Completes old new answer why → Completes d e answer why
@@ -252,6 +252,24 @@ writes n w old new d e x bytes answer laid differ other l whole f = elim f [
         let size = length-with_bytes content (512 * medium_block w e) front (omega (arith, l.start, inside, fits)) in
         record { within = λ m y is. (let b = laid.within m y is in omega (arith, b, size)); apart = laid.apart }
 
+-- as many bytes are on the medium after it as before
+written-size : (w : World) (old new : Device) (e : List ℕ) (x : Extent) (bytes : List ℕ) (answer : Status) → IsLaidOut w old.content → Lies w e x
+    → length bytes ≡ 512 * block_count e → WriteEffect true (medium_block w e) bytes old new answer → length new.content ≡ length old.content
+written-size w old new e x bytes answer laid l whole f =
+    let inside = laid.within (nsid e) x l.named in
+    elim f [
+      | inl done ↦ ap length (done.1 refl) ∙ length-with_bytes old.content (512 * medium_block w e) bytes (omega (arith, l.start, l.fits, inside, whole))
+      | inr stopped ↦ (let s = stopped.1 refl in
+          let torn = s.torn in
+          let front : List ℕ = take (512 * s.at) bytes in
+          let long : length front ≡ 512 * s.at = length-take-le (512 * s.at) bytes (omega (arith, s.within)) in
+          let one = length-with_bytes old.content (512 * medium_block w e) front (omega (arith, l.start, l.fits, inside, whole, long, s.within)) in
+          ap length torn.is
+          ∙ length-with_bytes (with_bytes old.content (512 * medium_block w e) front) (512 * (medium_block w e + s.at)) torn.left
+          (omega (arith, l.start, l.fits, inside, whole, long, s.within, torn.whole, one))
+          ∙ one)
+    ]
+
 -- the scene over another medium
 abbrev pub scene_over : Device → Scene → Scene
 scene_over d s = record s { device = d }
@@ -274,7 +292,7 @@ whole-data command window e named = length-data_in (data_length_of (command_of (
 same-device : (n : ℕ) (s new : Scene) (d : Device) → DifferIn n s.world s.device d → new.device ≡ s.device → DifferIn n s.world new.device d
 same-device n s new d differ is = subst (λ x. DifferIn n s.world x d) (sym is) differ
 
-abbrev MirrorsPerformance : ℕ → Command → ℕ → List ℕ → List ℕ → Scene → Scene → Device → Status → List ℕ → Type 0
+abbrev pub MirrorsPerformance : ℕ → Command → ℕ → List ℕ → List ℕ → Scene → Scene → Device → Status → List ℕ → Type 0
 MirrorsPerformance n command k e sent s new d answer returned =
     Mirrors n s.world new.device (λ x. Performs true command k e sent (scene_over d s) (scene_over x new) answer returned)
 
@@ -283,43 +301,67 @@ reserves : (n k : ℕ) (e sent : List ℕ) (s new : Scene) (d : Device) (answer 
 reserves n k e sent s new d answer returned differ h =
     (d, record { answered = h.answered; world = h.world; device = refl; data_back = h.data_back }, same-device n s new d differ h.device)
 
-performs : (n : ℕ) (s : Scene) (k : ℕ) (e : List ℕ) (command : Command) (new : Scene) (d : Device) (answer : Status) (returned : List ℕ) → IsLaidOut s.world s.device.content → DifferIn n s.world s.device d
-    → may_read s.world k n ≡ false → HasPassed s.world k e command → Performs true command k e (data_of s.window e) s new answer returned
-    → MirrorsPerformance n command k e (data_of s.window e) s new d answer returned
-performs n s k e Flush new d answer returned laid differ fenced p h =
+-- a command that brings data for blocks brings as many as it names
+abbrev pub BringsItsData : Command → List ℕ → List ℕ → Type 0
+BringsItsData command e sent = is_one_of (Some command) (Write ∷ Compare ∷ []) ≡ true → length sent ≡ data_length_of (Some command) e
+
+pub performs : (n : ℕ) (s : Scene) (k : ℕ) (e sent : List ℕ) (command : Command) (new : Scene) (d : Device) (answer : Status) (returned : List ℕ) → IsLaidOut s.world s.device.content → DifferIn n s.world s.device d
+    → may_read s.world k n ≡ false → HasPassed s.world k e command → BringsItsData command e sent → Performs true command k e sent s new answer returned
+    → MirrorsPerformance n command k e sent s new d answer returned
+performs n s k e sent Flush new d answer returned laid differ fenced p brings h =
     let f = h.effect in
     let m = flushes n s.world s.device new.device d answer differ f.0 in
-    on-blocks n s new d Flush e (data_of s.window e) answer returned h.world (m.0, (m.1, f.1), m.2)
-performs n s k e Read new d answer returned laid differ fenced p h =
+    on-blocks n s new d Flush e sent answer returned h.world (m.0, (m.1, f.1), m.2)
+performs n s k e sent Read new d answer returned laid differ fenced p brings h =
     let other = not-read s.world k n (nsid e) fenced ((or_parts _ _ p.permitted).0) in
     let l = lies s.world k e p.attached p.fits in
-    on-blocks n s new d Read e (data_of s.window e) answer returned h.world
+    on-blocks n s new d Read e sent answer returned h.world
     (reads n s.world s.device new.device d (medium_block s.world e) (512 * block_count e) answer returned differ (reads-same n s.world k e s.device d (512 * block_count e) laid differ other l.0 l.1 (omega arith)) h.effect)
-performs n s k e Compare new d answer returned laid differ fenced p h =
+performs n s k e sent Compare new d answer returned laid differ fenced p brings h =
     let f = h.effect in
     let other = not-read s.world k n (nsid e) fenced ((or_parts _ _ p.permitted).0) in
     let l = lies s.world k e p.attached p.fits in
-    let whole = whole-data Compare s.window e p.named in
-    let m = compares n s.world s.device new.device d (medium_block s.world e) (data_of s.window e) answer differ
-    (reads-same n s.world k e s.device d (length (data_of s.window e)) laid differ other l.0 l.1 (omega (arith, whole))) f.0 in
-    on-blocks n s new d Compare e (data_of s.window e) answer returned h.world (m.0, (m.1, f.1), m.2)
-performs n s k e Write new d answer returned laid differ fenced p h =
+    let whole = brings refl in
+    let m = compares n s.world s.device new.device d (medium_block s.world e) sent answer differ
+    (reads-same n s.world k e s.device d (length sent) laid differ other l.0 l.1 (omega (arith, whole))) f.0 in
+    on-blocks n s new d Compare e sent answer returned h.world (m.0, (m.1, f.1), m.2)
+performs n s k e sent Write new d answer returned laid differ fenced p brings h =
     let f = h.effect in
     let other = not-written s.world k n (nsid e) fenced p.permitted in
     let l = lies s.world k e p.attached p.fits in
-    let m = writes n s.world s.device new.device d e l.0 (data_of s.window e) answer laid differ other l.1 (whole-data Write s.window e p.named) f.0 in
-    on-blocks n s new d Write e (data_of s.window e) answer returned h.world (m.0, (m.1, f.1), m.2)
-performs n s k e WriteZeroes new d answer returned laid differ fenced p h =
+    let m = writes n s.world s.device new.device d e l.0 sent answer laid differ other l.1 (brings refl) f.0 in
+    on-blocks n s new d Write e sent answer returned h.world (m.0, (m.1, f.1), m.2)
+performs n s k e sent WriteZeroes new d answer returned laid differ fenced p brings h =
     let f = h.effect in
     let other = not-written s.world k n (nsid e) fenced p.permitted in
     let l = lies s.world k e p.attached p.fits in
     let m = writes n s.world s.device new.device d e l.0 (replicate (512 * block_count e) 0) answer laid differ other l.1 (length-replicate (512 * block_count e) 0) f.0 in
-    on-blocks n s new d WriteZeroes e (data_of s.window e) answer returned h.world (m.0, (m.1, f.1), m.2)
-performs n s k e ReservationRegister new d answer returned laid differ fenced p h = reserves n k e (data_of s.window e) s new d answer returned differ h
-performs n s k e ReservationAcquire new d answer returned laid differ fenced p h = reserves n k e (data_of s.window e) s new d answer returned differ h
-performs n s k e ReservationRelease new d answer returned laid differ fenced p h = reserves n k e (data_of s.window e) s new d answer returned differ h
-performs n s k e ReservationReport new d answer returned laid differ fenced p h =
+    on-blocks n s new d WriteZeroes e sent answer returned h.world (m.0, (m.1, f.1), m.2)
+performs n s k e sent ReservationRegister new d answer returned laid differ fenced p brings h = reserves n k e sent s new d answer returned differ h
+performs n s k e sent ReservationAcquire new d answer returned laid differ fenced p brings h = reserves n k e sent s new d answer returned differ h
+performs n s k e sent ReservationRelease new d answer returned laid differ fenced p brings h = reserves n k e sent s new d answer returned differ h
+performs n s k e sent ReservationReport new d answer returned laid differ fenced p brings h =
     (d, record { answered = h.answered; world = h.world; device = refl; data_back = h.data_back }, same-device n s new d differ h.device)
+
+-- as many bytes are on the medium after it as before
+pub performed-size : (s : Scene) (k : ℕ) (e sent : List ℕ) (command : Command) (new : Scene) (answer : Status) (returned : List ℕ) → IsLaidOut s.world s.device.content
+    → HasPassed s.world k e command → BringsItsData command e sent → Performs true command k e sent s new answer returned
+    → length new.device.content ≡ length s.device.content
+performed-size s k e sent Flush new answer returned laid p brings h = let f = h.effect in ap length (f.0.0 refl)
+performed-size s k e sent Read new answer returned laid p brings h = let f = h.effect in ap length (f.0 refl)
+performed-size s k e sent Compare new answer returned laid p brings h = let f = h.effect in ap length (f.0.0 refl)
+performed-size s k e sent Write new answer returned laid p brings h =
+    let f = h.effect in
+    let l = lies s.world k e p.attached p.fits in
+    written-size s.world s.device new.device e l.0 sent answer laid l.1 (brings refl) f.0
+performed-size s k e sent WriteZeroes new answer returned laid p brings h =
+    let f = h.effect in
+    let l = lies s.world k e p.attached p.fits in
+    written-size s.world s.device new.device e l.0 (replicate (512 * block_count e) 0) answer laid l.1 (length-replicate (512 * block_count e) 0) f.0
+performed-size s k e sent ReservationRegister new answer returned laid p brings h = ap (λ (d : Device). length d.content) h.device
+performed-size s k e sent ReservationAcquire new answer returned laid p brings h = ap (λ (d : Device). length d.content) h.device
+performed-size s k e sent ReservationRelease new answer returned laid p brings h = ap (λ (d : Device). length d.content) h.device
+performed-size s k e sent ReservationReport new answer returned laid p brings h = ap (λ (d : Device). length d.content) h.device
 
 by-verdict : (v : Verdict) (n k : ℕ) (e : List ℕ) (marked : Bool) (s new : Scene) (d : Device) (o : Outcome) → io_verdict s.world k e marked s.window ≡ v → IsLaidOut s.world s.device.content
     → DifferIn n s.world s.device d → may_read s.world k n ≡ false → ExecutesBy v true k e s new o
@@ -327,7 +369,8 @@ by-verdict : (v : Verdict) (n k : ℕ) (e : List ℕ) (marked : Bool) (s new : S
 by-verdict (Denied number why) n k e marked s new d o is laid differ fenced h =
     (d, (ap (scene_over d) h.0, h.1), same-device n s new d differ (ap (λ (x : Scene). x.device) h.0))
 by-verdict (Allowed plan) n k e marked s new d o is laid differ fenced h =
-    let m = performs n s k e plan.kind new d o.status h.returned laid differ fenced (has-passed s.world k e marked s.window plan is) h.effect in
+    let p = has-passed s.world k e marked s.window plan is in
+    let m = performs n s k e (data_of s.window e) plan.kind new d o.status h.returned laid differ fenced p (λ brings. whole-data plan.kind s.window e p.named) h.effect in
     (m.0, record { returned = h.returned; effect = m.1; window = h.window; dw0 = h.dw0; rule = h.rule; marks = h.marks }, m.2)
 
 -- the answer to a command over another medium
@@ -343,7 +386,7 @@ answers-as false n queues k t s a d laid differ fenced h =
     let m = by-verdict (io_verdict s.world k t.entry t.marked s.window) n k t.entry t.marked s a.left d a.outcome refl laid differ fenced h.1 in
     (m.0, (h.0, m.1), m.2)
 
-answers-over : (n : ℕ) (queues : Queues) (k : ℕ) (t : FetchedCommand) (s : Scene) (a : Answer) (d : Device) → IsLaidOut s.world s.device.content → DifferIn n s.world s.device d
+pub answers-over : (n : ℕ) (queues : Queues) (k : ℕ) (t : FetchedCommand) (s : Scene) (a : Answer) (d : Device) → IsLaidOut s.world s.device.content → DifferIn n s.world s.device d
     → may_read s.world k n ≡ false → Answers true queues k t s a
     → Mirrors n s.world a.left.device (λ x. Answers true queues k t (scene_over d s) (answer_over x a))
 unfolding Answers
@@ -419,7 +462,7 @@ leaves-over n s d (Execute k i) quiet h =
     quiet (record { controller = h.controller; command = h.command; at = h.at; found = h.found; named = h.named; allowed = h.allowed })
 
 -- the extents are the same after a step
-differ-still : (n : ℕ) (v w : World) (d e : Device) → HasSameExtents v w → DifferIn n v d e → DifferIn n w d e
+pub differ-still : (n : ℕ) (v w : World) (d e : Device) → HasSameExtents v w → DifferIn n v d e → DifferIn n w d e
 differ-still n v w d e same differ = record {
   failures = differ.failures;
   size = differ.size;
