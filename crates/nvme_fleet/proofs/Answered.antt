@@ -30,7 +30,7 @@ use Rattle.nvme_fleet.proofs.Apart.{is-same, hosts_are_apart}
 
 -- Lists of which each is so.
 
-all-append : {A : Type 0} (P : A → Type 0) (xs ys : List A) → AllByRecursion P xs → AllByRecursion P ys → AllByRecursion P (xs ++ ys)
+pub all-append : {A : Type 0} (P : A → Type 0) (xs ys : List A) → AllByRecursion P xs → AllByRecursion P ys → AllByRecursion P (xs ++ ys)
 all-append P [] ys a b = b
 all-append P (x ∷ xs) ys a b = (a.0, all-append P xs ys a.1 b)
 
@@ -49,7 +49,7 @@ all-over P g (x ∷ xs) a = (a.0, all-over P g xs a.1)
 some-is : {A : Type 0} (x y : A) → Some x ≡ Some y → x ≡ y
 some-is x y h = cc
 
-all-get : {A : Type 0} (P : A → Type 0) (xs : List A) (i : ℕ) (x : A) → slice_get xs i ≡ Some x → AllByRecursion P xs → P x
+pub all-get : {A : Type 0} (P : A → Type 0) (xs : List A) (i : ℕ) (x : A) → slice_get xs i ≡ Some x → AllByRecursion P xs → P x
 all-get P [] i x h a = absurd (cc)
 all-get P (y ∷ xs) zero x h a = subst P (some-is y x h) a.0
 all-get P (y ∷ xs) (suc i) x h a = all-get P xs i x h a.1
@@ -62,13 +62,13 @@ all-removed P (x ∷ xs) (suc i) a = (a.0, all-removed P xs i a.1)
 
 -- What is known of each request that waits, and of each answer.
 
-abbrev OfItem : (Item → Type 0) → FetchedItem → Type 0
+abbrev pub OfItem : (Item → Type 0) → FetchedItem → Type 0
 OfItem P f = P f.item
 
-abbrev KnownIn : (Item → Type 0) → (PostedAnswer → Type 0) → LaneBox → Type 0
+abbrev pub KnownIn : (Item → Type 0) → (PostedAnswer → Type 0) → LaneBox → Type 0
 KnownIn P Q b = AllByRecursion P b.placed × AllByRecursion P b.rung × AllByRecursion Q b.posted
 
-abbrev Known : (Item → Type 0) → (PostedAnswer → Type 0) → Mailbox → Type 0
+abbrev pub Known : (Item → Type 0) → (PostedAnswer → Type 0) → Mailbox → Type 0
 Known P Q m = KnownIn P Q m.admin × KnownIn P Q m.io × AllByRecursion (OfItem P) m.fetched
 
 known-in : (P R : Item → Type 0) (Q S : PostedAnswer → Type 0) → ((i : Item) → P i → R i) → ((a : PostedAnswer) → Q a → S a) → (b : LaneBox) → KnownIn P Q b → KnownIn R S b
@@ -88,17 +88,17 @@ with-known P Q Io b m k h = (k.0, h, k.2)
 
 -- Events move requests and answers.
 
-abbrev KnownBy : (Item → Type 0) → (PostedAnswer → Type 0) → Reaction → Type 0
+abbrev pub KnownBy : (Item → Type 0) → (PostedAnswer → Type 0) → Reaction → Type 0
 KnownBy P Q r = Known P Q r.mailbox
 
-brought-up : (P : Item → Type 0) (Q : PostedAnswer → Type 0) (m : Mailbox) → Known P Q m → KnownBy P Q (brought_up m)
+pub brought-up : (P : Item → Type 0) (Q : PostedAnswer → Type 0) (m : Mailbox) → Known P Q m → KnownBy P Q (brought_up m)
 brought-up P Q m k = by m.up
   where
     by : (b : Bool) → KnownBy P Q (if b then reaction m (seen.Up (Err AlreadyUp)) else reaction (record m { up = true; admin = recounted m.admin; io = recounted m.io }) (seen.Up (Ok tt)))
     by true = k
     by false = k
 
-places : (P : Item → Type 0) (Q : PostedAnswer → Type 0) (o : Option PlaceRefusal) (m : Mailbox) (request : Request) → (o ≡ None → P (new_item m request)) → Known P Q m → KnownBy P Q (placed_by o m request)
+pub places : (P : Item → Type 0) (Q : PostedAnswer → Type 0) (o : Option PlaceRefusal) (m : Mailbox) (request : Request) → (o ≡ None → P (new_item m request)) → Known P Q m → KnownBy P Q (placed_by o m request)
 places P Q (Some why) m request new k = k
 places P Q None m request new k =
     let l : Lane = (asked_of request).command.lane in
@@ -107,7 +107,7 @@ places P Q None m request new k =
     with-known P Q l (with_placed b (new_item m request)) (record m { next = m.next + 1 }) k
     (all-append P b.placed (new_item m request ∷ []) h.0 (new refl, tt), h.1, h.2)
 
-rings : (P : Item → Type 0) (Q : PostedAnswer → Type 0) (m : Mailbox) → Known P Q m → KnownBy P Q (rung m)
+pub rings : (P : Item → Type 0) (Q : PostedAnswer → Type 0) (m : Mailbox) → Known P Q m → KnownBy P Q (rung m)
 rings P Q m k = by m.up
   where
     lane : (b : LaneBox) → KnownIn P Q b → KnownIn P Q (ring_lane b)
@@ -125,7 +125,7 @@ first-fetched P Q l (x ∷ rest) m e k =
     with-known P Q l _ (record m { fetched = m.fetched ++ record { item = x; marked = false } ∷ [] })
     (k.0, k.1, all-append (OfItem P) m.fetched (record { item = x; marked = false } ∷ []) k.2 (r.0, tt)) (h.0, r.1, h.2)
 
-fetches : (P : Item → Type 0) (Q : PostedAnswer → Type 0) (o : Option Lane) (m : Mailbox) → Known P Q m → KnownBy P Q (fetched_of o m)
+pub fetches : (P : Item → Type 0) (Q : PostedAnswer → Type 0) (o : Option Lane) (m : Mailbox) → Known P Q m → KnownBy P Q (fetched_of o m)
 fetches P Q None m k = k
 fetches P Q (Some l) m k = first-fetched P Q l (box_at l m).rung m refl k
 
@@ -143,7 +143,7 @@ admin-polled : (P : Item → Type 0) (Q : PostedAnswer → Type 0) (xs : List Po
 admin-polled P Q [] m e k = io-polled P Q m.io.posted m refl k
 admin-polled P Q (first ∷ rest) m e k = hands-up P Q Admin first rest m e k
 
-polls : (P : Item → Type 0) (Q : PostedAnswer → Type 0) (ts : List ℕ) (m : Mailbox) → Known P Q m → KnownBy P Q (polled_aborted ts m)
+pub polls : (P : Item → Type 0) (Q : PostedAnswer → Type 0) (ts : List ℕ) (m : Mailbox) → Known P Q m → KnownBy P Q (polled_aborted ts m)
 polls P Q [] m k = by m.up
   where
     by : (b : Bool) → KnownBy P Q (if b then polled_admin m.admin.posted m else reaction m (seen.Polled (Err poll_fault.NotUp)))
@@ -151,7 +151,7 @@ polls P Q [] m k = by m.up
     by false = k
 polls P Q (t ∷ ts) m k = k
 
-answered : (P : Item → Type 0) (Q : PostedAnswer → Type 0) (i : ℕ) (x : FetchedItem) (r : Response) (m : Mailbox) → ((since : ℕ) → Q (answer_for x r since)) → Known P Q m → Known P Q (after_answer i x r m)
+pub answered : (P : Item → Type 0) (Q : PostedAnswer → Type 0) (i : ℕ) (x : FetchedItem) (r : Response) (m : Mailbox) → ((since : ℕ) → Q (answer_for x r since)) → Known P Q m → Known P Q (after_answer i x r m)
 unfolding after_answer
 answered P Q i x r m new k =
     let l : Lane = lane_of x.item in
@@ -160,7 +160,7 @@ answered P Q i x r m new k =
     with-known P Q l (with_posted b x r) (record m { fetched = remove m.fetched i }) (k.0, k.1, all-removed (OfItem P) m.fetched i k.2)
     (h.0, h.1, all-append Q b.posted (answer_for x r b.since ∷ []) h.2 (new b.since, tt))
 
-all-marked : (P : Item → Type 0) (n : ℕ) (xs : List FetchedItem) → AllByRecursion (OfItem P) xs → AllByRecursion (OfItem P) (map (with_mark n) xs)
+pub all-marked : (P : Item → Type 0) (n : ℕ) (xs : List FetchedItem) → AllByRecursion (OfItem P) xs → AllByRecursion (OfItem P) (map (with_mark n) xs)
 all-marked P n [] a = tt
 all-marked P n (x ∷ xs) a = (by (names n x), all-marked P n xs a.1)
   where
@@ -325,13 +325,10 @@ walk P Q k m tells old (event ∷ events) (x ∷ later) new run at g =
           (behind P Q k tells old event events x later new run) rest.mailbox rest.known;
     }
 
--- A clear mailbox knows of nothing.
-
-known-clear : (P : Item → Type 0) (Q : PostedAnswer → Type 0) (m : Mailbox) → IsClear m → Known P Q m
+-- What is known of all that waits and of all answers.
+pub known-of : (P : Item → Type 0) (Q : PostedAnswer → Type 0) (m : Mailbox) → AllByRecursion P (waiting m) → AllByRecursion Q (posted_answers m) → Known P Q m
 unfolding waiting posted_answers
-known-clear P Q m h =
-    let w : AllByRecursion P (requests_in m.admin ++ requests_in m.io ++ map (λ (f : FetchedItem). f.item) m.fetched) = subst (AllByRecursion P) (sym h.requests) tt in
-    let a : AllByRecursion Q (m.admin.posted ++ m.io.posted) = subst (AllByRecursion Q) (sym h.posted) tt in
+known-of P Q m w a =
     let lanes = all-left P (requests_in m.admin ++ requests_in m.io) (map (λ (f : FetchedItem). f.item) m.fetched) w in
     let admin = all-left P (requests_in m.admin) (requests_in m.io) lanes in
     let io = all-right P (requests_in m.admin) (requests_in m.io) lanes in (
@@ -339,6 +336,10 @@ known-clear P Q m h =
       (all-left P m.io.placed m.io.rung io, all-right P m.io.placed m.io.rung io, all-right Q m.admin.posted m.io.posted a),
       all-over P (λ (f : FetchedItem). f.item) m.fetched (all-right P (requests_in m.admin ++ requests_in m.io) (map (λ (f : FetchedItem). f.item) m.fetched) w),
     )
+
+-- A clear mailbox knows of nothing.
+known-clear : (P : Item → Type 0) (Q : PostedAnswer → Type 0) (m : Mailbox) → IsClear m → Known P Q m
+known-clear P Q m h = known-of P Q m (subst (AllByRecursion P) (sym h.requests) tt) (subst (AllByRecursion Q) (sym h.posted) tt)
 
 pub reset_clears : ResetClears
 unfolding waiting posted_answers

@@ -68,7 +68,7 @@ put-in content at bytes fits =
     omega (arith, a, b, c, d)
 
 -- what an allowed I/O command is known to have passed
-allowed-passes : (s : Site) (k : ℕ) (a : Asked) (marked : Bool) (plan : Plan) → io_verdict s.world k a marked ≡ Allowed plan → HasPassed s.world k (command_entry a) plan.kind
+pub allowed-passes : (s : Site) (k : ℕ) (a : Asked) (marked : Bool) (plan : Plan) → io_verdict s.world k a marked ≡ Allowed plan → HasPassed s.world k (command_entry a) plan.kind
 unfolding io_judgement
 allowed-passes s k a marked plan is =
     let p = planned (io_judgement s.world k a marked) (io_commands.command_of (opcode (command_entry a))) (command_entry a) plan is in

@@ -4,10 +4,11 @@ use Rattle.std.proofs.lemmas.Bool.{cases_Bool, eqb-true, eqb-false}
 use Rattle.nvme_wire.specs.Submission.{nsid}
 use Rattle.nvme_spec.specs.Commands.{reserving}
 use Rattle.nvme_spec.specs.IoData.{reservation_outcome}
-use Rattle.nvme_spec.specs.Layout.{reservation_of, may_write}
+use Rattle.nvme_spec.specs.Layout.{reservation_of, may_write, may_read}
 use Rattle.nvme_spec.specs.World.{World, host_of}
 use Rattle.nvme_spec.proofs.Namespaces.{IsReserved, is-reserved}
-use Rattle.nvme_machine.proofs.Fencing.{may-still}
+use Rattle.nvme_machine.proofs.AdminWorlds.{HasSameExtents}
+use Rattle.nvme_machine.proofs.Fencing.{may-still, read-still}
 use Rattle.nvme_event.specs.declared.event.FleetEvent.{FleetEvent}
 use Rattle.nvme_event.specs.Replies.{Reply}
 use Rattle.nvme_fleet.specs.Fleets.{Fleet, Step, Run}
@@ -26,6 +27,14 @@ hosts-stay old new event (Reserves j i number is x found numbered h) k =
     let r = reserved old.site.world new.site.world x number h in
     let l = r.layout in
     l.hosts k
+
+-- the namespaces lie where they lay
+pub extents-stay : (old new : Fleet) (event : FleetEvent) → Acts old new event → HasSameExtents old.site.world new.site.world
+extents-stay old new event (Rests h) = h.extents
+extents-stay old new event (Reserves j i number is x found numbered h) =
+    let r = reserved old.site.world new.site.world x number h in
+    let l = r.layout in
+    record { hosts = l.hosts; extents = l.extents }
 
 action : (old new : Fleet) (event : FleetEvent) (n : ℕ) → Acts old new event → (reservation_of new.site.world n ≡ reservation_of old.site.world n) ⊎ Allows reserving old event n
 action old new event n (Rests h) = inl (h.reservations n)
@@ -48,6 +57,16 @@ stays-one tells old new event reply n step quiet k =
     let h = step-acts tells old new event reply step in
     elim (action old new event n h) [
       | inl reservation ↦ may-still old.site.world new.site.world n k (hosts-stay old new event h k) reservation
+      | inr allowed ↦ absurd (quiet allowed)
+    ]
+
+-- so of reading
+pub reading-stays : (tells : Bool) (old new : Fleet) (event : FleetEvent) (reply : Reply) (n : ℕ) → Step tells old event reply new → LeavesReservation n old event
+    → (k : ℕ) → may_read new.site.world k n ≡ may_read old.site.world k n
+reading-stays tells old new event reply n step quiet k =
+    let h = step-acts tells old new event reply step in
+    elim (action old new event n h) [
+      | inl reservation ↦ read-still old.site.world new.site.world n k (hosts-stay old new event h k) reservation
       | inr allowed ↦ absurd (quiet allowed)
     ]
 

@@ -89,3 +89,6 @@ pub mod Links
 pub mod Handing
 pub mod Bytes
 pub mod SinceUp
+pub mod Taken
+pub mod Regular
+pub mod Secrecy

@@ -26,3 +26,5 @@ pub mod Answered
 pub mod Unseen
 pub mod Bytes
 pub mod SinceUp
+pub mod Regular
+pub mod Secrecy

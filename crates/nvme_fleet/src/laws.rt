@@ -8,6 +8,8 @@ ghost use Rattle.nvme_fleet.specs.Fencing.{OnlyAllowedActionsReserve, Permission
 ghost use Rattle.nvme_fleet.specs.IoCommands.{OpeningIsNumbered, NumbersStay, ExecutedAsThePolicyAllows};
 ghost use Rattle.nvme_fleet.specs.Preempting.{OutsidersMayNotWrite, OutsidersStayOutside, PreemptedIsOutside, PreemptedStaysOut};
 ghost use Rattle.nvme_fleet.specs.Links.{BringUpIsAStep};
+ghost use Rattle.nvme_fleet.specs.Regular.{OpeningIsRegular, RegularityStays};
+ghost use Rattle.nvme_fleet.specs.Secrecy.{FencedReading, FencedReadingIsSame, LayersReadTheSame};
 ghost use Rattle.nvme_fleet.specs.SinceUp.{DownIsClear, DoneSinceItCameUp};
 ghost use Rattle.nvme_fleet.specs.Tickets.{DriversStay, EachIsHeldOnce, EachTicketGoesOnce, HeldAreCounted, NewHoldsEachOnce, OpeningHasDrivers, OpeningIsNew, TicketsAreConsecutive, TicketsBalance, TicketsOfAnOpeningGoOnce};
 ghost use Rattle.nvme_fleet.specs.Steps.{OpeningIsSound, JudgedAsItsRequest, AllowedServesItsRequest, AnswersItsRequest, NothingToExecute, PostingHasRoom, PostingIsAStep, IoExecutionIsAStep, AdminJudgedAsItsRequest, AdminAnswersItsRequest, AdminExecutionIsAStep, ExecutionIsAStep, ExecutionIsAFleetStep, NoExecutionIsAFleetStep, RefusalIsAStep, PlaceIsAStep, RingIsAStep, FetchIsAStep, MarksAreSteps, PollIsAStep, ResetIsAStep};
@@ -167,4 +169,17 @@ pub fn bytes_are_kept()
 pub fn done_since_it_came_up()
     ensures clear { DownIsClear }
     ensures done { DoneSinceItCameUp }
+{}
+
+/// Hosts that may not read a namespace learn nothing of its bytes, with a driver or raw, until a reservation command on
+/// it is executed that all rules let pass: whatever they are answered and find, they can be answered and find as well
+/// where its bytes are others; and without a fault of the medium they are, be it a fleet of mailboxes or both layers. It
+/// is so of every fleet whose namespaces lie on its medium, whose raw hosts' controllers bear their numbers, and whose
+/// drivers took each request that waits: of every opening, and over every run.
+pub fn fenced_hosts_learn_nothing()
+    ensures opening { OpeningIsRegular }
+    ensures stays { RegularityStays }
+    ensures possible { FencedReading }
+    ensures same { FencedReadingIsSame }
+    ensures layers { LayersReadTheSame }
 {}

@@ -1,0 +1,154 @@
+-- An opening is regular, and a fleet stays so.
+use Rattle.std.proofs.Common.{◌≡◌, ℕ, ◌==◌, ◌≤◌, ◌<◌, ◌-◌, ◌^◌, ◌*◌, ◌%◌, ◌/◌, Bool, true, false, [], ◌∷◌, length, Option, None, Some, Ok, Err, refl, sym, ap, subst, ◌∙◌, arith}
+use Rattle.std.proofs.lemmas.Nat.{from_le_bytes-to_le_bytes_4}
+use Rattle.nvme_wire.specs.Submission.{submission_entry, opcode, cdw12}
+use Rattle.nvme_spec.specs.declared.command.Command.{Command}
+use Rattle.nvme_spec.specs.declared.command.Command.TheVariants.{Flush, Write, Read, Compare, WriteZeroes, ReservationRegister, ReservationReport, ReservationAcquire, ReservationRelease}
+use Rattle.nvme_spec.specs.declared.command.AdminCommand.{AdminCommand}
+use Rattle.nvme_spec.specs.declared.verdict.Verdict.{Verdict}
+use Rattle.nvme_spec.specs.declared.verdict.Verdict.TheVariants.{Allowed, Denied}
+use Rattle.nvme_spec.specs.AdminCommands as admin_commands
+use Rattle.nvme_spec.specs.Blocks.{Device}
+use Rattle.nvme_spec.specs.Commands.{block_count, command_of, data_length_of, is_one_of}
+use Rattle.nvme_spec.specs.Layout.{IsLaidOut}
+use Rattle.nvme_spec.specs.Rules.{Judgement}
+use Rattle.nvme_spec.proofs.Openings.{opening_is_laid_out}
+use Rattle.nvme_driver.specs.declared.lane.Lane.{Lane}
+use Rattle.nvme_driver.specs.declared.lane.Lane.TheVariants.{Admin, Io}
+use Rattle.nvme_driver.specs.declared.request.Request.{Request}
+use Rattle.nvme_driver.specs.declared.request.Request.TheVariants as request
+use Rattle.nvme_driver.specs.Requests.{Asked, asked_of, is_bad}
+use Rattle.nvme_driver.proofs.Moving.{whole}
+use Rattle.nvme_machine.specs.Answers as machine
+use Rattle.nvme_machine.specs.Controllers.{queues_of}
+use Rattle.nvme_machine.specs.Executing.{scene_in}
+use Rattle.nvme_machine.proofs.Layouts.{answer-size}
+use Rattle.nvme_machine.proofs.Secrecy.{BringsItsData, performed-size}
+use Rattle.nvme_event.specs.declared.event.FleetEvent.{FleetEvent}
+use Rattle.nvme_event.specs.Replies.{Reply}
+use Rattle.nvme_fleet.specs.Mailboxes.{Item, lane_of}
+use Rattle.nvme_fleet.specs.Executions.{Answers, AnswersAs, AnswersIo, Response, Site, admin_judgement, admin_response, admin_response_by, command_entry, io_verdict, scene_at}
+use Rattle.nvme_fleet.specs.Fleets.{Fleet, Step, opening, setting_of}
+use Rattle.nvme_fleet.specs.Regular.{IsRegular, OpeningIsRegular, RegularityStays, WasTaken}
+use Rattle.nvme_fleet.proofs.Existing.{allowed-passes}
+use Rattle.nvme_fleet.proofs.Fenced.{extents-stay, step-acts}
+use Rattle.nvme_fleet.proofs.Numbered as numbered
+use Rattle.nvme_fleet.proofs.Sites.{AsItWas, ByCommand, ByRequest, Leaves, leaves}
+use Rattle.nvme_fleet.proofs.Taken as taken
+
+-- A request that was taken brings its data.
+
+-- whatever command its entry names
+abbrev pub BringsItsOwn : Asked → Type 0
+BringsItsOwn a = (command : Command) → command_of (opcode (command_entry a)) ≡ Some command → BringsItsData command (command_entry a) a.sent
+
+word-12 : (a : Asked) → a.command.cdw12 < 2 ^ 32 → cdw12 (command_entry a) ≡ a.command.cdw12
+unfolding command_entry submission_entry cdw12
+word-12 a fits = from_le_bytes-to_le_bytes_4 a.command.cdw12 fits
+
+-- one that is no Write and no Compare need not
+unlike : (a : Asked) (o : Option Command) → command_of (opcode (command_entry a)) ≡ o → is_one_of o (Write ∷ Compare ∷ []) ≡ false → BringsItsOwn a
+unlike a o is other command named one = absurd (no (sym other ∙ ap (λ p. is_one_of p (Write ∷ Compare ∷ [])) (sym is ∙ named) ∙ one))
+  where
+    no : false ≡ true → ⊥
+    no e = absurd (cc)
+
+-- one that is some command, and as long as that says
+alike : (a : Asked) (x : Command) → command_of (opcode (command_entry a)) ≡ Some x → length a.sent ≡ data_length_of (Some x) (command_entry a) → BringsItsOwn a
+alike a x is long command named one = long ∙ ap (λ o. data_length_of o (command_entry a)) (sym is ∙ named)
+
+-- whole blocks
+blocks-brought : (a : Asked) (n : ℕ) → length a.sent ≡ n → n % 512 ≡ 0 → n ≤ 131072 → 1 ≤ n → a.command.cdw12 ≡ n / 512 - 1 → length a.sent ≡ 512 * block_count (command_entry a)
+unfolding block_count
+blocks-brought a n long parts most some word =
+    let w = word-12 a (omega (arith, word, most)) in
+    omega (arith, long, parts, most, some, word, w)
+
+brings-own : (r : Request) → is_bad r ≡ false → BringsItsOwn (asked_of r)
+unfolding command_entry submission_entry opcode command_of
+brings-own (request.Read nsid slba blocks) good = unlike (asked_of (request.Read nsid slba blocks)) (Some Read) refl refl
+brings-own (request.Write nsid slba bytes) good =
+    let w = whole bytes.now good in
+    let a : Asked = asked_of (request.Write nsid slba bytes) in
+    alike a Write refl (blocks-brought a (length bytes.now) refl w.blocks w.most w.some refl)
+brings-own (request.Compare nsid slba bytes) good =
+    let w = whole bytes.now good in
+    let a : Asked = asked_of (request.Compare nsid slba bytes) in
+    alike a Compare refl (blocks-brought a (length bytes.now) refl w.blocks w.most w.some refl)
+brings-own (request.WriteZeroes nsid slba blocks) good = unlike (asked_of (request.WriteZeroes nsid slba blocks)) (Some WriteZeroes) refl refl
+brings-own (request.Flush nsid) good = unlike (asked_of (request.Flush nsid)) (Some Flush) refl refl
+brings-own (request.Register nsid action iekey cptpl crkey nrkey) good = unlike (asked_of (request.Register nsid action iekey cptpl crkey nrkey)) (Some ReservationRegister) refl refl
+brings-own (request.Acquire nsid action rtype crkey prkey) good = unlike (asked_of (request.Acquire nsid action rtype crkey prkey)) (Some ReservationAcquire) refl refl
+brings-own (request.Release nsid action rtype crkey) good = unlike (asked_of (request.Release nsid action rtype crkey)) (Some ReservationRelease) refl refl
+brings-own (request.Report nsid dwords) good = unlike (asked_of (request.Report nsid dwords)) (Some ReservationReport) refl refl
+brings-own (request.Identify cns nsid) good = unlike (asked_of (request.Identify cns nsid)) None refl refl
+brings-own (request.Protect nsid state) good = unlike (asked_of (request.Protect nsid state)) None refl refl
+brings-own (request.Protection nsid) good = unlike (asked_of (request.Protection nsid)) None refl refl
+brings-own (request.Attach nsid list) good = unlike (asked_of (request.Attach nsid list)) (Some ReservationRelease) refl refl
+brings-own (request.Detach nsid list) good = unlike (asked_of (request.Detach nsid list)) (Some ReservationRelease) refl refl
+
+pub taken-brings : (i : Item) → WasTaken i → BringsItsOwn i.asked
+taken-brings i h = subst BringsItsOwn (sym h.2) (brings-own h.0 h.1)
+
+-- As many bytes are on the medium as before.
+
+abbrev SameSize : Site → Site → Type 0
+SameSize old new = length new.device.content ≡ length old.device.content
+
+admin-by-device : (j : Judgement) (command : Option AdminCommand) (s : Site) (k : ℕ) (a : Asked) → (admin_response_by j command s k a).left.device ≡ s.device
+admin-by-device (Err d) command s k a = refl
+admin-by-device (Ok u) None s k a = refl
+admin-by-device (Ok u) (Some command) s k a = refl
+
+pub admin-device : (s : Site) (k : ℕ) (a : Asked) → (admin_response s k a).left.device ≡ s.device
+unfolding admin_response
+admin-device s k a = admin-by-device (admin_judgement s.world k a) (admin_commands.command_of (opcode (command_entry a))) s k a
+
+io-size : (v : Verdict) (k : ℕ) (a : Asked) (marked : Bool) (s : Site) (r : Response) → io_verdict s.world k a marked ≡ v → IsLaidOut s.world s.device.content → BringsItsOwn a → AnswersIo v true k a s r → SameSize s r.left
+io-size (Denied number why) k a marked s r is laid brings h = ap (λ (x : Response). length x.left.device.content) h
+io-size (Allowed plan) k a marked s r is laid brings h =
+    let p = allowed-passes s k a marked plan is in
+    performed-size (scene_at s) k (command_entry a) a.sent plan.kind (scene_at r.left) r.outcome.status h.returned laid p (brings plan.kind p.named) h.effect
+
+lane-size : (lane : Lane) (k : ℕ) (a : Asked) (marked : Bool) (s : Site) (r : Response) → IsLaidOut s.world s.device.content → BringsItsOwn a → AnswersAs lane true k a marked s r → SameSize s r.left
+lane-size Admin k a marked s r laid brings h = ap (λ (x : Response). length x.left.device.content) h ∙ ap (λ (d : Device). length d.content) (admin-device s k a)
+lane-size Io k a marked s r laid brings h = io-size (io_verdict s.world k a marked) k a marked s r refl laid brings h
+
+size-left : (old new : Fleet) (event : FleetEvent) → IsRegular old → Leaves true old new event → SameSize old.site new.site
+unfolding Answers machine.Answers
+size-left old new event regular (AsItWas e) = ap (λ (s : Site). length s.device.content) e
+size-left old new event regular (ByRequest k i is m x r at found answers leaves) =
+    ap (λ (s : Site). length s.device.content) leaves
+    ∙ lane-size (lane_of x.item) k x.item.asked x.marked old.site r regular.laid (taken-brings x.item (taken.at-place old k i m x regular.taken at found)) answers
+size-left old new event regular (ByCommand k i is c t a at found answers leaves) =
+    ap (λ (s : Site). length s.device.content) leaves
+    ∙ answer-size (t.queue == 0) (queues_of c) c.cntlid t (scene_in (setting_of old c)) a regular.laid answers
+
+-- One event.
+pub step-regular : (old new : Fleet) (event : FleetEvent) (reply : Reply) → Step true old event reply new → IsRegular old → IsRegular new
+step-regular old new event reply step regular =
+    let same = extents-stay old new event (step-acts true old new event reply step) in
+    let size = size-left old new event regular (leaves true old new event reply step) in
+    let laid = regular.laid in
+    record {
+      laid = record {
+        within = λ n x is. let fits = laid.within n x (sym (same.extents n) ∙ is) in omega (arith, fits, size);
+        apart = λ n m x y other p q. laid.apart n m x y other (sym (same.extents n) ∙ p) (sym (same.extents m) ∙ q);
+      };
+      numbers = numbered.step true old new event reply step regular.numbers;
+      taken = taken.holds-taken new (taken.step true old new event reply step (taken.listed old regular.taken));
+    }
+
+pub regularity_stays : RegularityStays
+regularity_stays old new [] [] run regular = subst IsRegular (sym run) regular
+regularity_stays old new [] (x ∷ later) run regular = absurd run
+regularity_stays old new (event ∷ events) [] run regular = absurd run
+regularity_stays old new (event ∷ events) (x ∷ later) run regular = regularity_stays run.0 new events later run.2 (step-regular old run.0 event x run.1 regular)
+
+pub opening_is_regular : OpeningIsRegular
+unfolding opening
+opening_is_regular c d blocks size good = record {
+  laid = opening_is_laid_out c blocks d.content size good;
+  numbers = numbered.opening_is_numbered c d blocks good;
+  taken = taken.holds-taken (opening c d) (taken.opening-holds c d);
+}

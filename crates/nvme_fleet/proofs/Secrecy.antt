@@ -1,0 +1,258 @@
+-- Hosts of a fleet that may not read a namespace learn nothing of its bytes.
+use Rattle.std.proofs.Common.{◌≡◌, ◌<◌, ◌-◌, ◌^◌, ℕ, Bool, true, false, List, [], ◌∷◌, Option, None, Some, Ok, Err, refl, sym, ap, subst, ◌∙◌}
+use Rattle.std.specs.Prelude.{slice_get}
+use Rattle.nvme_wire.specs.Submission.{opcode}
+use Rattle.nvme_spec.specs.declared.command.AdminCommand.{AdminCommand}
+use Rattle.nvme_spec.specs.declared.verdict.Verdict.{Verdict}
+use Rattle.nvme_spec.specs.declared.verdict.Verdict.TheVariants.{Allowed, Denied}
+use Rattle.nvme_spec.specs.AdminCommands as admin_commands
+use Rattle.nvme_spec.specs.Blocks.{Device}
+use Rattle.nvme_spec.specs.Layout.{IsLaidOut, may_read}
+use Rattle.nvme_spec.specs.Rules.{Judgement}
+use Rattle.nvme_spec.specs.World.{World}
+use Rattle.nvme_driver.specs.declared.lane.Lane.{Lane}
+use Rattle.nvme_driver.specs.declared.lane.Lane.TheVariants.{Admin, Io}
+use Rattle.nvme_driver.specs.Requests.{Asked}
+use Rattle.nvme_machine.specs.declared.fetched.FetchedCommand.{FetchedCommand}
+use Rattle.nvme_machine.specs.declared.seen.Executed.{Executed}
+use Rattle.nvme_machine.specs.Answers.{Answer}
+use Rattle.nvme_machine.specs.Controllers.{Controller, QueuePair, open_pair, queues_of}
+use Rattle.nvme_machine.specs.Executing.{FinishesOne, FinishesOver, Setting, scene_in}
+use Rattle.nvme_machine.specs.Secrecy.{DifferIn}
+use Rattle.nvme_machine.specs.Subsystems.{after_answer as after_machine_answer}
+use Rattle.nvme_machine.proofs.Secrecy.{Mirrors, answer_over, answers-over, differ-still, performs}
+use Rattle.nvme_event.specs.declared.event.FleetEvent.{FleetEvent}
+use Rattle.nvme_event.specs.declared.event.FleetEvent.TheVariants.{BringUp, Place, Ring, Fetch, Execute, Poll, Reset, RawStore, RawWrite32}
+use Rattle.nvme_event.specs.declared.seen.FleetSeen.{FleetSeen}
+use Rattle.nvme_event.specs.Events.{controller_of}
+use Rattle.nvme_event.specs.Replies.{Reply}
+use Rattle.nvme_fleet.specs.Mailboxes.{FetchedItem, Mailbox, lane_of}
+use Rattle.nvme_fleet.specs.Deliveries.{Reaction}
+use Rattle.nvme_fleet.specs.Bytes as bytes
+use Rattle.nvme_fleet.specs.FleetStates.{Layers, fleet_in}
+use Rattle.nvme_fleet.specs.Executions.{Answers, AnswersAs, AnswersIo, Response, Site, admin_judgement, admin_response, admin_response_by, command_entry, io_verdict, scene_at}
+use Rattle.nvme_fleet.specs.Fencing.{LeavesReservation, RunWhere}
+use Rattle.nvme_fleet.specs.Fleets.{ExecutesAt, ExecutesItem, ExecutesRaw, Fleet, Host, Is, Raw, Step, WithDriver, after_answer, after_execution, after_raw, called_at, fetched_at, host_at, raw_at, setting_of, settled, with_host}
+use Rattle.nvme_fleet.specs.IoCommands.{command_at}
+use Rattle.nvme_fleet.specs.Regular.{IsRegular, WasTaken}
+use Rattle.nvme_fleet.specs.Secrecy.{FencedReading, FencedReadingIsSame, LayersReadTheSame, MayNotRead, layers_over, over, site_over}
+use Rattle.nvme_fleet.proofs.Bytes.{runs_of_mailboxes}
+use Rattle.nvme_fleet.proofs.Determined.{run_is_unique}
+use Rattle.nvme_fleet.proofs.Existing.{allowed-passes, called-site, fetched-site, raw-site}
+use Rattle.nvme_fleet.proofs.Fenced.{extents-stay, plainly, reading-stays, step-acts}
+use Rattle.nvme_fleet.proofs.Regular.{BringsItsOwn, admin-device, step-regular, taken-brings}
+use Rattle.nvme_fleet.proofs.Taken.{at-place}
+
+-- What a request comes to over one medium it can come to over the other.
+
+abbrev response_over : Device → Response → Response
+response_over d r = record { outcome = r.outcome; bytes = r.bytes; left = site_over d r.left }
+
+same-device : (n : ℕ) (w : World) (old new d : Device) → DifferIn n w old d → new ≡ old → DifferIn n w new d
+same-device n w old new d differ is = subst (λ x. DifferIn n w x d) (sym is) differ
+
+admin-by-over : (j : Judgement) (command : Option AdminCommand) (s : Site) (k : ℕ) (a : Asked) (d : Device) → response_over d (admin_response_by j command s k a) ≡ admin_response_by j command (site_over d s) k a
+admin-by-over (Err e) command s k a d = refl
+admin-by-over (Ok u) None s k a d = refl
+admin-by-over (Ok u) (Some command) s k a d = refl
+
+admin-over : (s : Site) (k : ℕ) (a : Asked) (d : Device) → response_over d (admin_response s k a) ≡ admin_response (site_over d s) k a
+unfolding admin_response
+admin-over s k a d = admin-by-over (admin_judgement s.world k a) (admin_commands.command_of (opcode (command_entry a))) s k a d
+
+io-over : (v : Verdict) (n k : ℕ) (a : Asked) (marked : Bool) (s : Site) (r : Response) (d : Device) → io_verdict s.world k a marked ≡ v → IsLaidOut s.world s.device.content → DifferIn n s.world s.device d
+    → may_read s.world k n ≡ false → BringsItsOwn a → AnswersIo v true k a s r
+    → Mirrors n s.world r.left.device (λ x. AnswersIo v true k a (site_over d s) (response_over x r))
+io-over (Denied number why) n k a marked s r d is laid differ fenced brings h =
+    (d, ap (response_over d) h, same-device n s.world s.device r.left.device d differ (ap (λ (x : Response). x.left.device) h))
+io-over (Allowed plan) n k a marked s r d is laid differ fenced brings h =
+    let p = allowed-passes s k a marked plan is in
+    let m = performs n (scene_at s) k (command_entry a) a.sent plan.kind (scene_at r.left) d r.outcome.status h.returned laid differ fenced p (brings plan.kind p.named) h.effect in
+    (m.0, record { returned = h.returned; effect = m.1; dw0 = h.dw0; rule = h.rule; marks = h.marks; data_back = h.data_back }, m.2)
+
+lane-over : (lane : Lane) (n k : ℕ) (a : Asked) (marked : Bool) (s : Site) (r : Response) (d : Device) → IsLaidOut s.world s.device.content → DifferIn n s.world s.device d
+    → may_read s.world k n ≡ false → BringsItsOwn a → AnswersAs lane true k a marked s r
+    → Mirrors n s.world r.left.device (λ x. AnswersAs lane true k a marked (site_over d s) (response_over x r))
+lane-over Admin n k a marked s r d laid differ fenced brings h =
+    (d, ap (response_over d) h ∙ admin-over s k a d, same-device n s.world s.device r.left.device d differ (ap (λ (x : Response). x.left.device) h ∙ admin-device s k a))
+lane-over Io n k a marked s r d laid differ fenced brings h = io-over (io_verdict s.world k a marked) n k a marked s r d refl laid differ fenced brings h
+
+-- Events that do not reach the medium.
+
+abbrev MirrorsStep : ℕ → Fleet → Fleet → (Device → Type 0) → Type 0
+MirrorsStep n old new does = Mirrors n old.site.world new.site.device does
+
+stays : (n : ℕ) (old new : Fleet) (d : Device) → DifferIn n old.site.world old.site.device d → new.site ≡ old.site → DifferIn n old.site.world new.site.device d
+stays n old new d differ is = same-device n old.site.world old.site.device new.site.device d differ (ap (λ (s : Site). s.device) is)
+
+whole : (n : ℕ) (old new : Fleet) (d : Device) → DifferIn n old.site.world old.site.device d → new ≡ old → DifferIn n old.site.world new.site.device d
+whole n old new d differ is = stays n old new d differ (ap (λ (f : Fleet). f.site) is)
+
+called-over : (o : Option Host) (f : Fleet) (k : ℕ) (call : Mailbox → Reaction) (d : Device) (reply : Reply) (new : Fleet) → Is (called_at o f k call) reply new → Is (called_at o (over d f) k call) reply (over d new)
+unfolding with_host
+called-over None f k call d reply new h = (h.0, ap (over d) h.1)
+called-over (Some (WithDriver m)) f k call d reply new h = (h.0, ap (over d) h.1)
+called-over (Some (Raw c)) f k call d reply new h = (h.0, ap (over d) h.1)
+
+raw-over : (o : Option Host) (f : Fleet) (k : ℕ) (change : Controller → Controller) (what : FleetSeen) (d : Device) (reply : Reply) (new : Fleet) → Is (raw_at o f k change what) reply new
+    → Is (raw_at o (over d f) k change what) reply (over d new)
+unfolding with_host
+raw-over None f k change what d reply new h = (h.0, ap (over d) h.1)
+raw-over (Some (WithDriver m)) f k change what d reply new h = (h.0, ap (over d) h.1)
+raw-over (Some (Raw c)) f k change what d reply new h = (h.0, ap (over d) h.1)
+
+fetched-over : (o : Option Host) (f : Fleet) (k q : ℕ) (d : Device) (reply : Reply) (new : Fleet) → Is (fetched_at o f k q) reply new → Is (fetched_at o (over d f) k q) reply (over d new)
+unfolding with_host
+fetched-over None f k q d reply new h = (h.0, ap (over d) h.1)
+fetched-over (Some (WithDriver m)) f k q d reply new h = (h.0, ap (over d) h.1)
+fetched-over (Some (Raw c)) f k q d reply new h = (h.0, ap (over d) h.1)
+
+-- Executions.
+
+item-over : (o : Option FetchedItem) (n : ℕ) (old new : Fleet) (k : ℕ) (m : Mailbox) (i : ℕ) (reply : Reply) (d : Device) → IsLaidOut old.site.world old.site.device.content
+    → DifferIn n old.site.world old.site.device d → may_read old.site.world k n ≡ false → ((x : FetchedItem) → o ≡ Some x → WasTaken x.item) → ExecutesItem o true old k m i reply new
+    → MirrorsStep n old new (λ x. ExecutesItem o true (over d old) k m i reply (over x new))
+unfolding Answers settled after_answer
+item-over None n old new k m i reply d laid differ fenced held h = (d, (h.0, ap (over d) h.1), whole n old new d differ h.1)
+item-over (Some y) n old new k m i reply d laid differ fenced held h =
+    let r : Response = h.response in
+    let a = lane-over (lane_of y.item) n k y.item.asked y.marked old.site r d laid differ fenced (taken-brings y.item (held y refl)) h.answers in (
+      a.0,
+      record { response = response_over a.0 r; answers = a.1; gives = h.gives; leaves = ap (over a.0) h.leaves ∙ same a.0 r },
+      subst (λ (f : Fleet). DifferIn n old.site.world f.site.device a.0) (sym h.leaves) a.2,
+    )
+  where
+    same : (x : Device) (r : Response) → over x (after_execution old k m i y r) ≡ after_execution (over d old) k m i y (response_over x r)
+    same x r = refl
+
+abbrev setting_over : Device → Setting → Setting
+setting_over d s = record { controller = s.controller; world = s.world; device = d }
+
+pair-over : (o : Option QueuePair) (n i : ℕ) (t : FetchedCommand) (old new : Setting) (executed : Executed) (d : Device) → IsLaidOut old.world old.device.content → DifferIn n old.world old.device d
+    → may_read old.world old.controller.cntlid n ≡ false → FinishesOver o true i t old executed new
+    → Mirrors n old.world new.device (λ x. FinishesOver o true i t (setting_over d old) executed (setting_over x new))
+unfolding after_machine_answer
+pair-over None n i t old new executed d laid differ fenced h = (d, (h.0, ap (setting_over d) h.1), same-device n old.world old.device new.device d differ (ap (λ (s : Setting). s.device) h.1))
+pair-over (Some p) n i t old new executed d laid differ fenced h =
+    let a : Answer = h.answer in
+    let m = answers-over n (queues_of old.controller) old.controller.cntlid t (scene_in old) a d laid differ fenced h.answers in (
+      m.0,
+      record { answer = answer_over m.0 a; answers = m.1; gives = h.gives; controller = h.controller; world = h.world; device = refl },
+      same-device n old.world a.left.device new.device m.0 m.2 h.device,
+    )
+
+one-over : (o : Option FetchedCommand) (n i : ℕ) (old new : Setting) (executed : Executed) (d : Device) → IsLaidOut old.world old.device.content → DifferIn n old.world old.device d
+    → may_read old.world old.controller.cntlid n ≡ false → FinishesOne o true i old executed new
+    → Mirrors n old.world new.device (λ x. FinishesOne o true i (setting_over d old) executed (setting_over x new))
+one-over None n i old new executed d laid differ fenced h = (d, (h.0, ap (setting_over d) h.1), same-device n old.world old.device new.device d differ (ap (λ (s : Setting). s.device) h.1))
+one-over (Some t) n i old new executed d laid differ fenced h = pair-over (open_pair old.controller t) n i t old new executed d laid differ fenced h
+
+command-over : (n : ℕ) (old new : Fleet) (k : ℕ) (c : Controller) (i : ℕ) (reply : Reply) (d : Device) → IsLaidOut old.site.world old.site.device.content
+    → DifferIn n old.site.world old.site.device d → may_read old.site.world c.cntlid n ≡ false → ExecutesRaw true old k c i reply new
+    → MirrorsStep n old new (λ x. ExecutesRaw true (over d old) k c i reply (over x new))
+unfolding settled
+command-over n old new k c i reply d laid differ fenced h =
+    let left : Setting = h.left in
+    let m = one-over (slice_get c.fetched i) n i (setting_of old c) left h.executed d laid differ fenced h.executes in (
+      m.0,
+      record { executed = h.executed; left = setting_over m.0 left; executes = m.1; gives = h.gives; leaves = ap (over m.0) h.leaves ∙ same m.0 h.executed left },
+      subst (λ (f : Fleet). DifferIn n old.site.world f.site.device m.0) (sym h.leaves) m.2,
+    )
+  where
+    same : (x : Device) (executed : Executed) (left : Setting) → over x (after_raw old k executed left) ≡ after_raw (over d old) k executed (setting_over x left)
+    same x executed left = refl
+
+executes-over : (o : Option Host) (n : ℕ) (old new : Fleet) (k i : ℕ) (reply : Reply) (d : Device) → IsRegular old → DifferIn n old.site.world old.site.device d
+    → may_read old.site.world k n ≡ false → host_at old k ≡ o → ExecutesAt o true old k i reply new
+    → MirrorsStep n old new (λ x. ExecutesAt o true (over d old) k i reply (over x new))
+executes-over None n old new k i reply d regular differ fenced at h = (d, (h.0, ap (over d) h.1), whole n old new d differ h.1)
+executes-over (Some (WithDriver m)) n old new k i reply d regular differ fenced at h =
+    item-over (slice_get m.fetched i) n old new k m i reply d regular.laid differ fenced (λ x found. at-place old k i m x regular.taken at found) h
+executes-over (Some (Raw c)) n old new k i reply d regular differ fenced at h =
+    let number : c.cntlid ≡ k = regular.numbers k (Raw c) at in
+    command-over n old new k c i reply d regular.laid differ (ap (λ j. may_read old.site.world j n) number ∙ fenced) h
+
+-- Events.
+
+step-over : (n : ℕ) (old new : Fleet) (event : FleetEvent) (reply : Reply) (d : Device) → IsRegular old → DifferIn n old.site.world old.site.device d
+    → may_read old.site.world (controller_of event) n ≡ false → Step true old event reply new
+    → MirrorsStep n old new (λ x. Step true (over d old) event reply (over x new))
+unfolding host_at
+step-over n old new (BringUp k) reply d regular differ fenced h =
+    (d, called-over (host_at old k) old k _ d reply new h, stays n old new d differ (ap (λ (f : Fleet). f.site) h.1 ∙ called-site (host_at old k) old k _))
+step-over n old new (Place k request) reply d regular differ fenced h =
+    (d, called-over (host_at old k) old k _ d reply new h, stays n old new d differ (ap (λ (f : Fleet). f.site) h.1 ∙ called-site (host_at old k) old k _))
+step-over n old new (Ring k) reply d regular differ fenced h =
+    (d, called-over (host_at old k) old k _ d reply new h, stays n old new d differ (ap (λ (f : Fleet). f.site) h.1 ∙ called-site (host_at old k) old k _))
+step-over n old new (Fetch k q) reply d regular differ fenced h =
+    (d, fetched-over (host_at old k) old k q d reply new h, stays n old new d differ (ap (λ (f : Fleet). f.site) h.1 ∙ fetched-site (host_at old k) old k q))
+step-over n old new (Execute k i) reply d regular differ fenced h = executes-over (host_at old k) n old new k i reply d regular differ fenced refl h
+step-over n old new (Poll k) reply d regular differ fenced h =
+    (d, called-over (host_at old k) old k _ d reply new h, stays n old new d differ (ap (λ (f : Fleet). f.site) h.1 ∙ called-site (host_at old k) old k _))
+step-over n old new (Reset k) reply d regular differ fenced h =
+    (d, called-over (host_at old k) old k _ d reply new h, stays n old new d differ (ap (λ (f : Fleet). f.site) h.1 ∙ called-site (host_at old k) old k _))
+step-over n old new (RawStore k address bytes) reply d regular differ fenced h =
+    (d, raw-over (host_at old k) old k _ _ d reply new h, stays n old new d differ (ap (λ (f : Fleet). f.site) h.1 ∙ raw-site (host_at old k) old k _ _))
+step-over n old new (RawWrite32 k offset v) reply d regular differ fenced h =
+    (d, raw-over (host_at old k) old k _ _ d reply new h, stays n old new d differ (ap (λ (f : Fleet). f.site) h.1 ∙ raw-site (host_at old k) old k _ _))
+
+-- Runs.
+
+leaves-over : (n : ℕ) (f : Fleet) (d : Device) (event : FleetEvent) → LeavesReservation n f event → LeavesReservation n (over d f) event
+unfolding host_at command_at
+leaves-over n f d (BringUp k) quiet h = h
+leaves-over n f d (Place k request) quiet h = h
+leaves-over n f d (Ring k) quiet h = h
+leaves-over n f d (Fetch k q) quiet h = h
+leaves-over n f d (Execute k i) quiet h = quiet (record { command = h.command; found = h.found; is = h.is; allowed = h.allowed })
+leaves-over n f d (Poll k) quiet h = h
+leaves-over n f d (Reset k) quiet h = h
+leaves-over n f d (RawStore k address bytes) quiet h = h
+leaves-over n f d (RawWrite32 k offset v) quiet h = h
+
+still : (old new : World) (n : ℕ) (events : List FleetEvent) → ((k : ℕ) → may_read new k n ≡ may_read old k n) → MayNotRead old n events → MayNotRead new n events
+still old new n [] same h = tt
+still old new n (event ∷ events) same h = (same (controller_of event) ∙ h.0, still old new n events same h.1)
+
+pub fenced_reading : FencedReading
+fenced_reading old new d [] [] n regular differ run fenced = (d, ap (over d) run, subst (λ (f : Fleet). DifferIn n f.site.world f.site.device d) (sym run) differ)
+fenced_reading old new d [] (x ∷ later) n regular differ run fenced = absurd run
+fenced_reading old new d (event ∷ events) [] n regular differ run fenced = absurd run
+fenced_reading old new d (event ∷ events) (x ∷ later) n regular differ run fenced =
+    let mid : Fleet = run.0 in
+    let one = step-over n old mid event x d regular differ fenced.0 run.2 in
+    let same = extents-stay old mid event (step-acts true old mid event x run.2) in
+    let rest = fenced_reading mid new one.0 events later n (step-regular old mid event x run.2 regular) (differ-still n old.site.world mid.site.world mid.site.device one.0 same one.2) run.3
+    (still old.site.world mid.site.world n events (reading-stays true old mid event x n run.2 run.1) fenced.1) in
+    (rest.0, (over one.0 mid, leaves-over n old d event run.1, one.1, rest.1), rest.2)
+
+pub fenced_reading_is_same : FencedReadingIsSame
+fenced_reading_is_same old new other d events replies others n regular differ run fenced second calm quiet below =
+    let r = fenced_reading old new d events replies n regular differ run fenced in
+    let last : Device = r.0 in
+    let r-differ = r.2 in
+    let start : d.failures ≡ old.site.device.failures = differ.failures in
+    let low : d.failures < 2 ^ 64 - 1 = subst (λ m. m < 2 ^ 64 - 1) (sym start) below in
+    let one = run_is_unique (over d old) (over last new) events replies (plainly (LeavesReservation n) true (over d old) (over last new) events replies r.1) (r-differ.failures ∙ calm ∙ sym start) low in
+    let two = run_is_unique (over d old) other events others second (quiet ∙ sym start) low in
+    let same : other ≡ over last new = two.1 ∙ sym one.1 in
+    let device : other.site.device ≡ last = ap (λ (f : Fleet). f.site.device) same in (
+      two.0 ∙ sym one.0,
+      same ∙ ap (λ x. over x new) (sym device),
+      subst (λ x. DifferIn n new.site.world new.site.device x) (sym device) r-differ,
+    )
+
+-- Both layers.
+
+below : (P : Fleet → FleetEvent → Type 0) (old new : Layers) (events : List FleetEvent) (replies : List Reply) → bytes.RunWhere (λ l. P (fleet_in l)) old events replies new
+    → RunWhere P true (fleet_in old) events replies (fleet_in new)
+below P old new [] [] run = ap fleet_in run
+below P old new [] (x ∷ later) run = absurd run
+below P old new (event ∷ events) [] run = absurd run
+below P old new (event ∷ events) (x ∷ later) run = (let s = run.2 in (fleet_in run.0, run.1, s.mailboxes, below P run.0 new events later run.3))
+
+pub layers_read_the_same : LayersReadTheSame
+unfolding fleet_in
+layers_read_the_same old new other d events replies others n regular differ run fenced second calm quiet low =
+    fenced_reading_is_same (fleet_in old) (fleet_in new) (fleet_in other) d events replies others n regular differ (below (LeavesReservation n) old new events replies run) fenced
+    (runs_of_mailboxes true (layers_over d old) other events others second) calm quiet low
