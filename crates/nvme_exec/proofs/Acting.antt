@@ -11,7 +11,8 @@ use Rattle.nvme_spec.specs.Transfers.{gathered_bytes, with_scattered}
 use Rattle.nvme_spec.specs.Execution.{BlockEffect}
 use Rattle.nvme_spec.specs.Statuses as status
 use Rattle.nvme_exec.specs.Reading.{HasReadBlocks, StoppedReading}
-use Rattle.nvme_exec.specs.Carrying.{ActsAt, answer_of, comparison_answer}
+use Rattle.nvme_spec.specs.CommandCalls.{answer_of}
+use Rattle.nvme_exec.specs.Carrying.{ActsAt, comparison_answer}
 
 -- no data return to the host
 silent : (tells : Bool) (command : Command) (first blocks : ℕ) (addresses window : List ℕ) (before after : Device) (answer : Status)

@@ -2,6 +2,7 @@ pub mod Statuses
 pub mod Limits
 pub mod Bytes
 pub mod Blocks
+pub mod MediumCalls
 pub mod Effects
 pub mod Reservation
 pub mod Access
@@ -24,6 +25,7 @@ pub mod ExampleWindows
 pub mod DataRules
 pub mod IoData
 pub mod Execution
+pub mod CommandCalls
 pub mod Layout
 pub mod FaultFree
 pub mod ExecutionLaws

@@ -9,6 +9,7 @@ mod configurations;
 mod effects;
 mod entries;
 mod identify;
+mod medium_calls;
 mod pointers;
 mod queues;
 mod registers;
