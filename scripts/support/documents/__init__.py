@@ -1,0 +1,1 @@
+"""What checks the repository's documents against its files."""

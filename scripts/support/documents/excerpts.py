@@ -1,0 +1,97 @@
+"""Excerpts of code in documents: each names its file, and is what stands there."""
+import re
+from pathlib import Path
+from typing import Iterator, List, Tuple
+
+from support.documents.texts import Document, Fence, Finding
+
+# What only code, contracts and definitions have.
+CODE = re.compile(r"[≡≢→ℕλ]|^\s*(pub |abbrev |unfoldable |ensures |requires |fn |ghost )"
+                  r"|^\s*\w+( \w+| \([^)]*\))+ = ", re.M)
+ELISION = ".."
+
+
+def check(top: Path, document: Document) -> Iterator[Finding]:
+    """What is wrong about the code that a document shows."""
+    for fence in document.fences:
+        if fence.files is not None:
+            for line, what in faults_of(top, fence):
+                yield Finding(document.path, line, what)
+        elif CODE.search("\n".join(fence.lines)):
+            yield Finding(document.path, fence.line, "code without a mark <!-- excerpt: FILE --> in the line before")
+    for n, line in enumerate(document.lines, 1):
+        if line.startswith("    ") and CODE.search(line) and not any(holds(it, n) for it in document.fences):
+            yield Finding(document.path, n, "code in an indented block: it belongs into a fence with a mark")
+
+
+def holds(fence: Fence, line: int) -> bool:
+    return fence.line <= line <= fence.line + len(fence.lines) + 1
+
+
+def faults_of(top: Path, fence: Fence) -> Iterator[Tuple[int, str]]:
+    """The lines of a marked fence where it is not what its files have. Each part of it, between blank lines, stands in
+    one of the files; the parts of one file in its order."""
+    sources = {}
+    for name in fence.files or []:
+        if not (top / name).is_file():
+            yield fence.line - 1, f"an excerpt of {name}, which is not there"
+            return
+        sources[name] = lines_of((top / name).read_text(encoding="utf-8"))
+    begins = dict.fromkeys(sources, 0)
+    for first, part in parts_of(fence):
+        for name, lines in sources.items():
+            end = end_of(lines, part, begins[name])
+            if end:
+                begins[name] = end
+                break
+        else:
+            yield first, f"not so in {' or '.join(sources)}: {part[0].strip()}"
+
+
+def parts_of(fence: Fence) -> Iterator[Tuple[int, List[str]]]:
+    """The parts of a fence between blank lines, each with the number of its first line."""
+    part: List[str] = []
+    for n, line in enumerate([*fence.lines, ""], fence.line + 1):
+        if line.strip():
+            part.append(line)
+        elif part:
+            yield n - len(part), part
+            part = []
+
+
+def lines_of(text: str) -> List[str]:
+    """The lines of a source without comments that fill a line."""
+    return [line for line in text.split("\n") if not line.lstrip().startswith(("--", "//"))]
+
+
+def end_of(lines: List[str], part: List[str], begin: int) -> int:
+    """Where a part ends that stands at or behind a line; 0 where it stands nowhere. Its lines follow one another but
+    for an elision, and behind the last of them the source does not go on."""
+    for at in range(begin, len(lines)):
+        if lines[at].strip() == part[0].strip():
+            end = match(lines, part, at)
+            if end:
+                return end
+    return 0
+
+
+def match(lines: List[str], part: List[str], at: int) -> int:
+    """The line behind the part, if it stands at this line; else 0."""
+    is_elided = False
+    for line in part:
+        if line.strip() == ELISION:
+            is_elided = True
+            continue
+        while is_elided and at < len(lines) and lines[at].strip() != line.strip():
+            at += 1
+        if at >= len(lines) or lines[at].strip() != line.strip():
+            return 0
+        at, is_elided = at + 1, False
+    return 0 if not is_elided and goes_on(lines, part, at) else at
+
+
+def goes_on(lines: List[str], part: List[str], at: int) -> bool:
+    """Whether the source goes on with what the part ends in: with an indented line, or a clause of the same name."""
+    clauses = [line.split()[0] for line in part if line[:1].strip()]
+    following = lines[at] if at < len(lines) else ""
+    return following.startswith(" ") or bool(clauses and following.startswith(clauses[-1] + " "))

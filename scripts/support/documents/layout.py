@@ -1,0 +1,37 @@
+"""How texts are laid out: no blanks at the ends of lines, no path of a machine, tables whose rows have all cells."""
+import re
+from pathlib import Path
+from typing import Iterator, List
+
+from support.documents.texts import Document, Finding, texts
+
+BLANKS = re.compile(r"[ \t\r]+$")
+MACHINE = re.compile(r"(?<![\w.}*/)-])/(?:work|home|opt|root|tmp|Users|mnt)\b")
+CELL = re.compile(r"(?<!\\)\|")
+
+
+def check_texts(top: Path) -> Iterator[Finding]:
+    """What is wrong about the lines of any text."""
+    for path, text in texts(top):
+        for n, line in enumerate(text.split("\n"), 1):
+            if BLANKS.search(line):
+                yield Finding(path, n, "blanks at the end of the line")
+            if found := MACHINE.search(line):
+                yield Finding(path, n, f"a path of a machine: {found[0]}")
+
+
+def cells_of(row: str) -> int:
+    return len(CELL.findall(row.strip().strip("|"))) + 1
+
+
+def check_tables(document: Document) -> Iterator[Finding]:
+    """Each row of a table has as many cells as its head."""
+    head: List[str] = []
+    last = 0
+    for n, line in document.prose:
+        if not line.startswith("|"):
+            continue
+        head = head if n == last + 1 else [line]
+        last = n
+        if cells_of(line) != cells_of(head[0]):
+            yield Finding(document.path, n, f"{cells_of(line)} cells in the row of a table of {cells_of(head[0])}")

@@ -1,0 +1,165 @@
+"""What documents name stands in the repository: paths, crates, definitions, links; the picture has the crates, and the
+manual page the lines of scripts."""
+import re
+import xml.etree.ElementTree as xml
+from pathlib import Path
+from typing import Dict, Iterator, List, Set, Tuple
+
+from support.documents.texts import Document, Finding, crates, uses
+
+PATH = re.compile(r"(?:\./)?[\w.*-]+(?:/[\w.*{},-]+)*/?$")
+FILE = re.compile(r"[\w-]+\.(?:md|rt|antt|py|txt|nvme|svg|edit|record|1)$")
+PLACE = re.compile(r"\b(?:NAME|CRATE|TOPIC|TYPE|FUNCTION|MEANING)\b")
+FOLDERS = ("crates", "docs", "scripts", "bench", "man", ".ci")
+CRATE = re.compile(r"(?:nvme|script|part|fleet|controller)_[a-z0-9_]+$")
+WORD = re.compile(r"[A-Za-z_]\w*")
+NAMED = re.compile(r"(?:[A-Za-z_]\w*(?:::|\.))*[A-Za-z_]\w*$")
+CARRIED = re.compile(r"Carried by ((?:`[\w:]+`(?:,| and)? ?)+)")
+# The documents that cite definitions, and the picture.
+CITING = ("README.md", "docs/THEOREMS.md", "docs/ARCHITECTURE.md", "docs/READING.md")
+PICTURE = "docs/pictures/layers.svg"
+MANUAL = "man/nvmesim.1"
+
+
+def globs(text: str) -> List[str]:
+    """The patterns of a path: NAME and other placeholders stand for anything, {a,b} for one of them."""
+    found = re.search(r"\{([\w,]+)\}", text)
+    if found:
+        return [it for one in found[1].split(",") for it in globs(text.replace(found[0], one, 1))]
+    return [re.sub(r"\.\.", "*", PLACE.sub("*", text))]
+
+
+def is_there(top: Path, text: str) -> bool:
+    """Whether a path of a document stands in the repository: from the top, from crates, or in a crate."""
+    for pattern in globs(text.rstrip("/")):
+        tries = [f"{begin}{pattern}{end}" for begin in ("", "crates/", "crates/*/") for end in ("", ".antt", ".rt")]
+        if not any(any(top.glob(it)) for it in tries):
+            return False
+    return True
+
+
+def is_made(text: str) -> bool:
+    """Whether a path is of what a build makes."""
+    return "out" in text.split("/")
+
+
+def check_paths(top: Path, document: Document) -> Iterator[Finding]:
+    """Each path or file that a code span begins with exists."""
+    for n, span in document.spans:
+        word = span.split()[0] if span.split() else ""
+        of_folder = word.removeprefix("./").split("/")[0]
+        if "::" in word or word.startswith(".."):
+            continue
+        is_known = of_folder in FOLDERS or of_folder in crates(top) or "." in word
+        is_path = PATH.match(word) and "/" in word and is_known
+        if is_path and not is_made(word) and not is_there(top, word.removeprefix("./")):
+            yield Finding(document.path, n, f"{word} is not there")
+        elif FILE.match(word) and not is_path and not PLACE.match(word) and not any(named(top, word)):
+            yield Finding(document.path, n, f"no file is called {word}")
+
+
+def named(top: Path, name: str) -> Iterator[Path]:
+    """The files of this name."""
+    for begin in (".", *FOLDERS):
+        yield from (top / begin).glob(name if begin == "." else f"**/{name}")
+
+
+def check_crates(top: Path, found: List[Document]) -> Iterator[Finding]:
+    """README and the architecture have each crate in a table; and no document names one that is not there."""
+    known = crates(top)
+    of_kit = {it for _, names in uses(top) for it in names}
+    for document in found:
+        rows = {name for _, line in document.prose if line.startswith("|") for name in SPANS.findall(line.split("|")[1])}
+        if document.path in ("README.md", "docs/ARCHITECTURE.md"):
+            for name in known:
+                if name not in rows:
+                    yield Finding(document.path, 1, f"no table has the crate {name}")
+        for n, span in document.spans:
+            name = span.split("::")[0].split("/")[0]
+            if CRATE.match(name) and name not in known and name not in of_kit and not is_word(top, name):
+                yield Finding(document.path, n, f"crates.txt has no crate {name}")
+
+
+SPANS = re.compile(r"`(\w+)`")
+WORDS: Dict[Path, Set[str]] = {}
+
+
+def is_word(top: Path, name: str) -> bool:
+    """Whether a source or a definition has this word, or a file of the crates is called so."""
+    if top not in WORDS:
+        WORDS[top] = set(crates(top))
+        for path in top.glob("crates/*/*/**/*"):
+            if path.suffix in (".rt", ".antt") and "out" not in path.parts:
+                WORDS[top] |= {path.stem} | set(WORD.findall(code_of(path.read_text(encoding="utf-8"))))
+    return name in WORDS[top]
+
+
+def code_of(text: str) -> str:
+    """A source without its comments."""
+    return re.sub(r"(?m)^\s*(//|--).*$", "", text)
+
+
+def check_definitions(top: Path, document: Document) -> Iterator[Finding]:
+    """Each name of a definition, a function or a type that a code span is, is one; what carries a theorem is a law."""
+    if document.path not in CITING:
+        return
+    for n, span in document.spans:
+        names = re.split(r"::|\.", span) if NAMED.match(span) else []
+        for name in names:
+            is_name = "_" in name or name[:1].isupper() and not name.isupper()
+            if is_name and not FILE.match(span) and not is_word(top, name):
+                yield Finding(document.path, n, f"no definition or function is called {name}")
+    laws = "\n".join(it.read_text(encoding="utf-8") for it in top.glob("crates/*/src/laws.rt"))
+    for first, paragraph in document.paragraphs():
+        for found in CARRIED.finditer(paragraph.replace("\n", " ")):
+            for name in re.findall(r"`(\w+)`", found[1]):
+                if not re.search(rf"\bfn {name}\b", laws):
+                    yield Finding(document.path, first, f"no law is called {name}")
+
+
+def check_links(top: Path, document: Document, others: List[Document]) -> Iterator[Finding]:
+    """Each relative link leads to a file, and to a heading where it names one."""
+    anchors = {it.path: it.anchors for it in others}
+    for n, target in document.links:
+        if re.match(r"[a-z]+:", target):
+            continue
+        file, _, anchor = target.partition("#")
+        path = (top / document.path).parent / file if file else top / document.path
+        name = str(Path(*path.resolve().relative_to(top.resolve()).parts)) if path.exists() else ""
+        if not name:
+            yield Finding(document.path, n, f"a link to {file}, which is not there")
+        elif anchor and anchor not in anchors.get(name, []):
+            yield Finding(document.path, n, f"a link to #{anchor}, which {name} has not")
+
+
+def check_manual(top: Path, found: List[Document]) -> Iterator[Finding]:
+    """The manual page has the line of each event that docs/SCRIPTS.md has."""
+    lines = (top / MANUAL).read_text(encoding="utf-8").split("\n")
+    document = next(it for it in found if it.path == "docs/SCRIPTS.md")
+    first, end = next((first, end) for heading, first, end in document.sections() if heading == "Lines after `start`")
+    for n, line in document.prose:
+        cell = re.match(r"\| `([a-z0-9]+ C[^`]*)` \|", line)
+        if cell and first < n < end and cell[1] not in lines:
+            yield Finding(MANUAL, 1, f"no line {cell[1]}")
+
+
+def check_picture(top: Path) -> Iterator[Finding]:
+    """The picture has each crate once, above or to the left of what it stands on; and a title and a description."""
+    root = xml.parse(top / PICTURE).getroot()
+    space = "{http://www.w3.org/2000/svg}"
+    if any(root.find(space + it) is None for it in ("title", "desc")):
+        yield Finding(PICTURE, 1, "no title, or no description")
+    places: Dict[str, Tuple[int, int]] = {}
+    for text in root.iter(space + "text"):
+        if text.get("class") == "crate":
+            name = text.text or ""
+            if name in places or name not in crates(top):
+                yield Finding(PICTURE, 1, f"{name} stands there twice, or is no crate")
+            places[name] = (int(text.get("y", 0)), int(text.get("x", 0)))
+    for name, below in uses(top):
+        if name not in places:
+            yield Finding(PICTURE, 1, f"{name} is not there")
+            continue
+        for other in below:
+            if other in places and places[other] <= places[name]:
+                yield Finding(PICTURE, 1, f"{name} stands on {other}, which is above it or to its left")

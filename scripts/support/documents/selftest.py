@@ -1,0 +1,86 @@
+"""Tries the checks on a copy of the repository with faults in it: each must be found, and nothing else."""
+import shutil
+import tempfile
+from pathlib import Path
+from typing import Callable, Iterator, List
+
+from support.documents.names import PICTURE
+from support.documents.texts import FOLDERS, TOP_TEXTS, Finding
+
+# Appended to README.md, each with what must be told of it.
+APPENDED = (
+    ("[a link](docs/GONE.md)", "a link to docs/GONE.md, which is not there"),
+    ("[a link](docs/SCRIPTS.md#gone)", "a link to #gone, which docs/SCRIPTS.md has not"),
+    ("`docs/GONE.md`", "docs/GONE.md is not there"),
+    ("`nvme_spec/specs/Gone`", "nvme_spec/specs/Gone is not there"),
+    ("words, and `scripts/gone\n--all`", "scripts/gone is not there"),
+    ("`gone.nvme`", "no file is called gone.nvme"),
+    ("`nvme_gone`", "crates.txt has no crate nvme_gone"),
+    ("`GoneDefinition`", "no definition or function is called GoneDefinition"),
+    ("`Fleet::gone_call`", "no definition or function is called gone_call"),
+    ("Carried by `run_is_determined` and `apply`.", "no law is called apply"),
+    ("| a | b |\n|---|---|\n| c | d | e |", "3 cells in the row of a table of 2"),
+    ("    Step tells old = new", "code in an indented block"),
+    ("```\nabbrev pub one : ℕ\n```", "code without a mark"),
+    ("<!-- excerpt: crates/gone.antt -->\n```\none\n```", "an excerpt of crates/gone.antt, which is not there"),
+    ("blanks ", "blanks at the end of the line"),
+    ("it lies in /" + "work/there", "a path of a machine: /" + "work"),
+)
+# A file, a text in it, what is put in its place, and what must be told of it.
+CHANGED = (
+    ("README.md", "seen new = Reacts old k (after_fetch q)", "seen new = Reacts old q (after_fetch q)",
+     "not so in crates/nvme_machine/specs/Subsystems.antt"),
+    # A premise is left out, a last clause is, and an elision stands for another premise.
+    ("docs/THEOREMS.md", "    → DifferIn n old.world old.device medium\n", "",
+     "Secrecy.antt: abbrev pub FencedReading "),
+    ("docs/THEOREMS.md", "RunKeeping tells j old m (event ∷ events) [] new l = ⊥\n", "",
+     "Preempted.antt: abbrev pub RunKeeping"),
+    ("docs/THEOREMS.md", "FencingHolds =\n    (old new : Subsystem)", "FencingHolds =\n    ..\n    (old mid : Subsystem)",
+     "Fencing.antt: abbrev pub FencingHolds"),
+    ("docs/ARCHITECTURE.md", "| `nvme_ring` |", "| `nvme_wire` |", "no table has the crate nvme_ring"),
+    (PICTURE, ">nvme_ring<", ">nvme_rings<", "nvme_rings stands there twice, or is no crate"),
+    ("man/nvmesim.1", "\nfetch C Q\n", "\nfetch C\n", "no line fetch C Q"),
+    ("docs/READING.md", "# Reading lists", "# Lists", "not what the definitions give"),
+)
+# What else is told of these.
+ALSO = ("no definition or function is called nvme_gone", "layers.svg:1: nvme_ring is not there")
+
+
+def copy_of(top: Path, room: Path) -> Path:
+    """The repository's texts."""
+    copy = room / "copy"
+    shutil.copytree(top / "crates", copy / "crates", ignore=shutil.ignore_patterns("out"))
+    for name in FOLDERS:
+        shutil.copytree(top / name, copy / name, ignore=shutil.ignore_patterns("__pycache__"))
+    for name in TOP_TEXTS:
+        shutil.copy(top / name, copy / name)
+    return copy
+
+
+def spoil(copy: Path) -> List[str]:
+    """Puts the faults into a copy; what must be told of them."""
+    for file, old, new, _ in CHANGED:
+        text = (copy / file).read_text(encoding="utf-8")
+        if old not in text:
+            raise ValueError(f"the self-test finds no {old!r} in {file}")
+        (copy / file).write_text(text.replace(old, new, 1), encoding="utf-8")
+    with open(copy / "README.md", "a", encoding="utf-8") as file:
+        file.write("".join(f"\n{text}\n" for text, _ in APPENDED))
+    return [it[-1] for it in (*APPENDED, *CHANGED)]
+
+
+def run(top: Path, findings: Callable[[Path], Iterator[Finding]]) -> int:
+    """The status of the self-test."""
+    with tempfile.TemporaryDirectory() as room:
+        copy = copy_of(top, Path(room))
+        before = {it.what for it in findings(copy)}
+        wanted = spoil(copy)
+        told = [it for it in findings(copy) if it.what not in before]
+    missed = [what for what in wanted if not any(what in str(it) for it in told)]
+    others = [it for it in told if not any(what in str(it) for what in (*wanted, *ALSO))]
+    for what in missed:
+        print(f"documents: not found: {what}")
+    for it in others:
+        print(f"documents: found without a fault: {it}")
+    print("documents: self-test: " + ("failed" if missed or others else f"{len(wanted)} faults found, and no other"))
+    return 1 if missed or others else 0
