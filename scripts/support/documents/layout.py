@@ -7,6 +7,8 @@ from support.documents.texts import Document, Finding, texts
 
 BLANKS = re.compile(r"[ \t\r]+$")
 MACHINE = re.compile(r"(?<![\w.}*/)-])/(?:work|home|opt|root|tmp|Users|mnt)\b")
+# README's tables are to be read at a glance: so many words a cell.
+MOST_WORDS = 40
 CELL = re.compile(r"(?<!\\)\|")
 
 
@@ -35,3 +37,6 @@ def check_tables(document: Document) -> Iterator[Finding]:
         last = n
         if cells_of(line) != cells_of(head[0]):
             yield Finding(document.path, n, f"{cells_of(line)} cells in the row of a table of {cells_of(head[0])}")
+        longest = max(len(cell.split()) for cell in CELL.split(line.strip().strip("|")))
+        if document.path == "README.md" and longest > MOST_WORDS:
+            yield Finding(document.path, n, f"a cell of {longest} words, where {MOST_WORDS} are the most")

@@ -16,8 +16,9 @@ WORD = re.compile(r"[A-Za-z_]\w*")
 NAMED = re.compile(r"(?:[A-Za-z_]\w*(?:::|\.))*[A-Za-z_]\w*$")
 CARRIED = re.compile(r"Carried by ((?:`[\w:]+`(?:,| and)? ?)+)")
 # The documents that cite definitions, and the picture.
-CITING = ("README.md", "docs/THEOREMS.md", "docs/ARCHITECTURE.md", "docs/READING.md")
+CITING = ("README.md", "docs/CRATES.md", "docs/THEOREMS.md", "docs/ARCHITECTURE.md", "docs/READING.md")
 PICTURE = "docs/pictures/layers.svg"
+CONTRACTS = "docs/CRATES.md"
 MANUAL = "man/nvmesim.1"
 
 
@@ -78,6 +79,19 @@ def check_crates(top: Path, found: List[Document]) -> Iterator[Finding]:
             name = span.split("::")[0].split("/")[0]
             if CRATE.match(name) and name not in known and name not in of_kit and not is_word(top, name):
                 yield Finding(document.path, n, f"crates.txt has no crate {name}")
+
+
+def check_contracts(found: List[Document]) -> Iterator[Finding]:
+    """docs/CRATES.md has each crate that README's table has a contract of, and no other."""
+    by_path = {it.path: it for it in found}
+    if CONTRACTS not in by_path:
+        yield Finding(CONTRACTS, 1, "is not there")
+        return
+    rows = [line.split(" | ") for _, line in by_path["README.md"].prose if re.match(r"\| `\w+`", line)]
+    wanted = {name for row in rows if len(row) == 3 and row[2] != "none |" for name in SPANS.findall(row[0])}
+    told = {heading for heading, _, _ in by_path[CONTRACTS].sections()}
+    for name in sorted(wanted ^ told):
+        yield Finding(CONTRACTS, 1, f"{name} is here or in the table of README.md, and not in both")
 
 
 SPANS = re.compile(r"`(\w+)`")

@@ -20,6 +20,7 @@ APPENDED = (
     ("`Fleet::gone_call`", "no definition or function is called gone_call"),
     ("Carried by `run_is_determined` and `apply`.", "no law is called apply"),
     ("| a | b |\n|---|---|\n| c | d | e |", "3 cells in the row of a table of 2"),
+    ("| a | b |\n|---|---|\n| c |" + " word" * 41 + " |", "a cell of 41 words, where 40 are the most"),
     ("    Step tells old = new", "code in an indented block"),
     ("```\nabbrev pub one : ℕ\n```", "code without a mark"),
     ("<!-- excerpt: crates/gone.antt -->\n```\none\n```", "an excerpt of crates/gone.antt, which is not there"),
@@ -37,13 +38,15 @@ CHANGED = (
      "Preempted.antt: abbrev pub RunKeeping"),
     ("docs/THEOREMS.md", "FencingHolds =\n    (old new : Subsystem)", "FencingHolds =\n    ..\n    (old mid : Subsystem)",
      "Fencing.antt: abbrev pub FencingHolds"),
+    ("docs/CRATES.md", "## nvme_mem", "## nvme_memory", "nvme_memory is here or in the table of README.md"),
     ("docs/ARCHITECTURE.md", "| `nvme_ring` |", "| `nvme_wire` |", "no table has the crate nvme_ring"),
     (PICTURE, ">nvme_ring<", ">nvme_rings<", "nvme_rings stands there twice, or is no crate"),
     ("man/nvmesim.1", "\nfetch C Q\n", "\nfetch C\n", "no line fetch C Q"),
     ("docs/READING.md", "# Reading lists", "# Lists", "not what the definitions give"),
 )
 # What else is told of these.
-ALSO = ("no definition or function is called nvme_gone", "layers.svg:1: nvme_ring is not there")
+ALSO = ("no definition or function is called nvme_gone", "layers.svg:1: nvme_ring is not there",
+        "nvme_mem is here or in the table of README.md")
 
 
 def copy_of(top: Path, room: Path) -> Path:
