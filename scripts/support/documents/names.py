@@ -13,10 +13,10 @@ PLACE = re.compile(r"\b(?:NAME|CRATE|TOPIC|TYPE|FUNCTION|MEANING)\b")
 FOLDERS = ("crates", "docs", "scripts", "bench", "man", ".ci")
 CRATE = re.compile(r"(?:nvme|script|part|fleet|controller)_[a-z0-9_]+$")
 WORD = re.compile(r"[A-Za-z_]\w*")
-NAMED = re.compile(r"(?:[A-Za-z_]\w*(?:::|\.))*[A-Za-z_]\w*$")
 CARRIED = re.compile(r"Carried by ((?:`[\w:]+`(?:,| and)? ?)+)")
 # The documents that cite definitions, and the picture.
-CITING = ("README.md", "docs/CRATES.md", "docs/THEOREMS.md", "docs/ARCHITECTURE.md", "docs/READING.md")
+CITING = ("README.md", "docs/CRATES.md", "docs/THEOREMS.md", "docs/ARCHITECTURE.md", "docs/READING.md",
+          "docs/DECISIONS.md")
 PICTURE = "docs/pictures/layers.svg"
 CONTRACTS = "docs/CRATES.md"
 MANUAL = "man/nvmesim.1"
@@ -114,14 +114,13 @@ def code_of(text: str) -> str:
 
 
 def check_definitions(top: Path, document: Document) -> Iterator[Finding]:
-    """Each name of a definition, a function or a type that a code span is, is one; what carries a theorem is a law."""
+    """Each name of a definition, a function or a type that a code span has is one; what carries a theorem is a law."""
     if document.path not in CITING:
         return
     for n, span in document.spans:
-        names = re.split(r"::|\.", span) if NAMED.match(span) else []
-        for name in names:
-            is_name = "_" in name or name[:1].isupper() and not name.isupper()
-            if is_name and not FILE.match(span) and not is_word(top, name):
+        for name in [] if "/" in span or FILE.match(span) else WORD.findall(span):
+            is_name = not name.isupper() and ("_" in name or name[:1].isupper())
+            if is_name and not is_word(top, name):
                 yield Finding(document.path, n, f"no definition or function is called {name}")
     laws = "\n".join(it.read_text(encoding="utf-8") for it in top.glob("crates/*/src/laws.rt"))
     for first, paragraph in document.paragraphs():

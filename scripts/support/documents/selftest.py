@@ -17,6 +17,7 @@ APPENDED = (
     ("`gone.nvme`", "no file is called gone.nvme"),
     ("`nvme_gone`", "crates.txt has no crate nvme_gone"),
     ("`GoneDefinition`", "no definition or function is called GoneDefinition"),
+    ("`Step M.tells gone_state`", "no definition or function is called gone_state"),
     ("`Fleet::gone_call`", "no definition or function is called gone_call"),
     ("Carried by `run_is_determined` and `apply`.", "no law is called apply"),
     ("| a | b |\n|---|---|\n| c | d | e |", "3 cells in the row of a table of 2"),
