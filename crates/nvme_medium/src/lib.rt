@@ -5,6 +5,7 @@ mod cached;
 mod failing;
 mod file;
 mod host;
+pub mod laws;
 mod medium;
 mod memory;
 mod raw_file;

@@ -28,3 +28,4 @@ pub mod SoundReservations
 pub mod SoundWorlds
 pub mod SoundAttachments
 pub mod SoundOpenings
+pub mod MediumCalls

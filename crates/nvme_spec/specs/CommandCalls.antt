@@ -71,7 +71,8 @@ Reaches Read blocks sent stored read passed answer answered =
 Reaches Compare blocks sent stored read passed answer answered = ComparesUpTo blocks sent passed read answer answered
 Reaches command blocks sent stored read passed answer answered = Unit {0}
 
--- These are the calls of a command, in order, up to the first that fails, and no other; and this is what it is answered.
+-- These are the calls of a command, in order, up to the first that fails, and no other; and this is what it is
+-- answered.
 pub record AreCallsOf (command : Command) (first blocks : ℕ) (sent : List ℕ) (stored : ℕ → List ℕ → Type 0)
     (answered : Status) (calls : List MediumCall) : Type 0 where
   pub read : List ℕ

@@ -1,0 +1,25 @@
+//! What follows from the steps of media, for calls that are made one after the other. Each law is the contract of a
+//! function that does nothing.
+
+ghost use Rattle.std.specs.Prelude.{List};
+ghost use Rattle.nvme_spec.specs.MediumCalls.{MediumCall, Calls, MakesCalls};
+ghost use Rattle.nvme_medium.specs.CallLaws.{MemoryCallsAreDetermined, MemoryCallsCanBeMade, AreBehind, WritesAndFlushesGoOn};
+ghost use Rattle.nvme_medium.specs.declared.cached.Cached.{Cached as CachedMedium};
+
+use crate::{Cached, Medium};
+
+/// All calls of the blocks of a medium in memory can be made, and have one outcome.
+#[tactic(auto, using(crate::proofs::CallLaws::memory_calls_are_determined))]
+pub fn memory_is_determined()
+    ensures unique { MemoryCallsAreDetermined }
+    ensures exists { MemoryCallsCanBeMade }
+{}
+
+/// By calls of a cached medium those behind them are made of the inner one, in order, and no other; its writes and
+/// flushes are all among them.
+pub fn cached_calls_go_on<M: Medium>()
+    ensures behind { (old new : CachedMedium M M.Medium) → (calls : List MediumCall)
+        → Calls ⟦<Cached<M> as Medium>⟧.step old calls new
+        → MakesCalls M.step (AreBehind old.kept.entries calls new.kept.entries) old.inner new.inner }
+    ensures changes { WritesAndFlushesGoOn }
+{}
