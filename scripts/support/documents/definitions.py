@@ -2,7 +2,7 @@
 import re
 from dataclasses import dataclass, field
 from pathlib import Path
-from typing import Dict, Iterator, List, Optional, Tuple
+from typing import Dict, Iterator, List, Optional, Set, Tuple
 
 from support.documents.texts import crates
 
@@ -111,7 +111,10 @@ class Library:
     def __init__(self, top: Path):
         self.modules: Dict[str, Module] = {}
         self.types: Dict[str, List[Key]] = {}
-        for crate in crates(top):
+        # What a list would need, and its import does not lead to.
+        self.lost: Set[Key] = set()
+        self.crates = crates(top)
+        for crate in self.crates:
             for path in sorted((top / "crates" / crate).glob("s*/**/*")):
                 name = str(path.relative_to(top).with_suffix(""))
                 text = path.read_text(encoding="utf-8") if path.suffix in (".antt", ".rt") else ""
@@ -132,6 +135,10 @@ class Library:
         again = module.imports.get(key[1])
         return self.found(again) if again and again != key else None
 
+    def is_ours(self, key: Key) -> bool:
+        """Whether a place is in a crate of this repository, and not of the toolchain."""
+        return key[0].split("/")[1] in self.crates
+
     def types_of(self, module: Module, name: str) -> List[Key]:
         """The types of code that a file of code may call so: first those of its own file and crate."""
         near = [module.name, "/".join(module.name.split("/")[:2]) + "/"]
@@ -149,6 +156,8 @@ class Library:
             else:
                 keys = [module.imports[name]] if name in module.imports else [(module.name, name)]
             found = next((it for it in map(self.found, keys) if it), None)
+            if not found and module.imports.get(name, ("", ""))[1] and self.is_ours(module.imports[name]):
+                self.lost.add(module.imports[name])
             if found and found.key != definition.key:
                 yield found
 

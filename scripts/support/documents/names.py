@@ -11,6 +11,7 @@ PATH = re.compile(r"(?:\./)?[\w.*-]+(?:/[\w.*{},-]+)*/?$")
 FILE = re.compile(r"[\w-]+\.(?:md|rt|antt|py|txt|nvme|svg|edit|record|1)$")
 PLACE = re.compile(r"\b(?:NAME|CRATE|TOPIC|TYPE|FUNCTION|MEANING)\b")
 FOLDERS = ("crates", "docs", "scripts", "bench", "man", ".ci")
+PARTS = ("src", "specs", "proofs", "data", "must-fail", "wrong-bodies")
 CRATE = re.compile(r"(?:nvme|script|part|fleet|controller)_[a-z0-9_]+$")
 WORD = re.compile(r"[A-Za-z_]\w*")
 CARRIED = re.compile(r"Carried by ((?:`[\w:]+`(?:,| and)? ?)+)")
@@ -51,7 +52,7 @@ def check_paths(top: Path, document: Document) -> Iterator[Finding]:
         of_folder = word.removeprefix("./").split("/")[0]
         if "::" in word or word.startswith(".."):
             continue
-        is_known = of_folder in FOLDERS or of_folder in crates(top) or "." in word
+        is_known = of_folder in (*FOLDERS, *PARTS, *crates(top)) or "." in word
         is_path = PATH.match(word) and "/" in word and is_known
         if is_path and not is_made(word) and not is_there(top, word.removeprefix("./")):
             yield Finding(document.path, n, f"{word} is not there")
@@ -60,9 +61,9 @@ def check_paths(top: Path, document: Document) -> Iterator[Finding]:
 
 
 def named(top: Path, name: str) -> Iterator[Path]:
-    """The files of this name."""
-    for begin in (".", *FOLDERS):
-        yield from (top / begin).glob(name if begin == "." else f"**/{name}")
+    """The files of this name, but for what a build makes."""
+    for pattern in ("", "crates/*/", *(f"crates/*/{it}/**/" for it in PARTS), *(f"{it}/**/" for it in FOLDERS[1:])):
+        yield from top.glob(pattern + name)
 
 
 def check_crates(top: Path, found: List[Document]) -> Iterator[Finding]:
@@ -70,7 +71,8 @@ def check_crates(top: Path, found: List[Document]) -> Iterator[Finding]:
     known = crates(top)
     of_kit = {it for _, names in uses(top) for it in names}
     for document in found:
-        rows = {name for _, line in document.prose if line.startswith("|") for name in SPANS.findall(line.split("|")[1])}
+        heads = [line.split("|")[1] for _, line in document.prose if line.startswith("|")]
+        rows = {name for head in heads for name in SPANS.findall(head)}
         if document.path in ("README.md", "docs/ARCHITECTURE.md"):
             for name in known:
                 if name not in rows:
@@ -102,9 +104,10 @@ def is_word(top: Path, name: str) -> bool:
     """Whether a source or a definition has this word, or a file of the crates is called so."""
     if top not in WORDS:
         WORDS[top] = set(crates(top))
-        for path in top.glob("crates/*/*/**/*"):
-            if path.suffix in (".rt", ".antt") and "out" not in path.parts:
-                WORDS[top] |= {path.stem} | set(WORD.findall(code_of(path.read_text(encoding="utf-8"))))
+        for path in (it for part in ("src", "specs", "proofs") for it in top.glob(f"crates/*/{part}/**/*.*")):
+            WORDS[top].add(path.stem)
+            if "/proofs/" not in str(path):
+                WORDS[top] |= set(WORD.findall(code_of(path.read_text(encoding="utf-8"))))
     return name in WORDS[top]
 
 

@@ -99,9 +99,10 @@ def section(top: Path, heading: str, said: str, cone: Dict[Key, Definition], lib
     return "\n".join([f"## {heading}", "", text, *([""] + list_of(top, cone, library) if cone else []), ""])
 
 
-def page(top: Path, found: List[Document]) -> str:
+def page(top: Path, found: List[Document], library: Library) -> str:
     """The whole page, from the files."""
-    library, known, pieces = Library(top), {}, [INTRODUCTION]
+    known: Dict[Key, Definition] = {}
+    pieces = [INTRODUCTION]
     for heading, keys in STEPS:
         begin = [it for it in map(library.found, keys) if it]
         cone = {key: it for key, it in library.cone(begin).items() if key not in known}
@@ -125,11 +126,14 @@ def called(definition: Definition, others: List[Definition]) -> str:
 
 def write(top: Path, found: List[Document]) -> None:
     """Writes the page anew."""
-    (top / PATH).write_text(page(top, found), encoding="utf-8")
+    (top / PATH).write_text(page(top, found, Library(top)), encoding="utf-8")
 
 
 def check(top: Path, found: List[Document]) -> Iterator[Finding]:
     """The page is what the files give."""
     text = (top / PATH).read_text(encoding="utf-8") if (top / PATH).is_file() else ""
-    if text != page(top, found):
+    library = Library(top)
+    if text != page(top, found, library):
         yield Finding(PATH, 1, "not what the definitions give: scripts/documents --reading-lists writes it anew")
+    for file, name in sorted(library.lost):
+        yield Finding(PATH, 1, f"{name} of {file} is imported, and not found there")
