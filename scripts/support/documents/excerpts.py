@@ -36,7 +36,7 @@ def faults_of(top: Path, fence: Fence) -> Iterator[Tuple[int, str]]:
         if not (top / name).is_file():
             yield fence.line - 1, f"an excerpt of {name}, which is not there"
             return
-        sources[name] = lines_of((top / name).read_text(encoding="utf-8"))
+        sources[name] = lines_of(name, (top / name).read_text(encoding="utf-8"))
     begins = dict.fromkeys(sources, 0)
     for first, part in parts_of(fence):
         for name, lines in sources.items():
@@ -59,9 +59,10 @@ def parts_of(fence: Fence) -> Iterator[Tuple[int, List[str]]]:
             part = []
 
 
-def lines_of(text: str) -> List[str]:
+def lines_of(name: str, text: str) -> List[str]:
     """The lines of a source without comments that fill a line."""
-    return [line for line in text.split("\n") if not line.lstrip().startswith(("--", "//"))]
+    comment = "#" if name.endswith(".nvme") else ("--", "//")
+    return [line for line in text.split("\n") if not line.lstrip().startswith(comment)]
 
 
 def end_of(lines: List[str], part: List[str], begin: int) -> int:

@@ -9,6 +9,7 @@ BLANKS = re.compile(r"[ \t\r]+$")
 MACHINE = re.compile(r"(?<![\w.}*/)-])/(?:work|home|opt|root|tmp|Users|mnt)\b")
 # README's tables are to be read at a glance: so many words a cell.
 MOST_WORDS = 40
+COLUMNS = 120
 CELL = re.compile(r"(?<!\\)\|")
 
 
@@ -20,6 +21,13 @@ def check_texts(top: Path) -> Iterator[Finding]:
                 yield Finding(path, n, "blanks at the end of the line")
             if found := MACHINE.search(line):
                 yield Finding(path, n, f"a path of a machine: {found[0]}")
+
+
+def check_prose(document: Document) -> Iterator[Finding]:
+    """Lines that are no rows of tables and no marks have 120 columns at most."""
+    for n, line in document.prose:
+        if len(line) > COLUMNS and not line.startswith(("|", "<!--")):
+            yield Finding(document.path, n, f"{len(line)} columns, where {COLUMNS} are the most")
 
 
 def cells_of(row: str) -> int:

@@ -25,6 +25,7 @@ APPENDED = (
     ("    Step tells old = new", "code in an indented block"),
     ("```\nabbrev pub one : ℕ\n```", "code without a mark"),
     ("<!-- excerpt: crates/gone.antt -->\n```\none\n```", "an excerpt of crates/gone.antt, which is not there"),
+    ("words " * 20 + "words", "125 columns, where 120 are the most"),
     ("blanks ", "blanks at the end of the line"),
     ("it lies in /" + "work/there", "a path of a machine: /" + "work"),
 )
