@@ -8,3 +8,4 @@ pub mod Risen
 pub mod Once
 pub mod Moving
 pub mod Mapped
+pub mod Rising

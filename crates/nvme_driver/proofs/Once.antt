@@ -18,7 +18,7 @@ use Rattle.nvme_driver.specs.Polls.{Poll, waiting_at, aborted_at, aborted_ticket
 use Rattle.nvme_driver.specs.Once.{Event, Places, Polls, Resets, Stays, Happens, handed, handed_by, Run, times, bears, borne, HandsUpOutstanding, HandsUpOnce}
 
 -- a request is taken out of its slot
-taken : (t : ℕ) (slots : List (Option Waiting)) (i : ℕ) (w : Waiting) → waiting_at slots i ≡ Some w →
+pub taken : (t : ℕ) (slots : List (Option Waiting)) (i : ℕ) (w : Waiting) → waiting_at slots i ≡ Some w →
     bears t (Some w) + borne t (slice_set slots i None) ≡ borne t slots
 taken t [] i w e = absurd (cc (e))
 taken t (x ∷ xs) zero w e = let k : bears t x ≡ bears t (Some w) = ap (bears t) e in omega (arith, k)
@@ -62,7 +62,7 @@ aborted-by : (live : Bool) (u v : Ticket) → (if live then None else Some v) �
 aborted-by true u v e = absurd (cc (e))
 aborted-by false u v e = some-is v u e
 
-aborted-is : (x : Option Waiting) (u : Ticket) → aborted_ticket x ≡ Some u → (w : Waiting) × (x ≡ Some w) × (w.ticket ≡ u)
+pub aborted-is : (x : Option Waiting) (u : Ticket) → aborted_ticket x ≡ Some u → (w : Waiting) × (x ≡ Some w) × (w.ticket ≡ u)
 aborted-is None u e = absurd (cc (e))
 aborted-is (Some w) u e = (w, refl, aborted-by w.live u w.ticket e)
 
@@ -124,10 +124,10 @@ hands_up_outstanding d oldest window t h e =
     omega (arith, k, one)
 
 -- how often a ticket can still be handed up: by the slots, and where it was not given yet
-abbrev ungiven : ℕ → ℕ → ℕ
+abbrev pub ungiven : ℕ → ℕ → ℕ
 ungiven t next = if nat_lt t next then 0 else 1
 
-abbrev left : ℕ → Driver → ℕ
+abbrev pub left : ℕ → Driver → ℕ
 left t d = borne t d.slots + ungiven t d.next
 
 -- the lowest free slot is one, and is free
@@ -180,7 +180,7 @@ places t d request slot e =
     let g = next-given t d.next in
     omega (arith, k, s, n, g)
 
-step : (t : ℕ) (event : Event) (d d' : Driver) → Happens event d d' → times t (handed event d) + left t d' ≡ left t d
+pub step : (t : ℕ) (event : Event) (d d' : Driver) → Happens event d d' → times t (handed event d) + left t d' ≡ left t d
 step t (Places request slot) d d' h =
     let k : left t d' ≡ left t d = ap (left t) h.1 ∙ places t d request slot h.0 in
     omega (arith, k)
