@@ -92,3 +92,4 @@ pub mod SinceUp
 pub mod Taken
 pub mod Regular
 pub mod Secrecy
+pub mod Unique

@@ -28,3 +28,4 @@ pub mod Bytes
 pub mod SinceUp
 pub mod Regular
 pub mod Secrecy
+pub mod Unique

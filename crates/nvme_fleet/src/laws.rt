@@ -13,6 +13,7 @@ ghost use Rattle.nvme_fleet.specs.Secrecy.{FencedReading, FencedReadingIsSame, L
 ghost use Rattle.nvme_fleet.specs.SinceUp.{DownIsClear, DoneSinceItCameUp};
 ghost use Rattle.nvme_fleet.specs.Tickets.{DriversStay, EachIsHeldOnce, EachTicketGoesOnce, HeldAreCounted, NewHoldsEachOnce, OpeningHasDrivers, OpeningIsNew, TicketsAreConsecutive, TicketsBalance, TicketsOfAnOpeningGoOnce};
 ghost use Rattle.nvme_fleet.specs.Steps.{OpeningIsSound, JudgedAsItsRequest, AllowedServesItsRequest, AnswersItsRequest, NothingToExecute, PostingHasRoom, PostingIsAStep, IoExecutionIsAStep, AdminJudgedAsItsRequest, AdminAnswersItsRequest, AdminExecutionIsAStep, ExecutionIsAStep, ExecutionIsAFleetStep, NoExecutionIsAFleetStep, RefusalIsAStep, PlaceIsAStep, RingIsAStep, FetchIsAStep, MarksAreSteps, PollIsAStep, ResetIsAStep};
+ghost use Rattle.nvme_fleet.specs.Unique.{LayersRunIsUnique, OpeningHasTicketsOnce, TicketsStayOnce};
 ghost use Rattle.nvme_fleet.specs.Unseen.{UnseenNeverComes};
 
 /// A list of events has one run without a fault of the medium, and one alone: each reply, and what is left, is what the
@@ -22,6 +23,15 @@ pub fn run_is_determined()
     ensures count { FailuresNeverFall }
     ensures exists { RunExists }
     ensures unique { RunIsUnique }
+{}
+
+/// The same of both layers: without a fault of the medium a list of events has one run, so that each controller with
+/// its registers, queues and memory, and each driver, is determined. It rests on this, that a ticket stands in one slot
+/// of a driver at most: so it is at each opening, and stays.
+pub fn layers_are_determined()
+    ensures opening { OpeningHasTicketsOnce }
+    ensures stays { TicketsStayOnce }
+    ensures unique { LayersRunIsUnique }
 {}
 
 /// A driver that never came up, at a controller that was never enabled, has the fact that the steps rest on, and is the

@@ -1,0 +1,353 @@
+-- Without a fault of the medium there is one run of both layers over each list of events.
+use Rattle.std.proofs.Common.{◌≡◌, ◌≢◌, ◌⊎◌, inl, inr, ◌<◌, ◌≤◌, ℕ, zero, suc, ◌-◌, ◌^◌, ◌==◌, nat_lt, Bool, true, false, List, [], ◌∷◌, map, Option, None, Some, Result, Ok, Err, refl, sym, ap, subst, ◌∙◌, arith}
+use Rattle.std.specs.Prelude.{slice_get, slice_set, if◌then◌else◌, replicate}
+use Rattle.std.proofs.lemmas.Bool.{cases_Bool, eqb-true, eqb-false, eq-eqb}
+use Rattle.std.proofs.lemmas.Option.{none-some, same_Some}
+use Rattle.nvme_spec.specs.declared.config.ControllerConfig.{ControllerConfig}
+use Rattle.nvme_driver.specs.declared.answer.Answer.{Answer}
+use Rattle.nvme_driver.specs.declared.faults.NotUp.{NotUp}
+use Rattle.nvme_driver.specs.declared.faults.PlaceRefusal.{PlaceRefusal}
+use Rattle.nvme_driver.specs.declared.faults.PollFault.{PollFault}
+use Rattle.nvme_driver.specs.declared.faults.UpFault.{UpFault}
+use Rattle.nvme_driver.specs.declared.request.Request.{Request}
+use Rattle.nvme_driver.specs.declared.slots.Waiting.{Waiting}
+use Rattle.nvme_driver.specs.declared.ticket.Ticket.{Ticket}
+use Rattle.nvme_driver.specs.Drivers.{Driver, new_driver, placed, stores_of}
+use Rattle.nvme_driver.specs.Once as once
+use Rattle.nvme_driver.specs.Once.{bears, borne}
+use Rattle.nvme_driver.specs.Polls.{IsNotBelow, IsOldest, aborted_at, polled, waiting_at}
+use Rattle.nvme_driver.proofs.Once as once_proofs
+use Rattle.nvme_driver.proofs.Rising.{IsSure, rises-alone, rises-keeps}
+use Rattle.nvme_machine.specs.declared.event.Event.{Event}
+use Rattle.nvme_machine.specs.declared.event.Event.TheVariants as event
+use Rattle.nvme_machine.specs.declared.seen.Seen.TheVariants as given
+use Rattle.nvme_machine.specs.Subsystems.{Subsystem}
+use Rattle.nvme_machine.proofs.Determined as machine
+use Rattle.nvme_event.specs.declared.event.FleetEvent.{FleetEvent}
+use Rattle.nvme_event.specs.declared.event.FleetEvent.TheVariants.{BringUp, Place, Ring, Fetch, Execute, Poll, Reset, RawStore, RawWrite32}
+use Rattle.nvme_event.specs.declared.seen.FleetSeen.{FleetSeen}
+use Rattle.nvme_event.specs.declared.seen.FleetSeen.TheVariants as seen
+use Rattle.nvme_event.specs.Replies.{Reply}
+use Rattle.nvme_fleet.specs.declared.delivery.DriverCall.{DriverCall}
+use Rattle.nvme_fleet.specs.declared.delivery.DriverCall.TheVariants as call
+use Rattle.nvme_fleet.specs.Deeds.{CallStep, ComesUp, Does, DoesIfAny, Places, Polls, Ran, Rings, events_of, events_of_calls, reset_events, ring_events, window_at}
+use Rattle.nvme_fleet.specs.FleetStates.{Layers, fleet_in, opening_driver}
+use Rattle.nvme_fleet.specs.Layers.{Applies, AppliesRaw, CallsAt, Happens, Run, Step, driver_at, with_driver}
+use Rattle.nvme_fleet.specs.Unique.{HasTicketsOnce, HaveTicketsOnce, LayersRunIsUnique, OpeningHasTicketsOnce, TicketsStayOnce}
+use Rattle.nvme_fleet.proofs.Bytes.{runs_of_mailboxes}
+use Rattle.nvme_fleet.proofs.Determined.{failures_never_fall, step-alone, step-counts}
+
+-- Tickets stand in one slot at most.
+
+keeps-once : (what : once.Event) (d d' : Driver) → once.Happens what d d' → HasTicketsOnce d → HasTicketsOnce d'
+keeps-once what d d' h one t = let k = once_proofs.step t what d d' h in let few = one t in omega (arith, k, few)
+
+stays-once : (d d' : Driver) → (d'.slots ≡ d.slots) × (d'.next ≡ d.next) → HasTicketsOnce d → HasTicketsOnce d'
+stays-once d d' h one = keeps-once once.Stays d d' h one
+
+same-once : (d d' : Driver) → d' ≡ d → HasTicketsOnce d → HasTicketsOnce d'
+same-once d d' e one = subst HasTicketsOnce (sym e) one
+
+up-once : (tells : Bool) (k : ℕ) (d d' : Driver) (old new : Subsystem) (result : Result (Unit {0}) UpFault) → ComesUp tells k d old result d' new → HasTicketsOnce d → HasTicketsOnce d'
+up-once tells k d d' old new (Ok u) h one = stays-once d d' (rises-keeps (CallStep tells k) (λ s. window_at s k) d d' old new (Ok u) h) one
+up-once tells k d d' old new (Err fault) h one = same-once d d' h.0 one
+
+place-once : (tells : Bool) (k : ℕ) (request : Request) (d d' : Driver) (old new : Subsystem) (result : Result Ticket PlaceRefusal) → Places tells k request d old result d' new → HasTicketsOnce d → HasTicketsOnce d'
+place-once tells k request d d' old new (Ok ticket) (slot, free, is, ran) one = keeps-once (once.Places request slot) d d' (free, is) one
+place-once tells k request d d' old new (Err why) h one = same-once d d' h.0 one
+
+ring-once : (tells : Bool) (k : ℕ) (d d' : Driver) (old new : Subsystem) (result : Result (Unit {0}) NotUp) → Rings tells k d old result d' new → HasTicketsOnce d → HasTicketsOnce d'
+ring-once tells k d d' old new (Ok u) h one = same-once d d' h.0 one
+ring-once tells k d d' old new (Err e) h one = same-once d d' h.0 one
+
+does-once : (tells : Bool) (k : ℕ) (what : DriverCall) (d d' : Driver) (old new : Subsystem) (x : FleetSeen) → Does tells k what d old x d' new → HasTicketsOnce d → HasTicketsOnce d'
+does-once tells k call.BringUp d d' old new x (result, is, h) one = up-once tells k d d' old new result h one
+does-once tells k (call.Place request) d d' old new x (result, is, h) one = place-once tells k request d d' old new result h one
+does-once tells k call.Ring d d' old new x (result, is, h) one = ring-once tells k d d' old new result h one
+does-once tells k call.Poll d d' old new x (result, is, h) one = keeps-once (once.Polls h.oldest (window_at old k)) d d' (h.is_oldest, h.driver) one
+does-once tells k call.Reset d d' old new x (is, h) one = keeps-once once.Resets d d' h.0 one
+
+-- what stands in a list where one place became this
+set-get : (xs : List (Option Driver)) (n : ℕ) (e : Option Driver) (i : ℕ) (y : Option Driver) → slice_get (slice_set xs n e) i ≡ Some y → (e ≡ y) ⊎ (slice_get xs i ≡ Some y)
+set-get [] n e i y h = inr h
+set-get (x ∷ xs) zero e zero y h = inl (same_Some _ _ h)
+set-get (x ∷ xs) zero e (suc i) y h = inr h
+set-get (x ∷ xs) (suc n) e zero y h = inr h
+set-get (x ∷ xs) (suc n) e (suc i) y h = set-get xs n e i y h
+
+with-get : (xs : List (Option Driver)) (k : ℕ) (e : Option Driver) (i : ℕ) (y : Option Driver) → slice_get (with_driver xs k e) i ≡ Some y → (e ≡ y) ⊎ (slice_get xs i ≡ Some y)
+with-get xs zero e i y h = inr h
+with-get xs (suc n) e i y h = set-get xs n e i y h
+
+at-once : (l : Layers) (k : ℕ) (d : Driver) → HaveTicketsOnce l → driver_at l.drivers k ≡ Some (Some d) → HasTicketsOnce d
+at-once l zero d all at = absurd (none-some _ at)
+at-once l (suc n) d all at = all n d at
+
+any-once : (tells : Bool) (k : ℕ) (what : DriverCall) (o e : Option Driver) (old new : Subsystem) (x : FleetSeen) → ((d : Driver) → o ≡ Some d → HasTicketsOnce d) → DoesIfAny tells k what o old x e new
+    → (d : Driver) → e ≡ Some d → HasTicketsOnce d
+any-once tells k what None e old new x one h d is = absurd (none-some _ (sym h.1 ∙ is))
+any-once tells k what (Some f) e old new x one (d', made, h) d is =
+    subst HasTicketsOnce (same_Some _ _ (sym made ∙ is)) (does-once tells k what f d' old new x h (one f refl))
+
+driver-once : (o e : Option Driver) (tells : Bool) (old new : Layers) (k : ℕ) (what : DriverCall) (x : FleetSeen) → driver_at old.drivers k ≡ Some o → new.drivers ≡ with_driver old.drivers k e
+    → DoesIfAny tells k what o old.subsystem x e new.subsystem → HaveTicketsOnce old → HaveTicketsOnce new
+driver-once o e tells old new k what x at drivers h all i d found =
+    elim (with-get old.drivers k e i (Some d) (ap (λ ds. slice_get ds i) (sym drivers) ∙ found)) [
+      | inl here ↦ any-once tells k what o e old.subsystem new.subsystem x (λ f is. at-once old k f all (at ∙ ap Some is)) h d here
+      | inr there ↦ all i d there
+    ]
+
+calls-once : (o : Option (Option Driver)) (tells : Bool) (old new : Layers) (k : ℕ) (what : DriverCall) (x : FleetSeen) → driver_at old.drivers k ≡ o → CallsAt o tells old k what x new → HaveTicketsOnce old → HaveTicketsOnce new
+calls-once None tells old new k what x at h all = subst HaveTicketsOnce (sym h.1) all
+calls-once (Some o) tells old new k what x at (e, drivers, h) all = driver-once o e tells old new k what x at drivers h all
+
+applies-once : (tells : Bool) (old new : Layers) (e : Event) (x : FleetSeen) → Applies tells old e x new → HaveTicketsOnce old → HaveTicketsOnce new
+applies-once tells old new e x h all i d found = all i d (ap (λ ds. slice_get ds i) (sym h.drivers) ∙ found)
+
+raw-once : (o : Option (Option Driver)) (tells : Bool) (old new : Layers) (e : Event) (x : FleetSeen) → AppliesRaw o tells old e x new → HaveTicketsOnce old → HaveTicketsOnce new
+raw-once None tells old new e x h all = subst HaveTicketsOnce (sym h.1) all
+raw-once (Some None) tells old new e x h all = applies-once tells old new e x h all
+raw-once (Some (Some d)) tells old new e x h all = subst HaveTicketsOnce (sym h.1) all
+
+happens-once : (tells : Bool) (old new : Layers) (e : FleetEvent) (x : FleetSeen) → Happens tells old e x new → HaveTicketsOnce old → HaveTicketsOnce new
+happens-once tells old new (BringUp k) x h all = calls-once (driver_at old.drivers k) tells old new k call.BringUp x refl h all
+happens-once tells old new (Place k request) x h all = calls-once (driver_at old.drivers k) tells old new k (call.Place request) x refl h all
+happens-once tells old new (Ring k) x h all = calls-once (driver_at old.drivers k) tells old new k call.Ring x refl h all
+happens-once tells old new (Fetch k q) x h all = applies-once tells old new (event.Fetch k q) x h all
+happens-once tells old new (Execute k i) x h all = applies-once tells old new (event.Execute k i) x h all
+happens-once tells old new (Poll k) x h all = calls-once (driver_at old.drivers k) tells old new k call.Poll x refl h all
+happens-once tells old new (Reset k) x h all = calls-once (driver_at old.drivers k) tells old new k call.Reset x refl h all
+happens-once tells old new (RawStore k address bytes) x h all = raw-once (driver_at old.drivers k) tells old new (event.Store k address bytes) x h all
+happens-once tells old new (RawWrite32 k offset v) x h all = raw-once (driver_at old.drivers k) tells old new (event.Write32 k offset v) x h all
+
+pub tickets_stay_once : TicketsStayOnce
+tickets_stay_once tells old new [] [] run all = subst HaveTicketsOnce (sym run) all
+tickets_stay_once tells old new [] (x ∷ later) run all = absurd run
+tickets_stay_once tells old new (e ∷ events) [] run all = absurd run
+tickets_stay_once tells old new (e ∷ events) (x ∷ later) (mid, step, rest) all = tickets_stay_once tells mid new events later rest (happens-once tells old mid e x.seen step.below all)
+
+-- The opening.
+
+none-borne : (t n : ℕ) → borne t (replicate n None) ≡ 0
+none-borne t zero = refl
+none-borne t (suc n) = let h = none-borne t n in omega (arith, h)
+
+at-most-one : (b : Bool) → (if b then 0 else 1) ≤ 1
+at-most-one true = omega arith
+at-most-one false = omega arith
+
+new-once : (first : ℕ) → HasTicketsOnce (new_driver first)
+new-once first t = let none = none-borne t 24 in let few = at-most-one (nat_lt t first) in omega (arith, none, few)
+
+opened-one : (raw : Bool) (d : Driver) → (if raw then None else Some (new_driver 1)) ≡ Some d → HasTicketsOnce d
+opened-one true d h = absurd (none-some _ h)
+opened-one false d h = subst HasTicketsOnce (same_Some _ _ h) (new-once 1)
+
+opened-each : (ks : List ControllerConfig) (i : ℕ) (d : Driver) → slice_get (map opening_driver ks) i ≡ Some (Some d) → HasTicketsOnce d
+opened-each [] i d h = absurd (none-some _ h)
+opened-each (k ∷ ks) zero d h = opened-one k.raw d (same_Some _ _ h)
+opened-each (k ∷ ks) (suc i) d h = opened-each ks i d h
+
+pub opening_has_tickets_once : OpeningHasTicketsOnce
+opening_has_tickets_once c v i d found = opened-each c.controllers i d found
+
+-- The oldest aborted request is one.
+
+borne-twice : (d : Driver) (i j : ℕ) (v w : Waiting) → HasTicketsOnce d → i ≢ j → waiting_at d.slots i ≡ Some v → waiting_at d.slots j ≡ Some w → v.ticket.0 ≡ w.ticket.0 → ⊥
+borne-twice d i j v w one apart here there same =
+    let t : ℕ = v.ticket.0 in
+    let a = once_proofs.taken t d.slots i v here in
+    let b = once_proofs.taken t (slice_set d.slots i None) j w (other d.slots i j apart ∙ there) in
+    let p : bears t (Some v) ≡ 1 = ap (λ (x : Bool). if x then 1 else 0) (eq-eqb v.ticket.0 t refl) in
+    let q : bears t (Some w) ≡ 1 = ap (λ (x : Bool). if x then 1 else 0) (eq-eqb w.ticket.0 t (sym same)) in
+    let few = one t in
+    omega (arith, a, b, p, q, few)
+  where
+    other : (xs : List (Option Waiting)) (i j : ℕ) → i ≢ j → waiting_at (slice_set xs i None) j ≡ waiting_at xs j
+    other [] i j apart = refl
+    other (x ∷ xs) zero zero apart = absurd (apart refl)
+    other (x ∷ xs) zero (suc j) apart = refl
+    other (x ∷ xs) (suc i) zero apart = refl
+    other (x ∷ xs) (suc i) (suc j) apart = other xs i j (λ e. apart (ap suc e))
+
+oldest-slot : (d : Driver) (i j : ℕ) (t u : Ticket) → HasTicketsOnce d → aborted_at d.slots i ≡ Some t → aborted_at d.slots j ≡ Some u → t.0 ≤ u.0 → u.0 ≤ t.0 → j ≡ i
+oldest-slot d i j t u one here there low high =
+    let a = once_proofs.aborted-is (waiting_at d.slots i) t here in
+    let b = once_proofs.aborted-is (waiting_at d.slots j) u there in
+    let same : a.0.ticket.0 ≡ b.0.ticket.0 = ap (λ (x : Ticket). x.0) a.2 ∙ omega (arith, low, high) ∙ sym (ap (λ (x : Ticket). x.0) b.2) in
+    elim (cases_Bool (i == j)) [
+      | inl is ↦ sym (eqb-true i j is)
+      | inr apart ↦ absurd (borne-twice d i j a.0 b.0 one (eqb-false i j apart) a.1 b.1 same)
+    ]
+
+oldest-alone : (d : Driver) (o p : Option ℕ) → HasTicketsOnce d → IsOldest d.slots o → IsOldest d.slots p → p ≡ o
+oldest-alone d None None one h g = refl
+oldest-alone d None (Some j) one h g = absurd (none-some _ (sym (h j) ∙ g.1))
+oldest-alone d (Some i) None one h g = absurd (none-some _ (sym (g i) ∙ h.1))
+oldest-alone d (Some i) (Some j) one h g =
+    ap Some (oldest-slot d i j h.0 g.0 one h.1 g.1 (subst (IsNotBelow h.0) g.1 (h.2 j)) (subst (IsNotBelow g.0) h.1 (g.2 i)))
+
+-- What is below has one outcome.
+
+abbrev count : Subsystem → ℕ
+count s = s.device.failures
+
+-- before and after two runs nothing has failed
+record AreCalm (old new other : Subsystem) : Type 0 where
+  one : count new ≡ count old
+  two : count other ≡ count old
+  below : count old < 2 ^ 64 - 1
+
+low : (s : Subsystem) (base : ℕ) → count s ≡ base → base < 2 ^ 64 - 1 → count s < 2 ^ 64 - 1
+low s base is below = subst (λ n. n < 2 ^ 64 - 1) (sym is) below
+
+values : (v u : ℕ) → given.Value u ∷ [] ≡ given.Value v ∷ [] → u ≡ v
+values v u h = cc
+
+sure : (k base : ℕ) → base < 2 ^ 64 - 1 → IsSure (CallStep true k) count base
+sure k base below = record {
+  grows = λ c p q h. machine.failures_never_fall true p q (events_of k c) h.given h.run;
+  alone = λ c p q r a b e h g.
+      (machine.run_is_unique p r (events_of k c) g.given g.run (e ∙ sym a) (low p base a below)).1
+      ∙ sym (machine.run_is_unique p q (events_of k c) h.given h.run (b ∙ sym a) (low p base a below)).1;
+  value = λ offset v u p q r a b e h g.
+      values v u (sym g.answers
+      ∙ (machine.run_is_unique p r (event.Read32 k offset ∷ []) g.given g.run (e ∙ sym a) (low p base a below)).0
+      ∙ sym (machine.run_is_unique p q (event.Read32 k offset ∷ []) h.given h.run (b ∙ sym a) (low p base a below)).0
+      ∙ h.answers);
+}
+
+ran-alone : (old new other : Subsystem) (events : List Event) → AreCalm old new other → Ran true old events new → Ran true old events other → other ≡ new
+ran-alone old new other events calm h g =
+    (machine.run_is_unique old other events g.0 g.1 calm.two calm.below).1 ∙ sym (machine.run_is_unique old new events h.0 h.1 calm.one calm.below).1
+
+abbrev Same : Driver → Driver → Subsystem → Subsystem → Type 0
+Same d d' new other = (d' ≡ d) × (other ≡ new)
+
+up-alone : (k : ℕ) (d d' d'' : Driver) (old new other : Subsystem) (result : Result (Unit {0}) UpFault) → AreCalm old new other → ComesUp true k d old result d' new → ComesUp true k d old result d'' other → Same d' d'' new other
+up-alone k d d' d'' old new other (Ok u) calm h g =
+    let r = rises-alone (CallStep true k) count (count old) (sure k (count old) calm.below) (λ s. window_at s k) d d' d'' old new other (Ok u) (Ok u) refl calm.one calm.two h g in
+    (r.1, r.2)
+up-alone k d d' d'' old new other (Err fault) calm h g = (g.0 ∙ sym h.0, g.1 ∙ sym h.1)
+
+place-alone : (k : ℕ) (request : Request) (d d' d'' : Driver) (old new other : Subsystem) (result : Result Ticket PlaceRefusal) → AreCalm old new other → Places true k request d old result d' new → Places true k request d old result d'' other
+    → Same d' d'' new other
+place-alone k request d d' d'' old new other (Ok ticket) calm (slot, free, is, ran) (slot', free', is', ran') =
+    let same : slot' ≡ slot = same_Some _ _ (sym free' ∙ free) in
+    (is' ∙ ap (placed d request) same ∙ sym is, ran-alone old new other (events_of_calls k (stores_of d request slot)) calm ran (subst (λ n. Ran true old (events_of_calls k (stores_of d request n)) other) same ran'))
+place-alone k request d d' d'' old new other (Err why) calm h g = (g.0 ∙ sym h.0, g.1 ∙ sym h.1)
+
+ring-alone : (k : ℕ) (d d' d'' : Driver) (old new other : Subsystem) (result : Result (Unit {0}) NotUp) → AreCalm old new other → Rings true k d old result d' new → Rings true k d old result d'' other → Same d' d'' new other
+ring-alone k d d' d'' old new other (Ok u) calm h g = (g.0 ∙ sym h.0, ran-alone old new other (ring_events k d) calm h.1 g.1)
+ring-alone k d d' d'' old new other (Err e) calm h g = (g.0 ∙ sym h.0, g.1 ∙ sym h.1)
+
+poll-alone : (k : ℕ) (d d' d'' : Driver) (old new other : Subsystem) (result : Result (Option Answer) PollFault) → AreCalm old new other → HasTicketsOnce d → Polls true k d old result d' new → Polls true k d old result d'' other
+    → Same d' d'' new other
+poll-alone k d d' d'' old new other result calm one h g =
+    let w : List ℕ = window_at old k in
+    let same : g.oldest ≡ h.oldest = oldest-alone d h.oldest g.oldest one h.is_oldest g.is_oldest in (
+      g.driver ∙ ap (λ o. (polled d o w).driver) same ∙ sym h.driver,
+      ran-alone old new other (events_of_calls k (polled d h.oldest w).calls) calm h.ran (subst (λ o. Ran true old (events_of_calls k (polled d o w).calls) other) same g.ran),
+    )
+
+up-is : (a b : Result (Unit {0}) UpFault) → seen.Up a ≡ seen.Up b → b ≡ a
+up-is a b h = cc
+
+placed-is : (a b : Result Ticket PlaceRefusal) → seen.Placed a ≡ seen.Placed b → b ≡ a
+placed-is a b h = cc
+
+rung-is : (a b : Result (Unit {0}) NotUp) → seen.Rung a ≡ seen.Rung b → b ≡ a
+rung-is a b h = cc
+
+polled-is : (a b : Result (Option Answer) PollFault) → seen.Polled a ≡ seen.Polled b → b ≡ a
+polled-is a b h = cc
+
+does-alone : (k : ℕ) (what : DriverCall) (d d' d'' : Driver) (old new other : Subsystem) (x : FleetSeen) → AreCalm old new other → HasTicketsOnce d → Does true k what d old x d' new → Does true k what d old x d'' other
+    → Same d' d'' new other
+does-alone k call.BringUp d d' d'' old new other x calm one (result, is, h) (result', is', g) =
+    up-alone k d d' d'' old new other result calm h (subst (λ r. ComesUp true k d old r d'' other) (up-is result result' (sym is ∙ is')) g)
+does-alone k (call.Place request) d d' d'' old new other x calm one (result, is, h) (result', is', g) =
+    place-alone k request d d' d'' old new other result calm h (subst (λ r. Places true k request d old r d'' other) (placed-is result result' (sym is ∙ is')) g)
+does-alone k call.Ring d d' d'' old new other x calm one (result, is, h) (result', is', g) =
+    ring-alone k d d' d'' old new other result calm h (subst (λ r. Rings true k d old r d'' other) (rung-is result result' (sym is ∙ is')) g)
+does-alone k call.Poll d d' d'' old new other x calm one (result, is, h) (result', is', g) =
+    poll-alone k d d' d'' old new other result calm one h (subst (λ r. Polls true k d old r d'' other) (polled-is result result' (sym is ∙ is')) g)
+does-alone k call.Reset d d' d'' old new other x calm one (is, h) (is', g) =
+    (g.0 ∙ sym h.0, ran-alone old new other (reset_events k) calm h.1 g.1)
+
+any-alone : (k : ℕ) (what : DriverCall) (o e f : Option Driver) (old new other : Subsystem) (x : FleetSeen) → AreCalm old new other → ((d : Driver) → o ≡ Some d → HasTicketsOnce d) → DoesIfAny true k what o old x e new
+    → DoesIfAny true k what o old x f other → (f ≡ e) × (other ≡ new)
+any-alone k what None e f old new other x calm one h g = (g.1 ∙ sym h.1, g.2 ∙ sym h.2)
+any-alone k what (Some d) e f old new other x calm one (d', made, h) (d'', made', g) =
+    let r = does-alone k what d d' d'' old new other x calm (one d refl) h g in
+    (made' ∙ ap Some r.0 ∙ sym made, r.1)
+
+-- both layers
+together : (new other : Layers) → other.subsystem ≡ new.subsystem → other.drivers ≡ new.drivers → other ≡ new
+together new other s d = λ i. record { subsystem = s i; drivers = d i }
+
+calls-alone : (o : Option (Option Driver)) (old new other : Layers) (k : ℕ) (what : DriverCall) (x : FleetSeen) → AreCalm old.subsystem new.subsystem other.subsystem → driver_at old.drivers k ≡ o → HaveTicketsOnce old
+    → CallsAt o true old k what x new → CallsAt o true old k what x other → other ≡ new
+calls-alone None old new other k what x calm at all h g = g.1 ∙ sym h.1
+calls-alone (Some o) old new other k what x calm at all (e, drivers, h) (f, drivers', g) =
+    let r = any-alone k what o e f old.subsystem new.subsystem other.subsystem x calm (λ d is. at-once old k d all (at ∙ ap Some is)) h g in
+    together new other r.1 (drivers' ∙ ap (with_driver old.drivers k) r.0 ∙ sym drivers)
+
+applies-alone : (old new other : Layers) (e : Event) (x : FleetSeen) → AreCalm old.subsystem new.subsystem other.subsystem → Applies true old e x new → Applies true old e x other → other ≡ new
+applies-alone old new other e x calm h g =
+    together new other
+    ((machine.step-alone old.subsystem other.subsystem e g.given g.step calm.two calm.below).1 ∙ sym (machine.step-alone old.subsystem new.subsystem e h.given h.step calm.one calm.below).1)
+    (g.drivers ∙ sym h.drivers)
+
+raw-alone : (o : Option (Option Driver)) (old new other : Layers) (e : Event) (x : FleetSeen) → AreCalm old.subsystem new.subsystem other.subsystem → AppliesRaw o true old e x new → AppliesRaw o true old e x other → other ≡ new
+raw-alone None old new other e x calm h g = g.1 ∙ sym h.1
+raw-alone (Some None) old new other e x calm h g = applies-alone old new other e x calm h g
+raw-alone (Some (Some d)) old new other e x calm h g = g.1 ∙ sym h.1
+
+happens-alone : (old new other : Layers) (e : FleetEvent) (x : FleetSeen) → AreCalm old.subsystem new.subsystem other.subsystem → HaveTicketsOnce old → Happens true old e x new → Happens true old e x other → other ≡ new
+happens-alone old new other (BringUp k) x calm all h g = calls-alone (driver_at old.drivers k) old new other k call.BringUp x calm refl all h g
+happens-alone old new other (Place k request) x calm all h g = calls-alone (driver_at old.drivers k) old new other k (call.Place request) x calm refl all h g
+happens-alone old new other (Ring k) x calm all h g = calls-alone (driver_at old.drivers k) old new other k call.Ring x calm refl all h g
+happens-alone old new other (Fetch k q) x calm all h g = applies-alone old new other (event.Fetch k q) x calm h g
+happens-alone old new other (Execute k i) x calm all h g = applies-alone old new other (event.Execute k i) x calm h g
+happens-alone old new other (Poll k) x calm all h g = calls-alone (driver_at old.drivers k) old new other k call.Poll x calm refl all h g
+happens-alone old new other (Reset k) x calm all h g = calls-alone (driver_at old.drivers k) old new other k call.Reset x calm refl all h g
+happens-alone old new other (RawStore k address bytes) x calm all h g = raw-alone (driver_at old.drivers k) old new other (event.Store k address bytes) x calm h g
+happens-alone old new other (RawWrite32 k offset v) x calm all h g = raw-alone (driver_at old.drivers k) old new other (event.Write32 k offset v) x calm h g
+
+-- One event.
+
+step-counted : (old new : Layers) (e : FleetEvent) (reply : Reply) → Step true old e reply new → count old.subsystem ≤ count new.subsystem
+unfolding fleet_in
+step-counted old new e reply step = step-counts true (fleet_in old) (fleet_in new) e reply step.mailboxes
+
+run-counted : (old new : Layers) (events : List FleetEvent) (replies : List Reply) → Run true old events replies new → count old.subsystem ≤ count new.subsystem
+unfolding fleet_in
+run-counted old new events replies run = failures_never_fall true (fleet_in old) (fleet_in new) events replies (runs_of_mailboxes true old new events replies run)
+
+layers-alone : (old new other : Layers) (e : FleetEvent) (reply reply' : Reply) → AreCalm old.subsystem new.subsystem other.subsystem → HaveTicketsOnce old → Step true old e reply new → Step true old e reply' other
+    → (reply' ≡ reply) × (other ≡ new)
+unfolding fleet_in
+layers-alone old new other e reply reply' calm all h g =
+    let one = step-alone (fleet_in old) (fleet_in new) e reply h.mailboxes calm.one calm.below in
+    let two = step-alone (fleet_in old) (fleet_in other) e reply' g.mailboxes calm.two calm.below in
+    let same : reply' ≡ reply = two.0 ∙ sym one.0 in
+    (same, happens-alone old new other e reply.seen calm all h.below (subst (λ (r : Reply). Happens true old e r.seen other) same g.below))
+
+pub layers_run_is_unique : LayersRunIsUnique
+layers_run_is_unique old new other [] [] [] all h g a b below = (refl, g ∙ sym h)
+layers_run_is_unique old new other [] (x ∷ later) others all h g a b below = absurd h
+layers_run_is_unique old new other [] [] (y ∷ others) all h g a b below = absurd g
+layers_run_is_unique old new other (e ∷ events) [] others all h g a b below = absurd h
+layers_run_is_unique old new other (e ∷ events) (x ∷ later) [] all h g a b below = absurd g
+layers_run_is_unique old new other (e ∷ events) (x ∷ later) (y ∷ others) all (mid, step, rest) (mid', step', rest') a b below =
+    let p = step-counted old mid e x step in
+    let q = run-counted mid new events later rest in
+    let p' = step-counted old mid' e y step' in
+    let q' = run-counted mid' other events others rest' in
+    let calm : AreCalm old.subsystem mid.subsystem mid'.subsystem = record { one = omega (arith, p, q, a); two = omega (arith, p', q', b); below = below } in
+    let one = layers-alone old mid mid' e x y calm all step step' in
+    let still : count mid.subsystem ≡ count old.subsystem = calm.one in
+    let r = layers_run_is_unique mid new other events later others (happens-once true old mid e x.seen step.below all) rest (subst (λ l. Run true l events others other) one.1 rest')
+    (a ∙ sym still) (b ∙ sym still) (low mid.subsystem (count old.subsystem) still below) in
+    ((λ i. one.0 i ∷ r.0 i), r.1)
