@@ -62,7 +62,7 @@ submissions-mapped f step there bytes window Fact m None d d' old new result fac
     let a = creates-mapped f step there bytes window Fact m create_submission_queue d left old new answer fact creates in
     ((answer, left, a.0, concludes), a.1)
 
-both-mapped : {S T : Type 0} (f : S → T) (step : S → Call → S → Type 0) (there : T → Call → T → Type 0) (bytes : S → List ℕ) (window : T → List ℕ) (Fact : S → Type 0) → IsMapped f step there bytes window Fact
+pub both-mapped : {S T : Type 0} (f : S → T) (step : S → Call → S → Type 0) (there : T → Call → T → Type 0) (bytes : S → List ℕ) (window : T → List ℕ) (Fact : S → Type 0) → IsMapped f step there bytes window Fact
     → (ready : Bool) (d d' : Driver) (old new : S) (result : Result (Unit {0}) UpFault) → Fact old → CreatesBoth step bytes ready d old result d' new
     → CreatesBoth there window ready d (f old) result d' (f new) × Fact new
 both-mapped f step there bytes window Fact m false d d' old new result fact h = ((h.0, h.1, ap f h.2), subst Fact (sym h.2) fact)

@@ -440,7 +440,7 @@ executes : (o : Option Controller) (n : ℕ) (old new : Subsystem) (k i : ℕ) (
 executes None n old new k i seen d laid differ fenced h = (d, (h.0, ap (over d) h.1), whole n old new d differ h.1)
 executes (Some c) n old new k i seen d laid differ fenced h = executes-one (slice_get c.fetched i) n old new k c i seen d laid differ fenced h
 
-step-over : (n : ℕ) (old new : Subsystem) (event : Event) (seen : Seen) (d : Device) → IsLaidOut old.world old.device.content → DifferIn n old.world old.device d
+pub step-over : (n : ℕ) (old new : Subsystem) (event : Event) (seen : Seen) (d : Device) → IsLaidOut old.world old.device.content → DifferIn n old.world old.device d
     → may_read old.world (controller_of event) n ≡ false → Step true old event seen new
     → MirrorsStep n old new (λ x. Step true (over d old) event seen (over x new))
 unfolding controller_at
