@@ -49,15 +49,15 @@ all-filtered q (x ∷ xs) h =
       | false ↦ rest
     ]
 
-first-of : (xs : List FetchedCommand) (t : FetchedCommand) → AllByRecursion IsAdmin xs → slice_get xs 0 ≡ Some t → IsAdmin t
+pub first-of : (xs : List FetchedCommand) (t : FetchedCommand) → AllByRecursion IsAdmin xs → slice_get xs 0 ≡ Some t → IsAdmin t
 first-of [] t h at = absurd (none-some _ at)
 first-of (x ∷ xs) t h at = subst IsAdmin (same_Some _ _ at) h.0
 
-all-but-first : (xs : List FetchedCommand) → AllByRecursion IsAdmin xs → AllByRecursion IsAdmin (remove xs 0)
+pub all-but-first : (xs : List FetchedCommand) → AllByRecursion IsAdmin xs → AllByRecursion IsAdmin (remove xs 0)
 all-but-first [] h = tt
 all-but-first (x ∷ xs) h = h.1
 
-store-admin : (address : ℕ) (bytes : List ℕ) (c : Controller) → AreAdmin c → AreAdmin (after_store address bytes c).controller
+pub store-admin : (address : ℕ) (bytes : List ℕ) (c : Controller) → AreAdmin c → AreAdmin (after_store address bytes c).controller
 unfolding after_store
 store-admin address bytes c h =
     elim (nat_le (address + length bytes) window_size)
@@ -66,7 +66,7 @@ store-admin address bytes c h =
       | false ↦ h
     ]
 
-enabled-admin : (o : Option AdminQueues) (c : Controller) → AreAdmin (with_admin_queues o c)
+pub enabled-admin : (o : Option AdminQueues) (c : Controller) → AreAdmin (with_admin_queues o c)
 enabled-admin None c = tt
 enabled-admin (Some q) c = tt
 
@@ -79,7 +79,7 @@ effect-admin Shutdown c h = h
 effect-admin (SqTail q v) c h = h
 effect-admin (CqHead q v) c h = h
 
-write-admin : (offset v : ℕ) (c : Controller) → AreAdmin c → AreAdmin (after_write32 offset v c)
+pub write-admin : (offset v : ℕ) (c : Controller) → AreAdmin c → AreAdmin (after_write32 offset v c)
 unfolding after_write32
 write-admin offset v c h = effect-admin (register.after_write c.registers offset v).effect (record c { registers = (register.after_write c.registers offset v).registers }) h
 
@@ -91,7 +91,7 @@ pub fetch-admin : (c : Controller) → AreAdmin c → AreAdmin (after_fetch 0 c)
 unfolding after_fetch
 fetch-admin c h = from-admin c (fetchable c 0) h
 
-change-admin : (change : QueueChange) (c : Controller) → AreAdmin c → AreAdmin (after_queue_change change c)
+pub change-admin : (change : QueueChange) (c : Controller) → AreAdmin c → AreAdmin (after_queue_change change c)
 unfolding after_queue_change
 change-admin Keep c h = h
 change-admin (MakeCq qid size at) c h = h

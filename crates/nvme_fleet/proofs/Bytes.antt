@@ -53,11 +53,11 @@ content-of d = d.content
 
 -- All events but executions leave access state and medium.
 
-record IsSameSite (old new : Layers) : Type 0 where
-  world : new.subsystem.world ≡ old.subsystem.world
-  device : new.subsystem.device ≡ old.subsystem.device
+pub record IsSameSite (old new : Layers) : Type 0 where
+  pub world : new.subsystem.world ≡ old.subsystem.world
+  pub device : new.subsystem.device ≡ old.subsystem.device
 
-same-site : (old new : Layers) (m : Moment) (reply : Reply) → m.fleet.site ≡ (fleet_in old).site → Is m reply (fleet_in new) → IsSameSite old new
+pub same-site : (old new : Layers) (m : Moment) (reply : Reply) → m.fleet.site ≡ (fleet_in old).site → Is m reply (fleet_in new) → IsSameSite old new
 unfolding fleet_in
 same-site old new m reply same h =
     let e : (fleet_in new).site ≡ (fleet_in old).site = ap (λ (f : Fleet). f.site) h.1 ∙ same in

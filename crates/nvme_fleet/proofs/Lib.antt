@@ -93,3 +93,5 @@ pub mod Taken
 pub mod Regular
 pub mod Secrecy
 pub mod Unique
+pub mod Mirrored
+pub mod LayersOver

@@ -109,7 +109,7 @@ raw-once None tells old new e x h all = subst HaveTicketsOnce (sym h.1) all
 raw-once (Some None) tells old new e x h all = applies-once tells old new e x h all
 raw-once (Some (Some d)) tells old new e x h all = subst HaveTicketsOnce (sym h.1) all
 
-happens-once : (tells : Bool) (old new : Layers) (e : FleetEvent) (x : FleetSeen) → Happens tells old e x new → HaveTicketsOnce old → HaveTicketsOnce new
+pub happens-once : (tells : Bool) (old new : Layers) (e : FleetEvent) (x : FleetSeen) → Happens tells old e x new → HaveTicketsOnce old → HaveTicketsOnce new
 happens-once tells old new (BringUp k) x h all = calls-once (driver_at old.drivers k) tells old new k call.BringUp x refl h all
 happens-once tells old new (Place k request) x h all = calls-once (driver_at old.drivers k) tells old new k (call.Place request) x refl h all
 happens-once tells old new (Ring k) x h all = calls-once (driver_at old.drivers k) tells old new k call.Ring x refl h all
@@ -189,16 +189,16 @@ oldest-alone d (Some i) (Some j) one h g =
 
 -- What is below has one outcome.
 
-abbrev count : Subsystem → ℕ
+abbrev pub count : Subsystem → ℕ
 count s = s.device.failures
 
 -- before and after two runs nothing has failed
-record AreCalm (old new other : Subsystem) : Type 0 where
-  one : count new ≡ count old
-  two : count other ≡ count old
-  below : count old < 2 ^ 64 - 1
+pub record AreCalm (old new other : Subsystem) : Type 0 where
+  pub one : count new ≡ count old
+  pub two : count other ≡ count old
+  pub below : count old < 2 ^ 64 - 1
 
-low : (s : Subsystem) (base : ℕ) → count s ≡ base → base < 2 ^ 64 - 1 → count s < 2 ^ 64 - 1
+pub low : (s : Subsystem) (base : ℕ) → count s ≡ base → base < 2 ^ 64 - 1 → count s < 2 ^ 64 - 1
 low s base is below = subst (λ n. n < 2 ^ 64 - 1) (sym is) below
 
 values : (v u : ℕ) → given.Value u ∷ [] ≡ given.Value v ∷ [] → u ≡ v
@@ -304,7 +304,7 @@ raw-alone None old new other e x calm h g = g.1 ∙ sym h.1
 raw-alone (Some None) old new other e x calm h g = applies-alone old new other e x calm h g
 raw-alone (Some (Some d)) old new other e x calm h g = g.1 ∙ sym h.1
 
-happens-alone : (old new other : Layers) (e : FleetEvent) (x : FleetSeen) → AreCalm old.subsystem new.subsystem other.subsystem → HaveTicketsOnce old → Happens true old e x new → Happens true old e x other → other ≡ new
+pub happens-alone : (old new other : Layers) (e : FleetEvent) (x : FleetSeen) → AreCalm old.subsystem new.subsystem other.subsystem → HaveTicketsOnce old → Happens true old e x new → Happens true old e x other → other ≡ new
 happens-alone old new other (BringUp k) x calm all h g = calls-alone (driver_at old.drivers k) old new other k call.BringUp x calm refl all h g
 happens-alone old new other (Place k request) x calm all h g = calls-alone (driver_at old.drivers k) old new other k (call.Place request) x calm refl all h g
 happens-alone old new other (Ring k) x calm all h g = calls-alone (driver_at old.drivers k) old new other k call.Ring x calm refl all h g
@@ -317,11 +317,11 @@ happens-alone old new other (RawWrite32 k offset v) x calm all h g = raw-alone (
 
 -- One event.
 
-step-counted : (old new : Layers) (e : FleetEvent) (reply : Reply) → Step true old e reply new → count old.subsystem ≤ count new.subsystem
+pub step-counted : (old new : Layers) (e : FleetEvent) (reply : Reply) → Step true old e reply new → count old.subsystem ≤ count new.subsystem
 unfolding fleet_in
 step-counted old new e reply step = step-counts true (fleet_in old) (fleet_in new) e reply step.mailboxes
 
-run-counted : (old new : Layers) (events : List FleetEvent) (replies : List Reply) → Run true old events replies new → count old.subsystem ≤ count new.subsystem
+pub run-counted : (old new : Layers) (events : List FleetEvent) (replies : List Reply) → Run true old events replies new → count old.subsystem ≤ count new.subsystem
 unfolding fleet_in
 run-counted old new events replies run = failures_never_fall true (fleet_in old) (fleet_in new) events replies (runs_of_mailboxes true old new events replies run)
 

@@ -27,5 +27,5 @@ pub mod Unseen
 pub mod Bytes
 pub mod SinceUp
 pub mod Regular
-pub mod Secrecy
 pub mod Unique
+pub mod Secrecy

@@ -17,6 +17,7 @@ use Rattle.nvme_fleet.specs.Bytes as bytes
 use Rattle.nvme_fleet.specs.Determined.{failures_in}
 use Rattle.nvme_fleet.specs.Fencing.{RunWhere, LeavesReservation}
 use Rattle.nvme_fleet.specs.Regular.{IsRegular}
+use Rattle.nvme_fleet.specs.Unique.{HaveTicketsOnce}
 
 -- a fleet over another medium
 abbrev pub site_over : Device → Site → Site
@@ -55,16 +56,18 @@ FencedReadingIsSame =
 abbrev pub layers_over : Device → Layers → Layers
 layers_over d l = record l { subsystem = record l.subsystem { device = d } }
 
--- The same of both layers, which a program runs: over either medium the same events are answered the same.
+-- The same of both layers, which a program runs: over either medium the same events are answered the same, and leave
+-- the same but for the medium, each driver and each controller with the memory that it shares with its host.
 abbrev pub LayersReadTheSame : Type 0
 LayersReadTheSame =
     (old new other : Layers) → (medium : Device) → (events : List FleetEvent) → (replies others : List Reply) → (n : ℕ)
-    → IsRegular (fleet_in old) → DifferIn n old.subsystem.world old.subsystem.device medium
+    → IsRegular (fleet_in old) → HaveTicketsOnce old
+    → DifferIn n old.subsystem.world old.subsystem.device medium
     → bytes.RunWhere (λ l. LeavesReservation n (fleet_in l)) old events replies new
     → MayNotRead old.subsystem.world n events
     → layers.Run true (layers_over medium old) events others other
     → new.subsystem.device.failures ≡ old.subsystem.device.failures
     → other.subsystem.device.failures ≡ old.subsystem.device.failures
     → old.subsystem.device.failures < 2 ^ 64 - 1
-    → (others ≡ replies) × (fleet_in other ≡ over other.subsystem.device (fleet_in new))
+    → (others ≡ replies) × (other ≡ layers_over other.subsystem.device new)
     × DifferIn n new.subsystem.world new.subsystem.device other.subsystem.device

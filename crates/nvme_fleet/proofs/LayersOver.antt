@@ -1,0 +1,195 @@
+-- Both layers over another medium: what an event makes of them, but for the medium.
+use Rattle.std.proofs.Common.{◌≡◌, ◌<◌, ◌-◌, ◌^◌, ℕ, Bool, true, false, List, [], ◌∷◌, Option, None, Some, Result, Ok, Err, sym, ap, subst, ◌∙◌}
+use Rattle.std.specs.Prelude.{if◌then◌else◌}
+use Rattle.nvme_spec.specs.Blocks.{Device}
+use Rattle.nvme_spec.specs.Layout.{may_read}
+use Rattle.nvme_driver.specs.declared.answer.Answer.{Answer}
+use Rattle.nvme_driver.specs.declared.answer.Answer.TheVariants.{Aborted, Done}
+use Rattle.nvme_driver.specs.declared.faults.NotUp.{NotUp}
+use Rattle.nvme_driver.specs.declared.faults.PlaceRefusal.{PlaceRefusal}
+use Rattle.nvme_driver.specs.declared.faults.PollFault.{PollFault}
+use Rattle.nvme_driver.specs.declared.faults.PollFault.TheVariants as poll_fault
+use Rattle.nvme_driver.specs.declared.faults.UpFault.{UpFault}
+use Rattle.nvme_driver.specs.declared.found.Found.{Found}
+use Rattle.nvme_driver.specs.declared.lane.Lane.{Lane}
+use Rattle.nvme_driver.specs.declared.request.Request.{Request}
+use Rattle.nvme_driver.specs.declared.slots.Waiting.{Waiting}
+use Rattle.nvme_driver.specs.declared.ticket.Ticket.{Ticket}
+use Rattle.nvme_driver.specs.Calls.{Call, Reads, Stores, Turns, Writes}
+use Rattle.nvme_driver.specs.Drivers.{Driver, is_up, stores_of}
+use Rattle.nvme_driver.specs.Layout.{head_doorbell}
+use Rattle.nvme_driver.specs.Polls.{answered, answered_poll, found, found_poll, polled, without_calls}
+use Rattle.nvme_machine.specs.declared.event.Event.{Event}
+use Rattle.nvme_machine.specs.declared.event.Event.TheVariants as event
+use Rattle.nvme_machine.specs.Secrecy.{DifferIn, over}
+use Rattle.nvme_machine.specs.Subsystems.{Subsystem, controller_at}
+use Rattle.nvme_machine.proofs.Secrecy as machine
+use Rattle.nvme_event.specs.declared.event.FleetEvent.{FleetEvent}
+use Rattle.nvme_event.specs.declared.event.FleetEvent.TheVariants.{BringUp, Place, Ring, Fetch, Execute, Poll, Reset, RawStore, RawWrite32}
+use Rattle.nvme_event.specs.declared.seen.FleetSeen.{FleetSeen}
+use Rattle.nvme_event.specs.Events.{controller_of}
+use Rattle.nvme_event.specs.Replies.{Reply}
+use Rattle.nvme_fleet.specs.declared.delivery.DriverCall.{DriverCall}
+use Rattle.nvme_fleet.specs.declared.delivery.DriverCall.TheVariants as call
+use Rattle.nvme_fleet.specs.Deeds.{ComesUp, Consumes, Does, DoesIfAny, Places, Polls, Ran, Rings, events_of_calls, reset_events, ring_events, window_at}
+use Rattle.nvme_fleet.specs.FleetStates.{Layers, fleet_in}
+use Rattle.nvme_fleet.specs.Fleets.{host_at}
+use Rattle.nvme_fleet.specs.Layers.{Applies, AppliesRaw, CallsAt, Happens, Step, driver_at}
+use Rattle.nvme_fleet.specs.Regular.{IsRegular}
+use Rattle.nvme_fleet.specs.Secrecy.{layers_over}
+use Rattle.nvme_fleet.specs.Unique.{HaveTicketsOnce}
+use Rattle.nvme_fleet.proofs.Bytes.{IsSameSite, same-site}
+use Rattle.nvme_fleet.proofs.Existing.{called-site, fetched-site, raw-site}
+use Rattle.nvme_fleet.proofs.Mirrored.{ArePlain, AreQuiet, IsQuiet, quiet-over, quiet-run, rises-over}
+use Rattle.nvme_fleet.proofs.Unique.{AreCalm, count, happens-alone}
+
+-- Calls of a driver.
+
+quiet-calls : (k : ℕ) (calls : List Call) → ArePlain calls → AreQuiet (events_of_calls k calls)
+quiet-calls k [] plain = tt
+quiet-calls k (Stores address bytes ∷ calls) plain = (tt, quiet-calls k calls plain.1)
+quiet-calls k (Writes offset v ∷ calls) plain = (tt, quiet-calls k calls plain.1)
+quiet-calls k (Reads offset v ∷ calls) plain = (tt, quiet-calls k calls plain.1)
+quiet-calls k (Turns ∷ calls) plain = absurd plain.0
+
+ran-over : (events : List Event) (p q : Subsystem) (m : Device) → AreQuiet events → Ran true p events q → Ran true (over m p) events (over m q)
+ran-over events p q m quiet h = (h.0, quiet-run true events h.0 p q m quiet h.1)
+
+up-over : (k : ℕ) (m : Device) (d d' : Driver) (p q : Subsystem) (result : Result (Unit {0}) UpFault) → ComesUp true k d p result d' q → ComesUp true k d (over m p) result d' (over m q)
+up-over k m d d' p q (Ok u) h = rises-over k m d d' p q (Ok u) h
+up-over k m d d' p q (Err fault) h = (h.0, ap (over m) h.1)
+
+place-over : (k : ℕ) (m : Device) (request : Request) (d d' : Driver) (p q : Subsystem) (result : Result Ticket PlaceRefusal) → Places true k request d p result d' q → Places true k request d (over m p) result d' (over m q)
+place-over k m request d d' p q (Ok ticket) (slot, free, is, ran) =
+    (slot, free, is, ran-over (events_of_calls k (stores_of d request slot)) p q m (quiet-calls k (stores_of d request slot) (tt, (tt, (tt, tt)))) ran)
+place-over k m request d d' p q (Err why) h = (h.0, ap (over m) h.1)
+
+ring-over : (k : ℕ) (m : Device) (d d' : Driver) (p q : Subsystem) (result : Result (Unit {0}) NotUp) → Rings true k d p result d' q → Rings true k d (over m p) result d' (over m q)
+ring-over k m d d' p q (Ok u) h = (h.0, ran-over (ring_events k d) p q m (tt, (tt, tt)) h.1)
+ring-over k m d d' p q (Err e) h = (h.0, ap (over m) h.1)
+
+answered-plain : (d : Driver) (window : List ℕ) (lane : Lane) (entry : List ℕ) (o : Option Waiting) → ArePlain (answered_poll d window lane entry o).calls
+answered-plain d window lane entry None = tt
+answered-plain d window lane entry (Some w) = (tt, tt)
+
+found-plain : (d : Driver) (window : List ℕ) (o : Option Found) → ArePlain (found_poll d window o).calls
+found-plain d window None = tt
+found-plain d window (Some f) = answered-plain d window f.lane f.entry (answered d f.lane f.entry)
+
+polled-plain : (d : Driver) (o : Option ℕ) (window : List ℕ) → ArePlain (polled d o window).calls
+polled-plain d (Some slot) window = tt
+polled-plain d None window = by (is_up d.state)
+  where
+    by : (b : Bool) → ArePlain (if b then found_poll d window (found d window) else without_calls (Err poll_fault.NotUp) d).calls
+    by true = found-plain d window (found d window)
+    by false = tt
+
+consumes-over : (k : ℕ) (m : Device) (p q : Subsystem) (result : Result (Option Answer) PollFault) → Consumes true k p result q → Consumes true k (over m p) result (over m q)
+consumes-over k m p q (Ok (Some (Done ticket status dw0 len))) (lane, head, ran) = (lane, head, ran-over (event.Write32 k (head_doorbell lane) head ∷ []) p q m (tt, tt) ran)
+consumes-over k m p q (Ok (Some (Aborted ticket))) h = ap (over m) h
+consumes-over k m p q (Ok None) h = ap (over m) h
+consumes-over k m p q (Err fault) h = ap (over m) h
+
+poll-over : (k : ℕ) (m : Device) (d d' : Driver) (p q : Subsystem) (result : Result (Option Answer) PollFault) → Polls true k d p result d' q → Polls true k d (over m p) result d' (over m q)
+unfolding controller_at
+poll-over k m d d' p q result h =
+    let w : List ℕ = window_at p k in
+    record {
+      oldest = h.oldest;
+      is_oldest = h.is_oldest;
+      gives = h.gives;
+      driver = h.driver;
+      ran = ran-over (events_of_calls k (polled d h.oldest w).calls) p q m (quiet-calls k (polled d h.oldest w).calls (polled-plain d h.oldest w)) h.ran;
+      consumes = consumes-over k m p q result h.consumes;
+    }
+
+does-over : (k : ℕ) (m : Device) (what : DriverCall) (d d' : Driver) (p q : Subsystem) (x : FleetSeen) → Does true k what d p x d' q → Does true k what d (over m p) x d' (over m q)
+does-over k m call.BringUp d d' p q x (result, is, h) = (result, is, up-over k m d d' p q result h)
+does-over k m (call.Place request) d d' p q x (result, is, h) = (result, is, place-over k m request d d' p q result h)
+does-over k m call.Ring d d' p q x (result, is, h) = (result, is, ring-over k m d d' p q result h)
+does-over k m call.Poll d d' p q x (result, is, h) = (result, is, poll-over k m d d' p q result h)
+does-over k m call.Reset d d' p q x (is, h) = (is, (h.0, ran-over (reset_events k) p q m (tt, tt) h.1))
+
+any-over : (k : ℕ) (m : Device) (what : DriverCall) (o e : Option Driver) (p q : Subsystem) (x : FleetSeen) → DoesIfAny true k what o p x e q → DoesIfAny true k what o (over m p) x e (over m q)
+any-over k m what None e p q x h = (h.0, h.1, ap (over m) h.2)
+any-over k m what (Some d) e p q x (d', made, h) = (d', made, does-over k m what d d' p q x h)
+
+-- Events of the fleet.
+
+calls-over : (o : Option (Option Driver)) (old new : Layers) (k : ℕ) (m : Device) (what : DriverCall) (x : FleetSeen) → CallsAt o true old k what x new → CallsAt o true (layers_over m old) k what x (layers_over m new)
+calls-over None old new k m what x h = (h.0, ap (layers_over m) h.1)
+calls-over (Some o) old new k m what x (e, drivers, h) = (e, drivers, any-over k m what o e old.subsystem new.subsystem x h)
+
+applies-over : (old new : Layers) (m : Device) (e : Event) (x : FleetSeen) → IsQuiet e → Applies true old e x new → Applies true (layers_over m old) e x (layers_over m new)
+applies-over old new m e x quiet h = record { given = h.given; step = quiet-over true e old.subsystem new.subsystem h.given m quiet h.step; gives = h.gives; drivers = h.drivers }
+
+raw-over : (o : Option (Option Driver)) (old new : Layers) (m : Device) (e : Event) (x : FleetSeen) → IsQuiet e → AppliesRaw o true old e x new → AppliesRaw o true (layers_over m old) e x (layers_over m new)
+raw-over None old new m e x quiet h = (h.0, ap (layers_over m) h.1)
+raw-over (Some None) old new m e x quiet h = applies-over old new m e x quiet h
+raw-over (Some (Some d)) old new m e x quiet h = (h.0, ap (layers_over m) h.1)
+
+-- One event over both media, at which nothing fails.
+record AreBoth (n : ℕ) (old new other : Layers) (m : Device) : Type 0 where
+  one : count new.subsystem ≡ count old.subsystem
+  two : count other.subsystem ≡ count old.subsystem
+  below : count old.subsystem < 2 ^ 64 - 1
+  tickets : HaveTicketsOnce old
+  regular : IsRegular (fleet_in old)
+  differ : DifferIn n old.subsystem.world old.subsystem.device m
+
+-- the other is the same over some medium, which differs as before
+abbrev pub IsLed : ℕ → Layers → Layers → Layers → Type 0
+IsLed n old new other = (left : Device) × (other ≡ layers_over left new) × DifferIn n old.subsystem.world new.subsystem.device left
+
+led : (n : ℕ) (old new other : Layers) (m left : Device) (e : FleetEvent) (x : FleetSeen) → AreBoth n old new other m → DifferIn n old.subsystem.world new.subsystem.device left → Happens true (layers_over m old) e x (layers_over left new)
+    → Happens true (layers_over m old) e x other → IsLed n old new other
+led n old new other m left e x both differ h g =
+    let before = both.differ in
+    let start : m.failures ≡ count old.subsystem = before.failures in
+    let calm : AreCalm (over m old.subsystem) (over left new.subsystem) other.subsystem = record {
+      one = differ.failures ∙ both.one ∙ sym start;
+      two = both.two ∙ sym start;
+      below = subst (λ c. c < 2 ^ 64 - 1) (sym start) both.below;
+    } in
+    (left, happens-alone (layers_over m old) (layers_over left new) other e x calm both.tickets h g, differ)
+
+quietly : (n : ℕ) (old new other : Layers) (m : Device) (e : FleetEvent) (x : FleetSeen) → AreBoth n old new other m → IsSameSite old new → Happens true (layers_over m old) e x (layers_over m new)
+    → Happens true (layers_over m old) e x other → IsLed n old new other
+quietly n old new other m e x both same h g =
+    led n old new other m m e x both (subst (λ d. DifferIn n old.subsystem.world d m) (sym same.device) both.differ) h g
+
+executes : (n : ℕ) (old new other : Layers) (m : Device) (k i : ℕ) (x : FleetSeen) → AreBoth n old new other m → may_read old.subsystem.world k n ≡ false → Applies true old (event.Execute k i) x new
+    → Happens true (layers_over m old) (Execute k i) x other → IsLed n old new other
+unfolding fleet_in
+executes n old new other m k i x both fenced h g =
+    let regular = both.regular in
+    let o = machine.step-over n old.subsystem new.subsystem (event.Execute k i) h.given m regular.laid both.differ fenced h.step in
+    led n old new other m o.0 (Execute k i) x both o.2 (record { given = h.given; step = o.1; gives = h.gives; drivers = h.drivers }) g
+
+leads : (n : ℕ) (old new other : Layers) (m : Device) (e : FleetEvent) (reply : Reply) → AreBoth n old new other m → may_read old.subsystem.world (controller_of e) n ≡ false → Step true old e reply new
+    → Happens true (layers_over m old) e reply.seen other → IsLed n old new other
+leads n old new other m (BringUp k) reply both fenced s g =
+    quietly n old new other m (BringUp k) reply.seen both (same-site old new _ reply (called-site (host_at (fleet_in old) k) (fleet_in old) k _) s.mailboxes) (calls-over (driver_at old.drivers k) old new k m call.BringUp reply.seen s.below) g
+leads n old new other m (Place k request) reply both fenced s g =
+    quietly n old new other m (Place k request) reply.seen both (same-site old new _ reply (called-site (host_at (fleet_in old) k) (fleet_in old) k _) s.mailboxes) (calls-over (driver_at old.drivers k) old new k m (call.Place request) reply.seen s.below) g
+leads n old new other m (Ring k) reply both fenced s g =
+    quietly n old new other m (Ring k) reply.seen both (same-site old new _ reply (called-site (host_at (fleet_in old) k) (fleet_in old) k _) s.mailboxes) (calls-over (driver_at old.drivers k) old new k m call.Ring reply.seen s.below) g
+leads n old new other m (Fetch k q) reply both fenced s g =
+    quietly n old new other m (Fetch k q) reply.seen both (same-site old new _ reply (fetched-site (host_at (fleet_in old) k) (fleet_in old) k q) s.mailboxes) (applies-over old new m (event.Fetch k q) reply.seen tt s.below) g
+leads n old new other m (Execute k i) reply both fenced s g = executes n old new other m k i reply.seen both fenced s.below g
+leads n old new other m (Poll k) reply both fenced s g =
+    quietly n old new other m (Poll k) reply.seen both (same-site old new _ reply (called-site (host_at (fleet_in old) k) (fleet_in old) k _) s.mailboxes) (calls-over (driver_at old.drivers k) old new k m call.Poll reply.seen s.below) g
+leads n old new other m (Reset k) reply both fenced s g =
+    quietly n old new other m (Reset k) reply.seen both (same-site old new _ reply (called-site (host_at (fleet_in old) k) (fleet_in old) k _) s.mailboxes) (calls-over (driver_at old.drivers k) old new k m call.Reset reply.seen s.below) g
+leads n old new other m (RawStore k address bytes) reply both fenced s g =
+    quietly n old new other m (RawStore k address bytes) reply.seen both (same-site old new _ reply (raw-site (host_at (fleet_in old) k) (fleet_in old) k _ _) s.mailboxes)
+    (raw-over (driver_at old.drivers k) old new m (event.Store k address bytes) reply.seen tt s.below) g
+leads n old new other m (RawWrite32 k offset v) reply both fenced s g =
+    quietly n old new other m (RawWrite32 k offset v) reply.seen both (same-site old new _ reply (raw-site (host_at (fleet_in old) k) (fleet_in old) k _ _) s.mailboxes)
+    (raw-over (driver_at old.drivers k) old new m (event.Write32 k offset v) reply.seen tt s.below) g
+
+pub step-leads : (n : ℕ) (old new other : Layers) (m : Device) (e : FleetEvent) (reply : Reply) → count new.subsystem ≡ count old.subsystem → count other.subsystem ≡ count old.subsystem → count old.subsystem < 2 ^ 64 - 1
+    → HaveTicketsOnce old → IsRegular (fleet_in old) → DifferIn n old.subsystem.world old.subsystem.device m → may_read old.subsystem.world (controller_of e) n ≡ false → Step true old e reply new
+    → Step true (layers_over m old) e reply other → IsLed n old new other
+step-leads n old new other m e reply one two below tickets regular differ fenced s g =
+    leads n old new other m e reply (record { one = one; two = two; below = below; tickets = tickets; regular = regular; differ = differ }) fenced s g.below

@@ -1,0 +1,348 @@
+-- What calls of a driver make of a subsystem, they make of it over another medium: events that execute nothing do not
+-- look at it, and a driver that comes up has admin commands alone executed.
+use Rattle.std.proofs.Common.{◌≡◌, ◌⊎◌, inl, inr, ℕ, ◌+◌, ◌==◌, length, Bool, true, false, List, [], ◌∷◌, Option, None, Some, Result, refl, sym, ap, subst, ◌∙◌}
+use Rattle.std.specs.Prelude.{slice_get, if◌then◌else◌, nat_le}
+use Rattle.std.proofs.lemmas.Option.{none-some, same_Some}
+use Rattle.nvme_spec.specs.declared.registers.RegEffect.{RegEffect}
+use Rattle.nvme_spec.specs.declared.registers.RegEffect.TheVariants.{Nothing, Enable, Disable, Shutdown, SqTail, CqHead}
+use Rattle.nvme_spec.specs.declared.registers.ControllerState.TheVariants.{Failed, Off}
+use Rattle.nvme_spec.specs.declared.registers.AdminQueues.{AdminQueues}
+use Rattle.nvme_spec.specs.declared.queues.Queues.{Queues}
+use Rattle.nvme_spec.specs.Execution.{Scene}
+use Rattle.nvme_spec.specs.Registers.{Registers, Written}
+use Rattle.nvme_spec.specs.Blocks.{Device}
+use Rattle.nvme_spec.specs.Bytes.{with_bytes}
+use Rattle.nvme_spec.specs.Execution.{no_marks}
+use Rattle.nvme_spec.specs.Memory.{window_size}
+use Rattle.nvme_spec.specs.Registers as register
+use Rattle.nvme_spec.proofs.RegisterLaws.{prepared-keeps}
+use Rattle.nvme_driver.specs.declared.faults.UpFault.{UpFault}
+use Rattle.nvme_driver.specs.Calls.{Call, Stores, Writes, Reads, Turns, Calls}
+use Rattle.nvme_driver.specs.Drivers.{Driver}
+use Rattle.nvme_driver.specs.Rises.{CreatesBoth, Rises, acq_high, acq_low, admin_sizes, aqa, asq_high, asq_low, csts, enabling, is_ready, start_calls, started}
+use Rattle.nvme_driver.proofs.Mapped.{IsMapped, both-mapped}
+use Rattle.nvme_machine.specs.declared.event.Event.{Event}
+use Rattle.nvme_machine.specs.declared.event.Event.TheVariants as event
+use Rattle.nvme_machine.specs.declared.fetched.FetchedCommand.{FetchedCommand}
+use Rattle.nvme_machine.specs.declared.seen.Seen.{Seen}
+use Rattle.nvme_machine.specs.declared.seen.Seen.TheVariants as given
+use Rattle.nvme_machine.specs.Answers as machine
+use Rattle.nvme_machine.specs.Controllers.{Controller, QueuePair, Reaction, after_posting, after_store, after_write32, has_read, open_pair, queues_of, reaction, taking_effect, with_admin_queues}
+use Rattle.nvme_machine.specs.Secrecy.{over}
+use Rattle.nvme_machine.specs.Subsystems.{Completes, ExecutesAt, ExecutesOne, ExecutesOver, ReactsAs, Run, Step, Subsystem, after_answer, after_execution, controller_at, marked_from, numbered, replaced, scene_of, with_controller}
+use Rattle.nvme_machine.proofs.Denials.{unmarked}
+use Rattle.nvme_machine.proofs.Secrecy.{answer_over, scene_over}
+use Rattle.nvme_machine.proofs.Staying.{replaced-same}
+use Rattle.nvme_fleet.specs.Deeds.{CallStep, events_of, window_at}
+use Rattle.nvme_fleet.proofs.AdminTurns.{AreAdmin, IsAdmin, all-but-first, change-admin, enabled-admin, fetch-admin, first-of, store-admin, write-admin}
+
+-- Events that execute nothing.
+
+abbrev pub IsQuiet : Event → Type 0
+IsQuiet (event.Store k address bytes) = Unit {0}
+IsQuiet (event.Write32 k offset v) = Unit {0}
+IsQuiet (event.Read32 k offset) = Unit {0}
+IsQuiet (event.Fetch k q) = Unit {0}
+IsQuiet (event.Execute k i) = ⊥
+
+abbrev pub AreQuiet : List Event → Type 0
+AreQuiet [] = Unit {0}
+AreQuiet (e ∷ es) = IsQuiet e × AreQuiet es
+
+react-over : (o : Option Controller) (p q : Subsystem) (k : ℕ) (f : Controller → Reaction) (x : Seen) (m : Device) → ReactsAs o p k f x q → ReactsAs o (over m p) k f x (over m q)
+unfolding with_controller
+react-over None p q k f x m h = (h.0, ap (over m) h.1)
+react-over (Some c) p q k f x m h = (h.0, ap (over m) h.1)
+
+pub quiet-over : (tells : Bool) (e : Event) (p q : Subsystem) (x : Seen) (m : Device) → IsQuiet e → Step tells p e x q → Step tells (over m p) e x (over m q)
+unfolding controller_at
+quiet-over tells (event.Store k address bytes) p q x m quiet h = react-over (controller_at p k) p q k _ x m h
+quiet-over tells (event.Write32 k offset v) p q x m quiet h = react-over (controller_at p k) p q k _ x m h
+quiet-over tells (event.Read32 k offset) p q x m quiet h = react-over (controller_at p k) p q k _ x m h
+quiet-over tells (event.Fetch k n) p q x m quiet h = react-over (controller_at p k) p q k _ x m h
+quiet-over tells (event.Execute k i) p q x m quiet h = absurd quiet
+
+pub quiet-run : (tells : Bool) (events : List Event) (given : List Seen) (p q : Subsystem) (m : Device) → AreQuiet events → Run tells p events given q → Run tells (over m p) events given (over m q)
+quiet-run tells [] [] p q m quiet run = ap (over m) run
+quiet-run tells [] (x ∷ xs) p q m quiet run = absurd run
+quiet-run tells (e ∷ es) [] p q m quiet run = absurd run
+quiet-run tells (e ∷ es) (x ∷ xs) p q m quiet (mid, step, rest) = (over m mid, quiet-over tells e p mid x m quiet.0 step, quiet-run tells es xs mid q m quiet.1 rest)
+
+-- What is known of a controller.
+
+abbrev At : (Controller → Type 0) → ℕ → Subsystem → Type 0
+At P k s = (c : Controller) → controller_at s k ≡ Some c → P c
+
+one-event : (tells : Bool) (e : Event) (given : List Seen) (p q : Subsystem) → Run tells p (e ∷ []) given q → (x : Seen) × (given ≡ x ∷ []) × Step tells p e x q
+one-event tells e [] p q run = absurd run
+one-event tells e (x ∷ []) p q (mid, step, last) = (x, refl, subst (λ s. Step tells p e x s) (sym last) step)
+one-event tells e (x ∷ y ∷ given) p q (mid, step, last) = absurd last
+
+react-at : (P Q : Controller → Type 0) (o : Option Controller) (p q : Subsystem) (k : ℕ) (f : Controller → Reaction) (x : Seen) → ((c : Controller) → P c → Q (f c).controller) → controller_at p k ≡ o → ReactsAs o p k f x q
+    → At P k p → At Q k q
+unfolding controller_at with_controller
+react-at P Q None p q k f x moves at h known c there = absurd (none-some _ (sym at ∙ ap (λ s. controller_at s k) (sym h.1) ∙ there))
+react-at P Q (Some b) p q k f x moves at h known c there =
+    subst Q (same_Some _ _ (sym (replaced-same p.controllers k b (f b).controller at) ∙ ap (λ s. controller_at s k) (sym h.1) ∙ there)) (moves b (known b at))
+
+store-at : (P Q : Controller → Type 0) (tells : Bool) (k address : ℕ) (bytes : List ℕ) (p q : Subsystem) → ((c : Controller) → P c → Q (after_store address bytes c).controller) → CallStep tells k p (Stores address bytes) q → At P k p → At Q k q
+store-at P Q tells k address bytes p q moves h known =
+    let one = one-event tells (event.Store k address (record { ref_ptr = (0, 0); now = bytes })) h.given p q h.run in
+    react-at P Q (controller_at p k) p q k _ one.0 moves refl one.2 known
+
+write-at : (P Q : Controller → Type 0) (tells : Bool) (k offset v : ℕ) (p q : Subsystem) → ((c : Controller) → P c → Q (after_write32 offset v c)) → CallStep tells k p (Writes offset v) q → At P k p → At Q k q
+write-at P Q tells k offset v p q moves h known =
+    let one = one-event tells (event.Write32 k offset v) h.given p q h.run in
+    react-at P Q (controller_at p k) p q k _ one.0 moves refl one.2 known
+
+read-at : (P : Controller → Type 0) (tells : Bool) (k offset v : ℕ) (p q : Subsystem) → CallStep tells k p (Reads offset v) q → At P k p → At P k q
+read-at P tells k offset v p q h known =
+    let one = one-event tells (event.Read32 k offset) h.given p q h.run in
+    react-at P P (controller_at p k) p q k _ one.0 (λ c is. is) refl one.2 known
+
+-- A start leaves no I/O command fetched, or a controller that is not ready.
+
+abbrev IsOff : Controller → Type 0
+IsOff c = AreAdmin c ⊎ (register.is_enabled c.registers.cc ≡ false)
+
+abbrev IsOn : Controller → Type 0
+IsOn c = AreAdmin c ⊎ (c.registers.state ≡ Failed)
+
+enabled-registers : (o : Option AdminQueues) (c : Controller) → (with_admin_queues o c).registers ≡ c.registers
+enabled-registers None c = refl
+enabled-registers (Some q) c = refl
+
+effect-registers : (effect : RegEffect) (c : Controller) → (taking_effect effect c).registers ≡ c.registers
+unfolding taking_effect
+effect-registers Nothing c = refl
+effect-registers Enable c = enabled-registers (register.admin_queues c.registers) c
+effect-registers Disable c = refl
+effect-registers Shutdown c = refl
+effect-registers (SqTail q v) c = refl
+effect-registers (CqHead q v) c = refl
+
+written-cc : (r : Registers) (offset v : ℕ) → (offset == 0x14) ≡ false → (register.after_write r offset v).registers.cc ≡ r.cc
+unfolding register.after_write
+written-cc r offset v other =
+    ap (λ (b : Bool). (if b then register.configured r v else register.written (register.prepared r offset v) (if register.is_ready r.state then register.doorbell offset v else Nothing)).registers.cc) other
+    ∙ (prepared-keeps r offset v).0
+
+store-off : (address : ℕ) (bytes : List ℕ) (c : Controller) → IsOff c → IsOff (after_store address bytes c).controller
+unfolding after_store
+store-off address bytes c (inl admin) = inl (store-admin address bytes c admin)
+store-off address bytes c (inr off) = inr (ap (λ (r : Registers). register.is_enabled r.cc) (by (nat_le (address + length bytes) window_size)) ∙ off)
+  where
+    by : (b : Bool) → (if b then reaction (record c { window = with_bytes c.window address bytes }) given.Stored else reaction c given.Outside).controller.registers ≡ c.registers
+    by true = refl
+    by false = refl
+
+write-off : (offset v : ℕ) (c : Controller) → (offset == 0x14) ≡ false → IsOff c → IsOff (after_write32 offset v c)
+unfolding after_write32
+write-off offset v c other (inl admin) = inl (write-admin offset v c admin)
+write-off offset v c other (inr off) =
+    let w : Written = register.after_write c.registers offset v in
+    inr (ap (λ (r : Registers). register.is_enabled r.cc) (effect-registers w.effect (record c { registers = w.registers })) ∙ ap register.is_enabled (written-cc c.registers offset v other) ∙ off)
+
+-- what a write leaves of a controller
+abbrev taken : Written → Controller → Controller
+taken w c = taking_effect w.effect (record c { registers = w.registers })
+
+switched-off : (c : Controller) → IsOff (after_write32 0x14 0 c)
+unfolding after_write32 register.after_write register.configured taking_effect
+switched-off c = by (register.is_enabled c.registers.cc)
+  where
+    by : (b : Bool) → IsOff (taken (if b then register.written (record c.registers { cc = 0; state = Off }) Disable else register.written (record c.registers { cc = 0 }) Nothing) c)
+    by true = inl tt
+    by false = inr refl
+
+switched-on : (c : Controller) → IsOff c → IsOn (after_write32 0x14 enabling c)
+unfolding after_write32 register.after_write register.configured taking_effect
+switched-on c (inl admin) = inl (write-admin 0x14 enabling c admin)
+switched-on c (inr off) = by (register.is_enabled c.registers.cc) (register.can_enable (record c.registers { cc = enabling })) off
+  where
+    by : (b e : Bool) → b ≡ false
+        → IsOn (taken (if b then register.notified c.registers enabling
+        else (if e then register.written (record c.registers { cc = enabling; state = register.ready_state enabling }) Enable else register.written (record c.registers { cc = enabling; state = Failed }) Nothing)) c)
+    by true e off = absurd (cc (off))
+    by false true off = inl (enabled-admin (register.admin_queues (record c.registers { cc = enabling; state = register.ready_state enabling })) (record c { registers = record c.registers { cc = enabling; state = register.ready_state enabling } }))
+    by false false off = inr refl
+
+value-status : (r : Registers) → register.value_at r 0x1c ≡ register.status_of r.state
+unfolding register.value_at
+value-status r = refl
+
+value-is : (x : Seen) (v u : ℕ) (got : List Seen) → got ≡ x ∷ [] → got ≡ given.Value v ∷ [] → x ≡ given.Value u → v ≡ u
+value-is x v u got a b e = cc
+
+value-none : (x : Seen) (v : ℕ) (got : List Seen) → got ≡ x ∷ [] → got ≡ given.Value v ∷ [] → x ≡ given.NoController → ⊥
+value-none x v got a b e = absurd (cc)
+
+read-on : (o : Option Controller) (k v : ℕ) (p q : Subsystem) (x : Seen) (got : List Seen) → controller_at p k ≡ o → got ≡ x ∷ [] → got ≡ given.Value v ∷ [] → ReactsAs o p k (has_read csts) x q → At IsOn k p
+    → At AreAdmin k p ⊎ (is_ready v ≡ false)
+read-on None k v p q x got at a b h known = absurd (value-none x v got a b h.0)
+read-on (Some c) k v p q x got at a b h known = by (known c at)
+  where
+    by : IsOn c → At AreAdmin k p ⊎ (is_ready v ≡ false)
+    by (inl admin) = inl (λ d there. subst AreAdmin (same_Some _ _ (sym at ∙ there)) admin)
+    by (inr failed) = inr (ap is_ready (value-is x v (register.value_at c.registers csts) got a b h.0 ∙ value-status c.registers ∙ ap register.status_of failed))
+
+abbrev Any : Controller → Type 0
+Any c = Unit {0}
+
+pub start-leaves : (tells : Bool) (k value : ℕ) (p on : Subsystem) → Calls (CallStep tells k) p (start_calls value) on → At AreAdmin k on ⊎ (is_ready value ≡ false)
+start-leaves tells k value p on (s1, h1, (s2, h2, (s3, h3, (s4, h4, (s5, h5, (s6, h6, (s7, h7, (s8, h8, (s9, h9, (s10, h10, (s11, h11, (s12, h12, last)))))))))))) =
+    let a1 = write-at Any IsOff tells k _ _ p s1 (λ c t. switched-off c) h1 (λ c at. tt) in
+    let a2 = store-at IsOff IsOff tells k _ _ s1 s2 (λ c t. store-off _ _ c t) h2 a1 in
+    let a3 = store-at IsOff IsOff tells k _ _ s2 s3 (λ c t. store-off _ _ c t) h3 a2 in
+    let a4 = store-at IsOff IsOff tells k _ _ s3 s4 (λ c t. store-off _ _ c t) h4 a3 in
+    let a5 = store-at IsOff IsOff tells k _ _ s4 s5 (λ c t. store-off _ _ c t) h5 a4 in
+    let a6 = write-at IsOff IsOff tells k aqa admin_sizes s5 s6 (λ c t. write-off aqa admin_sizes c refl t) h6 a5 in
+    let a7 = write-at IsOff IsOff tells k asq_low _ s6 s7 (λ c t. write-off asq_low _ c refl t) h7 a6 in
+    let a8 = write-at IsOff IsOff tells k asq_high 0 s7 s8 (λ c t. write-off asq_high 0 c refl t) h8 a7 in
+    let a9 = write-at IsOff IsOff tells k acq_low _ s8 s9 (λ c t. write-off acq_low _ c refl t) h9 a8 in
+    let a10 = write-at IsOff IsOff tells k acq_high 0 s9 s10 (λ c t. write-off acq_high 0 c refl t) h10 a9 in
+    let a11 = write-at IsOff IsOn tells k 0x14 enabling s10 s11 (λ c t. switched-on c t) h11 a10 in
+    let one = one-event tells (event.Read32 k csts) h12.given s11 s12 h12.run in
+    elim (read-on (controller_at s11 k) k value s11 s12 one.0 h12.given refl one.1 h12.answers one.2 a11) [
+      | inl admin ↦ inl (λ c there. read-at AreAdmin tells k csts value s11 s12 h12 admin c (ap (λ s. controller_at s k) (sym last) ∙ there))
+      | inr not ↦ inr not
+    ]
+
+-- Turns execute admin commands alone.
+
+answer-over : (queues : Queues) (k : ℕ) (t : FetchedCommand) (s : Scene) (a : machine.Answer) (m : Device) → IsAdmin t → machine.Answers true queues k t s a → machine.Answers true queues k t (scene_over m s) (answer_over m a)
+unfolding machine.Answers
+answer-over queues k t s a m is h =
+    let e = subst (λ b. machine.AnswersAs b true queues k t s a) is h in
+    subst (λ b. machine.AnswersAs b true queues k t (scene_over m s) (answer_over m a)) (sym is) (ap (answer_over m) e)
+
+answer-quiet : (queues : Queues) (k : ℕ) (t : FetchedCommand) (s : Scene) (a : machine.Answer) → IsAdmin t → machine.Answers true queues k t s a → a.outcome.marks ≡ no_marks
+unfolding machine.Answers
+answer-quiet queues k t s a is h =
+    let e = subst (λ b. machine.AnswersAs b true queues k t s a) is h in
+    ap (λ (y : machine.Answer). y.outcome.marks) e
+
+answer-admin : (t : FetchedCommand) (p : QueuePair) (a : machine.Answer) (c : Controller) → AreAdmin c → AreAdmin (after_answer 0 t p a c)
+unfolding after_answer after_posting
+answer-admin t p a c h = change-admin a.change (after_posting 0 t p a.outcome.status a.outcome.dw0 (record c { window = a.left.window })) (all-but-first c.fetched h)
+
+-- an execution of an admin command over another medium, and what it leaves
+record IsExecutedOver (o : Option Controller) (p q : Subsystem) (k : ℕ) (x : Seen) (m : Device) : Type 0 where
+  step : ExecutesAt o true (over m p) k 0 x (over m q)
+  admin : At AreAdmin k q
+
+completes-over : (p q : Subsystem) (k : ℕ) (c : Controller) (t : FetchedCommand) (pair : QueuePair) (x : Seen) (m : Device) → IsAdmin t → Completes true p k c 0 t pair x q → Completes true (over m p) k c 0 t pair x (over m q)
+unfolding after_execution after_answer
+completes-over p q k c t pair x m is h = record {
+  answer = answer_over m h.answer;
+  answers = answer-over (queues_of c) k t (scene_of p c) h.answer m is h.answers;
+  gives = h.gives;
+  leaves = ap (over m) h.leaves ∙ same h.answer;
+}
+  where
+    same : (a : machine.Answer) → over m (after_execution p k c 0 t pair a) ≡ after_execution (over m p) k c 0 t pair (answer_over m a)
+    same a = refl
+
+completes-admin : (p q : Subsystem) (k : ℕ) (c : Controller) (t : FetchedCommand) (pair : QueuePair) (x : Seen) → IsAdmin t → AreAdmin c → controller_at p k ≡ Some c → Completes true p k c 0 t pair x q → At AreAdmin k q
+unfolding after_execution controller_at
+completes-admin p q k c t pair x is all at h d there =
+    let a : machine.Answer = h.answer in
+    let none = answer-quiet (queues_of c) k t (scene_of p c) a is h.answers in
+    let cs : q.controllers ≡ replaced p.controllers k (after_answer 0 t pair a c) =
+    ap (λ (s : Subsystem). s.controllers) h.leaves ∙ ap (λ w. marked_from a.left.world w 1 (replaced p.controllers k (after_answer 0 t pair a c))) none
+    ∙ unmarked a.left.world 1 (replaced p.controllers k (after_answer 0 t pair a c)) in
+    subst AreAdmin (same_Some _ _ (sym (replaced-same p.controllers k c (after_answer 0 t pair a c) at) ∙ ap (λ l. numbered l k) (sym cs) ∙ there)) (answer-admin t pair a c all)
+
+stays-at : (p q : Subsystem) (k : ℕ) → q ≡ p → At AreAdmin k p → At AreAdmin k q
+stays-at p q k e all c there = all c (ap (λ s. controller_at s k) (sym e) ∙ there)
+
+pair-over : (o : Option QueuePair) (p q : Subsystem) (k : ℕ) (c : Controller) (t : FetchedCommand) (x : Seen) (m : Device) → IsAdmin t → controller_at p k ≡ Some c → At AreAdmin k p → ExecutesOver o true p k c 0 t x q
+    → ExecutesOver o true (over m p) k c 0 t x (over m q) × At AreAdmin k q
+pair-over None p q k c t x m is at all h = ((h.0, ap (over m) h.1), stays-at p q k h.1 all)
+pair-over (Some pair) p q k c t x m is at all h = (completes-over p q k c t pair x m is h, completes-admin p q k c t pair x is (all c at) at h)
+
+one-over : (o : Option FetchedCommand) (p q : Subsystem) (k : ℕ) (c : Controller) (x : Seen) (m : Device) → slice_get c.fetched 0 ≡ o → controller_at p k ≡ Some c → At AreAdmin k p → ExecutesOne o true p k c 0 x q
+    → ExecutesOne o true (over m p) k c 0 x (over m q) × At AreAdmin k q
+one-over None p q k c x m found at all h = ((h.0, ap (over m) h.1), stays-at p q k h.1 all)
+one-over (Some t) p q k c x m found at all h = pair-over (open_pair c t) p q k c t x m (first-of c.fetched t (all c at) found) at all h
+
+executes-over : (o : Option Controller) (p q : Subsystem) (k : ℕ) (x : Seen) (m : Device) → controller_at p k ≡ o → At AreAdmin k p → ExecutesAt o true p k 0 x q
+    → ExecutesAt o true (over m p) k 0 x (over m q) × At AreAdmin k q
+executes-over None p q k x m at all h = ((h.0, ap (over m) h.1), stays-at p q k h.1 all)
+executes-over (Some c) p q k x m at all h = one-over (slice_get c.fetched 0) p q k c x m refl at all h
+
+turn-run : (k : ℕ) (given : List Seen) (p q : Subsystem) (m : Device) → At AreAdmin k p → Run true p (event.Fetch k 0 ∷ event.Execute k 0 ∷ []) given q
+    → Run true (over m p) (event.Fetch k 0 ∷ event.Execute k 0 ∷ []) given (over m q) × At AreAdmin k q
+unfolding controller_at
+turn-run k [] p q m all run = absurd run
+turn-run k (x ∷ []) p q m all run = absurd run.2
+turn-run k (x ∷ y ∷ []) p q m all (mid, fetch, (left, step, last)) =
+    let there = react-at AreAdmin AreAdmin (controller_at p k) p mid k _ x (λ c is. fetch-admin c is) refl fetch all in
+    let e = executes-over (controller_at mid k) mid left k y m refl there step in
+    ((over m mid, quiet-over true (event.Fetch k 0) p mid x m tt fetch, (over m left, e.0, ap (over m) last)), stays-at left q k last e.1)
+turn-run k (x ∷ y ∷ z ∷ given) p q m all (mid, fetch, (left, step, last)) = absurd last
+
+-- Calls of a driver over the other medium.
+
+record IsCallOver (k : ℕ) (call : Call) (p q : Subsystem) (m : Device) : Type 0 where
+  step : CallStep true k (over m p) call (over m q)
+  admin : At AreAdmin k q
+
+call-over : (k : ℕ) (m : Device) (call : Call) (p q : Subsystem) → At AreAdmin k p → CallStep true k p call q → IsCallOver k call p q m
+call-over k m (Stores address bytes) p q all h = record {
+  step = record { given = h.given; run = quiet-run true (events_of k (Stores address bytes)) h.given p q m (tt, tt) h.run; answers = h.answers };
+  admin = store-at AreAdmin AreAdmin true k address bytes p q (λ c is. store-admin address bytes c is) h all;
+}
+call-over k m (Writes offset v) p q all h = record {
+  step = record { given = h.given; run = quiet-run true (events_of k (Writes offset v)) h.given p q m (tt, tt) h.run; answers = h.answers };
+  admin = write-at AreAdmin AreAdmin true k offset v p q (λ c is. write-admin offset v c is) h all;
+}
+call-over k m (Reads offset v) p q all h = record {
+  step = record { given = h.given; run = quiet-run true (events_of k (Reads offset v)) h.given p q m (tt, tt) h.run; answers = h.answers };
+  admin = read-at AreAdmin true k offset v p q h all;
+}
+call-over k m Turns p q all h =
+    let r = turn-run k h.given p q m all h.run in
+    record { step = record { given = h.given; run = r.0; answers = h.answers }; admin = r.1 }
+
+abbrev pub IsPlain : Call → Type 0
+IsPlain (Stores address bytes) = Unit {0}
+IsPlain (Writes offset v) = Unit {0}
+IsPlain (Reads offset v) = Unit {0}
+IsPlain Turns = ⊥
+
+abbrev pub ArePlain : List Call → Type 0
+ArePlain [] = Unit {0}
+ArePlain (call ∷ calls) = IsPlain call × ArePlain calls
+
+plain-over : (k : ℕ) (m : Device) (call : Call) (p q : Subsystem) → IsPlain call → CallStep true k p call q → CallStep true k (over m p) call (over m q)
+plain-over k m (Stores address bytes) p q plain h = record { given = h.given; run = quiet-run true (events_of k (Stores address bytes)) h.given p q m (tt, tt) h.run; answers = h.answers }
+plain-over k m (Writes offset v) p q plain h = record { given = h.given; run = quiet-run true (events_of k (Writes offset v)) h.given p q m (tt, tt) h.run; answers = h.answers }
+plain-over k m (Reads offset v) p q plain h = record { given = h.given; run = quiet-run true (events_of k (Reads offset v)) h.given p q m (tt, tt) h.run; answers = h.answers }
+plain-over k m Turns p q plain h = absurd plain
+
+plain-calls : (k : ℕ) (m : Device) (calls : List Call) (p q : Subsystem) → ArePlain calls → Calls (CallStep true k) p calls q → Calls (CallStep true k) (over m p) calls (over m q)
+plain-calls k m [] p q plain h = ap (over m) h
+plain-calls k m (call ∷ calls) p q plain (mid, one, rest) = (over m mid, plain-over k m call p mid plain.0 one, plain-calls k m calls mid q plain.1 rest)
+
+both-over : (ready : Bool) (k : ℕ) (m : Device) (d d' : Driver) (p q : Subsystem) (result : Result (Unit {0}) UpFault) → At AreAdmin k p ⊎ (ready ≡ false) → CreatesBoth (CallStep true k) (λ s. window_at s k) ready d p result d' q
+    → CreatesBoth (CallStep true k) (λ s. window_at s k) ready d (over m p) result d' (over m q)
+unfolding controller_at
+both-over ready k m d d' p q result (inl all) h =
+    let map : IsMapped (over m) (CallStep true k) (CallStep true k) (λ s. window_at s k) (λ s. window_at s k) (At AreAdmin k) = record {
+      call = λ call r s there step. (let o = call-over k m call r s there step in (o.step, o.admin));
+      same = λ r there. refl;
+    } in
+    (both-mapped (over m) (CallStep true k) (CallStep true k) (λ s. window_at s k) (λ s. window_at s k) (At AreAdmin k) map ready d d' p q result all h).0
+both-over true k m d d' p q result (inr not) h = absurd (cc (not))
+both-over false k m d d' p q result (inr not) h = (h.0, h.1, ap (over m) h.2)
+
+pub rises-over : (k : ℕ) (m : Device) (d d' : Driver) (p q : Subsystem) (result : Result (Unit {0}) UpFault) → Rises (CallStep true k) (λ s. window_at s k) d p result d' q
+    → Rises (CallStep true k) (λ s. window_at s k) d (over m p) result d' (over m q)
+unfolding Rises
+rises-over k m d d' p q result (value, on, starts, both) = (
+  value,
+  over m on,
+  plain-calls k m (start_calls value) p on (tt, (tt, (tt, (tt, (tt, (tt, (tt, (tt, (tt, (tt, (tt, (tt, tt)))))))))))) starts,
+  both-over (is_ready value) k m (started d) d' on q result (start-leaves true k value p on starts) both,
+)
