@@ -8,6 +8,7 @@ pub mod Staying
 pub mod Wirings
 pub mod Marking
 pub mod Agreeing
+pub mod SecretCommands
 pub mod Secrecy
 pub mod Preempted
 pub mod Everywhere
