@@ -31,7 +31,7 @@ use Rattle.nvme_machine.specs.Controllers.{Controller, QueuePair, Reaction, afte
 use Rattle.nvme_machine.specs.Secrecy.{over}
 use Rattle.nvme_machine.specs.Subsystems.{Completes, ExecutesAt, ExecutesOne, ExecutesOver, ReactsAs, Run, Step, Subsystem, after_answer, after_execution, controller_at, marked_from, numbered, replaced, scene_of, with_controller}
 use Rattle.nvme_machine.proofs.Denials.{unmarked}
-use Rattle.nvme_machine.proofs.Secrecy.{answer_over, scene_over}
+use Rattle.nvme_machine.proofs.SecretCommands.{answer_over, scene_over}
 use Rattle.nvme_machine.proofs.Staying.{replaced-same}
 use Rattle.nvme_fleet.specs.Deeds.{CallStep, events_of, window_at}
 use Rattle.nvme_fleet.proofs.AdminTurns.{AreAdmin, IsAdmin, all-but-first, change-admin, enabled-admin, fetch-admin, first-of, store-admin, write-admin}

@@ -23,7 +23,7 @@ use Rattle.nvme_machine.specs.Answers as machine
 use Rattle.nvme_machine.specs.Controllers.{queues_of}
 use Rattle.nvme_machine.specs.Executing.{scene_in}
 use Rattle.nvme_machine.proofs.Layouts.{answer-size}
-use Rattle.nvme_machine.proofs.Secrecy.{BringsItsData, performed-size}
+use Rattle.nvme_machine.proofs.SecretCommands.{BringsItsData, performed-size}
 use Rattle.nvme_event.specs.declared.event.FleetEvent.{FleetEvent}
 use Rattle.nvme_event.specs.Replies.{Reply}
 use Rattle.nvme_fleet.specs.Mailboxes.{Item, lane_of}

@@ -20,7 +20,8 @@ use Rattle.nvme_machine.specs.Controllers.{Controller, QueuePair, open_pair, que
 use Rattle.nvme_machine.specs.Executing.{FinishesOne, FinishesOver, Setting, scene_in}
 use Rattle.nvme_machine.specs.Secrecy.{DifferIn}
 use Rattle.nvme_machine.specs.Subsystems.{after_answer as after_machine_answer}
-use Rattle.nvme_machine.proofs.Secrecy.{Mirrors, answer_over, answers-over, differ-still, performs}
+use Rattle.nvme_machine.proofs.SecretCommands.{Mirrors, answer_over, answers-over, performs}
+use Rattle.nvme_machine.proofs.Secrecy.{differ-still}
 use Rattle.nvme_event.specs.declared.event.FleetEvent.{FleetEvent}
 use Rattle.nvme_event.specs.declared.event.FleetEvent.TheVariants.{BringUp, Place, Ring, Fetch, Execute, Poll, Reset, RawStore, RawWrite32}
 use Rattle.nvme_event.specs.declared.seen.FleetSeen.{FleetSeen}

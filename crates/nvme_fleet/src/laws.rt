@@ -174,8 +174,8 @@ pub fn bytes_are_kept()
     ensures windows { OthersWindowsStay }
 {}
 
-/// A driver that is down waits for nothing, from an opening on. So what it hands up as done after any moment at which it
-/// was down was placed, and then executed, since then: since it last came up.
+/// A driver that is down waits for nothing, from an opening on. So what it hands up as done after any moment at which
+/// it was down was placed, and then executed, since then: since it last came up.
 pub fn done_since_it_came_up()
     ensures clear { DownIsClear }
     ensures done { DoneSinceItCameUp }
