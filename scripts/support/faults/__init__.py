@@ -1,0 +1,1 @@
+"""What a user of storage fears, tried on the built program."""

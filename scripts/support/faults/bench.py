@@ -1,0 +1,145 @@
+"""Runs of the program, with and without calls that fail."""
+import os
+import shutil
+import subprocess
+from concurrent.futures import ThreadPoolExecutor
+from dataclasses import dataclass
+from itertools import count
+from pathlib import Path
+from typing import Any, Callable, Dict, Iterable, List, Optional, Sequence
+
+# How many seconds a run may take; it takes a few hundredths.
+WITHIN = 60
+SOURCE = Path(__file__).resolve().parent / "refuse.c"
+
+
+class Wrong(Exception):
+    """Something is not as it must be."""
+
+
+@dataclass(frozen=True)
+class Plan:
+    """Which calls fail: the one of a kind with a number, from 1, and perhaps all behind it; and how."""
+    kind: str
+    at: int
+    how: str
+    is_onward: bool = False
+
+    def __str__(self) -> str:
+        return f"{self.kind}:{self.at}{'+' if self.is_onward else ''}:{self.how}"
+
+
+@dataclass
+class Shown:
+    """What a run showed and left: its status, its streams, its image, and how many calls were made to fail."""
+    status: int
+    output: bytes
+    errors: bytes
+    image: Optional[bytes]
+    hits: int
+
+
+class Bench:
+    """A folder with the program and the library that makes calls fail, and runs in folders of their own below it."""
+
+    def __init__(self, folder: Path, program: Path, lie: str = "") -> None:
+        self.folder, self.lie, self.numbers = folder, lie, count()
+        self.program = folder / "nvmesim"
+        self.library = folder / "refuse.so"
+        if not self.program.exists():
+            shutil.copy(program, self.program)
+            compile_library(self.library)
+
+    def room(self) -> Path:
+        """A new folder."""
+        room = self.folder / f"{self.lie}run{next(self.numbers)}"
+        room.mkdir()
+        return room
+
+    def environment(self, room: Path, plan: Optional[Plan]) -> Dict[str, str]:
+        """The environment of a run: without a plan and a lie that of the caller."""
+        own = dict(os.environ)
+        if plan or self.lie:
+            own.update(LD_PRELOAD=str(self.library), FAULTS_LIE=self.lie, FAULTS_PLAN=str(plan or ""),
+                       FAULTS_TOLD=str(room / "told"), FAULTS_IMAGE=str(room / "image"))
+        return own
+
+    def start(self, room: Path, words: Sequence[str], plan: Optional[Plan] = None, **streams: Any) -> subprocess.Popen:
+        """Starts the program in a folder."""
+        return subprocess.Popen([str(self.program), *words], cwd=room, env=self.environment(room, plan), **streams)
+
+    def run(self, script: bytes, image: Optional[bytes] = None, plan: Optional[Plan] = None, by_stdin: bool = False,
+            is_kept: bool = False) -> Shown:
+        """Runs a script over an image of these bytes, or over zeros in memory."""
+        room = self.room()
+        (room / "script").write_bytes(script)
+        if image is not None:
+            (room / "image").write_bytes(image)
+        words = ["-" if image is None else "image", *([] if by_stdin else ["script"])]
+        with open(room / "script" if by_stdin else os.devnull, "rb") as given:
+            shown = self.finish(room, self.start(room, words, plan, stdin=given, stdout=subprocess.PIPE,
+                                                 stderr=subprocess.PIPE))
+        if not is_kept:
+            shutil.rmtree(room)
+        return shown
+
+    def finish(self, room: Path, started: subprocess.Popen) -> Shown:
+        """Waits for a run, and gathers what it showed and left."""
+        try:
+            output, errors = started.communicate(timeout=WITHIN)
+        except subprocess.TimeoutExpired:
+            started.kill()
+            started.communicate()
+            raise Wrong(f"a run that did not end within {WITHIN} seconds") from None
+        image, told = room / "image", room / "told"
+        return Shown(started.returncode, output or b"", errors or b"", image.read_bytes() if image.is_file() else None,
+                     told.stat().st_size if told.exists() else 0)
+
+
+def compile_library(library: Path) -> None:
+    """Compiles the library that makes calls fail."""
+    words = [*os.environ.get("CC", "cc").split(), "-std=c11", "-O1", "-Wall", "-Wextra", "-Werror", "-shared", "-fPIC"]
+    try:
+        subprocess.run([*words, "-o", str(library), str(SOURCE)], check=True)
+    except (OSError, subprocess.CalledProcessError) as error:
+        raise Wrong(f"{SOURCE.name} can't be compiled: {error}") from error
+
+
+def each(work: Callable[[Any], Any], tasks: Iterable[Any]) -> List[Any]:
+    """Does work for each task, side by side; what each came to, in order. The first that goes wrong ends it."""
+    with ThreadPoolExecutor(max_workers=os.cpu_count() or 1) as pool:
+        try:
+            return list(pool.map(work, tasks))
+        except BaseException:
+            pool.shutdown(wait=True, cancel_futures=True)
+            raise
+
+
+def clip(bytes_shown: Optional[bytes]) -> str:
+    """Bytes for a message, cut where they are long."""
+    if bytes_shown is None:
+        return "none"
+    return repr(bytes_shown[:300])[1:] + (f" and {len(bytes_shown) - 300} more" if len(bytes_shown) > 300 else "")
+
+
+def difference(found: Optional[bytes], wanted: Optional[bytes]) -> str:
+    """Where bytes differ from those that are wanted, for a message."""
+    if found is None or wanted is None:
+        return f"{clip(found)}, and not {clip(wanted)}"
+    at = next((i for i, (a, b) in enumerate(zip(found, wanted)) if a != b), min(len(found), len(wanted)))
+    start = max(0, at - 60)
+    return (f"{len(found)} bytes where {len(wanted)} are wanted, and from byte {at} on not the same: .."
+            f"{clip(found[start:at + 60])}, and not ..{clip(wanted[start:at + 60])}")
+
+
+def must_be(what: str, shown: Shown, status: int, output: Optional[bytes], errors: Optional[bytes],
+            image: Optional[bytes]) -> None:
+    """Whether a run ended as it must; an output or a text of errors that is None may be any."""
+    if shown.status != status:
+        raise Wrong(f"{what}: status {shown.status}, and not {status}; standard error has {clip(shown.errors)}")
+    if output is not None and shown.output != output:
+        raise Wrong(f"{what}: not the transcript: {difference(shown.output, output)}")
+    if errors is not None and shown.errors != errors:
+        raise Wrong(f"{what}: standard error has {clip(shown.errors)}, and not {clip(errors)}")
+    if shown.image != image:
+        raise Wrong(f"{what}: not the image: {difference(shown.image, image)}")

@@ -1,0 +1,94 @@
+"""A script cut after each of its bytes, and scripts of the greatest length and of one byte more."""
+import re
+import subprocess
+from pathlib import Path
+from typing import Iterator, Optional, Tuple
+
+from support.faults.bench import Bench, Wrong, each, must_be
+from support.faults.model import pattern
+
+LONGEST = 4194304
+NUMBER = r"(\d+|0x[0-9a-f]+)"
+# The lines of the example, by the grammar; what stands behind `start` prints a line.
+DESCRIBING = re.compile(rf"controller( {NUMBER}){{1}} host {NUMBER}( raw)?|namespace {NUMBER} blocks {NUMBER} "
+                        rf"(shared|private)|attached {NUMBER} {NUMBER}|start")
+EVENT = re.compile(rf"(up|ring|poll) {NUMBER}|(fetch|execute) {NUMBER} {NUMBER}|read( {NUMBER}){{4}}|"
+                   rf"write( {NUMBER}){{4}} (hex:([0-9a-f]{{2}})+|fill:[0-9a-f]{{2}})")
+
+
+def events_in(text: str) -> Optional[int]:
+    """How many events a cut script has; None where its last line is not understood."""
+    is_started, events = False, 0
+    for line in text.split("\n"):
+        words = " ".join(line.split())
+        if not words or line.startswith("#"):
+            continue
+        if not (EVENT if is_started else DESCRIBING).fullmatch(words):
+            return None
+        events += is_started
+        is_started = is_started or words == "start"
+    return events
+
+
+def image_behind(before: bytes, lines: bytes) -> bytes:
+    """The image behind these lines: the example's first execution writes `Hello` to block 0, and its fourth fills
+    blocks 0 and 1 with zeros."""
+    executed = sum(line.startswith(b"execute") for line in lines.splitlines())
+    if executed == 0:
+        return before
+    if executed < 4:
+        return b"Hello".ljust(512, b"\0") + before[512:]
+    return bytes(1024) + before[1024:]
+
+
+def try_cut(bench: Bench, script: bytes, transcript: bytes, before: bytes, at: int) -> bool:
+    """The script's first bytes; whether they are a script."""
+    cut = script[:at]
+    what, events = f"the example cut after {at} bytes", events_in(cut.decode())
+    shown = bench.run(cut, before)
+    if events is None:
+        line = cut.count(b"\n") + 1
+        must_be(what, shown, 1, b"", f"nvmesim: line {line}: not understood\n".encode(), before)
+        return False
+    lines = b"".join(transcript.splitlines(True)[:events])
+    must_be(what, shown, 0, lines, b"", image_behind(before, lines))
+    return True
+
+
+def try_lengths(bench: Bench) -> None:
+    """A comment as long as a script may be, and one that is longer by a byte; from a file, and from standard input."""
+    before = pattern(8, 3, 5)
+    for by_stdin in (False, True):
+        shown = bench.run(b"#" * LONGEST, before, by_stdin=by_stdin)
+        must_be(f"{LONGEST} bytes of #", shown, 0, b"", b"", before)
+        shown = bench.run(b"#" * (LONGEST + 1), before, by_stdin=by_stdin)
+        must_be(f"{LONGEST + 1} bytes of #", shown, 1, b"", b"nvmesim: script too long\n", before)
+
+
+def try_endless(bench: Bench) -> None:
+    """A script without end, of which no more is taken than says that it is too long."""
+    room = bench.room()
+    (room / "image").write_bytes(b"\7" * 600)
+    with open("/dev/zero", "rb") as zeros:
+        started = bench.start(room, ["image"], stdin=zeros, stdout=subprocess.PIPE, stderr=subprocess.PIPE)
+        shown = bench.finish(room, started)
+    must_be("a script without end", shown, 1, b"", b"nvmesim: script too long\n", b"\7" * 600)
+
+
+def check(bench: Bench, top: Path) -> Iterator[str]:
+    """The group."""
+    data = top / "crates/nvme_examples/data"
+    script, transcript = (data / "first-steps.nvme").read_bytes(), (data / "first-steps.out").read_bytes()
+    before = bytes(64 * 512) + b"behind"
+
+    def work(at: int) -> bool:
+        return try_cut(bench, script, transcript, before, at)
+
+    whole = each(work, range(len(script) + 1))
+    if not whole[-1] or all(whole):
+        raise Wrong("the example is refused whole, or wherever it is cut it is a script")
+    counts: Tuple[int, int] = (sum(whole), len(whole) - sum(whole))
+    yield f"the first example cut after each byte: {counts[0]} scripts and {counts[1]} refused, as they must be"
+    try_lengths(bench)
+    try_endless(bench)
+    yield "scripts of the greatest length, of a byte more, and without end: as they must be"

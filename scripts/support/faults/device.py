@@ -1,0 +1,80 @@
+"""Each call on the image failing in turn: with an error, with nothing moved, with a part moved, and from one call on.
+
+What a script must come to is computed, call by call: a call that fails is told by its own command, 2:80 or 2:81, and
+by no other line but those of commands that read a block whose write was lost; the exit status is 0; and the image has
+what those events leave. A call that moves fewer bytes is followed by one for the rest, and nobody notices.
+"""
+from pathlib import Path
+from typing import Iterator, List, Tuple
+
+from support.faults.bench import Bench, Wrong, each, must_be
+from support.faults.model import Command, Disk, Told, pattern, plan, script_of, told_of
+
+BLOCKS = 40
+HOWS = {"pread": ("EIO", "EINTR", "none", "fewer"), "pwrite": ("EIO", "ENOSPC", "EINTR", "none", "torn", "fewer"),
+        "sync": ("EIO", "ENOSPC", "EINTR")}
+ONWARD = {"pread": ("EIO", "fewer"), "pwrite": ("ENOSPC", "fewer"), "sync": ("EIO",)}
+NAMES = {"pread": "read", "pwrite": "write", "sync": "sync"}
+
+
+def commands_over(before: bytes) -> List[Command]:
+    """Commands of all kinds: on blocks that are kept and that are not, of one block and of several."""
+    new, other = pattern(2, 8), pattern(3, 8)
+    at = lambda first, blocks: before[512 * first:512 * (first + blocks)]
+    return [Command("read", 0, 3), Command("write", 1, 2, new[:1024]), Command("read", 0, 4),
+            Command("compare", 5, 3, at(5, 3)), Command("compare", 8, 3, at(8, 1) + b"other"),
+            Command("zeroes", 10, 3), Command("read", 9, 5), Command("flush"), Command("write", 1, 1, b"once more"),
+            Command("read", 1, 1), Command("compare", 1, 1, b"once more"), Command("read", BLOCKS, 1),
+            Command("write", BLOCKS - 1, 2, b"outside"), Command("flush"), Command("write", 20, 8, new),
+            Command("write", 22, 3, other[:1536]), Command("read", 18, 12), Command("zeroes", 19, 2),
+            Command("compare", 20, 2, b"\0" * 512 + new[512:1024]), Command("flush"), Command("read", 0, BLOCKS)]
+
+
+def beyond_the_cache() -> List[Command]:
+    """Commands on more blocks than are kept, so that some are read again."""
+    return [Command("read", 0, 256), Command("read", 0, 2), Command("read", 256, 20), Command("write", 2, 3, b"new"),
+            Command("read", 0, 8), Command("read", 270, 6), Command("read", 24, 4), Command("flush")]
+
+
+def places(commands: List[Command], before: bytes, hows: dict, is_onward: bool) -> Iterator[Tuple[str, int, str, bool]]:
+    """Each call that the commands make, in each way; and behind the last of a kind one that must not be made."""
+    counts = told_of(commands, Disk(before)).disk.counts
+    for kind, ways in hows.items():
+        for how in ways:
+            last = counts[kind] + (not is_onward and how != "fewer")
+            for at in range(1, (2 if is_onward and how == "fewer" else last + 1)):
+                yield kind, at, how, is_onward
+
+
+def try_place(bench: Bench, commands: List[Command], before: bytes, place: Tuple[str, int, str, bool]) -> None:
+    """One run with such a call failing."""
+    kind, at, how, is_onward = place
+    blocks = len(before) // 512
+    told: Told = told_of(commands, Disk(before, kind, at, how, is_onward))
+    what = f"{NAMES[kind]} {at}{' and all behind it' if is_onward else ''} of the image: {how}"
+    shown = bench.run(script_of(commands, blocks), before, plan(kind, at, how, is_onward))
+    must_be(what, shown, 0, told.transcript(), b"", told.image())
+    if shown.image[512 * blocks:] != before[512 * blocks:]:
+        raise Wrong(f"{what}: what stands behind the last block was changed")
+    is_made = at <= told.disk.counts[kind]
+    if bool(shown.hits) != is_made:
+        raise Wrong(f"{what}: the call was {'not ' if is_made else ''}made")
+
+
+def check(bench: Bench, top: Path) -> Iterator[str]:
+    """The group."""
+    del top
+    before = pattern(1, BLOCKS, 392)
+    commands = commands_over(before)
+    found = list(places(commands, before, HOWS, False))
+    each(lambda place: try_place(bench, commands, before, place), found)
+    for kind, name in NAMES.items():
+        count = sum(it[0] == kind for it in found)
+        yield f"each {name} of the image failing ({', '.join(HOWS[kind])}): {count} runs, as they must be"
+    onward = list(places(commands, before, ONWARD, True))
+    each(lambda place: try_place(bench, commands, before, place), onward)
+    yield f"the image failing from each call on: {len(onward)} runs, as they must be"
+    large, more = pattern(4, 300), beyond_the_cache()
+    others = [it for it in places(more, large, {"pread": ("EIO",)}, False) if it[1] % 16 == 1 or it[1] > 250]
+    each(lambda place: try_place(bench, more, large, place), others)
+    yield f"reads of more blocks than are kept failing: {len(others)} runs, as they must be"

@@ -1,0 +1,223 @@
+"""Images and scripts that are none, images that change while the program runs, and places without room."""
+import os
+import resource
+import shutil
+import signal
+import socket
+import subprocess
+from pathlib import Path
+from typing import Any, Callable, Dict, Iterator, List, Optional, Tuple
+
+from support.faults.bench import Bench, Shown, Wrong, must_be
+from support.faults.model import Command, Disk, pattern, plan, script_of, told_of
+
+FAULT = b"nvmesim: file fault\n"
+NO_MEMORY = b"nvmesim: out of memory\n"
+NOBODY = 65534
+
+
+def try_sizes(bench: Bench) -> None:
+    """An image of 5,000 bytes has nine blocks, and what stands behind them stays."""
+    before = pattern(9, 9, 392)
+    commands = [Command("write", 8, 1, b"the last block"), Command("read", 7, 2)]
+    shown = bench.run(script_of(commands, 10), before)
+    must_be("ten blocks on 5,000 bytes", shown, 1, b"", b"nvmesim: line 4: DoesNotFit\n", before)
+    told = told_of(commands, Disk(before))
+    shown = bench.run(script_of(commands, 9), before)
+    must_be("nine blocks on 5,000 bytes", shown, 0, told.transcript(), b"", told.image())
+    if shown.image[-392:] != before[-392:]:
+        raise Wrong("nine blocks on 5,000 bytes: the last 392 bytes were changed")
+
+
+def run_meeting(bench: Bench, script: bytes, before: bytes, change: Callable[[Path], None]) -> Shown:
+    """A run whose image is changed by someone else once the program has opened it, and before it reads its script: the
+    script comes through a pipe with a name, which is opened behind the image."""
+    room = bench.room()
+    (room / "image").write_bytes(before)
+    os.mkfifo(room / "script")
+    started = bench.start(room, ["image", "script"], stdin=subprocess.DEVNULL, stdout=subprocess.PIPE,
+                          stderr=subprocess.PIPE)
+    with open(room / "script", "wb") as pipe:
+        change(room / "image")
+        pipe.write(script)
+    return bench.finish(room, started)
+
+
+def try_shortened(bench: Bench) -> None:
+    """Someone else cuts the image in its third block: what is gone can't be read, and what is written lengthens it."""
+    before, cut = pattern(10, 9, 392), 1200
+    commands = [Command("read", 1, 1), Command("read", 2, 1), Command("read", 1, 3), Command("compare", 5, 1, b"any"),
+                Command("write", 3, 1, b"behind the end"), Command("read", 3, 1), Command("read", 4, 1)]
+    shown = run_meeting(bench, script_of(commands, 9), before, lambda image: os.truncate(image, cut))
+    block = b"behind the end".ljust(512, b"\0")
+    answers = [(b"poll 1 1 0:00 00000000 512 " + before[512:1024].hex().encode()), b"poll 1 2 2:81 00000000",
+               b"poll 1 3 2:81 00000000", b"poll 1 4 2:81 00000000", b"poll 1 5 0:00 00000000",
+               b"poll 1 6 0:00 00000000 512 " + b"behind the end".hex().encode(), b"poll 1 7 2:81 00000000"]
+    must_be("an image that is shortened", shown, 0, None, b"", before[:cut] + bytes(1536 - cut) + block)
+    polled = [line for line in shown.output.splitlines() if line.startswith(b"poll")]
+    if polled != answers:
+        raise Wrong(f"an image that is shortened: answered {polled}, and not {answers}")
+
+
+def try_removed(bench: Bench) -> None:
+    """Someone else removes the image, or puts another in its place: the program goes on with the one it opened."""
+    before, other = pattern(11, 4), pattern(12, 4)
+    commands = [Command("write", 1, 1, b"gone"), Command("read", 0, 2)]
+    told = told_of(commands, Disk(before))
+
+    def replace(image: Path) -> None:
+        (image.parent / "other").write_bytes(other)
+        os.replace(image.parent / "other", image)
+
+    for change, left in ((os.unlink, None), (replace, other)):
+        shown = run_meeting(bench, script_of(commands, 4), before, change)
+        must_be("an image that is removed or replaced", shown, 0, told.transcript(), b"", left)
+
+
+def make_paths(room: Path) -> List[Tuple[str, str]]:
+    """Paths that are no files, each with what it is."""
+    os.symlink("nowhere", room / "broken")
+    os.symlink("round", room / "round")
+    os.mkfifo(room / "pipe")
+    with socket.socket(socket.AF_UNIX) as made:
+        made.bind(os.path.relpath(room / "socket"))
+    return [("no file", "absent"), ("a folder", "."), ("a broken link", "broken"), ("a link to itself", "round"),
+            ("a path of 5,000 bytes", "a/" * 2500), ("a name of 5,000 bytes", "a" * 5000), ("an empty path", ""),
+            ("a path through a file", "script/image"), ("a socket", "socket"), ("a pipe", "pipe"),
+            ("a device", "/dev/zero"), ("a full device", "/dev/full")]
+
+
+def run_words(bench: Bench, room: Path, words: List[str], how: Optional[Dict[str, Any]] = None) -> Shown:
+    """A run on these words."""
+    return bench.finish(room, bench.start(room, words, stdin=subprocess.DEVNULL, stdout=subprocess.PIPE,
+                                          stderr=subprocess.PIPE, **(how or {})))
+
+
+def try_paths(bench: Bench) -> int:
+    """What is no regular file is no image; and what can't be opened or read is no script. Nothing changes."""
+    before, script = pattern(13, 4, 9), script_of([Command("write", 0, 4, b"new")], 4)
+    room = bench.room()
+    (room / "script").write_bytes(script)
+    (room / "image").write_bytes(before)
+    paths = make_paths(room)
+    for what, path in paths:
+        must_be(f"{what} as the image", run_words(bench, room, [path, "script"]), 2, b"", FAULT, before)
+    unread = [it for it in paths if not it[1].startswith("/dev") and it[0] != "a pipe"]
+    for what, path in unread:
+        must_be(f"{what} as the script", run_words(bench, room, ["image", path]), 2, b"", FAULT, before)
+    os.symlink("image", room / "link")
+    told = told_of([Command("write", 0, 4, b"new")], Disk(before))
+    must_be("a link to an image", run_words(bench, room, ["link", "script"]), 0, told.transcript(), b"", told.image())
+    return len(paths) + len(unread) + 1
+
+
+def try_rights(bench: Bench) -> int:
+    """An image that can't be read or not be written, and a script that can't be read, by someone who is not root."""
+    how: Dict[str, Any] = {"user": NOBODY, "group": NOBODY, "extra_groups": []} if os.geteuid() == 0 else {}
+    script, before = script_of([Command("write", 0, 1, b"new")], 1), pattern(14, 1)
+    cases = (("a read-only image", 0o444, 0o444, FAULT), ("an image for writing alone", 0o222, 0o444, FAULT),
+             ("a script that can't be read", 0o666, 0, FAULT), ("files that may be used", 0o666, 0o444, b""))
+    for what, image, text, errors in cases:
+        room = bench.room()
+        room.chmod(0o777)
+        (room / "image").write_bytes(before)
+        (room / "script").write_bytes(script)
+        (room / "image").chmod(image)
+        (room / "script").chmod(text)
+        started = bench.start(room, ["image", "script"], stdin=subprocess.DEVNULL, stdout=subprocess.PIPE,
+                              stderr=subprocess.PIPE, **how)
+        started.wait()
+        (room / "image").chmod(0o666)
+        shown = bench.finish(room, started)
+        told = told_of([Command("write", 0, 1, b"new")], Disk(before))
+        is_good = not errors
+        must_be(what, shown, 0 if is_good else 2, told.transcript() if is_good else b"", errors,
+                told.image() if is_good else before)
+    return len(cases)
+
+
+def try_opening(bench: Bench) -> int:
+    """Each opening of a file, and each question for what a file is, failing in turn."""
+    before, commands = pattern(15, 4, 9), [Command("write", 0, 4, b"new"), Command("read", 0, 1)]
+    told, runs = told_of(commands, Disk(before)), 0
+    for kind, how in (("open", "EACCES"), ("open", "ENOMEM"), ("open", "EINTR"), ("stat", "EIO"), ("stat", "ENOMEM")):
+        for at in range(1, 10):
+            what = f"{kind} {at} failing with {how}"
+            shown = bench.run(script_of(commands, 4), before, plan(kind, at, how))
+            runs += 1
+            if shown.hits == 0 or how == "EINTR":
+                must_be(what, shown, 0, told.transcript(), b"", told.image())
+            else:
+                is_memory = how == "ENOMEM"
+                must_be(what, shown, 4 if is_memory else 2, b"", NO_MEMORY if is_memory else FAULT, before)
+            if shown.hits == 0:
+                break
+        if at < 3:
+            raise Wrong(f"{kind}: {at - 1} calls failed, which is too few")
+    return runs
+
+
+def try_limit(bench: Bench) -> None:
+    """A limit on how long files may be, with its signal ignored: writes behind it fail like those to a full disk."""
+    before = pattern(16, 8)
+    commands = [Command("write", 1, 1, b"within"), Command("write", 3, 3, b"two of three" * 60), Command("read", 0, 8)]
+    told = told_of(commands, Disk(before, "pwrite", 3, "EFBIG"))
+    room = bench.room()
+    (room / "script").write_bytes(script_of(commands, 8))
+    (room / "image").write_bytes(before)
+    limit = lambda: resource.setrlimit(resource.RLIMIT_FSIZE, (2048, 2048))
+    kept = signal.signal(signal.SIGXFSZ, signal.SIG_IGN)
+    try:
+        shown = run_words(bench, room, ["image", "script"], {"preexec_fn": limit, "restore_signals": False})
+    finally:
+        signal.signal(signal.SIGXFSZ, kept)
+    must_be("a limit on how long files may be", shown, 0, told.transcript(), b"", told.image())
+
+
+ROOM = """set -e
+mount -t tmpfs -o size=16k none full
+cp script full/script
+truncate -s 65536 full/image
+touch ready
+../nvmesim full/image full/script >transcript 2>errors || echo $? >status
+cp full/image image
+"""
+
+
+def try_full(bench: Bench) -> bool:
+    """An image with holes on a file system of some pages: blocks find room until there is none. Whether there could be
+    such a file system."""
+    room = bench.room()
+    (room / "full").mkdir()
+    commands = [Command("write", 8 * i, 1, f"page {i}".encode()) for i in range(8)] + [Command("read", 0, 64)]
+    (room / "script").write_bytes(script_of(commands, 128))
+    if shutil.which("unshare") is None:
+        return False
+    subprocess.run(["unshare", "-U", "-r", "-m", "sh", "-c", ROOM], cwd=room, capture_output=True,
+                   env=bench.environment(room, None), check=False)
+    if not (room / "ready").exists():
+        return False
+    # The script takes a page; the others are the image's.
+    told = told_of(commands, Disk(bytes(65536), "pwrite", 4, "ENOSPC", True))
+    shown = Shown(int((room / "status").read_text()) if (room / "status").exists() else 0,
+                  (room / "transcript").read_bytes(), (room / "errors").read_bytes(), (room / "image").read_bytes(), 0)
+    must_be("a file system without room", shown, 0, told.transcript(), b"", told.image())
+    return True
+
+
+def check(bench: Bench, top: Path) -> Iterator[str]:
+    """The group."""
+    del top
+    try_sizes(bench)
+    try_shortened(bench)
+    try_removed(bench)
+    yield "an image of 5,000 bytes, and one that is shortened, removed or replaced during a run: as they must be"
+    yield f"what is no image, or no script: {try_paths(bench)} runs, as they must be"
+    yield f"files that may not be read or written: {try_rights(bench)} runs, as they must be"
+    yield f"each opening of a file failing: {try_opening(bench)} runs, as they must be"
+    try_limit(bench)
+    yield "a limit on how long files may be: as it must be"
+    if try_full(bench):
+        yield "a file system without room: as it must be"
+    else:
+        yield "a file system without room: left out, since none can be mounted here"

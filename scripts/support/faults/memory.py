@@ -1,0 +1,74 @@
+"""Each request for memory refused in turn, in a run over zeros in memory and in one over an image.
+
+What is refused before the first event ends the program: status 4, one line on standard error, no transcript, and the
+image as it was. Behind the first event only the cache of an image asks for memory, and its refusal changes nothing.
+"""
+from dataclasses import dataclass
+from pathlib import Path
+from typing import Iterator, Optional
+
+from support.faults.bench import Bench, Shown, Wrong, must_be
+from support.faults.model import Command, Disk, pattern, plan, script_of, told_of
+
+REFUSED = b"nvmesim: out of memory\n"
+# More requests than any of the runs makes.
+MOST = 5000
+
+
+@dataclass
+class Case:
+    """A run, and what it must come to."""
+    name: str
+    script: bytes
+    transcript: bytes
+    before: Optional[bytes] = None
+    after: Optional[bytes] = None
+
+
+def is_refused(case: Case, what: str, shown: Shown) -> bool:
+    """Whether a run ended before its first event for want of memory; it must have, or be whole."""
+    if shown.status == 0:
+        must_be(what, shown, 0, case.transcript, b"", case.after)
+        return False
+    must_be(what, shown, 4, b"", REFUSED, case.before)
+    return True
+
+
+def refuse_each(bench: Bench, case: Case, is_onward: bool) -> str:
+    """Refuses each request of a run in turn, or from one on, until none is refused."""
+    ended = 0
+    for number in range(1, MOST):
+        what = f"{case.name}, memory refused at request {number}{' and behind' if is_onward else ''}"
+        shown = bench.run(case.script, case.before, plan("alloc", number, "ENOMEM", is_onward))
+        refused = is_refused(case, what, shown)
+        if refused and ended != number - 1:
+            raise Wrong(f"{what}: refused behind one that was not")
+        ended += refused
+        if shown.hits == 0:
+            return tally(case, number - 1, ended)
+        if not refused and case.before is None:
+            raise Wrong(f"{what}: nothing came of it")
+    raise Wrong(f"{case.name}: more than {MOST} requests for memory")
+
+
+def tally(case: Case, requests: int, ended: int) -> str:
+    """How many requests were refused, of which so many ended the run."""
+    if ended < 5:
+        raise Wrong(f"{case.name}: {ended} requests for memory ended the run, which is too few")
+    if case.before is not None and requests == ended:
+        raise Wrong(f"{case.name}: no request of the cache was refused")
+    return f"{case.name} {requests} ({ended} end it)"
+
+
+def check(bench: Bench, top: Path) -> Iterator[str]:
+    """The group."""
+    crate = top / "crates/nvmesim"
+    before = pattern(1, 9, 392)
+    commands = [Command("write", 1, 1, b"Hello"), Command("read", 1, 1), Command("read", 5, 3),
+                Command("compare", 5, 1, before[2560:3072]), Command("read", 1, 1), Command("zeroes", 0, 3)]
+    told = told_of(commands, Disk(before))
+    cases = [Case("the stored run", (crate / "stdin").read_bytes(), (crate / "stdout").read_bytes()),
+             Case("a run over an image", script_of(commands, 9), told.transcript(), before, told.image())]
+    counted = [refuse_each(bench, case, is_onward) for case in cases for is_onward in (False, True)]
+    yield "each request for memory refused: " + ", ".join(counted[::2]) + ": as they must be"
+    yield "memory refused from each request on: " + ", ".join(counted[1::2]) + ": as they must be"

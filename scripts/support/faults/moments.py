@@ -1,0 +1,116 @@
+"""The program killed at random moments, two hundred times.
+
+Its commands write one block after the other. So the image has what some first of these writes leave, with at most one
+block of the next that is half written; all writes of commands whose executions reached the transcript are among them;
+and nothing else of the file has changed.
+"""
+import random
+import statistics
+import subprocess
+import time
+from pathlib import Path
+from typing import Iterator, List, Tuple
+
+from support.faults.bench import Bench, Shown, Wrong, must_be
+from support.faults.model import BLOCK, Command, Disk, Told, pattern, script_of, told_of
+
+SEED, RUNS = 20, 200
+WIDE, WRITES = 64, 2000
+
+
+class Case:
+    """A long script of writes of distinct patterns, and what it leaves."""
+
+    def __init__(self) -> None:
+        self.before = pattern(7, WIDE, 500)
+        chance = random.Random(SEED)
+        self.commands = [self.command(i, chance) for i in range(WRITES)]
+        self.script = script_of(self.commands, WIDE)
+        self.told: Told = told_of(self.commands, Disk(self.before))
+        self.transcript = self.told.transcript()
+        # How many blocks are written when the n-th command is done.
+        self.done = [0]
+        for command in self.commands:
+            self.done.append(self.done[-1] + command.count)
+
+    @staticmethod
+    def command(i: int, chance: random.Random) -> Command:
+        count = chance.randint(1, 4)
+        return Command("write", chance.randrange(WIDE - count + 1), count, f"write {i} {i * i} ".encode() * 2)
+
+
+def prefixes(before: bytes, image: bytes, writes: List[Tuple[int, bytes]]) -> Iterator[int]:
+    """For which counts of first writes the image is what they leave, but for the block of the next."""
+    now = [before[at:at + BLOCK] for at in range(0, len(before) // BLOCK * BLOCK, BLOCK)]
+    wrong = {i for i, block in enumerate(now) if block != image[BLOCK * i:BLOCK * (i + 1)]}
+    for count in range(len(writes) + 1):
+        if not wrong or (count < len(writes) and wrong == {writes[count][0]}):
+            yield count
+        if count < len(writes):
+            i, block = writes[count]
+            if block == image[BLOCK * i:BLOCK * (i + 1)]:
+                wrong.discard(i)
+            else:
+                wrong.add(i)
+
+
+def judge(what: str, case: Case, shown: Shown) -> int:
+    """Whether a run that was killed left what it must; how many blocks were written."""
+    if not case.transcript.startswith(shown.output):
+        raise Wrong(f"{what}: what was printed is no beginning of the transcript")
+    image, tail = shown.image, len(case.before) // BLOCK * BLOCK
+    if len(image) != len(case.before) or image[tail:] != case.before[tail:]:
+        raise Wrong(f"{what}: the image has another length, or other bytes behind its last block")
+    found = list(prefixes(case.before, image, case.told.disk.writes))
+    if not found:
+        raise Wrong(f"{what}: the image is not what some first writes leave, with one block half written")
+    executed = sum(line.startswith(b"execute") and line.endswith(b"\n") for line in shown.output.splitlines(True))
+    if found[-1] < case.done[executed]:
+        raise Wrong(f"{what}: {executed} executions were printed, and at most {found[-1]} blocks are written, where "
+                    f"these wrote {case.done[executed]}")
+    return found[-1]
+
+
+def one_run(bench: Bench, case: Case, seconds: float = 0) -> Tuple[Shown, float]:
+    """A run with its transcript in a file, killed after so many seconds if any; and what it took."""
+    room = bench.room()
+    (room / "script").write_bytes(case.script)
+    (room / "image").write_bytes(case.before)
+    with open(room / "transcript", "wb") as output:
+        begun = time.monotonic()
+        started = bench.start(room, ["image", "script"], stdin=subprocess.DEVNULL, stdout=output,
+                              stderr=subprocess.PIPE)
+        if seconds:
+            time.sleep(seconds)
+            started.kill()
+        shown = bench.finish(room, started)
+        taken = time.monotonic() - begun
+    shown.output = (room / "transcript").read_bytes()
+    return shown, taken
+
+
+def at_random(bench: Bench, case: Case) -> str:
+    """Kills at random moments of the time that a whole run takes, and a little more."""
+    whole = []
+    for _ in range(5):
+        shown, taken = one_run(bench, case)
+        must_be("a run that is not killed", shown, 0, case.transcript, b"", case.told.image())
+        whole.append(taken)
+    usual = statistics.median(whole)
+    moments = random.Random(SEED)
+    ends = {"before the first block": 0, "among them": 0, "behind the last": 0}
+    for number in range(1, RUNS + 1):
+        seconds = moments.uniform(0.0005, 1.05 * usual)
+        shown, _ = one_run(bench, case, seconds)
+        written = judge(f"killed after {seconds:.4f} seconds (run {number} of seed {SEED})", case, shown)
+        total = len(case.told.disk.writes)
+        ends["before the first block" if not written else "behind the last" if written == total else "among them"] += 1
+    if not ends["among them"]:
+        raise Wrong(f"killed at random moments: no run was killed among its writes: {ends}")
+    return ", ".join(f"{count} {where}" for where, count in ends.items())
+
+
+def check(bench: Bench, top: Path) -> Iterator[str]:
+    """The group."""
+    del top
+    yield f"killed at {RUNS} random moments (seed {SEED}): {at_random(bench, Case())}, as they must be"

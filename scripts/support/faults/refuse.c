@@ -1,0 +1,252 @@
+// Makes calls of the C library fail in the program that it is loaded into by LD_PRELOAD.
+//
+// FAULTS_PLAN says which: KIND:N:HOW, the N-th call of a kind, from 1, or KIND:N+:HOW, that one and all behind it.
+// KIND is alloc (every request for memory), open, stat, read, write (to standard output alone), pread, pwrite or sync.
+// HOW is the number of an errno; `none`, which moves nothing and is no error; `fewer`, a third of the bytes and one at
+// least; `torn`, half of the bytes and then EIO; or `kill`, which ends the program by SIGKILL before the call.
+// FAULTS_TOLD names a file that gets a byte for each call that was made to fail.
+//
+// FAULTS_LIE is for trying the checks themselves: the program then does something that no check may let pass.
+//   unharmed  no call is made to fail, though that is told
+//   lost      the second block written to the image is not written, though the program is told so
+//   stray     whatever is written to the image, its last byte is changed too
+//   late      the image is written when the program ends, and not before
+//   garbled   the first byte of the transcript is changed
+//   calm      the program ends with status 0, whatever happened
+//   blurred   the last byte of each text on standard error is changed
+#define _GNU_SOURCE
+#include <errno.h>
+#include <fcntl.h>
+#include <signal.h>
+#include <stdarg.h>
+#include <stdlib.h>
+#include <string.h>
+#include <sys/stat.h>
+#include <sys/syscall.h>
+#include <sys/types.h>
+#include <unistd.h>
+
+enum kind { ALLOC, OPEN, STAT, READ, WRITE, PREAD, PWRITE, SYNC, KINDS };
+enum how { BY_ERRNO, NONE, FEWER, TORN, KILL };
+
+static const char *const names[KINDS] = {"alloc", "open", "stat", "read", "write", "pread", "pwrite", "sync"};
+static enum kind planned_kind = KINDS;
+static unsigned long planned_at;
+static int is_onward;
+static enum how planned_how;
+static int planned_errno;
+static unsigned long counts[KINDS];
+static const char *told;
+static const char *lie = "";
+static int is_ready;
+
+static int lies(const char *what) {
+    return strcmp(lie, what) == 0;
+}
+
+__attribute__((constructor)) static void read_plan(void) {
+    const char *plan = getenv("FAULTS_PLAN");
+    told = getenv("FAULTS_TOLD");
+    if (getenv("FAULTS_LIE"))
+        lie = getenv("FAULTS_LIE");
+    for (int kind = 0; plan && kind < KINDS; kind++) {
+        size_t length = strlen(names[kind]);
+        if (strncmp(plan, names[kind], length) != 0 || plan[length] != ':')
+            continue;
+        char *rest;
+        planned_kind = kind;
+        planned_at = strtoul(plan + length + 1, &rest, 10);
+        is_onward = *rest == '+';
+        rest += is_onward + 1;
+        planned_errno = atoi(rest);
+        planned_how = strcmp(rest, "none") == 0    ? NONE
+                      : strcmp(rest, "fewer") == 0 ? FEWER
+                      : strcmp(rest, "torn") == 0  ? TORN
+                      : strcmp(rest, "kill") == 0  ? KILL
+                                                   : BY_ERRNO;
+    }
+    is_ready = 1;
+}
+
+// Whether this call is to fail. It is counted, and a failure is told.
+static int fails(enum kind kind) {
+    if (!is_ready)
+        return 0;
+    unsigned long count = ++counts[kind];
+    if (kind != planned_kind || (is_onward ? count < planned_at : count != planned_at))
+        return 0;
+    if (told) {
+        int fd = syscall(SYS_openat, AT_FDCWD, told, O_WRONLY | O_APPEND | O_CREAT | O_CLOEXEC, 0666);
+        syscall(SYS_write, fd, "x", 1);
+        syscall(SYS_close, fd);
+    }
+    if (lies("unharmed"))
+        return 0;
+    if (planned_how == KILL)
+        syscall(SYS_kill, syscall(SYS_getpid), SIGKILL);
+    errno = planned_errno;
+    return 1;
+}
+
+// How many of the bytes a call moves that is to fail: none or some.
+static size_t part_of(size_t length) {
+    if (planned_how == TORN)
+        return length / 2;
+    return planned_how == FEWER ? (length < 3 ? length : length / 3) : 0;
+}
+
+// What such a call answers, given what the system answered for the part.
+static ssize_t answer(ssize_t moved) {
+    if (planned_how == NONE || planned_how == FEWER)
+        return moved;
+    errno = planned_how == TORN ? EIO : planned_errno;
+    return -1;
+}
+
+// Memory
+
+extern void *__libc_malloc(size_t);
+extern void *__libc_calloc(size_t, size_t);
+extern void *__libc_realloc(void *, size_t);
+extern void *__libc_memalign(size_t, size_t);
+
+void *malloc(size_t size) {
+    return fails(ALLOC) ? NULL : __libc_malloc(size);
+}
+
+void *calloc(size_t count, size_t size) {
+    return fails(ALLOC) ? NULL : __libc_calloc(count, size);
+}
+
+void *realloc(void *old, size_t size) {
+    return fails(ALLOC) ? NULL : __libc_realloc(old, size);
+}
+
+void *aligned_alloc(size_t alignment, size_t size) {
+    return fails(ALLOC) ? NULL : __libc_memalign(alignment, size);
+}
+
+int posix_memalign(void **made, size_t alignment, size_t size) {
+    if (fails(ALLOC))
+        return ENOMEM;
+    *made = __libc_memalign(alignment, size);
+    return *made ? 0 : ENOMEM;
+}
+
+void *mmap(void *at, size_t length, int protection, int flags, int fd, off_t offset) {
+    if (fails(ALLOC))
+        return (void *)-1;
+    return (void *)syscall(SYS_mmap, at, length, protection, flags, fd, offset);
+}
+
+// Files by name
+
+int openat(int folder, const char *path, int flags, ...) {
+    va_list rest;
+    va_start(rest, flags);
+    int mode = flags & (O_CREAT | O_TMPFILE) ? va_arg(rest, int) : 0;
+    va_end(rest);
+    return fails(OPEN) ? -1 : (int)syscall(SYS_openat, folder, path, flags, mode);
+}
+
+int open(const char *path, int flags, ...) {
+    va_list rest;
+    va_start(rest, flags);
+    int mode = flags & (O_CREAT | O_TMPFILE) ? va_arg(rest, int) : 0;
+    va_end(rest);
+    return fails(OPEN) ? -1 : (int)syscall(SYS_openat, AT_FDCWD, path, flags, mode);
+}
+
+int statx(int folder, const char *restrict path, int flags, unsigned mask, struct statx *restrict found) {
+    return fails(STAT) ? -1 : (int)syscall(SYS_statx, folder, path, flags, mask, found);
+}
+
+// The script and the transcript
+
+ssize_t read(int fd, void *bytes, size_t length) {
+    if (!fails(READ))
+        return syscall(SYS_read, fd, bytes, length);
+    size_t part = part_of(length);
+    return answer(part ? syscall(SYS_read, fd, bytes, part) : 0);
+}
+
+// Writes bytes of which the one at a place is changed.
+static ssize_t write_changed(int fd, const void *bytes, size_t length, size_t at) {
+    char *copy = __libc_malloc(length);
+    memcpy(copy, bytes, length);
+    copy[at] ^= 1;
+    ssize_t moved = syscall(SYS_write, fd, copy, length);
+    free(copy);
+    return moved;
+}
+
+ssize_t write(int fd, const void *bytes, size_t length) {
+    if (fd == STDERR_FILENO && length && lies("blurred"))
+        return write_changed(fd, bytes, length, length - 1);
+    if (fd == STDOUT_FILENO && length && counts[WRITE] == 0 && lies("garbled")) {
+        counts[WRITE]++;
+        return write_changed(fd, bytes, length, 0);
+    }
+    if (fd != STDOUT_FILENO || !fails(WRITE))
+        return syscall(SYS_write, fd, bytes, length);
+    size_t part = part_of(length);
+    return answer(part ? syscall(SYS_write, fd, bytes, part) : 0);
+}
+
+// The image
+
+static struct { int fd; off_t at; size_t length; char bytes[512]; } late[1 << 15];
+static size_t late_count;
+
+ssize_t pread(int fd, void *bytes, size_t length, off_t at) {
+    if (!fails(PREAD))
+        return syscall(SYS_pread64, fd, bytes, length, at);
+    size_t part = part_of(length);
+    return answer(part ? syscall(SYS_pread64, fd, bytes, part, at) : 0);
+}
+
+static ssize_t written(int fd, const void *bytes, size_t length, off_t at) {
+    struct stat found;
+    if (lies("lost") && counts[PWRITE] == 2)
+        return length;
+    if (lies("stray") && syscall(SYS_fstat, fd, &found) == 0)
+        syscall(SYS_pwrite64, fd, "?", 1, found.st_size - 1);
+    if (lies("late") && late_count < sizeof late / sizeof *late && length <= sizeof late->bytes) {
+        late[late_count].fd = fd;
+        late[late_count].at = at;
+        late[late_count].length = length;
+        memcpy(late[late_count++].bytes, bytes, length);
+        return length;
+    }
+    return syscall(SYS_pwrite64, fd, bytes, length, at);
+}
+
+ssize_t pwrite(int fd, const void *bytes, size_t length, off_t at) {
+    if (!fails(PWRITE))
+        return written(fd, bytes, length, at);
+    size_t part = part_of(length);
+    return answer(part ? written(fd, bytes, part, at) : 0);
+}
+
+int fsync(int fd) {
+    return fails(SYNC) ? -1 : (int)syscall(SYS_fsync, fd);
+}
+
+int fdatasync(int fd) {
+    return fails(SYNC) ? -1 : (int)syscall(SYS_fdatasync, fd);
+}
+
+// What the program calls where its C library has other names for the same.
+ssize_t pread64(int, void *, size_t, off_t) __attribute__((alias("pread")));
+ssize_t pwrite64(int, const void *, size_t, off_t) __attribute__((alias("pwrite")));
+int openat64(int, const char *, int, ...) __attribute__((alias("openat")));
+int open64(const char *, int, ...) __attribute__((alias("open")));
+
+// The image may be closed when the program ends, so what is late is written by way of its name.
+__attribute__((destructor)) static void end(void) {
+    int fd = late_count ? (int)syscall(SYS_openat, AT_FDCWD, getenv("FAULTS_IMAGE"), O_WRONLY, 0) : -1;
+    for (size_t i = 0; i < late_count; i++)
+        syscall(SYS_pwrite64, fd, late[i].bytes, late[i].length, late[i].at);
+    if (lies("calm"))
+        _exit(0);
+}
