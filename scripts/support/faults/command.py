@@ -26,7 +26,7 @@ GROUPS: Dict[str, Group] = {
 # each lie is.
 LIES: Tuple[Tuple[str, Tuple[str, ...]], ...] = (
     ("unharmed", ("memory", "device", "commands", "script", "transcript", "files", "killed")),
-    ("lost", ("memory", "device", "commands", "script", "transcript", "files", "cuts", "killed", "moments")),
+    ("lost", ("memory", "device", "commands", "transcript", "files", "cuts", "killed", "moments")),
     ("stray", ("memory", "device", "commands", "script", "transcript", "files", "cuts", "killed", "moments")),
     ("late", ("device", "killed", "moments")),
     ("garbled", ("memory", "device", "commands", "script", "transcript", "files", "cuts", "killed", "moments")),
