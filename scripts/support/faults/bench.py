@@ -1,12 +1,13 @@
 """Runs of the program, with and without calls that fail."""
 import os
+import shlex
 import shutil
 import subprocess
 from concurrent.futures import ThreadPoolExecutor
 from dataclasses import dataclass
 from itertools import count
 from pathlib import Path
-from typing import Any, Callable, Dict, Iterable, List, Optional, Sequence
+from typing import Any, Callable, Dict, Iterable, Iterator, List, Optional, Sequence
 
 # How many seconds a run may take; it takes a few hundredths.
 WITHIN = 60
@@ -96,13 +97,30 @@ class Bench:
                      told.stat().st_size if told.exists() else 0)
 
 
+def compilers() -> Iterator[List[str]]:
+    """The compilers that may be there: the one that is asked for, the system's, and the toolchain's own."""
+    if "CC" in os.environ:
+        yield shlex.split(os.environ["CC"])
+    yield ["cc"]
+    found = subprocess.run(["rt", "doc"], capture_output=True, text=True, check=False) if shutil.which("rt") else None
+    if found and found.returncode == 0:
+        yield [str(Path(found.stdout.strip()).parent / "toolchain/bin/clang"), "-fuse-ld=lld"]
+
+
 def compile_library(library: Path) -> None:
     """Compiles the library that makes calls fail."""
-    words = [*os.environ.get("CC", "cc").split(), "-std=c11", "-O1", "-Wall", "-Wextra", "-Werror", "-shared", "-fPIC"]
-    try:
-        subprocess.run([*words, "-o", str(library), str(SOURCE)], check=True)
-    except (OSError, subprocess.CalledProcessError) as error:
-        raise Wrong(f"{SOURCE.name} can't be compiled: {error}") from error
+    words = ["-std=c11", "-O1", "-fno-builtin", "-fPIC", "-shared", "-nostdlib", "-o", str(library), str(SOURCE)]
+    said = ""
+    for compiler in compilers():
+        try:
+            ran = subprocess.run([*compiler, *words], capture_output=True, text=True, check=False)
+        except OSError as error:
+            said += f"{error}\n"
+            continue
+        if ran.returncode == 0:
+            return
+        said += ran.stderr
+    raise Wrong(f"no compiler makes {SOURCE.name}:\n{said}")
 
 
 def each(work: Callable[[Any], Any], tasks: Iterable[Any]) -> List[Any]:

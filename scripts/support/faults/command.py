@@ -14,7 +14,7 @@ USAGE = """Tries what a user of storage fears on the built program.
 Each request for memory, each call on the image, each read of the script and each write of the transcript fails in
 turn; the program is killed at any moment; images are cut, removed and no files; scripts are cut. What must come of it
 is computed from what docs/SCRIPTS.md promises. The status is 1 at the first thing that is wrong, and 2 where nothing
-could be tried. It needs a C compiler, `cc` or $CC."""
+could be tried. A small library is compiled for it, by $CC, `cc` or the toolchain's compiler."""
 
 Group = Callable[[Bench, Path], Iterator[str]]
 GROUPS: Dict[str, Group] = {
@@ -79,6 +79,7 @@ def self_test(folder: Path, program: Path, top: Path, names: List[str]) -> int:
 
 
 def main(top: Path, given: List[str]) -> int:
+    """The command's status."""
     words = words_of(given)
     unknown = [name for name in words.groups if name not in GROUPS]
     program = Path(words.program).resolve()

@@ -158,20 +158,24 @@ def try_opening(bench: Bench) -> int:
 
 
 def try_limit(bench: Bench) -> None:
-    """A limit on how long files may be, with its signal ignored: writes behind it fail like those to a full disk."""
+    """A limit on how long files may be. With its signal ignored, writes behind it fail like those to a full disk; else
+    the signal stops the program at the first of them."""
     before = pattern(16, 8)
     commands = [Command("write", 1, 1, b"within"), Command("write", 3, 3, b"two of three" * 60), Command("read", 0, 8)]
     told = told_of(commands, Disk(before, "pwrite", 3, "EFBIG"))
-    room = bench.room()
-    (room / "script").write_bytes(script_of(commands, 8))
-    (room / "image").write_bytes(before)
     limit = lambda: resource.setrlimit(resource.RLIMIT_FSIZE, (2048, 2048))
     kept = signal.signal(signal.SIGXFSZ, signal.SIG_IGN)
     try:
-        shown = run_words(bench, room, ["image", "script"], {"preexec_fn": limit, "restore_signals": False})
+        for is_ignored in (True, False):
+            room = bench.room()
+            (room / "script").write_bytes(script_of(commands, 8))
+            (room / "image").write_bytes(before)
+            how = {"preexec_fn": limit, "restore_signals": not is_ignored}
+            shown = run_words(bench, room, ["image", "script"], how)
+            must_be("a limit on how long files may be", shown, 0 if is_ignored else -signal.SIGXFSZ,
+                    told.transcript() if is_ignored else b"", b"", told.image())
     finally:
         signal.signal(signal.SIGXFSZ, kept)
-    must_be("a limit on how long files may be", shown, 0, told.transcript(), b"", told.image())
 
 
 ROOM = """set -e

@@ -48,12 +48,14 @@ class Disk:
             raise Fault
 
     def keep(self, i: int, block: bytes) -> None:
+        """Keeps a block as the one that was used last."""
         self.kept[i] = block
         self.kept.move_to_end(i)
         if len(self.kept) > KEPT:
             self.kept.popitem(last=False)
 
     def read(self, i: int) -> bytes:
+        """A block: as it is kept, or by a call."""
         if i in self.kept:
             self.kept.move_to_end(i)
             return self.kept[i]
@@ -63,6 +65,7 @@ class Disk:
         return block
 
     def write(self, i: int, block: bytes) -> None:
+        """Writes a block, which is kept no longer where that fails."""
         try:
             self.call("pwrite")
         except Fault:
@@ -84,6 +87,7 @@ class Command:
     data: bytes = b""
 
     def line(self) -> str:
+        """Its line of a script."""
         if self.name == "flush":
             return "flush 1 1"
         data = f" hex:{self.data.hex()}" if self.name in ("write", "compare") else ""
@@ -143,9 +147,11 @@ class Told:
     images: List[bytes]
 
     def transcript(self) -> bytes:
+        """All lines."""
         return "".join(f"{line}\n" for line in self.lines).encode()
 
     def image(self) -> bytes:
+        """The image at the end."""
         return bytes(self.disk.bytes)
 
     def image_behind(self, events: int) -> bytes:

@@ -14,17 +14,30 @@
 //   garbled   the first byte of the transcript is changed
 //   calm      the program ends with status 0, whatever happened
 //   blurred   the last byte of each text on standard error is changed
-#define _GNU_SOURCE
-#include <errno.h>
-#include <fcntl.h>
-#include <signal.h>
-#include <stdarg.h>
-#include <stdlib.h>
-#include <string.h>
-#include <sys/stat.h>
-#include <sys/syscall.h>
-#include <sys/types.h>
-#include <unistd.h>
+//
+// It includes nothing and links with nothing, so that a compiler without headers can make it: what it takes of the C
+// library and of Linux on x86-64 is declared here.
+typedef __SIZE_TYPE__ size_t;
+typedef long ssize_t;
+typedef long off_t;
+
+enum { STDOUT = 1, STDERR = 2, HERE = -100, SIGKILL = 9, EIO = 5, ENOMEM = 12, SEEK_END = 2 };
+enum { O_WRONLY = 01, O_CREAT = 0100, O_APPEND = 02000, O_CLOEXEC = 02000000, O_TMPFILE = 020000000 };
+enum {
+    SYS_read = 0, SYS_write = 1, SYS_close = 3, SYS_lseek = 8, SYS_mmap = 9, SYS_pread64 = 17, SYS_pwrite64 = 18,
+    SYS_getpid = 39, SYS_kill = 62, SYS_fsync = 74, SYS_fdatasync = 75, SYS_openat = 257, SYS_statx = 332
+};
+
+long syscall(long number, ...);
+int *__errno_location(void);
+char *getenv(const char *name);
+size_t strlen(const char *text);
+int strcmp(const char *a, const char *b);
+int strncmp(const char *a, const char *b, size_t length);
+unsigned long strtoul(const char *text, char **rest, int base);
+void *memcpy(void *to, const void *from, size_t length);
+void free(void *memory);
+__attribute__((noreturn)) void _exit(int status);
 
 enum kind { ALLOC, OPEN, STAT, READ, WRITE, PREAD, PWRITE, SYNC, KINDS };
 enum how { BY_ERRNO, NONE, FEWER, TORN, KILL };
@@ -58,7 +71,7 @@ __attribute__((constructor)) static void read_plan(void) {
         planned_at = strtoul(plan + length + 1, &rest, 10);
         is_onward = *rest == '+';
         rest += is_onward + 1;
-        planned_errno = atoi(rest);
+        planned_errno = strtoul(rest, 0, 10);
         planned_how = strcmp(rest, "none") == 0    ? NONE
                       : strcmp(rest, "fewer") == 0 ? FEWER
                       : strcmp(rest, "torn") == 0  ? TORN
@@ -76,7 +89,7 @@ static int fails(enum kind kind) {
     if (kind != planned_kind || (is_onward ? count < planned_at : count != planned_at))
         return 0;
     if (told) {
-        int fd = syscall(SYS_openat, AT_FDCWD, told, O_WRONLY | O_APPEND | O_CREAT | O_CLOEXEC, 0666);
+        int fd = syscall(SYS_openat, HERE, told, O_WRONLY | O_APPEND | O_CREAT | O_CLOEXEC, 0666);
         syscall(SYS_write, fd, "x", 1);
         syscall(SYS_close, fd);
     }
@@ -84,7 +97,7 @@ static int fails(enum kind kind) {
         return 0;
     if (planned_how == KILL)
         syscall(SYS_kill, syscall(SYS_getpid), SIGKILL);
-    errno = planned_errno;
+    *__errno_location() = planned_errno;
     return 1;
 }
 
@@ -99,7 +112,7 @@ static size_t part_of(size_t length) {
 static ssize_t answer(ssize_t moved) {
     if (planned_how == NONE || planned_how == FEWER)
         return moved;
-    errno = planned_how == TORN ? EIO : planned_errno;
+    *__errno_location() = planned_how == TORN ? EIO : planned_errno;
     return -1;
 }
 
@@ -111,19 +124,19 @@ extern void *__libc_realloc(void *, size_t);
 extern void *__libc_memalign(size_t, size_t);
 
 void *malloc(size_t size) {
-    return fails(ALLOC) ? NULL : __libc_malloc(size);
+    return fails(ALLOC) ? 0 : __libc_malloc(size);
 }
 
 void *calloc(size_t count, size_t size) {
-    return fails(ALLOC) ? NULL : __libc_calloc(count, size);
+    return fails(ALLOC) ? 0 : __libc_calloc(count, size);
 }
 
 void *realloc(void *old, size_t size) {
-    return fails(ALLOC) ? NULL : __libc_realloc(old, size);
+    return fails(ALLOC) ? 0 : __libc_realloc(old, size);
 }
 
 void *aligned_alloc(size_t alignment, size_t size) {
-    return fails(ALLOC) ? NULL : __libc_memalign(alignment, size);
+    return fails(ALLOC) ? 0 : __libc_memalign(alignment, size);
 }
 
 int posix_memalign(void **made, size_t alignment, size_t size) {
@@ -142,22 +155,22 @@ void *mmap(void *at, size_t length, int protection, int flags, int fd, off_t off
 // Files by name
 
 int openat(int folder, const char *path, int flags, ...) {
-    va_list rest;
-    va_start(rest, flags);
-    int mode = flags & (O_CREAT | O_TMPFILE) ? va_arg(rest, int) : 0;
-    va_end(rest);
+    __builtin_va_list rest;
+    __builtin_va_start(rest, flags);
+    int mode = flags & (O_CREAT | O_TMPFILE) ? __builtin_va_arg(rest, int) : 0;
+    __builtin_va_end(rest);
     return fails(OPEN) ? -1 : (int)syscall(SYS_openat, folder, path, flags, mode);
 }
 
 int open(const char *path, int flags, ...) {
-    va_list rest;
-    va_start(rest, flags);
-    int mode = flags & (O_CREAT | O_TMPFILE) ? va_arg(rest, int) : 0;
-    va_end(rest);
-    return fails(OPEN) ? -1 : (int)syscall(SYS_openat, AT_FDCWD, path, flags, mode);
+    __builtin_va_list rest;
+    __builtin_va_start(rest, flags);
+    int mode = flags & (O_CREAT | O_TMPFILE) ? __builtin_va_arg(rest, int) : 0;
+    __builtin_va_end(rest);
+    return fails(OPEN) ? -1 : (int)syscall(SYS_openat, HERE, path, flags, mode);
 }
 
-int statx(int folder, const char *restrict path, int flags, unsigned mask, struct statx *restrict found) {
+int statx(int folder, const char *path, int flags, unsigned mask, void *found) {
     return fails(STAT) ? -1 : (int)syscall(SYS_statx, folder, path, flags, mask, found);
 }
 
@@ -181,13 +194,13 @@ static ssize_t write_changed(int fd, const void *bytes, size_t length, size_t at
 }
 
 ssize_t write(int fd, const void *bytes, size_t length) {
-    if (fd == STDERR_FILENO && length && lies("blurred"))
+    if (fd == STDERR && length && lies("blurred"))
         return write_changed(fd, bytes, length, length - 1);
-    if (fd == STDOUT_FILENO && length && counts[WRITE] == 0 && lies("garbled")) {
+    if (fd == STDOUT && length && counts[WRITE] == 0 && lies("garbled")) {
         counts[WRITE]++;
         return write_changed(fd, bytes, length, 0);
     }
-    if (fd != STDOUT_FILENO || !fails(WRITE))
+    if (fd != STDOUT || !fails(WRITE))
         return syscall(SYS_write, fd, bytes, length);
     size_t part = part_of(length);
     return answer(part ? syscall(SYS_write, fd, bytes, part) : 0);
@@ -206,11 +219,10 @@ ssize_t pread(int fd, void *bytes, size_t length, off_t at) {
 }
 
 static ssize_t written(int fd, const void *bytes, size_t length, off_t at) {
-    struct stat found;
     if (lies("lost") && counts[PWRITE] == 2)
         return length;
-    if (lies("stray") && syscall(SYS_fstat, fd, &found) == 0)
-        syscall(SYS_pwrite64, fd, "?", 1, found.st_size - 1);
+    if (lies("stray"))
+        syscall(SYS_pwrite64, fd, "?", 1, syscall(SYS_lseek, fd, 0, SEEK_END) - 1);
     if (lies("late") && late_count < sizeof late / sizeof *late && length <= sizeof late->bytes) {
         late[late_count].fd = fd;
         late[late_count].at = at;
@@ -244,7 +256,7 @@ int open64(const char *, int, ...) __attribute__((alias("open")));
 
 // The image may be closed when the program ends, so what is late is written by way of its name.
 __attribute__((destructor)) static void end(void) {
-    int fd = late_count ? (int)syscall(SYS_openat, AT_FDCWD, getenv("FAULTS_IMAGE"), O_WRONLY, 0) : -1;
+    int fd = late_count ? (int)syscall(SYS_openat, HERE, getenv("FAULTS_IMAGE"), O_WRONLY, 0) : -1;
     for (size_t i = 0; i < late_count; i++)
         syscall(SYS_pwrite64, fd, late[i].bytes, late[i].length, late[i].at);
     if (lies("calm"))
