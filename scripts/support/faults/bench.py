@@ -69,8 +69,7 @@ class Bench:
         """Starts the program in a folder."""
         return subprocess.Popen([str(self.program), *words], cwd=room, env=self.environment(room, plan), **streams)
 
-    def run(self, script: bytes, image: Optional[bytes] = None, plan: Optional[Plan] = None, by_stdin: bool = False,
-            is_kept: bool = False) -> Shown:
+    def run(self, script: bytes, image: Optional[bytes] = None, plan: Optional[Plan] = None, by_stdin: bool = False) -> Shown:
         """Runs a script over an image of these bytes, or over zeros in memory."""
         room = self.room()
         (room / "script").write_bytes(script)
@@ -80,8 +79,7 @@ class Bench:
         with open(room / "script" if by_stdin else os.devnull, "rb") as given:
             shown = self.finish(room, self.start(room, words, plan, stdin=given, stdout=subprocess.PIPE,
                                                  stderr=subprocess.PIPE))
-        if not is_kept:
-            shutil.rmtree(room)
+        shutil.rmtree(room)
         return shown
 
     def finish(self, room: Path, started: subprocess.Popen) -> Shown:

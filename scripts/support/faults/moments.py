@@ -5,6 +5,7 @@ block of the next that is half written; all writes of commands whose executions 
 and nothing else of the file has changed.
 """
 import random
+import shutil
 import statistics
 import subprocess
 import time
@@ -15,7 +16,7 @@ from support.faults.bench import Bench, Shown, Wrong, must_be
 from support.faults.model import BLOCK, Command, Disk, Told, pattern, script_of, told_of
 
 SEED, RUNS = 20, 200
-WIDE, WRITES = 64, 2000
+WIDE, WRITES = 64, 1000
 
 
 class Case:
@@ -35,8 +36,10 @@ class Case:
 
     @staticmethod
     def command(i: int, chance: random.Random) -> Command:
+        """A Write of one block to four, each of which is unlike any other."""
         count = chance.randint(1, 4)
-        return Command("write", chance.randrange(WIDE - count + 1), count, f"write {i} {i * i} ".encode() * 2)
+        data = b"".join(f"write {i}, block {j} ".encode().ljust(BLOCK, b"*") for j in range(count))
+        return Command("write", chance.randrange(WIDE - count + 1), count, data)
 
 
 def prefixes(before: bytes, image: bytes, writes: List[Tuple[int, bytes]]) -> Iterator[int]:
@@ -86,6 +89,7 @@ def one_run(bench: Bench, case: Case, seconds: float = 0) -> Tuple[Shown, float]
         shown = bench.finish(room, started)
         taken = time.monotonic() - begun
     shown.output = (room / "transcript").read_bytes()
+    shutil.rmtree(room)
     return shown, taken
 
 
