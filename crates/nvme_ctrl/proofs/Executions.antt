@@ -11,6 +11,9 @@ use Rattle.std.specs.List.{AllByRecursion}
 use Rattle.nvme_spec.specs.World.{World, Namespace}
 use Rattle.nvme_spec.specs.QueueChanges.{Suits}
 use Rattle.nvme_spec.specs.Execution.{Scene, Executes, HasKnownRegistrants, no_marks}
+use Rattle.nvme_spec.specs.MediumCalls.{MediumCall, MakesCalls}
+use Rattle.nvme_spec.specs.CommandCalls.{AreCallsBy}
+use Rattle.nvme_spec.specs.IoData.{io_verdict}
 use Rattle.nvme_spec.specs.AdminEffects.{AdminExecution, admin_execution}
 use Rattle.nvme_spec.proofs.QueueChanges.{admin_changes_suit}
 use Rattle.nvme_spec.proofs.StatusLaws.{admin_execution_fits}
@@ -21,7 +24,8 @@ use Rattle.nvme_machine.specs.declared.seen.Executed.TheVariants.{Posted}
 use Rattle.nvme_machine.specs.Controllers.{Controller, QueuePair, queues_of, open_pair, after_posting, after_queue_change}
 use Rattle.nvme_machine.specs.Answers.{Answer, Answers, AnswersAs, admin_answer}
 use Rattle.nvme_machine.specs.Subsystems.{after_answer}
-use Rattle.nvme_machine.specs.Executing.{Setting, FinishesOver, FinishesOne, ExecutesNth, scene_in}
+use Rattle.nvme_machine.specs.Executing.{Setting, FinishesOver, FinishesOne, ExecutesNth, scene_in, Finishes}
+use Rattle.nvme_machine.specs.Calling.{AreCallsAs, AreCallsOfAnswer, AreCallsOver, AreCallsOne, AreCallsNth}
 use Rattle.nvme_machine.proofs.AdminWorlds.{Becomes, HasSameReservations, admin-becomes, admin-keeps, all-still, same-controllers}
 use Rattle.nvme_ctrl.specs.Executions.{IsPlaced}
 
@@ -80,24 +84,69 @@ is-there (y ∷ xs) zero x h = omega arith
 is-there (y ∷ xs) (suc i) x h = let later = is-there xs i x h in omega (arith, later)
 
 -- the parts make the whole
+finishes : (tells : Bool) (i : ℕ) (old new : Setting) (t : FetchedCommand) (p : QueuePair) (a : Answer) (c d : Controller)
+    → Answers tells (queues_of old.controller) old.controller.cntlid t (scene_in old) a
+    → c ≡ record old.controller { window = a.left.window } → d ≡ after_posting i t p a.outcome.status a.outcome.dw0 c → new.controller ≡ after_queue_change a.change d
+    → new.world ≡ a.left.world → new.device ≡ a.left.device
+    → Finishes tells i t p old (Posted a.outcome) new
+unfolding after_answer
+finishes tells i old new t p a c d answers window posted queues world device = record {
+  answer = a;
+  answers = answers;
+  gives = refl;
+  controller = queues ∙ ap (after_queue_change a.change) (posted ∙ ap (after_posting i t p a.outcome.status a.outcome.dw0) window);
+  world = world;
+  device = device;
+}
+
 pub executes-nth : (tells : Bool) (i : ℕ) (old new : Setting) (t : FetchedCommand) (p : QueuePair) (a : Answer) (c d : Controller)
     → slice_get old.controller.fetched i ≡ Some t → open_pair old.controller t ≡ Some p
     → Answers tells (queues_of old.controller) old.controller.cntlid t (scene_in old) a
     → c ≡ record old.controller { window = a.left.window } → d ≡ after_posting i t p a.outcome.status a.outcome.dw0 c → new.controller ≡ after_queue_change a.change d
     → new.world ≡ a.left.world → new.device ≡ a.left.device
     → ExecutesNth tells i old (Posted a.outcome) new
-unfolding after_answer
 executes-nth tells i old new t p a c d found pair answers window posted queues world device =
     subst (λ o. FinishesOne o tells i old (Posted a.outcome) new) (sym found)
     (subst (λ o. FinishesOver o tells i t old (Posted a.outcome) new) (sym pair)
-    (record {
-      answer = a;
-      answers = answers;
-      gives = refl;
-      controller = queues ∙ ap (after_queue_change a.change) (posted ∙ ap (after_posting i t p a.outcome.status a.outcome.dw0) window);
-      world = world;
-      device = device;
-    }))
+    (finishes tells i old new t p a c d answers window posted queues world device))
+
+-- and the calls of the answer are those of the whole
+pub calls-nth : {M : Type 0} (step : M → MediumCall → M → Type 0) (before after : M) (tells : Bool) (i : ℕ) (old new : Setting) (t : FetchedCommand) (p : QueuePair) (a : Answer) (c d : Controller)
+    → slice_get old.controller.fetched i ≡ Some t → open_pair old.controller t ≡ Some p
+    → Answers tells (queues_of old.controller) old.controller.cntlid t (scene_in old) a
+    → c ≡ record old.controller { window = a.left.window } → d ≡ after_posting i t p a.outcome.status a.outcome.dw0 c → new.controller ≡ after_queue_change a.change d
+    → new.world ≡ a.left.world → new.device ≡ a.left.device
+    → MakesCalls step (AreCallsOfAnswer old.controller.cntlid t (scene_in old) a) before after
+    → MakesCalls step (AreCallsNth tells i old (Posted a.outcome) new) before after
+unfolding finishes
+calls-nth step before after tells i old new t p a c d found pair answers window posted queues world device makes = record {
+  calls = makes.calls;
+  are = subst (λ o. AreCallsOne o tells i old (Posted a.outcome) new makes.calls) (sym found)
+      (subst (λ o. AreCallsOver o tells i t old (Posted a.outcome) new makes.calls) (sym pair)
+      (record { finishes = finishes tells i old new t p a c d answers window posted queues world device; are = makes.are }));
+  made = makes.made;
+}
+
+-- a command of the admin queue makes none
+pub admin-calls : {M : Type 0} (step : M → MediumCall → M → Type 0) (m : M) (k : ℕ) (t : FetchedCommand) (s : Scene) (a : Answer) → t.queue ≡ 0
+    → MakesCalls step (AreCallsOfAnswer k t s a) m m
+unfolding AreCallsOfAnswer
+admin-calls step m k t s a admin = record {
+  calls = [];
+  are = subst (λ b. AreCallsAs b k t s a []) (sym (eq-eqb t.queue 0 admin)) refl;
+  made = refl;
+}
+
+-- an I/O command makes those of its answer
+pub io-calls : {M : Type 0} (step : M → MediumCall → M → Type 0) (before after : M) (k : ℕ) (t : FetchedCommand) (s : Scene) (o : Outcome) (left : Scene) → t.queue ≢ 0
+    → MakesCalls step (AreCallsBy (io_verdict s.world k t.entry t.marked s.window) s.world s.window t.entry o.status left.window) before after
+    → MakesCalls step (AreCallsOfAnswer k t s (record { outcome = o; change = Keep; left = left })) before after
+unfolding AreCallsOfAnswer
+io-calls step before after k t s o left io makes = record {
+  calls = makes.calls;
+  are = subst (λ b. AreCallsAs b k t s (record { outcome = o; change = Keep; left = left }) makes.calls) (sym (ne_eqb t.queue 0 io)) makes.are;
+  made = makes.made;
+}
 
 -- the identifier stays
 pub posting-cntlid : (change : QueueChange) (i : ℕ) (t : FetchedCommand) (p : QueuePair) (s : Status) (first : ℕ) (c d e : Controller) → d ≡ after_posting i t p s first c → e ≡ after_queue_change change d → e.cntlid ≡ c.cntlid

@@ -3,10 +3,12 @@
 ghost use Rattle.std.specs.Prelude.{◌≡◌, ◌<◌, slice_get};
 ghost use Rattle.nvme_spec.specs.Execution.{scene, no_marks};
 ghost use Rattle.nvme_spec.specs.AdminEffects as admin;
+ghost use Rattle.nvme_spec.specs.MediumCalls.{MakesCalls};
 ghost use Rattle.nvme_exec.specs.Carrying.{CanExecute};
 ghost use Rattle.nvme_machine.specs.Controllers.{queues_of};
 ghost use Rattle.nvme_machine.specs.Answers.{Answers};
 ghost use Rattle.nvme_machine.specs.Executing.{setting, ExecutesNth};
+ghost use Rattle.nvme_machine.specs.Calling.{AreCallsOfAnswer, AreCallsNth};
 ghost use Rattle.nvme_ctrl.specs.Executions.{IsPlaced, answer_of};
 
 use crate::controller::Controller;
@@ -43,6 +45,9 @@ impl Controller {
         ensures executed { ExecutesNth M.tells i
             (setting self.old spaces.old (M.device medium.old)) result
             (setting self.new spaces.new (M.device medium.new)) }
+        ensures calls { MakesCalls M.step (AreCallsNth M.tells i
+            (setting self.old spaces.old (M.device medium.old)) result
+            (setting self.new spaces.new (M.device medium.new))) medium.old medium.new }
         ensures ready { CanExecute spaces.new (M.size medium.new) self.new.cntlid }
         ensures controllers { spaces.new.controllers ≡ spaces.old.controllers }
         ensures size { M.size medium.new ≡ M.size medium.old }
@@ -71,6 +76,9 @@ impl Controller {
         ensures answers { Answers M.tells (queues_of self.old) self.old.cntlid command.now
             (scene spaces.old self.old.window (M.device medium.old))
             (answer_of result (scene spaces.new self.new.window (M.device medium.new))) }
+        ensures calls { MakesCalls M.step (AreCallsOfAnswer self.old.cntlid command.now
+            (scene spaces.old self.old.window (M.device medium.old))
+            (answer_of result (scene spaces.new self.new.window (M.device medium.new)))) medium.old medium.new }
         ensures rest { self.new ≡ record self.old { window = self.new.window } }
         ensures fits { result.outcome.status.sct < 8 }
         ensures placed { IsPlaced result.change }

@@ -15,3 +15,4 @@ pub mod Everywhere
 pub mod Placing
 pub mod Slots
 pub mod Posted
+pub mod Calling

@@ -7,6 +7,7 @@ pub mod Fencing
 pub mod Wiring
 pub mod Marking
 pub mod Executing
+pub mod Calling
 pub mod Secrecy
 pub mod Preempted
 pub mod Placing

@@ -2,6 +2,7 @@
 //! nothing.
 
 ghost use Rattle.nvme_machine.specs.Runs.{FailuresNeverFall, RunExists, RunIsUnique, DeniedChangesItsEntryAlone, AllowedDoesItsEffect, OthersChangeInMarksAlone, FetchedStays};
+ghost use Rattle.nvme_machine.specs.Calling.{CallsAreOfAnExecution, DeniedMakesNoCall, AdminMakesNoCall};
 ghost use Rattle.nvme_machine.specs.Wiring.{OpeningIsWired, WiringStays, WaitsWhereFull};
 ghost use Rattle.nvme_machine.specs.Placing.{OpeningIsPlaced, WindowsKeepTheirLength};
 ghost use Rattle.nvme_machine.specs.Posted.{PostedIsUnread, UnreadStands, UnreadStandsOverRuns};
@@ -24,6 +25,14 @@ pub fn run_is_determined()
 pub fn executed_as_the_policy_allows()
     ensures denied { DeniedChangesItsEntryAlone }
     ensures allowed { AllowedDoesItsEffect }
+{}
+
+/// The calls that are made of a medium are those of an execution; a command that a rule denies makes none, nor does one
+/// of the admin queue.
+pub fn calls_are_of_executions()
+    ensures execution { CallsAreOfAnExecution }
+    ensures denied { DeniedMakesNoCall }
+    ensures admin { AdminMakesNoCall }
 {}
 
 /// Bytes of a namespace change only by allowed writes, and its reservation only by allowed reservation commands.

@@ -4,7 +4,7 @@ use Rattle.nvme_spec.specs.Execution.{scene}
 use Rattle.nvme_machine.specs.Controllers.{Controller, open_pair}
 use Rattle.nvme_machine.specs.Executing.{setting}
 use Rattle.nvme_ctrl.specs.Executions.{answer_of}
-use Rattle.nvme_ctrl.proofs.Executions.{executes-nth, is-there, posting-cntlid}
+use Rattle.nvme_ctrl.proofs.Executions.{executes-nth, calls-nth, is-there, posting-cntlid}
 use Rattle.nvme_ctrl.proofs.controller.Controller.execute.Goals as goal
 
 pub post-requires-clause-there : goal.post-requires-clause-there
@@ -28,6 +28,21 @@ returns-clause-executed g c =
     (answer_of c.perform-outcome.result (scene c.perform-outcome.new.spaces c.perform-outcome.new.self.window (g.M.Medium.device c.perform-outcome.new.medium)))
     c.perform-outcome.new.self c.post.new.self
     found pair c.perform-outcome.ensures.answers c.perform-outcome.ensures.rest c.post.ensures c.change_queues.ensures refl refl
+
+pub returns-clause-calls : goal.returns-clause-calls
+returns-clause-calls g c =
+    let s = c.self.inside in
+    let at : slice_get s.fetched.items c.args.i ≡ Some c.in-Some.command = rw (← c.deref.ensures.0) (sym c.command_at.ensures ∙ c.in-Some.is) in
+    let found : slice_get c.args.self.now.fetched c.args.i ≡ Some c.in-Some.command = ap (λ (x : Controller). slice_get x.fetched c.args.i) (sym c.self.view_is) ∙ at in
+    let pair : open_pair c.args.self.now c.in-Some.command ≡ Some c.in-Some-open_pair.pair = sym c.open_pair.ensures.pair ∙ c.in-Some-open_pair.is in
+    calls-nth g.M.Medium.step c.args.medium.now c.perform-outcome.new.medium g.M.Medium.tells c.args.i
+    (setting c.args.self.now c.args.spaces.now (g.M.Medium.device c.args.medium.now))
+    (setting c.change_queues.new.self c.perform-outcome.new.spaces (g.M.Medium.device c.perform-outcome.new.medium))
+    c.in-Some.command c.in-Some-open_pair.pair
+    (answer_of c.perform-outcome.result (scene c.perform-outcome.new.spaces c.perform-outcome.new.self.window (g.M.Medium.device c.perform-outcome.new.medium)))
+    c.perform-outcome.new.self c.post.new.self
+    found pair c.perform-outcome.ensures.answers c.perform-outcome.ensures.rest c.post.ensures c.change_queues.ensures refl refl
+    c.perform-outcome.ensures.calls
 
 pub returns-clause-cntlid : goal.returns-clause-cntlid
 returns-clause-cntlid g c =

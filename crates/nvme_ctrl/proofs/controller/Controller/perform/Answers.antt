@@ -1,5 +1,5 @@
 use Rattle.nvme_spec.proofs.StatusLaws.{execution_fits}
-use Rattle.nvme_ctrl.proofs.Executions.{admin-answers, admin-fits, admin-placed, admin-ready, admin-controllers, io-answers}
+use Rattle.nvme_ctrl.proofs.Executions.{admin-answers, admin-fits, admin-placed, admin-ready, admin-controllers, io-answers, admin-calls, io-calls}
 use Rattle.nvme_ctrl.proofs.controller.Controller.perform.Goals as goal
 
 pub returns-then-command-eq0-clause-answers : goal.returns-then-command-eq0-clause-answers
@@ -26,3 +26,9 @@ pub returns-clause-fits : goal.returns-clause-fits
 returns-clause-fits g c =
     let fits = execution_fits g.M.Medium.tells _ _ c.args.command.now.marked _ _ _ c.execute-outcome.ensures.executed in
     fits.0
+
+pub returns-then-command-eq0-clause-calls : goal.returns-then-command-eq0-clause-calls
+returns-then-command-eq0-clause-calls g c = admin-calls g.M.Medium.step _ _ c.args.command.now _ _ c.if-command-eq0.true
+
+pub returns-clause-calls : goal.returns-clause-calls
+returns-clause-calls g c = rw (← c.self.view_is) (io-calls g.M.Medium.step _ _ _ c.args.command.now _ c.execute-outcome.result _ c.if-command-eq0.false c.execute-outcome.ensures.calls)
