@@ -16,3 +16,4 @@ pub mod Placing
 pub mod Slots
 pub mod Posted
 pub mod Calling
+pub mod EventCalls

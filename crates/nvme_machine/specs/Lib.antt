@@ -8,6 +8,7 @@ pub mod Wiring
 pub mod Marking
 pub mod Executing
 pub mod Calling
+pub mod EventCalls
 pub mod Secrecy
 pub mod Preempted
 pub mod Placing

@@ -3,6 +3,7 @@
 
 ghost use Rattle.nvme_machine.specs.Runs.{FailuresNeverFall, RunExists, RunIsUnique, DeniedChangesItsEntryAlone, AllowedDoesItsEffect, OthersChangeInMarksAlone, FetchedStays};
 ghost use Rattle.nvme_machine.specs.Calling.{CallsAreOfAnExecution, DeniedMakesNoCall, AdminMakesNoCall};
+ghost use Rattle.nvme_machine.specs.EventCalls.{CallsAreOfAStep, CallsAreOfARun};
 ghost use Rattle.nvme_machine.specs.Wiring.{OpeningIsWired, WiringStays, WaitsWhereFull};
 ghost use Rattle.nvme_machine.specs.Placing.{OpeningIsPlaced, WindowsKeepTheirLength};
 ghost use Rattle.nvme_machine.specs.Posted.{PostedIsUnread, UnreadStands, UnreadStandsOverRuns};
@@ -33,6 +34,13 @@ pub fn calls_are_of_executions()
     ensures execution { CallsAreOfAnExecution }
     ensures denied { DeniedMakesNoCall }
     ensures admin { AdminMakesNoCall }
+{}
+
+/// The calls that events make of a medium are those of their steps, one after the other, and of one run.
+#[tactic(auto, using(crate::proofs::EventCalls::calls_are_of_a_step, crate::proofs::EventCalls::calls_are_of_a_run))]
+pub fn calls_are_of_events()
+    ensures step { CallsAreOfAStep }
+    ensures run { CallsAreOfARun }
 {}
 
 /// Bytes of a namespace change only by allowed writes, and its reservation only by allowed reservation commands.
