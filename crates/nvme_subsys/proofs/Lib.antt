@@ -4,3 +4,4 @@ pub mod Openings
 pub mod Runs
 pub mod Unmarked
 pub mod Counts
+pub mod OverMedium

@@ -5,6 +5,7 @@ use Rattle.std.proofs.lemmas.Grind.{common_steps}
 use Rattle.std.proofs.lemmas.Option.{slice_get_read}
 use Rattle.nvme_spec.specs.Blocks.{Device}
 use Rattle.nvme_spec.specs.World.{World}
+use Rattle.nvme_spec.specs.MediumCalls.{MediumCall, MakesCalls}
 use Rattle.nvme_machine.specs.declared.fetched.FetchedCommand.{FetchedCommand}
 use Rattle.nvme_machine.specs.declared.seen.Executed as executed
 use Rattle.nvme_machine.specs.declared.seen.Executed.TheVariants.{Posted, NoSuch, CqFull}
@@ -14,6 +15,8 @@ use Rattle.nvme_machine.specs.Controllers.{Controller, QueuePair, queues_of, Rea
 use Rattle.nvme_machine.specs.Answers.{Answers}
 use Rattle.nvme_machine.specs.Subsystems.{Subsystem, numbered, replaced, controller_at, with_controller, marked_from, after_answer, after_execution, scene_of, ReactsAs, Reacts, ExecutesAt, ExecutesOne, ExecutesOver}
 use Rattle.nvme_machine.specs.Executing.{Setting, setting, FinishesOver, FinishesOne, ExecutesNth}
+use Rattle.nvme_machine.specs.Calling.{AreCallsOfAnswer, AreCallsOver, AreCallsOne, AreCallsNth}
+use Rattle.nvme_machine.specs.EventCalls.{CallingOver, CallingOne, CallingAt}
 use Rattle.nvme_subsys.specs.Marked.{marks_after}
 
 -- Places.
@@ -126,6 +129,43 @@ pub executes : (tells : Bool) (old : Subsystem) (k place : ℕ) (c : Controller)
 executes tells old k place c i x s at found named h =
     subst (λ o. ExecutesAt o tells old k i (Executed x) (with_outcome x (after-set old place s))) (sym (at-place old k place c at found))
     (one (slice_get c.fetched i) tells old k place c i x s at found named h)
+
+-- and so are the calls that it makes of the medium
+calling-over : (o : Option QueuePair) (tells : Bool) (old : Subsystem) (k place : ℕ) (c : Controller) (i : ℕ) (t : FetchedCommand) (x : executed.Executed) (s : Setting) (calls : List MediumCall) → k ≡ place + 1
+    → slice_get old.controllers place ≡ Some c → c.cntlid ≡ k → AreCallsOver o tells i t (setting c old.world old.device) x s calls
+    → CallingOver o tells old k c i t (Executed x) (with_outcome x (after-set old place s)) calls
+unfolding over
+calling-over None tells old k place c i t x s calls at found named h =
+    (ap Executed h.0, stays old place c x s found h.1 CqFull h.0 (whole old place c found), h.2)
+calling-over (Some p) tells old k place c i t x s calls at found named h = record {
+  completes = over (Some p) tells old k place c i t x s at found named h.finishes;
+  are = subst (λ n. AreCallsOfAnswer n t (scene_of old c) h.finishes.answer calls) named h.are;
+}
+
+calling-one : (o : Option FetchedCommand) (tells : Bool) (old : Subsystem) (k place : ℕ) (c : Controller) (i : ℕ) (x : executed.Executed) (s : Setting) (calls : List MediumCall) → k ≡ place + 1
+    → slice_get old.controllers place ≡ Some c → c.cntlid ≡ k → AreCallsOne o tells i (setting c old.world old.device) x s calls
+    → CallingOne o tells old k c i (Executed x) (with_outcome x (after-set old place s)) calls
+calling-one None tells old k place c i x s calls at found named h =
+    (ap Executed h.0, stays old place c x s found h.1 NoSuch h.0 (whole old place c found), h.2)
+calling-one (Some t) tells old k place c i x s calls at found named h = calling-over (open_pair c t) tells old k place c i t x s calls at found named h
+
+pub calling : {M : Type 0} (step : M → MediumCall → M → Type 0) (before after : M) (tells : Bool) (old : Subsystem) (k place : ℕ) (c : Controller) (i : ℕ) (x : executed.Executed) (s : Setting) → k ≡ place + 1
+    → slice_get old.controllers place ≡ Some c → c.cntlid ≡ k → MakesCalls step (AreCallsNth tells i (setting c old.world old.device) x s) before after
+    → MakesCalls step (CallingAt (controller_at old k) tells old k i (Executed x) (with_outcome x (after-set old place s))) before after
+calling step before after tells old k place c i x s at found named h = record {
+  calls = h.calls;
+  are = subst (λ o. CallingAt o tells old k i (Executed x) (with_outcome x (after-set old place s)) h.calls) (sym (at-place old k place c at found))
+      (calling-one (slice_get c.fetched i) tells old k place c i x s h.calls at found named h.are);
+  made = h.made;
+}
+
+pub none-calling : {M : Type 0} (step : M → MediumCall → M → Type 0) (m : M) (tells : Bool) (old : Subsystem) (k i : ℕ) → controller_at old k ≡ None
+    → MakesCalls step (CallingAt (controller_at old k) tells old k i NoController old) m m
+none-calling step m tells old k i none = record {
+  calls = [];
+  are = subst (λ o. CallingAt o tells old k i NoController old []) (sym none) (refl, refl, refl);
+  made = refl;
+}
 
 -- And back: an execution in the subsystem is one of its controller, with the marks of what came of it.
 pub record IsExecutedAs (P : executed.Executed → Setting → Type 0) (old : Subsystem) (place : ℕ) (seen : Seen) (new : Subsystem) : Type 0 where

@@ -3,9 +3,12 @@
 ghost use Rattle.std.specs.Prelude.{◌≡◌, ◌<◌, ◌+◌, length, Some, IfOk, IfErr, OnErr, IfSome, IfNone, None, unwrap_or};
 ghost use Rattle.nvme_spec.specs.Configuration.{first_config_fault};
 ghost use Rattle.nvme_spec.specs.declared.config.ConfigFault.TheVariants.{NoMemory as WantOfMemory};
+ghost use Rattle.nvme_spec.specs.MediumCalls.{MakesCalls};
 ghost use Rattle.nvme_ns.specs.Configured.{configuration};
 ghost use Rattle.nvme_machine.specs.Controllers.{after_store, wrote, has_read, after_fetch};
 ghost use Rattle.nvme_machine.specs.Subsystems.{opening, controller_at, Reacts, ExecutesAt, Step, Run};
+ghost use Rattle.nvme_machine.specs.EventCalls.{CallingAt, AreCallsOfStep, AreCallsOfRun};
+ghost use Rattle.nvme_subsys.specs.OverMedium.{over};
 
 use crate::marking::mark_after;
 use crate::opening::{NewFault, controllers_of};
@@ -19,7 +22,8 @@ use nvme_wire::NoMemory;
 use std::alloc::Global;
 use std::marker::Model;
 
-/// Controllers over one access state and one medium. Contracts see it as the record of these.
+/// Controllers over one access state and one medium. Contracts see it as the record of these, and beside it the medium
+/// itself, whose steps say which calls are made of it.
 #[derive(Drop)]
 pub struct Subsystem<M: Medium> {
     spaces: Spaces,
@@ -29,11 +33,15 @@ pub struct Subsystem<M: Medium> {
 
 impl<M: Medium> Model for Subsystem<M> {
     ghost use Rattle.nvme_machine.specs.Subsystems.{Subsystem as State};
+    ghost use Rattle.nvme_subsys.specs.OverMedium.{OverMedium};
     ghost use Rattle.nvme_subsys.specs.Sound.{IsSound};
 
-    ghost Value = { State };
+    ghost Value = { OverMedium State M };
 
-    ghost view = { λ s. record { world = s.spaces; device = M.device s.medium; controllers = s.controllers.items } };
+    ghost view = { λ s. record {
+      state = record { world = s.spaces; device = M.device s.medium; controllers = s.controllers.items };
+      medium = s.medium;
+    } };
 
     ghost invariant = { λ s. IsSound s.spaces (M.size s.medium) s.controllers.items };
 }
@@ -46,7 +54,8 @@ impl<M: Medium> Subsystem<M> {
     ///
     /// The first fault of the configuration, or, where it has none, `NoMemory`; with the medium as it was.
     pub fn new(alloc: Global, config: &Config, medium: M) -> Result<Subsystem<M>, NewFault<M>>
-        ensures opened { IfOk result (λ subsystem. subsystem ≡ opening (configuration config.now) (M.device medium)) }
+        ensures opened { IfOk result
+            (λ subsystem. subsystem ≡ over (opening (configuration config.now) (M.device medium)) medium) }
         ensures accepted { IfOk result (λ _. first_config_fault (configuration config.now) (M.size medium) ≡ None) }
         ensures fault { IfErr result
             (λ refused. refused.fault ≡ unwrap_or (first_config_fault (configuration config.now) (M.size medium))
@@ -70,9 +79,10 @@ impl<M: Medium> Subsystem<M> {
         }
     }
 
-    /// The medium, with the content that the commands have left.
+    /// The medium, as the commands have left it.
     pub fn into_medium(self) -> M
-        ensures { M.device result ≡ self.device }
+        ensures medium { result ≡ self.medium }
+        ensures device { M.device result ≡ self.state.device }
     {
         self.medium
     }
@@ -80,8 +90,8 @@ impl<M: Medium> Subsystem<M> {
     /// The controller of an identifier, if there is one. It bears that identifier.
     #[inline(always)]
     pub fn controller(&self, cntlid: u16) -> Option<&Controller>
-        ensures none { IfNone result (controller_at self.now cntlid ≡ None) }
-        ensures some { IfSome result (λ controller. controller_at self.now cntlid ≡ Some controller.now) }
+        ensures none { IfNone result (controller_at self.now.state cntlid ≡ None) }
+        ensures some { IfSome result (λ controller. controller_at self.now.state cntlid ≡ Some controller.now) }
         ensures named { IfSome result (λ controller. controller.now.cntlid ≡ cntlid) }
     {
         let Some(place) = self.place_of(cntlid) else {
@@ -93,8 +103,8 @@ impl<M: Medium> Subsystem<M> {
     /// The place of a controller.
     #[inline(always)]
     fn place_of(&self, cntlid: u16) -> Option<usize>
-        ensures none { IfNone result (controller_at self.now cntlid ≡ None) }
-        ensures some { IfSome result (λ place. (cntlid ≡ place + 1) × (place < length self.now.controllers)) }
+        ensures none { IfNone result (controller_at self.now.state cntlid ≡ None) }
+        ensures some { IfSome result (λ place. (cntlid ≡ place + 1) × (place < length self.now.state.controllers)) }
     {
         if cntlid == 0 {
             return None;
@@ -106,10 +116,13 @@ impl<M: Medium> Subsystem<M> {
         Some(place)
     }
 
-    /// One event of the controller that it names; where there is no such controller, nothing happens.
+    /// One event of the controller that it names; where there is no such controller, nothing happens. An execution
+    /// makes the calls of the medium that its command makes, and no other event makes any.
     #[inline(always)]
     pub fn apply(&mut self, event: Event) -> Seen
-        ensures { Step M.tells self.old event.entry result self.new }
+        ensures step { Step M.tells self.old.state event.entry result self.new.state }
+        ensures calls { MakesCalls M.step
+            (AreCallsOfStep M.tells self.old.state event.entry result self.new.state) self.old.medium self.new.medium }
     {
         match event {
             Event::Store(cntlid, address, bytes) => self.store(cntlid, address, bytes),
@@ -122,7 +135,8 @@ impl<M: Medium> Subsystem<M> {
 
     #[inline(always)]
     fn store(&mut self, cntlid: u16, address: u64, bytes: &[u8]) -> Seen
-        ensures { Reacts self.old cntlid (after_store address bytes.now) result self.new }
+        ensures reacts { Reacts self.old.state cntlid (after_store address bytes.now) result self.new.state }
+        ensures medium { self.new.medium ≡ self.old.medium }
     {
         let Some(place) = self.place_of(cntlid) else {
             return Seen::NoController;
@@ -132,7 +146,8 @@ impl<M: Medium> Subsystem<M> {
 
     #[inline(always)]
     fn write32(&mut self, cntlid: u16, offset: u64, value: u32) -> Seen
-        ensures { Reacts self.old cntlid (wrote offset value) result self.new }
+        ensures reacts { Reacts self.old.state cntlid (wrote offset value) result self.new.state }
+        ensures medium { self.new.medium ≡ self.old.medium }
     {
         let Some(place) = self.place_of(cntlid) else {
             return Seen::NoController;
@@ -142,7 +157,7 @@ impl<M: Medium> Subsystem<M> {
 
     #[inline(always)]
     fn read32(&self, cntlid: u16, offset: u64) -> Seen
-        ensures { Reacts self.now cntlid (has_read offset) result self.now }
+        ensures { Reacts self.now.state cntlid (has_read offset) result self.now.state }
     {
         let Some(place) = self.place_of(cntlid) else {
             return Seen::NoController;
@@ -152,7 +167,8 @@ impl<M: Medium> Subsystem<M> {
 
     #[inline(always)]
     fn fetch(&mut self, cntlid: u16, qid: u16) -> Seen
-        ensures { Reacts self.old cntlid (after_fetch qid) result self.new }
+        ensures reacts { Reacts self.old.state cntlid (after_fetch qid) result self.new.state }
+        ensures medium { self.new.medium ≡ self.old.medium }
     {
         let Some(place) = self.place_of(cntlid) else {
             return Seen::NoController;
@@ -162,7 +178,11 @@ impl<M: Medium> Subsystem<M> {
 
     #[inline(always)]
     fn execute(&mut self, cntlid: u16, i: usize) -> Seen
-        ensures { ExecutesAt (controller_at self.old cntlid) M.tells self.old cntlid i result self.new }
+        ensures executes { ExecutesAt (controller_at self.old.state cntlid) M.tells self.old.state cntlid i result
+            self.new.state }
+        ensures calls { MakesCalls M.step
+            (CallingAt (controller_at self.old.state cntlid) M.tells self.old.state cntlid i result self.new.state)
+            self.old.medium self.new.medium }
     {
         let Some(place) = self.place_of(cntlid) else {
             return Seen::NoController;
@@ -174,9 +194,12 @@ impl<M: Medium> Subsystem<M> {
     // Not inlined, so that the other events do not pay for the room of its locals.
     #[inline(never)]
     fn execute_at(&mut self, place: usize, i: usize) -> Executed
-        requires { place < length self.old.controllers }
-        ensures { ExecutesAt (controller_at self.old (place + 1)) M.tells self.old (place + 1) i (Seen.Executed result)
-            self.new }
+        requires { place < length self.old.state.controllers }
+        ensures executes { ExecutesAt (controller_at self.old.state (place + 1)) M.tells self.old.state (place + 1) i
+            (Seen.Executed result) self.new.state }
+        ensures calls { MakesCalls M.step
+            (CallingAt (controller_at self.old.state (place + 1)) M.tells self.old.state (place + 1) i
+            (Seen.Executed result) self.new.state) self.old.medium self.new.medium }
     {
         let executed = self.controllers[place].execute(i, &mut self.spaces, &mut self.medium);
         mark_after(&mut self.controllers, &self.spaces, &executed);
@@ -186,12 +209,16 @@ impl<M: Medium> Subsystem<M> {
 
 impl<M: Medium> Subsystem<M> {
     /// Events, one after the other, and what each gave. Memory is asked for first, so that without it nothing happens.
+    /// The calls of the medium are those of the events, in their order, and no other.
     ///
     /// # Errors
     ///
     /// `NoMemory` where the allocator has no room for what the events give.
     pub fn run(&mut self, alloc: Global, events: &[Event]) -> Result<Vec<Seen>, NoMemory>
-        ensures ran { IfOk result (λ seen. Run M.tells self.old events.now seen.items self.new) }
+        ensures ran { IfOk result (λ seen. Run M.tells self.old.state events.now seen.items self.new.state) }
+        ensures calls { IfOk result (λ seen. MakesCalls M.step
+            (AreCallsOfRun M.tells self.old.state events.now seen.items self.new.state) self.old.medium
+            self.new.medium) }
         ensures unchanged { OnErr result (self.new ≡ self.old) }
     {
         let mut seen = Vec::with_capacity(alloc, events.len())?;

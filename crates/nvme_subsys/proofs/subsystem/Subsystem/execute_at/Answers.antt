@@ -1,25 +1,28 @@
 use Rattle.std.proofs.Common.{◌≡◌, ◌+◌, ◌++◌, ◌∙◌, refl, sym, subst, length, take, drop, arith}
 use Rattle.std.specs.Prelude.{slice_set}
 use Rattle.nvme_machine.specs.declared.seen.Seen.TheVariants.{Executed}
+use Rattle.nvme_spec.specs.MediumCalls.{MakesCalls}
+use Rattle.nvme_machine.specs.EventCalls.{CallingAt}
 use Rattle.nvme_machine.specs.Executing.{setting}
 use Rattle.nvme_machine.specs.Subsystems.{Subsystem, controller_at, ExecutesAt}
 use Rattle.nvme_subsys.specs.Sound.{IsSound}
 use Rattle.nvme_subsys.specs.Marked.{marks_after}
-use Rattle.nvme_subsys.proofs.Numbers.{executes, refill-all, found-at}
+use Rattle.nvme_subsys.proofs.Numbers.{calling, executes, refill-all, found-at}
 use Rattle.nvme_subsys.proofs.Sound.{configured-at, named-at, sound-after}
+use Rattle.nvme_subsys.proofs.OverMedium.{state-is}
 use Rattle.nvme_subsys.proofs.subsystem.Subsystem.execute_at.Goals as goal
 
 pub execute-executed-requires : goal.execute-executed-requires
 execute-executed-requires g c =
     let items = c.self.inside.controllers.items in
-    let found = found-at _ _ items c.args.self.now c.args.place c.index_mut.result.now c.self.view_is c.requires c.index_mut.ensures.value in
+    let found = found-at _ _ items c.args.self.now.state c.args.place c.index_mut.result.now (state-is c.self.view_is) c.requires c.index_mut.ensures.value in
     let sound = c.self.invariant in
     record { ready = record { configured = configured-at _ _ items c.args.place c.index_mut.result.now found sound; within = sound.within; known = sound.known } }
 
 pub invariant_of-self : goal.invariant_of-self
 invariant_of-self g c =
     let items = c.self.inside.controllers.items in
-    let found = found-at _ _ items c.args.self.now c.args.place c.index_mut.result.now c.self.view_is c.requires c.index_mut.ensures.value in
+    let found = found-at _ _ items c.args.self.now.state c.args.place c.index_mut.result.now (state-is c.self.view_is) c.requires c.index_mut.ensures.value in
     let ms : c.mark_after.new.controllers ≡ marks_after c.execute-executed.new.spaces c.execute-executed.result (slice_set items c.args.place c.execute-executed.new.self) = rw c.deref_mut.ensures.value at c.mark_after.ensures in
     let whole : take c.self.inside.controllers.len (c.mark_after.new.controllers ++ drop (length c.mark_after.new.controllers) (slice_set items c.args.place c.execute-executed.new.self)) ≡ c.mark_after.new.controllers =
     refill-all c.self.inside.controllers.len _ c.mark_after.new.controllers (omega (arith, c.deref_mut.ensures.len, c.mark_after.auto.controllers)) in
@@ -28,10 +31,10 @@ invariant_of-self g c =
     (sound-after c.self.inside.spaces c.execute-executed.new.spaces (g.M.Medium.size c.self.inside.medium) (g.M.Medium.size c.execute-executed.new.medium) items c.args.place c.index_mut.result.now c.execute-executed.new.self c.execute-executed.result
     found c.execute-executed.ensures.cntlid c.execute-executed.ensures.controllers ready.within ready.known c.self.invariant)
 
-pub returns : goal.returns
-returns g c =
+pub returns-clause-executes : goal.returns-clause-executes
+returns-clause-executes g c =
     let items = c.self.inside.controllers.items in
-    let found = found-at _ _ items c.args.self.now c.args.place c.index_mut.result.now c.self.view_is c.requires c.index_mut.ensures.value in
+    let found = found-at _ _ items c.args.self.now.state c.args.place c.index_mut.result.now (state-is c.self.view_is) c.requires c.index_mut.ensures.value in
     let ms : c.mark_after.new.controllers ≡ marks_after c.execute-executed.new.spaces c.execute-executed.result (slice_set items c.args.place c.execute-executed.new.self) = rw c.deref_mut.ensures.value at c.mark_after.ensures in
     let whole : take c.self.inside.controllers.len (c.mark_after.new.controllers ++ drop (length c.mark_after.new.controllers) (slice_set items c.args.place c.execute-executed.new.self)) ≡ c.mark_after.new.controllers =
     refill-all c.self.inside.controllers.len _ c.mark_after.new.controllers (omega (arith, c.deref_mut.ensures.len, c.mark_after.auto.controllers)) in
@@ -40,3 +43,16 @@ returns g c =
     (subst (λ cs. ExecutesAt (controller_at old (c.args.place + 1)) g.M.Medium.tells old (c.args.place + 1) c.args.i (Executed c.execute-executed.result) (record { world = c.execute-executed.new.spaces; device = g.M.Medium.device c.execute-executed.new.medium; controllers = cs })) (sym (whole ∙ ms))
     (executes g.M.Medium.tells old (c.args.place + 1) c.args.place c.index_mut.result.now c.args.i c.execute-executed.result (setting c.execute-executed.new.self c.execute-executed.new.spaces (g.M.Medium.device c.execute-executed.new.medium))
     refl found (named-at _ _ items (c.args.place + 1) c.args.place c.index_mut.result.now refl found c.self.invariant) c.execute-executed.ensures.executed))
+
+pub returns-clause-calls : goal.returns-clause-calls
+returns-clause-calls g c =
+    let items = c.self.inside.controllers.items in
+    let found = found-at _ _ items c.args.self.now.state c.args.place c.index_mut.result.now (state-is c.self.view_is) c.requires c.index_mut.ensures.value in
+    let ms : c.mark_after.new.controllers ≡ marks_after c.execute-executed.new.spaces c.execute-executed.result (slice_set items c.args.place c.execute-executed.new.self) = rw c.deref_mut.ensures.value at c.mark_after.ensures in
+    let whole : take c.self.inside.controllers.len (c.mark_after.new.controllers ++ drop (length c.mark_after.new.controllers) (slice_set items c.args.place c.execute-executed.new.self)) ≡ c.mark_after.new.controllers =
+    refill-all c.self.inside.controllers.len _ c.mark_after.new.controllers (omega (arith, c.deref_mut.ensures.len, c.mark_after.auto.controllers)) in
+    let old : Subsystem = record { world = c.self.inside.spaces; device = g.M.Medium.device c.self.inside.medium; controllers = items } in
+    rw (← c.self.view_is)
+    (subst (λ cs. MakesCalls g.M.Medium.step (CallingAt (controller_at old (c.args.place + 1)) g.M.Medium.tells old (c.args.place + 1) c.args.i (Executed c.execute-executed.result) (record { world = c.execute-executed.new.spaces; device = g.M.Medium.device c.execute-executed.new.medium; controllers = cs })) c.self.inside.medium c.execute-executed.new.medium) (sym (whole ∙ ms))
+    (calling g.M.Medium.step c.self.inside.medium c.execute-executed.new.medium g.M.Medium.tells old (c.args.place + 1) c.args.place c.index_mut.result.now c.args.i c.execute-executed.result (setting c.execute-executed.new.self c.execute-executed.new.spaces (g.M.Medium.device c.execute-executed.new.medium))
+    refl found (named-at _ _ items (c.args.place + 1) c.args.place c.index_mut.result.now refl found c.self.invariant) c.execute-executed.ensures.calls))

@@ -1,3 +1,5 @@
+use Rattle.std.proofs.Common.{ap}
+use Rattle.nvme_subsys.specs.OverMedium.{over}
 use Rattle.nvme_subsys.proofs.Openings.{sound-opening, opened-so}
 use Rattle.nvme_subsys.proofs.subsystem.Subsystem.new.Goals as goal
 
@@ -8,4 +10,4 @@ invariant_of-result g c =
 
 pub returns-in-Ok-controllers_of-clause-opened : goal.returns-in-Ok-controllers_of-clause-opened
 returns-in-Ok-controllers_of-clause-opened g c =
-    opened-so _ (g.M.Medium.device c.args.medium) c.in-Ok.spaces c.in-Ok-controllers_of.controllers.items c.in-Ok.ensures.opened (rw c.deref.ensures.value at c.in-Ok-controllers_of.ensures)
+    ap (λ s. over s c.args.medium) (opened-so _ (g.M.Medium.device c.args.medium) c.in-Ok.spaces c.in-Ok-controllers_of.controllers.items c.in-Ok.ensures.opened (rw c.deref.ensures.value at c.in-Ok-controllers_of.ensures))

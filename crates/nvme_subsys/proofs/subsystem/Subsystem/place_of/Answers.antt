@@ -4,9 +4,9 @@ use Rattle.nvme_subsys.proofs.Numbers.{none-at-zero, none-past}
 use Rattle.nvme_subsys.proofs.subsystem.Subsystem.place_of.Goals as goal
 
 pub returns-then-cntlid-eq0-clause-none : goal.returns-then-cntlid-eq0-clause-none
-returns-then-cntlid-eq0-clause-none g c = ap (controller_at c.args.self.now) c.if-cntlid-eq0.true ∙ none-at-zero c.args.self.now
+returns-then-cntlid-eq0-clause-none g c = ap (controller_at c.args.self.now.state) c.if-cntlid-eq0.true ∙ none-at-zero c.args.self.now.state
 
 pub returns-then-place-len-clause-none : goal.returns-then-place-len-clause-none
 returns-then-place-len-clause-none g c =
     let past : length c.self.inside.controllers.items ≤ c.from-place.result = omega (arith, c.if-place-len.true, c.len.ensures) in
-    none-past c.args.self.now c.args.cntlid c.from-place.result (omega (arith, c.from-place.ensures, c.if-cntlid-eq0.false)) (rw (← c.self.view_is) past)
+    none-past c.args.self.now.state c.args.cntlid c.from-place.result (omega (arith, c.from-place.ensures, c.if-cntlid-eq0.false)) (rw (← c.self.view_is) past)
