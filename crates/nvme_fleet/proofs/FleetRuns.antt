@@ -16,7 +16,11 @@ use Rattle.nvme_fleet.specs.Deliveries.{Reaction, brought_up, refusal, placed_by
 use Rattle.nvme_fleet.specs.Fleets.{Host, WithDriver, Raw, Fleet, Is, Step, ExecutesItem, ExecutesAt, called_at, raw_at, fetched_at, host_at}
 use Rattle.nvme_fleet.specs.FleetStates.{FleetState, Layers, data_in, layers_of}
 use Rattle.nvme_fleet.specs.Layers as layers
+use Rattle.nvme_spec.specs.MediumCalls.{MediumCall, MakesCalls}
+use Rattle.nvme_subsys.specs.OverMedium.{OverMedium}
+use Rattle.nvme_fleet.specs.LayerCalls.{AreCallsOfStep}
 use Rattle.nvme_fleet.specs.Running.{RunsBehind, data_behind, room_for}
+use Rattle.nvme_fleet.proofs.LayerCalls.{calls-more}
 
 -- The replies that have no bytes.
 abbrev pub IsQuiet : Reply → Type 0
@@ -105,20 +109,23 @@ more tells [] (r ∷ replies) old mid new event last ran step = absurd ran
 more tells (e ∷ events) [] old mid new event last ran step = absurd ran
 more tells (e ∷ events) (r ∷ replies) old mid new event last ran step = (ran.0, ran.1, more tells events replies ran.0 mid new event last ran.2 step)
 
-pub runs-none : (tells : Bool) (before : List Reply) (old : FleetState) → RunsBehind tells before old [] before old
-runs-none tells before old = record { added = []; behind = sym (append-nil before); ran = refl; holds = refl }
+pub runs-none : {M : Type 0} (step : M → MediumCall → M → Type 0) (tells : Bool) (before : List Reply) (old : OverMedium FleetState M) → RunsBehind step tells before old [] before old
+runs-none step tells before old = record { added = []; behind = sym (append-nil before); ran = refl; calls = record { calls = []; are = (refl, refl); made = refl }; holds = refl }
 
 data-more : (before : List ℕ) (replies : List Reply) (last : Reply) → data_behind before (replies ++ last ∷ []) ≡ last.bytes
 data-more before [] last = refl
 data-more before (r ∷ replies) last = data-more r.bytes replies last
 
 -- over the front of a list of events
-pub runs-next : (tells : Bool) (before now : List Reply) (events : List FleetEvent) (i : ℕ) (d : FleetEvent) (old mid new : FleetState) (last : Reply) → i < length events
-    → RunsBehind tells before old (take i events) now mid → layers.Step tells (layers_of mid) (get_or events i d) last (layers_of new) → last.bytes ≡ data_in new
-    → RunsBehind tells before old (take (i + 1) events) (now ++ last ∷ []) new
-runs-next tells before now events i d old mid new last inside runs step bytes = record {
+pub runs-next : {M : Type 0} (step : M → MediumCall → M → Type 0) (tells : Bool) (before now : List Reply) (events : List FleetEvent) (i : ℕ) (d : FleetEvent) (old mid new : OverMedium FleetState M) (last : Reply) → i < length events
+    → RunsBehind step tells before old (take i events) now mid → layers.Step tells (layers_of mid.state) (get_or events i d) last (layers_of new.state)
+    → MakesCalls step (AreCallsOfStep tells (layers_of mid.state) (get_or events i d) last (layers_of new.state)) mid.medium new.medium → last.bytes ≡ data_in new.state
+    → RunsBehind step tells before old (take (i + 1) events) (now ++ last ∷ []) new
+runs-next step tells before now events i d old mid new last inside runs happens calls bytes = record {
   added = runs.added ++ last ∷ [];
   behind = ap (λ xs. xs ++ last ∷ []) runs.behind ∙ append_assoc before runs.added (last ∷ []);
-  ran = rw (take_more events i d inside) (more tells (take i events) runs.added (layers_of old) (layers_of mid) (layers_of new) (get_or events i d) last runs.ran step);
-  holds = sym (data-more (data_in old) runs.added last ∙ bytes);
+  ran = rw (take_more events i d inside) (more tells (take i events) runs.added (layers_of old.state) (layers_of mid.state) (layers_of new.state) (get_or events i d) last runs.ran happens);
+  calls = rw (take_more events i d inside)
+      (calls-more step tells (take i events) runs.added (layers_of old.state) (layers_of mid.state) (layers_of new.state) (get_or events i d) last old.medium mid.medium new.medium runs.calls calls);
+  holds = sym (data-more (data_in old.state) runs.added last ∙ bytes);
 }

@@ -82,6 +82,8 @@ pub mod Preempted
 pub mod AdminTurns
 pub mod Reaching
 pub mod LinkDeeds
+pub mod LinkCalls
+pub mod LayerCalls
 pub mod Members
 pub mod Happening
 pub mod Storing

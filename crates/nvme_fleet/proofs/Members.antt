@@ -99,7 +99,7 @@ stays-up tells d d' old new result s u r e n =
       below = stays-below tells d d' old new result r e n;
     }
 
-fresh-down : (d : Driver) (p : Linked) → Sound d (linked_controller p) → d.state ≡ Down → Reaches p → IsFresh p.place p
+pub fresh-down : (d : Driver) (p : Linked) → Sound d (linked_controller p) → d.state ≡ Down → Reaches p → IsFresh p.place p
 fresh-down d p s u at =
     let off = s.down (ap is_up u) in
     record { reaches = at; admin = subst (AllByRecursion IsAdmin) (sym off.fetched) tt; place = refl }

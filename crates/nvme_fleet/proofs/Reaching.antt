@@ -156,7 +156,7 @@ over-there tells call p q place h =
 
 -- Calls that grant no turn.
 
-plain-first : (call : Call) (calls : List Call) → IsPlain (call ∷ calls) → IsPlain (call ∷ []) × IsPlain calls
+pub plain-first : (call : Call) (calls : List Call) → IsPlain (call ∷ calls) → IsPlain (call ∷ []) × IsPlain calls
 plain-first (Stores address bytes) calls h = (tt, h)
 plain-first (Writes offset v) calls h = (tt, h)
 plain-first (Reads offset v) calls h = (tt, h)
@@ -183,11 +183,11 @@ call-there tells (Writes offset v) p q at admin h = plain-there tells (Writes of
 call-there tells (Reads offset v) p q at admin h = plain-there tells (Reads offset v) p.subsystem q.subsystem p.place tt at.0 h.step
 call-there tells Turns p q at admin h = turns-there tells p.subsystem q.subsystem p.place admin at.0 at.1 h.step
 
-record IsFreshStep (tells : Bool) (i : ℕ) (call : Call) (p q : Linked) : Type 0 where
-  step : step_of tells p call q
-  fresh : IsFresh i q
+pub record IsFreshStep (tells : Bool) (i : ℕ) (call : Call) (p q : Linked) : Type 0 where
+  pub step : step_of tells p call q
+  pub fresh : IsFresh i q
 
-fresh-call : (tells : Bool) (i : ℕ) (call : Call) (p q : Linked) → IsFresh i p → CallOver tells p call q → IsFreshStep tells i call p q
+pub fresh-call : (tells : Bool) (i : ℕ) (call : Call) (p q : Linked) → IsFresh i p → CallOver tells p call q → IsFreshStep tells i call p q
 fresh-call tells i call p q f h =
     let step = over-there tells call p q h.place (call-there tells call p q f.reaches f.admin h) in
     record {

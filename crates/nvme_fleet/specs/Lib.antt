@@ -18,6 +18,8 @@ pub mod Linked
 pub mod FleetStates
 pub mod Deeds
 pub mod Layers
+pub mod LayerCalls
+pub mod LinkCalls
 pub mod RawEvents
 pub mod Running
 pub mod Apart

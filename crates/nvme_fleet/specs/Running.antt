@@ -4,7 +4,10 @@ use Rattle.nvme_spec.specs.Limits.{most_bytes}
 use Rattle.nvme_event.specs.declared.event.FleetEvent.{FleetEvent}
 use Rattle.nvme_event.specs.declared.event.FleetEvent.TheVariants.{Poll}
 use Rattle.nvme_event.specs.Replies.{Reply}
+use Rattle.nvme_spec.specs.MediumCalls.{MediumCall, MakesCalls}
+use Rattle.nvme_subsys.specs.OverMedium.{OverMedium}
 use Rattle.nvme_fleet.specs.FleetStates.{FleetState, data_in, layers_of}
+use Rattle.nvme_fleet.specs.LayerCalls.{AreCallsOfRun}
 use Rattle.nvme_fleet.specs.Layers.{Run}
 
 -- the data behind events: those of the last one, and where there was none, those that were there
@@ -12,19 +15,24 @@ abbrev pub data_behind : List ℕ → List Reply → List ℕ
 data_behind before [] = before
 data_behind before (reply ∷ later) = data_behind reply.bytes later
 
-pub record RunsBehind (tells : Bool) (before : List Reply) (old : FleetState) (events : List FleetEvent)
-    (after : List Reply) (new : FleetState) : Type 0 where
+-- what ran, and the calls of the medium that this made
+pub record RunsBehind {M : Type 0} (step : M → MediumCall → M → Type 0) (tells : Bool) (before : List Reply)
+    (old : OverMedium FleetState M) (events : List FleetEvent) (after : List Reply) (new : OverMedium FleetState M)
+    : Type 0 where
   pub added : List Reply
   pub behind : after ≡ before ++ added
-  pub ran : Run tells (layers_of old) events added (layers_of new)
-  pub holds : data_in new ≡ data_behind (data_in old) added
+  pub ran : Run tells (layers_of old.state) events added (layers_of new.state)
+  pub calls : MakesCalls step (AreCallsOfRun tells (layers_of old.state) events added (layers_of new.state)) old.medium
+      new.medium
+  pub holds : data_in new.state ≡ data_behind (data_in old.state) added
 
 -- not all of the events have happened, but those before some place
-pub record RunsInPart (tells : Bool) (before : List Reply) (old : FleetState) (events : List FleetEvent)
-    (after : List Reply) (new : FleetState) : Type 0 where
+pub record RunsInPart {M : Type 0} (step : M → MediumCall → M → Type 0) (tells : Bool) (before : List Reply)
+    (old : OverMedium FleetState M) (events : List FleetEvent) (after : List Reply) (new : OverMedium FleetState M)
+    : Type 0 where
   pub count : ℕ
   pub fewer : count < length events
-  pub runs : RunsBehind tells before old (take count events) after new
+  pub runs : RunsBehind step tells before old (take count events) after new
 
 -- how many bytes an event gives at most
 abbrev pub room_for : FleetEvent → ℕ

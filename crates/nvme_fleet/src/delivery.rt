@@ -38,16 +38,17 @@ fn deliver_over<M: Medium>(
     buffer: &mut [u8],
     call: DriverCall<'_>,
 ) -> FleetSeen
-    requires there { Reaches link.old }
-    requires sound { Sound driver.old (linked_controller link.old) }
+    requires there { Reaches link.old.state }
+    requires sound { Sound driver.old (linked_controller link.old.state) }
     requires room { most_bytes ≤ length buffer.old }
-    ensures step { IsStep (reaction_to call.entry (mailbox driver.old (linked_controller link.old))) driver.new
-        (linked_controller link.new) (reply_in result buffer.new) }
-    ensures below { Does M.tells (link.old.place + 1) call.entry driver.old link.old.subsystem result driver.new
-        link.new.subsystem }
+    ensures step { IsStep (reaction_to call.entry (mailbox driver.old (linked_controller link.old.state))) driver.new
+        (linked_controller link.new.state) (reply_in result buffer.new) }
+    ensures below { Does M.tells (link.old.state.place + 1) call.entry driver.old link.old.state.subsystem result
+        driver.new link.new.state.subsystem }
     ensures fits { data_len result ≤ length buffer.new }
-    ensures site { KeepsSite link.old link.new }
-    ensures name { link.new.name ≡ link.old.name }
+    ensures site { KeepsSite link.old.state link.new.state }
+    ensures medium { link.new.medium ≡ link.old.medium }
+    ensures name { link.new.state.name ≡ link.old.state.name }
 {
     match call {
         DriverCall::BringUp => FleetSeen::Up(member::bring_up(driver, link)),
@@ -69,17 +70,19 @@ fn deliver_at<M: Medium>(
     buffer: &mut [u8],
     call: DriverCall<'_>,
 ) -> FleetSeen
-    requires there { IsThere subsystem.old cntlid }
-    requires named { (controller_in subsystem.old (cntlid - 1)).cntlid ≡ cntlid }
-    requires sound { Sound driver.old (controller_in subsystem.old (cntlid - 1)) }
+    requires there { IsThere subsystem.old.state cntlid }
+    requires named { (controller_in subsystem.old.state (cntlid - 1)).cntlid ≡ cntlid }
+    requires sound { Sound driver.old (controller_in subsystem.old.state (cntlid - 1)) }
     requires room { most_bytes ≤ length buffer.old }
-    ensures step { IsStep (reaction_to call.entry (mailbox driver.old (controller_in subsystem.old (cntlid - 1))))
-        driver.new (controller_in subsystem.new (cntlid - 1)) (reply_in result buffer.new) }
-    ensures below { Does M.tells cntlid call.entry driver.old subsystem.old result driver.new subsystem.new }
+    ensures step { IsStep (reaction_to call.entry (mailbox driver.old (controller_in subsystem.old.state (cntlid - 1))))
+        driver.new (controller_in subsystem.new.state (cntlid - 1)) (reply_in result buffer.new) }
+    ensures below { Does M.tells cntlid call.entry driver.old subsystem.old.state result driver.new
+        subsystem.new.state }
     ensures fits { data_len result ≤ length buffer.new }
-    ensures world { subsystem.new.world ≡ subsystem.old.world }
-    ensures device { subsystem.new.device ≡ subsystem.old.device }
-    ensures others { KeepsOthers (cntlid - 1) subsystem.old subsystem.new }
+    ensures world { subsystem.new.state.world ≡ subsystem.old.state.world }
+    ensures device { subsystem.new.state.device ≡ subsystem.old.state.device }
+    ensures medium { subsystem.new.medium ≡ subsystem.old.medium }
+    ensures others { KeepsOthers (cntlid - 1) subsystem.old.state subsystem.new.state }
 {
     let mut link = Link { subsystem, cntlid };
     let seen = deliver_over(driver, &mut link, buffer, call);
@@ -99,17 +102,19 @@ pub(crate) fn deliver<M: Medium>(
     buffer: &mut [u8],
     call: DriverCall<'_>,
 ) -> FleetSeen
-    requires there { IsThere subsystem.old cntlid }
-    requires named { (controller_in subsystem.old (cntlid - 1)).cntlid ≡ cntlid }
-    requires sound { SoundBy driver.old (controller_in subsystem.old (cntlid - 1)) }
+    requires there { IsThere subsystem.old.state cntlid }
+    requires named { (controller_in subsystem.old.state (cntlid - 1)).cntlid ≡ cntlid }
+    requires sound { SoundBy driver.old (controller_in subsystem.old.state (cntlid - 1)) }
     requires room { most_bytes ≤ length buffer.old }
-    ensures called { IsCalled driver.old (controller_in subsystem.old (cntlid - 1)) call.entry driver.new
-        (controller_in subsystem.new (cntlid - 1)) (reply_in result buffer.new) }
-    ensures below { DoesIfAny M.tells cntlid call.entry driver.old subsystem.old result driver.new subsystem.new }
+    ensures called { IsCalled driver.old (controller_in subsystem.old.state (cntlid - 1)) call.entry driver.new
+        (controller_in subsystem.new.state (cntlid - 1)) (reply_in result buffer.new) }
+    ensures below { DoesIfAny M.tells cntlid call.entry driver.old subsystem.old.state result driver.new
+        subsystem.new.state }
     ensures fits { data_len result ≤ length buffer.new }
-    ensures world { subsystem.new.world ≡ subsystem.old.world }
-    ensures device { subsystem.new.device ≡ subsystem.old.device }
-    ensures others { KeepsOthers (cntlid - 1) subsystem.old subsystem.new }
+    ensures world { subsystem.new.state.world ≡ subsystem.old.state.world }
+    ensures device { subsystem.new.state.device ≡ subsystem.old.state.device }
+    ensures medium { subsystem.new.medium ≡ subsystem.old.medium }
+    ensures others { KeepsOthers (cntlid - 1) subsystem.old.state subsystem.new.state }
 {
     match driver {
         Some(driver) => deliver_at(driver, subsystem, cntlid, buffer, call),

@@ -3,12 +3,14 @@
 ghost use Rattle.std.specs.Prelude.{◌≡◌, ◌≤◌, ◌-◌, length, IfOk, IfErr, IfSome, IfNone, None, Some, [], unwrap_or};
 ghost use Rattle.nvme_spec.specs.Configuration.{first_config_fault};
 ghost use Rattle.nvme_spec.specs.Limits.{most_bytes};
+ghost use Rattle.nvme_spec.specs.MediumCalls.{MakesCalls};
 ghost use Rattle.nvme_spec.specs.declared.config.ConfigFault.TheVariants.{NoMemory as WantOfMemory};
 ghost use Rattle.nvme_ns.specs.Configured.{configuration};
 ghost use Rattle.nvme_machine.specs.Subsystems.{controller_at, controller_of};
 ghost use Rattle.nvme_event.specs.Replies.{data_len};
 ghost use Rattle.nvme_fleet.specs.FleetStates.{fleet_of, layers_of, opening_layers, data_in, reply_in, reaction_to};
 ghost use Rattle.nvme_fleet.specs.Layers.{Applies, AppliesRaw, CallsAt, Happens, driver_at, told as told_of};
+ghost use Rattle.nvme_fleet.specs.LayerCalls.{AppliesCalling, HappensCalling};
 ghost use Rattle.nvme_fleet.specs.Linked.{IsThere, controller_in};
 ghost use Rattle.nvme_fleet.specs.Fleets.{Is, Step, ExecutesAt, called, fetched_at, host_at, opening};
 ghost use Rattle.nvme_fleet.specs.RawEvents.{IsOfHost, raw_moment};
@@ -28,7 +30,7 @@ use std::marker::Model;
 
 /// Hosts over one subsystem: controller k is that of the k-th host, which has a driver, or is raw and has none.
 /// Contracts see it as the record `FleetState`, as its two layers, which are the subsystem and the drivers, and as the
-/// fleet of mailboxes that these are.
+/// fleet of mailboxes that these are; and beside it the medium itself, whose steps say which calls are made of it.
 #[derive(Drop)]
 pub struct Fleet<M: Medium> {
     subsystem: Subsystem<M>,
@@ -38,20 +40,24 @@ pub struct Fleet<M: Medium> {
 }
 
 impl<M: Medium> Model for Fleet<M> {
+    ghost use Rattle.nvme_subsys.specs.OverMedium.{OverMedium};
     ghost use Rattle.nvme_fleet.specs.FleetStates.{FleetState, IsSoundFleet};
 
-    ghost Value = { FleetState };
+    ghost Value = { OverMedium FleetState M };
 
     ghost view = { λ f. record {
-      subsystem = f.subsystem;
-      drivers = f.drivers.items;
-      buffer = f.buffer.items;
-      filled = f.filled;
+      state = record {
+        subsystem = f.subsystem.state;
+        drivers = f.drivers.items;
+        buffer = f.buffer.items;
+        filled = f.filled;
+      };
+      medium = f.subsystem.medium;
     } };
 
     ghost invariant = { λ f.
         IsSoundFleet (record {
-          subsystem = f.subsystem;
+          subsystem = f.subsystem.state;
           drivers = f.drivers.items;
           buffer = f.buffer.items;
           filled = f.filled;
@@ -82,10 +88,11 @@ impl<M: Medium> Fleet<M> {
     /// The first fault of the configuration, or, where it has none, `NoMemory`; with the medium as it was.
     pub fn new(alloc: Global, config: &Config, medium: M) -> Result<Fleet<M>, NewFault<M>>
         ensures opened { IfOk result
-            (λ fleet. layers_of fleet ≡ opening_layers (configuration config.now) (M.device medium)) }
+            (λ fleet. layers_of fleet.state ≡ opening_layers (configuration config.now) (M.device medium)) }
         ensures mailboxes { IfOk result
-            (λ fleet. fleet_of fleet ≡ opening (configuration config.now) (M.device medium)) }
-        ensures quiet { IfOk result (λ fleet. data_in fleet ≡ []) }
+            (λ fleet. fleet_of fleet.state ≡ opening (configuration config.now) (M.device medium)) }
+        ensures medium { IfOk result (λ fleet. fleet.medium ≡ medium) }
+        ensures quiet { IfOk result (λ fleet. data_in fleet.state ≡ []) }
         ensures accepted { IfOk result (λ _. first_config_fault (configuration config.now) (M.size medium) ≡ None) }
         ensures fault { IfErr result
             (λ refused. refused.fault ≡ unwrap_or (first_config_fault (configuration config.now) (M.size medium))
@@ -109,10 +116,10 @@ impl<M: Medium> Fleet<M> {
     /// The place of a controller.
     #[inline(always)]
     fn place_of(&self, cntlid: u16) -> Option<usize>
-        ensures none { IfNone result (host_at (fleet_of self.now) cntlid ≡ None) }
-        ensures absent { IfNone result (controller_at self.now.subsystem cntlid ≡ None) }
-        ensures some { IfSome result (λ place. (place ≡ cntlid - 1) × IsThere self.now.subsystem cntlid) }
-        ensures named { IfSome result (λ _. (controller_in self.now.subsystem (cntlid - 1)).cntlid ≡ cntlid) }
+        ensures none { IfNone result (host_at (fleet_of self.now.state) cntlid ≡ None) }
+        ensures absent { IfNone result (controller_at self.now.state.subsystem cntlid ≡ None) }
+        ensures some { IfSome result (λ place. (place ≡ cntlid - 1) × IsThere self.now.state.subsystem cntlid) }
+        ensures named { IfSome result (λ _. (controller_in self.now.state.subsystem (cntlid - 1)).cntlid ≡ cntlid) }
     {
         let Some(_controller) = self.subsystem.controller(cntlid) else {
             return None;
@@ -123,11 +130,12 @@ impl<M: Medium> Fleet<M> {
     /// A call of a host's driver.
     #[inline(never)]
     fn deliver(&mut self, cntlid: u16, call: DriverCall<'_>) -> FleetSeen
-        ensures step { Is (called (fleet_of self.old) cntlid (reaction_to call.entry)) (reply_in result self.new.buffer)
-            (fleet_of self.new) }
-        ensures below { CallsAt (driver_at self.old.drivers cntlid) M.tells (layers_of self.old) cntlid call.entry
-            result (layers_of self.new) }
-        ensures fits { data_len result ≤ length self.new.buffer }
+        ensures step { Is (called (fleet_of self.old.state) cntlid (reaction_to call.entry))
+            (reply_in result self.new.state.buffer) (fleet_of self.new.state) }
+        ensures below { CallsAt (driver_at self.old.state.drivers cntlid) M.tells (layers_of self.old.state) cntlid
+            call.entry result (layers_of self.new.state) }
+        ensures medium { self.new.medium ≡ self.old.medium }
+        ensures fits { data_len result ≤ length self.new.state.buffer }
     {
         let Some(place) = self.place_of(cntlid) else {
             return FleetSeen::NoController;
@@ -144,10 +152,12 @@ impl<M: Medium> Fleet<M> {
     /// A fetch of a controller.
     #[inline(never)]
     fn fetch(&mut self, cntlid: u16, qid: u16) -> FleetSeen
-        ensures step { Is (fetched_at (host_at (fleet_of self.old) cntlid) (fleet_of self.old) cntlid qid)
-            (reply_in result self.new.buffer) (fleet_of self.new) }
-        ensures below { Applies M.tells (layers_of self.old) (Event.Fetch cntlid qid) result (layers_of self.new) }
-        ensures fits { data_len result ≤ length self.new.buffer }
+        ensures step { Is (fetched_at (host_at (fleet_of self.old.state) cntlid) (fleet_of self.old.state) cntlid qid)
+            (reply_in result self.new.state.buffer) (fleet_of self.new.state) }
+        ensures below { Applies M.tells (layers_of self.old.state) (Event.Fetch cntlid qid) result
+            (layers_of self.new.state) }
+        ensures medium { self.new.medium ≡ self.old.medium }
+        ensures fits { data_len result ≤ length self.new.state.buffer }
     {
         told(self.subsystem.apply(Event::Fetch(cntlid, qid)))
     }
@@ -155,10 +165,13 @@ impl<M: Medium> Fleet<M> {
     /// An execution of a controller, and what it marks.
     #[inline(never)]
     fn execute(&mut self, cntlid: u16, i: usize) -> FleetSeen
-        ensures step { ExecutesAt (host_at (fleet_of self.old) cntlid) M.tells (fleet_of self.old) cntlid i
-            (reply_in result self.new.buffer) (fleet_of self.new) }
-        ensures below { Applies M.tells (layers_of self.old) (Event.Execute cntlid i) result (layers_of self.new) }
-        ensures fits { data_len result ≤ length self.new.buffer }
+        ensures step { ExecutesAt (host_at (fleet_of self.old.state) cntlid) M.tells (fleet_of self.old.state) cntlid i
+            (reply_in result self.new.state.buffer) (fleet_of self.new.state) }
+        ensures below { Applies M.tells (layers_of self.old.state) (Event.Execute cntlid i) result
+            (layers_of self.new.state) }
+        ensures calls { MakesCalls M.step (AppliesCalling M.tells (layers_of self.old.state) (Event.Execute cntlid i)
+            result (layers_of self.new.state)) self.old.medium self.new.medium }
+        ensures fits { data_len result ≤ length self.new.state.buffer }
     {
         let Some(_place) = self.place_of(cntlid) else {
             return FleetSeen::NoController;
@@ -171,11 +184,12 @@ impl<M: Medium> Fleet<M> {
     fn apply_raw(&mut self, cntlid: u16, event: Event<'_>) -> FleetSeen
         requires own { controller_of event ≡ cntlid }
         requires host { IsOfHost event }
-        ensures step { Is (raw_moment (fleet_of self.old) event.entry) (reply_in result self.new.buffer)
-            (fleet_of self.new) }
-        ensures below { AppliesRaw (driver_at self.old.drivers cntlid) M.tells (layers_of self.old) event.entry result
-            (layers_of self.new) }
-        ensures fits { data_len result ≤ length self.new.buffer }
+        ensures step { Is (raw_moment (fleet_of self.old.state) event.entry) (reply_in result self.new.state.buffer)
+            (fleet_of self.new.state) }
+        ensures below { AppliesRaw (driver_at self.old.state.drivers cntlid) M.tells (layers_of self.old.state)
+            event.entry result (layers_of self.new.state) }
+        ensures medium { self.new.medium ≡ self.old.medium }
+        ensures fits { data_len result ≤ length self.new.state.buffer }
     {
         let Some(place) = self.place_of(cntlid) else {
             return FleetSeen::NoController;
@@ -190,10 +204,12 @@ impl<M: Medium> Fleet<M> {
     /// nothing happens.
     #[inline(always)]
     fn happen(&mut self, event: FleetEvent<'_>) -> FleetSeen
-        ensures step { Step M.tells (fleet_of self.old) event.entry (reply_in result self.new.buffer)
-            (fleet_of self.new) }
-        ensures below { Happens M.tells (layers_of self.old) event.entry result (layers_of self.new) }
-        ensures fits { data_len result ≤ length self.new.buffer }
+        ensures step { Step M.tells (fleet_of self.old.state) event.entry (reply_in result self.new.state.buffer)
+            (fleet_of self.new.state) }
+        ensures below { Happens M.tells (layers_of self.old.state) event.entry result (layers_of self.new.state) }
+        ensures calls { MakesCalls M.step (HappensCalling M.tells (layers_of self.old.state) event.entry result
+            (layers_of self.new.state)) self.old.medium self.new.medium }
+        ensures fits { data_len result ≤ length self.new.state.buffer }
     {
         match event {
             FleetEvent::BringUp(cntlid) => self.deliver(cntlid, DriverCall::BringUp),
@@ -213,11 +229,14 @@ impl<M: Medium> Fleet<M> {
     }
 
     /// One event: the step of the fleet of mailboxes, and exactly these events of the subsystem. One that is refused,
-    /// or finds nothing to do, leaves both layers as they were.
+    /// or finds nothing to do, leaves both layers as they were. An execution makes the calls of the medium that its
+    /// command makes, and no other event makes any.
     pub fn apply(&mut self, event: FleetEvent<'_>) -> FleetSeen
-        ensures step { Step M.tells (fleet_of self.old) event.entry (record { seen = result; bytes = data_in self.new })
-            (fleet_of self.new) }
-        ensures below { Happens M.tells (layers_of self.old) event.entry result (layers_of self.new) }
+        ensures step { Step M.tells (fleet_of self.old.state) event.entry
+            (record { seen = result; bytes = data_in self.new.state }) (fleet_of self.new.state) }
+        ensures below { Happens M.tells (layers_of self.old.state) event.entry result (layers_of self.new.state) }
+        ensures calls { MakesCalls M.step (HappensCalling M.tells (layers_of self.old.state) event.entry result
+            (layers_of self.new.state)) self.old.medium self.new.medium }
     {
         let seen = self.happen(event);
         self.filled = seen.data_len();
@@ -226,7 +245,7 @@ impl<M: Medium> Fleet<M> {
 
     /// The data of the last event, where that was a poll with data; else nothing.
     pub fn data(&self) -> &[u8]
-        ensures value { result.now ≡ data_in self.now }
+        ensures value { result.now ≡ data_in self.now.state }
         ensures few { length result.now ≤ most_bytes }
     {
         &self.buffer[..self.filled]
@@ -234,15 +253,17 @@ impl<M: Medium> Fleet<M> {
 
     /// The controller of an identifier, if there is one.
     pub fn controller(&self, cntlid: u16) -> Option<&Controller>
-        ensures none { IfNone result (controller_at self.now.subsystem cntlid ≡ None) }
-        ensures some { IfSome result (λ controller. controller_at self.now.subsystem cntlid ≡ Some controller.now) }
+        ensures none { IfNone result (controller_at self.now.state.subsystem cntlid ≡ None) }
+        ensures some { IfSome result
+            (λ controller. controller_at self.now.state.subsystem cntlid ≡ Some controller.now) }
     {
         self.subsystem.controller(cntlid)
     }
 
-    /// The medium, with the content that the commands have left.
+    /// The medium, as the commands have left it.
     pub fn into_medium(self) -> M
-        ensures { M.device result ≡ self.subsystem.device }
+        ensures medium { result ≡ self.medium }
+        ensures device { M.device result ≡ self.state.subsystem.device }
     {
         self.subsystem.into_medium()
     }

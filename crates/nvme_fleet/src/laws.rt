@@ -8,6 +8,7 @@ ghost use Rattle.nvme_fleet.specs.Fencing.{OnlyAllowedActionsReserve, Permission
 ghost use Rattle.nvme_fleet.specs.IoCommands.{OpeningIsNumbered, NumbersStay, ExecutedAsThePolicyAllows};
 ghost use Rattle.nvme_fleet.specs.Preempting.{OutsidersMayNotWrite, OutsidersStayOutside, PreemptedIsOutside, PreemptedStaysOut};
 ghost use Rattle.nvme_fleet.specs.Links.{BringUpIsAStep};
+ghost use Rattle.nvme_fleet.specs.LayerCalls.{LayerCallsAreOfAStep, LayerCallsAreOfARun};
 ghost use Rattle.nvme_fleet.specs.Regular.{OpeningIsRegular, RegularityStays};
 ghost use Rattle.nvme_fleet.specs.Secrecy.{FencedReading, FencedReadingIsSame, LayersReadTheSame};
 ghost use Rattle.nvme_fleet.specs.SinceUp.{DownIsClear, DoneSinceItCameUp};
@@ -32,6 +33,13 @@ pub fn layers_are_determined()
     ensures opening { OpeningHasTicketsOnce }
     ensures stays { TicketsStayOnce }
     ensures unique { LayersRunIsUnique }
+{}
+
+/// The calls that events make of a medium are those of their steps of both layers, one after the other, and of one run.
+#[tactic(auto, using(crate::proofs::LayerCalls::layer_calls_are_of_a_step, crate::proofs::LayerCalls::layer_calls_are_of_a_run))]
+pub fn calls_are_of_events()
+    ensures step { LayerCallsAreOfAStep }
+    ensures run { LayerCallsAreOfARun }
 {}
 
 /// A driver that never came up, at a controller that was never enabled, has the fact that the steps rest on, and is the

@@ -22,20 +22,24 @@ pub(crate) struct Link<'a, M: Medium> {
 
 impl<'a, M: Medium> Model for Link<'a, M> {
     ghost use Rattle.std.specs.Prelude.{◌-◌};
+    ghost use Rattle.nvme_subsys.specs.OverMedium.{OverMedium};
     ghost use Rattle.nvme_fleet.specs.Linked.{Linked, IsThere};
 
-    ghost Value = { Linked };
+    ghost Value = { OverMedium Linked M };
 
-    ghost view = { λ p. record { subsystem = p.subsystem.now; place = p.cntlid - 1; name = p.subsystem.ghost_name } };
+    ghost view = { λ p. record {
+      state = record { subsystem = p.subsystem.now.state; place = p.cntlid - 1; name = p.subsystem.ghost_name };
+      medium = p.subsystem.now.medium;
+    } };
 
-    ghost invariant = { λ p. IsThere p.subsystem.now p.cntlid };
+    ghost invariant = { λ p. IsThere p.subsystem.now.state p.cntlid };
 }
 
 impl<M: Medium> Link<'_, M> {
     /// Its window is whole, as every window is.
     #[inline(always)]
     fn is_whole(&self)
-        ensures { length (linked_controller self.now).window ≡ window_size }
+        ensures { length (linked_controller self.now.state).window ≡ window_size }
     {
         self.window().bytes(Piece { address: 0, len: 0 });
     }
@@ -43,14 +47,14 @@ impl<M: Medium> Link<'_, M> {
 
 impl<M: Medium> Port for Link<'_, M> {
     ghost use Rattle.std.specs.Prelude.{◌≡◌, [], ◌∷◌};
-    ghost use Rattle.nvme_fleet.specs.Deeds.{CallOver};
+    ghost use Rattle.nvme_fleet.specs.LinkCalls.{CallOverMedium};
     ghost use Rattle.nvme_fleet.specs.Linked.{linked_controller};
 
-    ghost bytes = { λ p. (linked_controller p).window };
+    ghost bytes = { λ p. (linked_controller p.state).window };
 
-    ghost step = { CallOver M.tells };
+    ghost step = { CallOverMedium M.step M.tells };
 
-    ghost links = { λ p. p.name ∷ [] };
+    ghost links = { λ p. p.state.name ∷ [] };
 
     #[inline(always)]
     fn window(&self) -> &Window {

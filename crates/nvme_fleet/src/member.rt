@@ -1,6 +1,6 @@
 //! A host's driver at its controller: each call is one event of a fleet, and the step of their mailbox.
 
-ghost use Rattle.std.specs.Prelude.{◌+◌};
+ghost use Rattle.std.specs.Prelude.{◌≡◌, ◌+◌};
 ghost use Rattle.nvme_event.specs.declared.seen.FleetSeen.TheVariants.{Up, Rung, Reset};
 ghost use Rattle.nvme_fleet.specs.Deeds.{ComesUp, Rings, Resets};
 ghost use Rattle.nvme_fleet.specs.Deliveries.{brought_up, rung, reset as reset_mailbox, plain};
@@ -21,13 +21,14 @@ use nvme_medium::Medium;
 // Not inlined, so that the other calls do not pay for the room of its locals.
 #[inline(never)]
 pub fn bring_up<M: Medium>(driver: &mut Driver, link: &mut Link<'_, M>) -> Result<(), UpFault>
-    requires there { Reaches link.old }
-    requires sound { Sound driver.old (linked_controller link.old) }
-    ensures step { IsStep (brought_up (mailbox driver.old (linked_controller link.old))) driver.new
-        (linked_controller link.new) (plain (Up result)) }
-    ensures site { KeepsSite link.old link.new }
-    ensures below { ComesUp M.tells (link.old.place + 1) driver.old link.old.subsystem result driver.new
-        link.new.subsystem }
+    requires there { Reaches link.old.state }
+    requires sound { Sound driver.old (linked_controller link.old.state) }
+    ensures step { IsStep (brought_up (mailbox driver.old (linked_controller link.old.state))) driver.new
+        (linked_controller link.new.state) (plain (Up result)) }
+    ensures site { KeepsSite link.old.state link.new.state }
+    ensures medium { link.new.medium ≡ link.old.medium }
+    ensures below { ComesUp M.tells (link.old.state.place + 1) driver.old link.old.state.subsystem result driver.new
+        link.new.state.subsystem }
 {
     driver.bring_up(link)
 }
@@ -37,25 +38,28 @@ pub fn bring_up<M: Medium>(driver: &mut Driver, link: &mut Link<'_, M>) -> Resul
 /// # Errors
 /// `NotUp` where the driver is not up; nothing changes then.
 pub fn ring<M: Medium>(driver: &mut Driver, link: &mut Link<'_, M>) -> Result<(), NotUp>
-    requires there { Reaches link.old }
-    requires sound { Sound driver.old (linked_controller link.old) }
-    ensures step { IsStep (rung (mailbox driver.old (linked_controller link.old))) driver.new
-        (linked_controller link.new) (plain (Rung result)) }
-    ensures site { KeepsSite link.old link.new }
-    ensures below { Rings M.tells (link.old.place + 1) driver.old link.old.subsystem result driver.new
-        link.new.subsystem }
+    requires there { Reaches link.old.state }
+    requires sound { Sound driver.old (linked_controller link.old.state) }
+    ensures step { IsStep (rung (mailbox driver.old (linked_controller link.old.state))) driver.new
+        (linked_controller link.new.state) (plain (Rung result)) }
+    ensures site { KeepsSite link.old.state link.new.state }
+    ensures medium { link.new.medium ≡ link.old.medium }
+    ensures below { Rings M.tells (link.old.state.place + 1) driver.old link.old.state.subsystem result driver.new
+        link.new.state.subsystem }
 {
     driver.ring(link)
 }
 
 /// Resets the controller. All requests that were not handed up are aborted.
 pub fn reset<M: Medium>(driver: &mut Driver, link: &mut Link<'_, M>)
-    requires there { Reaches link.old }
-    requires sound { Sound driver.old (linked_controller link.old) }
-    ensures step { IsStep (reset_mailbox (mailbox driver.old (linked_controller link.old))) driver.new
-        (linked_controller link.new) (plain Reset) }
-    ensures site { KeepsSite link.old link.new }
-    ensures below { Resets M.tells (link.old.place + 1) driver.old link.old.subsystem driver.new link.new.subsystem }
+    requires there { Reaches link.old.state }
+    requires sound { Sound driver.old (linked_controller link.old.state) }
+    ensures step { IsStep (reset_mailbox (mailbox driver.old (linked_controller link.old.state))) driver.new
+        (linked_controller link.new.state) (plain Reset) }
+    ensures site { KeepsSite link.old.state link.new.state }
+    ensures medium { link.new.medium ≡ link.old.medium }
+    ensures below { Resets M.tells (link.old.state.place + 1) driver.old link.old.state.subsystem driver.new
+        link.new.state.subsystem }
 {
     driver.reset(link);
 }

@@ -1,6 +1,6 @@
 //! A placing by a fleet's driver.
 
-ghost use Rattle.std.specs.Prelude.{◌+◌};
+ghost use Rattle.std.specs.Prelude.{◌≡◌, ◌+◌};
 ghost use Rattle.nvme_event.specs.declared.seen.FleetSeen.TheVariants.{Placed};
 ghost use Rattle.nvme_fleet.specs.Deeds.{Places};
 ghost use Rattle.nvme_fleet.specs.Deliveries.{placed, plain};
@@ -23,13 +23,14 @@ pub fn place<M: Medium>(
     link: &mut Link<'_, M>,
     request: &Request<'_>,
 ) -> Result<Ticket, PlaceRefusal>
-    requires there { Reaches link.old }
-    requires sound { Sound driver.old (linked_controller link.old) }
-    ensures step { IsStep (placed (mailbox driver.old (linked_controller link.old)) request.now) driver.new
-        (linked_controller link.new) (plain (Placed result)) }
-    ensures site { KeepsSite link.old link.new }
-    ensures below { Places M.tells (link.old.place + 1) request.now driver.old link.old.subsystem result driver.new
-        link.new.subsystem }
+    requires there { Reaches link.old.state }
+    requires sound { Sound driver.old (linked_controller link.old.state) }
+    ensures step { IsStep (placed (mailbox driver.old (linked_controller link.old.state)) request.now) driver.new
+        (linked_controller link.new.state) (plain (Placed result)) }
+    ensures site { KeepsSite link.old.state link.new.state }
+    ensures medium { link.new.medium ≡ link.old.medium }
+    ensures below { Places M.tells (link.old.state.place + 1) request.now driver.old link.old.state.subsystem result
+        driver.new link.new.state.subsystem }
 {
     driver.place(link, request)
 }

@@ -25,20 +25,22 @@ pub fn poll<M: Medium>(
     link: &mut Link<'_, M>,
     buffer: &mut [u8],
 ) -> Result<Option<Answer>, PollFault>
-    requires there { Reaches link.old }
-    requires sound { Sound driver.old (linked_controller link.old) }
+    requires there { Reaches link.old.state }
+    requires sound { Sound driver.old (linked_controller link.old.state) }
     requires room { most_bytes ≤ length buffer.old }
-    ensures step { IsStep (polled (mailbox driver.old (linked_controller link.old))) driver.new
-        (linked_controller link.new)
+    ensures step { IsStep (polled (mailbox driver.old (linked_controller link.old.state))) driver.new
+        (linked_controller link.new.state)
         (record {
           seen = Polled result;
-          bytes = (polled (mailbox driver.old (linked_controller link.old))).reply.bytes;
+          bytes = (polled (mailbox driver.old (linked_controller link.old.state))).reply.bytes;
         }) }
-    ensures bytes { take (length (polled (mailbox driver.old (linked_controller link.old))).reply.bytes) buffer.new
-        ≡ (polled (mailbox driver.old (linked_controller link.old))).reply.bytes }
-    ensures site { KeepsSite link.old link.new }
-    ensures below { Polls M.tells (link.old.place + 1) driver.old link.old.subsystem result driver.new
-        link.new.subsystem }
+    ensures bytes { take (length (polled (mailbox driver.old (linked_controller link.old.state))).reply.bytes)
+        buffer.new
+        ≡ (polled (mailbox driver.old (linked_controller link.old.state))).reply.bytes }
+    ensures site { KeepsSite link.old.state link.new.state }
+    ensures medium { link.new.medium ≡ link.old.medium }
+    ensures below { Polls M.tells (link.old.state.place + 1) driver.old link.old.state.subsystem result driver.new
+        link.new.state.subsystem }
 {
     driver.poll_into(link, buffer)
 }

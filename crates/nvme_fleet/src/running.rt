@@ -2,7 +2,9 @@
 
 ghost use Rattle.std.specs.Prelude.{◌≡◌, ◌≤◌, [], vec_capacity, OnOk, OnErr};
 ghost use Rattle.nvme_fleet.specs.FleetStates.{data_in, layers_of};
+ghost use Rattle.nvme_spec.specs.MediumCalls.{MakesCalls};
 ghost use Rattle.nvme_fleet.specs.Layers.{Step};
+ghost use Rattle.nvme_fleet.specs.LayerCalls.{AreCallsOfStep};
 ghost use Rattle.nvme_fleet.specs.Running.{RunsBehind, RunsInPart, room_for};
 
 use crate::fleet::Fleet;
@@ -24,7 +26,8 @@ fn room_of(event: FleetEvent<'_>) -> usize
 
 impl<M: Medium> Fleet<M> {
     /// Events, one after the other, each a step of both layers at once; what each gave is added behind the replies. The
-    /// memory that a reply takes is asked for before its event. The data are then those of the last event that happened.
+    /// memory that a reply takes is asked for before its event. The data are then those of the last event that
+    /// happened. The calls of the medium are those of the events that happened, in their order, and no other.
     ///
     /// # Errors
     ///
@@ -37,9 +40,9 @@ impl<M: Medium> Fleet<M> {
         replies: &mut Vec<Reply>,
     ) -> Result<(), NoMemory>
         ensures ran { OnOk result
-            (RunsBehind M.tells replies.old.items self.old events.now replies.new.items self.new) }
+            (RunsBehind M.step M.tells replies.old.items self.old events.now replies.new.items self.new) }
         ensures stopped { OnErr result
-            (RunsInPart M.tells replies.old.items self.old events.now replies.new.items self.new) }
+            (RunsInPart M.step M.tells replies.old.items self.old events.now replies.new.items self.new) }
     {
         for event in events {
             replies.reserve(1)?;
@@ -53,8 +56,10 @@ impl<M: Medium> Fleet<M> {
     fn reply_to(&mut self, event: FleetEvent<'_>, mut bytes: Vec<u8>) -> Reply
         requires empty { bytes.items ≡ [] }
         requires room { room_for event ≤ vec_capacity bytes }
-        ensures step { Step M.tells (layers_of self.old) event.entry result (layers_of self.new) }
-        ensures bytes { result.bytes ≡ data_in self.new }
+        ensures step { Step M.tells (layers_of self.old.state) event.entry result (layers_of self.new.state) }
+        ensures calls { MakesCalls M.step (AreCallsOfStep M.tells (layers_of self.old.state) event.entry result
+            (layers_of self.new.state)) self.old.medium self.new.medium }
+        ensures bytes { result.bytes ≡ data_in self.new.state }
     {
         let seen = self.apply(event);
         // There is room for them, so that no memory is asked for.

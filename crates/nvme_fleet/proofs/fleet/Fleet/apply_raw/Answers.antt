@@ -5,53 +5,59 @@ use Rattle.nvme_fleet.specs.FleetStates.{FleetState, layers_of}
 use Rattle.nvme_fleet.specs.Layers.{AppliesRaw, driver_at}
 use Rattle.nvme_fleet.specs.Linked.{IsThere}
 use Rattle.nvme_fleet.proofs.Happening.{applied-below, applied-raw, driver-none, driver-there, missed-below, refused-below, refused-raw}
+use Rattle.nvme_subsys.proofs.OverMedium.{medium-is, medium-kept, state-is}
+use Rattle.nvme_fleet.proofs.LayerCalls.{hosts-execute-nothing}
 use Rattle.nvme_fleet.proofs.fleet.Fleet.apply_raw.Goals as goal
 
 pub returns-in_default-clause-below : goal.returns-in_default-clause-below
 returns-in_default-clause-below g c =
-    let a : FleetState = record { subsystem = c.self.inside.subsystem; drivers = c.self.inside.drivers.items; buffer = c.self.inside.buffer.items; filled = c.self.inside.filled } in
-    let absent = subst (λ (t : FleetState). controller_at t.subsystem c.args.cntlid ≡ None) (sym c.self.view_is) c.in_default.ensures.absent in
-    subst (λ (t : FleetState). AppliesRaw (driver_at t.drivers c.args.cntlid) g.M.Medium.tells (layers_of t) c.args.event seen.NoController (layers_of t)) c.self.view_is
+    let a : FleetState = record { subsystem = c.self.inside.subsystem.state; drivers = c.self.inside.drivers.items; buffer = c.self.inside.buffer.items; filled = c.self.inside.filled } in
+    let absent = subst (λ (t : FleetState). controller_at t.subsystem c.args.cntlid ≡ None) (sym (state-is c.self.view_is)) c.in_default.ensures.absent in
+    subst (λ (t : FleetState). AppliesRaw (driver_at t.drivers c.args.cntlid) g.M.Medium.tells (layers_of t) c.args.event seen.NoController (layers_of t)) (state-is c.self.view_is)
     (missed-below g.M.Medium.tells a c.args.cntlid c.args.event (driver-none a c.args.cntlid c.self.invariant absent))
 
 pub returns-then-is_some-clause-step : goal.returns-then-is_some-clause-step
 returns-then-is_some-clause-step g c =
-    let a : FleetState = record { subsystem = c.self.inside.subsystem; drivers = c.self.inside.drivers.items; buffer = c.self.inside.buffer.items; filled = c.self.inside.filled } in
-    let there = subst (λ (t : FleetState). IsThere t.subsystem c.args.cntlid) (sym c.self.view_is) c.in-Some.ensures.some.1 in
+    let a : FleetState = record { subsystem = c.self.inside.subsystem.state; drivers = c.self.inside.drivers.items; buffer = c.self.inside.buffer.items; filled = c.self.inside.filled } in
+    let there = subst (λ (t : FleetState). IsThere t.subsystem c.args.cntlid) (sym (state-is c.self.view_is)) c.in-Some.ensures.some.1 in
     let is : c.index.result.now ≡ get_or c.self.inside.drivers.items (c.args.cntlid - 1) c.index.result.now =
     subst (λ n. c.index.result.now ≡ get_or c.self.inside.drivers.items n c.index.result.now) c.in-Some.ensures.some.0 c.index.ensures in
     rw (← c.self.view_is) (refused-raw a c.args.cntlid c.index.result.now c.args.event c.self.invariant there is (sym c.is_some.ensures ∙ c.if-is_some.true) c.requires.own c.requires.host)
 
 pub returns-then-is_some-clause-below : goal.returns-then-is_some-clause-below
 returns-then-is_some-clause-below g c =
-    let a : FleetState = record { subsystem = c.self.inside.subsystem; drivers = c.self.inside.drivers.items; buffer = c.self.inside.buffer.items; filled = c.self.inside.filled } in
-    let there = subst (λ (t : FleetState). IsThere t.subsystem c.args.cntlid) (sym c.self.view_is) c.in-Some.ensures.some.1 in
+    let a : FleetState = record { subsystem = c.self.inside.subsystem.state; drivers = c.self.inside.drivers.items; buffer = c.self.inside.buffer.items; filled = c.self.inside.filled } in
+    let there = subst (λ (t : FleetState). IsThere t.subsystem c.args.cntlid) (sym (state-is c.self.view_is)) c.in-Some.ensures.some.1 in
     let is : c.index.result.now ≡ get_or c.self.inside.drivers.items (c.args.cntlid - 1) c.index.result.now =
     subst (λ n. c.index.result.now ≡ get_or c.self.inside.drivers.items n c.index.result.now) c.in-Some.ensures.some.0 c.index.ensures in
-    subst (λ (t : FleetState). AppliesRaw (driver_at t.drivers c.args.cntlid) g.M.Medium.tells (layers_of t) c.args.event seen.NotRaw (layers_of t)) c.self.view_is
+    subst (λ (t : FleetState). AppliesRaw (driver_at t.drivers c.args.cntlid) g.M.Medium.tells (layers_of t) c.args.event seen.NotRaw (layers_of t)) (state-is c.self.view_is)
     (refused-below g.M.Medium.tells a c.args.cntlid c.index.result.now c.args.event (driver-there a c.args.cntlid c.index.result.now c.self.invariant there is) (sym c.is_some.ensures ∙ c.if-is_some.true))
 
 pub invariant_of-self : goal.invariant_of-self
 invariant_of-self g c =
-    let a : FleetState = record { subsystem = c.self.inside.subsystem; drivers = c.self.inside.drivers.items; buffer = c.self.inside.buffer.items; filled = c.self.inside.filled } in
-    let there = subst (λ (t : FleetState). IsThere t.subsystem c.args.cntlid) (sym c.self.view_is) c.in-Some.ensures.some.1 in
+    let a : FleetState = record { subsystem = c.self.inside.subsystem.state; drivers = c.self.inside.drivers.items; buffer = c.self.inside.buffer.items; filled = c.self.inside.filled } in
+    let there = subst (λ (t : FleetState). IsThere t.subsystem c.args.cntlid) (sym (state-is c.self.view_is)) c.in-Some.ensures.some.1 in
     let is : c.index.result.now ≡ get_or c.self.inside.drivers.items (c.args.cntlid - 1) c.index.result.now =
     subst (λ n. c.index.result.now ≡ get_or c.self.inside.drivers.items n c.index.result.now) c.in-Some.ensures.some.0 c.index.ensures in
-    (applied-raw g.M.Medium.tells a c.apply.new.self c.args.cntlid c.index.result.now c.args.event c.apply.result c.self.invariant there is (sym c.is_some.ensures ∙ c.if-is_some.false) c.requires.own c.requires.host c.apply.ensures).sound
+    (applied-raw g.M.Medium.tells a c.apply.new.self.state c.args.cntlid c.index.result.now c.args.event c.apply.result c.self.invariant there is (sym c.is_some.ensures ∙ c.if-is_some.false) c.requires.own c.requires.host c.apply.ensures.step).sound
 
 pub returns-clause-step : goal.returns-clause-step
 returns-clause-step g c =
-    let a : FleetState = record { subsystem = c.self.inside.subsystem; drivers = c.self.inside.drivers.items; buffer = c.self.inside.buffer.items; filled = c.self.inside.filled } in
-    let there = subst (λ (t : FleetState). IsThere t.subsystem c.args.cntlid) (sym c.self.view_is) c.in-Some.ensures.some.1 in
+    let a : FleetState = record { subsystem = c.self.inside.subsystem.state; drivers = c.self.inside.drivers.items; buffer = c.self.inside.buffer.items; filled = c.self.inside.filled } in
+    let there = subst (λ (t : FleetState). IsThere t.subsystem c.args.cntlid) (sym (state-is c.self.view_is)) c.in-Some.ensures.some.1 in
     let is : c.index.result.now ≡ get_or c.self.inside.drivers.items (c.args.cntlid - 1) c.index.result.now =
     subst (λ n. c.index.result.now ≡ get_or c.self.inside.drivers.items n c.index.result.now) c.in-Some.ensures.some.0 c.index.ensures in
-    rw (← c.self.view_is, c.told.ensures) ((applied-raw g.M.Medium.tells a c.apply.new.self c.args.cntlid c.index.result.now c.args.event c.apply.result c.self.invariant there is (sym c.is_some.ensures ∙ c.if-is_some.false) c.requires.own c.requires.host c.apply.ensures).step)
+    rw (← c.self.view_is, c.told.ensures) ((applied-raw g.M.Medium.tells a c.apply.new.self.state c.args.cntlid c.index.result.now c.args.event c.apply.result c.self.invariant there is (sym c.is_some.ensures ∙ c.if-is_some.false) c.requires.own c.requires.host c.apply.ensures.step).step)
 
 pub returns-clause-below : goal.returns-clause-below
 returns-clause-below g c =
-    let a : FleetState = record { subsystem = c.self.inside.subsystem; drivers = c.self.inside.drivers.items; buffer = c.self.inside.buffer.items; filled = c.self.inside.filled } in
-    let there = subst (λ (t : FleetState). IsThere t.subsystem c.args.cntlid) (sym c.self.view_is) c.in-Some.ensures.some.1 in
+    let a : FleetState = record { subsystem = c.self.inside.subsystem.state; drivers = c.self.inside.drivers.items; buffer = c.self.inside.buffer.items; filled = c.self.inside.filled } in
+    let there = subst (λ (t : FleetState). IsThere t.subsystem c.args.cntlid) (sym (state-is c.self.view_is)) c.in-Some.ensures.some.1 in
     let is : c.index.result.now ≡ get_or c.self.inside.drivers.items (c.args.cntlid - 1) c.index.result.now =
     subst (λ n. c.index.result.now ≡ get_or c.self.inside.drivers.items n c.index.result.now) c.in-Some.ensures.some.0 c.index.ensures in
-    subst (λ (t : FleetState). AppliesRaw (driver_at t.drivers c.args.cntlid) g.M.Medium.tells (layers_of t) c.args.event c.told.result (record { subsystem = c.apply.new.self; drivers = c.self.inside.drivers.items })) c.self.view_is
-    (applied-below g.M.Medium.tells a c.apply.new.self c.args.cntlid c.index.result.now c.args.event c.apply.result c.told.result (driver-there a c.args.cntlid c.index.result.now c.self.invariant there is) (sym c.is_some.ensures ∙ c.if-is_some.false) c.apply.ensures c.told.ensures)
+    subst (λ (t : FleetState). AppliesRaw (driver_at t.drivers c.args.cntlid) g.M.Medium.tells (layers_of t) c.args.event c.told.result (record { subsystem = c.apply.new.self.state; drivers = c.self.inside.drivers.items })) (state-is c.self.view_is)
+    (applied-below g.M.Medium.tells a c.apply.new.self.state c.args.cntlid c.index.result.now c.args.event c.apply.result c.told.result (driver-there a c.args.cntlid c.index.result.now c.self.invariant there is) (sym c.is_some.ensures ∙ c.if-is_some.false) c.apply.ensures.step c.told.ensures)
+
+pub returns-clause-medium : goal.returns-clause-medium
+returns-clause-medium g c =
+    medium-kept g.M.Medium.step g.M.Medium.tells _ _ c.args.event c.apply.result _ _ (hosts-execute-nothing c.args.event c.requires.host) c.apply.ensures.calls ∙ medium-is c.self.view_is

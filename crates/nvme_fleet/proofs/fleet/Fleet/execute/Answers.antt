@@ -1,29 +1,44 @@
 use Rattle.std.proofs.Common.{◌≡◌, ◌-◌, refl, sym, subst}
 use Rattle.nvme_machine.specs.declared.seen.Seen.TheVariants as given
-use Rattle.nvme_subsys.proofs.Numbers.{none-executes}
-use Rattle.nvme_fleet.specs.FleetStates.{FleetState}
+use Rattle.nvme_machine.specs.declared.event.Event.TheVariants.{Execute}
+use Rattle.nvme_subsys.proofs.Numbers.{none-calling, none-executes}
+use Rattle.nvme_fleet.specs.FleetStates.{FleetState, Layers, layers_of}
 use Rattle.nvme_fleet.specs.Linked.{IsThere, controller_in}
 use Rattle.nvme_fleet.proofs.Happening.{executed-there}
+use Rattle.nvme_subsys.proofs.OverMedium.{state-is}
+use Rattle.nvme_fleet.proofs.LayerCalls.{applies-calling}
 use Rattle.nvme_fleet.proofs.fleet.Fleet.execute.Goals as goal
 
 pub returns-in_default-clause-below : goal.returns-in_default-clause-below
 returns-in_default-clause-below g c = record {
   given = given.NoController;
-  step = none-executes g.M.Medium.tells c.args.self.now.subsystem c.args.cntlid c.args.i c.in_default.ensures.absent;
+  step = none-executes g.M.Medium.tells c.args.self.now.state.subsystem c.args.cntlid c.args.i c.in_default.ensures.absent;
   gives = refl;
   drivers = refl;
 }
 
+pub returns-in_default-clause-calls : goal.returns-in_default-clause-calls
+returns-in_default-clause-calls g c =
+    applies-calling g.M.Medium.step g.M.Medium.tells (layers_of c.args.self.now.state) (layers_of c.args.self.now.state) (Execute c.args.cntlid c.args.i) given.NoController _ c.args.self.now.medium c.args.self.now.medium refl refl
+    (none-calling g.M.Medium.step c.args.self.now.medium g.M.Medium.tells c.args.self.now.state.subsystem c.args.cntlid c.args.i c.in_default.ensures.absent)
+
 pub invariant_of-self : goal.invariant_of-self
 invariant_of-self g c =
-    let a : FleetState = record { subsystem = c.self.inside.subsystem; drivers = c.self.inside.drivers.items; buffer = c.self.inside.buffer.items; filled = c.self.inside.filled } in
-    let there = subst (λ (t : FleetState). IsThere t.subsystem c.args.cntlid) (sym c.self.view_is) c.in-Some.ensures.some.1 in
-    let named = subst (λ (t : FleetState). (controller_in t.subsystem (c.args.cntlid - 1)).cntlid ≡ c.args.cntlid) (sym c.self.view_is) c.in-Some.ensures.named in
-    (executed-there g.M.Medium.tells a c.apply.new.self c.args.cntlid c.args.i c.apply.result c.self.invariant there named c.apply.ensures).sound
+    let a : FleetState = record { subsystem = c.self.inside.subsystem.state; drivers = c.self.inside.drivers.items; buffer = c.self.inside.buffer.items; filled = c.self.inside.filled } in
+    let there = subst (λ (t : FleetState). IsThere t.subsystem c.args.cntlid) (sym (state-is c.self.view_is)) c.in-Some.ensures.some.1 in
+    let named = subst (λ (t : FleetState). (controller_in t.subsystem (c.args.cntlid - 1)).cntlid ≡ c.args.cntlid) (sym (state-is c.self.view_is)) c.in-Some.ensures.named in
+    (executed-there g.M.Medium.tells a c.apply.new.self.state c.args.cntlid c.args.i c.apply.result c.self.invariant there named c.apply.ensures.step).sound
 
 pub returns-clause-step : goal.returns-clause-step
 returns-clause-step g c =
-    let a : FleetState = record { subsystem = c.self.inside.subsystem; drivers = c.self.inside.drivers.items; buffer = c.self.inside.buffer.items; filled = c.self.inside.filled } in
-    let there = subst (λ (t : FleetState). IsThere t.subsystem c.args.cntlid) (sym c.self.view_is) c.in-Some.ensures.some.1 in
-    let named = subst (λ (t : FleetState). (controller_in t.subsystem (c.args.cntlid - 1)).cntlid ≡ c.args.cntlid) (sym c.self.view_is) c.in-Some.ensures.named in
-    rw (← c.self.view_is, c.told.ensures) ((executed-there g.M.Medium.tells a c.apply.new.self c.args.cntlid c.args.i c.apply.result c.self.invariant there named c.apply.ensures).step)
+    let a : FleetState = record { subsystem = c.self.inside.subsystem.state; drivers = c.self.inside.drivers.items; buffer = c.self.inside.buffer.items; filled = c.self.inside.filled } in
+    let there = subst (λ (t : FleetState). IsThere t.subsystem c.args.cntlid) (sym (state-is c.self.view_is)) c.in-Some.ensures.some.1 in
+    let named = subst (λ (t : FleetState). (controller_in t.subsystem (c.args.cntlid - 1)).cntlid ≡ c.args.cntlid) (sym (state-is c.self.view_is)) c.in-Some.ensures.named in
+    rw (← c.self.view_is, c.told.ensures) ((executed-there g.M.Medium.tells a c.apply.new.self.state c.args.cntlid c.args.i c.apply.result c.self.invariant there named c.apply.ensures.step).step)
+
+pub returns-clause-calls : goal.returns-clause-calls
+returns-clause-calls g c =
+    let a : FleetState = record { subsystem = c.self.inside.subsystem.state; drivers = c.self.inside.drivers.items; buffer = c.self.inside.buffer.items; filled = c.self.inside.filled } in
+    let b : Layers = record { subsystem = c.apply.new.self.state; drivers = c.self.inside.drivers.items } in
+    rw (← c.self.view_is)
+    (applies-calling g.M.Medium.step g.M.Medium.tells (layers_of a) b (Execute c.args.cntlid c.args.i) c.apply.result c.told.result c.self.inside.subsystem.medium c.apply.new.self.medium refl c.told.ensures c.apply.ensures.calls)

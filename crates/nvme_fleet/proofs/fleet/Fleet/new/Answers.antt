@@ -1,13 +1,14 @@
 use Rattle.nvme_ns.specs.Configured.{configuration}
 use Rattle.nvme_fleet.proofs.FleetOpening.{opened-mailboxes, opened-over}
+use Rattle.nvme_subsys.proofs.OverMedium.{state-is}
 use Rattle.nvme_fleet.proofs.fleet.Fleet.new.Goals as goal
 
 pub invariant_of-result : goal.invariant_of-result
 invariant_of-result g c =
-    opened-over (configuration c.args.config.now) (g.M.Medium.device c.args.medium) c.in_ok-new-in-Ok.field-0 c.in-Ok.rooms.drivers.items c.in-Ok.rooms.buffer.items c.in_ok-new-in-Ok.ensures.opened
+    opened-over (configuration c.args.config.now) (g.M.Medium.device c.args.medium) c.in_ok-new-in-Ok.field-0.state c.in-Ok.rooms.drivers.items c.in-Ok.rooms.buffer.items (state-is c.in_ok-new-in-Ok.ensures.opened)
     (rw c.deref.ensures.value at c.in-Ok.ensures.drivers) c.in-Ok.ensures.buffer
 
 pub returns-in_ok-new-in-Ok-clause-mailboxes : goal.returns-in_ok-new-in-Ok-clause-mailboxes
 returns-in_ok-new-in-Ok-clause-mailboxes g c =
-    opened-mailboxes (configuration c.args.config.now) (g.M.Medium.device c.args.medium) c.in_ok-new-in-Ok.field-0 c.in-Ok.rooms.drivers.items c.in-Ok.rooms.buffer.items c.in_ok-new-in-Ok.ensures.opened
+    opened-mailboxes (configuration c.args.config.now) (g.M.Medium.device c.args.medium) c.in_ok-new-in-Ok.field-0.state c.in-Ok.rooms.drivers.items c.in-Ok.rooms.buffer.items (state-is c.in_ok-new-in-Ok.ensures.opened)
     (rw c.deref.ensures.value at c.in-Ok.ensures.drivers)

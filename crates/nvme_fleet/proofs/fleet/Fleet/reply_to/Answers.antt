@@ -1,15 +1,16 @@
 use Rattle.std.proofs.Common.{◌≡◌, ◌≤◌, ◌∙◌, length, sym, ap, subst, arith}
 use Rattle.nvme_spec.specs.Limits.{most_bytes}
-use Rattle.nvme_fleet.specs.FleetStates.{fleet_of, data_in}
+use Rattle.nvme_fleet.specs.FleetStates.{fleet_of, layers_of, data_in}
 use Rattle.nvme_fleet.specs.Fleets as mailboxes
 use Rattle.nvme_fleet.proofs.FleetRuns.{copied, fits-room}
+use Rattle.nvme_fleet.proofs.LayerCalls.{replied}
 use Rattle.nvme_fleet.proofs.fleet.Fleet.reply_to.Goals as goal
 
 pub returns : goal.returns
 returns g c =
-    let old = fleet_of c.args.self.now in
-    let new = fleet_of c.apply-seen.new.self in
-    let given = data_in c.apply-seen.new.self in
+    let old = fleet_of c.args.self.now.state in
+    let new = fleet_of c.apply-seen.new.self.state in
+    let given = data_in c.apply-seen.new.self.state in
     let step = c.apply-seen.ensures.step in
     let few : length given ≤ most_bytes = subst (λ xs. length xs ≤ most_bytes) c.data.ensures.value c.data.ensures.few in
     let room = fits-room g.M.Medium.tells old c.args.event (record { seen = c.apply-seen.result; bytes = given }) new step few in
@@ -22,5 +23,7 @@ returns g c =
         mailboxes = subst (λ xs. mailboxes.Step g.M.Medium.tells old c.args.event (record { seen = c.apply-seen.result; bytes = xs }) new) (sym (whole ∙ c.data.ensures.value)) step;
         below = c.apply-seen.ensures.below;
       };
+      calls = replied g.M.Medium.step g.M.Medium.tells (layers_of c.args.self.now.state) (layers_of c.apply-seen.new.self.state) c.args.event c.apply-seen.result _ c.args.self.now.medium c.apply-seen.new.self.medium
+          (subst (λ xs. mailboxes.Step g.M.Medium.tells old c.args.event (record { seen = c.apply-seen.result; bytes = xs }) new) (sym (whole ∙ c.data.ensures.value)) step) c.apply-seen.ensures.calls;
       bytes = whole ∙ c.data.ensures.value;
     }
