@@ -1,9 +1,9 @@
 -- Bytes spelled one part after the other, at the front of zeros.
-use Rattle.std.proofs.Common.{◌≡◌, ℕ, zero, suc, ◌+◌, ◌-◌, ◌*◌, ◌<◌, List, [], ◌∷◌, ◌++◌, length, take, drop, replicate, refl, sym, ap, ◌∙◌, arith, append_assoc, length-append}
+use Rattle.std.proofs.Common.{◌≡◌, ℕ, zero, suc, ◌+◌, ◌-◌, ◌*◌, ◌<◌, ◌≤◌, List, [], ◌∷◌, ◌++◌, length, take, drop, replicate, refl, sym, ap, ◌∙◌, arith, append_assoc, length-append}
 use Rattle.std.specs.Prelude.{slice_index_or}
 use Rattle.std.specs.List.{flat_map}
 use Rattle.std.specs.Int.{w16, w64, to_le_bytes}
-use Rattle.std.proofs.lemmas.List.{append-nil, take_at, take_more, take_all, length-take-le}
+use Rattle.std.proofs.lemmas.List.{append-nil, take_at, take_more, take_all, length-take-le, length-replicate}
 use Rattle.std.proofs.lemmas.Grind.{flat_map-append}
 use Rattle.std.proofs.Math.Seq.{drop-append-add}
 use Rattle.nvme_spec.specs.Bytes.{with_bytes}
@@ -32,6 +32,17 @@ words xs = flat_map (to_le_bytes w16) xs
 pub length-words : (xs : List ℕ) → length (words xs) ≡ 2 * length xs
 length-words [] = refl
 length-words (x ∷ xs) = length-append (to_le_bytes w16 x) (words xs) ∙ (let e = length-words xs in omega arith)
+
+-- a Controller List fills its page
+pub controller_list_length : (xs : List ℕ) → length xs ≤ 2047 → length (controller_list xs) ≡ 4096
+unfolding controller_list
+controller_list_length xs h =
+    let a = length-append (to_le_bytes w16 (length xs) ++ words xs) (replicate (4094 - 2 * length xs) 0) in
+    let b = length-append (to_le_bytes w16 (length xs)) (words xs) in
+    let c : length (to_le_bytes w16 (length xs)) ≡ 2 = refl in
+    let d = length-words xs in
+    let e = length-replicate {A = ℕ} (4094 - 2 * length xs) 0 in
+    omega (arith, a, b, c, d, e, h)
 
 words-more : (xs : List ℕ) (i : ℕ) → i < length xs → words (take (i + 1) xs) ≡ words (take i xs) ++ to_le_bytes w16 (slice_index_or xs i 0)
 words-more xs i h =

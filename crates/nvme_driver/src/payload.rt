@@ -1,11 +1,15 @@
 //! The data that go to the controller with a request.
 
-ghost use Rattle.std.specs.Prelude.{◌≡◌, ◌++◌, ◌≤◌, false, length};
-ghost use Rattle.nvme_driver.specs.Requests.{asked_of, is_bad as bad, controller_list as list_bytes, key};
+ghost use Rattle.std.specs.Prelude.{◌≡◌, ◌+◌, ◌++◌, ◌≤◌, false, length};
+ghost use Rattle.nvme_spec.specs.Bytes.{with_bytes};
 ghost use Rattle.nvme_spec.specs.Limits.{most_bytes};
-ghost use Rattle.nvme_driver.specs.Payloads.{bytes_of};
+ghost use Rattle.nvme_spec.specs.Memory.{window_size};
+ghost use Rattle.nvme_driver.specs.Calls.{Stores};
+ghost use Rattle.nvme_driver.specs.Payloads.{bytes_of, IsSpelled};
+ghost use Rattle.nvme_driver.specs.Requests.{asked_of, is_bad as bad, controller_list as list_bytes, key};
 
 use crate::bytes::put_bytes;
+use crate::port::Port;
 use crate::request::Request;
 
 /// The data that go to the controller with a request: the caller's, or made from the request's fields.
@@ -19,23 +23,42 @@ pub enum Payload<'a> {
     Key([u8; 8]),
     /// Two reservation keys.
     Keys([u8; 16]),
-    /// A Controller List.
-    Identifiers([u8; 4096]),
+    /// A Controller List of these identifiers.
+    Identifiers(&'a [u16]),
 }
 
 impl Payload<'_> {
-    /// The bytes.
-    pub fn as_slice(&self) -> &[u8]
-        ensures { result.now ≡ bytes_of self.now }
+    /// Stores the bytes from `addr` on.
+    pub(crate) fn store<P: Port>(&self, port: &mut P, addr: u64)
+        requires inside { addr + length (bytes_of self.now) ≤ window_size }
+        requires short { IsSpelled self.now }
+        ensures step { P.step port.old (Stores addr (bytes_of self.now)) port.new }
+        ensures whole { length (P.bytes port.old) ≡ window_size }
+        ensures bytes { P.bytes port.new ≡ with_bytes (P.bytes port.old) addr (bytes_of self.now) }
+        ensures links { P.links port.new ≡ P.links port.old }
     {
         match self {
-            Payload::Nothing => &[],
-            Payload::Given(bytes) => bytes,
-            Payload::Key(bytes) => bytes,
-            Payload::Keys(bytes) => bytes,
-            Payload::Identifiers(bytes) => bytes,
+            Payload::Nothing => port.store(addr, &[]),
+            Payload::Given(bytes) => port.store(addr, bytes),
+            Payload::Key(bytes) => port.store(addr, bytes),
+            Payload::Keys(bytes) => port.store(addr, bytes),
+            Payload::Identifiers(list) => store_list(port, addr, list),
         }
     }
+}
+
+/// Stores a Controller List from `addr` on.
+// Not inlined, so that only the requests that send a list pay for the room of its page.
+#[inline(never)]
+fn store_list<P: Port>(port: &mut P, addr: u64, list: &[u16])
+    requires inside { addr + length (list_bytes list.now) ≤ window_size }
+    requires short { length list.now ≤ 2047 }
+    ensures step { P.step port.old (Stores addr (list_bytes list.now)) port.new }
+    ensures whole { length (P.bytes port.old) ≡ window_size }
+    ensures bytes { P.bytes port.new ≡ with_bytes (P.bytes port.old) addr (list_bytes list.now) }
+    ensures links { P.links port.new ≡ P.links port.old }
+{
+    port.store(addr, &controller_list(list));
 }
 
 /// Two reservation keys, one after the other.
@@ -63,10 +86,12 @@ fn controller_list(list: &[u16]) -> [u8; 4096]
 
 impl<'a> Request<'a> {
     /// The data that go to the controller with the request.
+    #[tactic(auto, using(crate::proofs::Spelling::controller_list_length))]
     pub(crate) fn payload(&self) -> Payload<'a>
         requires { bad self.now ≡ false }
         ensures bytes { bytes_of result ≡ (asked_of self.now).sent }
         ensures most { length (bytes_of result) ≤ most_bytes }
+        ensures short { IsSpelled result }
     {
         match *self {
             Request::Write { bytes, .. } | Request::Compare { bytes, .. } => Payload::Given(bytes),
@@ -74,7 +99,7 @@ impl<'a> Request<'a> {
             Request::Acquire { crkey, prkey, .. } => Payload::Keys(keys(crkey, prkey)),
             Request::Release { crkey, .. } => Payload::Key(crkey.to_le_bytes()),
             Request::Attach { list, .. } | Request::Detach { list, .. } => {
-                Payload::Identifiers(controller_list(list))
+                Payload::Identifiers(list)
             }
             _ => Payload::Nothing,
         }

@@ -1,9 +1,6 @@
 -- How many bytes a request moves: those that it sends, or those that it receives, and never more than a transfer has.
 use Rattle.std.proofs.Common.{true, ◌≡◌, ℕ, ◌-◌, ◌*◌, ◌≤◌, nat_lt, false, List, ◌++◌, length, refl, ap, ◌∙◌, arith, length-append, inl, inr}
 use Rattle.std.proofs.lemmas.Bool.{cases_lt, lt-ltb}
-use Rattle.std.proofs.lemmas.List.{length-replicate}
-use Rattle.std.specs.Prelude.{replicate}
-use Rattle.std.specs.Int.{w16, to_le_bytes}
 use Rattle.std.specs.Prelude.{◌==◌}
 use Rattle.nvme_spec.specs.Limits.{most_bytes}
 use Rattle.nvme_spec.specs.Commands as io_commands
@@ -13,7 +10,7 @@ use Rattle.nvme_driver.specs.declared.request.Request.{Request}
 use Rattle.nvme_driver.specs.declared.request.Request.TheVariants.{Read, Write, Compare, WriteZeroes, Flush, Register, Acquire, Release, Report, Identify, Protect, Protection, Attach, Detach}
 use Rattle.nvme_driver.specs.Requests.{Asked, asked_of, is_bad, key, controller_list}
 use Rattle.nvme_driver.proofs.Moving.{within, whole}
-use Rattle.nvme_driver.proofs.Spelling.{words, length-words}
+use Rattle.nvme_driver.proofs.Spelling.{controller_list_length}
 
 pub record Sizes (a : Asked) : Type 0 where
   pub received : a.received ≤ a.moved
@@ -31,16 +28,6 @@ few-listed n e = elim (cases_lt 2047 n) [
   | inl l ↦ (let t = lt-ltb 2047 n l in absurd (cc (e, t)))
   | inr g ↦ omega (arith, g)
 ]
-
-length-list : (xs : List ℕ) → length xs ≤ 2047 → length (controller_list xs) ≡ 4096
-unfolding controller_list
-length-list xs h =
-    let a = length-append (to_le_bytes w16 (length xs) ++ words xs) (replicate (4094 - 2 * length xs) 0) in
-    let b = length-append (to_le_bytes w16 (length xs)) (words xs) in
-    let c : length (to_le_bytes w16 (length xs)) ≡ 2 = refl in
-    let d = length-words xs in
-    let e = length-replicate {A = ℕ} (4094 - 2 * length xs) 0 in
-    omega (arith, a, b, c, d, e, h)
 
 sending-sizes : (n : ℕ) (xs : List ℕ) → length xs ≡ n → n ≤ most_bytes → (a : Asked) → a.received ≡ 0 → a.moved ≡ n → a.sent ≡ xs → Sizes a
 sending-sizes n xs h g a r m s = record {
@@ -62,8 +49,8 @@ sizes (Report nsid dwords) e = let w = within dwords 32768 e in record { receive
 sizes (Identify cns nsid) e = record { received = omega arith; sent = refl; most = omega arith }
 sizes (Protect nsid state) e = record { received = omega arith; sent = refl; most = omega arith }
 sizes (Protection nsid) e = record { received = omega arith; sent = refl; most = omega arith }
-sizes (Attach nsid list) e = sending-sizes 4096 (controller_list list.now) (length-list list.now (few-listed (length list.now) e)) (omega arith) _ refl refl refl
-sizes (Detach nsid list) e = sending-sizes 4096 (controller_list list.now) (length-list list.now (few-listed (length list.now) e)) (omega arith) _ refl refl refl
+sizes (Attach nsid list) e = sending-sizes 4096 (controller_list list.now) (controller_list_length list.now (few-listed (length list.now) e)) (omega arith) _ refl refl refl
+sizes (Detach nsid list) e = sending-sizes 4096 (controller_list list.now) (controller_list_length list.now (few-listed (length list.now) e)) (omega arith) _ refl refl refl
 
 -- what a request asks is plain
 self : (n : ℕ) → (n == n) ≡ true

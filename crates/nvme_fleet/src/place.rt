@@ -18,6 +18,8 @@ use nvme_medium::Medium;
 /// # Errors
 /// The first of `NotReady`, `BadRequest`, `NoSlot`, `RingFull` and `TicketsExhausted` that holds. The mailbox then
 /// stays as it is.
+// Not inlined, so that the other calls do not pay for the room of its locals.
+#[inline(never)]
 pub fn place<M: Medium>(
     driver: &mut Driver,
     link: &mut Link<'_, M>,

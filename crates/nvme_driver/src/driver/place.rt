@@ -121,7 +121,7 @@ impl Driver {
         let lane = request.lane();
         let mut ends = self.ends(lane);
         let entry_place = lane.submission_queue() + 64 * u64::from(ends.tail());
-        port.store(data_area(slot), request.payload().as_slice());
+        request.payload().store(port, data_area(slot));
         port.store(
             list_page(slot),
             PageList::new(slot, request.moved()).as_slice(),
