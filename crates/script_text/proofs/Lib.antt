@@ -4,6 +4,8 @@ mod HexTextLemmas
 mod LineLemmas
 pub mod OnLiterals
 mod NumberLemmas
+mod ReadingLemmas
+mod StreamLaws
 mod TrimLemmas
 pub mod WordLemmas
 pub mod WritingLemmas

@@ -1,7 +1,9 @@
-pub mod Numbers
-pub mod Words
-pub mod Lines
 pub mod Data
 pub mod HexText
+pub mod Lines
+pub mod Numbers
 pub mod Reading
+pub mod StreamLaws
+pub mod Streams
+pub mod Words
 pub mod Writing

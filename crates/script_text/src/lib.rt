@@ -6,9 +6,11 @@ mod data;
 mod decoding;
 mod examples;
 mod hex_text;
+pub mod laws;
 mod lines;
 mod number;
 mod reading;
+mod stream;
 mod words;
 mod writing;
 
@@ -17,5 +19,6 @@ pub use hex_text::HexText;
 pub use lines::front_line;
 pub use number::{number_u8, number_u16, number_u32, number_u64};
 pub use reading::{ReadFault, read_text};
+pub use stream::{Sink, Source};
 pub use words::{FirstWord, FrontWords, MOST_WORDS, first_word, words_of};
 pub use writing::write_whole;

@@ -1,11 +1,10 @@
 //! The text of a script.
 
-ghost use Rattle.std.specs.Prelude.{◌≡◌, ◌≤◌, IfOk, IfErr, vec_len};
-ghost use Rattle.std.specs.Io.KnownBytes.{Consumes, IsAtEnd};
-ghost use Rattle.script_text.specs.Reading.{longest, IsReadFault};
+ghost use Rattle.std.specs.Prelude.{◌≤◌, IfOk, IfErr, Ok, Err, vec_len};
+ghost use Rattle.script_text.specs.Reading.{longest, IsRead};
 
+use crate::stream::Source;
 use std::alloc::Global;
-use std::io::Read;
 
 /// Why a text was not read to its end.
 #[derive(Clone, Copy, Debug, PartialEq, Eq)]
@@ -21,23 +20,23 @@ pub enum ReadFault {
 /// The longest script, in bytes.
 const LONGEST: usize = 4_194_304;
 
-/// Reads a text to its end.
+/// Reads a text to its end, by reads of 4,096 bytes at most. Nothing is read behind the end, behind a read that fails,
+/// or behind byte 4,194,305.
 ///
 /// # Errors
 ///
 /// `TooLong` where it has more than 4,194,304 bytes, one of which is read behind those; `NoMemory` where memory is
 /// refused; `Read` where the reader fails.
-pub fn read_text<R: Read>(alloc: Global, reader: &mut R) -> Result<Vec<u8>, ReadFault>
+pub fn read_text<R: Source>(alloc: Global, reader: &mut R) -> Result<Vec<u8>, ReadFault>
     ensures length { IfOk result (λ text. vec_len text ≤ longest) }
-    ensures ok { IfOk result (λ text. Consumes (R.remaining reader.old) (R.remaining reader.new) text.items) }
-    ensures end { IfOk result (λ _. IsAtEnd (R.remaining reader.new)) }
-    ensures err { IfErr result (λ fault. IsReadFault fault (R.remaining reader.old)) }
+    ensures text { IfOk result (λ text. IsRead R.step R.remaining reader.old (Ok text.items) reader.new) }
+    ensures fault { IfErr result (λ fault. IsRead R.step R.remaining reader.old (Err fault) reader.new) }
 {
     let mut text = Vec::new(alloc);
     let mut chunk = [0; 4096];
     while text.len() <= LONGEST {
         let room = (LONGEST + 1 - text.len()).min(chunk.len());
-        let Ok(count) = reader.read(&mut chunk[..room]) else {
+        let Ok(count) = reader.take_some(&mut chunk[..room]) else {
             return Err(ReadFault::Read);
         };
         if count == 0 {

@@ -1,10 +1,13 @@
-use Rattle.std.proofs.Common.{◌≤◌, ◌-◌, vec_len}
-use Rattle.std.specs.Io.KnownBytes.{Consumes}
+use Rattle.std.proofs.Common.{◌≤◌, ◌-◌, List, ℕ, vec_len}
+use Rattle.std.specs.Prelude.{Result}
+use Rattle.script_text.specs.declared.reading.ReadFault.{ReadFault}
+use Rattle.script_text.specs.Reading.{ReadsOn, IsRead}
 use Rattle.script_text.proofs.reading.read_text.Given as goal
 
 abbrev pub invariant-loop-chunk : goal.invariant-loop-chunk
 invariant-loop-chunk g l = record {
-  consumed : Consumes (g.R.Read.remaining l.fn.reader) (g.R.Read.remaining l.reader) l.text.items;
+  rest : (outcome : Result (List ℕ) ReadFault) (new : g.row.R.Denot)
+      → ReadsOn g.R.Source.step g.R.Source.remaining l.text.items l.reader outcome new → IsRead g.R.Source.step g.R.Source.remaining l.fn.reader outcome new;
   bound : vec_len l.text ≤ 4194305;
 }
 

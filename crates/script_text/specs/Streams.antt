@@ -1,0 +1,45 @@
+-- The calls that are made of streams, each with its answer, in order.
+use Rattle.std.specs.Prelude.{◌≡◌, ◌<◌, ◌≤◌, ℕ, List, [], ◌∷◌, ◌++◌, length, take, Option, Some, None, Result, Ok, Err}
+use Rattle.std.specs.Io.KnownBytes.{Consumes, Appends, Keeps, IsAtEnd}
+
+-- One call of a stream that is read: room for so many bytes, and the bytes that came, or none where it failed.
+pub data ReadCall : Type 0 where
+  Reads : ℕ → Option (List ℕ) → ReadCall
+
+-- One call of a stream that is written: the bytes that it is given, and how many it took, or none where it failed.
+pub data WriteCall : Type 0 where
+  Writes : List ℕ → Option ℕ → WriteCall
+
+-- what a read answered: the front of the part, or a fault
+abbrev pub come : {E : Type 0} → Result ℕ E → List ℕ → Option (List ℕ)
+come (Ok n) part = Some (take n part)
+come (Err e) part = None
+
+-- what a write answered
+abbrev pub taken : {E : Type 0} → Result ℕ E → Option ℕ
+taken (Ok n) = Some n
+taken (Err e) = None
+
+-- by these calls, one after the other, the stream goes from the old state to the new one
+abbrev pub Calls : {S C : Type 0} → (S → C → S → Type 0) → S → List C → S → Type 0
+Calls step old [] new = new ≡ old
+Calls {S} step old (call ∷ calls) new = (mid : S) × step old call mid × Calls step mid calls new
+
+-- all bytes that came
+abbrev pub all_come : List ReadCall → List ℕ
+all_come [] = []
+all_come (Reads room (Some bytes) ∷ calls) = bytes ++ all_come calls
+all_come (Reads room None ∷ calls) = all_come calls
+
+-- what a call of any reader of bytes says of what it has left, where that is known
+abbrev pub ReadsSome : {R : Type 0} → (R → Option (List ℕ)) → R → ReadCall → R → Type 0
+ReadsSome remaining old (Reads room (Some bytes)) new =
+    Consumes (remaining old) (remaining new) bytes × (length bytes ≤ room)
+    × (bytes ≡ [] → 0 < room → IsAtEnd (remaining new))
+ReadsSome remaining old (Reads room None) new = Keeps (remaining old) (remaining new)
+
+-- what a call of any writer of bytes says of what it holds, where that is known
+abbrev pub WritesSome : {W : Type 0} → (W → Option (List ℕ)) → W → WriteCall → W → Type 0
+WritesSome contents old (Writes bytes (Some n)) new =
+    Appends (contents old) (contents new) (take n bytes) × (n ≤ length bytes)
+WritesSome contents old (Writes bytes None) new = Keeps (contents old) (contents new)
