@@ -1,0 +1,8 @@
+-- A line on its way to a writer.
+use Rattle.std.specs.Prelude.{◌≡◌, ◌⊎◌, ℕ, List, Result, IsErr}
+use Rattle.script_text.specs.Streams.{WriteCall}
+use Rattle.script_text.specs.Writing.{IsWritten}
+
+-- a line was written by its writes and no others, or its text had no room, and nothing was written
+abbrev pub WritesLine : {S T E : Type 0} → (S → WriteCall → S → Type 0) → List ℕ → S → Result T E → S → Type 0
+WritesLine step line old outcome new = IsWritten step line old outcome new ⊎ (IsErr outcome × (new ≡ old))
