@@ -1,6 +1,8 @@
 -- What the end of a script's run says of its text.
-use Rattle.std.proofs.Common.{◌≡◌, ℕ, Bool, List, Option, Some, None, ◌∙◌, subst}
-use Rattle.std.specs.Prelude.{IfSome}
+use Rattle.std.proofs.Common.{◌≡◌, ℕ, Bool, List, Option, Some, None, Ok, Err, ◌∙◌, subst}
+use Rattle.std.specs.Prelude.{Result, MatchResult}
+use Rattle.script_text.specs.Streams.{ReadCall}
+use Rattle.script_text.specs.declared.reading.ReadFault.{ReadFault}
 use Rattle.nvme_spec.specs.Blocks.{Device}
 use Rattle.nvme_spec.specs.Configuration.{first_config_fault}
 use Rattle.nvme_spec.specs.declared.config.ConfigFault.{ConfigFault}
@@ -11,12 +13,17 @@ use Rattle.nvme_fleet.specs.Fleets.{Fleet, opening}
 use Rattle.nvme_grammar.specs.declared.script.Script.{Script}
 use Rattle.nvme_script.specs.declared.run.ScriptFault.{ScriptFault}
 use Rattle.nvme_script.specs.declared.run.ScriptFault.TheVariants.{Syntax, Config, TooLong, NoMemory, Read, Write}
-use Rattle.nvme_script.specs.Faults.{IsScript, IsReady, IsEarlyFault, IsFault, IsWrite, Transcribes, StopsAt, Runs, events_in, fleet_of_text, of_opening}
+use Rattle.nvme_script.specs.Faults.{IsScript, IsReady, IsEarlyFault, IsFault, IsWrite, Transcribes, StopsAt, Runs, ReadsThen, events_in, fleet_of_text, of_opening, of_reading}
 use Rattle.nvme_script.proofs.Preparing.{accepted_script, opened_fleet}
 
-pub if_some-map : {A : Type 0} (o : Option A) (P Q : A → Type 0) → ((x : A) → P x → Q x) → IfSome o P → IfSome o Q
-if_some-map None P Q f h = tt
-if_some-map (Some x) P Q f h = f x h
+-- what is said of the text may be said otherwise
+pub read_then-map : {S : Type 0} (step : S → ReadCall → S → Type 0) (remaining : S → Option (List ℕ)) (old new : S) (fault : ScriptFault) (With Then : List ℕ → Type 0)
+    → ((text : List ℕ) → With text → Then text) → ReadsThen step remaining old new fault With → ReadsThen step remaining old new fault Then
+read_then-map step remaining old new fault With Then f h = (h.0, h.1, by h.0 h.2)
+  where
+    by : (outcome : Result (List ℕ) ReadFault) → MatchResult outcome With (λ reading. fault ≡ of_reading reading) → MatchResult outcome Then (λ reading. fault ≡ of_reading reading)
+    by (Ok text) k = f text k
+    by (Err reading) k = k
 
 module _ (tells : Bool) (text : List ℕ) (size : ℕ) (old new : Device) (before after : Option (List ℕ)) where
   -- a fault before the first event

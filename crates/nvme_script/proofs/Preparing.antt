@@ -20,12 +20,6 @@ use Rattle.nvme_grammar.proofs.ReadingLemmas.{started}
 use Rattle.nvme_script.specs.declared.run.ScriptFault.TheVariants.{Config}
 use Rattle.nvme_script.specs.Faults.{IsScript, IsReady, IsEarlyFault, fleet_of_text, of_opening}
 
--- all that was there was read
-pub Consumes-all : (a b : Option (List ℕ)) (p : List ℕ) → Consumes a b p → IsAtEnd b → IfSome a (λ t. t ≡ p)
-Consumes-all None b p h k = tt
-Consumes-all (Some xs) None p h k = absurd h
-Consumes-all (Some xs) (Some ys) p h k = h ∙ (ap (λ t. p ++ t) k ∙ append-nil p)
-
 same_configuration : (raw : List (List ℕ)) (script : Script) → Says (said raw) script → configuration script.config ≡ configuration_of raw
 same_configuration raw script says = λ i. record { controllers = says.controllers i; namespaces = says.namespaces i; attached = says.attached i }
 

@@ -1,5 +1,5 @@
 -- What a script's run gives, and what each fault says.
-use Rattle.std.specs.Prelude.{◌≡◌, ℕ, Bool, ◌<◌, ◌≤◌, List, [], ◌∷◌, ◌++◌, length, take, slice_get, Option, None, Some, unwrap_or}
+use Rattle.std.specs.Prelude.{◌≡◌, ℕ, Bool, ◌<◌, ◌≤◌, List, [], ◌∷◌, ◌++◌, length, take, slice_get, Option, None, Some, Result, MatchResult, unwrap_or}
 use Rattle.std.specs.Io.KnownBytes.{Appends}
 use Rattle.nvme_spec.specs.Blocks.{Device}
 use Rattle.nvme_spec.specs.Configuration.{first_config_fault}
@@ -9,7 +9,8 @@ use Rattle.nvme_fleet.specs.Fleets.{Fleet, Run, opening}
 use Rattle.nvme_spec.specs.declared.config.ConfigFault.{ConfigFault}
 use Rattle.nvme_spec.specs.declared.config.ConfigFault.TheVariants.{NoMemory as WantOfMemory}
 use Rattle.script_text.specs.Lines.{text_lines}
-use Rattle.script_text.specs.Reading.{longest}
+use Rattle.script_text.specs.Streams.{ReadCall}
+use Rattle.script_text.specs.Reading.{longest, IsRead}
 use Rattle.script_text.specs.declared.reading.ReadFault.{ReadFault}
 use Rattle.script_text.specs.declared.reading.ReadFault.TheVariants as reading
 use Rattle.nvme_transcript.specs.Transcript.{line_of, transcript}
@@ -91,15 +92,15 @@ pub record IsReady (text : List ℕ) (script : Script) : Type 0 where
   pub grammar : Begins (text_lines text)
   pub says : Says (said (text_lines text)) script
 
--- what a fault that comes before the first event says
+-- what a fault says of a text that was read, where it comes before the first event
 abbrev pub IsEarlyFault : ScriptFault → List ℕ → ℕ → Type 0
 IsEarlyFault (Syntax n) text medium_blocks = (length text ≤ longest) × IsFirstOutside n (text_lines text)
 IsEarlyFault (Config n fault) text medium_blocks =
     (length text ≤ longest) × Begins (text_lines text) × (start_of (text_lines text) ≡ Some n)
     × (first_config_fault (configuration_of (text_lines text)) medium_blocks ≡ Some fault)
-IsEarlyFault TooLong text medium_blocks = longest < length text
 IsEarlyFault NoMemory text medium_blocks = Unit {0}
-IsEarlyFault Read text medium_blocks = Unit {0}
+IsEarlyFault TooLong text medium_blocks = ⊥
+IsEarlyFault Read text medium_blocks = ⊥
 IsEarlyFault Write text medium_blocks = ⊥
 
 -- what a fault says of the text, of the medium before and after, and of what was written before and after
@@ -107,6 +108,13 @@ abbrev pub IsFault : Bool → ScriptFault → List ℕ → ℕ → Device → De
 IsFault tells Write text medium_blocks old new before after = IsScript text medium_blocks
     × Stops tells text old new before after
 IsFault tells fault text medium_blocks old new before after = IsEarlyFault fault text medium_blocks
+
+-- The text of a run was read by its reads and no others, and nothing was read behind them: a fault of reading is the
+-- run's own, and with a text the run went on so.
+abbrev pub ReadsThen : {S : Type 0} → (S → ReadCall → S → Type 0) → (S → Option (List ℕ)) → S → S → ScriptFault
+    → (List ℕ → Type 0) → Type 0
+ReadsThen step remaining old new fault With = (outcome : Result (List ℕ) ReadFault)
+    × IsRead step remaining old outcome new × MatchResult outcome With (λ reading. fault ≡ of_reading reading)
 
 abbrev pub IsWrite : ScriptFault → Type 0
 IsWrite Write = Unit {0}

@@ -1,11 +1,12 @@
 //! A script from its text to its transcript.
 
-ghost use Rattle.std.specs.Prelude.{◌≡◌, ◌≤◌, ◌⊎◌, ◌∷◌, [], ℕ, IfOk, IfErr, IfSome, OnOk, OnErr, length, vec_len};
+ghost use Rattle.std.specs.Prelude.{◌≡◌, ◌≤◌, ◌⊎◌, ◌∷◌, [], ℕ, List, IfOk, IfErr, OnOk, OnErr, Ok, length, vec_len};
+ghost use Rattle.script_text.specs.Reading.{IsRead};
 ghost use Rattle.script_text.specs.Words.{most_words};
 ghost use Rattle.nvme_grammar.specs.Room.{HasBytesRoom};
 ghost use Rattle.nvme_fleet.specs.FleetStates.{fleet_of};
 ghost use Rattle.nvme_grammar.specs.Script.{events_of};
-ghost use Rattle.nvme_script.specs.Faults.{IsScript, IsReady, Transcribes, StopsAt, Runs, IsEarlyFault, IsFault, IsWrite, events_in, of_reading, of_grammar, of_opening};
+ghost use Rattle.nvme_script.specs.Faults.{IsScript, IsReady, Transcribes, StopsAt, Runs, IsEarlyFault, IsFault, IsWrite, ReadsThen, events_in, of_reading, of_grammar, of_opening};
 ghost use Rattle.nvme_script.specs.declared.run.ScriptFault.TheVariants.{NoMemory as MemoryRefused};
 
 use nvme_fleet::{Fleet, NewFault};
@@ -13,10 +14,10 @@ use nvme_grammar::{Buffers, Line, ParseFault, Script, parse, parse_line};
 use nvme_medium::Medium;
 use nvme_spec::ConfigFault;
 use nvme_transcript::{LONGEST_LINE, TranscriptLine, write_line};
-use script_text::{ReadFault, front_line, read_text};
+use script_text::{ReadFault, Source, front_line, read_text};
 use std::alloc::{AllocError, Global};
 use std::io;
-use std::io::{Read, Write};
+use std::io::Write;
 use thiserror::Error;
 
 /// Why a script was not run to its end. A fault's text is what the program prints.
@@ -84,13 +85,13 @@ struct Ready {
 }
 
 /// Reads a script, and makes the room that its events work in.
-fn prepare<R: Read>(alloc: Global, reader: &mut R) -> Result<Ready, ScriptFault>
-    ensures text { IfOk result (λ ready. IfSome (R.remaining reader.old) (λ text. text ≡ ready.text.items)) }
+fn prepare<R: Source>(alloc: Global, reader: &mut R) -> Result<Ready, ScriptFault>
+    ensures text { IfOk result (λ ready. IsRead R.step R.remaining reader.old (Ok ready.text.items) reader.new) }
     ensures script { IfOk result (λ ready. IsReady ready.text.items ready.script) }
     ensures bytes_room { IfOk result (λ ready. HasBytesRoom ready.text.items ready.buffers.bytes.items) }
     ensures identifiers_room { IfOk result (λ ready. most_words ready.text.items ≤ vec_len ready.buffers.identifiers) }
-    ensures fault { IfErr result
-        (λ fault. IfSome (R.remaining reader.old) (λ text. (size : ℕ) → IsEarlyFault fault text size)) }
+    ensures fault { IfErr result (λ fault. ReadsThen R.step R.remaining reader.old reader.new fault
+        (λ text. (size : ℕ) → IsEarlyFault fault text size)) }
     ensures early { IfErr result (λ fault. ¬ IsWrite fault) }
 {
     let text = read_text(alloc, reader)?;
@@ -215,22 +216,24 @@ fn run_ready<W: Write, M: Medium>(
 /// Runs a script: reads it whole, opens its configuration over the medium, and lets its events happen in their order,
 /// each of which adds its line to the transcript.
 ///
-/// A text that tells its bytes is answered exactly as the definitions say. Faults are found in the order reading
-/// (`Read`, `TooLong`), grammar (`Syntax`), configuration (`Config`), writing (`Write`). `NoMemory` may come at any
-/// point before the first event, and never later. After all but `Write` nothing was written and the medium is as it
-/// was; after `Write` exactly the events up to and including the one whose line could not be written have happened,
-/// the lines before that one were written whole, and of its own line not all.
-pub fn run_script<R: Read, W: Write, M: Medium>(
+/// The text that the reader gives is answered exactly as the definitions say. It is read by the reads of `read_text`,
+/// and nothing behind them. Faults are found in the order reading (`Read`, `TooLong`), grammar (`Syntax`),
+/// configuration (`Config`), writing (`Write`). `Read` comes only where a read failed. `NoMemory` may come at any point
+/// before the first event, and never later. After all but `Write` nothing was written and the medium is as it was;
+/// after `Write` exactly the events up to and including the one whose line could not be written have happened, the
+/// lines before that one were written whole, and of its own line not all.
+pub fn run_script<R: Source, W: Write, M: Medium>(
     alloc: Global,
     reader: &mut R,
     writer: &mut W,
     medium: M,
 ) -> Result<M, (ScriptFault, M)>
     // The transcript is that of the text that was read, and the medium has what its events left.
-    ensures ok { IfOk result (λ after. IfSome (R.remaining reader.old) (λ text. IsScript text (M.size medium)
-        × Runs M.tells text (M.device medium) (M.device after) (W.contents writer.old) (W.contents writer.new))) }
-    // What each fault says.
-    ensures fault { IfErr result (λ e. IfSome (R.remaining reader.old) (λ text.
+    ensures ok { IfOk result (λ after. (text : List ℕ) × IsRead R.step R.remaining reader.old (Ok text) reader.new
+        × IsScript text (M.size medium)
+        × Runs M.tells text (M.device medium) (M.device after) (W.contents writer.old) (W.contents writer.new)) }
+    // What each fault says of the reads, and of the text that they gave.
+    ensures fault { IfErr result (λ e. ReadsThen R.step R.remaining reader.old reader.new e.0 (λ text.
         IsFault M.tells e.0 text (M.size medium) (M.device medium) (M.device e.1) (W.contents writer.old)
         (W.contents writer.new))) }
     // Each fault but one of the writer comes before the first event.

@@ -1,6 +1,6 @@
 use Rattle.std.proofs.Common.{ℕ}
 use Rattle.nvme_script.specs.Faults.{IsEarlyFault, IsFault}
-use Rattle.nvme_script.proofs.Ending.{if_some-map, early_fault}
+use Rattle.nvme_script.proofs.Ending.{read_then-map, early_fault}
 use Rattle.nvme_script.proofs.run.run_script.Goals as goal
 
 pub returns-in-Err-clause-fault : goal.returns-in-Err-clause-fault
@@ -10,5 +10,6 @@ returns-in-Err-clause-fault g c =
     let device = g.M.Medium.device c.args.medium in
     let written = g.W.Write.contents c.args.writer.now in
     let fault = c.in-Err.fault in
-    if_some-map (g.R.Read.remaining c.args.reader.now) (λ text. (n : ℕ) → IsEarlyFault fault text n) (λ text. IsFault tells fault text size device device written written)
+    read_then-map g.R.Source.step g.R.Source.remaining c.args.reader.now c.prepare.new.reader fault
+    (λ text. (n : ℕ) → IsEarlyFault fault text n) (λ text. IsFault tells fault text size device device written written)
     (λ text early. early_fault tells text size device device written written fault c.in-Err.ensures.early (early size)) c.in-Err.ensures.fault
