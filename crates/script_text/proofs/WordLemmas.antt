@@ -3,7 +3,7 @@ use Rattle.std.proofs.Common.{◌≡◌, ℕ, suc, ◌<◌, ◌+◌, List, [], �
 use Rattle.std.specs.Prelude.{◌||◌, ◌&&◌, if◌then◌else◌, filter}
 use Rattle.std.specs.List.{prefix_len, slice_split}
 use Rattle.std.proofs.lemmas.Bool.{false≢true}
-use Rattle.script_text.specs.Words.{is_separator, is_visible, is_line_text, is_nonempty, line_words, starts_apart}
+use Rattle.script_text.specs.Words.{is_separator, is_visible, is_line_text, is_nonempty, line_words, starts_apart, behind_separators, behind_word}
 
 -- a separator at the front says nothing
 pub separator-words : (b : ℕ) (bs : List ℕ) → is_separator b ≡ true → line_words (b ∷ bs) ≡ line_words bs
@@ -28,6 +28,18 @@ invisible (b ∷ bs) apart some none = by (is_visible b) (is_separator b) none a
 
 one-more : (n : ℕ) → 1 + n ≡ suc n
 one-more n = omega arith
+
+-- what stands behind a separator, and behind a word
+pub separator-behind : (b : ℕ) (bs : List ℕ) → is_separator b ≡ true → behind_separators (b ∷ bs) ≡ behind_separators bs
+separator-behind b bs h = rw (h, one-more (prefix_len is_separator bs)) refl
+
+pub word-behind : (line rest bs : List ℕ) (b : ℕ) → drop (prefix_len is_visible line) line ≡ b ∷ bs → is_separator b ≡ true → rest ≡ behind_separators bs
+    → rest ≡ behind_word line
+word-behind line rest bs b e h same = rw e (same ∙ sym (separator-behind b bs h))
+
+pub word-last : (line rest : List ℕ) → drop (prefix_len is_visible line) line ≡ rest → length rest ≡ 0 → rest ≡ behind_word line
+word-last line [] e none = rw e refl
+word-last line (b ∷ bs) e none = absurd (omega (arith, none))
 
 -- the text of a line is that behind its first visible characters
 pub behind-text : (bs : List ℕ) → is_line_text (drop (prefix_len is_visible bs) bs) ≡ is_line_text bs

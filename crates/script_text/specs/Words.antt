@@ -1,6 +1,6 @@
 -- The words of a line.
-use Rattle.std.specs.Prelude.{ℕ, ◌==◌, ◌||◌, ◌&&◌, not, nat_le, Bool, true, false, List, [], ◌∷◌, filter, length, ◌+◌, ◌/◌}
-use Rattle.std.specs.List.{slice_split, list_all}
+use Rattle.std.specs.Prelude.{ℕ, zero, suc, ◌==◌, ◌||◌, ◌&&◌, not, nat_le, Bool, true, false, List, [], ◌∷◌, filter, length, drop, ◌+◌, ◌-◌, ◌/◌}
+use Rattle.std.specs.List.{slice_split, list_all, prefix_len}
 
 -- a space, a tab or a carriage return; vertical tab and form feed are none
 abbrev pub is_separator : ℕ → Bool
@@ -10,9 +10,13 @@ is_separator b = (b == 32) || (b == 9) || (b == 13)
 abbrev pub is_visible : ℕ → Bool
 is_visible b = nat_le 33 b && nat_le b 126
 
--- each byte stands between words or is a visible character
+-- a byte that stands between words or is a visible character
+abbrev pub is_text : ℕ → Bool
+is_text b = is_separator b || is_visible b
+
+-- each byte is one
 abbrev pub is_line_text : List ℕ → Bool
-is_line_text bytes = list_all (λ b. is_separator b || is_visible b) bytes
+is_line_text bytes = list_all is_text bytes
 
 abbrev pub is_nonempty : List ℕ → Bool
 is_nonempty [] = false
@@ -30,3 +34,20 @@ starts_apart (b ∷ bs) = not (is_separator b)
 -- the most words that a line of this length can have: each but the last has a separator behind it
 abbrev pub most_words : List ℕ → ℕ
 most_words line = (length line + 1) / 2
+
+-- what is left of a line behind the separators at its front
+abbrev pub behind_separators : List ℕ → List ℕ
+behind_separators line = drop (prefix_len is_separator line) line
+
+-- what is left of a line from its next word on
+abbrev pub behind_word : List ℕ → List ℕ
+behind_word line = behind_separators (drop (prefix_len is_visible line) line)
+
+-- what is left of a line from one of its words on, counted from 0
+abbrev pub from_word : ℕ → List ℕ → List ℕ
+from_word zero line = behind_separators line
+from_word (suc k) line = behind_word (from_word k line)
+
+-- where a word begins, in bytes from 1
+abbrev pub column_of : ℕ → List ℕ → ℕ
+column_of k line = length line - length (from_word k line) + 1

@@ -20,5 +20,7 @@ pub use lines::front_line;
 pub use number::{number_u8, number_u16, number_u32, number_u64};
 pub use reading::{ReadFault, read_text};
 pub use stream::{Sink, Source};
-pub use words::{FirstWord, FrontWords, MOST_WORDS, first_word, words_of};
+pub use words::{
+    FirstWord, FrontWords, MOST_WORDS, behind_separators, first_word, text_len, words_of,
+};
 pub use writing::write_whole;

@@ -2,7 +2,7 @@
 
 ghost use Rattle.std.specs.Prelude.{◌≡◌, ◌+◌, ◌<◌, ◌≤◌, ◌∷◌, ◌++◌, true, false, map, length, IfSome, IsNone};
 ghost use Rattle.std.specs.List.{prefix_len, AllByRecursion};
-ghost use Rattle.script_text.specs.Words.{line_words, is_separator, is_visible, is_line_text, starts_apart, most_words};
+ghost use Rattle.script_text.specs.Words.{line_words, is_separator, is_visible, is_line_text, starts_apart, most_words, behind_separators, behind_word, is_text};
 
 use arrayvec::ArrayVec;
 
@@ -23,8 +23,18 @@ fn is_visible_byte(byte: u8) -> bool
     33 <= byte && byte <= 126
 }
 
+/// How many bytes at the front of a line stand between words or may stand in one.
+pub fn text_len(line: &[u8]) -> usize
+    ensures { result ≡ prefix_len is_text line.now }
+{
+    line.iter()
+        .take_while(|byte| is_separator_byte(**byte) || is_visible_byte(**byte))
+        .count()
+}
+
 /// What is left of a line behind the separators at its front.
-fn behind_separators(line: &[u8]) -> &[u8]
+pub fn behind_separators(line: &[u8]) -> &[u8]
+    ensures exact { result.now ≡ behind_separators line.now }
     ensures words { line_words result.now ≡ line_words line.now }
     ensures text { is_line_text result.now ≡ is_line_text line.now }
     ensures apart { starts_apart result.now ≡ true }
@@ -61,6 +71,7 @@ pub struct FirstWord<'a> {
 pub fn first_word(line: &[u8]) -> Option<FirstWord<'_>>
     requires apart { starts_apart line.now ≡ true }
     requires some { 0 < length line.now }
+    ensures exact { IfSome result (λ first. first.behind.now ≡ behind_word line.now) }
     ensures text { IfSome result (λ first. is_line_text first.behind.now ≡ is_line_text line.now) }
     ensures words { IfSome result (λ first. is_line_text line.now ≡ true
         → line_words line.now ≡ first.word.now ∷ line_words first.behind.now) }

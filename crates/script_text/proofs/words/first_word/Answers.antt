@@ -1,8 +1,8 @@
-use Rattle.std.proofs.Common.{◌≡◌, ◌<◌, ◌∷◌, arith, length, take, drop, sym, ap, ◌∙◌, true, false, refl, rules}
+use Rattle.std.proofs.Common.{[], ◌≡◌, ◌<◌, ◌∷◌, arith, length, take, drop, sym, ap, ◌∙◌, true, false, refl, rules}
 use Rattle.std.proofs.lemmas.List.Sums.{prefix_len-le-length}
 use Rattle.std.proofs.lemmas.Grind.{common_steps}
 use Rattle.script_text.specs.Words.{line_words, is_visible, is_line_text, is_separator}
-use Rattle.script_text.proofs.WordLemmas.{behind-text, front-words, separator-words, separator-text, no_end}
+use Rattle.script_text.proofs.WordLemmas.{behind-text, front-words, separator-words, separator-text, no_end, word-behind, word-last}
 use Rattle.script_text.proofs.words.first_word.Goals as goal
 
 pub split_at-requires : goal.split_at-requires
@@ -48,3 +48,18 @@ returns-in-Some-2-clause-none c =
     let parts : c.split_at.result.1.now ≡ c.in-Some-2.field-0.0.now ∷ c.in-Some-2.field-0.1.now = search rules in
     let apart : is_separator c.in-Some-2.field-0.0.now ≡ false = search rules in
     λ none. no_end line c.in-Some-2.field-0.1.now c.in-Some-2.field-0.0.now (sym back ∙ parts) apart
+
+pub returns-in-None-clause-exact : goal.returns-in-None-clause-exact
+returns-in-None-clause-exact c =
+    let line = c.args.line.now in
+    let back = c.split_at.ensures.back ∙ ap (λ k. drop k line) c.word_len.ensures in
+    let none : length c.split_at.result.1.now ≡ 0 = search rules in
+    word-last line _ (sym back) none
+
+pub returns-in-Some-clause-exact : goal.returns-in-Some-clause-exact
+returns-in-Some-clause-exact c =
+    let line = c.args.line.now in
+    let back = c.split_at.ensures.back ∙ ap (λ k. drop k line) c.word_len.ensures in
+    let parts : c.split_at.result.1.now ≡ c.in-Some.separator.now ∷ c.in-Some.behind.now = search rules in
+    let apart : is_separator c.in-Some.separator.now ≡ true = search rules in
+    word-behind line _ c.in-Some.behind.now c.in-Some.separator.now (sym back ∙ parts) apart c.behind_separators.ensures.exact
