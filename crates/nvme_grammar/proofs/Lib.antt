@@ -5,3 +5,6 @@ mod LongLines
 pub mod OnLiterals
 pub mod ReadingLemmas
 mod ScriptLemmas
+mod FaultLemmas
+mod TieLemmas
+mod TieKeywords

@@ -4,6 +4,12 @@ use Rattle.script_text.proofs.OnLiterals.{words_on_literals}
 use Rattle.nvme_grammar.specs.Requests.{request_at}
 use Rattle.nvme_grammar.specs.Events.{event_at}
 use Rattle.nvme_grammar.specs.Line.{line_at, sentence}
+use Rattle.nvme_grammar.specs.Keywords.{keyword_of, nearest_to}
+use Rattle.nvme_grammar.specs.LineFaults.{fault_of}
+
+unfoldable pub faults_on_literals : ⊤
+unfolding fault_of keyword_of nearest_to words_on_literals
+faults_on_literals = tt
 
 unfoldable pub lines_on_literals : ⊤
 unfolding line_at sentence event_at request_at words_on_literals

@@ -8,6 +8,11 @@ pub mod Example
 pub mod Reading
 pub mod Room
 pub mod Lists
+pub mod Near
+pub mod Places
+pub mod Keywords
+pub mod LineFaults
+pub mod FaultTexts
 pub use Rattle.nvme_spec.specs.Configuration
 pub use Rattle.nvme_spec.specs.Limits
 pub use Rattle.script_text.specs.Numbers

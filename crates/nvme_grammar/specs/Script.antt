@@ -32,11 +32,15 @@ abbrev pub event_in : Line → Option FleetEvent
 event_in (Event event) = Some event
 event_in _ = None
 
+-- whether a line may stand where a `start` was said, or none was
+abbrev pub fits : Bool → Line → Bool
+fits started Blank = true
+fits started (Event event) = started
+fits started line = not started
+
 -- whether a line may stand behind these
 abbrev pub fits_behind : List Line → Line → Bool
-fits_behind before Blank = true
-fits_behind before (Event event) = list_any is_start before
-fits_behind before line = not (list_any is_start before)
+fits_behind before line = fits (list_any is_start before) line
 
 -- each of the lines may stand behind those before it
 abbrev pub ArePlaced : List Line → List Line → Type 0

@@ -40,7 +40,7 @@ pub fn controller_of<'a>(words: &[&[u8]]) -> Option<Line<'a>>
 }
 
 /// Whether a word is `shared` or `private`.
-fn is_shared(word: &[u8]) -> Option<bool>
+pub fn is_shared(word: &[u8]) -> Option<bool>
     ensures { result ≡ sharing word.now }
 {
     if word == b"shared".as_slice() {

@@ -80,7 +80,7 @@ fn long_sentence_of<'a>(
 }
 
 /// Whether a line's first byte is `#`.
-fn is_comment_line(line: &[u8]) -> bool
+pub fn is_comment_line(line: &[u8]) -> bool
     ensures { result ≡ is_comment line.now }
 {
     line.first() == Some(&b'#')

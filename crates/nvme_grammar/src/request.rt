@@ -81,7 +81,7 @@ fn plain<'a>(request: Request<'a>, words: &[&[u8]]) -> Option<Request<'a>>
 }
 
 /// IEKEY: 0 or 1.
-fn bit_in(word: &[u8]) -> Option<bool>
+pub fn bit_in(word: &[u8]) -> Option<bool>
     ensures { result ≡ bit_at word.now }
 {
     match number_u8(word)? {

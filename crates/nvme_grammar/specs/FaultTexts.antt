@@ -1,0 +1,66 @@
+-- The texts of a line's fault.
+use Rattle.std.specs.Prelude.{ℕ, ◌+◌, ◌-◌, ◌^◌, ◌==◌, false, nat_le, List, [], ◌∷◌, ◌++◌, codes, length, take, Option, Some, None, if◌then◌else◌}
+use Rattle.std.specs.Fmt.{decimal, digits, padded_integral, format_spec}
+use Rattle.std.specs.List.{flat_map}
+use Rattle.script_text.specs.Words.{is_visible}
+use Rattle.nvme_grammar.specs.Places.{wanted_text}
+use Rattle.nvme_grammar.specs.Keywords.{keyword_text, form_text, places_of, behind_of}
+use Rattle.nvme_grammar.specs.declared.keyword.Keyword.{Keyword}
+use Rattle.nvme_grammar.specs.declared.keyword.Keyword.TheVariants.{Start}
+use Rattle.nvme_grammar.specs.declared.place.Place.{Place}
+use Rattle.nvme_grammar.specs.declared.place.Behind.{Behind}
+use Rattle.nvme_grammar.specs.declared.place.Behind.TheVariants as behind
+use Rattle.nvme_grammar.specs.declared.fault.LineFault.{LineFault}
+use Rattle.nvme_grammar.specs.declared.fault.Why.{Why}
+use Rattle.nvme_grammar.specs.declared.fault.Why.TheVariants.{Byte, Unknown, Count, Misfit, TooEarly, TooLate}
+
+-- how many bytes of a word are shown
+abbrev pub most_shown : ℕ
+most_shown = 32
+
+-- a byte in two hexadecimal digits
+abbrev pub byte_text : ℕ → List ℕ
+byte_text b = padded_integral (format_spec 32 0 4 2 (2 ^ 64 - 1)) false [] (digits 16 false b)
+
+-- a byte as it is where it is a visible character, else by its two hexadecimal digits
+abbrev pub shown_byte : ℕ → List ℕ
+shown_byte b = if is_visible b then b ∷ [] else codes "\\x" ++ byte_text b
+
+-- the first bytes of a word, and two dots where there are more
+abbrev pub shown_word : List ℕ → List ℕ
+shown_word word =
+    if nat_le (length word) most_shown then flat_map shown_byte word
+    else flat_map shown_byte (take most_shown word) ++ codes ".."
+
+-- how many words a line has, its keyword among them
+abbrev pub count_text : ℕ → Behind → List ℕ
+count_text n behind.Nothing = if n == 1 then codes "1 word" else decimal n ++ codes " words"
+count_text n behind.Raw = decimal n ++ codes " words, or one more"
+count_text n behind.Controllers = decimal n ++ codes " words or more"
+
+abbrev pub nearest_text : Option Keyword → List ℕ
+nearest_text None = codes ""
+nearest_text (Some k) = codes "; did you mean '" ++ keyword_text k ++ codes "'?"
+
+abbrev pub too_late_text : Keyword → List ℕ
+too_late_text Start = codes "start stands in a script once"
+too_late_text k = keyword_text k ++ codes " stands before 'start', which was said already"
+
+-- what a place wants, and the word that stands there
+abbrev pub misfit_text : Place → List ℕ → List ℕ
+misfit_text wanted word = wanted_text wanted ++ codes ", and not '" ++ shown_word word ++ codes "'"
+
+abbrev pub why_text : Why → List ℕ
+why_text (Byte b) =
+    codes "the byte \\x" ++ byte_text b ++ codes " is neither a visible character nor a space, a tab or a carriage return"
+why_text (Unknown word nearest) = codes "there is no line '" ++ shown_word word.now ++ codes "'" ++ nearest_text nearest
+why_text (Count k) =
+    keyword_text k ++ codes " takes " ++ count_text (length (places_of k) + 1) (behind_of k) ++ codes ": " ++ form_text k
+why_text (Misfit number wanted word) =
+    codes "word " ++ decimal number ++ codes ": " ++ misfit_text wanted word.now
+why_text (TooEarly k) = keyword_text k ++ codes " stands behind 'start', and nothing is started yet"
+why_text (TooLate k) = too_late_text k
+
+-- a fault with its column
+abbrev pub fault_text : LineFault → List ℕ
+fault_text fault = codes "column " ++ decimal fault.column ++ codes ": " ++ why_text fault.why

@@ -1,0 +1,83 @@
+-- Why a line is refused: a function of its bytes, and of whether `start` was said before it.
+use Rattle.std.specs.Prelude.{◌≡◌, ℕ, suc, ◌+◌, Bool, true, false, List, [], ◌∷◌, length, get_or, Option, None, Some, option_map, if◌then◌else◌}
+use Rattle.std.specs.List.{prefix_len}
+use Rattle.script_text.specs.Words.{line_words, is_text, is_line_text, column_of}
+use Rattle.nvme_grammar.specs.Lent.{lent}
+use Rattle.nvme_grammar.specs.Line.{line_at, is_comment}
+use Rattle.nvme_grammar.specs.Script.{fits}
+use Rattle.nvme_grammar.specs.Places.{suits}
+use Rattle.nvme_grammar.specs.Keywords.{keyword_of, nearest_to, sets_up, place_at, takes_words}
+use Rattle.nvme_grammar.specs.declared.keyword.Keyword.{Keyword}
+use Rattle.nvme_grammar.specs.declared.line.Line.{Line}
+use Rattle.nvme_grammar.specs.declared.place.Place.{Place}
+use Rattle.nvme_grammar.specs.declared.fault.LineFault.{LineFault}
+use Rattle.nvme_grammar.specs.declared.fault.Why.{Why}
+use Rattle.nvme_grammar.specs.declared.fault.Why.TheVariants.{Byte, Unknown, Count, Misfit, TooEarly, TooLate}
+
+-- a fault whose words lie at no place in particular
+abbrev pub why_by_value : Why → Why
+why_by_value (Unknown word nearest) = Unknown (lent word.now) nearest
+why_by_value (Misfit number wanted word) = Misfit number wanted (lent word.now)
+why_by_value why = why
+
+abbrev pub fault_by_value : LineFault → LineFault
+fault_by_value fault = record { column = fault.column; why = why_by_value fault.why }
+
+-- the first byte that may not
+abbrev pub foreign_fault : List ℕ → LineFault
+foreign_fault line = record {
+  column = prefix_len is_text line + 1;
+  why = Byte (get_or line (prefix_len is_text line) 0);
+}
+
+-- whether a word is what its place wants, where it has one
+abbrev pub place_suits : Option Place → List ℕ → List ℕ → Bool
+place_suits (Some place) before word = suits before place word
+place_suits None before word = true
+
+-- the first word behind the keyword, from this index on, that is not what its place wants
+abbrev pub misfit : Keyword → List ℕ → ℕ → List ℕ → List (List ℕ) → Option LineFault
+misfit k line index before [] = None
+misfit k line index before (word ∷ words) =
+    if place_suits (place_at k index) before word then misfit k line (suc index) word words
+    else option_map (λ place. record {
+      column = column_of (suc index) line;
+      why = Misfit (index + 2) place (lent word);
+    }) (place_at k index)
+
+-- a line that would do elsewhere: an event before `start`, or a line that sets up, or a second `start`, behind it
+abbrev pub misplaced : Bool → Keyword → ℕ → Option LineFault
+misplaced started k column =
+    if sets_up k then (if started then Some (record { column = column; why = TooLate k }) else None)
+    else (if started then None else Some (record { column = column; why = TooEarly k }))
+
+abbrev pub either_fault : Option LineFault → Option LineFault → Option LineFault
+either_fault (Some fault) other = Some fault
+either_fault None other = other
+
+-- a line that begins with a keyword: as many words as it takes, each what its place wants, where they may stand
+abbrev pub keyword_fault : Bool → List ℕ → List ℕ → List (List ℕ) → Option Keyword → Option LineFault
+keyword_fault started line word words None =
+    Some (record { column = column_of 0 line; why = Unknown (lent word) (nearest_to word) })
+keyword_fault started line word words (Some k) =
+    if takes_words k (length words) then either_fault (misfit k line 0 word words) (misplaced started k (column_of 0 line))
+    else Some (record { column = column_of 0 line; why = Count k })
+
+abbrev pub words_fault : Bool → List ℕ → List (List ℕ) → Option LineFault
+words_fault started line [] = None
+words_fault started line (word ∷ words) = keyword_fault started line word words (keyword_of word)
+
+-- the fault of a line without its line feed, if it has one
+unfoldable pub fault_of : Bool → List ℕ → Option LineFault
+fault_of started line =
+    if is_comment line then None
+    else if is_line_text line then words_fault started line (line_words line)
+    else Some (foreign_fault line)
+
+-- a line of the grammar that may stand before `start`, or behind it
+abbrev pub is_allowed_line : Bool → Option Line → Bool
+is_allowed_line started None = false
+is_allowed_line started (Some line) = fits started line
+
+abbrev pub IsAllowed : Bool → List ℕ → Type 0
+IsAllowed started line = is_allowed_line started (line_at line) ≡ true

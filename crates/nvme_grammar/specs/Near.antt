@@ -1,0 +1,19 @@
+-- Words that differ a little: one letter is wrong, missing or too many, or two that stand side by side are exchanged.
+use Rattle.std.specs.Prelude.{ℕ, Bool, false, ◌==◌, ◌&&◌, ◌||◌, List, ◌∷◌, drop, if◌then◌else◌}
+use Rattle.std.specs.Str.{bytes_eq}
+
+-- the first two are exchanged, and the others the same
+abbrev pub are_exchanged : List ℕ → List ℕ → Bool
+are_exchanged (a ∷ b ∷ word) (c ∷ d ∷ other) = (a == d) && ((b == c) && bytes_eq word other)
+are_exchanged word other = false
+
+-- the first is wrong, missing or too many, or the first two are exchanged
+abbrev pub differ_little : List ℕ → List ℕ → Bool
+differ_little word other =
+    bytes_eq (drop 1 word) (drop 1 other) || (bytes_eq (drop 1 word) other
+    || (bytes_eq word (drop 1 other) || are_exchanged word other))
+
+-- so, behind what both begin with
+abbrev pub is_near : List ℕ → List ℕ → Bool
+is_near (a ∷ word) (b ∷ other) = if a == b then is_near word other else differ_little (a ∷ word) (b ∷ other)
+is_near word other = differ_little word other

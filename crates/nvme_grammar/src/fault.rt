@@ -1,0 +1,204 @@
+//! Why a line is refused, and where in it.
+
+ghost use Rattle.std.specs.Prelude.{◌≡◌, ◌↔◌, true, false, length, option_map, None, Some, IfSome, IsNone};
+ghost use Rattle.script_text.specs.Words.{line_words, is_line_text, starts_apart, from_word};
+ghost use Rattle.nvme_grammar.specs.Room.{HasBytesRoom};
+ghost use Rattle.nvme_grammar.specs.LineFaults.{IsAllowed, fault_of, fault_by_value, foreign_fault, misfit, misplaced, keyword_fault};
+
+use super::keyword::Keyword;
+use super::line::is_comment_line;
+use super::place::Place;
+use script_text::{FirstWord, behind_separators, first_word, text_len};
+
+/// Why a line is refused, and where. Its text is `column C: ` and that of the reason.
+#[derive(Clone, Copy)]
+pub struct LineFault<'a> {
+    /// Where it stands in the line, in bytes from 1: the byte or the word that is at fault, or the first word where it is
+    /// the line as a whole.
+    pub column: usize,
+    /// What is at fault.
+    pub why: Why<'a>,
+}
+
+/// Why a line is refused. Its text says so in a sentence.
+#[derive(Clone, Copy)]
+pub enum Why<'a> {
+    /// This byte neither stands between words nor may stand in one.
+    Byte(u8),
+    /// No line begins with this word; the keyword that it is near to, if there is one.
+    Unknown {
+        word: &'a [u8],
+        nearest: Option<Keyword>,
+    },
+    /// The line has not as many words as its keyword takes.
+    Count(Keyword),
+    /// The word with this number, from 1, is not what its place wants.
+    Misfit {
+        number: usize,
+        wanted: Place,
+        word: &'a [u8],
+    },
+    /// An event before `start`.
+    TooEarly(Keyword),
+    /// A line that sets up, or a second `start`, behind `start`.
+    TooLate(Keyword),
+}
+
+/// The first byte of a line that may not stand in it.
+fn foreign_byte(line: &[u8]) -> Option<LineFault<'_>>
+    ensures none { IsNone result → is_line_text line.now ≡ true }
+    ensures some { IfSome result
+        (λ fault. (is_line_text line.now ≡ false) × (fault_by_value fault ≡ foreign_fault line.now)) }
+{
+    let len = text_len(line);
+    if len == line.len() {
+        return None;
+    }
+    Some(LineFault {
+        column: len + 1,
+        why: Why::Byte(line[len]),
+    })
+}
+
+/// How many words a line has that begins with none of the separators.
+fn word_count(line: &[u8]) -> usize
+    requires text { is_line_text line.now ≡ true }
+    requires apart { starts_apart line.now ≡ true }
+    ensures { result ≡ length (line_words line.now) }
+{
+    let mut rest = line;
+    let mut count = 0;
+    while !rest.is_empty() {
+        let Some(first) = first_word(rest) else {
+            return count;
+        };
+        rest = first.behind;
+        count += 1;
+    }
+    count
+}
+
+/// The first word behind the keyword that is not what its place wants.
+fn misfit_of<'a>(
+    keyword: Keyword,
+    line: &'a [u8],
+    first: FirstWord<'a>,
+    bytes: &mut [u8],
+) -> Option<LineFault<'a>>
+    requires text { is_line_text first.behind.now ≡ true }
+    requires apart { starts_apart first.behind.now ≡ true }
+    requires behind { first.behind.now ≡ from_word 1 line.now }
+    requires bytes_room { HasBytesRoom line.now bytes.old }
+    ensures { option_map fault_by_value result
+        ≡ misfit keyword line.now 0 first.entry.word.now (line_words first.entry.behind.now) }
+{
+    let mut before = first.word;
+    let mut rest = first.behind;
+    let mut index = 0;
+    while !rest.is_empty() {
+        let next = first_word(rest)?;
+        if let Some(wanted) = keyword.place(index) {
+            if !wanted.suits(before, next.word, bytes) {
+                return Some(LineFault {
+                    column: line.len() - rest.len() + 1,
+                    why: Why::Misfit {
+                        number: index + 2,
+                        wanted,
+                        word: next.word,
+                    },
+                });
+            }
+        }
+        before = next.word;
+        rest = next.behind;
+        index += 1;
+    }
+    None
+}
+
+/// Why a line that would do elsewhere may not stand where it does.
+fn misplaced_at<'a>(keyword: Keyword, column: usize, started: bool) -> Option<LineFault<'a>>
+    ensures { option_map fault_by_value result ≡ misplaced started keyword column }
+{
+    let why = if keyword.sets_up() {
+        if !started {
+            return None;
+        }
+        Why::TooLate(keyword)
+    } else {
+        if started {
+            return None;
+        }
+        Why::TooEarly(keyword)
+    };
+    Some(LineFault { column, why })
+}
+
+/// Why a line that begins with a keyword is refused.
+fn keyword_fault_of<'a>(
+    keyword: Keyword,
+    line: &'a [u8],
+    first: FirstWord<'a>,
+    started: bool,
+    bytes: &mut [u8],
+) -> Option<LineFault<'a>>
+    requires text { is_line_text first.behind.now ≡ true }
+    requires apart { starts_apart first.behind.now ≡ true }
+    requires behind { first.behind.now ≡ from_word 1 line.now }
+    requires bytes_room { HasBytesRoom line.now bytes.old }
+    ensures { option_map fault_by_value result
+        ≡ keyword_fault started line.now first.entry.word.now (line_words first.entry.behind.now) (Some keyword) }
+{
+    let column = line.len() - behind_separators(line).len() + 1;
+    if !keyword.takes(word_count(first.behind)) {
+        return Some(LineFault {
+            column,
+            why: Why::Count(keyword),
+        });
+    }
+    if let Some(fault) = misfit_of(keyword, line, first, bytes) {
+        return Some(fault);
+    }
+    misplaced_at(keyword, column, started)
+}
+
+/// The fault of a line, if it has one.
+#[tactic(auto, unfolding(crate::specs::LineFaults::fault_of))]
+fn judged<'a>(line: &'a [u8], started: bool, bytes: &mut [u8]) -> Option<LineFault<'a>>
+    requires bytes_room { HasBytesRoom line.now bytes.old }
+    ensures { option_map fault_by_value result ≡ fault_of started line.now }
+{
+    if is_comment_line(line) {
+        return None;
+    }
+    if let Some(fault) = foreign_byte(line) {
+        return Some(fault);
+    }
+    let rest = behind_separators(line);
+    if rest.is_empty() {
+        return None;
+    }
+    let first = first_word(rest)?;
+    let Some(keyword) = Keyword::of(first.word) else {
+        return Some(LineFault {
+            column: line.len() - rest.len() + 1,
+            why: Why::Unknown {
+                word: first.word,
+                nearest: Keyword::nearest(first.word),
+            },
+        });
+    };
+    keyword_fault_of(keyword, line, first, started, bytes)
+}
+
+/// Why a line is refused, if it is: by a byte that may not stand in it, by its words from the left, or, where it would do
+/// elsewhere, by where it stands: behind `start`, or before it. The buffer is overwritten.
+///
+/// There is a fault exactly where `parse_line` answers `None`, or the line may not stand where it does.
+pub fn line_fault<'a>(line: &'a [u8], started: bool, bytes: &mut [u8]) -> Option<LineFault<'a>>
+    requires bytes_room { HasBytesRoom line.now bytes.old }
+    ensures fault { option_map fault_by_value result ≡ fault_of started line.now }
+    ensures exact { IsNone result ↔ IsAllowed started line.now }
+{
+    judged(line, started, bytes)
+}

@@ -1,0 +1,52 @@
+//! Worked examples of the faults of lines: the contract of each function here is computed by the check.
+
+ghost use Rattle.std.specs.Prelude.{◌≡◌, ◌++◌, ◌∷◌, [], List, ℕ, Bool, true, false, Some, None, codes};
+ghost use Rattle.nvme_grammar.specs.Lent.{lent};
+ghost use Rattle.nvme_grammar.specs.LineFaults.{fault_of};
+ghost use Rattle.nvme_grammar.specs.Keywords.{nearest_to};
+ghost use Rattle.nvme_grammar.specs.declared.fault.Why.TheVariants.{Byte, Unknown, Count, Misfit, TooEarly, TooLate};
+ghost use Rattle.nvme_grammar.specs.declared.place.Operand.TheVariants.{Cntlid, Nsid, Queue};
+ghost use Rattle.nvme_grammar.specs.declared.place.Place.TheVariants.{Number, Host, Raw};
+ghost use Rattle.nvme_grammar.specs.declared.keyword.Keyword.TheVariants.{Write, Attach, Attached, Up, Read, Start};
+
+#[tactic(auto, unfolding(crate::proofs::OnLiterals::faults_on_literals))]
+pub fn misfits()
+    ensures number { fault_of true (codes "read 1 0xg 0 1")
+        ≡ Some (record { column = 8; why = Misfit 3 (Number Nsid) (lent (codes "0xg")) }) }
+    ensures separators { fault_of true (32 ∷ 9 ∷ codes "fetch 1   65536")
+        ≡ Some (record { column = 13; why = Misfit 3 (Number Queue) (lent (codes "65536")) }) }
+    ensures first { fault_of true (codes "fetch x y")
+        ≡ Some (record { column = 7; why = Misfit 2 (Number Cntlid) (lent (codes "x")) }) }
+    ensures host { fault_of false (codes "controller 1 hots 2")
+        ≡ Some (record { column = 14; why = Misfit 3 Host (lent (codes "hots")) }) }
+    ensures raw { fault_of false (codes "controller 1 host 2 rwa")
+        ≡ Some (record { column = 21; why = Misfit 5 Raw (lent (codes "rwa")) }) }
+    ensures list { fault_of true (codes "attach 1 1 2 3 4 5 6 7 8 9 x")
+        ≡ Some (record { column = 28; why = Misfit 12 (Number Cntlid) (lent (codes "x")) }) }
+{}
+
+#[tactic(auto, unfolding(crate::proofs::OnLiterals::faults_on_literals))]
+pub fn lines_as_a_whole()
+    ensures near { fault_of true (codes "wirte 1 1 0 1 hex:00")
+        ≡ Some (record { column = 1; why = Unknown (lent (codes "wirte")) (Some Write) }) }
+    ensures far { fault_of true (codes " do 1")
+        ≡ Some (record { column = 2; why = Unknown (lent (codes "do")) None }) }
+    ensures count { fault_of true (codes "write 1 1 0 1") ≡ Some (record { column = 1; why = Count Write }) }
+    ensures byte { fault_of true (codes "up" ++ 11 ∷ codes "1") ≡ Some (record { column = 3; why = Byte 11 }) }
+    ensures early { fault_of false (codes "up 1") ≡ Some (record { column = 1; why = TooEarly Up }) }
+    ensures late { fault_of true (codes "attached 1 1") ≡ Some (record { column = 1; why = TooLate Attached }) }
+    ensures twice { fault_of true (codes "start") ≡ Some (record { column = 1; why = TooLate Start }) }
+    ensures comment { fault_of true (codes "# " ++ 11 ∷ 0 ∷ 255 ∷ []) ≡ None }
+    ensures nothing { fault_of false [] ≡ None }
+    ensures good { fault_of true (codes "write 1 1 0 1 fill:00") ≡ None }
+{}
+
+#[tactic(auto, unfolding(crate::specs::Keywords::nearest_to))]
+pub fn near_words()
+    ensures wrong { nearest_to (codes "wrote") ≡ Some Write }
+    ensures missing { nearest_to (codes "attch") ≡ Some Attach }
+    ensures too_many { nearest_to (codes "upp") ≡ Some Up }
+    ensures exchanged { nearest_to (codes "raed") ≡ Some Read }
+    ensures upper_case { nearest_to (codes "READ") ≡ None }
+    ensures two_wrong { nearest_to (codes "wrets") ≡ None }
+{}

@@ -1,0 +1,176 @@
+//! The texts of a line's fault.
+
+ghost use Rattle.std.specs.Prelude.{◌≡◌, ◌≤◌, ◌+◌, Some, length, take};
+ghost use Rattle.std.specs.List.{flat_map};
+ghost use Rattle.nvme_grammar.specs.FaultTexts.{fault_text, why_text, shown_byte, shown_word, count_text, nearest_text, misfit_text, most_shown};
+ghost use Rattle.nvme_grammar.specs.Keywords.{places_of, behind_of};
+
+use super::fault::{LineFault, Why};
+use super::keyword::Keyword;
+use super::place::{Behind, Place};
+use std::fmt;
+
+/// How many bytes of a word are shown.
+const MOST_SHOWN: usize = 32;
+
+impl fmt::Display for LineFault<'_> {
+    ghost output = { λ fault. Some (fault_text fault) };
+
+    fn fmt<W: fmt::Write>(&self, f: &mut fmt::Formatter<W>) -> fmt::Result {
+        write!(f, "column {}: {}", self.column, self.why)
+    }
+}
+
+impl fmt::Display for Why<'_> {
+    ghost output = { λ why. Some (why_text why) };
+
+    fn fmt<W: fmt::Write>(&self, f: &mut fmt::Formatter<W>) -> fmt::Result {
+        match self {
+            Why::Byte(byte) => write!(
+                f,
+                "the byte \\x{byte:02x} is neither a visible character nor a space, a tab or a carriage return"
+            ),
+            Why::Unknown { word, nearest } => write!(
+                f,
+                "there is no line '{}'{}",
+                ShownWord(word),
+                NearestText(*nearest)
+            ),
+            Why::Count(keyword) => write!(
+                f,
+                "{} takes {}: {}",
+                keyword.text(),
+                CountText(*keyword),
+                keyword.form()
+            ),
+            Why::Misfit {
+                number,
+                wanted,
+                word,
+            } => write!(
+                f,
+                "word {}: {}",
+                *number,
+                MisfitText {
+                    wanted: *wanted,
+                    word
+                }
+            ),
+            Why::TooEarly(keyword) => write!(
+                f,
+                "{} stands behind 'start', and nothing is started yet",
+                keyword.text()
+            ),
+            Why::TooLate(Keyword::Start) => write!(f, "start stands in a script once"),
+            Why::TooLate(keyword) => write!(
+                f,
+                "{} stands before 'start', which was said already",
+                keyword.text()
+            ),
+        }
+    }
+}
+
+/// How many words the lines of a keyword have.
+#[derive(Clone, Copy)]
+struct CountText(Keyword);
+
+impl fmt::Display for CountText {
+    ghost output = { λ text. Some (count_text (length (places_of text.0) + 1) (behind_of text.0)) };
+
+    fn fmt<W: fmt::Write>(&self, f: &mut fmt::Formatter<W>) -> fmt::Result {
+        let words = self.0.places().len() + 1;
+        match self.0.behind() {
+            Behind::Nothing if words == 1 => write!(f, "1 word"),
+            Behind::Nothing => write!(f, "{words} words"),
+            Behind::Raw => write!(f, "{words} words, or one more"),
+            Behind::Controllers => write!(f, "{words} words or more"),
+        }
+    }
+}
+
+/// The keyword that a word is near to, as a question.
+#[derive(Clone, Copy)]
+struct NearestText(Option<Keyword>);
+
+impl fmt::Display for NearestText {
+    ghost output = { λ text. Some (nearest_text text.0) };
+
+    fn fmt<W: fmt::Write>(&self, f: &mut fmt::Formatter<W>) -> fmt::Result {
+        match self.0 {
+            Some(keyword) => write!(f, "; did you mean '{}'?", keyword.text()),
+            None => Ok(()),
+        }
+    }
+}
+
+/// What a place wants, and the word that stands there.
+#[derive(Clone, Copy)]
+struct MisfitText<'a> {
+    wanted: Place,
+    word: &'a [u8],
+}
+
+impl fmt::Display for MisfitText<'_> {
+    ghost output = { λ text. Some (misfit_text text.wanted text.word.now) };
+
+    fn fmt<W: fmt::Write>(&self, f: &mut fmt::Formatter<W>) -> fmt::Result {
+        write!(f, "{}, and not '{}'", self.wanted, ShownWord(self.word))
+    }
+}
+
+/// A byte of a word, as it is or escaped.
+#[derive(Clone, Copy)]
+struct ShownByte(u8);
+
+impl fmt::Display for ShownByte {
+    ghost output = { λ byte. Some (shown_byte byte.0) };
+
+    fn fmt<W: fmt::Write>(&self, f: &mut fmt::Formatter<W>) -> fmt::Result {
+        if 33 <= self.0 && self.0 <= 126 {
+            write!(f, "{}", char::from(self.0))
+        } else {
+            write!(f, "\\x{:02x}", self.0)
+        }
+    }
+}
+
+/// Bytes of a word, each as it is or escaped.
+#[derive(Clone, Copy)]
+struct ShownBytes<'a>(&'a [u8]);
+
+impl fmt::Display for ShownBytes<'_> {
+    ghost output = { λ text. Some (flat_map shown_byte text.0.now) };
+
+    fn fmt<W: fmt::Write>(&self, f: &mut fmt::Formatter<W>) -> fmt::Result {
+        let mut rest = self.0;
+        while let Some((first, behind)) = rest.split_first() {
+            write!(f, "{}", ShownByte(*first))?;
+            rest = behind;
+        }
+        Ok(())
+    }
+}
+
+/// The first bytes of a word that is longer.
+fn front_of(word: &[u8]) -> &[u8]
+    requires { most_shown ≤ length word.now }
+    ensures { result.now ≡ take most_shown word.now }
+{
+    &word[..MOST_SHOWN]
+}
+
+/// The first bytes of a word, and two dots where there are more.
+#[derive(Clone, Copy)]
+struct ShownWord<'a>(&'a [u8]);
+
+impl fmt::Display for ShownWord<'_> {
+    ghost output = { λ text. Some (shown_word text.0.now) };
+
+    fn fmt<W: fmt::Write>(&self, f: &mut fmt::Formatter<W>) -> fmt::Result {
+        if self.0.len() <= MOST_SHOWN {
+            return write!(f, "{}", ShownBytes(self.0));
+        }
+        write!(f, "{}..", ShownBytes(front_of(self.0)))
+    }
+}

@@ -1,0 +1,286 @@
+//! The words that lines begin with, and what stands behind each of them.
+
+ghost use Rattle.std.specs.Prelude.{◌≡◌};
+ghost use Rattle.nvme_grammar.specs.Keywords.{keyword_text, keyword_of, places_of, behind_of, place_at, takes_words, sets_up, form_text, nearest_to};
+ghost use Rattle.nvme_grammar.specs.Near.{is_near};
+
+use super::near::is_near;
+use super::place::{Behind, Operand, Place};
+
+/// The word that a line begins with.
+#[derive(Clone, Copy, Debug, PartialEq, Eq)]
+pub enum Keyword {
+    Controller,
+    Namespace,
+    Attached,
+    Start,
+    Up,
+    Read,
+    Write,
+    Compare,
+    Zeroes,
+    Flush,
+    Register,
+    Acquire,
+    Release,
+    Report,
+    Identify,
+    Protect,
+    Protection,
+    Attach,
+    Detach,
+    Ring,
+    Fetch,
+    Execute,
+    Poll,
+    Reset,
+    Store,
+    Write32,
+}
+
+/// All keywords, those of the lines before `start` first.
+const KEYWORDS: [Keyword; 26] = [
+    Keyword::Controller,
+    Keyword::Namespace,
+    Keyword::Attached,
+    Keyword::Start,
+    Keyword::Up,
+    Keyword::Read,
+    Keyword::Write,
+    Keyword::Compare,
+    Keyword::Zeroes,
+    Keyword::Flush,
+    Keyword::Register,
+    Keyword::Acquire,
+    Keyword::Release,
+    Keyword::Report,
+    Keyword::Identify,
+    Keyword::Protect,
+    Keyword::Protection,
+    Keyword::Attach,
+    Keyword::Detach,
+    Keyword::Ring,
+    Keyword::Fetch,
+    Keyword::Execute,
+    Keyword::Poll,
+    Keyword::Reset,
+    Keyword::Store,
+    Keyword::Write32,
+];
+
+/// The controller that a line names.
+const CNTLID: Place = Place::Number(Operand::Cntlid);
+
+/// The namespace that a line names.
+const NSID: Place = Place::Number(Operand::Nsid);
+
+impl Keyword {
+    /// The keyword as scripts have it.
+    pub fn text(self) -> &'static str
+        ensures { result.now ≡ keyword_text self }
+    {
+        match self {
+            Keyword::Controller => "controller",
+            Keyword::Namespace => "namespace",
+            Keyword::Attached => "attached",
+            Keyword::Start => "start",
+            Keyword::Up => "up",
+            Keyword::Read => "read",
+            Keyword::Write => "write",
+            Keyword::Compare => "compare",
+            Keyword::Zeroes => "zeroes",
+            Keyword::Flush => "flush",
+            Keyword::Register => "register",
+            Keyword::Acquire => "acquire",
+            Keyword::Release => "release",
+            Keyword::Report => "report",
+            Keyword::Identify => "identify",
+            Keyword::Protect => "protect",
+            Keyword::Protection => "protection",
+            Keyword::Attach => "attach",
+            Keyword::Detach => "detach",
+            Keyword::Ring => "ring",
+            Keyword::Fetch => "fetch",
+            Keyword::Execute => "execute",
+            Keyword::Poll => "poll",
+            Keyword::Reset => "reset",
+            Keyword::Store => "store",
+            Keyword::Write32 => "write32",
+        }
+    }
+
+    /// A line of this keyword, with the names of its places: what is in brackets may be left out, and `..` goes on.
+    pub fn form(self) -> &'static str
+        ensures { result.now ≡ form_text self }
+    {
+        match self {
+            Keyword::Controller => "controller C host H [raw]",
+            Keyword::Namespace => "namespace N blocks B shared|private",
+            Keyword::Attached => "attached C N",
+            Keyword::Start => "start",
+            Keyword::Up => "up C",
+            Keyword::Read => "read C N SLBA BLOCKS",
+            Keyword::Write => "write C N SLBA BLOCKS DATA",
+            Keyword::Compare => "compare C N SLBA BLOCKS DATA",
+            Keyword::Zeroes => "zeroes C N SLBA BLOCKS",
+            Keyword::Flush => "flush C N",
+            Keyword::Register => "register C N ACTION IEKEY CPTPL CRKEY NRKEY",
+            Keyword::Acquire => "acquire C N ACTION RTYPE CRKEY PRKEY",
+            Keyword::Release => "release C N ACTION RTYPE CRKEY",
+            Keyword::Report => "report C N DWORDS",
+            Keyword::Identify => "identify C CNS NSID",
+            Keyword::Protect => "protect C N STATE",
+            Keyword::Protection => "protection C N",
+            Keyword::Attach => "attach C N C1 C2 ..",
+            Keyword::Detach => "detach C N C1 C2 ..",
+            Keyword::Ring => "ring C",
+            Keyword::Fetch => "fetch C Q",
+            Keyword::Execute => "execute C I",
+            Keyword::Poll => "poll C",
+            Keyword::Reset => "reset C",
+            Keyword::Store => "store C ADDR hex:DIGITS",
+            Keyword::Write32 => "write32 C OFF V",
+        }
+    }
+
+    /// What stands behind the keyword, word by word.
+    pub(crate) fn places(self) -> &'static [Place]
+        ensures { result.now ≡ places_of self }
+    {
+        match self {
+            Keyword::Controller => &[CNTLID, Place::Host, Place::Number(Operand::Host)],
+            Keyword::Namespace => &[
+                NSID,
+                Place::Blocks,
+                Place::Number(Operand::Size),
+                Place::Sharing,
+            ],
+            Keyword::Attached | Keyword::Flush | Keyword::Protection => &[CNTLID, NSID],
+            Keyword::Attach | Keyword::Detach => &[CNTLID, NSID],
+            Keyword::Start => &[],
+            Keyword::Up | Keyword::Ring | Keyword::Poll | Keyword::Reset => &[CNTLID],
+            Keyword::Read | Keyword::Zeroes => &[
+                CNTLID,
+                NSID,
+                Place::Number(Operand::Slba),
+                Place::Number(Operand::Blocks),
+            ],
+            Keyword::Write | Keyword::Compare => &[
+                CNTLID,
+                NSID,
+                Place::Number(Operand::Slba),
+                Place::Number(Operand::Blocks),
+                Place::Data,
+            ],
+            Keyword::Register => &[
+                CNTLID,
+                NSID,
+                Place::Number(Operand::Action),
+                Place::Iekey,
+                Place::Number(Operand::Cptpl),
+                Place::Number(Operand::Crkey),
+                Place::Number(Operand::Nrkey),
+            ],
+            Keyword::Acquire => &[
+                CNTLID,
+                NSID,
+                Place::Number(Operand::Action),
+                Place::Number(Operand::Rtype),
+                Place::Number(Operand::Crkey),
+                Place::Number(Operand::Prkey),
+            ],
+            Keyword::Release => &[
+                CNTLID,
+                NSID,
+                Place::Number(Operand::Action),
+                Place::Number(Operand::Rtype),
+                Place::Number(Operand::Crkey),
+            ],
+            Keyword::Report => &[CNTLID, NSID, Place::Number(Operand::Dwords)],
+            Keyword::Identify => &[
+                CNTLID,
+                Place::Number(Operand::Cns),
+                Place::Number(Operand::AnyNsid),
+            ],
+            Keyword::Protect => &[CNTLID, NSID, Place::Number(Operand::State)],
+            Keyword::Fetch => &[CNTLID, Place::Number(Operand::Queue)],
+            Keyword::Execute => &[CNTLID, Place::Number(Operand::Index)],
+            Keyword::Store => &[CNTLID, Place::Number(Operand::Address), Place::Bytes],
+            Keyword::Write32 => &[
+                CNTLID,
+                Place::Number(Operand::Offset),
+                Place::Number(Operand::Value),
+            ],
+        }
+    }
+
+    /// What may follow those words.
+    pub(crate) fn behind(self) -> Behind
+        ensures { result ≡ behind_of self }
+    {
+        match self {
+            Keyword::Controller => Behind::Raw,
+            Keyword::Attach | Keyword::Detach => Behind::Controllers,
+            _ => Behind::Nothing,
+        }
+    }
+
+    /// Whether its lines stand before `start`, or are `start`; all others stand behind it.
+    pub(crate) fn sets_up(self) -> bool
+        ensures { result ≡ sets_up self }
+    {
+        match self {
+            Keyword::Controller | Keyword::Namespace | Keyword::Attached | Keyword::Start => true,
+            _ => false,
+        }
+    }
+
+    /// The place of the word with this index behind the keyword, from 0, if a line goes so far.
+    pub(crate) fn place(self, index: usize) -> Option<Place>
+        ensures { result ≡ place_at self index }
+    {
+        let places = self.places();
+        match places.get(index) {
+            Some(place) => Some(*place),
+            None => self.behind().place(index - places.len()),
+        }
+    }
+
+    /// Whether so many words may follow the keyword.
+    pub(crate) fn takes(self, words: usize) -> bool
+        ensures { result ≡ takes_words self words }
+    {
+        let places = self.places().len();
+        places <= words && self.behind().takes(words - places)
+    }
+
+    /// The keyword that a word is, if it is one.
+    #[tactic(auto, unfolding(crate::specs::Keywords::keyword_of))]
+    pub fn of(word: &[u8]) -> Option<Keyword>
+        ensures { result ≡ keyword_of word.now }
+    {
+        let mut keywords = KEYWORDS.as_slice();
+        while let Some((keyword, behind)) = keywords.split_first() {
+            if word == keyword.text().as_bytes() {
+                return Some(*keyword);
+            }
+            keywords = behind;
+        }
+        None
+    }
+
+    /// The first keyword that a word is near to: one letter is wrong, missing or too many, or two are exchanged.
+    #[tactic(auto, unfolding(crate::specs::Keywords::nearest_to))]
+    pub(crate) fn nearest(word: &[u8]) -> Option<Keyword>
+        ensures { result ≡ nearest_to word.now }
+    {
+        let mut keywords = KEYWORDS.as_slice();
+        while let Some((keyword, behind)) = keywords.split_first() {
+            if is_near(word, keyword.text().as_bytes()) {
+                return Some(*keyword);
+            }
+            keywords = behind;
+        }
+        None
+    }
+}

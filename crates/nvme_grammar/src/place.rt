@@ -1,0 +1,205 @@
+//! What stands in the places of a line.
+
+ghost use Rattle.std.specs.Prelude.{◌≡◌, ◌*◌, ◌≤◌, length, Some};
+ghost use Rattle.nvme_spec.specs.Limits.{most_bytes};
+ghost use Rattle.nvme_grammar.specs.Places.{operand_name, operand_bits, spells, suits, place_behind, takes_behind, wanted_text};
+
+use super::configuration::is_shared;
+use super::request::bit_in;
+use script_text::{bytes_in, data_in, number_u8, number_u16, number_u32, number_u64};
+use std::fmt;
+
+/// A number of a line, by what it is of.
+#[derive(Clone, Copy, Debug, PartialEq, Eq)]
+pub enum Operand {
+    /// C, a controller
+    Cntlid,
+    /// Q, a queue
+    Queue,
+    /// I, a place among the fetched commands
+    Index,
+    /// N, a namespace
+    Nsid,
+    /// NSID, what a command names as a namespace
+    AnyNsid,
+    /// H, a host
+    Host,
+    /// B, the blocks of a namespace
+    Size,
+    Slba,
+    Blocks,
+    Dwords,
+    Action,
+    Cptpl,
+    Rtype,
+    Cns,
+    State,
+    Crkey,
+    Nrkey,
+    Prkey,
+    /// ADDR, an address of a window
+    Address,
+    /// OFF, of a register
+    Offset,
+    /// V, of a register
+    Value,
+}
+
+impl Operand {
+    /// Its name in the forms of lines.
+    pub(crate) fn name(self) -> &'static str
+        ensures { result.now ≡ operand_name self }
+    {
+        match self {
+            Operand::Cntlid => "C",
+            Operand::Queue => "Q",
+            Operand::Index => "I",
+            Operand::Nsid => "N",
+            Operand::AnyNsid => "NSID",
+            Operand::Host => "H",
+            Operand::Size => "B",
+            Operand::Slba => "SLBA",
+            Operand::Blocks => "BLOCKS",
+            Operand::Dwords => "DWORDS",
+            Operand::Action => "ACTION",
+            Operand::Cptpl => "CPTPL",
+            Operand::Rtype => "RTYPE",
+            Operand::Cns => "CNS",
+            Operand::State => "STATE",
+            Operand::Crkey => "CRKEY",
+            Operand::Nrkey => "NRKEY",
+            Operand::Prkey => "PRKEY",
+            Operand::Address => "ADDR",
+            Operand::Offset => "OFF",
+            Operand::Value => "V",
+        }
+    }
+
+    /// How many bits it has: 8, 16, 32 or 64.
+    pub(crate) fn bits(self) -> u32
+        ensures { result ≡ operand_bits self }
+    {
+        match self {
+            Operand::Action | Operand::Cptpl | Operand::Rtype | Operand::Cns | Operand::State => 8,
+            Operand::Cntlid | Operand::Queue | Operand::Index => 16,
+            Operand::Nsid | Operand::AnyNsid | Operand::Blocks | Operand::Dwords => 32,
+            Operand::Value => 32,
+            Operand::Host | Operand::Size | Operand::Slba | Operand::Address => 64,
+            Operand::Crkey | Operand::Nrkey | Operand::Prkey | Operand::Offset => 64,
+        }
+    }
+
+    /// Whether a word spells such a number.
+    fn is_spelled(self, word: &[u8]) -> bool
+        ensures { result ≡ spells self word.now }
+    {
+        match self.bits() {
+            8 => number_u8(word).is_some(),
+            16 => number_u16(word).is_some(),
+            32 => number_u32(word).is_some(),
+            _ => number_u64(word).is_some(),
+        }
+    }
+}
+
+/// What stands in one place of a line.
+#[derive(Clone, Copy, Debug, PartialEq, Eq)]
+pub enum Place {
+    Number(Operand),
+    /// IEKEY, 0 or 1
+    Iekey,
+    /// The word `host`
+    Host,
+    /// The word `blocks`
+    Blocks,
+    /// `shared` or `private`
+    Sharing,
+    /// The word `raw`
+    Raw,
+    /// DATA, for as many blocks as the word before it says
+    Data,
+    /// `hex:DIGITS`
+    Bytes,
+}
+
+impl Place {
+    /// Whether a word is what the place wants; before it stands another.
+    pub(crate) fn suits(self, before: &[u8], word: &[u8], bytes: &mut [u8]) -> bool
+        requires data_room { most_bytes ≤ length bytes.old }
+        requires digits_room { length word.now ≤ 2 * length bytes.old }
+        ensures answer { result ≡ suits before.now self word.now }
+        ensures room { length bytes.new ≡ length bytes.old }
+    {
+        match self {
+            Place::Number(operand) => operand.is_spelled(word),
+            Place::Iekey => bit_in(word).is_some(),
+            Place::Host => word == b"host".as_slice(),
+            Place::Blocks => word == b"blocks".as_slice(),
+            Place::Sharing => is_shared(word).is_some(),
+            Place::Raw => word == b"raw".as_slice(),
+            Place::Data => match number_u32(before) {
+                Some(blocks) => data_in(word, blocks, bytes).is_some(),
+                None => false,
+            },
+            Place::Bytes => bytes_in(word, bytes).is_some(),
+        }
+    }
+}
+
+impl fmt::Display for Place {
+    ghost output = { λ place. Some (wanted_text place) };
+
+    /// What the place wants.
+    fn fmt<W: fmt::Write>(&self, f: &mut fmt::Formatter<W>) -> fmt::Result {
+        match self {
+            Place::Number(operand) => {
+                write!(f, "{}, a number below 2^{}", operand.name(), operand.bits())
+            }
+            Place::Iekey => write!(f, "IEKEY, 0 or 1"),
+            Place::Host => write!(f, "the word 'host'"),
+            Place::Blocks => write!(f, "the word 'blocks'"),
+            Place::Sharing => write!(f, "'shared' or 'private'"),
+            Place::Raw => write!(f, "'raw' or nothing"),
+            Place::Data => write!(
+                f,
+                "DATA, fill: and two hexadecimal digits, or hex: and pairs of them that BLOCKS have room for"
+            ),
+            Place::Bytes => write!(f, "hex: and pairs of hexadecimal digits"),
+        }
+    }
+}
+
+/// What may follow the words of a line that each such line has.
+#[derive(Clone, Copy, Debug, PartialEq, Eq)]
+pub enum Behind {
+    /// No word.
+    Nothing,
+    /// `raw`, or no word.
+    Raw,
+    /// Controllers, any number of them.
+    Controllers,
+}
+
+impl Behind {
+    /// The place of the word with this index, from 0.
+    pub(crate) fn place(self, index: usize) -> Option<Place>
+        ensures { result ≡ place_behind self index }
+    {
+        match self {
+            Behind::Raw if index == 0 => Some(Place::Raw),
+            Behind::Controllers => Some(Place::Number(Operand::Cntlid)),
+            _ => None,
+        }
+    }
+
+    /// Whether so many words may follow.
+    pub(crate) fn takes(self, words: usize) -> bool
+        ensures { result ≡ takes_behind self words }
+    {
+        match self {
+            Behind::Nothing => words == 0,
+            Behind::Raw => words <= 1,
+            Behind::Controllers => true,
+        }
+    }
+}
