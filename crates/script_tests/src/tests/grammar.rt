@@ -1,7 +1,7 @@
 //! What no clause says: that a script is read while memory lasts, and its lines are.
 
 use nvme_fleet::{FleetEvent, Request};
-use nvme_grammar::{Buffers, Line, ParseFault, Script, parse, parse_line};
+use nvme_grammar::{Buffers, Line, ParseFault, Script, line_fault, parse, parse_line};
 use std::alloc::Global;
 use std::test::Fail;
 
@@ -92,6 +92,108 @@ fn names_the_first_line_outside(rt: HostRuntime) -> Result<(), Fail> {
     for (text, number) in cases {
         let script = script_of(rt.alloc(), text);
         assert_eq!(rt; script.err(), Some(ParseFault::Syntax(number)));
+    }
+    Ok(())
+}
+
+/// Lines that are refused, whether `start` was said before, and the text of the fault of each.
+const REFUSED: [(&[u8], bool, &str); 20] = [
+    (
+        b"wirte 1 1 0 1 fill:00",
+        true,
+        "column 1: there is no line 'wirte'; did you mean 'write'?",
+    ),
+    (b"  do 1", true, "column 3: there is no line 'do'"),
+    (
+        b"write 1 1 0 1",
+        true,
+        "column 1: write takes 6 words: write C N SLBA BLOCKS DATA",
+    ),
+    (
+        b"controller 1 host",
+        false,
+        "column 1: controller takes 4 words, or one more: controller C host H [raw]",
+    ),
+    (
+        b"attach 1",
+        true,
+        "column 1: attach takes 3 words or more: attach C N C1 C2 ..",
+    ),
+    (b"start now", false, "column 1: start takes 1 word: start"),
+    (
+        b"read 1 0xg 0 1",
+        true,
+        "column 8: word 3: N, a number below 2^32, and not '0xg'",
+    ),
+    (
+        b"read 1 4294967296 0 1",
+        true,
+        "column 8: word 3: N, a number below 2^32, and not '4294967296'",
+    ),
+    (
+        b"register 1 1 0 2 0 0 1",
+        true,
+        "column 16: word 5: IEKEY, 0 or 1, and not '2'",
+    ),
+    (
+        b"controller 1 hots 1",
+        false,
+        "column 14: word 3: the word 'host', and not 'hots'",
+    ),
+    (
+        b"namespace 1 block 1 shared",
+        false,
+        "column 13: word 3: the word 'blocks', and not 'block'",
+    ),
+    (
+        b"namespace 1 blocks 1 mine",
+        false,
+        "column 22: word 5: 'shared' or 'private', and not 'mine'",
+    ),
+    (
+        b"controller 1 host 1 rare",
+        false,
+        "column 21: word 5: 'raw' or nothing, and not 'rare'",
+    ),
+    (
+        b"write 1 1 0 1 hex:0",
+        true,
+        "column 15: word 6: DATA, fill: and two hexadecimal digits, or hex: and pairs of them that BLOCKS have room for, and not 'hex:0'",
+    ),
+    (
+        b"store 1 0 00",
+        true,
+        "column 11: word 4: hex: and pairs of hexadecimal digits, and not '00'",
+    ),
+    (
+        b"up 1234567890123456789012345678901234567890",
+        true,
+        "column 4: word 2: C, a number below 2^16, and not '12345678901234567890123456789012..'",
+    ),
+    (
+        b"up\x0b1",
+        true,
+        "column 3: the byte \\x0b is neither a visible character nor a space, a tab or a carriage return",
+    ),
+    (
+        b"up 1",
+        false,
+        "column 1: up stands behind 'start', and nothing is started yet",
+    ),
+    (
+        b"attached 1 1",
+        true,
+        "column 1: attached stands before 'start', which was said already",
+    ),
+    (b"\tstart", true, "column 2: start stands in a script once"),
+];
+
+#[test]
+fn says_why_a_line_is_refused(rt: HostRuntime) -> Result<(), Fail> {
+    let mut bytes = [0; 131_072];
+    for (line, started, told) in REFUSED {
+        let fault = line_fault(line, started, &mut bytes).expect(&rt, "no fault");
+        assert_eq!(rt; format!(in rt.alloc(); "{fault}")?.as_str(), told);
     }
     Ok(())
 }
