@@ -2,13 +2,12 @@
 use Rattle.std.proofs.Common.{ℕ, Bool, List, [], ◌∷◌, Option, None, Some}
 use Rattle.std.specs.Prelude.{slice_get}
 use Rattle.nvme_spec.specs.MediumCalls.{MediumCall}
-use Rattle.nvme_machine.specs.declared.event.Event.{Event}
 use Rattle.nvme_machine.specs.declared.event.Event.TheVariants.{Store, Write32, Read32, Fetch, Execute}
 use Rattle.nvme_machine.specs.declared.fetched.FetchedCommand.{FetchedCommand}
 use Rattle.nvme_machine.specs.declared.seen.Seen.{Seen}
 use Rattle.nvme_machine.specs.Controllers.{Controller, QueuePair, open_pair}
-use Rattle.nvme_machine.specs.Subsystems.{Subsystem, ExecutesOver, ExecutesOne, ExecutesAt, Step, Run, controller_at}
-use Rattle.nvme_machine.specs.EventCalls.{CallingOver, CallingOne, CallingAt, AreCallsOfStep, AreCallsOfRun, CallsAreOfAStep, CallsAreOfARun}
+use Rattle.nvme_machine.specs.Subsystems.{Subsystem, ExecutesOver, ExecutesOne, ExecutesAt, controller_at}
+use Rattle.nvme_machine.specs.EventCalls.{CallingOver, CallingOne, CallingAt, CallsAreOfAStep, CallsAreOfARun}
 
 of-over : (o : Option QueuePair) (tells : Bool) (old : Subsystem) (k : ℕ) (c : Controller) (i : ℕ) (t : FetchedCommand) (seen : Seen) (new : Subsystem) (calls : List MediumCall)
     → CallingOver o tells old k c i t seen new calls → ExecutesOver o tells old k c i t seen new

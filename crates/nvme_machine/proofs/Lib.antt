@@ -17,3 +17,5 @@ pub mod Slots
 pub mod Posted
 pub mod Calling
 pub mod EventCalls
+pub mod AllowedCalls
+pub mod FencedCalls

@@ -9,6 +9,7 @@ pub mod Marking
 pub mod Executing
 pub mod Calling
 pub mod EventCalls
+pub mod AllowedCalls
 pub mod Secrecy
 pub mod Preempted
 pub mod Placing

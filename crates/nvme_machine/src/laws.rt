@@ -4,6 +4,7 @@
 ghost use Rattle.nvme_machine.specs.Runs.{FailuresNeverFall, RunExists, RunIsUnique, DeniedChangesItsEntryAlone, AllowedDoesItsEffect, OthersChangeInMarksAlone, FetchedStays};
 ghost use Rattle.nvme_machine.specs.Calling.{CallsAreOfAnExecution, DeniedMakesNoCall, AdminMakesNoCall};
 ghost use Rattle.nvme_machine.specs.EventCalls.{CallsAreOfAStep, CallsAreOfARun};
+ghost use Rattle.nvme_machine.specs.AllowedCalls.{CallsAreAllowed, CallsOfRunsAreAllowed, CallsAreInOrder, FencedCommandsCallNothing, FencedHostsWriteNoBlock, FlushReachesTheMedium};
 ghost use Rattle.nvme_machine.specs.Wiring.{OpeningIsWired, WiringStays, WaitsWhereFull};
 ghost use Rattle.nvme_machine.specs.Placing.{OpeningIsPlaced, WindowsKeepTheirLength};
 ghost use Rattle.nvme_machine.specs.Posted.{PostedIsUnread, UnreadStands, UnreadStandsOverRuns};
@@ -41,6 +42,29 @@ pub fn calls_are_of_executions()
 pub fn calls_are_of_events()
     ensures step { CallsAreOfAStep }
     ensures run { CallsAreOfARun }
+{}
+
+/// Whatever the medium does, and whether or not it tells its content: a block is written only by a Write or Write Zeroes
+/// that all rules let pass, on a namespace that the block belongs to and its host may write, with that command's bytes;
+/// a block is read only by such a Read or Compare, and the medium is flushed only by such a Flush.
+pub fn blocks_are_written_as_allowed()
+    ensures event { CallsAreAllowed }
+    ensures run { CallsOfRunsAreAllowed }
+{}
+
+/// A command of a host that may not write its namespace makes no write call and no flush call, and where it may not read
+/// either, no call; over runs no block of the namespace is written by such hosts, until a reservation command on it is
+/// executed that all rules let pass.
+pub fn fenced_hosts_call_nothing()
+    ensures command { FencedCommandsCallNothing }
+    ensures run { FencedHostsWriteNoBlock }
+{}
+
+/// A Flush that all rules let pass is one flush call of the medium, and succeeds only where that call did; the calls of
+/// all events before it come before it.
+pub fn flushes_come_behind_writes()
+    ensures flush { FlushReachesTheMedium }
+    ensures order { CallsAreInOrder }
 {}
 
 /// Bytes of a namespace change only by allowed writes, and its reservation only by allowed reservation commands.
