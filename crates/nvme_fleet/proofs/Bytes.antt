@@ -63,7 +63,7 @@ same-site old new m reply same h =
     let e : (fleet_in new).site ≡ (fleet_in old).site = ap (λ (f : Fleet). f.site) h.1 ∙ same in
     record { world = ap (λ (s : Site). s.world) e; device = ap (λ (s : Site). s.device) e }
 
-by-event : (tells : Bool) (old new : Layers) (e : FleetEvent) (reply : Reply) (P : Type 0) → Step tells old e reply new → (IsSameSite old new → P)
+pub by-event : (tells : Bool) (old new : Layers) (e : FleetEvent) (reply : Reply) (P : Type 0) → Step tells old e reply new → (IsSameSite old new → P)
     → ((k i : ℕ) → e ≡ Execute k i → (given : Seen) → machine.Step tells old.subsystem (event.Execute k i) given new.subsystem → P) → P
 by-event tells old new (BringUp k) reply P s alone executes = alone (same-site old new _ reply (called-site (host_at (fleet_in old) k) (fleet_in old) k _) s.mailboxes)
 by-event tells old new (Place k request) reply P s alone executes = alone (same-site old new _ reply (called-site (host_at (fleet_in old) k) (fleet_in old) k _) s.mailboxes)
@@ -95,7 +95,7 @@ permissions_stay tells old new e reply n step leaves k =
     (λ same. ap (λ x. may_write x k n) same.world)
     (λ j i is given one. fencing.permissions_stay tells old.subsystem new.subsystem (event.Execute j i) given n one (subst (LeavesReservation n old) is leaves) k)
 
-still-fenced : (v w : World) (n : ℕ) (events : List FleetEvent) → ((k : ℕ) → may_write w k n ≡ may_write v k n) → AllByRecursion (λ e. may_write v (controller_of e) n ≡ false) events
+pub still-fenced : (v w : World) (n : ℕ) (events : List FleetEvent) → ((k : ℕ) → may_write w k n ≡ may_write v k n) → AllByRecursion (λ e. may_write v (controller_of e) n ≡ false) events
     → AllByRecursion (λ e. may_write w (controller_of e) n ≡ false) events
 still-fenced v w n [] same h = tt
 still-fenced v w n (e ∷ events) same h = (same (controller_of e) ∙ h.0, still-fenced v w n events same h.1)

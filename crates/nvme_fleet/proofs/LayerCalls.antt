@@ -1,5 +1,6 @@
 -- Which events of a fleet make which calls of the medium.
-use Rattle.std.proofs.Common.{◌≡◌, ◌∙◌, ℕ, ◌+◌, ◌-◌, ◌≤◌, Bool, List, [], ◌∷◌, ◌++◌, refl, sym, ap, subst, arith}
+use Rattle.std.proofs.Common.{◌≡◌, ◌∙◌, ℕ, ◌+◌, ◌-◌, ◌≤◌, Bool, Err, Ok, Result, Some, None, Option, true, List, [], ◌∷◌, ◌++◌, refl, sym, ap, subst, arith}
+use Rattle.std.specs.Prelude.{slice_set}
 use Rattle.std.proofs.lemmas.List.{append-nil, append_assoc}
 use Rattle.nvme_spec.specs.MediumCalls.{MediumCall, MakesCalls}
 use Rattle.nvme_spec.proofs.MediumCalls.{calls-joined}
@@ -9,6 +10,17 @@ use Rattle.nvme_machine.specs.declared.seen.Seen.{Seen}
 use Rattle.nvme_machine.specs.EventCalls as machine
 use Rattle.nvme_machine.specs.Subsystems.{Subsystem}
 use Rattle.nvme_machine.proofs.EventCalls.{calls_are_of_a_step}
+use Rattle.nvme_wire.specs.Submission.{submission_entry}
+use Rattle.nvme_driver.specs.declared.faults.PlaceRefusal.{PlaceRefusal}
+use Rattle.nvme_driver.specs.declared.lane.Lane.{Lane}
+use Rattle.nvme_driver.specs.declared.request.Request.{Request}
+use Rattle.nvme_driver.specs.declared.slots.Waiting.{Waiting}
+use Rattle.nvme_driver.specs.declared.ticket.Ticket.{Ticket}
+use Rattle.nvme_driver.specs.Calls.{Call, Stores}
+use Rattle.nvme_driver.specs.Drivers.{Driver, ends, entry_fields, free_slot, lane_of, put_ends, with_ends}
+use Rattle.nvme_driver.specs.Layout.{command_place, data_area, list_page}
+use Rattle.nvme_driver.specs.Pointers.{stored_list}
+use Rattle.nvme_driver.specs.Requests.{Asked, asked_of}
 use Rattle.nvme_subsys.proofs.OverMedium.{ExecutesNothing}
 use Rattle.nvme_event.specs.declared.event.FleetEvent.{FleetEvent}
 use Rattle.nvme_event.specs.declared.event.FleetEvent.TheVariants as fleet
@@ -17,7 +29,9 @@ use Rattle.nvme_event.specs.Replies.{Reply}
 use Rattle.nvme_fleet.specs.FleetStates.{Layers, fleet_in}
 use Rattle.nvme_fleet.specs.Fleets as mailboxes
 use Rattle.nvme_fleet.specs.LayerCalls.{AppliesCalling, AreCallsOfRun, AreCallsOfStep, HappensCalling, LayerCallsAreOfARun, LayerCallsAreOfAStep}
-use Rattle.nvme_fleet.specs.Layers.{Happens, told}
+use Rattle.nvme_fleet.specs.declared.delivery.DriverCall.TheVariants as call
+use Rattle.nvme_fleet.specs.Deeds.{DoesIfAny, Places, Ran, events_of_calls}
+use Rattle.nvme_fleet.specs.Layers.{CallsAt, Happens, driver_at, told}
 use Rattle.nvme_fleet.specs.LinkCalls.{AreCallsOfTurn}
 use Rattle.nvme_fleet.specs.RawEvents.{IsOfHost}
 
@@ -117,3 +131,54 @@ calls-more step tells events replies old mid new event last before between after
   are = more-calls tells events replies old mid new event last ran.calls next.calls ran.are next.are;
   made = calls-joined step ran.calls next.calls before between after ran.made next.made;
 }
+
+-- What a placing is rests on what its request asks.
+
+abbrev placed_as : Lane → Asked → Driver → ℕ → Driver
+placed_as lane asked d slot =
+    with_ends lane (put_ends (ends lane d))
+    (record d { next = d.next + 1; slots = slice_set d.slots slot (Some (let w : Waiting = record { ticket = record { 0 = d.next }; lane = lane; received = asked.received; live = true } in w)) })
+
+abbrev stores_as : Lane → Asked → Driver → ℕ → List Call
+stores_as lane asked d slot =
+    Stores (data_area slot) asked.sent
+    ∷ Stores (list_page slot) (stored_list slot asked.moved)
+    ∷ Stores (command_place lane (ends lane d).tail.put) (submission_entry (entry_fields asked slot))
+    ∷ []
+
+abbrev PlacesAs : Lane → Asked → Bool → ℕ → Driver → Subsystem → Result Ticket PlaceRefusal → Driver → Subsystem → Type 0
+PlacesAs lane asked tells k d old (Ok ticket) d' new =
+    (slot : ℕ) × (free_slot d ≡ Some slot) × (d' ≡ placed_as lane asked d slot) × Ran tells old (events_of_calls k (stores_as lane asked d slot)) new
+PlacesAs lane asked tells k d old (Err why) d' new = (d' ≡ d) × (new ≡ old)
+
+places-as : (tells : Bool) (k : ℕ) (r : Request) (d : Driver) (old : Subsystem) (result : Result Ticket PlaceRefusal) (d' : Driver) (new : Subsystem)
+    → Places tells k r d old result d' new → PlacesAs (lane_of r) (asked_of r) tells k d old result d' new
+places-as tells k r d old (Ok t) d' new h = h
+places-as tells k r d old (Err why) d' new h = h
+
+as-places : (tells : Bool) (k : ℕ) (r : Request) (d : Driver) (old : Subsystem) (result : Result Ticket PlaceRefusal) (d' : Driver) (new : Subsystem)
+    → PlacesAs (lane_of r) (asked_of r) tells k d old result d' new → Places tells k r d old result d' new
+as-places tells k r d old (Ok t) d' new h = h
+as-places tells k r d old (Err why) d' new h = h
+
+places-alike : (tells : Bool) (k : ℕ) (r q : Request) (d : Driver) (old : Subsystem) (result : Result Ticket PlaceRefusal) (d' : Driver) (new : Subsystem) → lane_of q ≡ lane_of r → asked_of q ≡ asked_of r
+    → Places tells k r d old result d' new → Places tells k q d old result d' new
+places-alike tells k r q d old result d' new lane asked h =
+    as-places tells k q d old result d' new
+    (subst (λ l. PlacesAs l (asked_of q) tells k d old result d' new) (sym lane)
+    (subst (λ a. PlacesAs (lane_of r) a tells k d old result d' new) (sym asked) (places-as tells k r d old result d' new h)))
+
+does-alike : (o : Option Driver) (tells : Bool) (k : ℕ) (r q : Request) (old : Subsystem) (what : FleetSeen) (e : Option Driver) (new : Subsystem) → lane_of q ≡ lane_of r → asked_of q ≡ asked_of r
+    → DoesIfAny tells k (call.Place r) o old what e new → DoesIfAny tells k (call.Place q) o old what e new
+does-alike None tells k r q old what e new lane asked h = h
+does-alike (Some d) tells k r q old what e new lane asked (d', is, (result, gives, places)) =
+    (d', is, (result, gives, places-alike tells k r q d old result d' new lane asked places))
+
+called-alike : (o : Option (Option Driver)) (tells : Bool) (old : Layers) (k : ℕ) (r q : Request) (what : FleetSeen) (new : Layers) → lane_of q ≡ lane_of r → asked_of q ≡ asked_of r
+    → CallsAt o tells old k (call.Place r) what new → CallsAt o tells old k (call.Place q) what new
+called-alike None tells old k r q what new lane asked h = h
+called-alike (Some d) tells old k r q what new lane asked (e, is, does) = (e, is, does-alike d tells k r q old.subsystem what e new.subsystem lane asked does)
+
+pub placed-alike : (tells : Bool) (old new : Layers) (k : ℕ) (r q : Request) (what : FleetSeen) → lane_of q ≡ lane_of r → asked_of q ≡ asked_of r
+    → Happens tells old (fleet.Place k r) what new → Happens tells old (fleet.Place k q) what new
+placed-alike tells old new k r q what lane asked h = called-alike (driver_at old.drivers k) tells old k r q what new lane asked h

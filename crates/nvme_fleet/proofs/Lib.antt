@@ -97,3 +97,4 @@ pub mod Secrecy
 pub mod Unique
 pub mod Mirrored
 pub mod LayersOver
+pub mod AllowedCalls

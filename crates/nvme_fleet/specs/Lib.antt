@@ -31,3 +31,4 @@ pub mod SinceUp
 pub mod Regular
 pub mod Unique
 pub mod Secrecy
+pub mod AllowedCalls

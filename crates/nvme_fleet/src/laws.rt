@@ -1,6 +1,7 @@
 //! What follows from the definitions. Each law is the contract of a function that does nothing.
 
 ghost use Rattle.nvme_fleet.specs.Answered.{DoneAnswersItsRequest, DoneIsItsExecution, NewIsClear, ResetClears, TicketNamesItsRequest};
+ghost use Rattle.nvme_fleet.specs.AllowedCalls.{CallsAreAllowed, CallsOfRunsAreAllowed, FencedHostsWriteNoBlock};
 ghost use Rattle.nvme_fleet.specs.Apart.{HostsAreApart};
 ghost use Rattle.nvme_fleet.specs.Bytes.{RunsOfMailboxes, LayoutStays, FencedEventsWriteNothing, PermissionsStay as BytePermissionsStay, FencingHolds as ByteFencingHolds, OthersWindowsStay};
 ghost use Rattle.nvme_fleet.specs.Determined.{FailuresNeverFall, RunExists, RunIsUnique};
@@ -40,6 +41,17 @@ pub fn layers_are_determined()
 pub fn calls_are_of_events()
     ensures step { LayerCallsAreOfAStep }
     ensures run { LayerCallsAreOfARun }
+{}
+
+/// Whatever the medium does, and whether or not it tells its content: over every run a block is written only by a Write
+/// or Write Zeroes that all rules let pass, on a namespace that the block belongs to and its host may write, with that
+/// command's bytes; a block is read only by such a Read or Compare, and the medium is flushed only by such a Flush. So
+/// hosts that may not write a namespace write none of its blocks, until a reservation command on it is executed that all
+/// rules let pass.
+pub fn blocks_are_written_as_allowed()
+    ensures event { CallsAreAllowed }
+    ensures run { CallsOfRunsAreAllowed }
+    ensures fenced { FencedHostsWriteNoBlock }
 {}
 
 /// A driver that never came up, at a controller that was never enabled, has the fact that the steps rest on, and is the

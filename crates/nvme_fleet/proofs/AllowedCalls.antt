@@ -1,0 +1,91 @@
+-- Each call of the medium that a fleet makes is that of a command that all rules let pass, and fenced hosts write none.
+use Rattle.std.proofs.Common.{◌≡◌, ℕ, Bool, false, List, [], ◌∷◌, Some, refl, sym, ap, subst, ◌∙◌}
+use Rattle.std.specs.List.{AllByRecursion}
+use Rattle.nvme_spec.specs.Layout.{Extent, extent_of, may_write}
+use Rattle.nvme_spec.specs.MediumCalls.{MediumCall}
+use Rattle.nvme_machine.specs.declared.event.Event.TheVariants as event
+use Rattle.nvme_machine.specs.AllowedCalls.{HaveTheirOwn, KeepsOff}
+use Rattle.nvme_machine.proofs.AdminWorlds.{HasSameExtents, same-extents}
+use Rattle.nvme_machine.proofs.AllowedCalls.{all-joined, all-mapped, all-of-none, calls_are_allowed as machine_calls_are_allowed}
+use Rattle.nvme_machine.proofs.FencedCalls.{elsewhere}
+use Rattle.nvme_machine.proofs.Layouts.{step-extents}
+use Rattle.nvme_event.specs.declared.event.FleetEvent.{FleetEvent}
+use Rattle.nvme_event.specs.declared.event.FleetEvent.TheVariants.{BringUp, Place, Ring, Fetch, Execute, Poll, Reset, RawStore, RawWrite32}
+use Rattle.nvme_event.specs.Events.{controller_of}
+use Rattle.nvme_event.specs.Replies.{Reply}
+use Rattle.nvme_fleet.specs.AllowedCalls.{CallsAreAllowed, CallsOfRunsAreAllowed, ComesFrom, FencedHostsWriteNoBlock, MayCall}
+use Rattle.nvme_fleet.specs.FleetStates.{Layers}
+use Rattle.nvme_fleet.specs.LayerCalls.{AreCallsOfStep}
+use Rattle.nvme_fleet.specs.Layers.{Step}
+use Rattle.nvme_fleet.proofs.Bytes.{by-event, permissions_stay, still-fenced}
+use Rattle.nvme_fleet.proofs.LayerCalls.{layer_calls_are_of_a_step}
+
+pub calls_are_allowed : CallsAreAllowed
+calls_are_allowed tells old new (BringUp k) reply calls h = all-of-none (MayCall old (BringUp k)) calls h.below.1
+calls_are_allowed tells old new (Place k request) reply calls h = all-of-none (MayCall old (Place k request)) calls h.below.1
+calls_are_allowed tells old new (Ring k) reply calls h = all-of-none (MayCall old (Ring k)) calls h.below.1
+calls_are_allowed tells old new (Fetch k q) reply calls h = all-of-none (MayCall old (Fetch k q)) calls h.below.1
+calls_are_allowed tells old new (Execute k i) reply calls h = machine_calls_are_allowed tells old.subsystem new.subsystem (event.Execute k i) h.below.given calls h.below.step
+calls_are_allowed tells old new (Poll k) reply calls h = all-of-none (MayCall old (Poll k)) calls h.below.1
+calls_are_allowed tells old new (Reset k) reply calls h = all-of-none (MayCall old (Reset k)) calls h.below.1
+calls_are_allowed tells old new (RawStore k address bytes) reply calls h = all-of-none (MayCall old (RawStore k address bytes)) calls h.below.1
+calls_are_allowed tells old new (RawWrite32 k offset v) reply calls h = all-of-none (MayCall old (RawWrite32 k offset v)) calls h.below.1
+
+behind-it : (tells : Bool) (old mid : Layers) (event : FleetEvent) (reply : Reply) (here : List MediumCall) (events : List FleetEvent) (call : MediumCall) → AreCallsOfStep tells old event reply mid here
+    → ComesFrom tells mid events call → ComesFrom tells old (event ∷ events) call
+behind-it tells old mid event reply here events call step c = record {
+  front = event ∷ c.front;
+  event = c.event;
+  later = c.later;
+  split = ap (λ es. event ∷ es) c.split;
+  given = reply ∷ c.given;
+  now = c.now;
+  reached = (mid, layer_calls_are_of_a_step tells old mid event reply here step, c.reached);
+  may = c.may;
+}
+
+pub calls_of_runs_are_allowed : CallsOfRunsAreAllowed
+calls_of_runs_are_allowed tells old new [] [] calls h = all-of-none (ComesFrom tells old []) calls h.1
+calls_of_runs_are_allowed tells old new [] (reply ∷ later) calls h = absurd h
+calls_of_runs_are_allowed tells old new (event ∷ events) [] calls h = absurd h
+calls_of_runs_are_allowed tells old new (event ∷ events) (reply ∷ later) calls (mid, here, behind, step, run, joined) =
+    subst (AllByRecursion (ComesFrom tells old (event ∷ events))) (sym joined)
+    (all-joined (ComesFrom tells old (event ∷ events)) here behind
+    (all-mapped (MayCall old event) (ComesFrom tells old (event ∷ events)) here
+    (λ call may. record { front = []; event = event; later = events; split = refl; given = []; now = old; reached = refl; may = may }) (calls_are_allowed tells old mid event reply here step))
+    (all-mapped (ComesFrom tells mid events) (ComesFrom tells old (event ∷ events)) behind (λ call c. behind-it tells old mid event reply here events call step c)
+    (calls_of_runs_are_allowed tells mid new events later behind run)))
+
+-- Fenced hosts.
+
+keeps-off : (old : Layers) (e : FleetEvent) (n : ℕ) (x : Extent) → HaveTheirOwn old.subsystem.world → extent_of old.subsystem.world n ≡ Some x → may_write old.subsystem.world (controller_of e) n ≡ false
+    → (call : MediumCall) → MayCall old e call → KeepsOff x call
+keeps-off old (Execute k i) n x own is fenced call may = elsewhere old.subsystem (event.Execute k i) n x own is fenced call may
+keeps-off old (BringUp k) n x own is fenced call may = absurd may
+keeps-off old (Place k request) n x own is fenced call may = absurd may
+keeps-off old (Ring k) n x own is fenced call may = absurd may
+keeps-off old (Fetch k q) n x own is fenced call may = absurd may
+keeps-off old (Poll k) n x own is fenced call may = absurd may
+keeps-off old (Reset k) n x own is fenced call may = absurd may
+keeps-off old (RawStore k address bytes) n x own is fenced call may = absurd may
+keeps-off old (RawWrite32 k offset v) n x own is fenced call may = absurd may
+
+extents-stay : (tells : Bool) (old new : Layers) (e : FleetEvent) (reply : Reply) → Step tells old e reply new → HasSameExtents old.subsystem.world new.subsystem.world
+extents-stay tells old new e reply step =
+    by-event tells old new e reply (HasSameExtents old.subsystem.world new.subsystem.world) step
+    (λ same. same-extents old.subsystem.world new.subsystem.world same.world)
+    (λ k i is given one. step-extents tells old.subsystem new.subsystem (event.Execute k i) given one)
+
+pub fenced_hosts_write_no_block : FencedHostsWriteNoBlock
+fenced_hosts_write_no_block tells old new [] [] calls n x own is run fenced = all-of-none (KeepsOff x) calls run.1
+fenced_hosts_write_no_block tells old new [] (reply ∷ later) calls n x own is run fenced = absurd run
+fenced_hosts_write_no_block tells old new (e ∷ events) [] calls n x own is run fenced = absurd run
+fenced_hosts_write_no_block tells old new (e ∷ events) (reply ∷ later) calls n x own is (mid, here, behind, quiet, made, rest, joined) fenced =
+    let step : Step tells old e reply mid = layer_calls_are_of_a_step tells old mid e reply here made in
+    let same = extents-stay tells old mid e reply step in
+    let kept : HaveTheirOwn mid.subsystem.world = λ a b y z other p q. own a b y z other (sym (same.extents a) ∙ p) (sym (same.extents b) ∙ q) in
+    subst (AllByRecursion (KeepsOff x)) (sym joined)
+    (all-joined (KeepsOff x) here behind
+    (all-mapped (MayCall old e) (KeepsOff x) here (keeps-off old e n x own is fenced.0) (calls_are_allowed tells old mid e reply here made))
+    (fenced_hosts_write_no_block tells mid new events later behind n x kept (same.extents n ∙ is) rest
+    (still-fenced old.subsystem.world mid.subsystem.world n events (permissions_stay tells old mid e reply n step quiet) fenced.1)))

@@ -1,0 +1,75 @@
+-- What holds of the calls that the events of a fleet make of the medium, whatever the medium does and whether or not it
+-- tells: each call is that of a command that all rules let pass, on blocks of its namespace; and fenced hosts write none.
+use Rattle.std.specs.Prelude.{◌≡◌, ℕ, Bool, false, List, [], ◌∷◌, ◌++◌, Some}
+use Rattle.std.specs.List.{AllByRecursion}
+use Rattle.nvme_spec.specs.Layout.{Extent, extent_of, may_write}
+use Rattle.nvme_spec.specs.MediumCalls.{MediumCall}
+use Rattle.nvme_machine.specs.AllowedCalls.{IsCallOf, HaveTheirOwn, KeepsOff}
+use Rattle.nvme_event.specs.declared.event.FleetEvent.{FleetEvent}
+use Rattle.nvme_event.specs.declared.event.FleetEvent.TheVariants.{BringUp, Place, Ring, Fetch, Execute, Poll, Reset, RawStore, RawWrite32}
+use Rattle.nvme_event.specs.Events.{controller_of}
+use Rattle.nvme_event.specs.Replies.{Reply}
+use Rattle.nvme_fleet.specs.Bytes.{LeavesReservation}
+use Rattle.nvme_fleet.specs.FleetStates.{Layers}
+use Rattle.nvme_fleet.specs.LayerCalls.{AreCallsOfStep, AreCallsOfRun}
+use Rattle.nvme_fleet.specs.Layers.{Run}
+
+-- only executions make calls
+abbrev pub MayCall : Layers → FleetEvent → MediumCall → Type 0
+MayCall l (Execute k i) call = IsCallOf l.subsystem k i call
+MayCall l (BringUp k) call = ⊥
+MayCall l (Place k request) call = ⊥
+MayCall l (Ring k) call = ⊥
+MayCall l (Fetch k q) call = ⊥
+MayCall l (Poll k) call = ⊥
+MayCall l (Reset k) call = ⊥
+MayCall l (RawStore k address bytes) call = ⊥
+MayCall l (RawWrite32 k offset v) call = ⊥
+
+-- A block is written only by a Write or Write Zeroes that all rules let pass, on a namespace that the block belongs to
+-- and that the reservation lets its host write, with that command's bytes; it is read only by such a Read or Compare,
+-- and the medium is flushed only by such a Flush.
+abbrev pub CallsAreAllowed : Type 0
+CallsAreAllowed =
+    (tells : Bool) → (old new : Layers) → (event : FleetEvent) → (reply : Reply) → (calls : List MediumCall)
+    → AreCallsOfStep tells old event reply new calls → AllByRecursion (MayCall old event) calls
+
+-- A call comes from one of the events, and is what it may call in the state that it finds.
+pub record ComesFrom (tells : Bool) (old : Layers) (events : List FleetEvent) (call : MediumCall) : Type 0 where
+  pub front : List FleetEvent
+  pub event : FleetEvent
+  pub later : List FleetEvent
+  pub split : events ≡ front ++ event ∷ later
+  pub given : List Reply
+  pub now : Layers
+  pub reached : Run tells old front given now
+  pub may : MayCall now event call
+
+-- So it is over every run.
+abbrev pub CallsOfRunsAreAllowed : Type 0
+CallsOfRunsAreAllowed =
+    (tells : Bool) → (old new : Layers) → (events : List FleetEvent) → (replies : List Reply)
+    → (calls : List MediumCall) → AreCallsOfRun tells old events replies new calls
+    → AllByRecursion (ComesFrom tells old events) calls
+
+-- a run with its calls, in which each event is so in the state that it finds
+abbrev pub CallsWhere : (Layers → FleetEvent → Type 0) → Bool → Layers → List FleetEvent → List Reply → Layers
+    → List MediumCall → Type 0
+CallsWhere P tells old [] [] new calls = (new ≡ old) × (calls ≡ [])
+CallsWhere P tells old (event ∷ events) (reply ∷ later) new calls =
+    (mid : Layers) × (here : List MediumCall) × (behind : List MediumCall) × P old event
+    × AreCallsOfStep tells old event reply mid here × CallsWhere P tells mid events later new behind
+    × (calls ≡ here ++ behind)
+CallsWhere P tells old [] (reply ∷ later) new calls = ⊥
+CallsWhere P tells old (event ∷ events) [] new calls = ⊥
+
+-- Fencing holds of the calls: while no reservation command on a namespace is executed but denied ones, no call of hosts
+-- that may not write it writes any of its blocks, whatever they place, ring, fetch, execute, poll, reset, bring up,
+-- store and write, in any order.
+abbrev pub FencedHostsWriteNoBlock : Type 0
+FencedHostsWriteNoBlock =
+    (tells : Bool) → (old new : Layers) → (events : List FleetEvent) → (replies : List Reply)
+    → (calls : List MediumCall) → (n : ℕ) → (x : Extent) → HaveTheirOwn old.subsystem.world
+    → extent_of old.subsystem.world n ≡ Some x → CallsWhere (LeavesReservation n) tells old events replies new calls
+    → AllByRecursion (λ event. may_write old.subsystem.world (controller_of event) n ≡ false) events
+    → AllByRecursion (KeepsOff x) calls
