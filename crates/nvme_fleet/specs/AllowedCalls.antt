@@ -1,5 +1,6 @@
 -- What holds of the calls that the events of a fleet make of the medium, whatever the medium does and whether or not it
--- tells: each call is that of a command that all rules let pass, on blocks of its namespace; and fenced hosts write none.
+-- tells: each call is that of a command that all rules let pass, on blocks of its namespace; and fenced hosts write
+-- none.
 use Rattle.std.specs.Prelude.{◌≡◌, ℕ, Bool, false, List, [], ◌∷◌, ◌++◌, Some}
 use Rattle.std.specs.List.{AllByRecursion}
 use Rattle.nvme_spec.specs.Layout.{Extent, extent_of, may_write}

@@ -36,7 +36,8 @@ pub fn layers_are_determined()
     ensures unique { LayersRunIsUnique }
 {}
 
-/// The calls that events make of a medium are those of their steps of both layers, one after the other, and of one run.
+/// The calls that events make of a medium are those of their steps of both layers, one after the other, and of one
+/// run.
 #[tactic(auto, using(crate::proofs::LayerCalls::layer_calls_are_of_a_step, crate::proofs::LayerCalls::layer_calls_are_of_a_run))]
 pub fn calls_are_of_events()
     ensures step { LayerCallsAreOfAStep }

@@ -44,17 +44,17 @@ pub fn calls_are_of_events()
     ensures run { CallsAreOfARun }
 {}
 
-/// Whatever the medium does, and whether or not it tells its content: a block is written only by a Write or Write Zeroes
-/// that all rules let pass, on a namespace that the block belongs to and its host may write, with that command's bytes;
-/// a block is read only by such a Read or Compare, and the medium is flushed only by such a Flush.
+/// Whatever the medium does, and whether or not it tells its content: a block is written only by a Write or Write
+/// Zeroes that all rules let pass, on a namespace that the block belongs to and its host may write, with that command's
+/// bytes; a block is read only by such a Read or Compare, and the medium is flushed only by such a Flush.
 pub fn blocks_are_written_as_allowed()
     ensures event { CallsAreAllowed }
     ensures run { CallsOfRunsAreAllowed }
 {}
 
-/// A command of a host that may not write its namespace makes no write call and no flush call, and where it may not read
-/// either, no call; over runs no block of the namespace is written by such hosts, until a reservation command on it is
-/// executed that all rules let pass.
+/// A command of a host that may not write its namespace makes no write call and no flush call, and where it may not
+/// read either, no call; over runs no block of the namespace is written by such hosts, until a reservation command on it
+/// is executed that all rules let pass.
 pub fn fenced_hosts_call_nothing()
     ensures command { FencedCommandsCallNothing }
     ensures run { FencedHostsWriteNoBlock }

@@ -1,5 +1,6 @@
 -- What an event does and how its line looks rest on its bytes, not on where they lie.
-use Rattle.std.proofs.Common.{◌≡◌, ℕ, Bool, Option, None, Some, refl, sym, subst}
+use Rattle.std.proofs.Common.{◌≡◌, ℕ, Bool, List, Option, None, Some, refl, sym, subst}
+use Rattle.std.specs.Borrow.{Bor}
 use Rattle.nvme_driver.specs.declared.request.Request.{Request}
 use Rattle.nvme_driver.specs.declared.request.Request.TheVariants as request
 use Rattle.nvme_driver.specs.declared.faults.PlaceRefusal.{PlaceRefusal}
@@ -9,6 +10,16 @@ use Rattle.nvme_event.specs.Replies.{Reply}
 use Rattle.nvme_fleet.specs.Mailboxes.{Mailbox}
 use Rattle.nvme_fleet.specs.Deliveries.{Reaction, placed, placed_by, refusal}
 use Rattle.nvme_fleet.specs.Fleets.{Host, WithDriver, Raw, Fleet, Moment, Is, Step, called_at, host_at}
+use Rattle.nvme_spec.specs.MediumCalls.{MediumCall}
+use Rattle.nvme_driver.specs.Drivers.{Driver, lane_of}
+use Rattle.nvme_driver.specs.Requests.{asked_of}
+use Rattle.nvme_machine.specs.declared.event.Event.TheVariants.{Store}
+use Rattle.nvme_event.specs.declared.seen.FleetSeen.{FleetSeen}
+use Rattle.nvme_fleet.specs.FleetStates.{Layers, fleet_in}
+use Rattle.nvme_fleet.specs.LayerCalls.{AreCallsOfStep, HappensCalling}
+use Rattle.nvme_fleet.specs.Layers.{AppliesRaw, driver_at}
+use Rattle.nvme_fleet.proofs.LayerCalls.{placed-alike}
+use Rattle.nvme_grammar.specs.Lent.{lent}
 use Rattle.nvme_transcript.specs.Transcript.{line_of}
 use Rattle.nvme_grammar.specs.Lent.{request_by_value, event_by_value}
 
@@ -76,3 +87,60 @@ line-by_value (Poll k) reply = refl
 line-by_value (Reset k) reply = refl
 line-by_value (RawStore k address bytes) reply = refl
 line-by_value (RawWrite32 k offset v) reply = refl
+
+-- What it asks is the same.
+lane-by_value : (r : Request) → lane_of (request_by_value r) ≡ lane_of r
+lane-by_value (request.Read nsid slba blocks) = refl
+lane-by_value (request.Write nsid slba bytes) = refl
+lane-by_value (request.Compare nsid slba bytes) = refl
+lane-by_value (request.WriteZeroes nsid slba blocks) = refl
+lane-by_value (request.Flush nsid) = refl
+lane-by_value (request.Register nsid action iekey cptpl crkey nrkey) = refl
+lane-by_value (request.Acquire nsid action rtype crkey prkey) = refl
+lane-by_value (request.Release nsid action rtype crkey) = refl
+lane-by_value (request.Report nsid dwords) = refl
+lane-by_value (request.Identify cns nsid) = refl
+lane-by_value (request.Protect nsid state) = refl
+lane-by_value (request.Protection nsid) = refl
+lane-by_value (request.Attach nsid list) = refl
+lane-by_value (request.Detach nsid list) = refl
+
+asked-by_value : (r : Request) → asked_of (request_by_value r) ≡ asked_of r
+asked-by_value (request.Read nsid slba blocks) = refl
+asked-by_value (request.Write nsid slba bytes) = refl
+asked-by_value (request.Compare nsid slba bytes) = refl
+asked-by_value (request.WriteZeroes nsid slba blocks) = refl
+asked-by_value (request.Flush nsid) = refl
+asked-by_value (request.Register nsid action iekey cptpl crkey nrkey) = refl
+asked-by_value (request.Acquire nsid action rtype crkey prkey) = refl
+asked-by_value (request.Release nsid action rtype crkey) = refl
+asked-by_value (request.Report nsid dwords) = refl
+asked-by_value (request.Identify cns nsid) = refl
+asked-by_value (request.Protect nsid state) = refl
+asked-by_value (request.Protection nsid) = refl
+asked-by_value (request.Attach nsid list) = refl
+asked-by_value (request.Detach nsid list) = refl
+
+stored-by_value : (o : Option (Option Driver)) (tells : Bool) (old : Layers) (k address : ℕ) (bytes : Bor (List ℕ)) (what : FleetSeen) (new : Layers)
+    → AppliesRaw o tells old (Store k address bytes) what new → AppliesRaw o tells old (Store k address (lent bytes.now)) what new
+stored-by_value None tells old k address bytes what new h = h
+stored-by_value (Some None) tells old k address bytes what new h = record { given = h.given; step = h.step; gives = h.gives; drivers = h.drivers }
+stored-by_value (Some (Some d)) tells old k address bytes what new h = h
+
+below-by_value : (tells : Bool) (old new : Layers) (event : FleetEvent) (what : FleetSeen) (calls : List MediumCall) → HappensCalling tells old event what new calls → HappensCalling tells old (event_by_value event) what new calls
+below-by_value tells old new (BringUp k) what calls h = h
+below-by_value tells old new (Place k r) what calls h = (placed-alike tells old new k r (request_by_value r) what (lane-by_value r) (asked-by_value r) h.0, h.1)
+below-by_value tells old new (Ring k) what calls h = h
+below-by_value tells old new (Fetch k q) what calls h = h
+below-by_value tells old new (Execute k i) what calls h = h
+below-by_value tells old new (Poll k) what calls h = h
+below-by_value tells old new (Reset k) what calls h = h
+below-by_value tells old new (RawStore k address bytes) what calls h = (stored-by_value (driver_at old.drivers k) tells old k address bytes what new h.0, h.1)
+below-by_value tells old new (RawWrite32 k offset v) what calls h = h
+
+-- and the calls of an event
+pub calls-by_value : (tells : Bool) (old new : Layers) (event : FleetEvent) (reply : Reply) (calls : List MediumCall) → AreCallsOfStep tells old event reply new calls → AreCallsOfStep tells old (event_by_value event) reply new calls
+calls-by_value tells old new event reply calls h = record {
+  mailboxes = Step-by_value tells (fleet_in old) event reply (fleet_in new) h.mailboxes;
+  below = below-by_value tells old new event reply.seen calls h.below;
+}

@@ -1,20 +1,20 @@
 -- A text that was run as far as some line.
-use Rattle.std.proofs.Common.{◌≡◌, ◌≤◌, ◌<◌, ◌+◌, ℕ, Bool, List, [], ◌∷◌, ◌++◌, length, Option, Some, None, Bor, refl, sym, ap, ◌∙◌, subst, append_assoc, arith}
+use Rattle.std.proofs.Common.{◌≡◌, ◌≤◌, ◌<◌, ◌+◌, ℕ, List, [], ◌∷◌, ◌++◌, length, Option, Some, None, Bor, refl, sym, ap, ◌∙◌, subst, append_assoc, arith}
 use Rattle.std.specs.Prelude.{IfSome}
 use Rattle.std.proofs.lemmas.List.{append-nil}
 use Rattle.nvme_event.specs.declared.event.FleetEvent.{FleetEvent}
-use Rattle.nvme_fleet.specs.Fleets.{Fleet}
+use Rattle.nvme_event.specs.Replies.{Reply}
 use Rattle.script_text.specs.Lines.{text_lines, lines_left}
 use Rattle.nvme_grammar.specs.Script.{events_of}
 use Rattle.nvme_script.specs.Faults.{Transcribes, StopsAt, events_in}
 use Rattle.nvme_script.proofs.Texts.{events-append}
-use Rattle.nvme_script.proofs.Running.{Transcribes-none, Transcribes-append, StopsAt-behind}
+use Rattle.nvme_script.proofs.Running.{IsRun, Transcribes-none, Transcribes-append, StopsAt-behind}
 
 -- the events before what is left of a text have run
-pub record Halfway (tells : Bool) (text : List ℕ) (old : Fleet) (rest : Option (Bor (List ℕ))) (now : Fleet) (before after : Option (List ℕ)) : Type 0 where
+pub record Halfway {S : Type 0} (Ran : S → List FleetEvent → List Reply → S → Type 0) (text : List ℕ) (old : S) (rest : Option (Bor (List ℕ))) (now : S) (before after : Option (List ℕ)) : Type 0 where
   pub front : List FleetEvent
   pub all : events_in text ≡ front ++ events_of (lines_left rest)
-  pub transcribed : Transcribes tells old front now before after
+  pub transcribed : Transcribes Ran old front now before after
 
 abbrev pub left_length : Option (Bor (List ℕ)) → ℕ
 left_length None = 0
@@ -31,27 +31,27 @@ pub smaller : (r : Option (Bor (List ℕ))) (n : ℕ) → IfSome r (λ rest. len
 smaller None n h = omega arith
 smaller (Some rest) n h = omega (arith, h)
 
-pub begun : (tells : Bool) (text : Bor (List ℕ)) (old : Fleet) (before : Option (List ℕ)) → Halfway tells text.now old (Some text) old before before
-begun tells text old before = record { front = []; all = refl; transcribed = Transcribes-none tells old before }
+pub begun : {S : Type 0} (Ran : S → List FleetEvent → List Reply → S → Type 0) → IsRun Ran → (text : Bor (List ℕ)) (old : S) (before : Option (List ℕ)) → Halfway Ran text.now old (Some text) old before before
+begun Ran is text old before = record { front = []; all = refl; transcribed = Transcribes-none Ran is old before }
 
-module _ (tells : Bool) (text : List ℕ) (old : Fleet) (lines raw : Bor (List ℕ)) (behind : Option (Bor (List ℕ))) (mid new : Fleet) (x y z : Option (List ℕ))
-    (half : Halfway tells text old (Some lines) mid x y) (cut : text_lines lines.now ≡ raw.now ∷ lines_left behind) where
+module _ {S : Type 0} (Ran : S → List FleetEvent → List Reply → S → Type 0) (is : IsRun Ran) (text : List ℕ) (old : S) (lines raw : Bor (List ℕ)) (behind : Option (Bor (List ℕ))) (mid new : S) (x y z : Option (List ℕ))
+    (half : Halfway Ran text old (Some lines) mid x y) (cut : text_lines lines.now ≡ raw.now ∷ lines_left behind) where
   parted : events_in text ≡ half.front ++ events_of (raw.now ∷ []) ++ events_of (lines_left behind)
   parted =
       half.all ∙ ap (λ ls. half.front ++ events_of ls) cut ∙ ap (λ es. half.front ++ es) (events-append (raw.now ∷ []) (lines_left behind))
       ∙ sym (append_assoc half.front (events_of (raw.now ∷ [])) (events_of (lines_left behind)))
 
-  pub half-next : Transcribes tells mid (events_of (raw.now ∷ [])) new y z → Halfway tells text old behind new x z
+  pub half-next : Transcribes Ran mid (events_of (raw.now ∷ [])) new y z → Halfway Ran text old behind new x z
   half-next more = record {
     front = half.front ++ events_of (raw.now ∷ []);
     all = parted;
-    transcribed = Transcribes-append tells half.front (events_of (raw.now ∷ [])) old mid new x y z half.transcribed more;
+    transcribed = Transcribes-append Ran is half.front (events_of (raw.now ∷ [])) old mid new x y z half.transcribed more;
   }
 
-  pub half-stops : StopsAt tells mid (events_of (raw.now ∷ [])) new y z → StopsAt tells old (events_in text) new x z
+  pub half-stops : StopsAt Ran mid (events_of (raw.now ∷ [])) new y z → StopsAt Ran old (events_in text) new x z
   half-stops stops =
-      subst (λ (es : List FleetEvent). StopsAt tells old es new x z) (sym parted)
-      (StopsAt-behind tells half.front (events_of (raw.now ∷ [])) (events_of (lines_left behind)) old mid new x y z half.transcribed stops)
+      subst (λ (es : List FleetEvent). StopsAt Ran old es new x z) (sym parted)
+      (StopsAt-behind Ran is half.front (events_of (raw.now ∷ [])) (events_of (lines_left behind)) old mid new x y z half.transcribed stops)
 
-pub half-whole : (tells : Bool) (text : List ℕ) (old : Fleet) (now : Fleet) (x y : Option (List ℕ)) → Halfway tells text old None now x y → Transcribes tells old (events_in text) now x y
-half-whole tells text old now x y half = subst (λ (es : List FleetEvent). Transcribes tells old es now x y) (sym (half.all ∙ append-nil half.front)) half.transcribed
+pub half-whole : {S : Type 0} (Ran : S → List FleetEvent → List Reply → S → Type 0) (text : List ℕ) (old now : S) (x y : Option (List ℕ)) → Halfway Ran text old None now x y → Transcribes Ran old (events_in text) now x y
+half-whole Ran text old now x y half = subst (λ (es : List FleetEvent). Transcribes Ran old es now x y) (sym (half.all ∙ append-nil half.front)) half.transcribed

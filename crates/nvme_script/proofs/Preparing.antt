@@ -20,7 +20,7 @@ use Rattle.nvme_grammar.proofs.ReadingLemmas.{started}
 use Rattle.nvme_script.specs.declared.run.ScriptFault.TheVariants.{Config}
 use Rattle.nvme_script.specs.Faults.{IsScript, IsReady, IsEarlyFault, fleet_of_text, of_opening}
 
-same_configuration : (raw : List (List ℕ)) (script : Script) → Says (said raw) script → configuration script.config ≡ configuration_of raw
+pub same_configuration : (raw : List (List ℕ)) (script : Script) → Says (said raw) script → configuration script.config ≡ configuration_of raw
 same_configuration raw script says = λ i. record { controllers = says.controllers i; namespaces = says.namespaces i; attached = says.attached i }
 
 -- a script that was read and whose configuration is accepted

@@ -8,12 +8,18 @@ use Rattle.std.specs.Prelude.{Result, Ok, Err, OnOk, OnErr, slice_get}
 use Rattle.nvme_event.specs.declared.event.FleetEvent.{FleetEvent}
 use Rattle.nvme_event.specs.Replies.{Reply}
 use Rattle.nvme_fleet.specs.Fleets.{Fleet, Step, Run}
+use Rattle.nvme_fleet.specs.FleetStates.{Layers}
+use Rattle.nvme_fleet.specs.LayerCalls.{AreCallsOfRun, AreCallsOfStep}
+use Rattle.nvme_spec.specs.MediumCalls.{MediumCall, MakesCalls}
+use Rattle.nvme_spec.proofs.MediumCalls.{calls-joined}
+use Rattle.nvme_subsys.specs.OverMedium.{OverMedium}
 use Rattle.script_text.specs.Writing.{Cuts}
 use Rattle.script_text.proofs.WritingLemmas.{Appends-more}
 use Rattle.nvme_transcript.specs.Transcript.{line_of, transcript}
 use Rattle.nvme_grammar.specs.Lent.{event_by_value}
 use Rattle.nvme_script.specs.Faults.{Transcribes, StopsAt}
-use Rattle.nvme_script.proofs.ByValue.{Step-by_value, line-by_value}
+use Rattle.nvme_script.specs.ScriptCalls.{RanCalling}
+use Rattle.nvme_script.proofs.ByValue.{Step-by_value, calls-by_value, line-by_value}
 
 Appends-none : (x : Option (List ℕ)) → Appends x x []
 Appends-none None = tt
@@ -64,38 +70,37 @@ take-behind (x ∷ xs) ys zs i y e = rw (more (length xs) i) (ap (λ t. x ∷ t)
 abbrev line : FleetEvent × Reply → List ℕ
 line p = line_of p.0 p.1
 
-module _ (tells : Bool) where
-  run-append : (es fs : List FleetEvent) (rs qs : List Reply) (a b c : Fleet) → Run tells a es rs b → Run tells b fs qs c → Run tells a (es ++ fs) (rs ++ qs) c
-  run-append [] fs [] qs a b c h k = subst (λ (f : Fleet). Run tells f fs qs c) h k
-  run-append [] fs (r ∷ rs) qs a b c h k = absurd h
-  run-append (e ∷ es) fs [] qs a b c h k = absurd h
-  run-append (e ∷ es) fs (r ∷ rs) qs a b c h k = (h.0, h.1, run-append es fs rs qs h.0 b c h.2 k)
+-- A sense of a run: nothing runs as it was, what runs behind a run is a run, and there are as many replies as events.
+pub record IsRun {S : Type 0} (Ran : S → List FleetEvent → List Reply → S → Type 0) : Type 0 where
+  pub nothing : (s : S) → Ran s [] [] s
+  pub behind : (es fs : List FleetEvent) (rs qs : List Reply) (a b c : S) → Ran a es rs b → Ran b fs qs c → Ran a (es ++ fs) (rs ++ qs) c
+  pub long : (es : List FleetEvent) (rs : List Reply) (a b : S) → Ran a es rs b → length es ≡ length rs
 
-  -- there are as many replies as events
-  zip-append : (es fs : List FleetEvent) (rs qs : List Reply) (a b : Fleet) → Run tells a es rs b → zip (es ++ fs) (rs ++ qs) ≡ zip es rs ++ zip fs qs
-  zip-append [] fs [] qs a b h = refl
-  zip-append [] fs (r ∷ rs) qs a b h = absurd h
-  zip-append (e ∷ es) fs [] qs a b h = absurd h
-  zip-append (e ∷ es) fs (r ∷ rs) qs a b h = ap (λ t. (e, r) ∷ t) (zip-append es fs rs qs h.0 b h.2)
+zip-append : (es fs : List FleetEvent) (rs qs : List Reply) → length es ≡ length rs → zip (es ++ fs) (rs ++ qs) ≡ zip es rs ++ zip fs qs
+zip-append [] fs [] qs h = refl
+zip-append [] fs (r ∷ rs) qs h = absurd (omega (arith, h))
+zip-append (e ∷ es) fs [] qs h = absurd (omega (arith, h))
+zip-append (e ∷ es) fs (r ∷ rs) qs h = ap (λ t. (e, r) ∷ t) (zip-append es fs rs qs (omega (arith, h)))
 
-  transcript-append : (es fs : List FleetEvent) (rs qs : List Reply) (a b : Fleet) → Run tells a es rs b → transcript (es ++ fs) (rs ++ qs) ≡ transcript es rs ++ transcript fs qs
-  transcript-append es fs rs qs a b h = ap (flat_map line) (zip-append es fs rs qs a b h) ∙ flat_map-append line (zip es rs) (zip fs qs)
+transcript-append : (es fs : List FleetEvent) (rs qs : List Reply) → length es ≡ length rs → transcript (es ++ fs) (rs ++ qs) ≡ transcript es rs ++ transcript fs qs
+transcript-append es fs rs qs h = ap (flat_map line) (zip-append es fs rs qs h) ∙ flat_map-append line (zip es rs) (zip fs qs)
 
-  pub Transcribes-none : (f : Fleet) (x : Option (List ℕ)) → Transcribes tells f [] f x x
-  Transcribes-none f x = record { replies = []; ran = refl; wrote = Appends-none x }
+module _ {S : Type 0} (Ran : S → List FleetEvent → List Reply → S → Type 0) (is : IsRun Ran) where
+  pub Transcribes-none : (f : S) (x : Option (List ℕ)) → Transcribes Ran f [] f x x
+  Transcribes-none f x = record { replies = []; ran = is.nothing f; wrote = Appends-none x }
 
-  pub Transcribes-append : (es fs : List FleetEvent) (a b c : Fleet) (x y z : Option (List ℕ)) → Transcribes tells a es b x y → Transcribes tells b fs c y z → Transcribes tells a (es ++ fs) c x z
+  pub Transcribes-append : (es fs : List FleetEvent) (a b c : S) (x y z : Option (List ℕ)) → Transcribes Ran a es b x y → Transcribes Ran b fs c y z → Transcribes Ran a (es ++ fs) c x z
   Transcribes-append es fs a b c x y z h k = record {
     replies = h.replies ++ k.replies;
-    ran = run-append es fs h.replies k.replies a b c h.ran k.ran;
-    wrote = rw (transcript-append es fs h.replies k.replies a b h.ran) (Appends-more x y z (transcript es h.replies) (transcript fs k.replies) h.wrote k.wrote);
+    ran = is.behind es fs h.replies k.replies a b c h.ran k.ran;
+    wrote = rw (transcript-append es fs h.replies k.replies (is.long es h.replies a b h.ran)) (Appends-more x y z (transcript es h.replies) (transcript fs k.replies) h.wrote k.wrote);
   }
 
   -- it stops at an event behind others, and before more
-  pub StopsAt-behind : (es fs gs : List FleetEvent) (a b c : Fleet) (x y z : Option (List ℕ)) → Transcribes tells a es b x y → StopsAt tells b fs c y z → StopsAt tells a (es ++ fs ++ gs) c x z
+  pub StopsAt-behind : (es fs gs : List FleetEvent) (a b c : S) (x y z : Option (List ℕ)) → Transcribes Ran a es b x y → StopsAt Ran b fs c y z → StopsAt Ran a (es ++ fs ++ gs) c x z
   StopsAt-behind es fs gs a b c x y z h k =
       let front = take-behind es fs gs k.index k.event k.is in
-      let ran = run-append es (take k.index fs ++ k.event ∷ []) h.replies (k.told ++ k.cut ∷ []) a b c h.ran k.ran in
+      let ran = is.behind es (take k.index fs ++ k.event ∷ []) h.replies (k.told ++ k.cut ∷ []) a b c h.ran k.ran in
       record {
         index = length es + k.index;
         event = k.event;
@@ -105,31 +110,84 @@ module _ (tells : Bool) where
         ran = rw (front, append_assoc es (take k.index fs) (k.event ∷ []), append_assoc h.replies k.told (k.cut ∷ [])) ran;
         bytes = k.bytes;
         part = k.part;
-        wrote = rw (front, transcript-append es (take k.index fs) h.replies k.told a b h.ran, append_assoc (transcript es h.replies) (transcript (take k.index fs) k.told) (take k.bytes (line_of k.event k.cut)))
+        wrote = rw (front, transcript-append es (take k.index fs) h.replies k.told (is.long es h.replies a b h.ran), append_assoc (transcript es h.replies) (transcript (take k.index fs) k.told) (take k.bytes (line_of k.event k.cut)))
             (Appends-more x y z (transcript es h.replies) (transcript (take k.index fs) k.told ++ take k.bytes (line_of k.event k.cut)) h.wrote k.wrote);
       }
 
   -- one event
-  module _ (a b : Fleet) (event : FleetEvent) (reply : Reply) (x y : Option (List ℕ)) (step : Step tells a event reply b) where
-    by_value : Step tells a (event_by_value event) reply b
-    by_value = Step-by_value tells a event reply b step
-
-    pub Transcribes-one : Appends x y (line_of event reply) → Transcribes tells a (event_by_value event ∷ []) b x y
+  module _ (a b : S) (event : FleetEvent) (reply : Reply) (x y : Option (List ℕ)) (ran : Ran a (event_by_value event ∷ []) (reply ∷ []) b) where
+    pub Transcribes-one : Appends x y (line_of event reply) → Transcribes Ran a (event_by_value event ∷ []) b x y
     Transcribes-one wrote = record {
       replies = reply ∷ [];
-      ran = (b, by_value, refl);
+      ran = ran;
       wrote = rw (append-nil (line_of (event_by_value event) reply), line-by_value event reply) wrote;
     }
 
-    pub StopsAt-one : Cuts x y (line_of event reply) → StopsAt tells a (event_by_value event ∷ []) b x y
+    pub StopsAt-one : Cuts x y (line_of event reply) → StopsAt Ran a (event_by_value event ∷ []) b x y
     StopsAt-one cut = record {
       index = 0;
       event = event_by_value event;
       is = refl;
       told = [];
       cut = reply;
-      ran = (b, by_value, refl);
+      ran = ran;
       bytes = cut.0;
       part = rw (line-by_value event reply) cut.1;
       wrote = rw (line-by_value event reply) cut.2;
     }
+
+-- Runs of mailboxes.
+module _ (tells : Bool) where
+  run-behind : (es fs : List FleetEvent) (rs qs : List Reply) (a b c : Fleet) → Run tells a es rs b → Run tells b fs qs c → Run tells a (es ++ fs) (rs ++ qs) c
+  run-behind [] fs [] qs a b c h k = subst (λ (f : Fleet). Run tells f fs qs c) h k
+  run-behind [] fs (r ∷ rs) qs a b c h k = absurd h
+  run-behind (e ∷ es) fs [] qs a b c h k = absurd h
+  run-behind (e ∷ es) fs (r ∷ rs) qs a b c h k = (h.0, h.1, run-behind es fs rs qs h.0 b c h.2 k)
+
+  run-long : (es : List FleetEvent) (rs : List Reply) (a b : Fleet) → Run tells a es rs b → length es ≡ length rs
+  run-long [] [] a b h = refl
+  run-long [] (r ∷ rs) a b h = absurd h
+  run-long (e ∷ es) [] a b h = absurd h
+  run-long (e ∷ es) (r ∷ rs) a b h = let rest = run-long es rs h.0 b h.2 in omega (arith, rest)
+
+  pub mailboxes-run : IsRun (Run tells)
+  mailboxes-run = record { nothing = λ s. refl; behind = run-behind; long = run-long }
+
+  pub ran-one : (a b : Fleet) (event : FleetEvent) (reply : Reply) → Step tells a event reply b → Run tells a (event_by_value event ∷ []) (reply ∷ []) b
+  ran-one a b event reply step = (b, Step-by_value tells a event reply b step, refl)
+
+-- Runs of both layers, and the calls that they make.
+calls-behind : (tells : Bool) (es fs : List FleetEvent) (rs qs : List Reply) (a b c : Layers) (calls later : List MediumCall) → AreCallsOfRun tells a es rs b calls → AreCallsOfRun tells b fs qs c later
+    → AreCallsOfRun tells a (es ++ fs) (rs ++ qs) c (calls ++ later)
+calls-behind tells [] fs [] qs a b c calls later h k =
+    subst (λ cs. AreCallsOfRun tells a fs qs c (cs ++ later)) (sym h.1) (subst (λ (l : Layers). AreCallsOfRun tells l fs qs c later) h.0 k)
+calls-behind tells [] fs (r ∷ rs) qs a b c calls later h k = absurd h
+calls-behind tells (e ∷ es) fs [] qs a b c calls later h k = absurd h
+calls-behind tells (e ∷ es) fs (r ∷ rs) qs a b c calls later (mid, here, rest, step, run, joined) k =
+    (mid, here, rest ++ later, step, calls-behind tells es fs rs qs mid b c rest later run k, ap (λ cs. cs ++ later) joined ∙ append_assoc here rest later)
+
+calls-long : (tells : Bool) (es : List FleetEvent) (rs : List Reply) (a b : Layers) (calls : List MediumCall) → AreCallsOfRun tells a es rs b calls → length es ≡ length rs
+calls-long tells [] [] a b calls h = refl
+calls-long tells [] (r ∷ rs) a b calls h = absurd h
+calls-long tells (e ∷ es) [] a b calls h = absurd h
+calls-long tells (e ∷ es) (r ∷ rs) a b calls (mid, here, behind, step, run, joined) = let rest = calls-long tells es rs mid b behind run in omega (arith, rest)
+
+module _ {M : Type 0} (step : M → MediumCall → M → Type 0) (tells : Bool) where
+  pub layers-run : IsRun (RanCalling step tells)
+  layers-run = record {
+    nothing = λ s. record { calls = []; are = (refl, refl); made = refl };
+    behind = λ es fs rs qs a b c h k. record {
+      calls = h.calls ++ k.calls;
+      are = calls-behind tells es fs rs qs a.state b.state c.state h.calls k.calls h.are k.are;
+      made = calls-joined step h.calls k.calls a.medium b.medium c.medium h.made k.made;
+    };
+    long = λ es rs a b h. calls-long tells es rs a.state b.state h.calls h.are;
+  }
+
+  pub called-one : (a b : OverMedium Layers M) (event : FleetEvent) (reply : Reply) → MakesCalls step (AreCallsOfStep tells a.state event reply b.state) a.medium b.medium
+      → RanCalling step tells a (event_by_value event ∷ []) (reply ∷ []) b
+  called-one a b event reply h = record {
+    calls = h.calls;
+    are = (b.state, h.calls, [], calls-by_value tells a.state b.state event reply h.calls h.are, (refl, refl), sym (append-nil h.calls));
+    made = h.made;
+  }

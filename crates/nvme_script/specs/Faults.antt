@@ -28,23 +28,23 @@ events_in text = events_of (text_lines text)
 abbrev pub fleet_of_text : List ℕ → Device → Fleet
 fleet_of_text text device = opening (configuration_of (text_lines text)) device
 
--- Events ran, and the line of each and its reply was added to what was written.
-pub record Transcribes (tells : Bool) (old : Fleet) (events : List FleetEvent) (new : Fleet)
-    (before after : Option (List ℕ)) : Type 0 where
+-- Events ran, in some sense of a run, and the line of each and its reply was added to what was written.
+pub record Transcribes {S : Type 0} (Ran : S → List FleetEvent → List Reply → S → Type 0) (old : S)
+    (events : List FleetEvent) (new : S) (before after : Option (List ℕ)) : Type 0 where
   pub replies : List Reply
-  pub ran : Run tells old events replies new
+  pub ran : Ran old events replies new
   pub wrote : Appends before after (transcript events replies)
 
 -- The line of an event, and no other, was cut: the events up to and including that one happened and no later one did;
 -- the lines before it were written, and of its own the first bytes, not all.
-pub record StopsAt (tells : Bool) (old : Fleet) (events : List FleetEvent) (new : Fleet)
-    (before after : Option (List ℕ)) : Type 0 where
+pub record StopsAt {S : Type 0} (Ran : S → List FleetEvent → List Reply → S → Type 0) (old : S)
+    (events : List FleetEvent) (new : S) (before after : Option (List ℕ)) : Type 0 where
   pub index : ℕ
   pub event : FleetEvent
   pub is : slice_get events index ≡ Some event
   pub told : List Reply
   pub cut : Reply
-  pub ran : Run tells old (take index events ++ event ∷ []) (told ++ cut ∷ []) new
+  pub ran : Ran old (take index events ++ event ∷ []) (told ++ cut ∷ []) new
   pub bytes : ℕ
   pub part : bytes < length (line_of event cut)
   pub wrote : Appends before after (transcript (take index events) told ++ take bytes (line_of event cut))
@@ -56,13 +56,13 @@ Leaves fleet device = device ≡ fleet.site.device
 -- a text ran to its end, over a medium that was so before and is so now
 pub record Runs (tells : Bool) (text : List ℕ) (old new : Device) (before after : Option (List ℕ)) : Type 0 where
   pub last : Fleet
-  pub transcribed : Transcribes tells (fleet_of_text text old) (events_in text) last before after
+  pub transcribed : Transcribes (Run tells) (fleet_of_text text old) (events_in text) last before after
   pub leaves : Leaves last new
 
 -- it stopped at a line that could not be written
 pub record Stops (tells : Bool) (text : List ℕ) (old new : Device) (before after : Option (List ℕ)) : Type 0 where
   pub last : Fleet
-  pub stopped : StopsAt tells (fleet_of_text text old) (events_in text) last before after
+  pub stopped : StopsAt (Run tells) (fleet_of_text text old) (events_in text) last before after
   pub leaves : Leaves last new
 
 -- a text that is a script, whose configuration is accepted over a medium of so many blocks

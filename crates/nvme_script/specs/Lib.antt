@@ -7,5 +7,6 @@ pub use Rattle.nvme_fleet.specs.Fleets
 pub use Rattle.nvme_fleet.specs.FleetStates
 pub use Rattle.nvme_fleet.specs.Deliveries
 pub mod Faults
+pub mod ScriptCalls
 pub mod RunLaws
 pub mod Statuses

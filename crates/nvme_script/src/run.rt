@@ -4,9 +4,12 @@ ghost use Rattle.std.specs.Prelude.{◌≡◌, ◌≤◌, ◌⊎◌, ◌∷◌, 
 ghost use Rattle.script_text.specs.Reading.{IsRead};
 ghost use Rattle.script_text.specs.Words.{most_words};
 ghost use Rattle.nvme_grammar.specs.Room.{HasBytesRoom};
-ghost use Rattle.nvme_fleet.specs.FleetStates.{fleet_of};
+ghost use Rattle.nvme_fleet.specs.Fleets.{Run};
+ghost use Rattle.nvme_fleet.specs.FleetStates.{fleet_of, layers_of};
+ghost use Rattle.nvme_subsys.specs.OverMedium.{over};
 ghost use Rattle.nvme_grammar.specs.Script.{events_of};
 ghost use Rattle.nvme_script.specs.Faults.{IsScript, IsReady, Transcribes, StopsAt, Runs, IsEarlyFault, IsFault, IsWrite, ReadsThen, events_in, of_reading, of_grammar, of_opening};
+ghost use Rattle.nvme_script.specs.ScriptCalls.{RanCalling, RunsCalling, StopsCalling};
 ghost use Rattle.nvme_script.specs.declared.run.ScriptFault.TheVariants.{NoMemory as MemoryRefused};
 
 use nvme_fleet::{Fleet, NewFault};
@@ -132,10 +135,16 @@ fn run_line<W: Write, M: Medium>(
 ) -> io::Result<()>
     requires bytes_room { HasBytesRoom raw.now bytes.old }
     requires identifiers_room { most_words raw.now ≤ length identifiers.old }
-    ensures ok { OnOk result (Transcribes M.tells (fleet_of fleet.old) (events_of (raw.now ∷ [])) (fleet_of fleet.new)
-        (W.contents writer.old) (W.contents writer.new)) }
-    ensures err { OnErr result (StopsAt M.tells (fleet_of fleet.old) (events_of (raw.now ∷ [])) (fleet_of fleet.new)
-        (W.contents writer.old) (W.contents writer.new)) }
+    ensures ok { OnOk result (Transcribes (Run M.tells) (fleet_of fleet.old.state) (events_of (raw.now ∷ []))
+        (fleet_of fleet.new.state) (W.contents writer.old) (W.contents writer.new)) }
+    ensures err { OnErr result (StopsAt (Run M.tells) (fleet_of fleet.old.state) (events_of (raw.now ∷ []))
+        (fleet_of fleet.new.state) (W.contents writer.old) (W.contents writer.new)) }
+    ensures calls { OnOk result (Transcribes (RanCalling M.step M.tells)
+        (over (layers_of fleet.old.state) fleet.old.medium) (events_of (raw.now ∷ []))
+        (over (layers_of fleet.new.state) fleet.new.medium) (W.contents writer.old) (W.contents writer.new)) }
+    ensures stopped { OnErr result (StopsAt (RanCalling M.step M.tells)
+        (over (layers_of fleet.old.state) fleet.old.medium) (events_of (raw.now ∷ []))
+        (over (layers_of fleet.new.state) fleet.new.medium) (W.contents writer.old) (W.contents writer.new)) }
 {
     let Some(Line::Event(event)) = parse_line(raw, bytes, identifiers) else {
         return Ok(());
@@ -161,10 +170,16 @@ fn run_events<W: Write, M: Medium>(
 ) -> io::Result<()>
     requires bytes_room { HasBytesRoom text.now bytes.old }
     requires identifiers_room { most_words text.now ≤ length identifiers.old }
-    ensures ok { OnOk result (Transcribes M.tells (fleet_of fleet.old) (events_in text.now) (fleet_of fleet.new)
-        (W.contents writer.old) (W.contents writer.new)) }
-    ensures err { OnErr result (StopsAt M.tells (fleet_of fleet.old) (events_in text.now) (fleet_of fleet.new)
-        (W.contents writer.old) (W.contents writer.new)) }
+    ensures ok { OnOk result (Transcribes (Run M.tells) (fleet_of fleet.old.state) (events_in text.now)
+        (fleet_of fleet.new.state) (W.contents writer.old) (W.contents writer.new)) }
+    ensures err { OnErr result (StopsAt (Run M.tells) (fleet_of fleet.old.state) (events_in text.now)
+        (fleet_of fleet.new.state) (W.contents writer.old) (W.contents writer.new)) }
+    ensures calls { OnOk result (Transcribes (RanCalling M.step M.tells)
+        (over (layers_of fleet.old.state) fleet.old.medium) (events_in text.now)
+        (over (layers_of fleet.new.state) fleet.new.medium) (W.contents writer.old) (W.contents writer.new)) }
+    ensures stopped { OnErr result (StopsAt (RanCalling M.step M.tells)
+        (over (layers_of fleet.old.state) fleet.old.medium) (events_in text.now)
+        (over (layers_of fleet.new.state) fleet.new.medium) (W.contents writer.old) (W.contents writer.new)) }
 {
     let mut rest = Some(text);
     while let Some(lines) = rest {
@@ -192,6 +207,10 @@ fn run_ready<W: Write, M: Medium>(
         IsFault M.tells e.0 ready.old.text.items (M.size medium) (M.device medium) (M.device e.1)
         (W.contents writer.old) (W.contents writer.new)) }
     ensures early { IfErr result (λ e. IsWrite e.0 ⊎ ((e.1 ≡ medium) × (writer.new ≡ writer.old))) }
+    ensures calls { IfOk result (λ after. RunsCalling M.step M.tells M.device ready.old.text.items medium after
+        (W.contents writer.old) (W.contents writer.new)) }
+    ensures stopped { IfErr result (λ e. IsWrite e.0 → StopsCalling M.step M.tells M.device ready.old.text.items medium
+        e.1 (W.contents writer.old) (W.contents writer.new)) }
 {
     let mut fleet = match Fleet::new(alloc, &ready.script.config, medium) {
         Ok(fleet) => fleet,
@@ -219,24 +238,29 @@ fn run_ready<W: Write, M: Medium>(
 /// The text that the reader gives is answered exactly as the definitions say. It is read by the reads of `read_text`,
 /// and nothing behind them. Faults are found in the order reading (`Read`, `TooLong`), grammar (`Syntax`),
 /// configuration (`Config`), writing (`Write`). `Read` comes only where a read failed. `NoMemory` may come at any point
-/// before the first event, and never later. After all but `Write` nothing was written and the medium is as it was;
-/// after `Write` exactly the events up to and including the one whose line could not be written have happened, the
-/// lines before that one were written whole, and of its own line not all.
+/// before the first event, and never later. After all but `Write` nothing was written and the medium is as it was, with
+/// no call made of it; after `Write` exactly the events up to and including the one whose line could not be written have
+/// happened, the lines before that one were written whole, and of its own line not all. Of the medium exactly the calls
+/// of the events that happened are made, in their order.
 pub fn run_script<R: Source, W: Write, M: Medium>(
     alloc: Global,
     reader: &mut R,
     writer: &mut W,
     medium: M,
 ) -> Result<M, (ScriptFault, M)>
-    // The transcript is that of the text that was read, and the medium has what its events left.
+    // The transcript is that of the text that was read, the medium has what its events left, and the calls that were
+    // made of it are those of these events, and no other.
     ensures ok { IfOk result (λ after. (text : List ℕ) × IsRead R.step R.remaining reader.old (Ok text) reader.new
         × IsScript text (M.size medium)
-        × Runs M.tells text (M.device medium) (M.device after) (W.contents writer.old) (W.contents writer.new)) }
+        × Runs M.tells text (M.device medium) (M.device after) (W.contents writer.old) (W.contents writer.new)
+        × RunsCalling M.step M.tells M.device text medium after (W.contents writer.old) (W.contents writer.new)) }
     // What each fault says of the reads, and of the text that they gave.
     ensures fault { IfErr result (λ e. ReadsThen R.step R.remaining reader.old reader.new e.0 (λ text.
         IsFault M.tells e.0 text (M.size medium) (M.device medium) (M.device e.1) (W.contents writer.old)
-        (W.contents writer.new))) }
-    // Each fault but one of the writer comes before the first event.
+        (W.contents writer.new)
+        × (IsWrite e.0
+        → StopsCalling M.step M.tells M.device text medium e.1 (W.contents writer.old) (W.contents writer.new)))) }
+    // Each fault but one of the writer comes before the first event, and no call is made of the medium.
     ensures early { IfErr result (λ e. IsWrite e.0 ⊎ ((e.1 ≡ medium) × (writer.new ≡ writer.old))) }
 {
     match prepare(alloc, reader) {

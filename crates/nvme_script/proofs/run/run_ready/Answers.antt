@@ -1,6 +1,7 @@
-use Rattle.nvme_script.specs.Faults.{of_opening}
+use Rattle.std.proofs.Common.{subst}
+use Rattle.nvme_script.specs.Faults.{IsWrite, of_opening}
 use Rattle.nvme_script.proofs.Preparing.{refused_script}
-use Rattle.nvme_script.proofs.Ending.{early_fault, ran_whole, ran_in_part, opening_is_early}
+use Rattle.nvme_script.proofs.Ending.{called_in_part, called_whole, early_fault, ran_whole, ran_in_part, opening_is_early}
 use Rattle.nvme_script.proofs.run.run_ready.Goals as goal
 
 pub returns-in-Err-clause-fault : goal.returns-in-Err-clause-fault
@@ -20,12 +21,32 @@ pub returns-in-Ok-outcome-clause-ok : goal.returns-in-Ok-outcome-clause-ok
 returns-in-Ok-outcome-clause-ok g c =
     let ready = c.args.ready.now in
     ran_whole g.M.Medium.tells ready.text.items (g.M.Medium.size c.args.medium) (g.M.Medium.device c.args.medium) (g.M.Medium.device c.into_medium.result)
-    (g.W.Write.contents c.args.writer.now) (g.W.Write.contents c.run_events-outcome.new.writer) ready.script c.in-Ok.fleet c.run_events-outcome.new.fleet c.requires.script
-    c.in-Ok.ensures.accepted c.in-Ok.ensures.mailboxes c.into_medium.ensures (rw (c.as_slice.ensures.value) at c.in-Ok-outcome.ensures.ok)
+    (g.W.Write.contents c.args.writer.now) (g.W.Write.contents c.run_events-outcome.new.writer) ready.script c.in-Ok.fleet.state c.run_events-outcome.new.fleet.state c.requires.script
+    c.in-Ok.ensures.accepted c.in-Ok.ensures.mailboxes c.into_medium.ensures.device (rw (c.as_slice.ensures.value) at c.in-Ok-outcome.ensures.ok)
 
 pub returns-in-Err-outcome-clause-fault : goal.returns-in-Err-outcome-clause-fault
 returns-in-Err-outcome-clause-fault g c =
     let ready = c.args.ready.now in
     ran_in_part g.M.Medium.tells ready.text.items (g.M.Medium.size c.args.medium) (g.M.Medium.device c.args.medium) (g.M.Medium.device c.into_medium-in-Err-outcome.result)
+    (g.W.Write.contents c.args.writer.now) (g.W.Write.contents c.run_events-outcome.new.writer) ready.script c.in-Ok.fleet.state c.run_events-outcome.new.fleet.state c.requires.script
+    c.in-Ok.ensures.accepted c.in-Ok.ensures.mailboxes c.into_medium-in-Err-outcome.ensures.device (rw (c.as_slice.ensures.value) at c.in-Err-outcome.ensures.err)
+
+pub returns-in-Ok-outcome-clause-calls : goal.returns-in-Ok-outcome-clause-calls
+returns-in-Ok-outcome-clause-calls g c =
+    let ready = c.args.ready.now in
+    called_whole g.M.Medium.step g.M.Medium.tells g.M.Medium.device ready.text.items c.args.medium c.into_medium.result
     (g.W.Write.contents c.args.writer.now) (g.W.Write.contents c.run_events-outcome.new.writer) ready.script c.in-Ok.fleet c.run_events-outcome.new.fleet c.requires.script
-    c.in-Ok.ensures.accepted c.in-Ok.ensures.mailboxes c.into_medium-in-Err-outcome.ensures (rw (c.as_slice.ensures.value) at c.in-Err-outcome.ensures.err)
+    c.in-Ok.ensures.opened c.in-Ok.ensures.medium c.into_medium.ensures.medium (rw (c.as_slice.ensures.value) at c.in-Ok-outcome.ensures.calls)
+
+pub returns-in-Err-outcome-clause-stopped : goal.returns-in-Err-outcome-clause-stopped
+returns-in-Err-outcome-clause-stopped g c =
+    let ready = c.args.ready.now in
+    λ write. called_in_part g.M.Medium.step g.M.Medium.tells g.M.Medium.device ready.text.items c.args.medium c.into_medium-in-Err-outcome.result
+    (g.W.Write.contents c.args.writer.now) (g.W.Write.contents c.run_events-outcome.new.writer) ready.script c.in-Ok.fleet c.run_events-outcome.new.fleet c.requires.script
+    c.in-Ok.ensures.opened c.in-Ok.ensures.medium c.into_medium-in-Err-outcome.ensures.medium (rw (c.as_slice.ensures.value) at c.in-Err-outcome.ensures.stopped)
+
+pub returns-in-Err-clause-stopped : goal.returns-in-Err-clause-stopped
+returns-in-Err-clause-stopped g c =
+    let ready = c.args.ready.now in
+    let fault = c.in-Err.field-0.fault in
+    λ write. absurd (opening_is_early ready.script.start fault (subst IsWrite c.refused_at.ensures write))
