@@ -42,13 +42,16 @@ CHANGED = (
      "FencingHolds =\n    ..\n    (old mid : Subsystem)", "Fencing.antt: abbrev pub FencingHolds"),
     ("docs/CRATES.md", "## nvme_mem", "## nvme_memory", "nvme_memory is here or in the table of README.md"),
     ("docs/ARCHITECTURE.md", "| `nvme_ring` |", "| `nvme_wire` |", "no table has the crate nvme_ring"),
+    ("docs/ARCHITECTURE.md", "| `Window::new` |", "| `Window::store` |", "no public call Window::store takes memory"),
+    ("crates/nvme_ring/src/sq_head.rt", "    pub fn ", "    pub fn kept(alloc: Global) {}\n    pub fn ",
+     "kept takes memory, and no row"),
     (PICTURE, ">nvme_ring<", ">nvme_rings<", "nvme_rings stands there twice, or is no crate"),
     ("man/nvmesim.1", "\nfetch C Q\n", "\nfetch C\n", "no line fetch C Q"),
     ("docs/READING.md", "# Reading lists", "# Lists", "not what the definitions give"),
 )
 # What else is told of these.
 ALSO = ("no definition or function is called nvme_gone", "layers.svg:1: nvme_ring is not there",
-        "nvme_mem is here or in the table of README.md")
+        "nvme_mem is here or in the table of README.md", "Window::new takes memory, and no row")
 
 
 def copy_of(top: Path, room: Path) -> Path:

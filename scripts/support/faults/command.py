@@ -6,7 +6,7 @@ import time
 from pathlib import Path
 from typing import Callable, Dict, Iterator, List, Tuple
 
-from support.faults import commands, cuts, device, files, killed, memory, moments, script, transcript
+from support.faults import calls, commands, cuts, device, files, killed, memory, moments, script, transcript
 from support.faults.bench import Bench, Wrong
 
 USAGE = """Tries what a user of storage fears on the built program.
@@ -18,18 +18,18 @@ could be tried. A small library is compiled for it, by $CC, `cc` or the toolchai
 
 Group = Callable[[Bench, Path], Iterator[str]]
 GROUPS: Dict[str, Group] = {
-    "memory": memory.check, "device": device.check, "commands": commands.check, "script": script.check,
+    "memory": memory.check, "calls": calls.check, "device": device.check, "commands": commands.check, "script": script.check,
     "transcript": transcript.check, "files": files.check, "cuts": cuts.check, "killed": killed.check,
     "moments": moments.check,
 }
 # What the program is made to do wrong in the self-test, and the groups that must not let it pass; refuse.c says what
 # each lie is.
 LIES: Tuple[Tuple[str, Tuple[str, ...]], ...] = (
-    ("unharmed", ("memory", "device", "commands", "script", "transcript", "files", "killed")),
+    ("unharmed", ("memory", "calls", "device", "commands", "script", "transcript", "files", "killed")),
     ("lost", ("memory", "device", "commands", "transcript", "files", "cuts", "killed", "moments")),
     ("stray", ("memory", "device", "commands", "script", "transcript", "files", "cuts", "killed", "moments")),
     ("late", ("device", "killed", "moments")),
-    ("garbled", ("memory", "device", "commands", "script", "transcript", "files", "cuts", "killed", "moments")),
+    ("garbled", ("memory", "calls", "device", "commands", "script", "transcript", "files", "cuts", "killed", "moments")),
     ("calm", ("memory", "script", "transcript", "files", "cuts")),
     ("blurred", ("memory", "script", "transcript", "files", "cuts")),
 )

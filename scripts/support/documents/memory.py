@@ -1,0 +1,49 @@
+"""docs/ARCHITECTURE.md has each public call that takes memory, and no other."""
+import re
+from pathlib import Path
+from typing import Dict, Iterator, List, Tuple
+
+from support.documents.names import code_of
+from support.documents.texts import Document, Finding, crates
+
+TABLE = "docs/ARCHITECTURE.md"
+HEADING = "Which calls take memory"
+# A function that anyone may call, up to its parameters' end; and the type or trait that it belongs to.
+CALL = re.compile(r"^( *)pub fn (\w+)[^({]*(?:<[^(]*>)?\(([^)]*)\)", re.M)
+OWNER = re.compile(r"^(?:pub )?(?:impl(?:<.*?>)? (?:[\w:<>, ]+ for )?|trait )(\w+)", re.M)
+# An allocator, or a runtime that has one.
+TAKES = re.compile(r"\balloc: |\brt: &")
+# Crates that are programs or tests.
+OTHERS = re.compile(r".*_(?:tests|bench|examples)$|nvmesim$")
+
+
+def calls(top: Path) -> Iterator[Tuple[str, str]]:
+    """Each public call that takes memory, as documents name it, and its file."""
+    for name in (it for it in crates(top) if not OTHERS.match(it)):
+        for path in sorted((top / "crates" / name / "src").glob("**/*.rt")):
+            text = code_of(path.read_text(encoding="utf-8"))
+            owners = [(it.start(), it[1]) for it in OWNER.finditer(text)]
+            for found in CALL.finditer(text):
+                if TAKES.search(found[3]):
+                    owner = [it for at, it in owners if at < found.start()][-1:] if found[1] else []
+                    yield "::".join([*owner, found[2]]), str(path.relative_to(top))
+
+
+def rows(document: Document) -> Dict[str, int]:
+    """The calls in the first cells of the table, and their lines."""
+    first, end = next(((first, end) for heading, first, end in document.sections() if heading == HEADING), (0, 0))
+    told: Dict[str, int] = {}
+    for n, line in document.prose:
+        if first < n < end and line.startswith("|"):
+            told.update({name: n for name in re.findall(r"`([\w:]+)`", line.split("|")[1])})
+    return told
+
+
+def check(top: Path, found: List[Document]) -> Iterator[Finding]:
+    """The table has the calls that take memory."""
+    told = rows(next(it for it in found if it.path == TABLE))
+    known = dict(calls(top))
+    for name in sorted(known.keys() - told.keys()):
+        yield Finding(known[name], 1, f"{name} takes memory, and no row of {TABLE} says so")
+    for name in sorted(told.keys() - known.keys()):
+        yield Finding(TABLE, told[name], f"no public call {name} takes memory")

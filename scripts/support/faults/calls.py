@@ -1,0 +1,64 @@
+"""Each request for memory refused in turn to a program that makes each call which takes memory.
+
+Its calls say themselves whether all is as it was where they are refused: a medium that is handed back, events that have
+not happened, and a run that goes on behind the replies that it added. An image is opened without a request of the
+program's own; there the system has no memory.
+"""
+import os
+import shutil
+import subprocess
+from pathlib import Path
+from typing import Dict, Iterator, List
+
+from support.faults.bench import Bench, Plan, Shown, Wrong, clip
+from support.faults.model import plan
+
+CRATE = "crates/nvme_refusals"
+# More requests than the program makes.
+MOST = 2000
+SAID = ("done", "refused", "not tried")
+
+
+def run(bench: Bench, top: Path, refused: Plan) -> Shown:
+    """The program with one request for memory refused."""
+    room = bench.room()
+    shutil.copy(top / CRATE / "data/image", room / "image")
+    with open(os.devnull, "rb") as nothing:
+        started = subprocess.Popen([str(top / CRATE / "out/nvme_refusals")], cwd=room, stdin=nothing,
+                                   env=bench.environment(room, refused),
+                                   stdout=subprocess.PIPE, stderr=subprocess.PIPE)
+        shown = bench.finish(room, started)
+    shutil.rmtree(room)
+    return shown
+
+
+def judge(names: List[str], refused: Plan, shown: Shown) -> Dict[str, str]:
+    """What each call said, of which at most one may not be done."""
+    what = f"memory refused to the calls ({refused})"
+    told = dict(line.split(": ", 1) for line in shown.output.decode().splitlines() if ": " in line)
+    if shown.status != 0 or list(told) != names or any(it not in SAID for it in told.values()):
+        raise Wrong(f"{what}: status {shown.status}, and {clip(shown.output)}")
+    if sum(it != "done" for it in told.values()) > (shown.hits > 0):
+        raise Wrong(f"{what}: more calls than one were not done: {clip(shown.output)}")
+    return told
+
+
+def check(bench: Bench, top: Path) -> Iterator[str]:
+    """The group."""
+    if not (top / CRATE / "out/nvme_refusals").is_file():
+        raise Wrong(f"{CRATE} is not built: `rt run` there builds it")
+    names = [line.split(": ")[0] for line in (top / CRATE / "stdout").read_text(encoding="utf-8").splitlines()]
+    counts = {name: 0 for name in names}
+    for kind in ("open", "stat", "alloc"):
+        for number in range(1, MOST):
+            refused = plan(kind, number, "ENOMEM")
+            shown = run(bench, top, refused)
+            told = judge(names, refused, shown)
+            for name in names:
+                counts[name] += told[name] == "refused"
+            if shown.hits == 0:
+                break
+    for name, count in counts.items():
+        if not count:
+            raise Wrong(f"no request of {name} was refused")
+    yield "each request of a call refused: " + ", ".join(f"{it} {n}" for it, n in counts.items()) + ": as they must be"
