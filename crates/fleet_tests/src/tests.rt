@@ -2,6 +2,7 @@
 
 mod bench;
 mod configurations;
+mod faults;
 mod mailboxes;
 mod raw_hosts;
 mod running;

@@ -4,7 +4,7 @@ use nvme_fleet::{
     Answer, Executed, Fetched, Fleet, FleetEvent, FleetSeen, NotUp, PlaceRefusal, PollFault,
     Request, Ticket, UpFault,
 };
-use nvme_medium::MemMedium;
+use nvme_medium::{Medium, MemMedium};
 use nvme_spec::{Config, ControllerConfig, NsConfig};
 use nvme_wire::Status;
 use std::alloc::{AllocError, Global};
@@ -126,7 +126,11 @@ pub(crate) fn configuration(alloc: Global, private_blocks: u64) -> Result<Config
 }
 
 /// Opens a configuration that is to be accepted.
-pub(crate) fn accepted(alloc: Global, config: &Config, medium: MemMedium) -> Result<Bench, Fail> {
+pub(crate) fn accepted<M: Medium + Drop>(
+    alloc: Global,
+    config: &Config,
+    medium: M,
+) -> Result<Fleet<M>, Fail> {
     let fleet = Fleet::new(alloc, config, medium).map_err(|refused| refused.fault)?;
     Ok(fleet)
 }
@@ -162,7 +166,11 @@ fn queue_of(request: &Request<'_>) -> u16 {
 }
 
 /// Places a request, rings, and lets the controller fetch it.
-pub(crate) fn send(fleet: &mut Bench, cntlid: u16, request: Request<'_>) -> Result<Ticket, Fail> {
+pub(crate) fn send<M: Medium>(
+    fleet: &mut Fleet<M>,
+    cntlid: u16,
+    request: Request<'_>,
+) -> Result<Ticket, Fail> {
     let FleetSeen::Placed(Ok(ticket)) = fleet.apply(FleetEvent::Place(cntlid, request)) else {
         return Err(Fail::from("the request was not placed"));
     };
@@ -177,7 +185,11 @@ pub(crate) fn send(fleet: &mut Bench, cntlid: u16, request: Request<'_>) -> Resu
 }
 
 /// Carries a request through a controller that has fetched nothing else, up to its answer.
-fn carry(fleet: &mut Bench, cntlid: u16, request: Request<'_>) -> Result<Carried, Fail> {
+pub(crate) fn carry<M: Medium>(
+    fleet: &mut Fleet<M>,
+    cntlid: u16,
+    request: Request<'_>,
+) -> Result<Carried, Fail> {
     let placed = send(fleet, cntlid, request)?;
     let FleetSeen::Executed(Executed::Posted(outcome)) = fleet.apply(FleetEvent::Execute(cntlid, 0))
     else {

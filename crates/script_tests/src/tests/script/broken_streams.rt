@@ -46,9 +46,25 @@ fn a_reader_that_fails_leaves_all_as_it_was(rt: HostRuntime) -> Result<(), Fail>
             .err()
             .ok_or("a read failed unseen")?;
         assert_eq!(rt; fault, ScriptFault::Read, "at read {failing}");
+        assert!(rt; reader.calls == failing + 1, "nothing is read behind it");
         assert_eq!(rt; commands_done(&medium), Some(0), "at read {failing}");
         assert!(rt; written.is_empty(), "at read {failing}");
     }
+    Ok(())
+}
+
+/// A text is read to its end and no further, and each line is one write.
+#[test]
+fn streams_are_called_no_more_than_once(rt: HostRuntime) -> Result<(), Fail> {
+    let text = carried(rt.alloc(), THREE_WRITES)?;
+    let mut reader = FailingReader::new(text.as_slice(), usize::MAX);
+    let mut writer = FailingWriter::at_write(rt.alloc(), usize::MAX);
+    let medium = MemMedium::new(rt.alloc(), &[0; 32768])?;
+    let ran = run_script(rt.alloc(), &mut reader, &mut writer, medium);
+    assert!(rt; ran.is_ok());
+    // Seven bytes come with each read but the last of them, and none with the one behind it.
+    assert_eq!(rt; reader.calls, text.len().div_ceil(7) + 1);
+    assert_eq!(rt; writer.writes, 16);
     Ok(())
 }
 
@@ -67,6 +83,10 @@ fn a_writer_that_fails_stops_behind_its_command(rt: HostRuntime) -> Result<(), F
             Err((fault, medium)) => {
                 refused = failing + 1;
                 assert_eq!(rt; fault, ScriptFault::Write, "at write {failing}");
+                assert!(rt;
+                    writer.writes == failing + 1,
+                    "nothing is written behind it"
+                );
                 let told = lines_in(writer.kept.as_slice());
                 // The driver comes up, and each request takes five events, of which the fourth executes it.
                 let events = told.checked_add(1).ok_or("no such count")?;

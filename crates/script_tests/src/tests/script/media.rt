@@ -3,6 +3,7 @@
 use super::lines::{carried, lines_with};
 use nvme_medium::{Failing, MemMedium};
 use nvme_script::run_script;
+use std::alloc::{AllocError, Global};
 use std::process::Abort;
 use std::test::Fail;
 
@@ -78,6 +79,55 @@ fn a_fault_of_the_medium_is_told_by_its_own_command(rt: HostRuntime) -> Result<(
             ANSWERS[failing],
             "at call {failing}"
         );
+    }
+    Ok(())
+}
+
+/// Runs of requests, and what each execution shows where the call of each number fails: the last line is that of a run
+/// that meets no failure.
+const RUNS: [(&[&[u8]], &[&[u8]]); 3] = [
+    (
+        &[b"write 1 1 0 1 hex:48656c6c6f", b"read 1 1 0 1"],
+        &[
+            b"2:80 0, 0:00 0, ",
+            b"0:00 0, 2:81 0, ",
+            b"0:00 0, 0:00 0, ",
+        ],
+    ),
+    (
+        &[b"write 1 1 0 3 fill:5a"],
+        &[b"2:80 0, ", b"2:80 0, ", b"2:80 0, ", b"0:00 0, "],
+    ),
+    (
+        &[b"compare 1 1 0 1 hex:00", b"compare 1 1 0 1 hex:01"],
+        &[
+            b"2:81 0, 2:85 0, ",
+            b"0:00 0, 2:81 0, ",
+            b"0:00 0, 2:85 0, ",
+        ],
+    ),
+];
+
+/// What the executions of a transcript show, one behind the other.
+fn executed_in(alloc: Global, transcript: &[u8]) -> Result<Vec<u8>, AllocError> {
+    let mut shown = Vec::new(alloc);
+    for line in transcript.split(|byte| *byte == b'\n') {
+        if let Some(posted) = line.strip_prefix(b"execute 1 0 posted ".as_slice()) {
+            shown.extend_from_slice(posted)?;
+            shown.extend_from_slice(b", ")?;
+        }
+    }
+    Ok(shown)
+}
+
+#[test]
+fn each_call_of_the_medium_fails_in_turn(rt: HostRuntime) -> Result<(), Fail> {
+    for (requests, shown) in RUNS {
+        for (failing, expected) in shown.iter().enumerate() {
+            let written = transcript_of(&rt, requests, failing as u64)?;
+            let executed = executed_in(rt.alloc(), written.as_slice())?;
+            assert_eq!(rt; executed.as_slice(), *expected, "at call {failing}");
+        }
     }
     Ok(())
 }

@@ -9,11 +9,12 @@ fn broken() -> io::Error {
     io::Error::from(io::ErrorKind::BrokenPipe)
 }
 
-/// Gives its text a few bytes a call. The call of this number, counted from 0, fails.
+/// Gives its text a few bytes a call. The call of this number, counted from 0, fails, and so do all later ones.
 #[derive(Drop)]
 pub struct FailingReader<'a> {
     text: &'a [u8],
-    calls: usize,
+    /// How many calls were made.
+    pub calls: usize,
     failing: usize,
 }
 
@@ -29,10 +30,10 @@ impl<'a> FailingReader<'a> {
 
 impl<'a> Read for FailingReader<'a> {
     fn read(&mut self, buf: &mut [u8]) -> io::Result<usize> {
-        if self.calls == self.failing {
+        self.calls = self.calls.saturating_add(1);
+        if self.calls > self.failing {
             return Err(broken());
         }
-        self.calls = self.calls.saturating_add(1);
         let count = self.text.len().min(buf.len()).min(7);
         let (given, rest) = self.text.split_at(count);
         buf[..count].copy_from_slice(given);
@@ -45,7 +46,8 @@ impl<'a> Read for FailingReader<'a> {
 #[derive(Drop)]
 pub struct FailingWriter {
     pub kept: Vec<u8>,
-    writes: usize,
+    /// How many writes were made.
+    pub writes: usize,
     flushes: usize,
     failing_write: Option<usize>,
     failing_flush: Option<usize>,
@@ -75,13 +77,13 @@ impl FailingWriter {
 
 impl Write for FailingWriter {
     fn write(&mut self, buf: &[u8]) -> io::Result<usize> {
+        self.writes = self.writes.saturating_add(1);
         if self
             .failing_write
-            .is_some_and(|failing| failing <= self.writes)
+            .is_some_and(|failing| failing < self.writes)
         {
             return Err(broken());
         }
-        self.writes = self.writes.saturating_add(1);
         self.kept.extend_from_slice(buf)?;
         Ok(buf.len())
     }
