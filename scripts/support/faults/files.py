@@ -137,10 +137,12 @@ def try_rights(bench: Bench) -> int:
 
 
 def try_opening(bench: Bench) -> int:
-    """Each opening of a file, and each question for what a file is, failing in turn."""
+    """Each opening of a file, and each question for what a file is, failing in turn: EROFS as on a file system that
+    can only be read."""
     before, commands = pattern(15, 4, 9), [Command("write", 0, 4, b"new"), Command("read", 0, 1)]
     told, runs = told_of(commands, Disk(before)), 0
-    for kind, how in (("open", "EACCES"), ("open", "ENOMEM"), ("open", "EINTR"), ("stat", "EIO"), ("stat", "ENOMEM")):
+    for kind, how in (("open", "EACCES"), ("open", "EROFS"), ("open", "ENOMEM"), ("open", "EINTR"), ("stat", "EIO"),
+                      ("stat", "ENOMEM")):
         for at in range(1, 10):
             what = f"{kind} {at} failing with {how}"
             shown = bench.run(script_of(commands, 4), before, plan(kind, at, how))

@@ -15,7 +15,7 @@ KEPT = 256
 # A sync that a signal interrupts is made again, and a transfer of fewer bytes goes on: nobody notices either.
 UNNOTICED = {("sync", "EINTR"), ("pread", "fewer"), ("pwrite", "fewer")}
 ERRNOS = {"EINTR": "4", "EIO": "5", "EAGAIN": "11", "ENOMEM": "12", "EACCES": "13", "EFBIG": "27", "ENOSPC": "28",
-          "EPIPE": "32"}
+          "EROFS": "30", "EPIPE": "32"}
 
 
 def plan(kind: str, at: int, how: str, is_onward: bool = False) -> Plan:
