@@ -1,5 +1,5 @@
 -- Bytes that may not stand in a line.
-use Rattle.std.proofs.Common.{◌≡◌, ◌≢◌, suc, ◌+◌, Bool, true, false, List, [], ◌∷◌, length, refl, arith}
+use Rattle.std.proofs.Common.{◌≡◌, ℕ, ◌≢◌, suc, ◌+◌, Bool, true, false, List, [], ◌∷◌, length, refl, arith, Option, None, Some, ◌≤◌, Bor}
 use Rattle.std.specs.Prelude.{◌&&◌, if◌then◌else◌}
 use Rattle.std.specs.List.{prefix_len, list_all}
 
@@ -21,3 +21,12 @@ not-all-pass p (x ∷ xs) e = by (p x) e (not-all-pass p xs)
         → (t && list_all p xs) ≡ false
     by true e rest = rest (λ f. e (omega (arith, f)))
     by false e rest = refl
+
+-- what is left of a text is no longer than the text
+abbrev pub IsWithin : Option (Bor (List ℕ)) → ℕ → Type 0
+IsWithin None n = Unit {0}
+IsWithin (Some lines) n = length lines.now ≤ n
+
+abbrev pub left_length : Option (Bor (List ℕ)) → ℕ
+left_length None = 0
+left_length (Some lines) = length lines.now + 1

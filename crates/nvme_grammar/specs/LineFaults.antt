@@ -1,10 +1,10 @@
 -- Why a line is refused: a function of its bytes, and of whether `start` was said before it.
-use Rattle.std.specs.Prelude.{◌≡◌, ℕ, suc, ◌+◌, Bool, true, false, List, [], ◌∷◌, length, get_or, Option, None, Some, option_map, if◌then◌else◌}
+use Rattle.std.specs.Prelude.{◌≡◌, ℕ, zero, suc, ◌+◌, Bool, true, false, List, [], ◌∷◌, length, get_or, Option, None, Some, option_map, if◌then◌else◌, ◌||◌}
 use Rattle.std.specs.List.{prefix_len}
 use Rattle.script_text.specs.Words.{line_words, is_text, is_line_text, column_of}
 use Rattle.nvme_grammar.specs.Lent.{lent}
 use Rattle.nvme_grammar.specs.Line.{line_at, is_comment}
-use Rattle.nvme_grammar.specs.Script.{fits}
+use Rattle.nvme_grammar.specs.Script.{fits, is_start}
 use Rattle.nvme_grammar.specs.Places.{suits}
 use Rattle.nvme_grammar.specs.Keywords.{keyword_of, nearest_to, sets_up, place_at, takes_words}
 use Rattle.nvme_grammar.specs.declared.keyword.Keyword.{Keyword}
@@ -81,3 +81,14 @@ is_allowed_line started (Some line) = fits started line
 
 abbrev pub IsAllowed : Bool → List ℕ → Type 0
 IsAllowed started line = is_allowed_line started (line_at line) ≡ true
+
+-- whether a line is `start`
+abbrev pub is_start_line : Option Line → Bool
+is_start_line None = false
+is_start_line (Some line) = is_start line
+
+-- the fault of a line of a text, counted from 0, where `start` was said in front of the text or was not
+abbrev pub fault_in : Bool → ℕ → List (List ℕ) → Option LineFault
+fault_in started n [] = None
+fault_in started zero (line ∷ raw) = fault_of started line
+fault_in started (suc n) (line ∷ raw) = fault_in (is_start_line (line_at line) || started) n raw

@@ -19,7 +19,7 @@ mod request;
 mod script;
 
 pub use buffers::Buffers;
-pub use fault::{LineFault, Why, line_fault};
+pub use fault::{LineFault, Why, fault_at, line_fault};
 pub use keyword::Keyword;
 pub use line::{Line, parse_line};
 pub use place::{Behind, Operand, Place};
