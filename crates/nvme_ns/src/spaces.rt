@@ -75,6 +75,20 @@ impl Spaces {
         self.controllers.as_slice()
     }
 
+    /// The namespaces, in the order of the configuration.
+    pub fn namespaces(&self) -> &[Namespace]
+        ensures { result.now ≡ self.now.namespaces }
+    {
+        self.namespaces.as_slice()
+    }
+
+    /// What is attached: the identifier of a controller with that of a namespace.
+    pub fn attachments(&self) -> &[(u16, u32)]
+        ensures { result.now ≡ self.now.attachments }
+    {
+        self.attachments.as_slice()
+    }
+
     /// The host that a controller belongs to, or None for a controller that isn't configured.
     #[tactic(auto, unfolding(nvme_spec::specs::World::host_of))]
     pub fn host_of(&self, cntlid: u16) -> Option<u64>

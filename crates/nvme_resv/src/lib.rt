@@ -8,5 +8,5 @@ mod registrants;
 mod reservation;
 
 pub use change::Change;
-pub use nvme_spec::{Hold, Role};
+pub use nvme_spec::{Hold, Registrant, Role};
 pub use reservation::Reservation;

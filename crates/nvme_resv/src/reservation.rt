@@ -5,7 +5,7 @@ ghost use Rattle.nvme_spec.specs.Reservation as resv;
 ghost use Rattle.nvme_resv.specs.Answers.{HasRoomFor};
 
 use crate::registrants::{Registrants, is_registered};
-use nvme_spec::{Hold, Role};
+use nvme_spec::{Hold, Registrant, Role};
 use std::marker::Model;
 
 mod actions;
@@ -46,6 +46,20 @@ impl Reservation {
         ensures { result ≡ self.now.hold }
     {
         self.hold
+    }
+
+    /// The registrants with their keys, by rising host.
+    pub fn registrants(&self) -> &[Registrant]
+        ensures { result.now ≡ self.now.registrants }
+    {
+        self.registrants.as_slice()
+    }
+
+    /// The generation counter.
+    pub fn generation(&self) -> u32
+        ensures { result ≡ self.now.generation }
+    {
+        self.generation
     }
 
     /// What the host is to the namespace. Under types 5 and 6 each registrant is a holder.
