@@ -2,7 +2,7 @@
 
 ghost use Rattle.std.specs.Prelude.{◌≡◌, ◌<◌, ◌≤◌, ◌+◌, ◌↔◌, IsTrue};
 ghost use Rattle.nvme_spec.specs.Memory.{window_size};
-ghost use Rattle.nvme_spec.specs.Queues.{completion_room, phase_tag, empty_completion_tail, after_post};
+ghost use Rattle.nvme_spec.specs.Queues.{ahead, completion_room, phase_tag, empty_completion_tail, after_post, slot_of};
 ghost use Rattle.nvme_spec.specs.RegisterLaws.{IsQueuePlace};
 ghost use Rattle.nvme_machine.specs.Controllers.{completion_slot, with_head};
 
@@ -41,6 +41,35 @@ impl CompletionQueue {
             base,
             tail: CqTail::new(size),
         }
+    }
+
+    /// Its address in host memory.
+    pub fn base(&self) -> u64
+        ensures { result ≡ self.now.base }
+    {
+        self.base
+    }
+
+    /// How many entries it has.
+    pub fn size(&self) -> u16
+        ensures { result ≡ self.now.tail.size }
+    {
+        self.tail.size()
+    }
+
+    /// The tail: the slot of the next completion.
+    pub fn tail(&self) -> u16
+        ensures { result ≡ slot_of self.now.tail.size self.now.tail.posted }
+    {
+        self.tail.slot()
+    }
+
+    /// The head, as its host has told it: the slot of the first completion that it has not consumed.
+    pub fn head(&self) -> u16
+        ensures { result ≡ ahead self.now.tail.size (slot_of self.now.tail.size self.now.tail.posted)
+            self.now.tail.unread }
+    {
+        self.tail.head()
     }
 
     /// Whether a completion can be posted.

@@ -2,10 +2,10 @@
 
 ghost use Rattle.std.specs.Prelude.{◌≡◌, IfOk};
 ghost use Rattle.nvme_spec.specs.Registers.{value_at};
-ghost use Rattle.nvme_machine.specs.Controllers.{new_controller};
+ghost use Rattle.nvme_machine.specs.Controllers.{new_controller, submission_at, completion_at};
 
 use crate::completion_queue::CompletionQueue;
-use crate::slots::none;
+use crate::slots::{none, queue_at};
 use crate::submission_queue::SubmissionQueue;
 use arrayvec::ArrayVec;
 use nvme_machine::FetchedCommand;
@@ -59,6 +59,27 @@ impl Controller {
             fetched: ArrayVec::new(),
             window: Window::new(alloc)?,
         })
+    }
+
+    /// The submission queue of an identifier, where there is one.
+    pub fn submission_queue(&self, qid: u16) -> Option<SubmissionQueue>
+        ensures { result ≡ submission_at self.now qid }
+    {
+        queue_at(&self.submission, qid)
+    }
+
+    /// The completion queue of an identifier, where there is one.
+    pub fn completion_queue(&self, qid: u16) -> Option<CompletionQueue>
+        ensures { result ≡ completion_at self.now qid }
+    {
+        queue_at(&self.completion, qid)
+    }
+
+    /// The commands that were fetched and not executed, in the order in which they were fetched.
+    pub fn fetched(&self) -> &[FetchedCommand]
+        ensures { result.now ≡ self.now.fetched }
+    {
+        self.fetched.as_slice()
     }
 
     /// The value of a register, 0 where none is.

@@ -14,5 +14,7 @@ mod registers;
 mod slots;
 mod submission_queue;
 
+pub use completion_queue::CompletionQueue;
 pub use controller::Controller;
-pub use nvme_machine::{Executed, Fetched};
+pub use nvme_machine::{Executed, Fetched, FetchedCommand};
+pub use submission_queue::SubmissionQueue;

@@ -2,7 +2,7 @@
 
 ghost use Rattle.std.specs.Prelude.{◌≡◌, ◌<◌, ◌≤◌, ◌+◌, ◌↔◌, IsTrue};
 ghost use Rattle.nvme_spec.specs.Memory.{window_size};
-ghost use Rattle.nvme_spec.specs.Queues.{submission_place, empty_submission_head, after_fetch};
+ghost use Rattle.nvme_spec.specs.Queues.{submission_place, empty_submission_head, after_fetch, slot_of};
 ghost use Rattle.nvme_spec.specs.RegisterLaws.{IsQueuePlace};
 ghost use Rattle.nvme_machine.specs.Controllers.{with_tail};
 
@@ -43,6 +43,27 @@ impl SubmissionQueue {
             cqid,
             head: SqHead::new(size),
         }
+    }
+
+    /// Its address in host memory.
+    pub fn base(&self) -> u64
+        ensures { result ≡ self.now.base }
+    {
+        self.base
+    }
+
+    /// How many entries it has.
+    pub fn size(&self) -> u16
+        ensures { result ≡ self.now.head.size }
+    {
+        self.head.size()
+    }
+
+    /// The tail, as its host has told it: the slot behind the last command that waits.
+    pub fn tail(&self) -> u16
+        ensures { result ≡ slot_of self.now.head.size (self.now.head.fetched + self.now.head.waiting) }
+    {
+        self.head.tail()
     }
 
     /// The completion queue that its completions go to.

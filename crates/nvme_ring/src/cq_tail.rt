@@ -1,7 +1,7 @@
 //! A completion queue at its controller.
 
 ghost use Rattle.std.specs.Prelude.{◌≡◌, ◌<◌, ◌↔◌, IsTrue};
-ghost use Rattle.nvme_spec.specs.Queues.{IsQueueSize, FitsCompletionTail, empty_completion_tail, slot_of, phase_tag, completion_room, after_head_doorbell, after_post};
+ghost use Rattle.nvme_spec.specs.Queues.{IsQueueSize, FitsCompletionTail, empty_completion_tail, ahead, slot_of, phase_tag, completion_room, after_head_doorbell, after_post};
 
 use crate::counts::{self, distance, next};
 use std::marker::Model;
@@ -58,6 +58,20 @@ impl CqTail {
         ensures { result ≡ completion_room self.now }
     {
         self.size - 1 - self.unread
+    }
+
+    /// How many entries the queue has.
+    pub fn size(&self) -> u16
+        ensures { result ≡ self.now.size }
+    {
+        self.size
+    }
+
+    /// The head: the slot of the first completion that the host has not consumed, as far as it told.
+    pub fn head(&self) -> u16
+        ensures { result ≡ ahead self.now.size (slot_of self.now.size self.now.posted) self.now.unread }
+    {
+        distance(self.size, counts::slot(self.size, self.posted), self.unread)
     }
 
     /// The slot of the completion that comes next.

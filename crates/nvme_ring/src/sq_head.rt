@@ -1,9 +1,9 @@
 //! A submission queue at its controller.
 
-ghost use Rattle.std.specs.Prelude.{◌≡◌, ◌<◌, ◌↔◌, IsTrue};
+ghost use Rattle.std.specs.Prelude.{◌≡◌, ◌<◌, ◌+◌, ◌↔◌, IsTrue};
 ghost use Rattle.nvme_spec.specs.Queues.{IsQueueSize, FitsSubmissionHead, empty_submission_head, slot_of, after_tail_doorbell, after_fetch};
 
-use crate::counts::{distance, next};
+use crate::counts::{self, distance, next};
 use std::marker::Model;
 
 /// The head of a submission queue: how many commands its controller has fetched, modulo the size, and how many wait.
@@ -51,6 +51,20 @@ impl SqHead {
         }
         self.waiting = distance(self.size, tail, self.fetched);
         true
+    }
+
+    /// How many entries the queue has.
+    pub fn size(&self) -> u16
+        ensures { result ≡ self.now.size }
+    {
+        self.size
+    }
+
+    /// The tail: the slot behind the last command that waits.
+    pub fn tail(&self) -> u16
+        ensures { result ≡ slot_of self.now.size (self.now.fetched + self.now.waiting) }
+    {
+        counts::slot(self.size, self.fetched + self.waiting)
     }
 
     /// How many commands wait to be fetched.
