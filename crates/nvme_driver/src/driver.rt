@@ -1,8 +1,8 @@
 //! A host's driver.
 
-ghost use Rattle.std.specs.Prelude.{◌≡◌, is_ok};
+ghost use Rattle.std.specs.Prelude.{◌≡◌, ◌<◌, ◌↔◌, is_ok, IfSome, IsSome};
 ghost use Rattle.nvme_driver.specs.Calls.{Calls};
-ghost use Rattle.nvme_driver.specs.Drivers.{new_driver, is_up as up, ends as ends_of, with_ends, ring_calls, after_reset, reset_calls};
+ghost use Rattle.nvme_driver.specs.Drivers.{ticket_count, new_driver, is_up as up, ends as ends_of, with_ends, ring_calls, after_reset, reset_calls};
 
 use crate::ends::Ends;
 use crate::faults::NotUp;
@@ -12,7 +12,7 @@ use crate::port::Port;
 use crate::register;
 use crate::slots::{Waiting, abort_all};
 use crate::state::State;
-use crate::ticket::Tickets;
+use crate::ticket::{Ticket, Tickets};
 use std::marker::Model;
 
 mod bring_up;
@@ -57,6 +57,28 @@ impl Driver {
             admin: Ends::new(),
             io: Ends::new(),
         }
+    }
+
+    /// Whether the driver can be used.
+    pub fn state(&self) -> State
+        ensures { result ≡ self.now.state }
+    {
+        self.state
+    }
+
+    /// The next ticket, or `None` where none is left.
+    pub fn next_ticket(&self) -> Option<Ticket>
+        ensures next { IfSome result (λ ticket. ticket ≡ record { 0 = self.now.next }) }
+        ensures left { IsSome result ↔ (self.now.next < ticket_count) }
+    {
+        self.tickets.peek()
+    }
+
+    /// The slots of the requests that were not handed up, live or aborted.
+    pub fn slots(&self) -> &[Option<Waiting>]
+        ensures { result.now ≡ self.now.slots }
+    {
+        &self.slots
     }
 
     /// Whether the driver is up.
