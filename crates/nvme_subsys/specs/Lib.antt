@@ -1,3 +1,4 @@
 pub mod Sound
 pub mod Marked
 pub mod OverMedium
+pub mod Looking

@@ -2,6 +2,7 @@
 //! them does (NVM Express Base Specification 2.0: NVM Subsystem, Controllers, Namespaces).
 #![tactic(auto)]
 
+mod looking;
 mod marking;
 mod opening;
 mod reacting;

@@ -1,21 +1,24 @@
 //! The subsystem, one event of it, and a run of events.
 
-ghost use Rattle.std.specs.Prelude.{◌≡◌, ◌<◌, ◌+◌, length, Some, IfOk, IfErr, OnErr, IfSome, IfNone, None, unwrap_or};
+ghost use Rattle.std.specs.Prelude.{◌≡◌, ◌<◌, ◌+◌, ◌/◌, ◌%◌, length, Some, IfOk, IfErr, OnErr, IfSome, IfNone, None, unwrap_or};
 ghost use Rattle.nvme_spec.specs.Configuration.{first_config_fault};
 ghost use Rattle.nvme_spec.specs.declared.config.ConfigFault.TheVariants.{NoMemory as WantOfMemory};
 ghost use Rattle.nvme_spec.specs.MediumCalls.{MakesCalls};
 ghost use Rattle.nvme_ns.specs.Configured.{configuration};
+ghost use Rattle.nvme_spec.specs.World.{namespace_of};
+ghost use Rattle.nvme_subsys.specs.Looking.{Looks, place_in};
 ghost use Rattle.nvme_machine.specs.Controllers.{after_store, wrote, has_read, after_fetch};
 ghost use Rattle.nvme_machine.specs.Subsystems.{opening, controller_at, Reacts, ExecutesAt, Step, Run};
 ghost use Rattle.nvme_machine.specs.EventCalls.{CallingAt, AreCallsOfStep, AreCallsOfRun};
 ghost use Rattle.nvme_subsys.specs.OverMedium.{over};
 
+use crate::looking::place_in;
 use crate::marking::mark_after;
 use crate::opening::{NewFault, controllers_of};
 use crate::reacting;
 use nvme_ctrl::Controller;
 use nvme_machine::{Event, Executed, Seen};
-use nvme_medium::Medium;
+use nvme_medium::{Medium, MediumFault, read_blocks};
 use nvme_ns::Spaces;
 use nvme_spec::{Config, ConfigFault};
 use nvme_wire::NoMemory;
@@ -85,6 +88,31 @@ impl<M: Medium> Subsystem<M> {
         ensures device { M.device result ≡ self.state.device }
     {
         self.medium
+    }
+
+    /// The access state.
+    pub fn spaces(&self) -> &Spaces
+        ensures { result.now ≡ self.now.world }
+    {
+        &self.spaces
+    }
+
+    /// Reads blocks of a namespace as the medium has them. `None` where there is no such namespace, or the blocks do not
+    /// all lie in it; the medium is then not called.
+    pub fn read_blocks(
+        &mut self,
+        nsid: u32,
+        slba: u64,
+        buffer: &mut [u8],
+    ) -> Option<Result<(), MediumFault>>
+        requires whole { length buffer.old % 512 ≡ 0 }
+        ensures { Looks M.tells (place_in (namespace_of self.old.world nsid) slba (length buffer.old / 512)) self.old
+            buffer.new result self.new }
+    {
+        let namespace = self.spaces.namespace(nsid)?;
+        let size = self.medium.blocks();
+        let first = place_in(namespace, slba, buffer.len() as u64 / 512, size)?;
+        Some(read_blocks(&mut self.medium, first, buffer))
     }
 
     /// The controller of an identifier, if there is one. It bears that identifier.
