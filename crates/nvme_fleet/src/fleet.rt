@@ -1,10 +1,13 @@
 //! The fleet, and one event of it.
 
-ghost use Rattle.std.specs.Prelude.{◌≡◌, ◌≤◌, ◌-◌, length, IfOk, IfErr, IfSome, IfNone, None, Some, [], unwrap_or};
+ghost use Rattle.std.specs.Prelude.{◌≡◌, ◌≤◌, ◌-◌, ◌/◌, ◌%◌, length, IfOk, IfErr, IfSome, IfNone, None, Some, [], unwrap_or, option_copied};
+ghost use Rattle.std.specs.Option.{option_flatten};
 ghost use Rattle.nvme_spec.specs.Configuration.{first_config_fault};
 ghost use Rattle.nvme_spec.specs.Limits.{most_bytes};
 ghost use Rattle.nvme_spec.specs.MediumCalls.{MakesCalls};
 ghost use Rattle.nvme_spec.specs.declared.config.ConfigFault.TheVariants.{NoMemory as WantOfMemory};
+ghost use Rattle.nvme_spec.specs.World.{namespace_of};
+ghost use Rattle.nvme_subsys.specs.Looking.{Looks, LooksBy, place_in};
 ghost use Rattle.nvme_ns.specs.Configured.{configuration};
 ghost use Rattle.nvme_machine.specs.Subsystems.{controller_at, controller_of};
 ghost use Rattle.nvme_event.specs.Replies.{data_len};
@@ -22,7 +25,8 @@ use nvme_driver::Driver;
 use nvme_event::{FleetEvent, FleetSeen};
 use nvme_machine::{Event, Seen};
 use nvme_medium::Medium;
-use nvme_spec::Config;
+use nvme_ns::Spaces;
+use nvme_spec::{Config, MediumFault};
 use nvme_subsys::{NewFault, Subsystem};
 use nvme_wire::NoMemory;
 use std::alloc::Global;
@@ -76,6 +80,19 @@ fn told(seen: Seen) -> FleetSeen
         Seen::Fetched(fetched) => FleetSeen::Fetched(fetched),
         Seen::Executed(executed) => FleetSeen::Executed(executed),
         Seen::NoController => FleetSeen::NoController,
+    }
+}
+
+/// The driver of a controller's host, among those of all hosts in their order.
+fn driver_in(drivers: &[Option<Driver>], cntlid: u16) -> Option<&Driver>
+    ensures { option_copied result ≡ option_flatten (driver_at drivers.now cntlid) }
+{
+    if cntlid == 0 {
+        return None;
+    }
+    match drivers.get(usize::from(cntlid - 1)) {
+        Some(driver) => driver.as_ref(),
+        None => None,
     }
 }
 
@@ -258,6 +275,38 @@ impl<M: Medium> Fleet<M> {
             (λ controller. controller_at self.now.state.subsystem cntlid ≡ Some controller.now) }
     {
         self.subsystem.controller(cntlid)
+    }
+
+    /// The access state.
+    pub fn spaces(&self) -> &Spaces
+        ensures { result.now ≡ self.now.state.subsystem.world }
+    {
+        self.subsystem.spaces()
+    }
+
+    /// The driver of a controller's host. There is none where there is no such controller, or its host is raw.
+    pub fn driver(&self, cntlid: u16) -> Option<&Driver>
+        ensures { option_copied result ≡ option_flatten (driver_at self.now.state.drivers cntlid) }
+    {
+        driver_in(&self.drivers, cntlid)
+    }
+
+    /// Reads blocks of a namespace as the medium has them. `None` where there is no such namespace, or the blocks do not
+    /// all lie in it; the medium is then not called.
+    pub fn read_blocks(
+        &mut self,
+        nsid: u32,
+        slba: u64,
+        buffer: &mut [u8],
+    ) -> Option<Result<(), MediumFault>>
+        requires whole { length buffer.old % 512 ≡ 0 }
+        ensures look { Looks M.tells (place_in (namespace_of self.old.state.subsystem.world nsid) slba
+            (length buffer.old / 512)) self.old.state.subsystem buffer.new result self.new.state.subsystem }
+        ensures calls { LooksBy M.step (place_in (namespace_of self.old.state.subsystem.world nsid) slba
+            (length buffer.old / 512)) buffer.new (length buffer.old / 512) self.old.medium result self.new.medium }
+        ensures drivers { self.new.state.drivers ≡ self.old.state.drivers }
+    {
+        self.subsystem.read_blocks(nsid, slba, buffer)
     }
 
     /// The medium, as the commands have left it.

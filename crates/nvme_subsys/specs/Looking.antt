@@ -1,6 +1,7 @@
 -- Blocks of a namespace, as the medium has them.
 use Rattle.std.specs.Prelude.{◌≡◌, ℕ, ◌+◌, nat_le, Bool, if◌then◌else◌, List, length, Option, None, Some, Result, OnOk}
 use Rattle.nvme_spec.specs.Blocks.{Told, blocks_from, CountsFaults}
+use Rattle.nvme_spec.specs.MediumCalls.{MediumCall, MakesInOrder, reads_from}
 use Rattle.nvme_spec.specs.World.{Namespace, namespace_of}
 use Rattle.nvme_spec.specs.declared.medium.MediumFault.{MediumFault}
 use Rattle.nvme_machine.specs.Subsystems.{Subsystem}
@@ -24,3 +25,11 @@ abbrev pub Looks : Bool → Option ℕ → Subsystem → List ℕ → Option (Re
 Looks tells None old bytes result new = (result ≡ None) × (new ≡ old)
 Looks tells (Some first) old bytes None new = ⊥
 Looks tells (Some first) old bytes (Some result) new = Reads tells first old bytes result new
+
+-- the calls that it made of the medium: reads of just these blocks, up to the first that failed, and no other
+abbrev pub LooksBy : {M : Type 0} → (M → MediumCall → M → Type 0) → Option ℕ → List ℕ → ℕ → M
+    → Option (Result (Unit {0}) MediumFault) → M → Type 0
+LooksBy step None bytes count old result new = new ≡ old
+LooksBy step (Some first) bytes count old None new = ⊥
+LooksBy step (Some first) bytes count old (Some answer) new =
+    MakesInOrder step (reads_from first bytes) count old answer new

@@ -6,7 +6,7 @@ ghost use Rattle.nvme_spec.specs.declared.config.ConfigFault.TheVariants.{NoMemo
 ghost use Rattle.nvme_spec.specs.MediumCalls.{MakesCalls};
 ghost use Rattle.nvme_ns.specs.Configured.{configuration};
 ghost use Rattle.nvme_spec.specs.World.{namespace_of};
-ghost use Rattle.nvme_subsys.specs.Looking.{Looks, place_in};
+ghost use Rattle.nvme_subsys.specs.Looking.{Looks, LooksBy, place_in};
 ghost use Rattle.nvme_machine.specs.Controllers.{after_store, wrote, has_read, after_fetch};
 ghost use Rattle.nvme_machine.specs.Subsystems.{opening, controller_at, Reacts, ExecutesAt, Step, Run};
 ghost use Rattle.nvme_machine.specs.EventCalls.{CallingAt, AreCallsOfStep, AreCallsOfRun};
@@ -92,7 +92,7 @@ impl<M: Medium> Subsystem<M> {
 
     /// The access state.
     pub fn spaces(&self) -> &Spaces
-        ensures { result.now ≡ self.now.world }
+        ensures { result.now ≡ self.now.state.world }
     {
         &self.spaces
     }
@@ -106,8 +106,10 @@ impl<M: Medium> Subsystem<M> {
         buffer: &mut [u8],
     ) -> Option<Result<(), MediumFault>>
         requires whole { length buffer.old % 512 ≡ 0 }
-        ensures { Looks M.tells (place_in (namespace_of self.old.world nsid) slba (length buffer.old / 512)) self.old
-            buffer.new result self.new }
+        ensures look { Looks M.tells (place_in (namespace_of self.old.state.world nsid) slba (length buffer.old / 512))
+            self.old.state buffer.new result self.new.state }
+        ensures calls { LooksBy M.step (place_in (namespace_of self.old.state.world nsid) slba (length buffer.old / 512))
+            buffer.new (length buffer.old / 512) self.old.medium result self.new.medium }
     {
         let namespace = self.spaces.namespace(nsid)?;
         let size = self.medium.blocks();
