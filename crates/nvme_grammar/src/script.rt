@@ -58,7 +58,7 @@ impl Script {
     }
 
     /// Whether a line may stand behind those that were read.
-    fn allows(&self, line: &Line) -> bool
+    pub fn allows(&self, line: &Line) -> bool
         ensures { (lines : List Line) → Reads self.now lines → result ≡ fits_behind lines (line_by_value line.now) }
     {
         match line {
@@ -71,7 +71,7 @@ impl Script {
     }
 
     /// Takes the next line, which has this number.
-    fn add(&mut self, number: usize, line: Line) -> Result<(), AllocError>
+    pub fn add(&mut self, number: usize, line: Line) -> Result<(), AllocError>
         ensures { OnOk result ((lines : List Line) → Reads self.old lines → number ≡ length lines + 1
             → fits_behind lines (line_by_value line.entry) ≡ true
             → Reads self.new (lines ++ line_by_value line.entry ∷ [])) }
