@@ -5,5 +5,5 @@ pub mod laws;
 mod program;
 mod run;
 
-pub use program::run_program;
-pub use run::{ScriptFault, run_script};
+pub use program::{Failure, Paths, image_at, paths_of, run_program, scratch};
+pub use run::{ScriptFault, run_events, run_script};

@@ -28,7 +28,7 @@ const SCRATCH_BYTES: usize = 1024 * BLOCK;
 
 /// Why the program ends with a status other than 0. Its text is what the program prints.
 #[derive(Clone, Copy, Debug, Error, PartialEq, Eq)]
-enum Failure {
+pub enum Failure {
     #[error("{0}")]
     Script(ScriptFault),
     #[error("file fault")]
@@ -41,7 +41,7 @@ enum Failure {
 
 impl Failure {
     /// The exit status.
-    fn status(self) -> u8
+    pub fn status(self) -> u8
         ensures table { result ≡ exit_status self }
         ensures last { result ≤ 4 }
     {
@@ -90,20 +90,24 @@ impl From<AllocError> for Failure {
 
 /// What the command line names.
 #[derive(Drop)]
-struct Paths<'a> {
+pub struct Paths<'a> {
     /// The image; without it the medium is zeros in memory.
-    image: Option<&'a str>,
+    pub image: Option<&'a str>,
     /// The script; without it the script is the standard input.
-    script: Option<&'a str>,
+    pub script: Option<&'a str>,
 }
 
-/// The paths on a command line, whose first word is the program's name. A word that begins with `-` and is not `-`
+/// The paths on the command line of a program of this name, whose first word is that too. A word that begins with `-` and is not `-`
 /// alone is an option, and there is none.
-fn paths_of<'a>(alloc: Global, words: &'a [String]) -> Result<Paths<'a>, Failure> {
+pub fn paths_of<'a>(
+    alloc: Global,
+    name: &'a str,
+    words: &'a [String],
+) -> Result<Paths<'a>, Failure> {
     if words.iter().skip(1).any(|word| word.as_str() == "--") {
         return Err(Failure::CommandLine);
     }
-    let command = Command::new(alloc, "nvmesim")
+    let command = Command::new(alloc, name)
         .disable_help_flag(true)
         .arg(Arg::new(alloc, "image").action(ArgAction::Set))?
         .arg(Arg::new(alloc, "script").action(ArgAction::Set))?;
@@ -150,36 +154,40 @@ fn run_named<R: Files + AllocGlobal, I: Read, O: Write, M: Medium + Drop>(
     }
 }
 
-/// Runs a script over an image, a regular file, whose blocks are read and written in place: each Write has reached the
+/// The medium that an image is, behind a cache: a regular file, whose blocks are read and written in place: each Write has reached the
 /// file when its line is written, and nothing else is ever written there. What is no regular file, once its links are
 /// followed, is no image: to open a pipe or a device may wait, or do something.
-fn run_image<R: Files<File = File> + AllocGlobal, I: Read, O: Write>(
+pub fn image_at<R: Files<File = File> + AllocGlobal>(
     rt: &R,
     image: &str,
-    script: Option<&str>,
-    input: &mut I,
-    output: &mut O,
-) -> Result<(), Failure> {
+) -> Result<Cached<FileMedium<HostFile>>, Failure> {
     if !fs::metadata(rt, image)?.is_file() {
         return Err(Failure::File);
     }
     let file: FileMedium<HostFile> = FileMedium::open(rt, image)?;
     let kept = NonZeroUsize::new(KEPT_BLOCKS).unwrap();
     match Cached::new(rt.alloc(), file, kept) {
-        Ok(medium) => run_named(rt, script, input, output, medium),
+        Ok(medium) => Ok(medium),
         Err((_, NoMemory)) => Err(Failure::Memory),
     }
 }
 
-/// Runs a script over zeros in memory.
-fn run_scratch<R: Files + AllocGlobal, I: Read, O: Write>(
+/// The medium where no image is named: zeros in memory.
+pub fn scratch(alloc: Global) -> Result<MemMedium, Failure> {
+    Ok(MemMedium::of(vec![in alloc; 0; SCRATCH_BYTES]?))
+}
+
+/// Runs the script that the command line names, or else the input, over the medium that it names.
+fn run_over_named<R: Files<File = File> + AllocGlobal, I: Read, O: Write>(
     rt: &R,
-    script: Option<&str>,
+    paths: Paths<'_>,
     input: &mut I,
     output: &mut O,
 ) -> Result<(), Failure> {
-    let medium = MemMedium::of(vec![in rt.alloc(); 0; SCRATCH_BYTES]?);
-    run_named(rt, script, input, output, medium)
+    match paths.image {
+        Some(image) => run_named(rt, paths.script, input, output, image_at(rt, image)?),
+        None => run_named(rt, paths.script, input, output, scratch(rt.alloc())?),
+    }
 }
 
 /// The program over the streams that it is handed: its words, the first of which is its name, its standard input,
@@ -194,11 +202,8 @@ pub fn run_program<R: Files<File = File> + AllocGlobal, I: Read, O: Write, E: Wr
 ) -> u8
     ensures { result ≤ 4 }
 {
-    let outcome = match paths_of(rt.alloc(), words) {
-        Ok(paths) => match paths.image {
-            Some(image) => run_image(rt, image, paths.script, input, output),
-            None => run_scratch(rt, paths.script, input, output),
-        },
+    let outcome = match paths_of(rt.alloc(), "nvmesim", words) {
+        Ok(paths) => run_over_named(rt, paths, input, output),
         Err(failure) => Err(failure),
     };
     match outcome {

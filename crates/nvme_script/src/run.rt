@@ -160,7 +160,7 @@ fn run_line<W: Write, M: Medium>(
 }
 
 /// Runs the events of a text in their order, and writes the line of each before the next one.
-fn run_events<W: Write, M: Medium>(
+pub fn run_events<W: Write, M: Medium>(
     text: &[u8],
     fleet: &mut Fleet<M>,
     bytes: &mut [u8],
