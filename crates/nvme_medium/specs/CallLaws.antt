@@ -1,10 +1,13 @@
--- What follows for calls of a medium, one after the other, from the steps of media in memory and behind a cache.
-use Rattle.std.specs.Prelude.{◌≡◌, ◌<◌, ℕ, ◌*◌, List, [], ◌∷◌, ◌++◌, length, Ok}
+-- What follows for calls of a medium, one after the other, from the steps of media in memory, behind a cache and in a
+-- file.
+use Rattle.std.specs.Prelude.{◌≡◌, ◌<◌, ℕ, ◌+◌, ◌*◌, List, [], ◌∷◌, ◌++◌, length, slice_get, slice_range, Some, Ok}
+use Rattle.std.specs.List.{AllByRecursion}
 use Rattle.nvme_spec.specs.Blocks.{block_at}
 use Rattle.nvme_spec.specs.Bytes.{with_bytes}
-use Rattle.nvme_spec.specs.MediumCalls.{MediumCall, Reads, Writes, Flushes, Calls}
+use Rattle.nvme_spec.specs.MediumCalls.{MediumAnswer, MediumCall, Reads, Writes, Flushes, Calls}
 use Rattle.nvme_medium.specs.Memory.{memory_bytes, memory_step}
 use Rattle.nvme_medium.specs.Cached.{calls_behind, keeps_by, AnswersKept}
+use Rattle.nvme_medium.specs.FileCalls.{FileCall, ReadsAt, WritesAt, Syncs, AreParts}
 use Rattle.nvme_medium.specs.declared.memory.MemMedium.{MemMedium}
 
 -- what a call that passes leaves of a content
@@ -74,3 +77,52 @@ abbrev pub WritesAndFlushesGoOn : Type 0
 WritesAndFlushesGoOn =
     (old new : List (ℕ × List ℕ)) → (calls inner : List MediumCall) → AreBehind old calls new inner
     → without_reads inner ≡ without_reads calls
+
+-- These are the calls of a file for those of the medium in its blocks: those for the first, then those for the others.
+abbrev pub ArePartsOf : List MediumCall → List FileCall → Type 0
+ArePartsOf [] parts = parts ≡ []
+ArePartsOf (call ∷ calls) parts =
+    (here : List FileCall) × (behind : List FileCall) × AreParts call here × ArePartsOf calls behind
+    × (parts ≡ here ++ behind)
+
+-- a call of the file writes what is left of a block that one of these calls of the medium writes, where it stands
+pub record WritesPartOf (calls : List MediumCall) (offset : ℕ) (part : List ℕ) : Type 0 where
+  pub place : ℕ
+  pub block : ℕ
+  pub bytes : List ℕ
+  pub answer : MediumAnswer
+  pub is : slice_get calls place ≡ Some (Writes block bytes answer)
+  pub done : ℕ
+  pub there : offset ≡ 512 * block + done
+  pub has : part ≡ slice_range bytes done 512
+
+-- a call of the file is such a write, or a sync for a flush of the medium, or it reads
+abbrev pub IsPartOf : List MediumCall → FileCall → Type 0
+IsPartOf calls (WritesAt offset part moved) = WritesPartOf calls offset part
+IsPartOf calls (Syncs answer) = (place : ℕ) × (slice_get calls place ≡ Some (Flushes answer))
+IsPartOf calls (ReadsAt offset room moved) = Unit {0}
+
+-- Nothing is written to a file but parts of the blocks that are written, each where it stands; and it is synced for a
+-- flush alone.
+abbrev pub FilesHaveBlocksAlone : Type 0
+FilesHaveBlocksAlone =
+    (calls : List MediumCall) → (parts : List FileCall) → ArePartsOf calls parts
+    → AllByRecursion (IsPartOf calls) parts
+
+-- the answers of the syncs among calls of a file, and of the flushes among calls of a medium, in order
+abbrev pub syncs_of : List FileCall → List MediumAnswer
+syncs_of [] = []
+syncs_of (Syncs answer ∷ parts) = answer ∷ syncs_of parts
+syncs_of (ReadsAt offset room moved ∷ parts) = syncs_of parts
+syncs_of (WritesAt offset part moved ∷ parts) = syncs_of parts
+
+abbrev pub flushes_of : List MediumCall → List MediumAnswer
+flushes_of [] = []
+flushes_of (Flushes answer ∷ calls) = answer ∷ flushes_of calls
+flushes_of (Reads i answer ∷ calls) = flushes_of calls
+flushes_of (Writes i block answer ∷ calls) = flushes_of calls
+
+-- Each flush is one sync, with its answer, and there is no other.
+abbrev pub FlushesAreSyncs : Type 0
+FlushesAreSyncs =
+    (calls : List MediumCall) → (parts : List FileCall) → ArePartsOf calls parts → syncs_of parts ≡ flushes_of calls

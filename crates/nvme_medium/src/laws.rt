@@ -3,10 +3,11 @@
 
 ghost use Rattle.std.specs.Prelude.{List};
 ghost use Rattle.nvme_spec.specs.MediumCalls.{MediumCall, Calls, MakesCalls};
-ghost use Rattle.nvme_medium.specs.CallLaws.{MemoryCallsAreDetermined, MemoryCallsCanBeMade, AreBehind, WritesAndFlushesGoOn};
+ghost use Rattle.nvme_medium.specs.CallLaws.{MemoryCallsAreDetermined, MemoryCallsCanBeMade, AreBehind, WritesAndFlushesGoOn, ArePartsOf, FilesHaveBlocksAlone, FlushesAreSyncs};
 ghost use Rattle.nvme_medium.specs.declared.cached.Cached.{Cached as CachedMedium};
+ghost use Rattle.nvme_medium.specs.declared.file.FileMedium.{FileMedium as MediumInAFile};
 
-use crate::{Cached, Medium};
+use crate::{Cached, FileMedium, Medium, RawFile};
 
 /// All calls of the blocks of a medium in memory can be made, and have one outcome.
 #[tactic(auto, using(crate::proofs::CallLaws::memory_calls_are_determined))]
@@ -22,4 +23,14 @@ pub fn cached_calls_go_on<M: Medium>()
         → Calls ⟦<Cached<M> as Medium>⟧.step old calls new
         → MakesCalls M.step (AreBehind old.kept.entries calls new.kept.entries) old.inner new.inner }
     ensures changes { WritesAndFlushesGoOn }
+{}
+
+/// By calls of a medium over a file their parts are made of the file, in order, and no other: nothing is written there
+/// but parts of the blocks that are written, each where it stands, and each flush is one sync, with its answer.
+pub fn file_calls_are_parts<F: RawFile>()
+    ensures behind { (old new : MediumInAFile F) → (calls : List MediumCall)
+        → Calls ⟦<FileMedium<F> as Medium>⟧.step old calls new
+        → MakesCalls F.step (ArePartsOf calls) old.file new.file }
+    ensures blocks { FilesHaveBlocksAlone }
+    ensures syncs { FlushesAreSyncs }
 {}
