@@ -1,0 +1,11 @@
+//! The text of sessions: their lines one at a time, the lines that look and change nothing, how each line is written,
+//! and what one that is not carried out is answered.
+#![tactic(auto)]
+
+mod fault;
+mod form;
+mod looking;
+
+pub use fault::{Refusal, Why, outside};
+pub use form::{Form, form_of};
+pub use looking::{Looking, is_looking, looking_of};

@@ -1,0 +1,203 @@
+//! Lines that look at a session and change nothing. They begin with `?`, so that no script can hold one.
+
+ghost use Rattle.std.specs.Prelude.{◌≡◌, map, Some};
+ghost use Rattle.live_text.specs.Looking as spec;
+
+use crate::form::{Form, form_of};
+use script_text::{number_u16, number_u32, number_u64, words_of};
+
+/// What a looking line asks for.
+#[derive(Clone, Copy, Debug)]
+pub enum Looking {
+    /// `?window C ADDR LEN`
+    Window { cntlid: u16, address: u64, len: u32 },
+    /// `?register C OFF`
+    Register { cntlid: u16, offset: u64 },
+    /// `?registers C`
+    Registers(u16),
+    /// `?queues C`
+    Queues(u16),
+    /// `?fetched C`
+    Fetched(u16),
+    /// `?driver C`
+    Driver(u16),
+    /// `?namespaces`
+    Namespaces,
+    /// `?reservation N`
+    Reservation(u32),
+    /// `?attached`
+    Attached,
+    /// `?blocks N SLBA COUNT`
+    Blocks { nsid: u32, slba: u64, count: u32 },
+    /// `?help`
+    Help,
+    /// `?help WORD`
+    HelpOn(Form),
+}
+
+/// Whether a line begins with `?`.
+pub fn is_looking(line: &[u8]) -> bool
+    ensures { result ≡ spec.is_looking line.now }
+{
+    line.first() == Some(&b'?')
+}
+
+/// `C`, and nothing else.
+fn controller_in(words: &[&[u8]]) -> Option<u16>
+    ensures { result ≡ spec.number_alone 16 (map (λ word. word.now) words.now) }
+{
+    let [cntlid, behind @ ..] = words else {
+        return None;
+    };
+    if behind.is_empty() {
+        number_u16(cntlid)
+    } else {
+        None
+    }
+}
+
+/// `N`, and nothing else.
+fn namespace_in(words: &[&[u8]]) -> Option<u32>
+    ensures { result ≡ spec.number_alone 32 (map (λ word. word.now) words.now) }
+{
+    let [nsid, behind @ ..] = words else {
+        return None;
+    };
+    if behind.is_empty() {
+        number_u32(nsid)
+    } else {
+        None
+    }
+}
+
+/// `C ADDR LEN`
+fn window_of(words: &[&[u8]]) -> Option<Looking>
+    ensures { result ≡ spec.window (map (λ word. word.now) words.now) }
+{
+    let [cntlid, address, len, behind @ ..] = words else {
+        return None;
+    };
+    if !behind.is_empty() {
+        return None;
+    }
+    Some(Looking::Window {
+        cntlid: number_u16(cntlid)?,
+        address: number_u64(address)?,
+        len: number_u32(len)?,
+    })
+}
+
+/// `C OFF`
+fn register_of(words: &[&[u8]]) -> Option<Looking>
+    ensures { result ≡ spec.register (map (λ word. word.now) words.now) }
+{
+    let [cntlid, offset, behind @ ..] = words else {
+        return None;
+    };
+    if !behind.is_empty() {
+        return None;
+    }
+    Some(Looking::Register {
+        cntlid: number_u16(cntlid)?,
+        offset: number_u64(offset)?,
+    })
+}
+
+/// `N SLBA COUNT`
+fn blocks_of(words: &[&[u8]]) -> Option<Looking>
+    ensures { result ≡ spec.blocks (map (λ word. word.now) words.now) }
+{
+    let [nsid, slba, count, behind @ ..] = words else {
+        return None;
+    };
+    if !behind.is_empty() {
+        return None;
+    }
+    Some(Looking::Blocks {
+        nsid: number_u32(nsid)?,
+        slba: number_u64(slba)?,
+        count: number_u32(count)?,
+    })
+}
+
+/// No words, or the first word of a line.
+fn help_of(words: &[&[u8]]) -> Option<Looking>
+    ensures { result ≡ spec.help (map (λ word. word.now) words.now) }
+{
+    let Some((word, behind)) = words.split_first() else {
+        return Some(Looking::Help);
+    };
+    if behind.is_empty() {
+        Some(Looking::HelpOn(form_of(word)?))
+    } else {
+        None
+    }
+}
+
+/// A looking line without words behind its first one.
+fn alone(looking: Looking, words: &[&[u8]]) -> Option<Looking>
+    ensures { result ≡ spec.alone (map (λ word. word.now) words.now) (Some looking) }
+{
+    if words.is_empty() {
+        Some(looking)
+    } else {
+        None
+    }
+}
+
+/// What words ask for, by the first of them.
+#[tactic(auto, unfolding(crate::specs::Looking::looking_in))]
+fn looking_in(keyword: &[u8], words: &[&[u8]]) -> Option<Looking>
+    ensures { result ≡ spec.looking_in keyword.now (map (λ word. word.now) words.now) }
+{
+    if keyword == b"?window".as_slice() {
+        window_of(words)
+    } else if keyword == b"?register".as_slice() {
+        register_of(words)
+    } else if keyword == b"?registers".as_slice() {
+        controller_in(words).map(Looking::Registers)
+    } else if keyword == b"?queues".as_slice() {
+        controller_in(words).map(Looking::Queues)
+    } else if keyword == b"?fetched".as_slice() {
+        controller_in(words).map(Looking::Fetched)
+    } else if keyword == b"?driver".as_slice() {
+        controller_in(words).map(Looking::Driver)
+    } else if keyword == b"?namespaces".as_slice() {
+        alone(Looking::Namespaces, words)
+    } else if keyword == b"?reservation".as_slice() {
+        namespace_in(words).map(Looking::Reservation)
+    } else if keyword == b"?attached".as_slice() {
+        alone(Looking::Attached, words)
+    } else if keyword == b"?blocks".as_slice() {
+        blocks_of(words)
+    } else if keyword == b"?help".as_slice() {
+        help_of(words)
+    } else {
+        None
+    }
+}
+
+/// What all words of a line ask for.
+fn looking_by(words: &[&[u8]]) -> Option<Looking>
+    ensures { result ≡ spec.looking_by (map (λ word. word.now) words.now) }
+{
+    let (keyword, behind) = words.split_first()?;
+    if behind.len() <= 3 {
+        looking_in(keyword, behind)
+    } else {
+        None
+    }
+}
+
+/// What a line that begins with `?` asks for. `None` where it is outside the grammar.
+#[tactic(auto, unfolding(crate::specs::Looking::looking_at))]
+pub fn looking_of(line: &[u8]) -> Option<Looking>
+    ensures { result ≡ spec.looking_at line.now }
+{
+    let front = words_of(line)?;
+    if front.rest.is_empty() {
+        looking_by(front.words.as_slice())
+    } else {
+        None
+    }
+}

@@ -1,0 +1,12 @@
+pub use Rattle.live_text.specs.Faults
+pub use Rattle.live_text.specs.Looking
+pub use Rattle.nvme_grammar.specs.Script
+pub use Rattle.nvme_grammar.specs.Lent
+pub use Rattle.nvme_grammar.specs.Line
+pub use Rattle.nvme_fleet.specs.FleetStates
+pub use Rattle.nvme_fleet.specs.Layers
+pub use Rattle.nvme_transcript.specs.Transcript
+pub mod Asking
+pub mod Saying
+pub mod Showing
+pub mod Answers

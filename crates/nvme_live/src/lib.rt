@@ -1,0 +1,16 @@
+//! A session: a subsystem and its hosts, line by line. Each line is answered by exactly one, before the next is read.
+#![tactic(auto)]
+
+mod asking;
+mod names;
+mod program;
+mod reading;
+mod rooms;
+mod saying;
+mod session;
+mod setting;
+mod turn;
+mod views;
+
+pub use program::run_program;
+pub use session::run_live;
