@@ -1,0 +1,23 @@
+"""Sessions with the proved NVMe storage subsystem, every order of a script's events, and pictures of them.
+
+    from nvmesim import Subsystem
+
+    with Subsystem() as subsystem:
+        host = subsystem.controller(host=0xa1)
+        disk = subsystem.namespace(blocks=64)
+        subsystem.attach(host, disk)
+        subsystem.start()
+        host.up()
+        host.write(disk, 3, b"Hello")
+        print(host.read(disk, 3)[:5])
+"""
+from __future__ import annotations
+
+from .answers import Answer, parse_answer
+from .enums import (AcquireAction, AdminOpcode, ExecuteOutcome, IoOpcode, PollOutcome, Refusal, RegisterAction,
+                    ReleaseAction, ReservationType, Rule, Status, UpOutcome)
+from .errors import (ConfigurationRefused, ExpressionError, LineError, NotDone, NvmeError, NvmesimError,
+                     ProgramDied, ProgramHangs, ProgramNotFound, ProtocolError, RequestAborted, RequestRefused,
+                     ScriptError, SessionClosed, SessionError)
+
+__version__ = "0.1.0"

@@ -1,0 +1,156 @@
+"""What goes wrong between a client and the subsystem, one class a cause."""
+from __future__ import annotations
+
+from typing import Optional
+
+from .enums import Refusal, Rule, Status
+
+
+class NvmesimError(Exception):
+    """The base of every exception of this package."""
+
+
+class ProtocolError(NvmesimError):
+    """An answer that isn't understood, or that answers another line than the one that was sent."""
+
+
+class LineError(NvmesimError):
+    """The program did not take a line: it is outside the grammar, or names something that isn't there.
+
+    Attributes:
+        line: the line as it was sent.
+        why: the program's own words.
+    """
+
+    def __init__(self, line: str, why: str) -> None:
+        super().__init__(f"{why} (the line was {line!r})")
+        self.line = line
+        self.why = why
+
+
+class SessionError(NvmesimError):
+    """The program can't be talked to any more.
+
+    Attributes:
+        line: the last line that was sent, or an empty text.
+        told: what stood on the program's standard error.
+    """
+
+    def __init__(self, what: str, line: str = "", told: str = "") -> None:
+        words = what
+        if line:
+            words += f"; the last line was {line!r}"
+        words += f"; standard error: {told.strip()}" if told.strip() else "; standard error is empty"
+        super().__init__(words)
+        self.line = line
+        self.told = told
+
+
+class ProgramNotFound(NvmesimError):
+    """There is no program to talk to."""
+
+
+class ProgramDied(SessionError):
+    """The program ended before it had answered.
+
+    Attributes:
+        status: its exit status, negative for a signal; None where it closed its output and still runs.
+    """
+
+    def __init__(self, status: Optional[int], line: str, told: str) -> None:
+        how = "closed its output" if status is None else f"ended with status {status}"
+        super().__init__(f"the program {how} before it had answered", line, told)
+        self.status = status
+
+
+class ProgramHangs(SessionError):
+    """No answer came within the time limit; the program was killed.
+
+    Attributes:
+        seconds: the time limit.
+    """
+
+    def __init__(self, seconds: float, line: str, told: str) -> None:
+        super().__init__(f"no answer within {seconds:g} seconds, so the program was killed", line, told)
+        self.seconds = seconds
+
+
+class SessionClosed(NvmesimError):
+    """A line for a session that was closed."""
+
+
+class ConfigurationRefused(NvmesimError):
+    """`start` found a fault in what was described before it.
+
+    Attributes:
+        why: the program's own words.
+    """
+
+    def __init__(self, why: str) -> None:
+        super().__init__(f"the configuration is refused: {why}")
+        self.why = why
+
+
+class RequestRefused(NvmesimError):
+    """The driver did not place a request. It took no ticket, and nothing changed.
+
+    Attributes:
+        line: the request's line.
+        refusal: why.
+    """
+
+    def __init__(self, line: str, refusal: Refusal) -> None:
+        super().__init__(f"the driver refuses {line!r}: {refusal.value}, {refusal.words}")
+        self.line = line
+        self.refusal = refusal
+
+
+class NvmeError(NvmesimError):
+    """A request was answered with a status other than success.
+
+    Attributes:
+        line: the request's line.
+        status: the status, with its code and its standard name.
+        rule: the rule that denied the command; `Rule.NONE` where it was allowed and then failed.
+    """
+
+    def __init__(self, line: str, status: Status, rule: Rule) -> None:
+        words = f"{status.text} ({status.code})"
+        if rule is not Rule.NONE:
+            words += f" by rule {rule.value}: {rule.words}"
+        super().__init__(f"{line!r} was answered {words}")
+        self.line = line
+        self.status = status
+        self.rule = rule
+
+
+class RequestAborted(NvmesimError):
+    """A reset met a request before its answer was handed up. It may have been executed or not.
+
+    Attributes:
+        line: the request's line.
+    """
+
+    def __init__(self, line: str) -> None:
+        super().__init__(f"{line!r} was aborted by a reset, which does not tell whether it was executed")
+        self.line = line
+
+
+class NotDone(NvmesimError):
+    """An event did not happen, and something had to come of it: a driver that isn't up, a queue that is full."""
+
+
+class ScriptError(NvmesimError):
+    """A script, or a transcript, that can't be read.
+
+    Attributes:
+        number: the line at fault, from 1, or 0.
+    """
+
+    def __init__(self, number: int, why: str) -> None:
+        super().__init__(f"line {number}: {why}" if number else why)
+        self.number = number
+
+
+class ExpressionError(NvmesimError):
+    """An expression of `--always` or `--never` that says nothing, or names an answer that isn't there."""

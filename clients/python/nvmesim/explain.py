@@ -1,0 +1,56 @@
+"""Prints a script and its transcript side by side, with what each line means."""
+from __future__ import annotations
+
+import textwrap
+from typing import Iterable, Iterator, List, Sequence
+
+from .history import Event, follow
+from .script import LineKind, ScriptLine, configuration_of, read_lines
+from .words import configuration_words, meaning, shortened
+
+_LEAST_WORDS = 30
+
+
+def explain(script: str, transcript: str, width: int = 120, comments: bool = True) -> Iterator[str]:
+    """The lines of the explanation: a script's line, what was printed for it, and the meaning.
+
+    Args:
+        script: the script's text.
+        transcript: what `nvmesim` printed for it.
+        width: the columns of a line; meanings are folded, other columns are cut short.
+        comments: whether the script's comments and blank lines are shown.
+
+    Raises:
+        ScriptError: the script can't be read, or the two have different counts of events.
+        ProtocolError: a line of the transcript isn't the answer of its event.
+    """
+    lines = list(read_lines(script))
+    events = {it.line.number: it for it in follow(lines, transcript)}
+    widths = _widths(lines, events.values(), width)
+    configuration = configuration_of(lines)
+    for line in lines:
+        event = events.get(line.number)
+        if event is not None:
+            yield from _row(line, event.text, meaning(event, configuration), widths)
+        elif line.kind in (LineKind.CONFIGURATION, LineKind.START):
+            yield from _row(line, "", configuration_words(line), widths)
+        elif comments:
+            yield line.text
+
+
+def _widths(lines: Sequence[ScriptLine], events: Iterable[Event], width: int) -> List[int]:
+    """The columns of a number, of a script's line, of its answer and of the meaning."""
+    number = len(str(len(lines)))
+    shown = [len(it.text) for it in lines if it.kind not in (LineKind.COMMENT, LineKind.BLANK)]
+    script = min(max(shown, default=1), max(16, width // 4))
+    answer = min(max((len(it.text) for it in events), default=1), max(16, width // 4))
+    return [number, script, answer, max(_LEAST_WORDS, width - number - script - answer - 6)]
+
+
+def _row(line: ScriptLine, answer: str, words: str, widths: Sequence[int]) -> Iterator[str]:
+    number, script, told, rest = widths
+    head = f"{line.number:>{number}}  {shortened(line.text, script):<{script}}  {shortened(answer, told):<{told}}"
+    folded = textwrap.wrap(words, rest) or [""]
+    yield f"{head}  {folded[0]}".rstrip()
+    for more in folded[1:]:
+        yield " " * (len(head) + 2) + more

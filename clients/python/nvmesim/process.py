@@ -1,0 +1,204 @@
+"""The program `nvmelive` as a process: where it is found, and lines and answers over its pipes, each within its time."""
+from __future__ import annotations
+
+import os
+import selectors
+import shutil
+import subprocess
+import time
+from pathlib import Path
+from typing import IO, List, Optional, Sequence, Union
+
+from .errors import ProgramDied, ProgramHangs, ProgramNotFound, SessionClosed
+
+PathLike = Union[str, "os.PathLike[str]"]
+
+VARIABLE = "NVMELIVE"
+"""The variable of the environment that names the program."""
+
+_PIECE = 1 << 16
+_MOST_TOLD = 1 << 16
+
+
+def find_program(given: Optional[PathLike] = None, name: str = "nvmelive", variable: str = VARIABLE) -> Path:
+    """The program: the one that is given, or that the environment names, or beside this repository, or on the path.
+
+    Args:
+        given: the program, if the caller knows it.
+        name: what the program is called.
+        variable: the variable of the environment that names it.
+
+    Raises:
+        ProgramNotFound: there is none that can be run.
+    """
+    named = given if given is not None else os.environ.get(variable)
+    if named is not None:
+        found = shutil.which(os.fspath(named))
+        if found is None:
+            raise ProgramNotFound(f"{os.fspath(named)} is no program that can be run")
+        return Path(found)
+    top = Path(__file__).resolve().parents[3]
+    for path in (top / "crates" / name / "out" / name, top / name):
+        if path.is_file() and os.access(path, os.X_OK):
+            return path
+    found = shutil.which(name)
+    if found is None:
+        raise ProgramNotFound(f"there is no program {name}: name it by program=.. or by the variable {variable}")
+    return Path(found)
+
+
+class Process:
+    """One run of the program. Its standard error is read beside its answers, so that it never waits for us."""
+
+    def __init__(self, command: Sequence[PathLike], seconds: float) -> None:
+        """Starts a command.
+
+        Args:
+            command: the program and its words.
+            seconds: the time limit of each answer.
+        """
+        self.seconds = seconds
+        self._last = ""
+        self._told = b""
+        self._pending = b""
+        self._is_closed = False
+        try:
+            self._child = subprocess.Popen([os.fspath(it) for it in command], stdin=subprocess.PIPE,
+                                           stdout=subprocess.PIPE, stderr=subprocess.PIPE, bufsize=0)
+        except OSError as fault:
+            raise ProgramNotFound(f"{os.fspath(command[0])} can't be run: {fault.strerror}") from None
+        for pipe in (self._input, self._output, self._errors):
+            os.set_blocking(pipe.fileno(), False)
+
+    @property
+    def _input(self) -> IO[bytes]:
+        assert self._child.stdin is not None
+        return self._child.stdin
+
+    @property
+    def _output(self) -> IO[bytes]:
+        assert self._child.stdout is not None
+        return self._child.stdout
+
+    @property
+    def _errors(self) -> IO[bytes]:
+        assert self._child.stderr is not None
+        return self._child.stderr
+
+    @property
+    def told(self) -> str:
+        """What stood on standard error so far; of much, the last part."""
+        return self._told.decode("utf-8", "replace")
+
+    def exchange(self, lines: Sequence[str]) -> List[str]:
+        """Writes lines, and reads an answer for each; they go ahead of their answers as far as the pipe takes them.
+
+        Raises:
+            ProgramDied: the program ended, or closed its output.
+            ProgramHangs: an answer did not come in time; the program is killed.
+            SessionClosed: the session was closed.
+        """
+        if self._is_closed:
+            raise SessionClosed("the session is closed")
+        if any("\n" in it for it in lines):
+            raise ValueError("a line has no line feed in it")
+        unsent = memoryview("".join(f"{it}\n" for it in lines).encode("utf-8"))
+        answers: List[str] = []
+        with selectors.DefaultSelector() as selector:
+            selector.register(self._output, selectors.EVENT_READ)
+            selector.register(self._errors, selectors.EVENT_READ)
+            selector.register(self._input, selectors.EVENT_WRITE)
+            until = time.monotonic() + self.seconds
+            while len(answers) < len(lines):
+                self._last = lines[len(answers)]
+                ready = selector.select(max(0.0, until - time.monotonic()))
+                if not ready:
+                    self._give_up()
+                for key, _ in ready:
+                    if key.fileobj is self._input:
+                        unsent = self._send(unsent, selector)
+                    elif key.fileobj is self._errors:
+                        self._drain(selector)
+                    else:
+                        answers += self._receive()
+                        until = time.monotonic() + self.seconds
+        return answers[:len(lines)]
+
+    def _send(self, unsent: memoryview, selector: selectors.BaseSelector) -> memoryview:
+        """Writes what the pipe takes; what is left."""
+        try:
+            unsent = unsent[os.write(self._input.fileno(), unsent[:_PIECE]):]
+        except BrokenPipeError:
+            unsent = unsent[:0]
+        if not unsent:
+            selector.unregister(self._input)
+        return unsent
+
+    def _drain(self, selector: Optional[selectors.BaseSelector] = None) -> None:
+        """Takes what stands on standard error."""
+        try:
+            piece = os.read(self._errors.fileno(), _PIECE)
+        except BlockingIOError:
+            return
+        self._told = (self._told + piece)[-_MOST_TOLD:]
+        if not piece and selector is not None:
+            selector.unregister(self._errors)
+
+    def _receive(self) -> List[str]:
+        """The whole answers that came."""
+        piece = os.read(self._output.fileno(), _PIECE)
+        if not piece:
+            self._bury()
+        *whole, self._pending = (self._pending + piece).split(b"\n")
+        return [it.decode("utf-8", "replace") for it in whole]
+
+    def _bury(self) -> None:
+        """Says how the program ended."""
+        status: Optional[int]
+        try:
+            status = self._child.wait(1.0)
+        except subprocess.TimeoutExpired:
+            status = None
+        self._end()
+        raise ProgramDied(status, self._last, self.told)
+
+    def _give_up(self) -> None:
+        """Kills a program that does not answer."""
+        self._end()
+        raise ProgramHangs(self.seconds, self._last, self.told)
+
+    def _end(self) -> None:
+        """Kills the program where it still runs, takes its last words, and closes the pipes."""
+        self._is_closed = True
+        if self._child.poll() is None:
+            self._child.kill()
+            self._child.wait()
+        while True:
+            before = len(self._told)
+            self._drain()
+            if len(self._told) in (before, _MOST_TOLD):
+                break
+        for pipe in (self._input, self._output, self._errors):
+            pipe.close()
+
+    def close(self) -> int:
+        """Ends the input, and waits for the program within the time limit; its exit status, negative for a signal."""
+        if self._is_closed:
+            return self._child.returncode
+        self._input.close()
+        until = time.monotonic() + self.seconds
+        with selectors.DefaultSelector() as selector:
+            for pipe in (self._output, self._errors):
+                selector.register(pipe, selectors.EVENT_READ)
+            while selector.get_map() and time.monotonic() < until:
+                for key, _ in selector.select(max(0.0, until - time.monotonic())):
+                    if key.fileobj is self._errors:
+                        self._drain(selector)
+                    elif not os.read(self._output.fileno(), _PIECE):
+                        selector.unregister(self._output)
+        try:
+            self._child.wait(max(0.0, until - time.monotonic()))
+        except subprocess.TimeoutExpired:
+            self._give_up()
+        self._end()
+        return self._child.returncode

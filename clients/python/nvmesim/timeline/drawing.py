@@ -1,0 +1,198 @@
+"""Draws one part of a picture as SVG: the lanes, the spans of commands, and an event in each row."""
+from __future__ import annotations
+
+from html import escape
+from typing import Iterator, List, Sequence, Tuple
+
+from ..answers import Executed, Fetched, Polled, Reset, Rung, Up
+from ..enums import ExecuteOutcome, UpOutcome
+from ..history import Command, Event
+from ..words import (command_label, command_words, rule_words, shortened, status_words, tickets_words,
+                     verdict_words)
+from .layout import HEAD, ROW, Layout, begin_of, commands_of
+
+_ALTERING = ("write", "zeroes")
+_READING = ("read", "compare")
+
+
+def state_of(command: Command) -> str:
+    """The class of a command: how it looks."""
+    if command.is_denied:
+        return "denied"
+    if command.is_aborted or command.reset is not None and command.polled is None:
+        return "aborted"
+    if command.status is not None:
+        return "done" if command.status.is_success else "failed"
+    return "waiting"
+
+
+def command_story(command: Command) -> str:
+    """All that became of a command, in one text."""
+    steps = (("placed", command.placed), ("rung", command.rung), ("fetched", command.fetched),
+             ("executed", command.executed), ("reset", command.reset), ("handed up", command.polled))
+    told = ", ".join(f"{name} at {number}" for name, number in steps if number is not None)
+    label = f"ticket {command.ticket}: {command_words(command)}" if command.ticket else command_words(command)
+    aborted = "; handed up as aborted" if command.is_aborted else ""
+    return f"Controller {command.controller}, {label}. Events: {told}. It was {verdict_words(command)}{aborted}."
+
+
+class Part:
+    """Some events that follow one another, as one SVG picture."""
+
+    def __init__(self, layout: Layout, events: Sequence[Event], texts: Sequence[Tuple[str, str]],
+                 all_events: Sequence[Event]) -> None:
+        """Draws `events`, each with its line and its meaning, of a picture of `all_events`."""
+        self.layout, self.events, self.texts = layout, events, texts
+        self.first, self.last = events[0].number, events[-1].number
+        self.commands = [it for it in commands_of(all_events)
+                         if begin_of(it) <= self.last and layout.end_of(it) >= self.first]
+        self.height = HEAD + ROW * len(events) + 8
+
+    def svg(self) -> str:
+        """The picture."""
+        width = self.layout.width
+        label = f"Events {self.first} to {self.last}"
+        head = (f'<svg class="part" role="group" aria-label="{label}" viewBox="0 0 {width} {self.height}" '
+                f'width="{width}" height="{self.height}" xmlns="http://www.w3.org/2000/svg">')
+        body = [*self._lanes(), *self._rows(), *self._spans(), *self._marks()]
+        return "\n".join([head, *body, "</svg>"])
+
+    def y(self, number: int) -> float:
+        """The middle of an event's row."""
+        return HEAD + ROW * (number - self.first) + ROW / 2
+
+    def _lanes(self) -> Iterator[str]:
+        for lane in self.layout.lanes:
+            yield (f'<rect class="lane {lane.kind}" x="{lane.left}" y="2" width="{lane.width}" '
+                   f'height="{self.height - 4}" rx="6"/>')
+            yield f'<text class="title" x="{lane.middle}" y="20">{escape(lane.title)}</text>'
+            yield f'<text class="subtitle" x="{lane.middle}" y="35">{escape(lane.subtitle)}</text>'
+
+    def _rows(self) -> Iterator[str]:
+        """The rows: what takes the focus, and the words beside the lanes."""
+        left = self.layout.text_left
+        for event, (line, words) in zip(self.events, self.texts):
+            y, top = self.y(event.number), self.y(event.number) - ROW / 2
+            told = escape(f"Event {event.number}, line {event.line.number}: {event.line.text} — {event.text} — {words}",
+                          quote=True)
+            look = "denied" if isinstance(event.answer, (Executed, Polled)) and any(
+                it.is_denied for it in event.commands) else "plain"
+            yield (f'<g class="event {look}" tabindex="0" role="listitem" aria-label="{told}"><title>{told}</title>'
+                   f'<rect class="row" x="0" y="{top}" width="{self.layout.width}" height="{ROW}"/>'
+                   f'<text class="number" x="34" y="{y + 4}">{event.number}</text>'
+                   f'<text x="{left}" y="{y + 4}"><tspan class="line">{escape(line)}</tspan>'
+                   f'<tspan class="words" dx="10">{escape(words)}</tspan></text></g>')
+
+    def _spans(self) -> Iterator[str]:
+        for command in self.commands:
+            story = escape(command_story(command), quote=True)
+            shapes = [*self._host_span(command), *self._controller_span(command)]
+            yield (f'<g class="command {state_of(command)}" tabindex="0" role="img" aria-label="{story}">'
+                   f'<title>{story}</title>{"".join(shapes)}</g>')
+
+    def _within(self, begin: int, end: int) -> Tuple[float, float]:
+        """Where a span from one event to another lies in this part, from above to below."""
+        top = self.y(begin) - 7 if begin >= self.first else float(HEAD)
+        return top, (self.y(end) + 7 if end <= self.last else self.height - 4.0)
+
+    def _host_span(self, command: Command) -> Iterator[str]:
+        """A request from its place to its poll; one that was denied has no round corners, and a bar across its end."""
+        if command.ticket is None:
+            return
+        end = self.layout.end_of(command)
+        top, bottom = self._within(begin_of(command), end)
+        left, radius = self.layout.slot_left(command), 0 if command.is_denied else 4
+        yield f'<rect class="span" x="{left}" y="{top}" width="9" height="{bottom - top}" rx="{radius}"/>'
+        if end <= self.last and command.is_denied:
+            yield f'<path class="stop" d="M{left - 3} {bottom}h15"/>'
+        if command.polled is None and end <= self.last:
+            yield f'<path class="open" d="M{left} {bottom}l4.5 5l4.5 -5"/>'
+
+    def _controller_span(self, command: Command) -> Iterator[str]:
+        """A command from its fetch to its execution."""
+        end = self.layout.leaves_controller(command)
+        if command.fetched is None or command.fetched > self.last or end < self.first:
+            return
+        top, bottom = self._within(command.fetched, end)
+        x = self.layout.held_left(command)
+        yield f'<rect class="held" x="{x}" y="{top + 3}" width="9" height="{max(4.0, bottom - top - 6)}" rx="2"/>'
+
+    def _marks(self) -> Iterator[str]:
+        for event in self.events:
+            marks = self._mark(event)
+            if marks:
+                yield f'<g class="mark" aria-hidden="true">{"".join(marks)}</g>'
+
+    def _mark(self, event: Event) -> List[str]:
+        """What an event adds to the picture: arrows, crosses, bands."""
+        number, answer, y = event.line.controller, event.answer, self.y(event.number)
+        host, controller = self.layout.hosts.get(number), self.layout.controllers.get(number)
+        if host is None or controller is None:
+            return []
+        if isinstance(answer, Reset) or isinstance(answer, Up) and answer.outcome is UpOutcome.OK:
+            return self._band(event)
+        if isinstance(answer, Rung) and answer.is_up:
+            return [_arrow(host.left + 8, controller.left + 6, y, "ring")]
+        if isinstance(answer, Executed) and answer.outcome is ExecuteOutcome.POSTED and event.command is not None:
+            return self._executed(event.command, y)
+        if isinstance(answer, Polled) and answer.status is not None and event.command is not None:
+            return [_arrow(controller.left + 6, self.layout.slot_left(event.command) + 12, y, "poll")]
+        return []
+
+    def _executed(self, command: Command, y: float) -> List[str]:
+        """An execution reaches the media, or is stopped at its controller by a rule."""
+        x, media = self.layout.held_left(command) + 4.5, self.layout.media
+        if command.is_denied:
+            number = command.rule.value
+            return [f'<path class="cross" d="M{x - 7} {y - 7}l14 14M{x - 7} {y + 7}l14 -14"/>',
+                    f'<text class="rule" x="{x + 12}" y="{y + 4}">rule {number}</text>']
+        verb = command.line.verb if command.line is not None else ""
+        shape = "changes" if verb in _ALTERING else "looks" if verb in _READING else "other"
+        end = media.middle
+        shapes = {
+            "changes": f'<rect class="changes" x="{end - 6}" y="{y - 6}" width="12" height="12"/>',
+            "looks": f'<circle class="looks" cx="{end}" cy="{y}" r="6"/>',
+            "other": f'<path class="other" d="M{end} {y - 7}l7 7l-7 7l-7 -7z"/>',
+        }
+        return [f'<path class="reach" d="M{x + 7} {y}H{end - 9}"/>', shapes[shape]]
+
+    def _band(self, event: Event) -> List[str]:
+        """A driver and its controller go down, or come up."""
+        number, y = event.line.controller, self.y(event.number)
+        host, controller = self.layout.hosts[number], self.layout.controllers[number]
+        kind = "reset" if isinstance(event.answer, Reset) else "up"
+        left, width = host.left + 2, controller.left + controller.width - host.left - 4
+        return [f'<rect class="band {kind}" x="{left}" y="{y - 8}" width="{width}" height="16" rx="3"/>',
+                f'<text class="band-text {kind}" x="{left + width / 2}" y="{y + 4}">{kind}</text>']
+
+
+def _arrow(begin: float, end: float, y: float, kind: str) -> str:
+    """A line with a head at its end."""
+    back = -6 if end > begin else 6
+    return f'<path class="arrow {kind}" d="M{begin} {y}H{end}m{back} -4l{-back} 4l{back} 4"/>'
+
+
+def event_texts(event: Event) -> Tuple[str, str]:
+    """What stands beside an event: its line, and in few words what came of it."""
+    line = shortened(event.line.text, 34)
+    answer, command = event.answer, event.command
+    if isinstance(answer, Executed) and command is not None:
+        return line, f"{command_label(command)}: {_short_verdict(command)}"
+    if isinstance(answer, Polled) and command is not None:
+        told = "aborted" if answer.status is None else status_words(answer.status)
+        rule = f", rule {command.rule.value}" if command.is_denied else ""
+        return line, f"{command_label(command)}: {told}{rule}"
+    if isinstance(answer, Rung) and event.commands:
+        return line, f"tells of {tickets_words(event.commands)}"
+    if isinstance(answer, Fetched) and command is not None:
+        return line, f"takes {command_label(command)}"
+    if event.line.is_request and command is not None:
+        return line, shortened(f"ticket {command.ticket}: {command_words(command)}", 96)
+    return line, event.text
+
+
+def _short_verdict(command: Command) -> str:
+    """What came of an execution; the status of a denied request stands beside its poll."""
+    if command.is_denied and command.ticket is not None:
+        return f"denied by {rule_words(command)}"
+    return verdict_words(command)

@@ -1,0 +1,134 @@
+"""Where everything of a picture stands: lanes beside one another, events below one another, requests in their slots."""
+from __future__ import annotations
+
+from dataclasses import dataclass
+from typing import Dict, List, Optional, Sequence, Set, Tuple
+
+from ..history import Command, Event
+from ..script import Configuration
+
+ROW = 22
+"""The height of an event, in pixels."""
+HEAD = 46
+"""The height of the lanes' names."""
+GUTTER = 44
+"""The width of the events' numbers."""
+ROWS_OF_A_PART = 45
+"""The most events of one part: a part is not broken over pages."""
+_LETTER = 6.6
+_BAR = 12
+
+
+@dataclass(frozen=True)
+class Lane:
+    """A column: what it is, its name in two lines, where it begins, and how wide it is."""
+
+    kind: str
+    title: str
+    subtitle: str
+    left: int
+    width: int
+
+    @property
+    def middle(self) -> float:
+        """The middle of the column."""
+        return self.left + self.width / 2
+
+
+@dataclass(frozen=True)
+class Layout:
+    """Where the lanes are, and which slot of its host's lane each request has."""
+
+    hosts: Dict[int, Lane]
+    controllers: Dict[int, Lane]
+    media: Lane
+    slots: Dict[Command, int]
+    held: Dict[Command, int]
+    text_left: int
+    width: int
+    last: int
+
+    @property
+    def lanes(self) -> List[Lane]:
+        """All lanes, from the left."""
+        pairs = (it for n in self.hosts for it in (self.hosts[n], self.controllers[n]))
+        return [*pairs, self.media]
+
+    def slot_left(self, command: Command) -> float:
+        """Where the span of a request begins, from the left."""
+        lane = self.hosts[command.controller]
+        return lane.left + 6 + _BAR * self.slots.get(command, 0)
+
+    def held_left(self, command: Command) -> float:
+        """Where the span of a fetched command begins in its controller's lane, from the left."""
+        return self.controllers[command.controller].left + 14 + _BAR * self.held.get(command, 0)
+
+    def end_of(self, command: Command) -> int:
+        """The event that ends a command's span: its poll, its execution for a raw host, or the last of all."""
+        if command.ticket is None:
+            return command.executed or command.reset or self.last
+        return command.polled or self.last
+
+    def leaves_controller(self, command: Command) -> int:
+        """The event at which a fetched command leaves its controller."""
+        return command.executed or command.reset or self.last
+
+
+def commands_of(events: Sequence[Event]) -> List[Command]:
+    """All commands of these events, in the order in which they came up."""
+    seen: Set[Command] = set()
+    found: List[Command] = []
+    for command in (it for event in events for it in event.commands):
+        if command not in seen:
+            seen.add(command)
+            found.append(command)
+    return found
+
+
+def begin_of(command: Command) -> int:
+    """The event at which a command came up."""
+    return command.placed or command.fetched or 1
+
+
+def lay_out(events: Sequence[Event], configuration: Configuration, texts: Sequence[str]) -> Layout:
+    """The layout of a picture whose events have these texts beside them."""
+    last, commands = len(events), commands_of(events)
+    slots = _slots({it: (begin_of(it), it.polled or last) for it in commands if it.ticket is not None})
+    held = _slots({it: (it.fetched, it.executed or it.reset or last) for it in commands if it.fetched is not None})
+    is_narrow = len(configuration.hosts) > 4
+    left = GUTTER
+    hosts: Dict[int, Lane] = {}
+    controllers: Dict[int, Lane] = {}
+    for number, host in configuration.hosts.items():
+        subtitle = "raw" if number in configuration.raw else "driver"
+        width = max(58 if is_narrow else 84, 12 + _BAR * _most(slots, number))
+        hosts[number] = Lane("host", f"host {host:x}h", subtitle, left, width)
+        left += width
+        width = max(58 if is_narrow else 84, 40 + _BAR * _most(held, number))
+        title = f"ctrl {number}" if is_narrow else f"controller {number}"
+        controllers[number] = Lane("controller", title, "", left, width)
+        left += width + 10
+    media = Lane("media", "media", "", left, 72)
+    text_left = left + media.width + 14
+    width = text_left + round(_LETTER * max((len(it) for it in texts), default=10)) + 12
+    return Layout(hosts, controllers, media, slots, held, text_left, width, last)
+
+
+def _most(slots: Dict[Command, int], controller: int) -> int:
+    """How many slots a controller's lane has."""
+    return max((slot + 1 for it, slot in slots.items() if it.controller == controller), default=0)
+
+
+def _slots(spans: Dict[Command, Tuple[int, int]]) -> Dict[Command, int]:
+    """A slot for each command by its first and last event: no two of a lane that overlap share one."""
+    slots: Dict[Command, int] = {}
+    taken: Dict[int, List[int]] = {}
+    for command, (begin, end) in sorted(spans.items(), key=lambda it: it[1][0]):
+        until = taken.setdefault(command.controller, [])
+        free: Optional[int] = next((n for n, last in enumerate(until) if last < begin), None)
+        if free is None:
+            free = len(until)
+            until.append(end)
+        until[free] = end
+        slots[command] = free
+    return slots

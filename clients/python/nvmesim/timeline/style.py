@@ -1,0 +1,82 @@
+"""How the page of a picture looks, by day, by night and on paper, and the few lines of its script."""
+
+STYLE = """
+:root { --ground: #ffffff; --text: #1d2329; --faint: #5d6872; --lane: #f1f4f7; --lane-dark: #e6ebf0; --line: #c8d0d8;
+  --done: #2b6cb0; --denied: #c0341d; --denied-light: #f6c9c0; --failed: #a86400; --aborted: #7a4fa3; --waiting: #5d6872;
+  --up: #22794c; --focus: #1a56db; --hover: #fff3c4; }
+@media (prefers-color-scheme: dark) { :root { --ground: #14181c; --text: #e6eaee; --faint: #9aa6b1; --lane: #1d2329;
+  --lane-dark: #262d35; --line: #3c4650; --done: #63a7ee; --denied: #ff7a63; --denied-light: #5b241b; --failed: #f0ae4a;
+  --aborted: #c199ec; --waiting: #9aa6b1; --up: #5cc48e; --focus: #8ab4ff; --hover: #3a3413; } }
+* { box-sizing: border-box; }
+body { margin: 0; background: var(--ground); color: var(--text); font: 15px/1.5 system-ui, "DejaVu Sans", sans-serif; }
+main { padding: 20px 24px 90px; }
+h1 { font-size: 1.5rem; margin: 0 0 4px; overflow-wrap: anywhere; }
+h2 { font-size: 1.15rem; margin: 28px 0 6px; }
+p { margin: 0 0 10px; color: var(--faint); }
+.legend { list-style: none; display: flex; flex-wrap: wrap; gap: 4px 18px; margin: 0 0 14px; padding: 0;
+  font-size: 13px; }
+.legend li { display: flex; align-items: center; gap: 6px; }
+svg.part { display: block; margin: 0 0 12px; max-width: none; }
+svg text { font: 12px system-ui, "DejaVu Sans", sans-serif; fill: var(--text); }
+.lane { fill: var(--lane); } .lane.controller { fill: var(--lane-dark); }
+.lane.media { fill: none; stroke: var(--line); stroke-dasharray: 4 3; }
+svg .title { font-weight: 600; text-anchor: middle; }
+svg .subtitle, svg .number { fill: var(--faint); font-size: 11px; text-anchor: middle; }
+svg .number { text-anchor: end; }
+svg .line { font-family: ui-monospace, "DejaVu Sans Mono", monospace; font-size: 11.5px; }
+svg .words { fill: var(--faint); }
+.event.denied .words { fill: var(--denied); font-weight: 600; }
+.row { fill: transparent; } .event:hover .row { fill: var(--hover); fill-opacity: .55; }
+.event:focus, .command:focus { outline: none; }
+.event:focus .row { fill: var(--hover); stroke: var(--focus); stroke-width: 2; }
+.span, .held { stroke-width: 1.5; }
+.done .span, .done .held { fill: var(--done); stroke: var(--done); }
+.denied .span, .denied .held { fill: url(#stripes); stroke: var(--denied); }
+.failed .span, .failed .held { fill: none; stroke: var(--failed); stroke-width: 3; }
+.aborted .span, .aborted .held { fill: none; stroke: var(--aborted); stroke-dasharray: 4 2; stroke-width: 2; }
+.waiting .span, .waiting .held { fill: none; stroke: var(--waiting); stroke-dasharray: 1 3; stroke-width: 2; }
+.held { opacity: .8; } .open { fill: none; stroke: var(--waiting); stroke-width: 1.5; }
+.stop, .cross { stroke: var(--denied); stroke-width: 3; fill: none; }
+.stripe { fill: var(--denied); } .stripe-ground { fill: var(--denied-light); }
+.command:hover .span, .command:hover .held, .command:focus .span, .command:focus .held { stroke: var(--focus);
+  stroke-width: 3; }
+.mark { pointer-events: none; }
+.arrow { fill: none; stroke: var(--faint); stroke-width: 1.3; } .arrow.poll { stroke-dasharray: 5 2; }
+.reach { fill: none; stroke: var(--done); stroke-width: 1.3; }
+.changes { fill: var(--done); } .looks, .other { fill: var(--ground); stroke: var(--done); stroke-width: 2; }
+svg .rule { fill: var(--denied); font-size: 10.5px; font-weight: 600; }
+.band { fill: none; stroke: var(--up); stroke-width: 1.5; } .band.reset { fill: var(--aborted); stroke: none; }
+svg .band-text { text-anchor: middle; fill: var(--up); font-size: 11px; font-weight: 600; }
+svg .band-text.reset { fill: var(--ground); }
+table { border-collapse: collapse; font-size: 14px; } th, td { text-align: left; padding: 3px 14px 3px 0;
+  border-bottom: 1px solid var(--line); vertical-align: top; }
+details { margin-top: 24px; } summary { cursor: pointer; } ol { font-size: 14px; }
+code { font-family: ui-monospace, "DejaVu Sans Mono", monospace; font-size: 12.5px; }
+#details { position: fixed; left: 0; right: 0; bottom: 0; padding: 10px 24px; background: var(--lane-dark);
+  border-top: 1px solid var(--line); font-size: 14px; }
+@media print { :root { --ground: #fff; --text: #000; --faint: #444; --lane: #f4f4f4; --lane-dark: #e8e8e8; --line: #aaa;
+  --done: #2b6cb0; --denied: #b02a14; --denied-light: #f6c9c0; --failed: #8a5200; --aborted: #6b4291; --up: #22794c; }
+  * { print-color-adjust: exact; -webkit-print-color-adjust: exact; }
+  main { padding: 0; } #details { display: none; }
+  svg.part { width: 100%; height: auto; break-inside: avoid; } tr { break-inside: avoid; } }
+"""
+
+SCRIPT = """
+(function () {
+  var panel = document.getElementById('details');
+  var items = Array.prototype.slice.call(document.querySelectorAll('.event, .command'));
+  var rows = Array.prototype.slice.call(document.querySelectorAll('.event'));
+  function show(it) { panel.textContent = it.getAttribute('aria-label'); panel.hidden = false; }
+  items.forEach(function (it) {
+    it.addEventListener('focus', function () { show(it); });
+    it.addEventListener('mouseenter', function () { show(it); });
+  });
+  document.addEventListener('keydown', function (key) {
+    var step = { ArrowDown: 1, ArrowUp: -1 }[key.key];
+    var at = rows.indexOf(document.activeElement);
+    if (!step || at < 0 || !rows[at + step]) { return; }
+    rows[at + step].focus();
+    key.preventDefault();
+  });
+})();
+"""
