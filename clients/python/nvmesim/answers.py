@@ -138,10 +138,10 @@ def data_in(length: str, digits: str) -> bytes:
 
 def status_in(word: str) -> Status:
     """A status as transcripts have it, such as `0:83`."""
-    try:
-        return Status(word)
-    except ValueError:
-        raise ProtocolError(f"{word!r} is no status of this subsystem") from None
+    status = Status.of(word)
+    if status is None:
+        raise ProtocolError(f"{word!r} is no status of this subsystem")
+    return status
 
 
 def _up(words: List[str]) -> Answer:

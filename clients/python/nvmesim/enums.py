@@ -2,6 +2,7 @@
 from __future__ import annotations
 
 import enum
+from typing import Optional
 
 
 class Status(enum.Enum):
@@ -40,6 +41,11 @@ class Status(enum.Enum):
     WRITE_FAULT = ("2:80", "Write Fault")
     UNRECOVERED_READ_ERROR = ("2:81", "Unrecovered Read Error")
     COMPARE_FAILURE = ("2:85", "Compare Failure")
+
+    @classmethod
+    def of(cls, code: str) -> Optional[Status]:
+        """The status with this code, such as `0:83`, if there is one."""
+        return next((it for it in cls if it.value == code), None)
 
     @property
     def code(self) -> str:

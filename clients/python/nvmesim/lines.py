@@ -7,6 +7,7 @@ from __future__ import annotations
 
 from typing import Iterable, Union
 
+from .answers import BLOCK_BYTES
 from .enums import AcquireAction, RegisterAction, ReleaseAction, ReservationType
 
 Bytes = Union[bytes, bytearray, memoryview]
@@ -144,6 +145,11 @@ def spelled(data: Bytes) -> str:
     """DATA as a line has them, in the shorter form; no bytes at all are spelled as a zero."""
     raw = bytes(data)
     kept = raw.rstrip(b"\0")
-    if len(kept) > 1 and len(raw) % 512 == 0 and raw == raw[:1] * len(raw):
+    if len(kept) > 1 and len(raw) % BLOCK_BYTES == 0 and raw == raw[:1] * len(raw):
         return f"fill:{raw[:1].hex()}"
     return f"hex:{kept.hex() or '00'}"
+
+
+def blocks_of(data: Bytes) -> int:
+    """How many blocks these data need, at least one."""
+    return max(1, -(-len(data) // BLOCK_BYTES))

@@ -9,7 +9,7 @@ import time
 from pathlib import Path
 from typing import IO, List, Optional, Sequence, Union
 
-from .errors import ProgramDied, ProgramHangs, ProgramNotFound, SessionClosed
+from .errors import ProgramDied, ProgramHangs, ProgramNotFound, ProtocolError, SessionClosed
 
 PathLike = Union[str, "os.PathLike[str]"]
 
@@ -21,7 +21,7 @@ _MOST_TOLD = 1 << 16
 
 
 def find_program(given: Optional[PathLike] = None, name: str = "nvmelive", variable: str = VARIABLE) -> Path:
-    """The program: the one that is given, or that the environment names, or beside this repository, or on the path.
+    """The program: the one that is given, that the environment names, that was built here, or that is on the path.
 
     Args:
         given: the program, if the caller knows it.
@@ -37,13 +37,13 @@ def find_program(given: Optional[PathLike] = None, name: str = "nvmelive", varia
         if found is None:
             raise ProgramNotFound(f"{os.fspath(named)} is no program that can be run")
         return Path(found)
-    top = Path(__file__).resolve().parents[3]
-    for path in (top / "crates" / name / "out" / name, top / name):
-        if path.is_file() and os.access(path, os.X_OK):
-            return path
+    built = Path(__file__).resolve().parents[3] / "crates" / name / "out" / name
+    if built.is_file() and os.access(built, os.X_OK):
+        return built
     found = shutil.which(name)
     if found is None:
-        raise ProgramNotFound(f"there is no program {name}: name it by program=.. or by the variable {variable}")
+        raise ProgramNotFound(f"there is no program {name}: ./{name} at the top of the repository proves and builds it; "
+                              f"the variable {variable} names another")
     return Path(found)
 
 
@@ -110,7 +110,7 @@ class Process:
             selector.register(self._input, selectors.EVENT_WRITE)
             until = time.monotonic() + self.seconds
             while len(answers) < len(lines):
-                self._last = lines[len(answers)]
+                self._last = lines[len(answers)]  # the first that was not answered
                 ready = selector.select(max(0.0, until - time.monotonic()))
                 if not ready:
                     self._give_up()
@@ -119,10 +119,13 @@ class Process:
                         unsent = self._send(unsent, selector)
                     elif key.fileobj is self._errors:
                         self._drain(selector)
-                    else:
-                        answers += self._receive()
+                    elif came := self._receive():
+                        answers += came
                         until = time.monotonic() + self.seconds
-        return answers[:len(lines)]
+        if len(answers) > len(lines) or self._pending:
+            extra = answers[len(lines)] if len(answers) > len(lines) else self._pending.decode("utf-8", "replace")
+            raise ProtocolError(f"{extra!r} answers no line")
+        return answers
 
     def _send(self, unsent: memoryview, selector: selectors.BaseSelector) -> memoryview:
         """Writes what the pipe takes; what is left."""
@@ -180,6 +183,11 @@ class Process:
                 break
         for pipe in (self._input, self._output, self._errors):
             pipe.close()
+
+    def abandon(self) -> None:
+        """Kills the program, where it still runs, without waiting for what it would do."""
+        if not self._is_closed:
+            self._end()
 
     def close(self) -> int:
         """Ends the input, and waits for the program within the time limit; its exit status, negative for a signal."""

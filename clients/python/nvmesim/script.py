@@ -102,14 +102,17 @@ def number_of(word: str) -> int:
     raise ValueError(f"{word!r} is no number")
 
 
-def read_lines(text: str) -> Iterator[ScriptLine]:
+def read_lines(text: str, is_started: bool = False) -> Iterator[ScriptLine]:
     """The lines of a script, in order.
+
+    Args:
+        text: the script.
+        is_started: whether the text goes on behind `start`.
 
     Raises:
         ScriptError: a line begins with no word of scripts, has another count of words, or stands on the wrong side
             of `start`. The program judges the rest.
     """
-    is_started = False
     lines = text.split("\n")
     for number, line in enumerate(lines[:-1] if lines[-1] == "" else lines, 1):
         words = tuple(re.split(r"[ \t\r]+", line.strip(" \t\r")))

@@ -44,9 +44,10 @@ def command_name(command: Command) -> str:
     """The command's standard name."""
     if command.line is not None:
         return _NAMES[command.line.verb]
-    if command.entry is None or isinstance(opcode := command.entry.opcode, (AdminOpcode, IoOpcode)):
-        return opcode.text if command.entry is not None else "a command"
-    return f"opcode {hexadecimal(opcode)}"
+    if command.entry is None:
+        return "a command"
+    opcode = command.entry.opcode
+    return opcode.text if isinstance(opcode, (AdminOpcode, IoOpcode)) else f"opcode {hexadecimal(opcode)}"
 
 
 def command_words(command: Command) -> str:

@@ -1,0 +1,92 @@
+"""A controller and its host's raw side, as objects."""
+from __future__ import annotations
+
+from typing import Dict, List, Type, TypeVar
+
+from . import lines, looks
+from .answers import Executed, Fetched, Stored, Wrote32
+from .errors import NotDone
+from .history import Event
+from .lines import Bytes
+from .session import Session
+
+_A = TypeVar("_A")
+
+
+def answer_of(event: Event, kind: Type[_A]) -> _A:
+    """The answer of an event, where it is of this kind. Raises `NotDone` otherwise."""
+    if not isinstance(event.answer, kind):
+        raise NotDone(f"{event.line.text!r} was answered {event.text!r}")
+    return event.answer
+
+
+class Controller:
+    """The subsystem's side of a controller. Nothing is fetched or executed by itself."""
+
+    def __init__(self, session: Session, number: int) -> None:
+        self._session = session
+        self.number = number
+
+    def fetch(self, queue: int = 1) -> Fetched:
+        """Takes the oldest command of a queue: 0 is the admin queue, 1 a driver's I/O queue."""
+        return answer_of(self._session.event(lines.fetch(self.number, queue)), Fetched)
+
+    def execute(self, place: int = 0) -> Executed:
+        """Executes the command at this place, from 0, of those that were fetched."""
+        return answer_of(self._session.event(lines.execute(self.number, place)), Executed)
+
+    def fetched(self) -> List[looks.FetchedCommand]:
+        """The commands that were fetched and not executed, by their places. Changes nothing."""
+        return looks.fetched(self._session.look(f"?fetched {self.number}"), self.number)
+
+    def queues(self) -> List[looks.Queue]:
+        """The queues. Changes nothing."""
+        return looks.queues(self._session.look(f"?queues {self.number}"), self.number)
+
+    def register(self, offset: int) -> int:
+        """What a read of 32 bits at this offset gives. Changes nothing."""
+        return looks.register(self._session.look(f"?register {self.number} {offset}"), self.number, offset)
+
+    def registers(self) -> Dict[str, int]:
+        """The registers by their names. Changes nothing."""
+        return looks.registers(self._session.look(f"?registers {self.number}"), self.number)
+
+    def window(self, address: int, length: int) -> bytes:
+        """Bytes of the host memory that it shares with its host, at most 131,072. Changes nothing."""
+        line = f"?window {self.number} {address} {length}"
+        return looks.window(self._session.look(line), self.number, address, length)
+
+
+class RawHost:
+    """A host without a driver: it stores any bytes in its window, and writes any register.
+
+    Attributes:
+        host: its identifier.
+        controller: its controller.
+    """
+
+    def __init__(self, session: Session, number: int, host: int) -> None:
+        self._session = session
+        self.host = host
+        self.controller = Controller(session, number)
+
+    @property
+    def number(self) -> int:
+        """The number of its controller."""
+        return self.controller.number
+
+    def store(self, address: int, data: Bytes) -> Stored:
+        """Stores bytes from this address of its window on; nothing is stored where they don't lie in it."""
+        return answer_of(self._session.event(lines.store(self.number, address, data)), Stored)
+
+    def write32(self, offset: int, value: int) -> Wrote32:
+        """Writes 32 bits to the register at this offset."""
+        return answer_of(self._session.event(lines.write32(self.number, offset, value)), Wrote32)
+
+    def window(self, address: int, length: int) -> bytes:
+        """Bytes of its window, at most 131,072. Changes nothing."""
+        return self.controller.window(address, length)
+
+    def register(self, offset: int) -> int:
+        """What a read of the register at this offset gives, 32 bits. Changes nothing."""
+        return self.controller.register(offset)

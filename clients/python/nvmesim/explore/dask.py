@@ -1,0 +1,46 @@
+"""Hands the parts of an exploration to a Dask cluster. The optional extra `nvmesim[dask]` brings what this needs."""
+from __future__ import annotations
+
+from typing import Any, Callable, List, Optional
+
+from ..errors import NvmesimError
+from . import Shard, explore_shard
+from .outcomes import Findings, joined
+from .plan import Plan
+
+
+class DaskMissing(NvmesimError):
+    """Dask is not installed."""
+
+
+def _connect(address: str) -> Any:
+    try:
+        from distributed import Client
+    except ImportError:
+        raise DaskMissing("--dask needs the extra: pip install 'nvmesim[dask]'") from None
+    connect: Callable[[str], Any] = Client
+    return connect(address)
+
+
+def explore_on_dask(plan: Plan, address: str, shards: int, program: Optional[str], seconds: float,
+                    client: Any = None) -> Findings:
+    """Explores in parts, each a task of the cluster whose scheduler has this address.
+
+    Args:
+        plan: the script with its parts.
+        address: the scheduler, such as `tcp://host:8786`.
+        shards: so many parts.
+        program: the program `nvmelive` as the workers find it, or None for what they find themselves.
+        seconds: the time limit of each answer.
+        client: a client of the cluster, if there is one.
+    """
+    whole = client if client is not None else _connect(address)
+    parts = [Shard(number, shards) for number in range(1, shards + 1)]
+    futures: List[Any] = whole.map(_task, [(plan.text, it, program, seconds) for it in parts])
+    return joined(whole.gather(futures))
+
+
+def _task(given: Any) -> Findings:
+    """One part, on a worker."""
+    text, shard, program, seconds = given
+    return explore_shard(text, shard, program, 1, seconds)

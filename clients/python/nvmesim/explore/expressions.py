@@ -1,0 +1,187 @@
+"""The expressions of `--always` and `--never`: a small part of Python's, over named answers, and nothing beside it.
+
+    a.write1 == 'Successful Completion' and not b.write1.rule == 7
+    implies(a.acquire1 == 'Successful Completion', reservation(1).holder == 0xa1)
+    block(1, 0) in ('b2', '')
+
+An expression is taken apart and judged here; no code of it is run.
+"""
+from __future__ import annotations
+
+import ast
+import difflib
+import operator
+from typing import Any, Callable, Dict, Iterable, List, Set, Type, Union
+
+from ..errors import ExpressionError
+from .plan import Plan
+from .values import FIELDS, Value, Values, texts_of
+
+Scalar = Union[str, int, bool, None]
+
+_RESERVATION_FIELDS = ("type", "name", "holder", "generation", "is_protected", "registrants")
+_OPERATORS: Dict[Type[ast.cmpop], Callable[[Any, Any], bool]] = {
+    ast.Eq: operator.eq, ast.NotEq: operator.ne, ast.Lt: operator.lt, ast.LtE: operator.le, ast.Gt: operator.gt,
+    ast.GtE: operator.ge, ast.In: lambda one, many: one in many, ast.NotIn: lambda one, many: one not in many,
+}
+_CALLS = {"implies": 2, "reservation": 1, "block": 2}
+
+
+class Expression:
+    """An expression whose names are checked against a plan before anything is run."""
+
+    def __init__(self, text: str, plan: Plan, watched: Iterable[str] = ()) -> None:
+        """Takes an expression apart.
+
+        Args:
+            text: the expression.
+            plan: the script, whose events have the names.
+            watched: the lines that look at blocks, `?blocks N SLBA COUNT`.
+
+        Raises:
+            ExpressionError: it is none, or names something that the script has not.
+        """
+        self.text = text
+        self._plan = plan
+        self._names = {it.name for it in plan.steps}
+        self._watched = _watched(watched)
+        try:
+            self._tree = ast.parse(text.strip(), mode="eval").body
+        except (SyntaxError, ValueError) as fault:
+            raise ExpressionError(f"{text!r} is no expression: {fault}") from None
+        self._check(self._tree)
+
+    def holds(self, values: Values) -> bool:
+        """Whether it holds of an outcome. Raises `ExpressionError` where it compares what can't be compared."""
+        try:
+            return bool(self._plain(self._evaluate(self._tree, values)))
+        except TypeError as fault:
+            raise ExpressionError(f"{self.text!r}: {fault}") from None
+
+    def _fault(self, why: str) -> ExpressionError:
+        return ExpressionError(f"{self.text!r}: {why}")
+
+    def _check(self, node: ast.expr) -> None:
+        """Refuses whatever is not of the language."""
+        if isinstance(node, ast.BoolOp):
+            self._check_all(node.values)
+        elif isinstance(node, ast.UnaryOp) and isinstance(node.op, ast.Not):
+            self._check(node.operand)
+        elif isinstance(node, ast.Compare) and all(type(it) in _OPERATORS for it in node.ops):
+            self._check_all([node.left, *node.comparators])
+            self._check_texts(node)
+        elif isinstance(node, ast.Attribute):
+            self._check_attribute(node)
+        elif isinstance(node, ast.Call):
+            self._check_call(node)
+        elif isinstance(node, (ast.Tuple, ast.List, ast.Set)):
+            self._check_all(node.elts)
+        elif not (isinstance(node, ast.Constant) and isinstance(node.value, (str, int, bool, type(None)))):
+            raise self._fault(f"{ast.unparse(node)} says nothing here")
+
+    def _check_all(self, nodes: Iterable[ast.expr]) -> None:
+        for node in nodes:
+            self._check(node)
+
+    def _check_attribute(self, node: ast.Attribute) -> None:
+        """An answer, a field of one, or a field of a reservation."""
+        if isinstance(node.value, ast.Name):
+            self._check_name(f"{node.value.id}.{node.attr}", self._names)
+            return
+        self._check(node.value)
+        fields = _RESERVATION_FIELDS if isinstance(node.value, ast.Call) else FIELDS
+        if not isinstance(node.value, (ast.Call, ast.Attribute)) or node.attr not in fields:
+            raise self._fault(f"there is no field {node.attr}; there are {', '.join(fields)}")
+
+    def _check_name(self, name: str, known: Set[str]) -> None:
+        if name not in known:
+            near = difflib.get_close_matches(name, sorted(known), 1, 0.5)
+            also = f"; did you mean {near[0]}?" if near else f"; there are {', '.join(sorted(known))}"
+            raise self._fault(f"there is no answer {name}{also}")
+
+    def _check_call(self, node: ast.Call) -> None:
+        name = node.func.id if isinstance(node.func, ast.Name) else ast.unparse(node.func)
+        if name not in _CALLS or node.keywords or len(node.args) != _CALLS[name]:
+            raise self._fault(f"{ast.unparse(node)}: there are implies(P, Q), reservation(N) and block(N, LBA)")
+        self._check_all(node.args)
+        if name == "implies":
+            return
+        numbers = [it.value if isinstance(it, ast.Constant) else None for it in node.args]
+        if name == "reservation" and numbers[0] not in self._plan.configuration.namespaces:
+            raise self._fault(f"the script has no namespace {ast.unparse(node.args[0])}")
+        if name == "block" and tuple(numbers) not in self._watched:
+            raise self._fault(f"the script writes no block {', '.join(map(ast.unparse, node.args))}")
+
+    def _check_texts(self, node: ast.Compare) -> None:
+        """Refuses a comparison with a text that the answer can never be."""
+        sides = [node.left, *node.comparators]
+        lines = [self._plan.by_name[name].line for name in map(_answer_name, sides) if name in self._plan.by_name]
+        constants: List[ast.expr] = []
+        for side in sides:
+            constants += side.elts if isinstance(side, (ast.Tuple, ast.List, ast.Set)) else [side]
+        for text in (it.value for it in constants if isinstance(it, ast.Constant) and isinstance(it.value, str)):
+            for line in lines:
+                known = texts_of(line)
+                if text not in known:
+                    near = difflib.get_close_matches(text, sorted(known), 1, 0.5)
+                    also = f"; did you mean {near[0]!r}?" if near else ""
+                    raise self._fault(f"no answer of a {line.verb} is {text!r}{also}")
+
+    def _evaluate(self, node: ast.expr, values: Values) -> Any:
+        """The value of an expression that was checked."""
+        if isinstance(node, ast.BoolOp):
+            decide = all if isinstance(node.op, ast.And) else any
+            return decide(self._plain(self._evaluate(it, values)) for it in node.values)
+        if isinstance(node, ast.UnaryOp):
+            return not self._plain(self._evaluate(node.operand, values))
+        if isinstance(node, ast.Compare):
+            return self._compare(node, values)
+        if isinstance(node, ast.Attribute):
+            if isinstance(node.value, ast.Name):
+                return values.answers[f"{node.value.id}.{node.attr}"]
+            whole = self._evaluate(node.value, values)
+            return whole[node.attr] if isinstance(whole, dict) else getattr(whole, node.attr)
+        if isinstance(node, ast.Call):
+            return self._call(node, values)
+        if isinstance(node, (ast.Tuple, ast.List, ast.Set)):
+            return tuple(self._plain(self._evaluate(it, values)) for it in node.elts)
+        assert isinstance(node, ast.Constant)
+        return node.value
+
+    def _compare(self, node: ast.Compare, values: Values) -> bool:
+        sides = [self._plain(self._evaluate(it, values)) for it in (node.left, *node.comparators)]
+        return all(_OPERATORS[type(it)](sides[n], sides[n + 1]) for n, it in enumerate(node.ops))
+
+    def _call(self, node: ast.Call, values: Values) -> Any:
+        assert isinstance(node.func, ast.Name)
+        arguments = [self._plain(self._evaluate(it, values)) for it in node.args]
+        if node.func.id == "implies":
+            return not arguments[0] or bool(arguments[1])
+        if node.func.id == "block":
+            return values.blocks[arguments[0], arguments[1]].rstrip(b"\0").hex()
+        told = values.reservations[arguments[0]]
+        holder: Scalar = "all" if told.is_held_by_all else told.holder
+        return {"type": int(told.rtype), "name": told.rtype.text, "holder": holder, "generation": told.generation,
+                "is_protected": told.is_protected, "registrants": tuple(told.registrants)}
+
+    def _plain(self, value: Any) -> Any:
+        """An answer as its text."""
+        return value.text if isinstance(value, Value) else value
+
+
+def _answer_name(node: ast.expr) -> str:
+    """The name of an answer that stands for its text, or an empty text."""
+    if isinstance(node, ast.Attribute) and isinstance(node.value, ast.Name):
+        return f"{node.value.id}.{node.attr}"
+    if isinstance(node, ast.Attribute) and node.attr == "text":
+        return _answer_name(node.value)
+    return ""
+
+
+def _watched(lines: Iterable[str]) -> Set[Any]:
+    """The blocks that these lines look at, each a namespace and a block."""
+    found: Set[Any] = set()
+    for line in lines:
+        nsid, slba, count = map(int, line.split(" ")[1:])
+        found |= {(nsid, slba + n) for n in range(count)}
+    return found

@@ -1,0 +1,55 @@
+"""What an order comes to, and how many orders come to the same."""
+from __future__ import annotations
+
+from dataclasses import dataclass
+from typing import Dict, Iterable, List, Tuple
+
+from .plan import Order
+
+Labels = Tuple[Tuple[str, str], ...]
+
+
+@dataclass(frozen=True)
+class Outcome:
+    """What an order comes to: the answer of each event by its name, and what looking lines told behind the last."""
+
+    labels: Labels
+    last: Tuple[str, ...]
+
+
+@dataclass(frozen=True)
+class Ways:
+    """The orders that come to the same: how many, and one that is told most shortly.
+
+    That is one in which the parts change least often; of several the first, part by part as the script has them.
+    """
+
+    count: int
+    changes: int
+    order: Order
+
+    def joined(self, other: Ways) -> Ways:
+        """These orders and others that come to the same."""
+        best = min((self.changes, self.order), (other.changes, other.order))
+        return Ways(self.count + other.count, *best)
+
+    def longer(self, choice: int, is_change: bool) -> Ways:
+        """The same orders with one event more."""
+        return Ways(self.count, self.changes + is_change, (*self.order, choice))
+
+
+Findings = Dict[Outcome, Ways]
+
+
+def joined(parts: Iterable[Findings]) -> Findings:
+    """What several explorations found, together."""
+    found: Findings = {}
+    for part in parts:
+        for outcome, ways in part.items():
+            found[outcome] = found[outcome].joined(ways) if outcome in found else ways
+    return found
+
+
+def ranked(found: Findings) -> List[Tuple[Outcome, Ways]]:
+    """Outcomes as they are shown: by the order that tells them, which no two share."""
+    return sorted(found.items(), key=lambda it: (it[1].changes, it[1].order))

@@ -1,0 +1,192 @@
+"""The marked parts of a script, and the orders in which their events can come.
+
+A comment `# host NAME` begins a part: its events keep their order, and come in any order with those of other parts. A
+comment `# then` ends the parts before it: what follows comes behind them, in its own order. Events before the first mark
+come first, in their order.
+"""
+from __future__ import annotations
+
+import re
+from dataclasses import dataclass
+from math import comb
+from typing import Dict, Iterator, List, Optional, Tuple
+
+from ..errors import ScriptError
+from ..script import Configuration, LineKind, ScriptLine, configuration_of, read_lines
+
+BEFORE = "before"
+"""The name of the part before all marks."""
+THEN = "then"
+"""The name of the parts behind a mark `# then`."""
+
+_MARK = re.compile(r"#[ \t]+(?:host[ \t]+([A-Za-z_]\w*)|(then))[ \t\r]*\Z", re.ASCII)
+
+Choice = int
+Order = Tuple[Choice, ...]
+
+
+@dataclass(frozen=True)
+class Step:
+    """An event of a part: its name, such as `a.write1`, its part, and its line."""
+
+    name: str
+    part: str
+    line: ScriptLine
+
+
+@dataclass(frozen=True)
+class Phase:
+    """Parts whose events come in any order with one another. Phases come one after the other."""
+
+    parts: Tuple[Tuple[Step, ...], ...]
+
+    @property
+    def length(self) -> int:
+        """How many events it has."""
+        return sum(map(len, self.parts))
+
+    @property
+    def orders(self) -> int:
+        """How many orders it has."""
+        count, placed = 1, 0
+        for part in self.parts:
+            placed += len(part)
+            count *= comb(placed, len(part))
+        return count
+
+
+@dataclass(frozen=True)
+class Position:
+    """How far an order is: its phase, and how many events of each part of it have come."""
+
+    phase: int
+    done: Tuple[int, ...]
+
+
+class Plan:
+    """A script with its parts.
+
+    Attributes:
+        text: the script.
+        setup: its lines up to `start`, without comments.
+        phases: its phases; the first one has the events before all marks, and may be empty.
+        configuration: what it says before `start`.
+    """
+
+    def __init__(self, text: str) -> None:
+        """Reads a script.
+
+        Raises:
+            ScriptError: it is no script, has no mark, or a part has a name that it can't have.
+        """
+        self.text = text
+        lines = list(read_lines(text))
+        self.configuration: Configuration = configuration_of(lines)
+        self.setup = [it.text for it in lines if it.kind in (LineKind.CONFIGURATION, LineKind.START)]
+        self.phases = tuple(_phases(lines))
+        self.steps = [step for phase in self.phases for part in phase.parts for step in part]
+        self.by_name = {it.name: it for it in self.steps}
+
+    @property
+    def length(self) -> int:
+        """How many events each order has."""
+        return len(self.steps)
+
+    @property
+    def orders(self) -> int:
+        """How many orders there are."""
+        count = 1
+        for phase in self.phases:
+            count *= phase.orders
+        return count
+
+    @property
+    def parts(self) -> Dict[str, int]:
+        """The parts that are marked by hosts, each with its count of events."""
+        found: Dict[str, int] = {}
+        for step in self.steps:
+            if step.part not in (BEFORE, THEN):
+                found[step.part] = found.get(step.part, 0) + 1
+        return found
+
+    def begin(self) -> Position:
+        """Where every order begins."""
+        return self._settled(0, tuple(0 for _ in self.phases[0].parts))
+
+    def choices(self, position: Position) -> List[Choice]:
+        """The parts whose next event may come, by their places in the phase; none at the end."""
+        if position.phase == len(self.phases):
+            return []
+        parts = self.phases[position.phase].parts
+        return [n for n, part in enumerate(parts) if position.done[n] < len(part)]
+
+    def step(self, position: Position, choice: Choice) -> Step:
+        """The event that comes by a choice."""
+        return self.phases[position.phase].parts[choice][position.done[choice]]
+
+    def after(self, position: Position, choice: Choice) -> Position:
+        """How far an order is behind that."""
+        done = tuple(it + (n == choice) for n, it in enumerate(position.done))
+        return self._settled(position.phase, done)
+
+    def _settled(self, number: int, done: Tuple[int, ...]) -> Position:
+        """Phases that are done are left."""
+        while sum(done) == self.phases[number].length:
+            number += 1
+            if number == len(self.phases):
+                return Position(number, ())
+            done = tuple(0 for _ in self.phases[number].parts)
+        return Position(number, done)
+
+    def steps_of(self, order: Order) -> Iterator[Step]:
+        """The events of an order, or of its beginning."""
+        position = self.begin()
+        for choice in order:
+            yield self.step(position, choice)
+            position = self.after(position, choice)
+
+    def completed(self, order: Order) -> Order:
+        """An order that goes on as long as it can with the first part that has an event left."""
+        position = self.begin()
+        for choice in order:
+            position = self.after(position, choice)
+        rest: List[Choice] = []
+        while choices := self.choices(position):
+            rest.append(choices[0])
+            position = self.after(position, choices[0])
+        return order + tuple(rest)
+
+
+def _mark_of(line: ScriptLine) -> Optional[str]:
+    """The name that a mark gives, or `then`; None for another comment."""
+    found = _MARK.match(line.text) if line.kind is LineKind.COMMENT else None
+    if found is None:
+        return None
+    if found[1] in (BEFORE, THEN):
+        raise ScriptError(line.number, f"no host can be called {found[1]}")
+    return THEN if found[2] else found[1]
+
+
+def _phases(lines: List[ScriptLine]) -> Iterator[Phase]:
+    """The phases of a script."""
+    phases: List[Dict[str, List[Step]]] = [{BEFORE: []}]
+    counts: Dict[Tuple[str, str], int] = {}
+    part = BEFORE
+    is_started = False
+    for line in lines:
+        mark = _mark_of(line)
+        if mark is not None:
+            if not is_started:
+                raise ScriptError(line.number, f"the mark {line.text!r} stands before start")
+            if part in (BEFORE, THEN) or mark == THEN:
+                phases.append({})
+            part = mark
+            phases[-1].setdefault(part, [])
+        elif line.kind is LineKind.EVENT:
+            number = counts[part, line.verb] = counts.get((part, line.verb), 0) + 1
+            phases[-1][part].append(Step(f"{part}.{line.verb}{number}", part, line))
+        is_started = is_started or line.kind is LineKind.START
+    if len(phases) == 1:
+        raise ScriptError(0, "the script has no mark: a comment '# host NAME' begins the events of a host")
+    for parts in phases:
+        yield Phase(tuple(tuple(it) for it in parts.values()))

@@ -1,0 +1,149 @@
+"""Prints what an exploration found: the outcomes, an order that tells each, and counterexamples as scripts."""
+from __future__ import annotations
+
+import textwrap
+from itertools import groupby
+from typing import Dict, Iterator, List, Sequence, Tuple
+
+from ..looks import ReservationState
+from ..words import data_words, hexadecimal, shortened
+from .expressions import Expression
+from .outcomes import Findings, Outcome, Ways, ranked
+from .plan import BEFORE, THEN, Order, Plan, Step
+from .states import Looks
+from .values import Values
+
+_COLUMNS = 110
+
+
+class Check:
+    """An expression that must hold of every outcome, or of none."""
+
+    def __init__(self, expression: Expression, is_wanted: bool) -> None:
+        """`is_wanted`: whether it must always hold; else it must never."""
+        self.expression, self.is_wanted = expression, is_wanted
+
+    @property
+    def name(self) -> str:
+        """As it was asked for."""
+        return f"{'always' if self.is_wanted else 'never'} {self.expression.text}"
+
+    def is_met(self, values: Values) -> bool:
+        """Whether an outcome is as it must be."""
+        return self.expression.holds(values) is self.is_wanted
+
+
+class Report:
+    """What an exploration found, ready to be printed."""
+
+    def __init__(self, plan: Plan, found: Findings, checks: Sequence[Check] = ()) -> None:
+        """Takes the outcomes of a plan."""
+        self.plan, self.checks = plan, checks
+        self.looks = Looks(plan).last()
+        self.found: List[Tuple[Outcome, Ways]] = ranked(found)
+        self.values = [Values(plan, outcome, self.looks) for outcome, _ in self.found]
+
+    @property
+    def is_good(self) -> bool:
+        """Whether all checks are met by all outcomes."""
+        return all(check.is_met(it) for check in self.checks for it in self.values)
+
+    def lines(self) -> Iterator[str]:
+        """The whole report."""
+        told = ", ".join(f"{name} {_count(count, 'event')}" for name, count in self.plan.parts.items())
+        total = sum(ways.count for _, ways in self.found)
+        yield f"{_count(total, 'order')} of {told}: {_count(len(self.found), 'outcome')}"
+        rows = [self._rows(it) for it in self.values]
+        same = {name: text for name, text in (rows[0] if rows else {}).items() if all(it.get(name) == text for it in rows)}
+        for number, ((_, ways), row) in enumerate(zip(self.found, rows), 1):
+            yield ""
+            yield f"{number}. {_count(ways.count, 'order')}, such as"
+            yield from self._telling(ways.order)
+            yield from _table({name: text for name, text in row.items() if name not in same}, "   ")
+        if same and len(rows) > 1:
+            yield ""
+            yield "The same in all outcomes:"
+        elif same:
+            yield ""
+        yield from _table(same, "   ")
+        for check in self.checks:
+            yield from self._checked(check, total)
+
+    def _rows(self, values: Values) -> Dict[str, str]:
+        """What an outcome says, by names: requests, other events whose answers differ, and the last state."""
+        rows = {step.name: str(values.answers[step.name]) for step in self.plan.steps if step.line.is_request}
+        for step in self.plan.steps:
+            if not step.line.is_request and self._differs(step):
+                rows[step.name] = str(values.answers[step.name])
+        for nsid, told in values.reservations.items():
+            rows[f"reservation {nsid}"] = reservation_words(told)
+        for (nsid, block), data in values.blocks.items():
+            rows[f"block {nsid}:{block}"] = data_words(data)
+        if len({it.attached for it in self.values}) > 1:
+            rows["attached"] = values.attached
+        return rows
+
+    def _differs(self, step: Step) -> bool:
+        """Whether an event's answer tells outcomes apart, beyond what its request says already."""
+        found = (it.answers[step.name] for it in self.values)
+        return len({it.request or it.text for it in found}) > 1
+
+    def _telling(self, order: Order) -> Iterator[str]:
+        """An order in short: which part does what, in turn."""
+        steps = [it for it in self.plan.steps_of(order) if it.part not in (BEFORE, THEN)]
+        width = max((len(it.part) for it in steps), default=1)
+        for part, group in groupby(steps, key=lambda it: it.part):
+            text = "; ".join(shortened(" ".join(it.line.words), 48) for it in group)
+            head = f"     {part:<{width}}  "
+            yield from textwrap.wrap(text, _COLUMNS, initial_indent=head, subsequent_indent=" " * len(head),
+                                     break_on_hyphens=False)
+
+    def _checked(self, check: Check, total: int) -> Iterator[str]:
+        """Whether a check is met, and by what order it is not."""
+        broken = [it for it, values in zip(self.found, self.values) if not check.is_met(values)]
+        count = sum(ways.count for _, ways in broken)
+        yield ""
+        if not broken:
+            yield f"{check.name}: holds in all {_count(total, 'order')}"
+            return
+        yield f"{check.name}: fails in {count} of {_count(total, 'order')}, for instance by this script:"
+        yield ""
+        yield from script_of(self.plan, broken[0][1].order)
+
+    def counterexample(self) -> str:
+        """The first counterexample as a script; an empty text where all checks are met."""
+        for check in self.checks:
+            for (_, ways), values in zip(self.found, self.values):
+                if not check.is_met(values):
+                    return "".join(f"{it}\n" for it in script_of(self.plan, ways.order))
+        return ""
+
+
+def script_of(plan: Plan, order: Order) -> Iterator[str]:
+    """A script that runs one order; comments say whose events follow."""
+    yield from plan.setup
+    for part, group in groupby(plan.steps_of(order), key=lambda it: it.part):
+        if part != BEFORE:
+            yield "# then" if part == THEN else f"# {part}"
+        for step in group:
+            yield step.line.text
+
+
+def reservation_words(told: ReservationState) -> str:
+    """A reservation, its holder and its registrants."""
+    held = "none"
+    if told.rtype:
+        who = "all registrants" if told.is_held_by_all or told.holder is None else f"host {hexadecimal(told.holder)}"
+        held = f"{told.rtype.text} of {who}"
+    keys = ", ".join(f"{hexadecimal(host)} key {hexadecimal(key)}" for host, key in told.registrants.items())
+    return f"{held}; registered: {keys or 'nobody'}" + ("; write protected" if told.is_protected else "")
+
+
+def _table(rows: Dict[str, str], indent: str) -> Iterator[str]:
+    width = max(map(len, rows), default=0)
+    for name, text in rows.items():
+        yield f"{indent}{name:<{width}}  {text}"
+
+
+def _count(number: int, what: str) -> str:
+    return f"{number} {what}" + ("" if number == 1 else "s")

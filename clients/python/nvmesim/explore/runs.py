@@ -1,0 +1,93 @@
+"""Runs one order: a fresh subsystem, the events in this order, and looking lines behind those that are new."""
+from __future__ import annotations
+
+from dataclasses import dataclass
+from pathlib import Path
+from typing import Dict, List, Tuple
+
+from ..errors import ConfigurationRefused, ProtocolError, ScriptError
+from ..process import Process
+from .plan import Order, Plan
+from .states import Looks
+
+_HEADS = ("ok", "started")
+
+
+@dataclass(frozen=True)
+class Seen:
+    """What an event gave: its answer, and what the looking lines behind it told."""
+
+    answer: str
+    told: Dict[str, str]
+
+
+@dataclass(frozen=True)
+class Run:
+    """One run.
+
+    Attributes:
+        first: what the looking lines told before the first event, if that was asked.
+        steps: what each event gave, in order; nothing was looked at behind the first `known` ones.
+        last: what the looking lines told behind the last event.
+        lines: how many lines were sent.
+    """
+
+    first: Dict[str, str]
+    steps: List[Seen]
+    last: Tuple[str, ...]
+    lines: int
+
+
+class Runner:
+    """Runs orders of a plan, each in a process of its own, so that several can be run at once."""
+
+    def __init__(self, plan: Plan, looks: Looks, program: Path, seconds: float) -> None:
+        """Takes the program `nvmelive`, and the time limit of an answer."""
+        self.plan, self.looks, self.program, self.seconds = plan, looks, program, seconds
+
+    def run(self, order: Order, known: int) -> Run:
+        """Runs a whole order; looking lines are asked behind its events from the one at place `known` on.
+
+        Raises:
+            ConfigurationRefused: the script's description has a fault.
+            ScriptError: a line is outside the grammar.
+            SessionError: the program ended, or does not answer.
+        """
+        steps = list(self.plan.steps_of(order))
+        setup, last = self.plan.setup, self.looks.last()
+        lines = [*setup, *(self.looks.all() if known == 0 else ())]
+        asked: List[List[str]] = []
+        for place, step in enumerate(steps):
+            asked.append(self.looks.behind(step) if place >= known else [])
+            lines += [" ".join(step.line.words), *asked[-1]]
+        lines += last
+        answers = self._answers(lines)
+        self._check(lines, answers)
+        place = len(setup)
+        first = dict(zip(lines[place:], answers[place:place + len(self.looks.all())])) if known == 0 else {}
+        place += len(first)
+        seen: List[Seen] = []
+        for looked in asked:
+            end = place + 1 + len(looked)
+            seen.append(Seen(answers[place], dict(zip(looked, answers[place + 1:end]))))
+            place = end
+        return Run(first, seen, tuple(answers[place:]), len(lines))
+
+    def _answers(self, lines: List[str]) -> List[str]:
+        """The answers of these lines, of a fresh subsystem."""
+        process = Process([self.program, "-"], self.seconds)
+        try:
+            return process.exchange(lines)
+        finally:
+            process.abandon()
+
+    def _check(self, lines: List[str], answers: List[str]) -> None:
+        """Refuses what a script is refused for, and answers that can't be."""
+        count = len(self.plan.setup)
+        for line, answer in zip(lines, answers):
+            if answer.startswith("refused line"):
+                raise ConfigurationRefused(answer[len("refused "):])
+            if answer.startswith("!"):
+                raise ScriptError(0, f"{line!r} was answered {answer!r}")
+        if any(it not in _HEADS for it in answers[:count]):
+            raise ProtocolError(f"the description was answered {answers[:count]!r}")

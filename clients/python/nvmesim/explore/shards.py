@@ -1,0 +1,115 @@
+"""Exploring in parts: which orders a part has, what it found as JSON lines, and all parts joined again."""
+from __future__ import annotations
+
+import hashlib
+import json
+import re
+from dataclasses import dataclass
+from typing import Any, Dict, Iterable, Iterator, List, Sequence, Tuple
+
+from ..errors import NvmesimError
+from .outcomes import Findings, Outcome, Ways, joined
+from .plan import Order, Plan
+
+VERSION = 1
+_PREFIXES_A_SHARD = 8
+_FORM = re.compile(r"([1-9][0-9]*)/([1-9][0-9]*)\Z")
+
+
+class ShardError(NvmesimError):
+    """Parts that can't be joined, or a part that there is not."""
+
+
+@dataclass(frozen=True)
+class Shard:
+    """The K-th of N disjoint parts of all orders, K from 1."""
+
+    number: int
+    count: int
+
+    @staticmethod
+    def parse(text: str) -> Shard:
+        """A part as `K/N`. Raises `ShardError` for anything else."""
+        found = _FORM.match(text)
+        if found is None or int(found[1]) > int(found[2]):
+            raise ShardError(f"{text!r} is no part: K/N was wanted, such as 1/8, with K from 1 to N")
+        return Shard(int(found[1]), int(found[2]))
+
+    def prefixes(self, plan: Plan) -> List[Order]:
+        """The beginnings of this part's orders: of all beginnings of one length, each N-th."""
+        return _prefixes(plan, self.count)[self.number - 1::self.count]
+
+
+def _prefixes(plan: Plan, shards: int) -> List[Order]:
+    """All beginnings of orders of the least length of which there are enough for so many parts."""
+    level: List[Tuple[Order, Any]] = [((), plan.begin())]
+    for _ in range(plan.length):
+        if shards == 1 or len(level) >= _PREFIXES_A_SHARD * shards:
+            break
+        level = [((*order, choice), plan.after(position, choice)) for order, position in level
+                 for choice in plan.choices(position)]
+    return [order for order, _ in level]
+
+
+def digest_of(plan: Plan) -> str:
+    """What tells scripts apart."""
+    return hashlib.sha256(plan.text.encode("utf-8")).hexdigest()
+
+
+def json_lines(plan: Plan, shard: Shard, found: Findings) -> Iterator[str]:
+    """What a part found: a line that says which part of what it is, and a line for each outcome."""
+    count = sum(it.count for it in found.values())
+    yield json.dumps({"explore": VERSION, "script": plan.text, "digest": digest_of(plan), "shard": shard.number,
+                      "shards": shard.count, "orders": count})
+    for outcome, ways in found.items():
+        yield json.dumps({"answers": dict(outcome.labels), "last": list(outcome.last), "orders": ways.count,
+                          "changes": ways.changes, "order": list(ways.order)})
+
+
+def _finding(line: str) -> Tuple[Outcome, Ways]:
+    """An outcome of a part."""
+    told: Dict[str, Any] = json.loads(line)
+    return (Outcome(tuple(told["answers"].items()), tuple(told["last"])),
+            Ways(told["orders"], told["changes"], tuple(told["order"])))
+
+
+def merge(parts: Sequence[Iterable[str]]) -> Tuple[Plan, Findings]:
+    """Joins the JSON lines of all parts.
+
+    Raises:
+        ShardError: they are not all parts of one exploration, each once and whole.
+    """
+    heads: List[Dict[str, Any]] = []
+    found: List[Findings] = []
+    for lines in parts:
+        try:
+            head, *rest = [it for it in lines if it.strip()]
+            heads.append(json.loads(head))
+            found.append(dict(map(_finding, rest)))
+            told = sum(it.count for it in found[-1].values())
+            if heads[-1]["explore"] != VERSION or heads[-1]["orders"] != told:
+                raise ShardError("a part is not whole, or of another version of this program")
+        except (ValueError, KeyError, TypeError, AttributeError):
+            raise ShardError("a file is not what explore --shard writes") from None
+    _check(heads)
+    plan = Plan(heads[0]["script"])
+    whole = joined(found)
+    count = sum(it.count for it in whole.values())
+    if count != plan.orders:
+        raise ShardError(f"the parts have {count} orders together, and the script {plan.orders}")
+    return plan, whole
+
+
+def _check(heads: Sequence[Dict[str, Any]]) -> None:
+    """Refuses parts of different explorations, and parts that lack or stand there twice."""
+    if not heads:
+        raise ShardError("there are no parts to join")
+    if len({(it["digest"], it["shards"]) for it in heads}) > 1:
+        raise ShardError("these are parts of different explorations")
+    numbers = sorted(it["shard"] for it in heads)
+    count = heads[0]["shards"]
+    lacking = sorted(set(range(1, count + 1)) - set(numbers))
+    if lacking:
+        raise ShardError(f"part {lacking[0]}/{count} is not there")
+    if len(numbers) > count:
+        raise ShardError("a part stands there twice")

@@ -1,0 +1,255 @@
+"""A host with a driver, as an object: one call that does all, or each event alone."""
+from __future__ import annotations
+
+from dataclasses import dataclass
+from typing import Dict, Iterable, Optional, Union
+
+from . import lines, looks
+from .answers import Polled, Refused, Reset, Rung, Up
+from .controllers import Controller, answer_of
+from .enums import (AcquireAction, ExecuteOutcome, PollOutcome, RegisterAction, ReleaseAction, ReservationType,
+                    Status)
+from .errors import NotDone, NvmeError, RequestAborted, RequestRefused
+from .history import Command
+from .lines import Bytes
+from .session import Session
+
+
+@dataclass(frozen=True)
+class Namespace:
+    """A namespace: its identifier, its blocks of 512 bytes, and whether several controllers may have it."""
+
+    number: int
+    blocks: int
+    is_shared: bool
+
+
+NamespaceLike = Union[Namespace, int]
+
+
+def nsid_of(namespace: NamespaceLike) -> int:
+    """The identifier of a namespace."""
+    return namespace.number if isinstance(namespace, Namespace) else namespace
+
+
+class Host:
+    """A host with a driver, which places requests and hands their answers up by their tickets.
+
+    `place_..` place a request and return its ticket; with `ring`, `poll` and the controller's `fetch` and `execute` the
+    caller chooses the order. The calls without `place_` do all of that for one request: they return what it gives, or
+    raise `NvmeError`.
+
+    Attributes:
+        host: its identifier.
+        controller: its controller.
+        answers: answers that were handed up while another request was waited for, by their tickets.
+    """
+
+    def __init__(self, session: Session, number: int, host: int) -> None:
+        self._session = session
+        self.host = host
+        self.controller = Controller(session, number)
+        self.answers: Dict[int, Polled] = {}
+        self._commands: Dict[int, Command] = {}
+
+    @property
+    def number(self) -> int:
+        """The number of its controller."""
+        return self.controller.number
+
+    def up(self) -> Up:
+        """Brings the driver and its controller up."""
+        return answer_of(self._session.event(lines.up(self.number)), Up)
+
+    def ring(self) -> Rung:
+        """Tells the controller of everything that was placed."""
+        return answer_of(self._session.event(lines.ring(self.number)), Rung)
+
+    def poll(self) -> Polled:
+        """Hands one answer up, if there is any."""
+        return answer_of(self._session.event(lines.poll(self.number)), Polled)
+
+    def reset(self) -> Reset:
+        """Resets the driver and its controller: all requests that wait will be handed up as aborted."""
+        return answer_of(self._session.event(lines.reset(self.number)), Reset)
+
+    def state(self) -> looks.DriverState:
+        """The driver's state and the tickets that wait. Changes nothing."""
+        return looks.driver(self._session.look(f"?driver {self.number}"), self.number)
+
+    def place(self, line: str) -> int:
+        """Places the request of a line; its ticket.
+
+        Raises:
+            RequestRefused: the driver did not take it.
+        """
+        event = self._session.event(line)
+        if isinstance(event.answer, Refused):
+            raise RequestRefused(line, event.answer.refusal)
+        if event.command is None or event.command.ticket is None:
+            raise NotDone(f"{line!r} was answered {event.text!r}")
+        self._commands[event.command.ticket] = event.command
+        return event.command.ticket
+
+    def place_read(self, namespace: NamespaceLike, slba: int, blocks: int = 1) -> int:
+        """Places a Read of 1 to 256 blocks from block `slba` on."""
+        return self.place(lines.read(self.number, nsid_of(namespace), slba, blocks))
+
+    def place_write(self, namespace: NamespaceLike, slba: int, data: Bytes, blocks: Optional[int] = None) -> int:
+        """Places a Write of data: of so many blocks, which zeros fill up, or as many as the data need."""
+        count = lines.blocks_of(data) if blocks is None else blocks
+        return self.place(lines.write(self.number, nsid_of(namespace), slba, count, data))
+
+    def place_compare(self, namespace: NamespaceLike, slba: int, data: Bytes, blocks: Optional[int] = None) -> int:
+        """Places a Compare with data, counted as those of a Write."""
+        count = lines.blocks_of(data) if blocks is None else blocks
+        return self.place(lines.compare(self.number, nsid_of(namespace), slba, count, data))
+
+    def place_zeroes(self, namespace: NamespaceLike, slba: int, blocks: int) -> int:
+        """Places a Write Zeroes on 1 to 65,536 blocks."""
+        return self.place(lines.zeroes(self.number, nsid_of(namespace), slba, blocks))
+
+    def place_flush(self, namespace: NamespaceLike) -> int:
+        """Places a Flush."""
+        return self.place(lines.flush(self.number, nsid_of(namespace)))
+
+    def place_register(self, namespace: NamespaceLike, new_key: int = 0, current_key: int = 0,
+                       action: RegisterAction = RegisterAction.REGISTER, ignore_existing_key: bool = False) -> int:
+        """Places a Reservation Register; keys have 64 bits."""
+        return self.place(lines.register(self.number, nsid_of(namespace), action, new_key, current_key,
+                                         ignore_existing_key))
+
+    def place_acquire(self, namespace: NamespaceLike, rtype: ReservationType, key: int, preempted_key: int = 0,
+                      action: AcquireAction = AcquireAction.ACQUIRE) -> int:
+        """Places a Reservation Acquire; keys have 64 bits."""
+        return self.place(lines.acquire(self.number, nsid_of(namespace), action, rtype, key, preempted_key))
+
+    def place_release(self, namespace: NamespaceLike, rtype: ReservationType, key: int,
+                      action: ReleaseAction = ReleaseAction.RELEASE) -> int:
+        """Places a Reservation Release; the key has 64 bits."""
+        return self.place(lines.release(self.number, nsid_of(namespace), action, rtype, key))
+
+    def place_report(self, namespace: NamespaceLike, dwords: int = 1024) -> int:
+        """Places a Reservation Report of 1 to 32,768 double words of 4 bytes."""
+        return self.place(lines.report(self.number, nsid_of(namespace), dwords))
+
+    def place_identify(self, cns: int, namespace: NamespaceLike = 0) -> int:
+        """Places an Identify: CNS 0 the namespace, 1 the controller, 2 its namespaces above `namespace`."""
+        return self.place(lines.identify(self.number, cns, nsid_of(namespace)))
+
+    def place_protect(self, namespace: NamespaceLike, is_protected: bool = True) -> int:
+        """Places a Set Features that protects a namespace from being written, or ends that."""
+        return self.place(lines.protect(self.number, nsid_of(namespace), int(is_protected)))
+
+    def place_protection(self, namespace: NamespaceLike) -> int:
+        """Places a Get Features: whether a namespace is protected, in double word 0 of the answer."""
+        return self.place(lines.protection(self.number, nsid_of(namespace)))
+
+    def place_attach(self, namespace: NamespaceLike, controllers: Iterable[int]) -> int:
+        """Places a Namespace Attachment that attaches these controllers, by their numbers, which rise."""
+        return self.place(lines.attach(self.number, nsid_of(namespace), controllers))
+
+    def place_detach(self, namespace: NamespaceLike, controllers: Iterable[int]) -> int:
+        """Places a Namespace Attachment that detaches these controllers, by their numbers, which rise."""
+        return self.place(lines.detach(self.number, nsid_of(namespace), controllers))
+
+    def read(self, namespace: NamespaceLike, slba: int, blocks: int = 1) -> bytes:
+        """Reads blocks: 512 bytes each."""
+        return self.finish(self.place_read(namespace, slba, blocks)).data or b""
+
+    def write(self, namespace: NamespaceLike, slba: int, data: Bytes, blocks: Optional[int] = None) -> None:
+        """Writes data to blocks from `slba` on."""
+        self.finish(self.place_write(namespace, slba, data, blocks))
+
+    def compare(self, namespace: NamespaceLike, slba: int, data: Bytes, blocks: Optional[int] = None) -> None:
+        """Compares blocks with data; raises `NvmeError` with Compare Failure where they differ."""
+        self.finish(self.place_compare(namespace, slba, data, blocks))
+
+    def zeroes(self, namespace: NamespaceLike, slba: int, blocks: int) -> None:
+        """Writes zeros to blocks."""
+        self.finish(self.place_zeroes(namespace, slba, blocks))
+
+    def flush(self, namespace: NamespaceLike) -> None:
+        """Brings what was written to the disk."""
+        self.finish(self.place_flush(namespace))
+
+    def register(self, namespace: NamespaceLike, new_key: int = 0, current_key: int = 0,
+                 action: RegisterAction = RegisterAction.REGISTER, ignore_existing_key: bool = False) -> None:
+        """Registers, unregisters or replaces this host's key."""
+        self.finish(self.place_register(namespace, new_key, current_key, action, ignore_existing_key))
+
+    def acquire(self, namespace: NamespaceLike, rtype: ReservationType, key: int, preempted_key: int = 0,
+                action: AcquireAction = AcquireAction.ACQUIRE) -> None:
+        """Acquires a reservation, or preempts the hosts with a key."""
+        self.finish(self.place_acquire(namespace, rtype, key, preempted_key, action))
+
+    def release(self, namespace: NamespaceLike, rtype: ReservationType, key: int,
+                action: ReleaseAction = ReleaseAction.RELEASE) -> None:
+        """Releases the reservation, or clears all registrations."""
+        self.finish(self.place_release(namespace, rtype, key, action))
+
+    def report(self, namespace: NamespaceLike, dwords: int = 1024) -> bytes:
+        """The bytes of a Reservation Report."""
+        return self.finish(self.place_report(namespace, dwords)).data or b""
+
+    def identify(self, cns: int, namespace: NamespaceLike = 0) -> bytes:
+        """The 4,096 bytes of an Identify."""
+        return self.finish(self.place_identify(cns, namespace)).data or b""
+
+    def protect(self, namespace: NamespaceLike, is_protected: bool = True) -> None:
+        """Protects a namespace from being written, or ends that."""
+        self.finish(self.place_protect(namespace, is_protected))
+
+    def protection(self, namespace: NamespaceLike) -> bool:
+        """Whether a namespace is protected from being written."""
+        return self.finish(self.place_protection(namespace)).value == 1
+
+    def attach(self, namespace: NamespaceLike, controllers: Iterable[int]) -> None:
+        """Attaches controllers, by their numbers, which rise."""
+        self.finish(self.place_attach(namespace, controllers))
+
+    def detach(self, namespace: NamespaceLike, controllers: Iterable[int]) -> None:
+        """Detaches controllers, by their numbers, which rise."""
+        self.finish(self.place_detach(namespace, controllers))
+
+    def finish(self, ticket: int) -> Polled:
+        """Brings a request to its end from wherever it is: rings, fetches, executes and polls as far as is needed.
+
+        Other requests of the driver may be rung and fetched on the way, and answers of theirs that are handed up are
+        kept in `answers`. They are not executed.
+
+        Raises:
+            NvmeError: the request was answered with another status than success.
+            RequestAborted: a reset met it.
+            NotDone: it can't be brought to its end, because nothing is fetched or executed any more.
+        """
+        command = self._commands.get(ticket)
+        if command is None:
+            raise NotDone(f"controller {self.number} has placed no request under ticket {ticket} here")
+        if command.polled is not None and ticket not in self.answers:
+            raise NotDone(f"the answer of ticket {ticket} of controller {self.number} was handed up before")
+        if command.reset is None and command.polled is None:
+            self._execute(command)
+        while ticket not in self.answers:
+            polled = self.poll()
+            if polled.ticket is None:
+                raise NotDone(f"ticket {ticket} of controller {self.number} was not handed up: {polled.outcome.value}")
+            self.answers[polled.ticket] = polled
+        answer = self.answers.pop(ticket)
+        line = command.line.text if command.line is not None else ""
+        if answer.outcome is PollOutcome.ABORTED or answer.status is None:
+            raise RequestAborted(line)
+        if answer.status is not Status.SUCCESSFUL_COMPLETION:
+            raise NvmeError(line, answer.status, command.rule)
+        return answer
+
+    def _execute(self, command: Command) -> None:
+        """Has a request rung, fetched and executed, as far as it is not."""
+        if command.rung is None:
+            self.ring()
+        while command.fetched is None:
+            if not self.controller.fetch(command.queue).took:
+                raise NotDone(f"controller {self.number} fetches nothing more from queue {command.queue}")
+        place = self._session.follower.place_of(command)
+        if place is not None and self.controller.execute(place).outcome is not ExecuteOutcome.POSTED:
+            raise NotDone(f"controller {self.number} has no room for a completion")

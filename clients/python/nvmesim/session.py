@@ -1,0 +1,146 @@
+"""One session with `nvmelive`: lines and their answers, and the script and transcript that they come to."""
+from __future__ import annotations
+
+from types import TracebackType
+from typing import List, Optional, Sequence, Type
+
+from .errors import ConfigurationRefused, LineError, NotDone, ProtocolError
+from .history import Event, Follower
+from .process import PathLike, Process, find_program
+from .script import LineKind, ScriptLine, read_lines
+
+SECONDS = 10.0
+"""The time limit of an answer, where none is given."""
+
+
+class Session:
+    """A session, line by line. Use it in a `with`, or close it.
+
+    Lines that set up come first, then `start`, then events. Looking lines, behind `start`, change nothing.
+    """
+
+    def __init__(self, image: Optional[PathLike] = None, program: Optional[PathLike] = None,
+                 seconds: float = SECONDS) -> None:
+        """Starts the program.
+
+        Args:
+            image: a file whose blocks of 512 bytes are the medium; None for 1,024 blocks of zeros in memory.
+            program: the program `nvmelive`; None for the one that `find_program` finds.
+            seconds: the time limit of each answer.
+
+        Raises:
+            ProgramNotFound: there is no such program.
+        """
+        self._process = Process([find_program(program), "-" if image is None else image], seconds)
+        self._lines: List[str] = []
+        self._answers: List[str] = []
+        self._raw: List[int] = []
+        self._follower: Optional[Follower] = None
+
+    def __enter__(self) -> Session:
+        return self
+
+    def __exit__(self, kind: Optional[Type[BaseException]], fault: Optional[BaseException],
+                 trace: Optional[TracebackType]) -> None:
+        self.close()
+
+    def close(self) -> int:
+        """Ends the session; the program's exit status, 0 for a session that ended well."""
+        return self._process.close()
+
+    @property
+    def script(self) -> str:
+        """The script so far: `nvmesim` runs it over an equal image, and prints the transcript."""
+        return "".join(f"{it}\n" for it in self._lines)
+
+    @property
+    def transcript(self) -> str:
+        """The answers of the events so far, as `nvmesim` prints them."""
+        return "".join(f"{it}\n" for it in self._answers)
+
+    @property
+    def is_started(self) -> bool:
+        """Whether `start` was answered."""
+        return self._follower is not None
+
+    @property
+    def follower(self) -> Follower:
+        """What is known of the commands on their way. Raises `NotDone` before `start`."""
+        if self._follower is None:
+            raise NotDone("the session was not started")
+        return self._follower
+
+    def ask(self, line: str) -> str:
+        """The answer of a line as it stands.
+
+        Raises:
+            LineError: the program did not take the line; nothing changed.
+            SessionError: the program ended, or does not answer.
+        """
+        return self.ask_all([line])[0]
+
+    def ask_all(self, lines: Sequence[str]) -> List[str]:
+        """The answers of several lines, which are sent ahead of them. Raises as `ask` does, for the first fault."""
+        answers = self._process.exchange(lines)
+        for line, answer in zip(lines, answers):
+            if answer.startswith("!"):
+                raise LineError(line, answer[1:].strip())
+        return answers
+
+    def look(self, line: str) -> str:
+        """The answer of a looking line, which begins with `?`."""
+        if not line.startswith("?"):
+            raise ValueError(f"{line!r} is no looking line")
+        return self.ask(line)
+
+    def configure(self, line: str) -> None:
+        """A line that describes the subsystem, before `start`."""
+        answer = self.ask(line)
+        if answer != "ok":
+            raise ProtocolError(f"{answer!r} does not answer the line {line!r}")
+        self._lines.append(line)
+        words = line.split()
+        if words[0] == "controller" and words[-1] == "raw":
+            self._raw.append(int(words[1], 0))
+
+    def start(self) -> None:
+        """Ends the description, and lets the events begin.
+
+        Raises:
+            ConfigurationRefused: the description has a fault; the session has ended.
+        """
+        answer = self.ask("start")
+        if answer.startswith("refused line "):
+            self.close()
+            raise ConfigurationRefused(answer[len("refused "):])
+        if answer != "started":
+            raise ProtocolError(f"{answer!r} does not answer start")
+        self._lines.append("start")
+        self._follower = Follower(self._raw)
+
+    def event(self, line: str) -> Event:
+        """One event: its answer, and the commands that it is about."""
+        follower, answer = self.follower, self.ask(line)
+        words = tuple(line.split())
+        event = follower.take(ScriptLine(len(self._lines) + 1, line, LineKind.EVENT, words), answer)
+        self._lines.append(line)
+        self._answers.append(answer)
+        return event
+
+    def run(self, script: str) -> List[Event]:
+        """Runs the lines of a script, or of a part of one, in this session; what its events gave.
+
+        Raises:
+            ScriptError: the text is no script; nothing was sent.
+        """
+        kinds = (LineKind.CONFIGURATION, LineKind.START, LineKind.EVENT)
+        wanted = [it for it in read_lines(script, self.is_started) if it.kind in kinds]
+        events: List[Event] = []
+        for line in wanted:
+            if line.kind is LineKind.EVENT:
+                events.append(self.event(line.text))
+            elif line.kind is LineKind.START:
+                self.start()
+            else:
+                self.configure(line.text)
+        return events

@@ -1,0 +1,28 @@
+"""The stand-in for nvmelive answers the examples that it knows the lines of as their transcripts do."""
+from __future__ import annotations
+
+import unittest
+
+from nvmesim.script import LineKind, read_lines
+
+from . import standin
+from .support import examples
+
+UNKNOWN = ("identify", "attachments", "raw-host", "raw-queues", "raw-full-queue", "raw-fetched")
+
+
+class StandinTest(unittest.TestCase):
+    def test_it_answers_as_the_transcripts(self) -> None:
+        for name, script, transcript in examples():
+            if name in UNKNOWN:
+                continue
+            world, told = standin.World(), ""
+            for line in read_lines(script):
+                answer = world.answer(line.text)
+                told += f"{answer}\n" if line.kind is LineKind.EVENT else ""
+            with self.subTest(name):
+                self.assertEqual(told, transcript)
+
+
+if __name__ == "__main__":
+    unittest.main()
