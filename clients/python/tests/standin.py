@@ -77,6 +77,10 @@ class Side:
     posted: Tuple[List[Tuple[Command, str, int]], List[Tuple[Command, str, int]]] = field(default_factory=lambda: ([], []))
     live: Dict[int, Command] = field(default_factory=dict)
     aborted: List[int] = field(default_factory=list)
+    counts: Dict[str, int] = field(default_factory=dict)
+
+    def add(self, what: str, count: int = 1) -> None:
+        self.counts[what] = self.counts.get(what, 0) + count
 
 
 class World:
@@ -126,6 +130,7 @@ class World:
         if side.up:
             return f"up {c} AlreadyUp"
         side.up, side.lanes, side.posted, side.room, side.fetched = True, ([], []), ([], []), [RING, RING], []
+        side.counts = {}
         return f"up {c} ok"
 
     def place(self, c: int, side: Side, words: List[str]) -> str:
@@ -155,8 +160,11 @@ class World:
     def do_ring(self, c: int, side: Side, words: List[str]) -> str:
         if not side.up:
             return f"rung {c} NotUp"
-        for it in side.lanes[0] + side.lanes[1]:
-            it.rung = True
+        for lane in (0, 1):
+            side.add(f"tail{lane}", sum(not it.rung for it in side.lanes[lane]))
+            for it in side.lanes[lane]:
+                it.rung = True
+            side.counts[f"heard{lane}"] = side.counts.get(f"taken{lane}", 0)
         return f"rung {c}"
 
     def do_fetch(self, c: int, side: Side, words: List[str]) -> str:
@@ -165,6 +173,7 @@ class World:
         if not lane or not lane[0].rung:
             return f"fetch {c} {q} idle"
         side.fetched.append(lane.pop(0))
+        side.add(f"head{q}")
         return f"fetch {c} {q} took"
 
     def do_execute(self, c: int, side: Side, words: List[str]) -> str:
@@ -174,6 +183,7 @@ class World:
         command = side.fetched.pop(place)
         status, rule, tail = self.judge(c, side.host, command)
         lane = 0 if command.verb in ADMIN else 1
+        side.add(f"posted{lane}")
         side.posted[lane].append((command, f"{status} {tail}", RING - len(side.lanes[lane])))
         return f"execute {c} {place} posted {status} {rule}"
 
@@ -185,6 +195,7 @@ class World:
         for lane in (0, 1):
             if side.posted[lane]:
                 command, text, _ = side.posted[lane].pop(0)
+                side.add(f"taken{lane}")
                 del side.live[command.ticket]
                 known = [it for it in side.live.values() if (it.verb in ADMIN) == (lane == 0)]
                 unheard = [it for it in known if it in side.lanes[lane] or it.ticket > command.head]
@@ -341,6 +352,10 @@ class World:
             tickets = [(it, "aborted") for it in side.aborted] + [(it, "live") for it in sorted(side.live)]
             parts = [f"ticket {t} lane io is {how}" for t, how in tickets]
             return " ".join((head, "state", "up" if side.up else "down", "next", str(side.next), *parts))
+        if word in ("queues", "registers"):
+            side = self.sides[numbers[0]]
+            state = f"cc {0x460001 if side.up else 0:#010x} csts {int(side.up):#010x}"
+            return f"{head} {state if word == 'registers' else of_queues(side.counts) if side.up else ''}".strip()
         space = self.spaces[numbers[0]] if numbers else Namespace(0)
         if word == "reservation":
             who = "none" if not space.rtype else "all" if space.rtype > 4 else f"{space.holder or 0:#x}"
@@ -351,6 +366,17 @@ class World:
             data = b"".join(space.data.get(numbers[1] + n, bytes(BLOCK)) for n in range(numbers[2]))
             return f"{head} {spelled(data).split()[1]}"
         raise ValueError(word)
+
+
+def of_queues(counts: Dict[str, int]) -> str:
+    told: List[str] = []
+    for lane in (0, 1):
+        head, tail = (counts.get(f"{it}{lane}", 0) % 8 for it in ("head", "tail"))
+        wraps, last = divmod(counts.get(f"posted{lane}", 0), 32)
+        heard = counts.get(f"heard{lane}", 0) % 32
+        told += [f"sq {lane} place {8192 * lane} size 8 head {head} tail {tail} to {lane}",
+                 f"cq {lane} place {8192 * lane + 4096} size 32 head {heard} tail {last} phase {1 - wraps % 2}"]
+    return " ".join(told)
 
 
 def spelled(data: bytes) -> str:

@@ -61,8 +61,7 @@ class Runner:
             asked.append(self.looks.behind(step) if place >= known else [])
             lines += [" ".join(step.line.words), *asked[-1]]
         lines += last
-        answers = self._answers(lines)
-        self._check(lines, answers)
+        answers = self._answers(setup, lines[len(setup):])
         place = len(setup)
         first = dict(zip(lines[place:], answers[place:place + len(self.looks.all())])) if known == 0 else {}
         place += len(first)
@@ -73,21 +72,24 @@ class Runner:
             place = end
         return Run(first, seen, tuple(answers[place:]), len(lines))
 
-    def _answers(self, lines: List[str]) -> List[str]:
-        """The answers of these lines, of a fresh subsystem."""
+    def _answers(self, setup: List[str], lines: List[str]) -> List[str]:
+        """The answers of these lines, of a fresh subsystem. The setup is judged before the rest is sent."""
         process = Process([self.program, "-"], self.seconds)
         try:
-            return process.exchange(lines)
+            first = process.exchange(setup)
+            self._check(setup, first)
+            if any(it not in _HEADS for it in first):
+                raise ProtocolError(f"the description was answered {first!r}")
+            answers = process.exchange(lines)
         finally:
             process.abandon()
+        self._check(lines, answers)
+        return [*first, *answers]
 
     def _check(self, lines: List[str], answers: List[str]) -> None:
-        """Refuses what a script is refused for, and answers that can't be."""
-        count = len(self.plan.setup)
+        """Refuses what a script is refused for."""
         for line, answer in zip(lines, answers):
             if answer.startswith("refused line"):
                 raise ConfigurationRefused(answer[len("refused "):])
             if answer.startswith("!"):
                 raise ScriptError(0, f"{line!r} was answered {answer!r}")
-        if any(it not in _HEADS for it in answers[:count]):
-            raise ProtocolError(f"the description was answered {answers[:count]!r}")

@@ -1,21 +1,22 @@
 """States of a subsystem as an exploration tells them apart, and what the answer of each event adds.
 
-What the looking lines tell of all hosts together (reservations, attachments, blocks, commands that were fetched) is part
-of a state. What belongs to one controller and its host alone (registers, queues, the window, the driver) is a function
-of the events on it, of their answers, and of what the commands that bring data found when they were executed; so these
-stand for it. Two states that are told the same therefore go on in the same way.
+A state is what the looking lines tell: reservations, attachments, blocks; of each controller its registers, queues,
+fetched commands and driver. Beside it stand the requests on their way, by the names of their lines, since the window
+that holds their commands and data is not looked at: a line says what its request stores, and for data that a command
+brings stands what all hosts shared when it was executed. A raw host may store anything, so all that happened to its
+controller stands for it. Two states that are told the same go on in the same way, with equal answers to equal events.
 """
 from __future__ import annotations
 
 import hashlib
-from dataclasses import dataclass, field, replace
-from typing import Dict, Iterator, List, Sequence, Tuple
+from dataclasses import dataclass
+from typing import Dict, Iterator, List, Tuple
 
-from ..errors import ProtocolError
 from ..history import check_fits
 from ..looks import fetched
 from ..script import number_of
 from .plan import Plan, Position, Step
+from .tracks import Track, labelled
 
 # Commands whose answer has something of the state that all hosts share, beside a status.
 _TELLING = ("read", "reservation_report", "identify", "get_features")
@@ -39,17 +40,29 @@ class Looks:
         """Whether blocks are looked at behind each event; else the commands that wrote stand for them."""
         self.blocks = [f"?blocks {n} {slba} {count}" for n, slba, count in self.ranges]
         self.access = [*(f"?reservation {n}" for n in self.namespaces), "?attached"]
+        self.shared = [*self.access, *(self.blocks if self.are_blocks_seen else ())]
+        self._raw = plan.configuration.raw
 
     def behind(self, step: Step) -> List[str]:
-        """The lines that are asked behind an event: what it can have changed."""
+        """The lines that are asked behind an event: what it can have changed.
+
+        An execution may change what hosts share and mark what other controllers have fetched; every other event
+        changes its own controller and host alone.
+        """
+        number = step.line.controller
+        own = self._own(number) if number in self.controllers else []
         if step.line.verb != "execute":
-            return [f"?fetched {step.line.controller}"] if step.line.controller in self.controllers else []
-        return self.all()
+            return own
+        return [*own, *(f"?fetched {it}" for it in self.controllers if it != number), *self.shared]
 
     def all(self) -> List[str]:
         """All lines that tell states apart."""
-        return [*(f"?fetched {it}" for it in self.controllers), *self.access,
-                *(self.blocks if self.are_blocks_seen else ())]
+        return [*(line for it in self.controllers for line in self._own(it)), *self.shared]
+
+    def _own(self, number: int) -> List[str]:
+        """The lines about one controller and its host."""
+        words = ("?fetched",) if number in self._raw else ("?fetched", "?driver", "?queues", "?registers")
+        return [f"{it} {number}" for it in words]
 
     def last(self) -> List[str]:
         """The lines that are asked behind the last event, for the outcome."""
@@ -76,81 +89,50 @@ def _written(plan: Plan) -> Iterator[Range]:
 
 
 @dataclass(frozen=True)
-class Track:
-    """The requests on their way through one controller, by the names of their lines."""
-
-    lanes: Tuple[Tuple[str, ...], Tuple[str, ...]] = ((), ())
-    fetched: Tuple[str, ...] = ()
-    tickets: Tuple[Tuple[str, str], ...] = ()
-
-    def placed(self, queue: int, name: str, ticket: str) -> Track:
-        """A request was placed."""
-        first, second = self.lanes
-        lanes = ((*first, name), second) if queue == 0 else (first, (*second, name))
-        return replace(self, lanes=lanes, tickets=(*self.tickets, (ticket, name)))
-
-    def took(self, queue: int) -> Track:
-        """A command was fetched; one of a raw host has no name."""
-        first, second = self.lanes
-        lane = self.lanes[queue] if queue < 2 else ()
-        name = lane[0] if lane else "?"
-        lanes = (first[1:], second) if queue == 0 else (first, second[1:])
-        return replace(self, lanes=lanes, fetched=(*self.fetched, name))
-
-    def executed(self, place: int) -> Tuple[str, Track]:
-        """The command at this place was executed."""
-        if place >= len(self.fetched):
-            raise ProtocolError(f"a command at place {place} was executed, and {len(self.fetched)} were fetched")
-        rest = (*self.fetched[:place], *self.fetched[place + 1:])
-        return self.fetched[place], replace(self, fetched=rest)
-
-    def polled(self, ticket: str) -> Tuple[str, Track]:
-        """The request with this ticket was answered or aborted."""
-        names = dict(self.tickets)
-        if ticket not in names:
-            raise ProtocolError(f"ticket {ticket} was handed up, and no request waits under it")
-        return names[ticket], replace(self, tickets=tuple(it for it in self.tickets if it[0] != ticket))
-
-    def emptied(self) -> Track:
-        """The queues are gone."""
-        return replace(self, lanes=((), ()), fetched=())
-
-
-@dataclass(frozen=True)
 class State:
-    """A state: how far the order is, what looking lines told, and what stands for each controller and for the medium."""
+    """A state of the subsystem behind some events.
+
+    Attributes:
+        position: how far the order is.
+        looks: what the looking lines told last.
+        tracks: the requests on their way through each controller.
+        raw: what stands for each raw host's controller and window: all that happened there.
+        medium: what stands for the medium where its blocks are not looked at: all that was written.
+    """
 
     position: Position
     looks: Tuple[Tuple[str, str], ...]
-    chains: Tuple[Tuple[int, bytes], ...]
+    tracks: Tuple[Tuple[int, Track], ...] = ()
+    raw: Tuple[Tuple[int, bytes], ...] = ()
     medium: bytes = b""
-    tracks: Tuple[Tuple[int, Track], ...] = field(default=(), compare=False)
 
     def next(self, plan: Plan, looks: Looks, choice: int, answer: str, told: Dict[str, str]) -> Tuple[str, State]:
         """The label of an event's answer, and the state behind it."""
         step = plan.step(self.position, choice)
         check_fits(step.line, answer)
-        number = step.line.controller
-        tracks = dict(self.tracks)
-        label, tracks[number] = _labelled(step, answer, tracks.get(number, Track()))
-        chains, medium, before = dict(self.chains), self.medium, dict(self.looks)
-        name = _executing(step, before.get(f"?fetched {number}", ""), number)
-        found = _digest(repr(sorted(before.items())).encode(), medium) if name in _TELLING else b""
-        chains[number] = _digest(chains.get(number, b""), step.name.encode(), answer.encode(), found)
+        number, seen, tracks = step.line.controller, dict(self.looks), dict(self.tracks)
+        name = _executing(step, seen.get(f"?fetched {number}", ""), number)
+        found = self._shared(looks, seen) if name in _TELLING else b""
+        label, tracks[number] = labelled(step, answer, tracks.get(number, Track()), found)
+        raw, medium = self.raw, self.medium
+        if number in plan.configuration.raw:
+            chains = dict(raw)
+            chains[number] = _digest(chains.get(number, b""), step.name.encode(), answer.encode(), found)
+            raw = tuple(sorted(chains.items()))
         if name in _WRITING and not looks.are_blocks_seen:
-            medium = _digest(medium, str(number).encode(), chains[number])
-        before.update(told)
-        return label, State(plan.after(self.position, choice), _sorted(before), tuple(sorted(chains.items())), medium,
-                            tuple(tracks.items()))
+            medium = _digest(medium, label.encode(), dict(raw).get(number, b""))
+        seen.update(told)
+        return label, State(plan.after(self.position, choice), tuple(sorted(seen.items())),
+                            tuple(sorted(tracks.items())), raw, medium)
 
-
-def _sorted(told: Dict[str, str]) -> Tuple[Tuple[str, str], ...]:
-    return tuple(sorted(told.items()))
+    def _shared(self, looks: Looks, seen: Dict[str, str]) -> bytes:
+        """What stands for all that hosts share, where a command brings data of it."""
+        return _digest(self.medium, *(seen.get(it, "").encode() for it in looks.shared))
 
 
 def first_state(plan: Plan, told: Dict[str, str]) -> State:
     """The state in which every order begins."""
-    return State(plan.begin(), _sorted(told), ())
+    return State(plan.begin(), tuple(sorted(told.items())))
 
 
 def _digest(*pieces: bytes) -> bytes:
@@ -169,25 +151,3 @@ def _executing(step: Step, told: str, number: int) -> str:
     place = number_of(step.line.words[2])
     commands = fetched(told, number)
     return commands[place].name if place < len(commands) else ""
-
-
-def _labelled(step: Step, answer: str, track: Track) -> Tuple[str, Track]:
-    """An answer without controllers and tickets, which orders number differently, by the names of requests instead."""
-    words: Sequence[str] = answer.split(" ")
-    head, rest = words[0], list(words[2:])
-    if head == "placed":
-        return head, track.placed(step.line.queue, step.name, rest[0])
-    if head == "fetch":
-        return rest[1], track.took(int(rest[0])) if rest[1] == "took" else track
-    if head == "execute" and rest[1] == "posted":
-        name, track = track.executed(int(rest[0]))
-        return " ".join((name, *rest[1:])), track
-    if head == "execute":
-        return rest[1], track
-    if head == "poll" and len(rest) > 1:
-        name, track = track.polled(rest[0])
-        return " ".join((name, *rest[1:])), track
-    is_emptied = head == "reset" or head == "up" and rest == ["ok"]
-    label = " ".join(rest) if head in ("up", "poll") else " ".join((head, *rest))
-    return label, track.emptied() if is_emptied else track
-

@@ -1,0 +1,387 @@
+"""Every order: judged by running each order by itself, over small scripts; parts, checks, and what they print."""
+from __future__ import annotations
+
+import contextlib
+import io
+import random
+import subprocess
+import sys
+import time
+import unittest
+from pathlib import Path
+from typing import Dict, List, Sequence, Tuple
+
+from nvmesim import ConfigurationRefused, ExpressionError, ProgramDied, ScriptError
+from nvmesim.__main__ import main
+from nvmesim.explore import Plan, Shard, explore, explore_shard
+from nvmesim.explore.dask import explore_on_dask
+from nvmesim.explore.expressions import Expression
+from nvmesim.explore.outcomes import Findings, Outcome, joined
+from nvmesim.explore.plan import Order
+from nvmesim.explore.report import Check, Report
+from nvmesim.explore.runs import Runner
+from nvmesim.explore.shards import ShardError, json_lines, merge
+from nvmesim.explore.states import Looks, first_state
+from nvmesim.explore.walk import Walk
+
+from .standin import World
+from .support import LIVE, PROGRAMS, RACE, SIM, STANDIN, FolderCase
+
+HEAD = """controller 1 host 0xa1
+controller 2 host 0xb2
+namespace 1 blocks 8 shared
+attached 1 1
+attached 2 1
+start
+up 1
+up 2
+"""
+SMALL = HEAD + """# host a
+write 1 1 0 1 hex:a1
+ring 1
+fetch 1 1
+execute 1 0
+# host b
+read 2 1 0 1
+ring 2
+fetch 2 1
+execute 2 0
+poll 2
+# then
+poll 1
+"""
+SHARED = HEAD + """# host a
+write 1 1 0 1 hex:a1
+ring 1
+read 1 1 0 1
+# host b
+write 1 1 0 1 hex:b2
+reset 1
+up 1
+# host c
+fetch 1 1
+execute 1 0
+poll 1
+# then
+read 2 1 0 1
+ring 2
+fetch 2 1
+execute 2 0
+poll 2
+"""
+RACE_TEXT = RACE.read_text(encoding="utf-8")
+
+
+def orders_of(plan: Plan) -> List[Order]:
+    """All orders of a plan, one by one."""
+    found: List[Order] = []
+
+    def go(order: Order, position: object) -> None:
+        choices = plan.choices(position)  # type: ignore[arg-type]
+        if not choices:
+            found.append(order)
+        for it in choices:
+            go((*order, it), plan.after(position, it))  # type: ignore[arg-type]
+
+    go((), plan.begin())
+    return found
+
+
+def one_by_one(plan: Plan) -> Dict[Outcome, int]:
+    """How many orders come to each outcome: each is run from its begin to its end in a stand-in of its own."""
+    looks, found = Looks(plan), {}  # type: Tuple[Looks, Dict[Outcome, int]]
+    places = {it.name: n for n, it in enumerate(plan.steps)}
+    for order in orders_of(plan):
+        world = World()
+        for line in plan.setup:
+            world.answer(line)
+        state = first_state(plan, {it: world.answer(it) for it in looks.all()})
+        labels: List[Tuple[str, str]] = []
+        for choice, step in zip(order, plan.steps_of(order)):
+            answer = world.answer(step.line.text)
+            label, state = state.next(plan, looks, choice, answer, {it: world.answer(it) for it in looks.behind(step)})
+            labels.append((step.name, label))
+        outcome = Outcome(tuple(sorted(labels, key=lambda it: places[it[0]])), tuple(map(world.answer, looks.last())))
+        found[outcome] = found.get(outcome, 0) + 1
+    return found
+
+
+def counts_of(found: Findings) -> Dict[Outcome, int]:
+    return {outcome: ways.count for outcome, ways in found.items()}
+
+
+def random_script(seed: int) -> str:
+    """A small script of two hosts that chance has made."""
+    chance = random.Random(seed)
+    lines = [HEAD, "register 1 1 0 0 0 0 0x11\nregister 2 1 0 0 0 0 0x22\nring 1\nring 2\nfetch 1 1\nfetch 2 1\n"
+             "execute 1 0\nexecute 2 0\n"]
+    for part, mine, other in (("a", 1, "0x22"), ("b", 2, "0x11")):
+        lines.append(f"# host {part}\n")
+        key = "0x11" if mine == 1 else "0x22"
+        kinds = (f"write {mine} 1 {{}} 1 hex:{part}{part}", f"read {mine} 1 0 2", f"acquire {mine} 1 0 1 {key} 0",
+                 f"acquire {mine} 1 2 1 {key} {other}", f"ring {mine}", f"fetch {mine} 1", f"execute {mine} 0",
+                 f"execute {mine} 1", f"poll {mine}", f"reset {mine}", f"up {mine}", f"release {mine} 1 1 1 {key}")
+        weights = (3, 2, 1, 2, 4, 5, 5, 1, 2, .3, .3, 1)
+        for kind in chance.choices(kinds, weights, k=6):
+            lines.append(kind.format(chance.randrange(2)) + "\n")
+    return "".join(lines)
+
+
+class InProcess(Runner):
+    """Runs orders in stand-ins of this process, which is quicker than programs."""
+
+    def _answers(self, setup: List[str], lines: List[str]) -> List[str]:
+        world = World()
+        return [world.answer(it) for it in (*setup, *lines)]
+
+
+def walk_of(plan: Plan, shard: Shard = Shard(1, 1)) -> Walk:
+    return Walk(InProcess(plan, Looks(plan), STANDIN, 10.0), shard.prefixes(plan))
+
+
+class PlanTest(unittest.TestCase):
+    def test_parts_and_orders(self) -> None:
+        plan = Plan(SHARED)
+        self.assertEqual((plan.parts, plan.length, plan.orders), ({"a": 3, "b": 3, "c": 3}, 16, 1680))
+        self.assertEqual(len(orders_of(plan)), 1680)
+        self.assertEqual([it.name for it in plan.steps][:6], ["before.up1", "before.up2", "a.write1", "a.ring1", "a.read1",
+                                                             "b.write1"])
+
+    def test_parts_may_go_on_and_phases_follow(self) -> None:
+        plan = Plan(HEAD + "# host a\nring 1\n# host b\nring 2\n# host a\npoll 1\n# then\npoll 2\n# host a\nring 1\n"
+                    "# host c\nring 2\n# then\npoll 1\n")
+        self.assertEqual(plan.orders, 3 * 2)
+        self.assertEqual([it.name for it in plan.steps][2:], ["a.ring1", "a.poll1", "b.ring1", "then.poll1", "a.ring2",
+                                                             "c.ring1", "then.poll2"])
+
+    def test_what_is_no_mark(self) -> None:
+        for comment in ("# host a1h never noticed", "# hosts", "#  a", "# host", "# then we read", "# host 1a", "# Host a"):
+            with self.subTest(comment), self.assertRaises(ScriptError):
+                Plan(HEAD + comment + "\nring 1\n")
+
+    def test_what_is_refused(self) -> None:
+        for text in ("# host a\n" + HEAD, HEAD + "# host then\n", HEAD + "# host before\n"):
+            with self.subTest(text), self.assertRaises(ScriptError):
+                Plan(text)
+
+
+class WalkTest(unittest.TestCase):
+    def test_counts_are_those_of_the_orders_one_by_one(self) -> None:
+        for name, text in (("small", SMALL), ("race", RACE_TEXT), ("shared", SHARED)):
+            plan = Plan(text)
+            walk = walk_of(plan)
+            with self.subTest(name):
+                found = walk.explore()
+                self.assertEqual(counts_of(found), one_by_one(plan))
+                self.assertLess(walk.statistics.runs, plan.orders)
+
+    def test_scripts_that_chance_made(self) -> None:
+        for seed in range(12):
+            plan = Plan(random_script(seed))
+            with self.subTest(seed=seed):
+                self.assertEqual(counts_of(walk_of(plan).explore()), one_by_one(plan))
+
+    def test_the_order_that_tells_an_outcome_comes_to_it_with_the_fewest_changes(self) -> None:
+        plan = Plan(RACE_TEXT)
+        for outcome, ways in walk_of(plan).explore().items():
+            world = World()
+            for line in plan.setup:
+                world.answer(line)
+            told = [world.answer(it.line.text) for it in plan.steps_of(ways.order)]
+            self.assertTrue(all(told))
+            self.assertEqual(tuple(map(world.answer, Looks(plan).last())), outcome.last)
+        self.assertEqual([ways.changes - 2 for _, ways in Report(plan, walk_of(plan).explore()).found], [2, 2, 3])
+
+    def test_parts_are_disjoint_and_give_the_same_together(self) -> None:
+        for text in (RACE_TEXT, SHARED, SMALL):
+            plan = Plan(text)
+            whole = walk_of(plan).explore()
+            for count in (1, 2, 8, 100):
+                parts = [walk_of(plan, Shard(n, count)).explore() for n in range(1, count + 1)]
+                self.assertEqual(joined(parts), whole)
+                written = [list(json_lines(plan, Shard(n, count), it)) for n, it in enumerate(parts, 1)]
+                again, found = merge(written)
+                self.assertEqual((again.text, found), (text, whole))
+                self.assertEqual(list(Report(again, found).lines()), list(Report(plan, whole).lines()))
+
+    def test_parts_that_can_not_be_joined(self) -> None:
+        plan, other = Plan(SMALL), Plan(SMALL + "poll 2\n")
+        parts = [list(json_lines(plan, Shard(n, 3), walk_of(plan, Shard(n, 3)).explore())) for n in (1, 2, 3)]
+        strange = list(json_lines(other, Shard(3, 3), walk_of(other, Shard(3, 3)).explore()))
+        for wrong in ([], parts[:2], [*parts, parts[0]], [*parts[:2], parts[2][:-1]], [*parts[:2], strange],
+                      [*parts[:2], ["no json"]], [*parts[:2], []], [*parts[:2], ["{}"]]):
+            with self.assertRaises(ShardError):
+                merge(wrong)
+        for text in ("0/1", "2/1", "1", "1/0", "a/b", "1/8 ", "-1/8"):
+            with self.assertRaises(ShardError):
+                Shard.parse(text)
+
+
+class ProgramTest(FolderCase):
+    def test_the_race_over_programs(self) -> None:
+        for program in PROGRAMS:
+            with self.subTest(program):
+                found = explore(Plan(RACE_TEXT), program, jobs=4)
+                self.assertEqual(sorted(it.count for it in found.values()), [60, 66, 126])
+
+    def test_parts_as_a_cluster_runs_them(self) -> None:
+        class Cluster:
+            """Stands in for a client of Dask."""
+
+            def map(self, call: object, given: Sequence[object]) -> List[object]:
+                return [call(it) for it in given]  # type: ignore[operator]
+
+            def gather(self, futures: List[object]) -> List[object]:
+                return futures
+
+        plan = Plan(SMALL)
+        found = explore_on_dask(plan, "tcp://nowhere:1", 3, str(STANDIN), 10.0, Cluster())
+        self.assertEqual(found, explore(plan, STANDIN))
+        self.assertEqual(joined([explore_shard(SMALL, Shard(n, 2), STANDIN) for n in (1, 2)]), found)
+
+    def test_what_the_program_refuses(self) -> None:
+        with self.assertRaises(ConfigurationRefused):
+            explore(Plan(SMALL.replace("attached 1 1", "attached 1 2")), STANDIN)
+        with self.assertRaises(ProgramDied):
+            explore(Plan(SMALL), self.program("sys.exit(4)\n"))
+
+    @unittest.skipUnless(LIVE, "NVMELIVE does not name the program")
+    def test_orders_over_the_program_are_those_of_the_stand_in(self) -> None:
+        for text in (SMALL, SHARED, *map(random_script, range(6))):
+            plan = Plan(text)
+            with self.subTest(text):
+                self.assertEqual(explore(plan, LIVE, jobs=4), walk_of(plan).explore())
+
+    @unittest.skipUnless(LIVE, "NVMELIVE does not name the program")
+    def test_924_orders_take_two_seconds(self) -> None:
+        text = RACE_TEXT.replace("poll 1\n# host b", "poll 1\npoll 1\n# host b").replace("poll 2\n# then", "poll 2\npoll 2\n# then")
+        plan = Plan(text)
+        self.assertEqual((plan.orders, plan.parts), (924, {"a": 6, "b": 6}))
+        begun = time.monotonic()
+        found = explore(plan, LIVE, jobs=4)
+        took = time.monotonic() - begun
+        self.assertEqual(sum(it.count for it in found.values()), 924)
+        print(f"924 orders: {took:.2f} seconds", file=sys.stderr)
+        self.assertLess(took, 2.0)
+
+    @unittest.skipUnless(SIM, "NVMESIM does not name the program")
+    def test_counterexamples_are_scripts(self) -> None:
+        plan = Plan(RACE_TEXT)
+        found = walk_of(plan).explore()
+        report = Report(plan, found, [Check(Expression("a.write1 == 'Reservation Conflict'", plan), False)])
+        done = subprocess.run([str(SIM)], input=report.counterexample(), capture_output=True, text=True, timeout=60)
+        self.assertEqual(done.returncode, 0)
+        self.assertIn("posted 0:83 7", done.stdout)
+
+
+class ExpressionTest(unittest.TestCase):
+    def setUp(self) -> None:
+        self.plan = Plan(RACE_TEXT)
+        self.report = Report(self.plan, walk_of(self.plan).explore())
+        self.blocks = Looks(self.plan).blocks
+
+    def truths(self, text: str) -> List[bool]:
+        """Whether an expression holds of each outcome: it lands, it is refused, it is aborted."""
+        expression = Expression(text, self.plan, self.blocks)
+        return [expression.holds(it) for it in self.report.values]
+
+    def test_what_they_say(self) -> None:
+        for text, wanted in (
+                ("a.write1 == 'Successful Completion'", [True, False, False]),
+                ("a.write1 != 'Successful Completion'", [False, True, True]),
+                ("a.write1.rule == 7", [False, True, False]),
+                ("a.write1.rule in (1, 7)", [False, True, True]),
+                ("0 < a.write1.rule < 7", [False, False, True]),
+                ("a.write1.status == '0:1b'", [False, False, True]),
+                ("a.write1.executed == 'Reservation Conflict'", [False, True, False]),
+                ("a.execute1.request == 'a.write1'", [True, True, True]),
+                ("a.fetch1 == 'took' and not a.poll1 == 'nothing'", [True, True, True]),
+                ("block(1, 0) == 'a1'", [True, False, False]),
+                ("then.read1.data in ('a1', '')", [True, True, True]),
+                ("reservation(1).holder == 0xb2 and reservation(1).type == 1", [True, True, True]),
+                ("0xa1 in reservation(1).registrants", [False, False, False]),
+                ("reservation(1).name == 'Write Exclusive'", [True, True, True]),
+                ("implies(a.write1.rule == 0, block(1, 0) == 'a1')", [True, True, True]),
+                ("a.write1 == 'Reservation Conflict' or b.acquire1 == 'aborted'", [False, True, False]),
+                ("True", [True, True, True])):
+            with self.subTest(text):
+                self.assertEqual(self.truths(text), wanted)
+
+    def test_what_they_can_not_say(self) -> None:
+        for text in ("", "a.", "a.write2 == 'aborted'", "c.write1", "a.write1 == 'Reservation Conflct'", "write1",
+                     "a.fetch1 == 'Successful Completion'", "a.write1 in ('aborted', 'abortd')", "a.write1.rules == 1",
+                     "__import__('os').system('true')", "a.write1.__class__", "(lambda: 1)()", "[x for x in (1,)]",
+                     "a.write1 is None", "1 + 1", "f'{a}'", "open('x')", "reservation(2).holder", "block(1, 1)",
+                     "block(1)", "implies(True)", "reservation(1).keys", "'a'.upper()", "(1).real", "a.write1[0]",
+                     "x := 1", "exit()", "a.write1; b.poll1", "1.5 == 1", "b'x' == 1", "...", "-1 == 1"):
+            with self.subTest(text), self.assertRaises(ExpressionError):
+                Expression(text, self.plan, self.blocks)
+
+    def test_comparisons_that_fail(self) -> None:
+        with self.assertRaises(ExpressionError):
+            self.truths("a.write1.rule < 'x'")
+
+    def test_near_names_are_offered(self) -> None:
+        with self.assertRaisesRegex(ExpressionError, "did you mean a.write1"):
+            Expression("a.wirte1 == 'aborted'", self.plan)
+        with self.assertRaisesRegex(ExpressionError, "did you mean 'Reservation Conflict'"):
+            Expression("a.write1 == 'Reservation Conflct'", self.plan)
+
+
+class CommandTest(FolderCase):
+    def run_command(self, *words: str) -> Tuple[int, str, str]:
+        told, wrong = io.StringIO(), io.StringIO()
+        with contextlib.redirect_stdout(told), contextlib.redirect_stderr(wrong):
+            status = main(words)
+        return status, told.getvalue(), wrong.getvalue()
+
+    def explored(self, *words: str) -> Tuple[int, str, str]:
+        return self.run_command("explore", "--program", str(STANDIN), *words)
+
+    def test_a_report_and_its_status(self) -> None:
+        status, told, _ = self.explored(str(RACE), "--never", "a.write1 == 'unanswered'")
+        self.assertEqual(status, 0)
+        self.assertIn("252 orders of a 5 events, b 5 events: 3 outcomes", told)
+        self.assertIn("holds in all 252 orders", told)
+        example = self.folder / "found.nvme"
+        status, told, _ = self.explored(str(RACE), "--always", "a.write1.rule == 0", "--counterexample", str(example))
+        self.assertEqual(status, 1)
+        self.assertIn("fails in 126 of 252 orders", told)
+        self.assertIn(example.read_text(encoding="utf-8"), told)
+
+    def test_parts_and_their_merge(self) -> None:
+        _, whole, _ = self.explored(str(RACE))
+        files: List[str] = []
+        for number in range(1, 9):
+            status, told, _ = self.explored(str(RACE), "--shard", f"{number}/8")
+            self.assertEqual(status, 0)
+            files.append(str(self.folder / f"{number}.jsonl"))
+            Path(files[-1]).write_text(told, encoding="utf-8")
+        self.assertEqual(self.run_command("explore", "--merge", *files)[:2], (0, whole))
+        self.assertEqual(self.run_command("explore", "--always", "a.write1.rule == 0", "--merge", *files)[0], 1)
+        self.assertEqual(self.run_command("explore", "--merge", *files[:7])[0], 2)
+
+    def test_what_can_not_be_done(self) -> None:
+        for words in ((), (str(RACE), "--shard", "9/8"), (str(RACE), "--always", "a.nothing1"), ("absent.nvme",),
+                      (str(RACE), "--merge", "x"), (str(RACE), "--shard", "1/2", "--always", "True"),
+                      (str(RACE), "--jobs", "0")):
+            with self.subTest(words):
+                status, told, wrong = self.explored(*words)
+                self.assertEqual((status, told, wrong.count("\n"), wrong[:9]), (2, "", 1, "nvmesim: "))
+
+    def test_explain_and_timeline(self) -> None:
+        status, told, _ = self.run_command("explain", str(RACE), "--program", str(STANDIN), "--width", "300")
+        self.assertEqual(status, 0)
+        self.assertIn("host b2h's driver hands up the answer of ticket 2", told)
+        page = self.folder / "page.html"
+        status, _, _ = self.run_command("timeline", str(RACE), "--program", str(STANDIN), "-o", str(page))
+        self.assertEqual(status, 0)
+        self.assertIn("<h1>preempt-race.nvme</h1>", page.read_text(encoding="utf-8"))
+        transcript = self.folder / "wrong.out"
+        transcript.write_text("up 1 ok\n", encoding="utf-8")
+        status, _, wrong = self.run_command("explain", str(RACE), str(transcript))
+        self.assertEqual((status, wrong), (2, "nvmesim: the script has 32 events, and the transcript 1 lines\n"))
+
+
+if __name__ == "__main__":
+    unittest.main()
