@@ -31,7 +31,7 @@ def find_program(given: Optional[PathLike] = None, name: str = "nvmelive", varia
     Raises:
         ProgramNotFound: there is none that can be run.
     """
-    named = given if given is not None else os.environ.get(variable)
+    named = given if given is not None else os.environ.get(variable) or None
     if named is not None:
         found = shutil.which(os.fspath(named))
         if found is None:

@@ -12,7 +12,7 @@ PACKAGE = Path(__file__).resolve().parents[1]
 TOP = PACKAGE.parents[1]
 DATA = TOP / "crates" / "nvme_examples" / "data"
 STANDIN = Path(__file__).with_name("standin.py")
-RACE = Path(__file__).with_name("preempt-race.nvme")
+RACE = PACKAGE / "examples" / "preempt-race.nvme"
 
 
 def _program(variable: str) -> Optional[Path]:
