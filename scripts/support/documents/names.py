@@ -10,7 +10,7 @@ from support.documents.texts import Document, Finding, crates, uses
 PATH = re.compile(r"(?:\./)?[\w.*-]+(?:/[\w.*{},-]+)*/?$")
 FILE = re.compile(r"[\w-]+\.(?:md|rt|antt|py|txt|nvme|svg|edit|record|1)$")
 PLACE = re.compile(r"\b(?:NAME|CRATE|TOPIC|TYPE|FUNCTION|MEANING)\b")
-FOLDERS = ("crates", "docs", "scripts", "bench", "man", ".ci")
+FOLDERS = ("crates", "docs", "scripts", "bench", "man", ".ci", "clients")
 PARTS = ("src", "specs", "proofs", "data", "must-fail", "wrong-bodies")
 CRATE = re.compile(r"(?:nvme|script|part|fleet|controller)_[a-z0-9_]+$")
 WORD = re.compile(r"[A-Za-z_]\w*")

@@ -59,7 +59,7 @@ def copy_of(top: Path, room: Path) -> Path:
     copy = room / "copy"
     shutil.copytree(top / "crates", copy / "crates", ignore=shutil.ignore_patterns("out"))
     for name in FOLDERS:
-        shutil.copytree(top / name, copy / name, ignore=shutil.ignore_patterns("__pycache__"))
+        shutil.copytree(top / name, copy / name, ignore=shutil.ignore_patterns("__pycache__", "out"))
     for name in TOP_TEXTS:
         shutil.copy(top / name, copy / name)
     return copy

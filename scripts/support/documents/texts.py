@@ -7,7 +7,7 @@ from typing import Iterator, List, Optional, Tuple
 
 # Texts that people read: these at the top, and all files with these endings in these folders.
 TOP_TEXTS = ("README.md", "CONTRIBUTING.md", "CHANGELOG.md", "nvmesim", "crates.txt")
-FOLDERS = ("docs", "man", "scripts", "bench", ".ci")
+FOLDERS = ("docs", "man", "scripts", "bench", ".ci", "clients")
 CRATE_PARTS = ("src", "specs", "proofs")
 
 FENCE = re.compile(r"^(```+|~~~+)\s*(\w*)\s*$")
@@ -117,7 +117,7 @@ def anchor_of(heading: str) -> str:
 
 def documents(top: Path) -> List[Document]:
     """All documents of the repository, in order."""
-    paths = [*sorted(top.glob("*.md")), *sorted((top / "docs").glob("**/*.md"))]
+    paths = [*sorted(top.glob("*.md")), *sorted((top / "docs").glob("**/*.md")), *sorted(top.glob("clients/*.md"))]
     return [Document(str(it.relative_to(top)), it.read_text(encoding="utf-8")) for it in paths]
 
 
@@ -129,7 +129,7 @@ def texts(top: Path) -> Iterator[Tuple[str, str]]:
     for part in CRATE_PARTS:
         paths += sorted(top.glob(f"crates/*/{part}/**/*"))
     for path in paths:
-        if path.is_file() and "__pycache__" not in path.parts:
+        if path.is_file() and not {"__pycache__", "out"} & set(path.relative_to(top).parts):
             yield str(path.relative_to(top)), path.read_text(encoding="utf-8", errors="replace")
 
 

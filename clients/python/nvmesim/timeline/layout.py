@@ -13,9 +13,9 @@ HEAD = 46
 """The height of the lanes' names."""
 GUTTER = 44
 """The width of the events' numbers."""
-ROWS_OF_A_PART = 45
+ROWS_OF_A_PART = 36
 """The most events of one part: a part is not broken over pages."""
-_LETTER = 6.6
+_LETTER = 7.2
 _BAR = 12
 
 

@@ -16,7 +16,7 @@ p { margin: 0 0 10px; color: var(--faint); }
 .legend { list-style: none; display: flex; flex-wrap: wrap; gap: 4px 18px; margin: 0 0 14px; padding: 0;
   font-size: 13px; }
 .legend li { display: flex; align-items: center; gap: 6px; }
-svg.part { display: block; margin: 0 0 12px; max-width: none; }
+svg.part { display: block; margin: 0 0 12px; max-width: none; overflow: visible; }
 svg text { font: 12px system-ui, "DejaVu Sans", sans-serif; fill: var(--text); }
 .lane { fill: var(--lane); } .lane.controller { fill: var(--lane-dark); }
 .lane.media { fill: none; stroke: var(--line); stroke-dasharray: 4 3; }
@@ -54,6 +54,7 @@ details { margin-top: 24px; } summary { cursor: pointer; } ol { font-size: 14px;
 code { font-family: ui-monospace, "DejaVu Sans Mono", monospace; font-size: 12.5px; }
 #details { position: fixed; left: 0; right: 0; bottom: 0; padding: 10px 24px; background: var(--lane-dark);
   border-top: 1px solid var(--line); font-size: 14px; }
+@page { size: A4 landscape; margin: 9mm; }
 @media print { :root { --ground: #fff; --text: #000; --faint: #444; --lane: #f4f4f4; --lane-dark: #e8e8e8; --line: #aaa;
   --done: #2b6cb0; --denied: #b02a14; --denied-light: #f6c9c0; --failed: #8a5200; --aborted: #6b4291; --up: #22794c; }
   * { print-color-adjust: exact; -webkit-print-color-adjust: exact; }
@@ -64,7 +65,7 @@ code { font-family: ui-monospace, "DejaVu Sans Mono", monospace; font-size: 12.5
 SCRIPT = """
 (function () {
   var panel = document.getElementById('details');
-  var items = Array.prototype.slice.call(document.querySelectorAll('.event, .command'));
+  var items = Array.prototype.slice.call(document.querySelectorAll('.part .event, .part .command'));
   var rows = Array.prototype.slice.call(document.querySelectorAll('.event'));
   function show(it) { panel.textContent = it.getAttribute('aria-label'); panel.hidden = false; }
   items.forEach(function (it) {
