@@ -21,7 +21,7 @@ from nvmesim.explore.plan import Order
 from nvmesim.explore.report import Check, Report
 from nvmesim.explore.runs import Runner
 from nvmesim.explore.shards import ShardError, json_lines, merge
-from nvmesim.explore.states import Looks, first_state
+from nvmesim.explore.states import Looks, State, first_state
 from nvmesim.explore.walk import Walk
 
 from .standin import World
@@ -69,6 +69,53 @@ fetch 2 1
 execute 2 0
 poll 2
 """
+# A raw host reads block 3 into its window, and writes block 4 from there; a host with a driver writes block 3.
+RAW = """controller 1 host 0xa1 raw
+controller 2 host 0xb2
+namespace 1 blocks 64 shared
+attached 1 1
+attached 2 1
+start
+up 2
+write32 1 0x24 0x1f0007
+write32 1 0x30 0x1000
+write32 1 0x14 0x460001
+store 1 0 hex:05000100
+store 1 24 hex:0030
+store 1 40 hex:01001f0001
+store 1 64 hex:01000200
+store 1 88 hex:0020
+store 1 104 hex:0100070001000100
+write32 1 0x1000 2
+fetch 1 0
+fetch 1 0
+execute 1 0
+execute 1 0
+store 1 0x2000 hex:0200070001
+store 1 0x2018 hex:0050
+store 1 0x2028 hex:03
+store 1 0x2040 hex:0100080001
+store 1 0x2058 hex:0050
+store 1 0x2068 hex:04
+# host a
+write32 1 0x1008 2
+fetch 1 1
+fetch 1 1
+execute 1 0
+execute 1 0
+# host b
+write 2 1 3 1 hex:b2
+ring 2
+fetch 2 1
+execute 2 0
+# then
+read 2 1 4 1
+ring 2
+fetch 2 1
+execute 2 0
+poll 2
+poll 2
+"""
 PROGRAM = LIVE or STANDIN
 RACE_TEXT = RACE.read_text(encoding="utf-8")
 
@@ -103,6 +150,22 @@ def one_by_one(plan: Plan) -> Dict[Outcome, int]:
             label, state = state.next(plan, looks, choice, answer, {it: world.answer(it) for it in looks.behind(step)})
             labels.append((step.name, label))
         outcome = Outcome(tuple(sorted(labels, key=lambda it: places[it[0]])), tuple(map(world.answer, looks.last())))
+        found[outcome] = found.get(outcome, 0) + 1
+    return found
+
+
+def one_by_one_over(plan: Plan, program: Path) -> Dict[Outcome, int]:
+    """The same over the program: each order is run from its begin to its end, and nothing is left out."""
+    looks, found = Looks(plan), {}  # type: Tuple[Looks, Dict[Outcome, int]]
+    runner = Runner(plan, looks, program, 10.0)
+    places = {it.name: n for n, it in enumerate(plan.steps)}
+    for order in orders_of(plan):
+        run = runner.run(order, 0)
+        state, labels = first_state(plan, run.first), []  # type: Tuple[State, List[Tuple[str, str]]]
+        for choice, step, seen in zip(order, plan.steps_of(order), run.steps):
+            label, state = state.next(plan, looks, choice, seen.answer, seen.told)
+            labels.append((step.name, label))
+        outcome = Outcome(tuple(sorted(labels, key=lambda it: places[it[0]])), run.last)
         found[outcome] = found.get(outcome, 0) + 1
     return found
 
@@ -257,6 +320,16 @@ class ProgramTest(FolderCase):
             plan = Plan(text)
             with self.subTest(text):
                 self.assertEqual(explore(plan, LIVE, jobs=4), walk_of(plan).explore())
+
+    @unittest.skipUnless(LIVE, "NVMELIVE does not name the program")
+    def test_counts_over_the_program_are_those_of_the_orders_one_by_one(self) -> None:
+        assert LIVE is not None
+        for name, text, outcomes in (("raw", RAW, 2), ("race", RACE_TEXT, 3), ("chance", random_script(3), 1)):
+            plan = Plan(text)
+            with self.subTest(name):
+                found = explore(plan, LIVE, jobs=4)
+                self.assertEqual(counts_of(found), one_by_one_over(plan, LIVE))
+                self.assertGreaterEqual(len(found), outcomes)
 
     @unittest.skipUnless(LIVE, "NVMELIVE does not name the program")
     def test_924_orders_take_two_seconds(self) -> None:

@@ -14,6 +14,7 @@ from .states import Looks
 from .values import Values
 
 _COLUMNS = 110
+_FEW_BLOCKS = 16
 
 
 class Check:
@@ -42,6 +43,7 @@ class Report:
         self.looks = Looks(plan).last()
         self.found: List[Tuple[Outcome, Ways]] = ranked(found)
         self.values = [Values(plan, outcome, self.looks) for outcome, _ in self.found]
+        self.blocks = list(self._block_ranges())
 
     @property
     def is_good(self) -> bool:
@@ -77,11 +79,26 @@ class Report:
                 rows[step.name] = str(values.answers[step.name])
         for nsid, told in values.reservations.items():
             rows[f"reservation {nsid}"] = reservation_words(told)
-        for (nsid, block), data in values.blocks.items():
-            rows[f"block {nsid}:{block}"] = data_words(data)
+        for nsid, first, last in self.blocks:
+            name = f"block {nsid}:{first}" if first == last else f"blocks {nsid}:{first} to {last}"
+            rows[name] = data_words(values.blocks[nsid, first])
         if len({it.attached for it in self.values}) > 1:
             rows["attached"] = values.attached
         return rows
+
+    def _block_ranges(self) -> Iterator[Tuple[int, int, int]]:
+        """Ranges of blocks that are alike in each outcome; of many blocks, those of zeros are left out."""
+        watched = list(self.values[0].blocks) if self.values else []
+        begun: List[Tuple[int, int, int]] = []
+        last: Tuple[bytes, ...] = ()
+        for nsid, block in watched:
+            found = tuple(it.blocks[nsid, block] for it in self.values)
+            if begun and found == last and begun[-1][0] == nsid and begun[-1][2] == block - 1:
+                begun[-1] = nsid, begun[-1][1], block
+            elif len(watched) <= _FEW_BLOCKS or any(it.strip(b"\0") for it in found):
+                begun.append((nsid, block, block))
+            last = found
+        yield from begun
 
     def _differs(self, step: Step) -> bool:
         """Whether an event's answer tells outcomes apart, beyond what its request says already."""

@@ -34,7 +34,7 @@ class Looks:
         """Chooses the lines for a plan."""
         self.controllers = list(plan.configuration.hosts)
         self.namespaces = list(plan.configuration.namespaces)
-        self.ranges = list(_written(plan))
+        self.ranges = list(_written(plan) if not plan.configuration.raw else _all_blocks(plan))
         total = sum(count for _, _, count in self.ranges)
         self.are_blocks_seen = total <= _MOST_BLOCKS and not plan.configuration.raw
         """Whether blocks are looked at behind each event; else the commands that wrote stand for them."""
@@ -67,6 +67,13 @@ class Looks:
     def last(self) -> List[str]:
         """The lines that are asked behind the last event, for the outcome."""
         return [*self.access, *self.blocks]
+
+
+def _all_blocks(plan: Plan) -> Iterator[Range]:
+    """All blocks, for scripts with raw hosts, whose writes no line tells."""
+    for nsid, size in plan.configuration.namespaces.items():
+        for slba in range(0, size, _MOST_A_LINE):
+            yield nsid, slba, min(_MOST_A_LINE, size - slba)
 
 
 def _written(plan: Plan) -> Iterator[Range]:
