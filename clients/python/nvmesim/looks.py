@@ -191,7 +191,8 @@ def registers(text: str, controller: int) -> Dict[str, int]:
     words = _Words(text, f"registers {controller}")
     found: Dict[str, int] = {}
     while not words.is_done:
-        found[words.word()] = words.hexadecimal()
+        name = words.word()
+        found[name] = words.hexadecimal()
     return found
 
 

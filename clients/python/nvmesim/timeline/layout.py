@@ -6,6 +6,7 @@ from typing import Dict, List, Optional, Sequence, Set, Tuple
 
 from ..history import Command, Event
 from ..script import Configuration
+from ..words import shortened
 
 ROW = 22
 """The height of an event, in pixels."""
@@ -102,7 +103,7 @@ def lay_out(events: Sequence[Event], configuration: Configuration, texts: Sequen
     for number, host in configuration.hosts.items():
         subtitle = "raw" if number in configuration.raw else "driver"
         width = max(58 if is_narrow else 84, 12 + _BAR * _most(slots, number))
-        hosts[number] = Lane("host", f"host {host:x}h", subtitle, left, width)
+        hosts[number] = Lane("host", shortened(f"host {host:x}h", 9 if is_narrow else 12), subtitle, left, width)
         left += width
         width = max(58 if is_narrow else 84, 40 + _BAR * _most(held, number))
         title = f"ctrl {number}" if is_narrow else f"controller {number}"
