@@ -16,7 +16,7 @@ from nvmesim.__main__ import main
 from nvmesim.explore import Plan, Shard, explore, explore_shard
 from nvmesim.explore.dask import explore_on_dask
 from nvmesim.explore.expressions import Expression
-from nvmesim.explore.outcomes import Findings, Outcome, joined
+from nvmesim.explore.outcomes import Findings, Outcome, in_one_form, joined
 from nvmesim.explore.plan import Order
 from nvmesim.explore.report import Check, Report
 from nvmesim.explore.runs import Runner
@@ -149,7 +149,8 @@ def one_by_one(plan: Plan) -> Dict[Outcome, int]:
             answer = world.answer(step.line.text)
             label, state = state.next(plan, looks, choice, answer, {it: world.answer(it) for it in looks.behind(step)})
             labels.append((step.name, label))
-        outcome = Outcome(tuple(sorted(labels, key=lambda it: places[it[0]])), tuple(map(world.answer, looks.last())))
+        last = tuple(in_one_form(world.answer(it)) for it in looks.last())
+        outcome = Outcome(tuple(sorted(labels, key=lambda it: places[it[0]])), last)
         found[outcome] = found.get(outcome, 0) + 1
     return found
 
@@ -260,6 +261,14 @@ class WalkTest(unittest.TestCase):
             self.assertTrue(all(told))
             self.assertEqual(tuple(map(world.answer, Looks(plan).last())), outcome.last)
         self.assertEqual([ways.changes - 2 for _, ways in Report(plan, walk_of(plan).explore()).found], [2, 2, 3])
+
+    def test_the_order_of_registrants_tells_no_outcomes_apart(self) -> None:
+        text = HEAD
+        for part, mine in (("a", 1), ("b", 2)):
+            text += f"# host {part}\nregister {mine} 1 0 0 0 0 0x{mine}\nring {mine}\nfetch {mine} 1\nexecute {mine} 0\n"
+        self.assertEqual([it.count for it in walk_of(Plan(text)).explore().values()], [70])
+        self.assertEqual(in_one_form("attached controller 10 namespace 1 controller 9 namespace 2"),
+                         "attached controller 9 namespace 2 controller 10 namespace 1")
 
     def test_parts_are_disjoint_and_give_the_same_together(self) -> None:
         for text, counts in ((RACE_TEXT, (1, 8, 100)), (SHARED, (8,)), (SMALL, (2,))):

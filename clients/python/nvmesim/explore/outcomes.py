@@ -17,6 +17,18 @@ class Outcome:
     last: Tuple[str, ...]
 
 
+def in_one_form(told: str) -> str:
+    """The answer of a looking line, with registrants and attachments in rising order: outcomes are equal without it."""
+    words = told.split(" ")
+    label, size = {"reservation": ("registrant", 4), "attached": ("controller", 4)}.get(words[0], ("", 0))
+    if label not in words:
+        return told
+    begin = words.index(label)
+    groups = [words[n:n + size] for n in range(begin, len(words), size)]
+    groups.sort(key=lambda group: [int(it, 0) for it in group[1::2]])
+    return " ".join((*words[:begin], *(word for group in groups for word in group)))
+
+
 @dataclass(frozen=True)
 class Ways:
     """The orders that come to the same: how many, and one that is told most shortly.

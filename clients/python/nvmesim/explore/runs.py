@@ -7,6 +7,7 @@ from typing import Dict, List, Tuple
 
 from ..errors import ConfigurationRefused, ProtocolError, ScriptError
 from ..process import Process
+from .outcomes import in_one_form
 from .plan import Order, Plan
 from .states import Looks
 
@@ -28,7 +29,7 @@ class Run:
     Attributes:
         first: what the looking lines told before the first event, if that was asked.
         steps: what each event gave, in order; nothing was looked at behind the first `known` ones.
-        last: what the looking lines told behind the last event.
+        last: what the looking lines told behind the last event, in one form.
         lines: how many lines were sent.
     """
 
@@ -70,7 +71,7 @@ class Runner:
             end = place + 1 + len(looked)
             seen.append(Seen(answers[place], dict(zip(looked, answers[place + 1:end]))))
             place = end
-        return Run(first, seen, tuple(answers[place:]), len(lines))
+        return Run(first, seen, tuple(map(in_one_form, answers[place:])), len(lines))
 
     def _answers(self, setup: List[str], lines: List[str]) -> List[str]:
         """The answers of these lines, of a fresh subsystem. The setup is judged before the rest is sent."""
