@@ -341,16 +341,18 @@ class ProgramTest(FolderCase):
                 self.assertGreaterEqual(len(found), outcomes)
 
     @unittest.skipUnless(LIVE, "NVMELIVE does not name the program")
-    def test_924_orders_take_two_seconds(self) -> None:
+    def test_924_orders_take_few_runs(self) -> None:
+        """How long they take is told, and not judged: other work of the machine has a part in it."""
+        assert LIVE is not None
         text = RACE_TEXT.replace("poll 1\n# host b", "poll 1\npoll 1\n# host b").replace("poll 2\n# then", "poll 2\npoll 2\n# then")
         plan = Plan(text)
         self.assertEqual((plan.orders, plan.parts), (924, {"a": 6, "b": 6}))
-        begun = time.monotonic()
-        found = explore(plan, LIVE, jobs=4)
-        took = time.monotonic() - begun
+        begun, walk = time.monotonic(), Walk(Runner(plan, Looks(plan), LIVE, 10.0), jobs=4)
+        found = walk.explore()
+        print(f"924 orders: {walk.statistics}, {time.monotonic() - begun:.2f} seconds", file=sys.stderr)
         self.assertEqual(sum(it.count for it in found.values()), 924)
-        print(f"924 orders: {took:.2f} seconds", file=sys.stderr)
-        self.assertLess(took, 2.0)
+        self.assertEqual(counts_of(found), counts_of(walk_of(plan).explore()))
+        self.assertLess(walk.statistics.runs, 100)
 
     @unittest.skipUnless(SIM, "NVMESIM does not name the program")
     def test_counterexamples_are_scripts(self) -> None:
