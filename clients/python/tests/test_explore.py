@@ -243,13 +243,13 @@ class WalkTest(unittest.TestCase):
 
     def test_scripts_that_chance_made(self) -> None:
         outcomes = 0
-        for seed in range(16):
+        for seed in range(8):
             plan = Plan(random_script(seed))
             with self.subTest(seed=seed):
                 found = walk_of(plan).explore()
                 self.assertEqual(counts_of(found), one_by_one(plan))
                 outcomes += len(found)
-        self.assertGreater(outcomes, 2 * 16)
+        self.assertGreater(outcomes, 2 * 8)
 
     def test_the_order_that_tells_an_outcome_comes_to_it_with_the_fewest_changes(self) -> None:
         plan = Plan(RACE_TEXT)
