@@ -1,0 +1,1 @@
+"""A lab: NVMe devices that are the proved subsystem, for tools that know only /dev and /sys."""

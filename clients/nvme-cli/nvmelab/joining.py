@@ -1,0 +1,165 @@
+"""Starting a lab, or joining the one that runs: labs of one CONFIG are one lab."""
+import fcntl
+import hashlib
+import json
+import os
+import select
+import shutil
+import socket
+import subprocess
+import sys
+import tempfile
+from dataclasses import dataclass
+from pathlib import Path
+from typing import Dict, List, Optional
+
+from nvmelab.configuration import Configuration, read_configuration
+from nvmelab.faults import LabFault
+
+PACKAGE = Path(__file__).resolve().parent.parent
+# What the server tells while it starts is shown where it takes longer than this: the program is being built.
+QUIET_SECONDS = 2.0
+SHOW_SECONDS = 0.2
+
+
+def base_folder() -> Path:
+    """The folder of this user's labs, which nobody else can enter."""
+    base = Path(tempfile.gettempdir()) / f"nvme-lab-{os.getuid()}"
+    try:
+        base.mkdir(mode=0o700, exist_ok=True)
+        found = base.lstat()
+    except OSError as fault:
+        raise LabFault(f"{base} can't be made: {fault.strerror}") from fault
+    if base.is_symlink() or found.st_uid != os.getuid() or found.st_mode & 0o077:
+        raise LabFault(f"{base} is not a folder of this user alone")
+    return base
+
+
+@dataclass
+class Lab:
+    """The lab of one CONFIG: its lines, its options, and where it lies."""
+    name: str
+    configuration: Configuration
+    program: List[str]
+    image: Optional[str]
+    script: Optional[str]
+    place: Path
+
+    @classmethod
+    def of(cls, name: str, program: List[str], image: Optional[str], script: Optional[str]) -> "Lab":
+        path = Path(name).resolve()
+        try:
+            text = path.read_text("ascii", "surrogateescape")
+        except OSError as fault:
+            raise LabFault(f"{name} can't be read: {fault.strerror}") from fault
+        digest = hashlib.sha256(str(path).encode("utf-8", "surrogateescape")).hexdigest()[:16]
+        return cls(name, read_configuration(text, name), program, image and str(Path(image).resolve()),
+                   script and str(Path(script).resolve()), base_folder() / digest)
+
+    @property
+    def folder(self) -> Path:
+        return self.place
+
+    @property
+    def lock(self) -> Path:
+        return self.place.with_suffix(".lock")
+
+    @property
+    def log(self) -> Path:
+        return self.place.with_suffix(".log")
+
+    @property
+    def options(self) -> Dict[str, object]:
+        """What a second lab of the same CONFIG must not say otherwise."""
+        return {"lines": self.configuration.lines, "image": self.image, "script": self.script}
+
+    def join(self, host: str) -> Path:
+        """Joins the lab as a host, with this process as one that uses it; it is started where it does not run. Gives
+        the host's view."""
+        held = os.open(self.lock, os.O_RDWR | os.O_CREAT | os.O_CLOEXEC, 0o600)
+        try:
+            fcntl.flock(held, fcntl.LOCK_EX)
+            view = self.ask_to_join(host)
+            if view is None:
+                self.start()
+                view = self.ask_to_join(host)
+            if view is None:
+                raise LabFault(f"the lab has ended at once; what it said is in {self.log}")
+            return view
+        finally:
+            os.close(held)
+
+    def ask_to_join(self, host: str) -> Optional[Path]:
+        """Joins the lab that runs; None where none does."""
+        with socket.socket(socket.AF_UNIX, socket.SOCK_STREAM) as stream:
+            try:
+                stream.connect(str(self.folder / "socket"))
+            except OSError:
+                return None
+            self.compare()
+            try:
+                stream.sendall(f"{host}\n".encode())
+                said = stream.makefile("r").readline().strip()
+            except OSError:
+                return None
+        kind, _, rest = said.partition(" ")
+        if kind == "joined":
+            return Path(rest)
+        if said:
+            raise LabFault(f"{self.name}: {said}")
+        return None
+
+    def compare(self) -> None:
+        """A lab that runs already has lines and options of its own; they must be those that are asked for."""
+        running = json.loads((self.folder / "options").read_text())
+        if running["lines"] != self.configuration.lines:
+            raise LabFault(f"{self.name} has changed since its lab was started, which still runs")
+        for option in ("image", "script"):
+            wanted = self.options[option]
+            if wanted is not None and wanted != running[option]:
+                raise LabFault(f"the lab of {self.name} runs already, without --{option} {wanted}")
+
+    def start(self) -> None:
+        """Starts the server, in a session of its own, so that no key of a terminal reaches it."""
+        shutil.rmtree(self.folder, ignore_errors=True)
+        try:
+            self.folder.mkdir(mode=0o700)
+            (self.folder / "options").write_text(json.dumps(self.options))
+            image = self.image or self.make_image()
+            words = [sys.executable, "-c", "from nvmelab.main import serve_here; serve_here()", str(self.folder),
+                     str(self.lock), self.name, image, self.script or "", *self.program]
+            with open(self.log, "wb") as log:
+                server = subprocess.Popen(words, cwd="/", env=server_environment(), stdin=subprocess.DEVNULL,
+                                          stdout=subprocess.PIPE, stderr=log, start_new_session=True)
+        except OSError as fault:
+            raise LabFault(f"the lab can't be started: {fault.strerror}: {fault.filename}") from fault
+        said = self.wait_for(server)
+        if said != "ready":
+            server.wait()
+            raise LabFault(said or f"the lab has not started; what it said is in {self.log}")
+        server.returncode = 0
+
+    def make_image(self) -> str:
+        """A file of zeros for the blocks, which takes no room until they are written, and goes with the lab."""
+        image = self.folder / "image"
+        with open(image, "wb") as file:
+            file.truncate(self.configuration.image_bytes)
+        return str(image)
+
+    def wait_for(self, server: "subprocess.Popen[bytes]") -> str:
+        """The server's first line. Meanwhile what it tells is shown, where it takes long."""
+        limit = QUIET_SECONDS
+        with server.stdout as answers, open(self.log, "rb") as log:
+            while not select.select([answers], [], [], limit)[0]:
+                limit = SHOW_SECONDS
+                sys.stderr.write(log.read().decode("utf-8", "replace"))
+                sys.stderr.flush()
+            return answers.readline().decode("utf-8", "replace").strip()
+
+
+def server_environment() -> Dict[str, str]:
+    """The server's own devices are not those of a lab in which it may be started."""
+    found = {name: value for name, value in os.environ.items() if name not in ("NVME_LAB", "LD_PRELOAD")}
+    found["PYTHONPATH"] = str(PACKAGE)
+    found["PYTHONDONTWRITEBYTECODE"] = "1"
+    return found

@@ -1,0 +1,40 @@
+"""The lines of nvmelive that look, and what their answers say."""
+from nvmelab.faults import Ended
+
+
+def refused(answer: str) -> Ended:
+    return Ended(f"the program's answer is not understood: {answer[:100]}")
+
+
+def window_line(cntlid: int, address: int, length: int) -> str:
+    return f"?window {cntlid} {address} {length}"
+
+
+def window_bytes(answer: str, length: int) -> bytes:
+    """The bytes of a window: the last word has them in hexadecimal, without the zeros at their end, `-` for none."""
+    words = answer.split()
+    if not words or answer.startswith("!"):
+        raise refused(answer)
+    digits = "" if words[-1] == "-" else words[-1]
+    try:
+        found = bytes.fromhex(digits)
+    except ValueError as fault:
+        raise refused(answer) from fault
+    if len(found) > length:
+        raise refused(answer)
+    return found + bytes(length - len(found))
+
+
+def register_line(cntlid: int, offset: int) -> str:
+    return f"?register {cntlid} {offset}"
+
+
+def register_value(answer: str) -> int:
+    """What a read of a register gives: the last word."""
+    words = answer.split()
+    if not words or answer.startswith("!"):
+        raise refused(answer)
+    try:
+        return int(words[-1], 0)
+    except ValueError as fault:
+        raise refused(answer) from fault

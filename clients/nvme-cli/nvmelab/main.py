@@ -1,0 +1,149 @@
+"""The command line of the lab."""
+import os
+import sys
+from dataclasses import dataclass, field
+from pathlib import Path
+from typing import List, NoReturn, Optional
+
+from nvmelab import configuration, server
+from nvmelab.faults import LabFault
+from nvmelab.joining import Lab
+from nvmelab.library import library
+
+PACKAGE = Path(__file__).resolve().parent.parent
+TOP = PACKAGE.parent.parent
+# What the lab itself ends with, so that a status of COMMAND's is hardly taken for it.
+FAILED, NOT_RUN, NOT_FOUND = 125, 126, 127
+
+USAGE = """\
+lab [--host H] [--image IMAGE] [--script FILE] [--program PROGRAM] CONFIG [-- COMMAND ..]
+
+Runs COMMAND, or a shell, where /dev/nvme0, /dev/nvme0n1 .. are the controllers and namespaces that CONFIG describes:
+the lines of a script before its `start`. Labs of one CONFIG that run at the same time are one lab; it ends with the
+last of their COMMANDs.
+
+--host H            see the controllers of host H alone, as its own machine does; without it those of all hosts
+--image IMAGE       keep the blocks in this file, which must be long enough; else they go with the lab
+--script FILE       write what happens as a script, which nvmesim runs again
+--program PROGRAM   take this nvmelive; else ./nvmelive of this repository, which is built on first use
+
+The status is COMMAND's; 125 where the lab fails, 126 or 127 where COMMAND can't be run or is not found.
+"""
+
+
+@dataclass
+class Words:
+    """The command line, taken apart."""
+    config: str = ""
+    command: List[str] = field(default_factory=list)
+    host: str = server.ALL_HOSTS
+    image: Optional[str] = None
+    script: Optional[str] = None
+    program: str = ""
+
+
+def take_apart(given: List[str]) -> Words:
+    found = Words(program=os.environ.get("NVMELIVE", "") or str(TOP / "nvmelive"))
+    words = iter(given)
+    for word in words:
+        if word == "--":
+            found.command = list(words)
+            if not found.command:
+                raise LabFault("there is no COMMAND behind --")
+        elif word in ("--host", "--image", "--script", "--program"):
+            value = next(words, None)
+            if value is None:
+                raise LabFault(f"{word} wants a word behind it")
+            setattr(found, word[2:], value)
+        elif word.startswith("-"):
+            raise LabFault(f"there is no option {word}; --help says which there are")
+        elif found.config:
+            raise LabFault(f"{word} stands behind CONFIG without -- before it")
+        else:
+            found.config = word
+    if not found.config:
+        raise LabFault("which CONFIG? --help says more")
+    if found.host != server.ALL_HOSTS:
+        found.host = host_name(found.host)
+    return found
+
+
+def host_name(word: str) -> str:
+    try:
+        return f"{configuration.number_of(word):#x}"
+    except ValueError as fault:
+        raise LabFault(f"--host {word} is no number") from fault
+
+
+def program_words(program: str) -> List[str]:
+    place = Path(program).resolve()
+    if not os.access(place, os.X_OK) or place.is_dir():
+        raise LabFault(f"{program} is no program; --program names an nvmelive")
+    return [str(place)]
+
+
+def library_folder() -> Path:
+    """Where the library is kept: beside its sources, where that can be written and be named to the loader."""
+    place = PACKAGE / "out"
+    try:
+        place.mkdir(exist_ok=True)
+    except OSError:
+        pass
+    is_nameable = not any(sign in str(place) for sign in " :\t\n")
+    if is_nameable and os.access(place, os.W_OK):
+        return place
+    from nvmelab.joining import base_folder
+    return base_folder()
+
+
+def run_command(command: List[str], view: Path, preloaded: Path) -> NoReturn:
+    """Becomes COMMAND: it has this process' number, and its status is its own."""
+    others = [it for it in os.environ.get("LD_PRELOAD", "").replace(":", " ").split()
+              if not Path(it).name.startswith("libnvmelab-")]
+    os.environ["LD_PRELOAD"] = ":".join([str(preloaded), *others])
+    os.environ["NVME_LAB"] = str(view)
+    try:
+        os.execvp(command[0], command)
+    except FileNotFoundError:
+        fail(f"{command[0]} is not found", NOT_FOUND)
+    except OSError as fault:
+        fail(f"{command[0]} can't be run: {fault.strerror}", NOT_RUN)
+
+
+def fail(text: str, status: int = FAILED) -> NoReturn:
+    print(f"lab: {text}", file=sys.stderr)
+    sys.exit(status)
+
+
+def tell_shell(words: Words, view: Path) -> None:
+    """Says in whose shell one is, and which devices are there."""
+    devices = " ".join(f"/dev/{it.name}" for it in sorted((view / "dev").glob("nvme*")))
+    whose = "all hosts" if words.host == server.ALL_HOSTS else f"host {words.host}"
+    print(f"lab: a shell of {whose}, with {devices}; exit leaves it", file=sys.stderr)
+
+
+def main(given: List[str]) -> NoReturn:
+    if given[:1] in (["--help"], ["-h"]):
+        print(USAGE, end="")
+        sys.exit(0)
+    try:
+        words = take_apart(given)
+        lab = Lab.of(words.config, program_words(words.program), words.image, words.script)
+        preloaded = library(library_folder())
+        view = lab.join(words.host)
+    except LabFault as fault:
+        fail(str(fault))
+    except KeyboardInterrupt:
+        fail("stopped")
+    if not words.command:
+        tell_shell(words, view)
+    run_command(words.command or [os.environ.get("SHELL") or "sh"], view, preloaded)
+
+
+def serve_here() -> NoReturn:
+    """The server's own process: what `Lab.start` names."""
+    import json
+    folder, lock, name, image, script, *program = sys.argv[1:]
+    options = json.loads((Path(folder) / "options").read_text())
+    read = configuration.read_configuration("\n".join(options["lines"]), name)
+    sys.exit(server.serve(Path(folder), Path(lock), read, name, program, image, Path(script) if script else None))

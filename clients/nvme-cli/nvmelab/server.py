@@ -1,0 +1,273 @@
+"""The server of a lab: it runs the subsystem, and carries out the commands that the preloaded libraries send.
+
+One command is under way at a time. Nothing that a client does or leaves undone stops the others: a message is read as
+it comes, and what is not whole when its connection ends is dropped.
+"""
+import errno
+import fcntl
+import os
+import selectors
+import shutil
+import signal
+import socket
+import struct
+import sys
+from pathlib import Path
+from typing import Callable, Dict, List, Optional
+
+from nvmelab import entries, protocol
+from nvmelab.configuration import Configuration
+from nvmelab.faults import Ended, LabFault
+from nvmelab.host import Host, NoQueue
+from nvmelab.protocol import Malformed, Request
+from nvmelab.subsystem import Subsystem
+from nvmelab.tree import View
+
+BACKLOG = 256
+PIECE = 1 << 18
+CREDENTIALS = struct.Struct("3i")
+# How long a lab that nobody has joined yet waits, and how long one that is being joined is asked again, in seconds.
+UNUSED_SECONDS = 30.0
+ASK_AGAIN_SECONDS = 0.1
+JOINING_SECONDS = 5.0
+LONGEST_JOINING = 256
+ALL_HOSTS = "all"
+
+
+def listen(place: Path) -> socket.socket:
+    found = socket.socket(socket.AF_UNIX, socket.SOCK_STREAM)
+    found.bind(str(place))
+    found.listen(BACKLOG)
+    found.setblocking(False)
+    return found
+
+
+class Connection:
+    """One client: what came from it, and what is still to go to it."""
+
+    def __init__(self, stream: socket.socket, view: View) -> None:
+        self.stream = stream
+        self.view = view
+        self.come = bytearray()
+        self.to_go = b""
+
+    def message(self) -> Optional[bytes]:
+        """The message, once it is whole."""
+        if len(self.come) < protocol.LENGTH.size:
+            return None
+        length, = protocol.LENGTH.unpack_from(self.come)
+        if length > protocol.LONGEST:
+            raise Malformed("too long")
+        whole = protocol.LENGTH.size + length
+        return bytes(self.come[protocol.LENGTH.size:whole]) if len(self.come) >= whole else None
+
+
+class Server:
+    """The lab of one CONFIG, in a folder of its own, which is gone when it ends."""
+
+    def __init__(self, folder: Path, lock: Path, configuration: Configuration, subsystem: Subsystem) -> None:
+        self.folder = folder
+        self.lock = lock
+        self.configuration = configuration
+        self.subsystem = subsystem
+        self.hosts: Dict[int, Host] = {}
+        self.views: Dict[str, View] = {}
+        self.users: List[int] = []
+        self.was_used = False
+        self.waiting = selectors.DefaultSelector()
+
+    def bring_up(self) -> None:
+        for cntlid in sorted(self.configuration.hosts):
+            self.hosts[cntlid] = Host(self.subsystem, cntlid)
+            self.hosts[cntlid].bring_up()
+
+    def watch(self, stream: object, call: Callable[[], None]) -> None:
+        self.waiting.register(stream, selectors.EVENT_READ, call)
+
+    def open(self) -> None:
+        """From here on processes can join."""
+        joining = listen(self.folder / "socket")
+        self.watch(joining, lambda: self.take_user(joining))
+
+    def run(self) -> None:
+        """Serves until the last process that uses the lab has ended."""
+        self.watch(self.subsystem.process.stdout, self.notice_end)
+        while True:
+            limit = None if self.users else ASK_AGAIN_SECONDS if self.was_used else UNUSED_SECONDS
+            ready = self.waiting.select(limit)
+            for key, _ in ready:
+                key.data()
+            if not self.users and (self.was_used or not ready) and self.may_end():
+                return
+
+    def may_end(self) -> bool:
+        """Whether nobody is just joining: who joins holds the lock meanwhile. It is held from here on to the end."""
+        held = os.open(self.lock, os.O_RDWR | os.O_CREAT | os.O_CLOEXEC, 0o600)
+        try:
+            fcntl.flock(held, fcntl.LOCK_EX | fcntl.LOCK_NB)
+        except OSError:
+            os.close(held)
+            return False
+        return True
+
+    def notice_end(self) -> None:
+        """The program says something unasked, or has ended."""
+        raise Ended(self.subsystem.last_words())
+
+    # Those who use the lab.
+
+    def take_user(self, joining: socket.socket) -> None:
+        """Lets a process join: it says which host it is, and is told where its devices lie. The lab lasts as long as
+        the last of these processes, whatever program each has become."""
+        self.was_used = True
+        try:
+            stream, _ = joining.accept()
+        except OSError:
+            return
+        with stream:
+            stream.settimeout(JOINING_SECONDS)
+            try:
+                wanted = stream.recv(LONGEST_JOINING).decode("ascii", "replace").strip()
+                process, _, _ = CREDENTIALS.unpack(
+                    stream.getsockopt(socket.SOL_SOCKET, socket.SO_PEERCRED, CREDENTIALS.size))
+                user = os.pidfd_open(process)
+            except OSError:
+                return
+            view = self.view_of(wanted)
+            said = f"joined {view.folder}" if view else f"no controller belongs to host {wanted}"
+            try:
+                stream.sendall(said.encode() + b"\n")
+            except OSError:
+                view = None
+        if view is None:
+            os.close(user)
+            return
+        self.users.append(user)
+        self.watch(user, lambda: self.drop_user(user))
+
+    def drop_user(self, user: int) -> None:
+        self.waiting.unregister(user)
+        self.users.remove(user)
+        os.close(user)
+
+    def view_of(self, wanted: str) -> Optional[View]:
+        """The view of a host, which is made when it is first asked for."""
+        if wanted in self.views:
+            return self.views[wanted]
+        if wanted == ALL_HOSTS:
+            cntlids = sorted(self.hosts)
+        else:
+            cntlids = self.configuration.controllers_of(int(wanted, 16)) if wanted.startswith("0x") else []
+        if not cntlids:
+            return None
+        folder = self.folder / "hosts" / wanted
+        view = View(folder, [self.hosts[cntlid] for cntlid in cntlids])
+        view.make()
+        view.refresh()
+        asked = listen(folder / "socket")
+        self.watch(asked, lambda: self.take_client(asked, view))
+        self.views[wanted] = view
+        return view
+
+    # Their commands.
+
+    def take_client(self, asked: socket.socket, view: View) -> None:
+        try:
+            stream, _ = asked.accept()
+        except OSError:
+            return
+        stream.setblocking(False)
+        client = Connection(stream, view)
+        self.watch(stream, lambda: self.hear(client))
+
+    def drop_client(self, client: Connection) -> None:
+        self.waiting.unregister(client.stream)
+        client.stream.close()
+
+    def hear(self, client: Connection) -> None:
+        """Reads what a client says; carries it out once it is whole, and begins to answer."""
+        try:
+            piece = client.stream.recv(PIECE)
+            client.come += piece
+            message = client.message()
+            request = Request.of(message) if message is not None else None
+        except BlockingIOError:
+            return
+        except (OSError, Malformed):
+            self.drop_client(client)
+            return
+        if request is not None:
+            client.to_go = self.answer_to(client.view, request)
+            self.waiting.modify(client.stream, selectors.EVENT_WRITE, lambda: self.say(client))
+            self.say(client)
+        elif not piece:
+            self.drop_client(client)
+
+    def say(self, client: Connection) -> None:
+        """Sends what is still to go to a client."""
+        try:
+            sent = client.stream.send(client.to_go)
+        except BlockingIOError:
+            return
+        except OSError:
+            self.drop_client(client)
+            return
+        client.to_go = client.to_go[sent:]
+        if not client.to_go:
+            self.drop_client(client)
+
+    def answer_to(self, view: View, request: Request) -> bytes:
+        number, nsid = request.controller, request.nsid
+        if number >= len(view.hosts) or nsid and nsid not in view.shown[number]:
+            return protocol.answer(errno.ENODEV)
+        host = view.hosts[number]
+        if request.asked == protocol.LOOK:
+            return protocol.answer(0)
+        if request.asked == protocol.RESET:
+            host.bring_up()
+            view.refresh()
+            return protocol.answer(0)
+        try:
+            completion, data = host.run(request.is_admin, request.command, request.data)
+        except NoQueue:
+            return protocol.answer(errno.EIO)
+        if request.is_admin and completion.is_success and changes_devices(request.command):
+            for each in self.views.values():
+                each.refresh()
+        return protocol.answer(0, completion.entry, data)
+
+    def end(self) -> None:
+        self.subsystem.end()
+        shutil.rmtree(self.folder, ignore_errors=True)
+
+
+def changes_devices(command: entries.Command) -> bool:
+    """Whether what hosts find under /dev and /sys may be otherwise behind an admin command."""
+    is_protection = command.double_word(10) & 0xff == entries.WRITE_PROTECTION
+    return command.opcode == entries.ATTACHMENT or command.opcode == entries.SET_FEATURES and is_protection
+
+
+def serve(folder: Path, lock: Path, configuration: Configuration, name: str, program: List[str], image: str,
+          script: Optional[Path]) -> int:
+    """Runs a lab to its end. `ready`, or the fault, goes to standard output, which is closed then."""
+    def tell(text: str) -> None:
+        os.write(1, text.encode() + b"\n")
+        os.dup2(2, 1)
+
+    signal.signal(signal.SIGTERM, lambda *_: sys.exit(0))
+    server = None
+    try:
+        subsystem = Subsystem(program, image, open(script, "wb") if script else None)
+        server = Server(folder, lock, configuration, subsystem)
+        subsystem.start(configuration, name)
+        server.bring_up()
+        server.open()
+        tell("ready")
+        server.run()
+    except (LabFault, OSError) as fault:
+        tell(str(fault))
+        return 1
+    finally:
+        if server:
+            server.end()
+    return 0
