@@ -48,7 +48,6 @@ FOUND_ONCE(open);
 FOUND_ONCE(open64);
 FOUND_ONCE(openat);
 FOUND_ONCE(openat64);
-FOUND_ONCE(opendir);
 FOUND_ONCE(readlink);
 FOUND_ONCE(readlinkat);
 FOUND_ONCE(realpath);
@@ -173,11 +172,6 @@ FILE *fopen64(const char *path, const char *mode) {
 }
 
 // Folders, links, and whether something is there.
-
-DIR *opendir(const char *path) {
-    char place[PATH_MAX];
-    return NEXT(opendir)(placed(path, place));
-}
 
 int scandir(const char *path, struct dirent ***found, int (*chosen)(const struct dirent *),
             int (*order)(const struct dirent **, const struct dirent **)) {

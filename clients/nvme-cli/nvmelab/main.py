@@ -1,5 +1,6 @@
 """The command line of the lab."""
 import os
+import signal
 import sys
 from dataclasses import dataclass, field
 from pathlib import Path
@@ -102,6 +103,9 @@ def run_command(command: List[str], view: Path, preloaded: Path) -> NoReturn:
               if not Path(it).name.startswith("libnvmelab-")]
     os.environ["LD_PRELOAD"] = ":".join([str(preloaded), *others])
     os.environ["NVME_LAB"] = str(view)
+    # Python has set these aside for itself.
+    for number in (signal.SIGPIPE, signal.SIGXFSZ):
+        signal.signal(number, signal.SIG_DFL)
     try:
         os.execvp(command[0], command)
     except FileNotFoundError:

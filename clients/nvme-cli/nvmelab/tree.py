@@ -116,6 +116,7 @@ class View:
         subsystem = self.classes("nvme-subsystem") / "nvme-subsys0"
         for folder in (subsystem, self.classes("nvme"), self.classes("nvme-generic"), self.folder / "sys" / "block"):
             folder.mkdir(parents=True)
+        self.classes("block").symlink_to(os.path.join("..", "block"))
         first = self.identities[0]
         write_files(subsystem, {
             "subsysnqn": first.subsystem, "model": text_of(first.model), "serial": text_of(first.serial),

@@ -1,0 +1,57 @@
+// client WHAT ..: tries one thing, or hammers a device.
+#include "client.h"
+
+#include <string.h>
+#include <unistd.h>
+
+// Writes blocks of its own, again and again, and finds each time what it wrote.
+void hammer(const char *device, unsigned first, unsigned rounds) {
+    int fd = open_device(device);
+    uint8_t *out = room_at(MOST, 0), *in = room_at(MOST, 0);
+    for (unsigned round = 0; round < rounds; round++) {
+        uint32_t count = 1 + round * 37 % 256;
+        fill(out, count * BLOCK, first + round);
+        CHECK_IS(on_blocks(fd, WRITE, first, count, out), SUCCESS);
+        CHECK_IS(on_blocks(fd, READ, first, count, in), SUCCESS);
+        CHECK(is_filled(in, count * BLOCK, first + round));
+    }
+    free(out);
+    free(in);
+}
+
+static const struct {
+    const char *name;
+    void (*what)(void);
+} trials[] = {
+    {"admin", try_admin}, {"queues", try_queues}, {"attachment", try_attachment}, {"blocks", try_blocks},
+    {"pointers", try_pointers}, {"reservations", try_reservations}, {"files", try_files}, {"others", try_others},
+};
+
+// `gone DEVICE SECONDS`: opens a device, waits for a byte, and says what a command then comes to.
+static int tell_gone(const char *device) {
+    int fd = open_device(device);
+    puts("open");
+    fflush(stdout);
+    getchar();
+    int status = io(fd, FLUSH, 1, 0, 0, 0, NULL, 0);
+    perror(status == SUCCESS ? "success" : "flush");
+    return status == SUCCESS ? 0 : 3;
+}
+
+int main(int count, char **words) {
+    for (size_t i = 0; count == 2 && i < sizeof trials / sizeof *trials; i++) {
+        if (strcmp(words[1], trials[i].name) == 0) {
+            trials[i].what();
+            return 0;
+        }
+    }
+    if (count == 5 && strcmp(words[1], "hammer") == 0) {
+        hammer(words[2], (unsigned)atoi(words[3]), (unsigned)atoi(words[4]));
+        return 0;
+    }
+    if (count == 3 && strcmp(words[1], "gone") == 0) {
+        return tell_gone(words[2]);
+    }
+    fprintf(stderr, "client: which trial?\n");
+    return 2;
+}

@@ -1,0 +1,108 @@
+"""Trials of the devices: all commands by the client, several processes at once, and what is killed."""
+import os
+import random
+import signal
+import sys
+import time
+
+from support import Bench, Fault, check_is, children_of, server_of, view_of, wait_until
+
+CLIENT_TRIALS = ("files", "admin", "queues", "attachment", "blocks", "pointers", "reservations", "others")
+
+# Says what is wrong to the server in each way, in the lab: nothing, a part, too much, no sense, and no wish to hear.
+ROUGH = r"""
+import os, socket, struct, sys
+def connect():
+    stream = socket.socket(socket.AF_UNIX, socket.SOCK_STREAM)
+    stream.connect(os.environ["NVME_LAB"] + "/socket")
+    return stream
+def request(asked=1, queue=1, controller=0, nsid=1, offset=0, length=0, entry=bytes(64), data=b""):
+    body = struct.pack("<BBHIII", asked, queue, controller, nsid, offset, length) + entry + data
+    return struct.pack("<I", len(body)) + body
+flush = struct.pack("<B3xI", 0, 1) + bytes(56)
+write = struct.pack("<B3xI32xII16x", 1, 1, 9, 0)
+big = request(length=131072, entry=struct.pack("<B3xI32x4xIIII", 2, 1, 0, 255, 0, 0)[:64].ljust(64, b"\0"), data=bytes(131072))
+whole = request(length=512, entry=write, data=b"x" * 512)
+for text in (b"", b"\1", b"\x50\0\0\0", whole[:-1], struct.pack("<I", 1 << 31) + b"x" * 100, struct.pack("<I", 3) + b"abc",
+             request(asked=9), request(queue=7), request(offset=2), request(length=1 << 20), request(length=512),
+             big, request(asked=2)):
+    stream = connect()
+    stream.sendall(text)
+    stream.close()
+def answer(text):
+    stream = connect()
+    stream.sendall(text)
+    head = stream.makefile("rb").read(24)
+    return struct.unpack_from("<I", head, 4)[0]
+assert answer(request(controller=9, entry=flush)) == 19
+assert answer(request(nsid=7, entry=flush)) == 19
+# One that stops in the middle, and one that never hears its answer, while another goes on.
+slow, deaf = connect(), connect()
+slow.sendall(whole[:300])
+deaf.sendall(big)
+assert answer(request(entry=flush)) == 0
+slow.sendall(whole[300:])
+assert struct.unpack_from("<I", slow.makefile("rb").read(24), 4)[0] == 0
+"""
+
+
+def commands(bench: Bench) -> None:
+    """Each command, in all lengths and places of a buffer, by a program that knows only devices."""
+    for name in CLIENT_TRIALS:
+        bench.try_client(name)
+
+
+def several(bench: Bench) -> None:
+    """Two hosts' processes and a third, each in a shell of its own, on one namespace at once."""
+    running = [bench.begin([bench.client, "hammer", device, first, "60"], options) for device, first, options in (
+        ("/dev/nvme0n1", "0", ["--host", "0xa1"]), ("/dev/nvme0n1", "300", ["--host", "0xb2"]),
+        ("/dev/nvme1n1", "600", []))]
+    for process in running:
+        _, errors = process.communicate(timeout=100)
+        check_is(f"the end of one of three at once, which says {errors!r},", process.returncode, 0)
+    bench.wait_over()
+
+
+def killed_clients(bench: Bench) -> None:
+    """Clients that are killed at any moment, and those that say half of what they should."""
+    chosen = random.Random(41)
+    shell = bench.begin(["cat"])
+    wait_until("the lab", lambda: len(list(bench.place.glob("nvme-lab-*/*/hosts/all/socket"))) == 1)
+    for _ in range(15):
+        process = bench.begin([bench.client, "hammer", "/dev/nvme0n1", "0", "1000000"])
+        time.sleep(0.1 + chosen.random() * 0.3)
+        process.kill()
+        process.communicate()
+    done = bench.run([sys.executable, "-c", ROUGH])
+    check_is(f"the end of rough words, with {done.errors!r},", done.status, 0)
+    bench.try_client("blocks")
+    bench.try_client("hammer", "/dev/nvme0n1", "300", "5", options=["--host", "0xb2"])
+    shell.communicate()
+    bench.wait_over()
+
+
+def pulled(bench: Bench, kill) -> None:
+    """Kills what lies behind a device that is open, and looks what then becomes of it."""
+    process = bench.begin(["sh", "-c", f"{bench.client} gone /dev/nvme0n1; echo $?; {bench.client} gone /dev/nvme0n1"])
+    check_is("the client's word", process.stdout.readline(), "open\n")
+    server = server_of(view_of(process.pid))
+    kill(server)
+    wait_until("the server to end", lambda: not os.path.exists(f"/proc/{server}"))
+    output, errors = process.communicate("\n", timeout=30)
+    check_is("the status of a command", output, "3\n")
+    # The node of a device goes with the lab's folder, which a server that is killed leaves behind.
+    is_refused = "No such device or address" in errors or "No such file or directory" in errors
+    if "flush: No such device\n" not in errors or not is_refused:
+        raise Fault(f"a device whose server is gone says {errors!r}")
+    bench.try_client("files")
+    bench.wait_over()
+
+
+def killed_server(bench: Bench) -> None:
+    """A server, and a program, that are killed are a disk that was pulled; the next lab begins anew."""
+    pulled(bench, lambda server: os.kill(server, signal.SIGKILL))
+    pulled(bench, lambda server: os.kill(children_of(server)[0], signal.SIGKILL))
+    pulled(bench, lambda server: os.kill(server, signal.SIGTERM))
+
+
+TRIALS = (commands, several, killed_clients, killed_server)

@@ -1,0 +1,94 @@
+"""Sessions of nvme-cli, as the documents have them: typed in the shells of two hosts, and answered as written."""
+import re
+import shutil
+import subprocess
+from typing import Dict, Iterator, List, Optional, Tuple
+
+from support import HERE, Bench, Fault, check_is
+
+# The first version that is tried, whose words the sessions have. Of a later one the statuses alone are compared: its
+# tables may look otherwise.
+LEAST_VERSION = (2, 3)
+STATUS = re.compile(r"NVMe status: ([^:(]*)")
+PROMPT = re.compile(r"^(a1|b2)\$ (.*)$")
+HOSTS = {"a1": "0xa1", "b2": "0xb2"}
+END = "end of what was typed"
+
+
+def version_of_tool() -> Optional[Tuple[int, int]]:
+    """The version of nvme-cli, where it is installed."""
+    tool = shutil.which("nvme")
+    if not tool:
+        return None
+    said = subprocess.run([tool, "version"], stdout=subprocess.PIPE, text=True).stdout
+    found = re.search(r"(\d+)\.(\d+)", said)
+    return (int(found[1]), int(found[2])) if found else None
+
+
+def read_session(text: str) -> Iterator[Tuple[str, str, List[str]]]:
+    """Each line that is typed: in whose shell, what, and the lines that come back; blank lines in between are none."""
+    typed: Optional[Tuple[str, str]] = None
+    lines: List[str] = []
+    for line in [*text.split("\n"), "a1$ "]:
+        found = PROMPT.match(line)
+        if not found:
+            lines.append(line)
+            continue
+        if typed:
+            yield (*typed, [it for it in lines if it.strip()])
+        typed, lines = (found[1], found[2]), []
+
+
+class Shells:
+    """A shell for each host, all in one lab."""
+
+    def __init__(self, bench: Bench) -> None:
+        self.shells: Dict[str, "subprocess.Popen[str]"] = {
+            name: bench.begin(["sh", "-c", "exec sh 2>&1"], ["--host", host]) for name, host in HOSTS.items()}
+
+    def type(self, name: str, line: str) -> List[str]:
+        """Types a line, and gives what comes back."""
+        shell = self.shells[name]
+        shell.stdin.write(f"{line}\necho; echo {END}\n")
+        shell.stdin.flush()
+        found: List[str] = []
+        for came in shell.stdout:
+            if came.strip() == END:
+                return [it for it in found if it]
+            found.append(came.rstrip())
+        raise Fault(f"the shell has ended at `{line}`")
+
+    def end(self) -> None:
+        for shell in self.shells.values():
+            shell.communicate(timeout=30)
+
+
+def statuses(lines: List[str]) -> List[str]:
+    """The statuses that lines tell of."""
+    return [found[1].strip() for line in lines for found in STATUS.finditer(line)]
+
+
+def run_session(bench: Bench, name: str) -> None:
+    shells = Shells(bench)
+    try:
+        for who, line, wanted in read_session((HERE / name).read_text()):
+            found = shells.type(who, line)
+            if version_of_tool() != LEAST_VERSION:
+                found, wanted = statuses(found), statuses(wanted)
+            check_is(f"{name}: `{line}` in the shell of {who}", found, wanted)
+    finally:
+        shells.end()
+    bench.wait_over()
+
+
+def fencing(bench: Bench) -> None:
+    """A preempted host's write is refused, by nvme-cli alone."""
+    run_session(bench, "fencing.session")
+
+
+def tour(bench: Bench) -> None:
+    """Each command of nvme-cli that the lab answers, and some that the subsystem does not have."""
+    run_session(bench, "tour.session")
+
+
+TRIALS = (fencing, tour)
