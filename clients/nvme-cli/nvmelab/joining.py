@@ -3,8 +3,10 @@ import fcntl
 import hashlib
 import json
 import os
+import secrets
 import select
 import shutil
+import signal
 import socket
 import subprocess
 import sys
@@ -124,7 +126,7 @@ class Lab:
         shutil.rmtree(self.folder, ignore_errors=True)
         try:
             self.folder.mkdir(mode=0o700)
-            (self.folder / "options").write_text(json.dumps(self.options))
+            (self.folder / "options").write_text(json.dumps({**self.options, "token": secrets.token_hex(8)}))
             image = self.image or self.make_image()
             words = [sys.executable, "-c", "from nvmelab.main import serve_here; serve_here()", str(self.folder),
                      str(self.lock), self.name, image, self.script or "", *self.program]
@@ -133,7 +135,11 @@ class Lab:
                                           stdout=subprocess.PIPE, stderr=log, start_new_session=True)
         except OSError as fault:
             raise LabFault(f"the lab can't be started: {fault.strerror}: {fault.filename}") from fault
-        said = self.wait_for(server)
+        try:
+            said = self.wait_for(server)
+        except BaseException:
+            os.killpg(server.pid, signal.SIGTERM)
+            raise
         if said != "ready":
             server.wait()
             raise LabFault(said or f"the lab has not started; what it said is in {self.log}")

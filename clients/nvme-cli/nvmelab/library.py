@@ -38,7 +38,8 @@ def library(folder: Path) -> Path:
     done = subprocess.run(words, stdout=subprocess.PIPE, stderr=subprocess.STDOUT, text=True)
     if done.returncode != 0:
         os.unlink(new)
-        raise LabFault(f"`{compiler}` does not compile the library: {(done.stdout.splitlines() or ['it says nothing'])[0]}")
+        said = done.stdout.splitlines() or ["it says nothing"]
+        raise LabFault(f"`{compiler}` does not compile the library: {said[0]}")
     os.chmod(new, 0o755)
     os.replace(new, place)
     return place

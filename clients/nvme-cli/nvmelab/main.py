@@ -150,4 +150,5 @@ def serve_here() -> NoReturn:
     folder, lock, name, image, script, *program = sys.argv[1:]
     options = json.loads((Path(folder) / "options").read_text())
     read = configuration.read_configuration("\n".join(options["lines"]), name)
-    sys.exit(server.serve(Path(folder), Path(lock), read, name, program, image, Path(script) if script else None))
+    place = server.Place(Path(folder), Path(lock), options["token"])
+    sys.exit(server.serve(place, read, name, program, image, Path(script) if script else None))

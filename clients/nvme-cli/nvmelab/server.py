@@ -5,6 +5,7 @@ it comes, and what is not whole when its connection ends is dropped.
 """
 import errno
 import fcntl
+import json
 import os
 import selectors
 import shutil
@@ -12,11 +13,12 @@ import signal
 import socket
 import struct
 import sys
+from dataclasses import dataclass
 from pathlib import Path
 from typing import Callable, Dict, List, Optional
 
 from nvmelab import entries, protocol
-from nvmelab.configuration import Configuration
+from nvmelab.configuration import Configuration, number_of
 from nvmelab.faults import Ended, LabFault
 from nvmelab.host import Host, NoQueue
 from nvmelab.protocol import Malformed, Request
@@ -62,12 +64,30 @@ class Connection:
         return bytes(self.come[protocol.LENGTH.size:whole]) if len(self.come) >= whole else None
 
 
+@dataclass
+class Place:
+    """Where a lab lies: its folder, and the lock that those hold who join it. The folder is a later lab's where its
+    token is another."""
+    folder: Path
+    lock: Path
+    token: str
+
+    def is_mine(self) -> bool:
+        try:
+            return json.loads((self.folder / "options").read_text())["token"] == self.token
+        except OSError:
+            return False
+
+    def remove(self) -> None:
+        if self.is_mine():
+            shutil.rmtree(self.folder, ignore_errors=True)
+
+
 class Server:
     """The lab of one CONFIG, in a folder of its own, which is gone when it ends."""
 
-    def __init__(self, folder: Path, lock: Path, configuration: Configuration, subsystem: Subsystem) -> None:
-        self.folder = folder
-        self.lock = lock
+    def __init__(self, place: Place, configuration: Configuration, subsystem: Subsystem) -> None:
+        self.place = place
         self.configuration = configuration
         self.subsystem = subsystem
         self.hosts: Dict[int, Host] = {}
@@ -86,7 +106,9 @@ class Server:
 
     def open(self) -> None:
         """From here on processes can join."""
-        joining = listen(self.folder / "socket")
+        if not self.place.is_mine():
+            raise LabFault("another lab has begun in this one's place")
+        joining = listen(self.place.folder / "socket")
         self.watch(joining, lambda: self.take_user(joining))
 
     def run(self) -> None:
@@ -102,7 +124,7 @@ class Server:
 
     def may_end(self) -> bool:
         """Whether nobody is just joining: who joins holds the lock meanwhile. It is held from here on to the end."""
-        held = os.open(self.lock, os.O_RDWR | os.O_CREAT | os.O_CLOEXEC, 0o600)
+        held = os.open(self.place.lock, os.O_RDWR | os.O_CREAT | os.O_CLOEXEC, 0o600)
         try:
             fcntl.flock(held, fcntl.LOCK_EX | fcntl.LOCK_NB)
         except OSError:
@@ -133,7 +155,10 @@ class Server:
                 user = os.pidfd_open(process)
             except OSError:
                 return
-            view = self.view_of(wanted)
+            try:
+                view = self.view_of(wanted)
+            except ValueError:
+                view = None
             said = f"joined {view.folder}" if view else f"no controller belongs to host {wanted}"
             try:
                 stream.sendall(said.encode() + b"\n")
@@ -157,10 +182,10 @@ class Server:
         if wanted == ALL_HOSTS:
             cntlids = sorted(self.hosts)
         else:
-            cntlids = self.configuration.controllers_of(int(wanted, 16)) if wanted.startswith("0x") else []
+            cntlids = self.configuration.controllers_of(number_of(wanted))
         if not cntlids:
             return None
-        folder = self.folder / "hosts" / wanted
+        folder = self.place.folder / "hosts" / wanted
         view = View(folder, [self.hosts[cntlid] for cntlid in cntlids])
         view.make()
         view.refresh()
@@ -236,10 +261,6 @@ class Server:
                 each.refresh()
         return protocol.answer(0, completion.entry, data)
 
-    def end(self) -> None:
-        self.subsystem.end()
-        shutil.rmtree(self.folder, ignore_errors=True)
-
 
 def changes_devices(command: entries.Command) -> bool:
     """Whether what hosts find under /dev and /sys may be otherwise behind an admin command."""
@@ -247,7 +268,7 @@ def changes_devices(command: entries.Command) -> bool:
     return command.opcode == entries.ATTACHMENT or command.opcode == entries.SET_FEATURES and is_protection
 
 
-def serve(folder: Path, lock: Path, configuration: Configuration, name: str, program: List[str], image: str,
+def serve(place: Place, configuration: Configuration, name: str, program: List[str], image: str,
           script: Optional[Path]) -> int:
     """Runs a lab to its end. `ready`, or the fault, goes to standard output, which is closed then."""
     def tell(text: str) -> None:
@@ -255,10 +276,10 @@ def serve(folder: Path, lock: Path, configuration: Configuration, name: str, pro
         os.dup2(2, 1)
 
     signal.signal(signal.SIGTERM, lambda *_: sys.exit(0))
-    server = None
+    subsystem = None
     try:
         subsystem = Subsystem(program, image, open(script, "wb") if script else None)
-        server = Server(folder, lock, configuration, subsystem)
+        server = Server(place, configuration, subsystem)
         subsystem.start(configuration, name)
         server.bring_up()
         server.open()
@@ -268,6 +289,7 @@ def serve(folder: Path, lock: Path, configuration: Configuration, name: str, pro
         tell(str(fault))
         return 1
     finally:
-        if server:
-            server.end()
+        if subsystem:
+            subsystem.end()
+        place.remove()
     return 0

@@ -9,6 +9,7 @@ from nvmelab.faults import Ended, LabFault
 
 # A program that says nothing for so long is taken as hanging. Before its first answer it may have to be built.
 ANSWER_SECONDS = 60.0
+PIECE = 1 << 20
 
 
 class Subsystem:
@@ -16,11 +17,14 @@ class Subsystem:
 
     def __init__(self, program: List[str], image: str, script: Optional[BinaryIO] = None) -> None:
         self.script = script
-        self.answers = b""
+        # What has come of an answer that is not whole yet.
+        self.come = b""
         try:
-            self.process = subprocess.Popen([*program, image], stdin=subprocess.PIPE, stdout=subprocess.PIPE)
+            self.process = subprocess.Popen([*program, image], stdin=subprocess.PIPE, stdout=subprocess.PIPE, bufsize=0)
         except OSError as fault:
             raise LabFault(f"{program[0]} can't be run: {fault.strerror}") from fault
+        # Neither side ever waits for the other to take what it says.
+        os.set_blocking(self.process.stdin.fileno(), False)
 
     def start(self, configuration: Configuration, name: str) -> None:
         """Describes the subsystem and starts it. There is no limit of time: the program may be built first."""
@@ -33,29 +37,35 @@ class Subsystem:
 
     def ask(self, lines: List[str], seconds: Optional[float] = ANSWER_SECONDS) -> List[str]:
         """Hands lines in, all at once, and gives the answer of each."""
-        text = "".join(line + "\n" for line in lines).encode()
-        try:
-            self.process.stdin.write(text)
-            self.process.stdin.flush()
-        except OSError as fault:
-            raise Ended(self.last_words()) from fault
+        said = [line.encode("ascii", "surrogateescape") + b"\n" for line in lines]
         if self.script is not None:
-            self.script.write(b"".join(line.encode() + b"\n" for line in lines if not line.startswith("?")))
+            self.script.write(b"".join(it for it in said if not it.startswith(b"?")))
             self.script.flush()
-        return [self.answer(seconds) for _ in lines]
+        text = b"".join(said)
+        answers: List[str] = []
+        while len(answers) < len(lines):
+            text = self.move(text, seconds)
+            *whole, self.come = self.come.split(b"\n")
+            answers += [it.decode("ascii", "replace") for it in whole]
+        return answers
 
-    def answer(self, seconds: Optional[float]) -> str:
-        """The next line of the program."""
-        parts = [self.answers]
-        while b"\n" not in parts[-1]:
-            ready, _, _ = select.select([self.process.stdout], [], [], seconds)
-            if not ready:
-                raise Ended(f"the program has not answered for {seconds:.0f} seconds")
-            parts.append(os.read(self.process.stdout.fileno(), 1 << 20))
-            if not parts[-1]:
+    def move(self, text: bytes, seconds: Optional[float]) -> bytes:
+        """Waits until the program takes bytes or has some, and moves them; gives what is still to go to it."""
+        going = [self.process.stdin] if text else []
+        readable, writable, _ = select.select([self.process.stdout], going, [], seconds)
+        if not readable and not writable:
+            raise Ended(f"the program has not answered for {seconds:.0f} seconds")
+        if readable:
+            came = os.read(self.process.stdout.fileno(), PIECE)
+            if not came:
                 raise Ended(self.last_words())
-        line, _, self.answers = b"".join(parts).partition(b"\n")
-        return line.decode("ascii", "replace")
+            self.come += came
+        if writable:
+            try:
+                text = text[os.write(self.process.stdin.fileno(), text):]
+            except OSError as fault:
+                raise Ended(self.last_words()) from fault
+        return text
 
     def last_words(self) -> str:
         status = self.process.poll()

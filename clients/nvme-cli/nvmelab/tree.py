@@ -14,7 +14,7 @@ from nvmelab import entries, queues
 from nvmelab.configuration import BLOCK_BYTES
 from nvmelab.entries import Command
 from nvmelab.faults import LabFault
-from nvmelab.host import Data, Host
+from nvmelab.host import Data, Host, NoQueue
 
 IDENTIFY_BYTES = 4096
 REGISTER_BYTES = 16384
@@ -128,20 +128,25 @@ class View:
             write_files(self.classes("nvme") / f"nvme{number}", {
                 "address": f"0000:{number + 1:02x}:00.0", "cntlid": identity.cntlid, "cntrltype": "io",
                 "dctype": "none", "firmware_rev": text_of(identity.firmware), "model": text_of(identity.model),
-                "numa_node": -1, "queue_count": 2, "serial": text_of(identity.serial), "sqsize": queues.QUEUE_ENTRIES - 1,
-                "state": "live", "subsysnqn": identity.subsystem, "transport": "pcie",
+                "numa_node": -1, "queue_count": 2, "serial": text_of(identity.serial),
+                "sqsize": queues.QUEUE_ENTRIES - 1, "state": "live", "subsysnqn": identity.subsystem,
+                "transport": "pcie",
             })
 
     def refresh(self) -> None:
-        """Shows the registers as they are now, and the namespaces that are attached now."""
+        """Shows the registers as they are now, and the namespaces that are attached now. A host that has lost its admin
+        queue learns of nothing."""
         for number, host in enumerate(self.hosts):
             self.show_registers(number, host)
-            now = set(attached(host))
-            for nsid in sorted(self.shown[number] - now):
+            try:
+                now = {nsid: Space.of(identify(host, NAMESPACE, nsid)) for nsid in attached(host)}
+            except NoQueue:
+                continue
+            for nsid in self.shown[number] - set(now):
                 self.hide(number, nsid)
-            for nsid in sorted(now):
-                self.show(number, nsid, Space.of(identify(host, NAMESPACE, nsid)))
-            self.shown[number] = now
+            for nsid, space in now.items():
+                self.show(number, nsid, space)
+            self.shown[number] = set(now)
 
     def show_registers(self, number: int, host: Host) -> None:
         """The registers, as the file that stands for them under /sys has them."""

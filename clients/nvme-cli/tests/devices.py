@@ -21,11 +21,12 @@ def request(asked=1, queue=1, controller=0, nsid=1, offset=0, length=0, entry=by
     return struct.pack("<I", len(body)) + body
 flush = struct.pack("<B3xI", 0, 1) + bytes(56)
 write = struct.pack("<B3xI32xII16x", 1, 1, 9, 0)
-big = request(length=131072, entry=struct.pack("<B3xI32x4xIIII", 2, 1, 0, 255, 0, 0)[:64].ljust(64, b"\0"), data=bytes(131072))
+read = struct.pack("<B3xI32xIII12x", 2, 1, 0, 0, 255)
+big = request(length=131072, entry=read, data=bytes(131072))
 whole = request(length=512, entry=write, data=b"x" * 512)
-for text in (b"", b"\1", b"\x50\0\0\0", whole[:-1], struct.pack("<I", 1 << 31) + b"x" * 100, struct.pack("<I", 3) + b"abc",
-             request(asked=9), request(queue=7), request(offset=2), request(length=1 << 20), request(length=512),
-             big, request(asked=2)):
+for text in (b"", b"\1", b"\x50\0\0\0", whole[:-1], struct.pack("<I", 1 << 31) + b"x" * 100,
+             struct.pack("<I", 3) + b"abc", request(asked=9), request(queue=7), request(offset=2),
+             request(length=1 << 20), request(length=512), big, request(asked=2)):
     stream = connect()
     stream.sendall(text)
     stream.close()

@@ -3,14 +3,15 @@ import os
 import shutil
 from pathlib import Path
 
-from support import PACKAGE, Bench, Fault, check_is
+from support import CONFIG, PACKAGE, Bench, Fault, check_is
 
 # Programs that have nothing to do with devices, and what they say of themselves.
 ORDINARY = (
     "ls -ld / /etc /dev/null /dev/zero", "cat /etc/passwd | sort | head -n 3", "find /sys/class/net -maxdepth 1",
-    "test -x /bin/sh && test ! -e /dev/nvme-none && echo yes", "readlink /proc/self/cwd", "stat -c '%F %a' /dev/full",
-    "dd if=/dev/zero bs=512 count=1 2>/dev/null | od", "ls /proc/self/fd | wc -l", "yes | head -n 1", "ls -U /etc | wc -l",
-    "cat; exit 3", "kill -TERM $$",
+    "test -x /bin/sh && test ! -e /dev/nvme-none && echo yes", "readlink /proc/self/cwd",
+    "stat -c '%F %a' /dev/full",
+    "dd if=/dev/zero bs=512 count=1 2>/dev/null | od", "ls /proc/self/fd | wc -l", "yes | head -n 1",
+    "ls -U /etc | wc -l", "cat; exit 3", "kill -TERM $$",
 )
 
 
@@ -41,7 +42,8 @@ def images(bench: Bench) -> None:
     for each in (image, again):
         with open(each, "wb") as file:
             file.truncate((2048 + 64) * 512)
-    done = bench.run([bench.client, "hammer", "/dev/nvme0n1", "0", "3"], ["--image", str(image), "--script", str(script)])
+    options = ["--image", str(image), "--script", str(script)]
+    done = bench.run([bench.client, "hammer", "/dev/nvme0n1", "0", "3"], options)
     check_is(f"the end of a lab with an image, with {done.errors!r},", done.status, 0)
     bench.wait_over()
     if not any(image.read_bytes()):
@@ -68,8 +70,7 @@ def undisturbed(bench: Bench) -> None:
 def expect_fault(bench: Bench, words: "list[str]", text: str, status: int = 125, whole: bool = True,
                  config: "Path | None" = None) -> None:
     """The lab says one sentence, and runs nothing."""
-    done = bench.run_words([str(bench.lab), *words, *([str(config)] if config else [str(PACKAGE / "tests" / "two-hosts.nvme")]),
-                            "--", "echo", "ran"])
+    done = bench.run_words([str(bench.lab), *words, str(config or CONFIG), "--", "echo", "ran"])
     is_said = done.errors == f"lab: {text}\n" if whole else text in done.errors and done.errors.count("\n") == 1
     if done.status != status or done.output or not is_said or not done.errors.startswith("lab: "):
         raise Fault(f"lab {' '.join(words)} ended with {done.status} and said {done.errors!r}{done.output!r}")

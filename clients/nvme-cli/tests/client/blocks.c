@@ -98,6 +98,22 @@ void try_blocks(void) {
     free(zeros);
 }
 
+// Data whose second page a longer command takes for a list, one that names the queues of the host itself: only this
+// host can lose by it, and until a reset at most.
+static void try_hostile(int fd, int controller) {
+    uint8_t *room = room_at(2 * PAGE, 0);
+    memset(room, 0, 2 * PAGE);
+    for (uint32_t page = 0; page < 31; page++) {
+        room[PAGE + 8 * page + 1] = (uint8_t)(page % 11 << 4);
+    }
+    int status = io(fd, READ, 1, 0, 0, 255, room, 2 * PAGE);
+    CHECK(status == SUCCESS || (status == -1 && errno == EIO));
+    CHECK_IS(ioctl(controller, NVME_IOCTL_RESET), 0);
+    CHECK_IS(io(fd, FLUSH, 1, 0, 0, 0, NULL, 0), SUCCESS);
+    CHECK_IS(io(open_device("/dev/nvme1n1"), FLUSH, 1, 0, 0, 0, NULL, 0), SUCCESS);
+    free(room);
+}
+
 // Data without an address, at none that is there, at one that can't be written, and of another length than the command.
 void try_pointers(void) {
     int fd = open_device("/dev/nvme0n1"), controller = open_device("/dev/nvme0");
@@ -135,4 +151,5 @@ void try_pointers(void) {
         .metadata_len = 8};
     CHECK_FAILS(ioctl(fd, NVME_IOCTL_IO_CMD, &command), EINVAL);
     free(room);
+    try_hostile(fd, controller);
 }
