@@ -15,6 +15,7 @@ CONFIGURATION, STATUS, ADMIN_SIZES = 0x14, 0x1c, 0x24
 ADMIN_SUBMISSION, ADMIN_COMPLETION = 0x28, 0x30
 ENABLED = 0x460001
 READY = 1
+STORED, WRITTEN = "stored", "wrote32"
 
 
 @dataclass
@@ -38,6 +39,7 @@ class Host:
         self.cntlid = cntlid
         self.queues = Queues()
         self.next_cid = 0
+        self.rung_later: List[str] = []
 
     def store_line(self, place: int, content: bytes) -> str:
         return f"store {self.cntlid} {place} hex:{content.hex()}"
@@ -60,6 +62,7 @@ class Host:
         """Resets the controller, enables it, and makes the pair of I/O queues 1."""
         c = self.cntlid
         self.queues = Queues()
+        self.rung_later = []
         last = queues.QUEUE_ENTRIES - 1
         lines = [
             self.write_line(CONFIGURATION, 0),
@@ -72,7 +75,7 @@ class Host:
             self.write_line(CONFIGURATION, ENABLED),
             looks.register_line(c, STATUS),
         ]
-        answers = self.ask(lines, [f"wrote32 {c}"] * 6 + [f"stored {c}", f"wrote32 {c}"])
+        answers = self.ask(lines, [f"{WRITTEN} {c}"] * 6 + [f"{STORED} {c}", f"{WRITTEN} {c}"])
         if looks.register_value(answers[0]) & READY == 0:
             raise Ended(f"controller {c} does not come up")
         size = last << 16
@@ -96,15 +99,15 @@ class Host:
         queue = self.queues.lane(is_admin)
         if queue is None:
             raise NoQueue(f"controller {self.cntlid} has no I/O queue")
-        lines = self.place(queue, command, data)
-        completion = self.carry_out(queue, lines)
+        stores = self.place(queue, command, data)
+        length = 0 if command.sends_data else len(data.content)
+        seen = [looks.window_line(self.cntlid, queues.DATA_PLACE + data.offset, length)] if length else []
+        completion, answers = self.carry_out(queue, stores, seen)
         if is_admin and completion.is_success:
             self.follow(command, data)
-        if command.sends_data or not completion.is_success or not data.content:
+        if not answers or not completion.is_success:
             return completion, b""
-        place = queues.DATA_PLACE + data.offset
-        answer = self.ask([looks.window_line(self.cntlid, place, len(data.content))], [])[0]
-        return completion, looks.window_bytes(answer, len(data.content))
+        return completion, looks.window_bytes(answers[0], length)
 
     def place(self, queue: SubmissionQueue, command: Command, data: Data) -> List[str]:
         """The lines that store a command with its data, and the pages that a new queue needs."""
@@ -136,25 +139,29 @@ class Host:
             return queues.SPARE_PLACE
         return queues.submission_place(qid) if is_submission else queues.completion_place(qid)
 
-    def carry_out(self, queue: SubmissionQueue, stores: List[str]) -> Completion:
-        """Stores, rings, fetches, executes, and takes the completion."""
+    def carry_out(self, queue: SubmissionQueue, stores: List[str], seen: List[str]) -> Tuple[Completion, List[str]]:
+        """Stores, rings, fetches, executes, and takes the completion; and what the looking lines behind that show.
+
+        The doorbell of a completion that was taken is rung with the next command, which spares a turn of its own."""
         c, cid = self.cntlid, self.next_cid
         answered = self.queues.completion.get(queue.cqid)
         if answered is None:
             raise NoQueue(f"controller {c} has no completion queue {queue.cqid}")
         queue.advance()
-        lines = [*stores, self.write_line(queue.doorbell, queue.tail), f"fetch {c} {queue.qid}", f"execute {c} 0",
-                 looks.window_line(c, answered.slot, queues.COMPLETION_BYTES)]
-        fetched, executed, seen = self.ask(lines, [f"stored {c}"] * len(stores) + [f"wrote32 {c}"])
-        completion = Completion(looks.window_bytes(seen, queues.COMPLETION_BYTES))
+        rung, self.rung_later = [*self.rung_later, *stores, self.write_line(queue.doorbell, queue.tail)], []
+        wanted = [f"{STORED if line.startswith('store ') else WRITTEN} {c}" for line in rung]
+        lines = [*rung, f"fetch {c} {queue.qid}", f"execute {c} 0",
+                 looks.window_line(c, answered.slot, queues.COMPLETION_BYTES), *seen]
+        fetched, executed, posted, *answers = self.ask(lines, wanted)
+        completion = Completion(looks.window_bytes(posted, queues.COMPLETION_BYTES))
         is_carried_out = fetched.endswith(" took") and executed.startswith(f"execute {c} 0 posted ")
         is_ours = completion.phase == answered.phase and (completion.sq_id, completion.cid) == (queue.qid, cid)
         if not is_carried_out or not is_ours:
             raise NoQueue(f"controller {c} has lost its queue {queue.qid}")
         self.next_cid = (cid + 1) % 0x10000
         answered.advance()
-        self.ask([self.write_line(answered.doorbell, answered.head)], [f"wrote32 {c}"])
-        return completion
+        self.rung_later = [self.write_line(answered.doorbell, answered.head)]
+        return completion, answers
 
     def follow(self, command: Command, data: Data) -> None:
         """Keeps the queues that an admin command has made or deleted. One whose place was given as data is not used:
