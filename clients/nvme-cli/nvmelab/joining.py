@@ -22,6 +22,8 @@ PACKAGE = Path(__file__).resolve().parent.parent
 # What the server tells while it starts is shown where it takes longer than this: the program is being built.
 QUIET_SECONDS = 2.0
 SHOW_SECONDS = 0.2
+# The name of a socket has 107 bytes at most, of which a lab's own part takes the rest.
+MOST_BASE = 56
 
 
 def base_folder() -> Path:
@@ -32,6 +34,8 @@ def base_folder() -> Path:
         found = base.lstat()
     except OSError as fault:
         raise LabFault(f"{base} can't be made: {fault.strerror}") from fault
+    if len(os.fsencode(base)) > MOST_BASE:
+        raise LabFault(f"{base} is too long for the name of a socket; TMPDIR can name a shorter one")
     if base.is_symlink() or found.st_uid != os.getuid() or found.st_mode & 0o077:
         raise LabFault(f"{base} is not a folder of this user alone")
     return base

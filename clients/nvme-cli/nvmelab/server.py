@@ -241,6 +241,10 @@ class Server:
         if not client.to_go:
             self.drop_client(client)
 
+    def refresh(self) -> None:
+        for view in self.views.values():
+            view.refresh()
+
     def answer_to(self, view: View, request: Request) -> bytes:
         number, nsid = request.controller, request.nsid
         if number >= len(view.hosts) or nsid and nsid not in view.shown[number]:
@@ -250,15 +254,14 @@ class Server:
             return protocol.answer(0)
         if request.asked == protocol.RESET:
             host.bring_up()
-            view.refresh()
+            self.refresh()
             return protocol.answer(0)
         try:
             completion, data = host.run(request.is_admin, request.command, request.data)
         except NoQueue:
             return protocol.answer(errno.EIO)
         if request.is_admin and completion.is_success and changes_devices(request.command):
-            for each in self.views.values():
-                each.refresh()
+            self.refresh()
         return protocol.answer(0, completion.entry, data)
 
 
