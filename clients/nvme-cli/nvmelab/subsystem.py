@@ -30,8 +30,11 @@ class Subsystem:
         """Describes the subsystem and starts it. There is no limit of time: the program may be built first."""
         answers = self.ask([*configuration.lines, "start"], seconds=None)
         for number, (line, answer) in enumerate(zip(configuration.lines, answers), 1):
+            # What is not understood is told with the number of its line, which is that of CONFIG.
+            if answer.startswith("! "):
+                raise LabFault(f"{name} {answer[2:]}")
             if answer != "ok":
-                raise LabFault(f"{name} line {number}, `{line.strip()}`: {answer.lstrip('! ')}")
+                raise LabFault(f"{name} line {number}: `{line.strip()}` is answered `{answer}`")
         if answers[-1] != "started":
             raise LabFault(f"{name}: {answers[-1]}")
 

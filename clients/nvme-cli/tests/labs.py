@@ -93,7 +93,7 @@ def faults(bench: Bench) -> None:
     config = bench.place / "config.nvme"
     for text, said in (
             ("", "has no controller"), ("controller 1 host 1\nnamespace 1 blocks 0 shared\n", "BadSize"),
-            ("controller 1 host 1\nnamspace 1\n", "line 2, `namspace 1`: "),
+            ("controller 1 host 1\nnamspace 1\n", "line 2 word 1: "),
             ("controller 1 host 1\nstart\nup 1\n", "line 3: a lab takes the lines before `start` alone"),
             ("controller 2 host 1\n", "BadId")):
         config.write_text(text)
