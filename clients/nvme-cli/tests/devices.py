@@ -5,7 +5,7 @@ import signal
 import sys
 import time
 
-from support import Bench, Fault, check_is, children_of, server_of, view_of, wait_until
+from support import LONGEST_SECONDS, Bench, Fault, check_is, children_of, server_of, view_of, wait_until
 
 CLIENT_TRIALS = ("files", "admin", "queues", "attachment", "blocks", "pointers", "reservations", "others")
 
@@ -55,11 +55,11 @@ def commands(bench: Bench) -> None:
 
 def several(bench: Bench) -> None:
     """Two hosts' processes and a third, each in a shell of its own, on one namespace at once."""
-    running = [bench.begin([bench.client, "hammer", device, first, "60"], options) for device, first, options in (
+    running = [bench.begin([bench.client, "hammer", device, first, "25"], options) for device, first, options in (
         ("/dev/nvme0n1", "0", ["--host", "0xa1"]), ("/dev/nvme0n1", "300", ["--host", "0xb2"]),
         ("/dev/nvme1n1", "600", []))]
     for process in running:
-        _, errors = process.communicate(timeout=100)
+        _, errors = process.communicate(timeout=LONGEST_SECONDS)
         check_is(f"the end of one of three at once, which says {errors!r},", process.returncode, 0)
     bench.wait_over()
 
@@ -76,7 +76,7 @@ def killed_clients(bench: Bench) -> None:
         process.communicate()
     done = bench.run([sys.executable, "-c", ROUGH])
     check_is(f"the end of rough words, with {done.errors!r},", done.status, 0)
-    bench.try_client("blocks")
+    bench.try_client("admin")
     bench.try_client("hammer", "/dev/nvme0n1", "300", "5", options=["--host", "0xb2"])
     shell.communicate()
     bench.wait_over()

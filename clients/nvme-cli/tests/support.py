@@ -14,7 +14,7 @@ PACKAGE = HERE.parent
 LAB = PACKAGE / "lab"
 CONFIG = HERE / "two-hosts.nvme"
 # No trial's single step takes longer, unless it hangs.
-LONGEST_SECONDS = 120
+LONGEST_SECONDS = 300
 
 
 class Fault(Exception):

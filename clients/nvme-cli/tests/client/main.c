@@ -9,7 +9,7 @@ void hammer(const char *device, unsigned first, unsigned rounds) {
     int fd = open_device(device);
     uint8_t *out = room_at(MOST, 0), *in = room_at(MOST, 0);
     for (unsigned round = 0; round < rounds; round++) {
-        uint32_t count = 1 + round * 37 % 256;
+        uint32_t count = 1 + round * 37 % 64;
         fill(out, count * BLOCK, first + round);
         CHECK_IS(on_blocks(fd, WRITE, first, count, out), SUCCESS);
         CHECK_IS(on_blocks(fd, READ, first, count, in), SUCCESS);
