@@ -49,8 +49,9 @@ assert struct.unpack_from("<I", slow.makefile("rb").read(24), 4)[0] == 0
 
 def commands(bench: Bench) -> None:
     """Each command, in all lengths and places of a buffer, by a program that knows only devices."""
-    for name in CLIENT_TRIALS:
-        bench.try_client(name)
+    with bench.held():
+        for name in CLIENT_TRIALS:
+            bench.try_client(name)
 
 
 def several(bench: Bench) -> None:
@@ -67,19 +68,16 @@ def several(bench: Bench) -> None:
 def killed_clients(bench: Bench) -> None:
     """Clients that are killed at any moment, and those that say half of what they should."""
     chosen = random.Random(41)
-    shell = bench.begin(["cat"])
-    wait_until("the lab", lambda: len(list(bench.place.glob("nvme-lab-*/*/hosts/all/socket"))) == 1)
-    for _ in range(15):
-        process = bench.begin([bench.client, "hammer", "/dev/nvme0n1", "0", "1000000"])
-        time.sleep(0.1 + chosen.random() * 0.3)
-        process.kill()
-        process.communicate()
-    done = bench.run([sys.executable, "-c", ROUGH])
-    check_is(f"the end of rough words, with {done.errors!r},", done.status, 0)
-    bench.try_client("admin")
-    bench.try_client("hammer", "/dev/nvme0n1", "300", "5", options=["--host", "0xb2"])
-    shell.communicate()
-    bench.wait_over()
+    with bench.held():
+        for _ in range(15):
+            process = bench.begin([bench.client, "hammer", "/dev/nvme0n1", "0", "1000000"])
+            time.sleep(0.1 + chosen.random() * 0.3)
+            process.kill()
+            process.communicate()
+        done = bench.run([sys.executable, "-c", ROUGH])
+        check_is(f"the end of rough words, with {done.errors!r},", done.status, 0)
+        bench.try_client("admin")
+        bench.try_client("hammer", "/dev/nvme0n1", "300", "5", options=["--host", "0xb2"])
 
 
 def pulled(bench: Bench, kill) -> None:

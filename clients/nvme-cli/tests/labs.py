@@ -58,12 +58,12 @@ def images(bench: Bench) -> None:
 
 def undisturbed(bench: Bench) -> None:
     """A command that opens none of the devices ends as it would without a lab."""
-    bench.run(["true"])
-    for line in ORDINARY:
-        without = bench.run_words(["sh", "-c", line], "given\n")
-        within = bench.run(["sh", "-c", line], given="given\n")
-        check_is(f"`{line}` in a lab", within, without)
-    bench.try_client("others")
+    with bench.held():
+        for line in ORDINARY:
+            without = bench.run_words(["sh", "-c", line], "given\n")
+            within = bench.run(["sh", "-c", line], given="given\n")
+            check_is(f"`{line}` in a lab", within, without)
+        bench.try_client("others")
     check_is("others without a lab", bench.run_words([bench.client, "others"]).status, 0)
 
 

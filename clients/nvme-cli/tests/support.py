@@ -5,9 +5,10 @@ import socket
 import struct
 import subprocess
 import time
+from contextlib import contextmanager
 from dataclasses import dataclass, field
 from pathlib import Path
-from typing import Dict, List, Optional
+from typing import Callable, Dict, Iterator, List, Optional
 
 HERE = Path(__file__).resolve().parent
 PACKAGE = HERE.parent
@@ -75,6 +76,17 @@ class Bench:
         return subprocess.Popen(self.words(options or [], command), cwd=self.place, env=self.environment, text=True,
                                 stdin=subprocess.PIPE, stdout=subprocess.PIPE, stderr=subprocess.PIPE)
 
+    @contextmanager
+    def held(self) -> Iterator[None]:
+        """Keeps one lab meanwhile, so that those who join it need not begin one."""
+        shell = self.begin(["sh", "-c", "echo begun; cat"])
+        check_is("the word of a lab that is kept", shell.stdout.readline(), "begun\n")
+        try:
+            yield
+        finally:
+            shell.communicate()
+        self.wait_over()
+
     def compile_client(self) -> None:
         words = [os.environ.get("CC", "cc"), "-std=gnu11", "-O1", "-Wall", "-Wextra", "-o", self.client,
                  *map(str, sorted((HERE / "client").glob("*.c")))]
@@ -99,7 +111,7 @@ def is_held(lock: Path) -> bool:
     return False
 
 
-def wait_until(what: str, is_so, seconds: float = 20.0) -> None:
+def wait_until(what: str, is_so: Callable[[], bool], seconds: float = 60.0) -> None:
     limit = time.monotonic() + seconds
     while not is_so():
         if time.monotonic() > limit:
