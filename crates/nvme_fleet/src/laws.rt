@@ -46,9 +46,9 @@ pub fn calls_are_of_events()
 
 /// Whatever the medium does, and whether or not it tells its content: over every run a block is written only by a Write
 /// or Write Zeroes that all rules let pass, on a namespace that the block belongs to and its host may write, with that
-/// command's bytes; a block is read only by such a Read or Compare, and the medium is flushed only by such a Flush. So
-/// hosts that may not write a namespace write none of its blocks, until a reservation command on it is executed that all
-/// rules let pass.
+/// command's bytes; a block is read only by such a Read or Compare, and the medium is flushed only by such a Flush.
+/// So hosts that may not write a namespace write none of its blocks, until a reservation command on it is executed that
+/// all rules let pass.
 pub fn blocks_are_written_as_allowed()
     ensures event { CallsAreAllowed }
     ensures run { CallsOfRunsAreAllowed }
