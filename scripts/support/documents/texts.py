@@ -117,7 +117,8 @@ def anchor_of(heading: str) -> str:
 
 def documents(top: Path) -> List[Document]:
     """All documents of the repository, in order."""
-    paths = [*sorted(top.glob("*.md")), *sorted((top / "docs").glob("**/*.md")), *sorted(top.glob("clients/*.md"))]
+    found = (top.glob("*.md"), (top / "docs").glob("**/*.md"), top.glob("clients/*.md"), top.glob("crates/*/*.md"))
+    paths = [it for some in found for it in sorted(some)]
     return [Document(str(it.relative_to(top)), it.read_text(encoding="utf-8")) for it in paths]
 
 
