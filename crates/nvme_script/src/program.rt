@@ -7,13 +7,18 @@ ghost use Rattle.nvme_script.specs.declared.program.Failure.TheVariants.{File as
 ghost use Rattle.nvme_script.specs.Statuses.{exit_status};
 ghost use Rattle.nvme_medium.specs.declared.host.FileFault.TheVariants.{NoMemory as NoFileMemory};
 
+use crate::configuration::ConfigReason;
+use crate::reason::Reason;
 use crate::run::{ScriptFault, run_script};
 use clap::error::ErrorKind;
 use clap::{Arg, ArgAction, Command};
+use nvme_grammar::{Buffers, fault_at, parse};
 use nvme_medium::{BLOCK, Cached, FileFault, FileMedium, HostFile, Medium, MemMedium};
+use nvme_spec::ConfigFault;
 use nvme_wire::NoMemory;
+use script_text::read_text;
 use std::alloc::{AllocError, Global};
-use std::fs::File;
+use std::fs::{File, OpenOptions};
 use std::io::{BufWriter, Read, Write};
 use std::num::NonZeroUsize;
 use std::rt::Files;
@@ -61,6 +66,15 @@ impl From<io::Error> for Failure {
         × (error_kind error ≢ OutOfMemory → e ≡ FileRefused) };
 
     fn from(error: io::Error) -> Failure {
+        Failure::from(&error)
+    }
+}
+
+impl From<&io::Error> for Failure {
+    ghost from_gives = { λ error e. (error_kind error.now ≡ OutOfMemory → e ≡ MemoryRefused)
+        × (error_kind error.now ≢ OutOfMemory → e ≡ FileRefused) };
+
+    fn from(error: &io::Error) -> Failure {
         match error.kind() {
             io::ErrorKind::OutOfMemory => Failure::Memory,
             _ => Failure::File,
@@ -88,8 +102,20 @@ impl From<AllocError> for Failure {
     }
 }
 
+/// Tells why the program ends: the text of the failure, and behind it a line with its reason. Want of memory has none.
+fn told<E: Write>(errors: &mut E, failure: Failure, reason: Option<Reason<'_, '_>>) -> Failure {
+    let _ = writeln!(errors, "nvmesim: {failure}");
+    if failure.status() == 4 {
+        return failure;
+    }
+    if let Some(reason) = reason {
+        let _ = writeln!(errors, "nvmesim: {reason}");
+    }
+    failure
+}
+
 /// What the command line names.
-#[derive(Drop)]
+#[derive(Clone, Copy)]
 pub struct Paths<'a> {
     /// The image; without it the medium is zeros in memory.
     pub image: Option<&'a str>,
@@ -97,8 +123,21 @@ pub struct Paths<'a> {
     pub script: Option<&'a str>,
 }
 
-/// The paths on the command line of a program of this name, whose first word is that too. A word that begins with `-` and is not `-`
-/// alone is an option, and there is none.
+/// The first word of a command line that is refused.
+fn bad_word(words: &[String]) -> Option<Reason<'_, '_>> {
+    for (number, word) in words.iter().enumerate().skip(1) {
+        if word.len() > 1 && word.starts_with('-') {
+            return Some(Reason::NoOption { number, word });
+        }
+        if number > 2 {
+            return Some(Reason::TooManyWords { number, word });
+        }
+    }
+    None
+}
+
+/// The paths on the command line of a program of this name, which is its first word too. A word that begins with `-` and
+/// is not `-` alone is an option, and there is none.
 pub fn paths_of<'a>(
     alloc: Global,
     name: &'a str,
@@ -123,40 +162,182 @@ pub fn paths_of<'a>(
     }
 }
 
-/// Runs a script over a medium, and writes its transcript through a buffer.
-fn run_over<I: Read, O: Write, M: Medium + Drop>(
+/// Why a line of a script is refused; where its text begins as an image does, that.
+fn line_reason<'p, 't>(
     alloc: Global,
+    text: &'t [u8],
+    number: usize,
+    paths: Paths<'p>,
+) -> Option<Reason<'p, 't>> {
+    if number == 0 {
+        return None;
+    }
+    if let (Some(path), Some(&0)) = (paths.script, text.first()) {
+        return Some(Reason::Zeros { path });
+    }
+    let mut room = Buffers::for_text(alloc, text).ok()?;
+    let fault = fault_at(text, number, &mut room.bytes, &mut room.identifiers)?;
+    Some(Reason::Line(fault))
+}
+
+/// Why the configuration of a script is refused over a medium of so many blocks; where an image has none, that.
+fn configuration_reason<'p, 't>(
+    alloc: Global,
+    text: &'t [u8],
+    fault: ConfigFault,
+    blocks: u64,
+    paths: Paths<'p>,
+) -> Option<Reason<'p, 't>> {
+    if let (Some(path), ConfigFault::DoesNotFit, 0) = (paths.image, fault, blocks) {
+        return Some(Reason::NoBlock { path });
+    }
+    let mut room = Buffers::for_text(alloc, text).ok()?;
+    let script = parse(alloc, text, &mut room.bytes, &mut room.identifiers).ok()?;
+    let reason = ConfigReason::of(&script.config, blocks, fault)?;
+    let line = reason
+        .line
+        .number_in(text, &mut room.bytes, &mut room.identifiers)?;
+    Some(Reason::Config {
+        line,
+        rule: reason.rule,
+    })
+}
+
+/// Tells why a script was not run to its end.
+fn refused<E: Write>(
+    alloc: Global,
+    errors: &mut E,
+    paths: Paths<'_>,
+    text: &[u8],
+    fault: ScriptFault,
+    blocks: u64,
+) -> Failure {
+    let reason = match fault {
+        ScriptFault::Syntax(number) => line_reason(alloc, text, number, paths),
+        ScriptFault::Config(_, fault) => configuration_reason(alloc, text, fault, blocks, paths),
+        ScriptFault::TooLong => Some(Reason::TooLong { path: paths.script }),
+        ScriptFault::Read => Some(Reason::Unread { path: paths.script }),
+        ScriptFault::Write => Some(Reason::Unwritten),
+        ScriptFault::NoMemory => None,
+    };
+    told(errors, Failure::Script(fault), reason)
+}
+
+/// Runs a script over a medium, and writes its transcript through a buffer. Its text is read first, and kept: where it
+/// is refused, the reason stands in it.
+fn run_over<I: Read, O: Write, E: Write, M: Medium + Drop>(
+    alloc: Global,
+    paths: Paths<'_>,
     input: &mut I,
     output: &mut O,
+    errors: &mut E,
     medium: M,
 ) -> Result<(), Failure> {
-    let mut buffered = BufWriter::new(alloc, output)?;
-    if let Err((fault, _)) = run_script(alloc, input, &mut buffered, medium) {
-        return Err(Failure::Script(fault));
+    let text = match read_text(alloc, input) {
+        Ok(text) => text,
+        Err(fault) => return Err(refused(alloc, errors, paths, &[], ScriptFault::from(fault), 0)),
+    };
+    let mut buffered = match BufWriter::new(alloc, output) {
+        Ok(buffered) => buffered,
+        Err(error) => return Err(told(errors, Failure::from(&error), None)),
+    };
+    if let Err((fault, medium)) = run_script(alloc, &mut text.as_slice(), &mut buffered, medium) {
+        return Err(refused(alloc, errors, paths, &text, fault, medium.blocks()));
     }
     match buffered.flush() {
         Ok(()) => Ok(()),
-        Err(_) => Err(Failure::Script(ScriptFault::Write)),
+        Err(_) => Err(refused(alloc, errors, paths, &text, ScriptFault::Write, 0)),
     }
 }
 
 /// Runs the script that the command line names, or else the input, over a medium.
-fn run_named<R: Files + AllocGlobal, I: Read, O: Write, M: Medium + Drop>(
+fn run_named<R: Files + AllocGlobal, I: Read, O: Write, E: Write, M: Medium + Drop>(
     rt: &R,
-    script: Option<&str>,
+    paths: Paths<'_>,
     input: &mut I,
     output: &mut O,
+    errors: &mut E,
     medium: M,
 ) -> Result<(), Failure> {
-    match script {
-        Some(path) => run_over(rt.alloc(), &mut fs::open(rt, path)?, output, medium),
-        None => run_over(rt.alloc(), input, output, medium),
+    let Some(path) = paths.script else {
+        return run_over(rt.alloc(), paths, input, output, errors, medium);
+    };
+    match fs::open(rt, path) {
+        Ok(mut file) => run_over(rt.alloc(), paths, &mut file, output, errors, medium),
+        Err(error) => {
+            let purpose = "as the script, for reading";
+            let reason = unopened(path, purpose, &error);
+            Err(told(errors, Failure::from(&error), Some(reason)))
+        }
     }
 }
 
-/// The medium that an image is, behind a cache: a regular file, whose blocks are read and written in place: each Write has reached the
-/// file when its line is written, and nothing else is ever written there. What is no regular file, once its links are
-/// followed, is no image: to open a pipe or a device may wait, or do something.
+/// That a path can't be opened.
+fn unopened<'p, 't>(path: &'p str, purpose: &'static str, error: &'t io::Error) -> Reason<'p, 't> {
+    Reason::Unopened {
+        path,
+        purpose,
+        error,
+    }
+}
+
+/// What an image is opened for.
+const AS_IMAGE: &str = "as the image, for reading and writing";
+
+/// Opens an image, a regular file. What is no regular file, once its links are followed, is no image: to open a pipe or
+/// a device may wait, or do something.
+fn open_image<R: Files<File = File>, E: Write>(
+    rt: &R,
+    image: &str,
+    errors: &mut E,
+) -> Result<FileMedium<HostFile>, Failure> {
+    match fs::metadata(rt, image) {
+        Ok(metadata) if metadata.is_file() => {}
+        Ok(_) => return Err(told(errors, Failure::File, Some(Reason::NoImage { path: image }))),
+        Err(error) => {
+            let reason = unopened(image, AS_IMAGE, &error);
+            return Err(told(errors, Failure::from(&error), Some(reason)));
+        }
+    }
+    match FileMedium::open(rt, image) {
+        Ok(medium) => Ok(medium),
+        Err(fault) => Err(unopened_image(rt, image, errors, fault)),
+    }
+}
+
+/// Tells why an image can't be opened. The fault doesn't say so, and it is opened again to hear it.
+fn unopened_image<R: Files<File = File>, E: Write>(
+    rt: &R,
+    image: &str,
+    errors: &mut E,
+    fault: FileFault,
+) -> Failure {
+    let failure = Failure::from(fault);
+    match OpenOptions::new().read(true).write(true).open(rt, image) {
+        Ok(_) => told(errors, failure, None),
+        Err(error) => told(errors, failure, Some(unopened(image, AS_IMAGE, &error))),
+    }
+}
+
+/// Runs a script over an image, whose blocks are read and written in place: each Write has reached the file when its
+/// line is written, and nothing else is ever written there.
+fn run_image<R: Files<File = File> + AllocGlobal, I: Read, O: Write, E: Write>(
+    rt: &R,
+    image: &str,
+    paths: Paths<'_>,
+    input: &mut I,
+    output: &mut O,
+    errors: &mut E,
+) -> Result<(), Failure> {
+    let file = open_image(rt, image, errors)?;
+    let kept = NonZeroUsize::new(KEPT_BLOCKS).unwrap();
+    match Cached::new(rt.alloc(), file, kept) {
+        Ok(medium) => run_named(rt, paths, input, output, errors, medium),
+        Err((_, NoMemory)) => Err(told(errors, Failure::Memory, None)),
+    }
+}
+
+/// The medium that an image is, behind a cache, for a program that tells no reason where it can't be opened.
 pub fn image_at<R: Files<File = File> + AllocGlobal>(
     rt: &R,
     image: &str,
@@ -177,22 +358,24 @@ pub fn scratch(alloc: Global) -> Result<MemMedium, Failure> {
     Ok(MemMedium::of(vec![in alloc; 0; SCRATCH_BYTES]?))
 }
 
-/// Runs the script that the command line names, or else the input, over the medium that it names.
-fn run_over_named<R: Files<File = File> + AllocGlobal, I: Read, O: Write>(
+/// Runs a script over zeros in memory.
+fn run_scratch<R: Files + AllocGlobal, I: Read, O: Write, E: Write>(
     rt: &R,
     paths: Paths<'_>,
     input: &mut I,
     output: &mut O,
+    errors: &mut E,
 ) -> Result<(), Failure> {
-    match paths.image {
-        Some(image) => run_named(rt, paths.script, input, output, image_at(rt, image)?),
-        None => run_named(rt, paths.script, input, output, scratch(rt.alloc())?),
+    match scratch(rt.alloc()) {
+        Ok(medium) => run_named(rt, paths, input, output, errors, medium),
+        Err(failure) => Err(told(errors, failure, None)),
     }
 }
 
 /// The program over the streams that it is handed: its words, the first of which is its name, its standard input,
 /// output and error. The answer is its exit status: 0 done; 1 a fault of the script; 2 a file or stream that can't be
-/// opened, read or written; 3 a refused command line; 4 want of memory. For all but 0 one line goes to standard error.
+/// opened, read or written; 3 a refused command line; 4 want of memory. For all but 0 one line goes to standard error,
+/// and behind it a second, which gives the reason, for all but want of memory.
 pub fn run_program<R: Files<File = File> + AllocGlobal, I: Read, O: Write, E: Write>(
     rt: &R,
     words: &[String],
@@ -202,15 +385,16 @@ pub fn run_program<R: Files<File = File> + AllocGlobal, I: Read, O: Write, E: Wr
 ) -> u8
     ensures { result ≤ 4 }
 {
-    let outcome = match paths_of(rt.alloc(), "nvmesim", words) {
-        Ok(paths) => run_over_named(rt, paths, input, output),
-        Err(failure) => Err(failure),
+    let paths = match paths_of(rt.alloc(), "nvmesim", words) {
+        Ok(paths) => paths,
+        Err(failure) => return told(errors, failure, bad_word(words)).status(),
+    };
+    let outcome = match paths.image {
+        Some(image) => run_image(rt, image, paths, input, output, errors),
+        None => run_scratch(rt, paths, input, output, errors),
     };
     match outcome {
         Ok(()) => 0,
-        Err(failure) => {
-            let _ = writeln!(errors, "nvmesim: {failure}");
-            failure.status()
-        }
+        Err(failure) => failure.status(),
     }
 }

@@ -73,6 +73,7 @@ fn refused(rt: &impl Eprint, kind: io::ErrorKind) -> ExitCode {
         }
         _ => {
             let _ = rt.eprintln("nvmesim: bad command line");
+            let _ = rt.eprintln("nvmesim: a word is no UTF-8; usage: nvmesim [IMAGE [SCRIPT]]");
             ExitCode::from(BAD_COMMAND_LINE)
         }
     }

@@ -148,14 +148,23 @@ def difference(found: Optional[bytes], wanted: Optional[bytes]) -> str:
             f"{clip(found[start:at + 60])}, and not ..{clip(wanted[start:at + 60])}")
 
 
+def tells(errors: bytes, text: bytes) -> bool:
+    """Whether standard error is a text of one line, or none, and at most a line with the reason behind it."""
+    reason = errors.removeprefix(text)
+    if errors == text or not text:
+        return errors == text
+    return errors.startswith(text) and reason.startswith(b"nvmesim: ") and reason.find(b"\n") == len(reason) - 1
+
+
 def must_be(what: str, shown: Shown, status: int, output: Optional[bytes], errors: Optional[bytes],
             image: Optional[bytes]) -> None:
-    """Whether a run ended as it must; an output or a text of errors that is None may be any."""
+    """Whether a run ended as it must; an output or a text of errors that is None may be any. Of standard error the first
+    line is compared; a second one may give the reason."""
     if shown.status != status:
         raise Wrong(f"{what}: status {shown.status}, and not {status}; standard error has {clip(shown.errors)}")
     if output is not None and shown.output != output:
         raise Wrong(f"{what}: not the transcript: {difference(shown.output, output)}")
-    if errors is not None and shown.errors != errors:
+    if errors is not None and not tells(shown.errors, errors):
         raise Wrong(f"{what}: standard error has {clip(shown.errors)}, and not {clip(errors)}")
     if shown.image != image:
         raise Wrong(f"{what}: not the image: {difference(shown.image, image)}")

@@ -9,7 +9,7 @@ import subprocess
 from pathlib import Path
 from typing import Iterator, List
 
-from support.faults.bench import WITHIN, Bench, Shown, Wrong, each, must_be
+from support.faults.bench import WITHIN, Bench, Shown, Wrong, each, must_be, tells
 from support.faults.model import Command, Disk, Told, flushes_of, pattern, plan, script_of, told_of
 
 BLOCKS = 48
@@ -114,7 +114,7 @@ def try_head(bench: Bench, case: Case) -> None:
     errors = started.stderr.read()
     status = started.wait(timeout=WITHIN)
     started.stderr.close()
-    if head.stdout != b"up 1 ok\n" or status != 2 or errors != FAULT:
+    if head.stdout != b"up 1 ok\n" or status != 2 or not tells(errors, FAULT):
         raise Wrong(f"head -n 1 has {head.stdout!r}, and the program ended with status {status} and {errors!r}")
     if (room / "image").read_bytes() not in [case.image_at(at) for at in range(1, len(case.flushes) + 1)]:
         raise Wrong("head -n 1: the image is not what the events up to a write of the transcript leave")

@@ -1,0 +1,122 @@
+//! What the program tells beside the text of a failure: one line, which gives its reason.
+
+use crate::configuration::BrokenRule;
+use nvme_grammar::LineFault;
+use std::{fmt, io};
+
+/// How the program is called.
+const USAGE: &str = "nvmesim [IMAGE [SCRIPT]]";
+
+/// Why the program ends.
+#[derive(Clone, Copy)]
+pub enum Reason<'p, 't> {
+    /// This word of the command line, from 1, is one too many.
+    TooManyWords {
+        number: usize,
+        word: &'p str,
+    },
+    /// This word of the command line begins as an option does.
+    NoOption {
+        number: usize,
+        word: &'p str,
+    },
+    /// A path that can't be opened for this purpose, or asked for what it is.
+    Unopened {
+        path: &'p str,
+        purpose: &'static str,
+        error: &'t io::Error,
+    },
+    /// A path that is no regular file.
+    NoImage {
+        path: &'p str,
+    },
+    /// The script can't be read.
+    Unread {
+        path: Option<&'p str>,
+    },
+    /// The script has too many bytes.
+    TooLong {
+        path: Option<&'p str>,
+    },
+    /// The transcript can't be written.
+    Unwritten,
+    /// A line outside the grammar.
+    Line(LineFault<'t>),
+    /// A script that begins as images do.
+    Zeros {
+        path: &'p str,
+    },
+    /// A configuration that is refused at a line.
+    Config {
+        line: usize,
+        rule: BrokenRule,
+    },
+    /// An image without a block.
+    NoBlock {
+        path: &'p str,
+    },
+}
+
+/// The file that a script stands in, or the standard input.
+#[derive(Clone, Copy)]
+struct ScriptName<'a>(Option<&'a str>);
+
+impl fmt::Display for ScriptName<'_> {
+    fn fmt<W: fmt::Write>(&self, f: &mut fmt::Formatter<W>) -> fmt::Result {
+        match self.0 {
+            Some(path) => write!(f, "{}", path.escape_debug()),
+            None => write!(f, "standard input"),
+        }
+    }
+}
+
+impl fmt::Display for Reason<'_, '_> {
+    fn fmt<W: fmt::Write>(&self, f: &mut fmt::Formatter<W>) -> fmt::Result {
+        match self {
+            Reason::TooManyWords { number, word } => write!(
+                f,
+                "word {number}, '{}', is one too many; usage: {USAGE}",
+                word.escape_debug()
+            ),
+            Reason::NoOption { number, word } => write!(
+                f,
+                "word {number}, '{}', begins as an option does, and there is none; usage: {USAGE}",
+                word.escape_debug()
+            ),
+            Reason::Unopened {
+                path,
+                purpose,
+                error,
+            } => write!(
+                f,
+                "'{}' can't be opened {purpose}: {error}",
+                path.escape_debug()
+            ),
+            Reason::NoImage { path } => write!(
+                f,
+                "'{}' is no regular file, as an image has to be",
+                path.escape_debug()
+            ),
+            Reason::Unread { path } => write!(f, "{} can't be read", ScriptName(*path)),
+            Reason::TooLong { path } => write!(
+                f,
+                "{} has more than 4194304 bytes; an image is the first word: {USAGE}",
+                ScriptName(*path)
+            ),
+            Reason::Unwritten => write!(f, "standard output can't be written"),
+            Reason::Line(fault) => write!(f, "{fault}"),
+            Reason::Zeros { path } => write!(
+                f,
+                "'{}' begins with a byte 00h, as images do and scripts don't; usage: {USAGE}",
+                path.escape_debug()
+            ),
+            Reason::Config { line, rule } => write!(f, "line {line}: {rule}"),
+            Reason::NoBlock { path } => write!(
+                f,
+                "'{}' has no whole block; to run a script over zeros in memory: ./nvmesim - {}",
+                path.escape_debug(),
+                path.escape_debug()
+            ),
+        }
+    }
+}
