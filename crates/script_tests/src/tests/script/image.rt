@@ -202,26 +202,63 @@ fn leaves_the_image_where_the_script_cannot_be_read(rt: HostRuntime) -> Result<(
 
 #[test]
 fn faults_of_files_come_first(rt: HostRuntime) -> Result<(), Fail> {
-    let faults: [&[&str]; 9] = [
-        &["no-such-image"],
-        &["/dev/zero"],
-        &["/dev/null", "no-such-script"],
-        &["no-such-image", "no-such-script"],
-        &[""],
-        &["."],
-        &["-", "no-such-script"],
-        &["-", ""],
-        &["-", "."],
+    let image =
+        "'no-such-image' can't be opened as the image, for reading and writing: No such file";
+    let script = "'no-such-script' can't be opened as the script, for reading: No such file";
+    let faults: [(&[&str], &str); 9] = [
+        (&["no-such-image"], image),
+        (&["/dev/zero"], "'/dev/zero' is no regular file"),
+        (
+            &["/dev/null", "no-such-script"],
+            "'/dev/null' is no regular file",
+        ),
+        (&["no-such-image", "no-such-script"], image),
+        (&[""], "'' can't be opened as the image"),
+        (&["."], "'.' is no regular file"),
+        (&["-", "no-such-script"], script),
+        (&["-", ""], "'' can't be opened as the script"),
+        (&["-", "."], ". can't be read"),
     ];
-    for arguments in faults {
+    for (arguments, reason) in faults {
         let shown = run(&rt, arguments, &mut &b"not a script"[..])?;
-        assert_eq!(rt;
-            shown.errors.as_slice(),
-            b"nvmesim: file fault\n".as_slice()
-        );
+        let told = format!(in rt.alloc(); "nvmesim: file fault\nnvmesim: {reason}")?;
+        assert!(rt; shown.errors.starts_with(told.as_bytes()));
         assert_eq!(rt; shown.status, 2);
         assert!(rt; shown.output.is_empty());
     }
+    Ok(())
+}
+
+#[test]
+fn tells_an_image_from_a_script(rt: HostRuntime) -> Result<(), Fail> {
+    fs::write(
+        &rt,
+        "taken-for-image",
+        b"namespace 1 blocks 1 shared\nstart\n",
+    )?;
+    let script = run(
+        &rt,
+        &["taken-for-image"],
+        &mut &b"namespace 1 blocks 1 shared\nstart\n"[..],
+    )?;
+    fs::remove_file(&rt, "taken-for-image")?;
+    fs::write(&rt, "taken-for-script", [0; 1024].as_slice())?;
+    let image = run(&rt, &["-", "taken-for-script"], &mut &b""[..])?;
+    fs::remove_file(&rt, "taken-for-script")?;
+    assert_eq!(rt;
+        script.errors.as_slice(),
+        b"nvmesim: line 2: DoesNotFit
+nvmesim: 'taken-for-image' has no whole block; to run a script over zeros in memory: ./nvmesim - taken-for-image
+"
+            .as_slice()
+    );
+    assert_eq!(rt;
+        image.errors.as_slice(),
+        b"nvmesim: line 1: not understood
+nvmesim: 'taken-for-script' begins with a byte 00h, as images do and scripts don't; usage: nvmesim [IMAGE [SCRIPT]]
+"
+            .as_slice()
+    );
     Ok(())
 }
 

@@ -104,31 +104,66 @@ start
 #[test]
 fn names_the_fault_of_a_script(rt: HostRuntime) -> Result<(), Fail> {
     let cases = [
-        (CUT_SHORT, b"nvmesim: line 11: not understood\n".as_slice()),
+        (
+            CUT_SHORT,
+            b"nvmesim: line 11: not understood
+nvmesim: column 1: read takes 5 words: read C N SLBA BLOCKS
+"
+                .as_slice(),
+        ),
         (
             b"start\ndo 1 read 1 0 1\n",
-            b"nvmesim: line 2: not understood\n",
+            b"nvmesim: line 2: not understood
+nvmesim: column 1: there is no line 'do'
+",
         ),
         (
             b"read 1 1 0 1\nstart\n",
-            b"nvmesim: line 1: not understood\n",
+            b"nvmesim: line 1: not understood
+nvmesim: column 1: read stands behind 'start', and nothing is started yet
+",
         ),
         (
             b"# \xff\x00\x0b is a comment\n\xff\x00\x0b is not\n",
-            b"nvmesim: line 2: not understood\n",
+            b"nvmesim: line 2: not understood
+nvmesim: column 1: the byte \\xff is neither a visible character nor a space, a tab or a carriage return
+",
+        ),
+        (
+            b"start\n#\nstart\n",
+            b"nvmesim: line 3: not understood
+nvmesim: column 1: start stands in a script once
+",
         ),
         (
             b"controller 2 host 0xa1\nstart\n",
-            b"nvmesim: line 2: BadId\n",
+            b"nvmesim: line 2: BadId
+nvmesim: line 1: controller 1 has to stand here, and not 2: they are counted from 1
+",
         ),
         (
             b"controller 1 host 0xa1\n\nnamespace 1 blocks 0 shared\nstart\n",
-            b"nvmesim: line 4: BadSize\n",
+            b"nvmesim: line 4: BadSize
+nvmesim: line 3: namespace 1 has no blocks
+",
         ),
-        (NINE_NAMESPACES, b"nvmesim: line 10: TooMany\n"),
+        (
+            b"#\nnamespace 3 blocks 70000 shared\nstart\n",
+            b"nvmesim: line 3: BadSize
+nvmesim: line 2: namespace 3 has 70000 blocks, and 65536 is the most
+",
+        ),
+        (
+            NINE_NAMESPACES,
+            b"nvmesim: line 10: TooMany
+nvmesim: line 9: this is the ninth namespace, and 8 is the most
+",
+        ),
         (
             b"namespace 1 blocks 1025 shared\n#\nstart\n",
-            b"nvmesim: line 3: DoesNotFit\n",
+            b"nvmesim: line 3: DoesNotFit
+nvmesim: line 1: namespace 1 ends behind the 1024 blocks of the medium, where the namespaces lie one after the other
+",
         ),
     ];
     for (text, told) in cases {
@@ -136,6 +171,53 @@ fn names_the_fault_of_a_script(rt: HostRuntime) -> Result<(), Fail> {
         assert_eq!(rt; shown.errors.as_slice(), told);
         assert_eq!(rt; shown.status, 1);
         assert!(rt; shown.output.is_empty());
+    }
+    Ok(())
+}
+
+/// Lines between two controllers, two namespaces and `start`, and the rule that each breaks.
+const BROKEN: [(&str, &str); 9] = [
+    (
+        "controller 3 host 0",
+        "line 5: controller 3 belongs to host 0, which is none",
+    ),
+    (
+        "namespace 9 blocks 1 shared",
+        "line 5: namespace 9 can't be: they are 1 to 8",
+    ),
+    (
+        "namespace 1 blocks 1 shared",
+        "line 5: namespace 1 stands twice",
+    ),
+    ("attached 3 1", "line 5: controller 3 is not configured"),
+    ("attached 1 3", "line 5: namespace 3 is not configured"),
+    (
+        "attached 1 1\nattached 1 1",
+        "line 6: controller 1 is attached to namespace 1 twice",
+    ),
+    (
+        "attached 1 2\n#\nattached 2 2",
+        "line 7: namespace 2 is private, and controller 2 is the second that is attached to it",
+    ),
+    (
+        "controller 4 host 1",
+        "line 5: controller 3 has to stand here, and not 4: they are counted from 1",
+    ),
+    (
+        "namespace 0 blocks 1 shared",
+        "line 5: namespace 0 can't be: they are 1 to 8",
+    ),
+];
+
+#[test]
+fn names_the_line_of_a_bad_identifier(rt: HostRuntime) -> Result<(), Fail> {
+    for (lines, rule) in BROKEN {
+        let text = format!(in rt.alloc();
+            "controller 1 host 1\ncontroller 2 host 2\nnamespace 1 blocks 1 shared\nnamespace 2 blocks 1 private\n{lines}\nstart\n"
+        )?;
+        let shown = run(&rt, &[], &mut text.as_bytes())?;
+        let told = format!(in rt.alloc(); ": BadId\nnvmesim: {rule}\n")?;
+        assert!(rt; shown.errors.ends_with(told.as_bytes()));
     }
     Ok(())
 }
@@ -156,9 +238,15 @@ fn refuses_command_lines(rt: HostRuntime) -> Result<(), Fail> {
     ];
     for arguments in bad {
         let shown = run(&rt, arguments, &mut SETUP)?;
-        assert_eq!(rt;
-            shown.errors.as_slice(),
-            b"nvmesim: bad command line\n".as_slice()
+        assert!(rt;
+            shown
+                .errors
+                .starts_with(b"nvmesim: bad command line\nnvmesim: word ")
+        );
+        assert!(rt;
+            shown
+                .errors
+                .ends_with(b"; usage: nvmesim [IMAGE [SCRIPT]]\n")
         );
         assert_eq!(rt; shown.status, 3);
         assert!(rt; shown.output.is_empty());
@@ -173,9 +261,10 @@ fn scripts_have_a_longest_length(rt: HostRuntime) -> Result<(), Fail> {
     assert_eq!(rt; longest.status, 0);
     assert!(rt; longest.output.is_empty() && longest.errors.is_empty());
     let longer = run(&rt, &[], &mut text.as_slice())?;
-    assert_eq!(rt;
-        longer.errors.as_slice(),
-        b"nvmesim: script too long\n".as_slice()
+    assert!(rt;
+        longer.errors.starts_with(
+            b"nvmesim: script too long\nnvmesim: standard input has more than 4194304 "
+        )
     );
     assert_eq!(rt; longer.status, 1);
     assert!(rt; longer.output.is_empty());
