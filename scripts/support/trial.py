@@ -139,12 +139,17 @@ class Bench:
             else:
                 yield self.try_in_full(edit)
 
+    def asked(self, edit, *kept):
+        """What `rt` makes of a wrong body: whether the prover refuses it, and in which words."""
+        outcome, words = self.rt.must_fail(self.crate, str(edit.file), ["--jobs", "1"], *kept)
+        return outcome == self.rt.REFUSED, words
+
     def try_in_full(self, edit):
         """Tries a wrong body as `rt` does: over the kept work, and from nothing where it is not refused so."""
         HERE.bench = self
-        is_refused, words = self.rt.must_fail(self.crate, str(edit.file), ["--jobs", "1"], self.kept)
+        is_refused, words = self.asked(edit, self.kept)
         if not is_refused and "BAD EDIT" not in words:
-            is_refused, words = self.rt.must_fail(self.crate, str(edit.file), ["--jobs", "1"])
+            is_refused, words = self.asked(edit)
         words = words.split(f"{edit.name}: ", 1)[-1]
         goals = {it[4]: it[3] for it in map(NOTE.match, self.output.split("\n")) if it}
         first = re.sub(r"^refused, as it must be(?:: )?", "", words) or "not proved"
