@@ -75,17 +75,13 @@ fn a_block_is_written_and_read(rt: HostRuntime) -> Result<(), Fail> {
 /// Three blocks are written. The blocks before the one that failed have their bytes, and the others are as they were.
 #[test]
 fn three_blocks_are_written(rt: HostRuntime) -> Result<(), Fail> {
-    for call in 0..3 {
-        let mut fleet = open_failing(rt.alloc(), call as u64)?;
+    for call in 0_u64..3 {
+        let mut fleet = open_failing(rt.alloc(), call)?;
         let written = outcome(&mut fleet, write(1, 0, &[0x5a; 1536]))?;
         assert_eq!(rt; written, WRITE_FAULT, "at call {call}");
-        for i in 0..3 {
+        for i in 0_u64..3 {
             let byte = if i < call { 0x5a } else { 0 };
-            assert_eq!(rt;
-                outcome(&mut fleet, read(1, i as u64, 1))?,
-                DONE,
-                "at call {call}"
-            );
+            assert_eq!(rt; outcome(&mut fleet, read(1, i, 1))?, DONE, "at call {call}");
             assert_eq!(rt;
                 fleet.data(),
                 [byte; 512].as_slice(),

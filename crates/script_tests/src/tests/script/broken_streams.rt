@@ -71,8 +71,8 @@ fn streams_are_called_no_more_than_once(rt: HostRuntime) -> Result<(), Fail> {
 #[test]
 fn a_writer_that_fails_stops_behind_its_command(rt: HostRuntime) -> Result<(), Fail> {
     let text = carried(rt.alloc(), THREE_WRITES)?;
-    let mut refused = 0;
-    for failing in [0, 1, 4, 9, 15, 16] {
+    let mut refused: usize = 0;
+    for failing in [0_usize, 1, 4, 9, 15, 16] {
         let mut writer = FailingWriter::at_write(rt.alloc(), failing);
         let medium = MemMedium::new(rt.alloc(), &[0; 32768])?;
         match run_script(rt.alloc(), &mut text.as_slice(), &mut writer, medium) {
@@ -81,12 +81,9 @@ fn a_writer_that_fails_stops_behind_its_command(rt: HostRuntime) -> Result<(), F
                 assert_eq!(rt; lines_in(writer.kept.as_slice()), 16);
             }
             Err((fault, medium)) => {
-                refused = failing + 1;
+                refused = failing.saturating_add(1);
                 assert_eq!(rt; fault, ScriptFault::Write, "at write {failing}");
-                assert!(rt;
-                    writer.writes == failing + 1,
-                    "nothing is written behind it"
-                );
+                assert!(rt; writer.writes == refused, "nothing is written behind it");
                 let told = lines_in(writer.kept.as_slice());
                 // The driver comes up, and each request takes five events, of which the fourth executes it.
                 let events = told.checked_add(1).ok_or("no such count")?;
