@@ -2,13 +2,16 @@
 import os
 import shlex
 import shutil
+import struct
 import subprocess
 from concurrent.futures import ThreadPoolExecutor
-from dataclasses import dataclass
+from dataclasses import dataclass, field
 from itertools import count
 from pathlib import Path
 from typing import Any, Callable, Dict, Iterable, Iterator, List, Optional, Sequence
 
+# The kinds of calls that the library counts, in its order.
+KINDS = ("alloc", "open", "stat", "read", "write", "pread", "pwrite", "sync")
 # How many seconds a run may take; it takes a few hundredths.
 WITHIN = 60
 SOURCE = Path(__file__).resolve().parent / "refuse.c"
@@ -32,12 +35,14 @@ class Plan:
 
 @dataclass
 class Shown:
-    """What a run showed and left: its status, its streams, its image, and how many calls were made to fail."""
+    """What a run showed and left: its status, its streams, its image, how many calls were made to fail, and how many of
+    each kind were made, where the library was loaded and the program ended by itself."""
     status: int
     output: bytes
     errors: bytes
     image: Optional[bytes]
     hits: int
+    counts: Dict[str, int] = field(default_factory=dict)
 
 
 class Bench:
@@ -57,19 +62,24 @@ class Bench:
         room.mkdir()
         return room
 
+    def orders(self, room: Path, plan: Optional[Plan], image: str = "image") -> Dict[str, str]:
+        """What the environment of a run has beside the caller's: without a plan and a lie nothing."""
+        if not plan and not self.lie:
+            return {}
+        return {"LD_PRELOAD": str(self.library), "FAULTS_LIE": self.lie, "FAULTS_PLAN": str(plan or ""),
+                "FAULTS_TOLD": str(room / "told"), "FAULTS_COUNTED": str(room / "counted"),
+                "FAULTS_IMAGE": str(room / image)}
+
     def environment(self, room: Path, plan: Optional[Plan]) -> Dict[str, str]:
-        """The environment of a run: without a plan and a lie that of the caller."""
-        own = dict(os.environ)
-        if plan or self.lie:
-            own.update(LD_PRELOAD=str(self.library), FAULTS_LIE=self.lie, FAULTS_PLAN=str(plan or ""),
-                       FAULTS_TOLD=str(room / "told"), FAULTS_IMAGE=str(room / "image"))
-        return own
+        """The environment of a run."""
+        return {**os.environ, **self.orders(room, plan)}
 
     def start(self, room: Path, words: Sequence[str], plan: Optional[Plan] = None, **streams: Any) -> subprocess.Popen:
         """Starts the program in a folder."""
         return subprocess.Popen([str(self.program), *words], cwd=room, env=self.environment(room, plan), **streams)
 
-    def run(self, script: bytes, image: Optional[bytes] = None, plan: Optional[Plan] = None, by_stdin: bool = False) -> Shown:
+    def run(self, script: bytes, image: Optional[bytes] = None, plan: Optional[Plan] = None,
+            by_stdin: bool = False) -> Shown:
         """Runs a script over an image of these bytes, or over zeros in memory."""
         room = self.room()
         (room / "script").write_bytes(script)
@@ -90,9 +100,14 @@ class Bench:
             started.kill()
             started.communicate()
             raise Wrong(f"a run that did not end within {WITHIN} seconds") from None
-        image, told = room / "image", room / "told"
+        image, told, counted = room / "image", room / "told", room / "counted"
+        counts = struct.unpack(f"{len(KINDS)}Q", counted.read_bytes()) if counted.exists() else ()
         return Shown(started.returncode, output or b"", errors or b"", image.read_bytes() if image.is_file() else None,
-                     told.stat().st_size if told.exists() else 0)
+                     told.stat().st_size if told.exists() else 0, dict(zip(KINDS, counts)))
+
+
+# A check of a group over the repository: it says what was tried, or that something is wrong.
+Check = Callable[[Bench, Path], str]
 
 
 def compilers() -> Iterator[List[str]]:
@@ -158,8 +173,8 @@ def tells(errors: bytes, text: bytes) -> bool:
 
 def must_be(what: str, shown: Shown, status: int, output: Optional[bytes], errors: Optional[bytes],
             image: Optional[bytes]) -> None:
-    """Whether a run ended as it must; an output or a text of errors that is None may be any. Of standard error the first
-    line is compared; a second one may give the reason."""
+    """Whether a run ended as it must; an output or a text of errors that is None may be any. Of standard error the
+    first line is compared; a second one may give the reason."""
     if shown.status != status:
         raise Wrong(f"{what}: status {shown.status}, and not {status}; standard error has {clip(shown.errors)}")
     if output is not None and shown.output != output:

@@ -8,9 +8,9 @@ import os
 import shutil
 import subprocess
 from pathlib import Path
-from typing import Dict, Iterator, List
+from typing import Dict, List
 
-from support.faults.bench import Bench, Plan, Shown, Wrong, clip
+from support.faults.bench import Bench, Check, Plan, Shown, Wrong, clip
 from support.faults.model import plan
 
 CRATE = "crates/nvme_refusals"
@@ -43,8 +43,8 @@ def judge(names: List[str], refused: Plan, shown: Shown) -> Dict[str, str]:
     return told
 
 
-def check(bench: Bench, top: Path) -> Iterator[str]:
-    """The group."""
+def try_calls(bench: Bench, top: Path) -> str:
+    """Each request of each call refused."""
     if not (top / CRATE / "out/nvme_refusals").is_file():
         raise Wrong(f"{CRATE} is not built: `rt run` there builds it")
     names = [line.split(": ")[0] for line in (top / CRATE / "stdout").read_text(encoding="utf-8").splitlines()]
@@ -61,4 +61,7 @@ def check(bench: Bench, top: Path) -> Iterator[str]:
     for name, count in counts.items():
         if not count:
             raise Wrong(f"no request of {name} was refused")
-    yield "each request of a call refused: " + ", ".join(f"{it} {n}" for it, n in counts.items()) + ": as they must be"
+    return "each request of a call refused: " + ", ".join(f"{it} {n}" for it, n in counts.items()) + ": as they must be"
+
+
+CHECKS: Dict[str, Check] = {"each": try_calls}

@@ -4,35 +4,50 @@ import sys
 import tempfile
 import time
 from pathlib import Path
-from typing import Callable, Dict, Iterator, List, Tuple
+from typing import Dict, List
 
-from support.faults import calls, commands, cuts, device, files, killed, memory, moments, script, transcript
-from support.faults.bench import Bench, Wrong
+from support.faults import calls, commands, cuts, device, files, killed, memory, moments, mounts, script, transcript
+from support.faults.bench import Bench, Check, Wrong
 
 USAGE = """Tries what a user of storage fears on the built program.
 
 Each request for memory, each call on the image, each read of the script and each write of the transcript fails in
-turn; the program is killed at any moment; images are cut, removed and no files; scripts are cut. What must come of it
-is computed from what docs/SCRIPTS.md promises. The status is 1 at the first thing that is wrong, and 2 where nothing
-could be tried. A small library is compiled for it, by $CC, `cc` or the toolchain's compiler."""
+turn; the program is killed at any moment; images are cut, removed and no files, and stand on file systems that are full
+or can only be read; scripts are cut. What must come of it is computed from what docs/SCRIPTS.md promises. The status is
+1 at the first thing that is wrong, and 2 where nothing could be tried. A small library is compiled for it, by $CC, `cc`
+or the toolchain's compiler."""
 
-Group = Callable[[Bench, Path], Iterator[str]]
-GROUPS: Dict[str, Group] = {
-    "memory": memory.check, "calls": calls.check, "device": device.check, "commands": commands.check, "script": script.check,
-    "transcript": transcript.check, "files": files.check, "cuts": cuts.check, "killed": killed.check,
-    "moments": moments.check,
+GROUPS: Dict[str, Dict[str, Check]] = {
+    "memory": memory.CHECKS, "calls": calls.CHECKS, "device": device.CHECKS, "commands": commands.CHECKS,
+    "script": script.CHECKS, "transcript": transcript.CHECKS, "files": files.CHECKS, "mounts": mounts.CHECKS,
+    "cuts": cuts.CHECKS, "killed": killed.CHECKS, "moments": moments.CHECKS,
 }
-# What the program is made to do wrong in the self-test, and the groups that must not let it pass; refuse.c says what
-# each lie is.
-LIES: Tuple[Tuple[str, Tuple[str, ...]], ...] = (
-    ("unharmed", ("memory", "calls", "device", "commands", "script", "transcript", "files", "killed")),
-    ("lost", ("memory", "device", "commands", "transcript", "files", "cuts", "killed", "moments")),
-    ("stray", ("memory", "device", "commands", "script", "transcript", "files", "cuts", "killed", "moments")),
-    ("late", ("device", "killed", "moments")),
-    ("garbled", ("memory", "calls", "device", "commands", "script", "transcript", "files", "cuts", "killed", "moments")),
-    ("calm", ("memory", "script", "transcript", "files", "cuts")),
-    ("blurred", ("memory", "script", "transcript", "files", "cuts")),
-)
+# What the program is made to do wrong in the self-test, and the checks that must not let it pass, group by group;
+# refuse.c says what each lie is.
+LIES: Dict[str, Dict[str, str]] = {
+    "unharmed": {"memory": "turns onward", "calls": "each", "device": "reads writes syncs onward unkept",
+                 "commands": "blocks raw", "script": "reads", "transcript": "writes", "files": "opening",
+                 "killed": "calls writes"},
+    "lost": {"memory": "turns onward", "device": "reads writes syncs onward unkept", "commands": "blocks raw",
+             "transcript": "writes gone leaving", "files": "paths opening limit", "mounts": "full", "cuts": "each",
+             "killed": "calls writes"},
+    "stray": {"memory": "turns onward", "device": "reads writes syncs onward unkept", "commands": "blocks raw",
+              "script": "reads", "transcript": "writes gone leaving", "files": "sizes changed paths opening limit",
+              "mounts": "full", "cuts": "each", "killed": "calls writes", "moments": "random"},
+    "late": {"memory": "turns onward", "device": "writes onward", "files": "changed limit", "killed": "calls writes",
+             "moments": "random"},
+    "garbled": {"memory": "turns onward", "calls": "each", "device": "reads writes syncs onward unkept",
+                "commands": "blocks", "script": "reads", "transcript": "writes leaving",
+                "files": "sizes changed paths rights opening limit", "mounts": "full", "cuts": "each",
+                "killed": "calls writes", "moments": "random"},
+    "calm": {"memory": "turns onward", "script": "reads", "transcript": "writes gone leaving",
+             "files": "sizes paths rights opening", "mounts": "read-only", "cuts": "each lengths endless"},
+    "blurred": {"memory": "turns onward", "script": "reads", "transcript": "writes gone leaving",
+                "files": "sizes paths rights opening", "mounts": "read-only", "cuts": "each lengths endless"},
+    "bold": {"files": "rights opening", "mounts": "read-only"},
+    "smooth": {"device": "writes onward", "commands": "blocks", "files": "limit", "mounts": "full"},
+    "filled": {"files": "changed"},
+}
 
 
 def words_of(given: List[str]) -> argparse.Namespace:
@@ -42,7 +57,8 @@ def words_of(given: List[str]) -> argparse.Namespace:
     parser.add_argument("program", metavar="PROGRAM", help="a built nvmesim, such as crates/nvmesim/out/nvmesim")
     parser.add_argument("groups", nargs="*", metavar="GROUP", help=f"one of {', '.join(GROUPS)}; else all")
     parser.add_argument("--self-test", action="store_true",
-                        help="make the program do wrong, in seven ways, which each group that can see it must find")
+                        help="make the program do wrong, in ten ways: each check that can see one must find it, and "
+                             "each must find one")
     return parser.parse_args(given)
 
 
@@ -51,8 +67,8 @@ def try_groups(bench: Bench, top: Path, names: List[str]) -> int:
     for name in names:
         begun = time.monotonic()
         try:
-            for line in GROUPS[name](bench, top):
-                print(line, flush=True)
+            for check in GROUPS[name].values():
+                print(check(bench, top), flush=True)
         except Wrong as wrong:
             print(f"faults: {name}: {wrong}", file=sys.stderr)
             return 1
@@ -60,21 +76,32 @@ def try_groups(bench: Bench, top: Path, names: List[str]) -> int:
     return 0
 
 
+def is_found(bench: Bench, top: Path, name: str, check: Check) -> bool:
+    """Whether a check finds the lie of its bench."""
+    try:
+        check(bench, top)
+    except Wrong as wrong:
+        print(f"{bench.lie}, {name}: found: {str(wrong)[:150]}", flush=True)
+        return True
+    print(f"faults: {bench.lie}, {name}: not found", file=sys.stderr)
+    return False
+
+
 def self_test(folder: Path, program: Path, top: Path, names: List[str]) -> int:
-    """The status of the self-test: each lie must be found by each group that can see it."""
-    missed = 0
-    for lie, groups in LIES:
+    """The status of the self-test: each lie must be found by each check that can see it, and each check finds one."""
+    missed, seen = 0, set()
+    for lie, groups in LIES.items():
         bench = Bench(folder, program, lie)
-        for name in (it for it in groups if it in names):
-            try:
-                for _ in GROUPS[name](bench, top):
-                    pass
-            except Wrong as wrong:
-                print(f"{lie}, {name}: found: {str(wrong)[:150]}", flush=True)
-            else:
-                print(f"faults: {lie}, {name}: not found", file=sys.stderr)
-                missed += 1
-    print(f"faults: self-test: {missed} lies passed" if missed else "faults: self-test: each lie was found")
+        for group in (it for it in groups if it in names):
+            for name in groups[group].split():
+                seen.add((group, name))
+                missed += not is_found(bench, top, f"{group} {name}", GROUPS[group][name])
+    for group, name in ((group, name) for group in names for name in GROUPS[group]):
+        if (group, name) not in seen:
+            print(f"faults: {group} {name}: no lie tries it", file=sys.stderr)
+            missed += 1
+    print(f"faults: self-test: {missed} not as they must be" if missed else
+          f"faults: self-test: each lie was found, and each of {len(seen)} checks found one")
     return 1 if missed else 0
 
 

@@ -1,8 +1,8 @@
 """A failing medium, command by command, with the answers spelled out."""
 from pathlib import Path
-from typing import Iterator, List, Tuple
+from typing import Dict, List, Tuple
 
-from support.faults.bench import Bench, Wrong, must_be
+from support.faults.bench import Bench, Check, Wrong, must_be
 from support.faults.model import pattern, plan
 
 SETUP = "controller 1 host 0xa1{}\nnamespace 1 blocks 16 shared\nattached 1 1\nstart\n"
@@ -76,8 +76,10 @@ def try_command(bench: Bench, before: bytes, request: str, kind: str, answers: T
     return len(answers)
 
 
-def try_raw(bench: Bench, before: bytes) -> int:
+def try_raw(bench: Bench, top: Path) -> str:
     """What a Read that fails leaves in the memory of its host: the blocks before the one that failed."""
+    del top
+    before = pattern(5, 16, 100)
     script = (SETUP.format(" raw") + RAW.format("ee" * 1536)).encode()
     for failing in range(1, 5):
         read = "2:81 0" if failing < 4 else "0:00 0"
@@ -88,13 +90,15 @@ def try_raw(bench: Bench, before: bytes) -> int:
         must_be(what, shown, 0, None, b"", before[:4096] + memory + before[5632:])
         if executed(shown.output) != ["0:00 0", "0:00 0", read, "0:00 0"]:
             raise Wrong(f"{what}: the executions posted {executed(shown.output)}")
-    return 4
+    return "host memory behind a Read that failed: 4 runs, as it must be"
 
 
-def check(bench: Bench, top: Path) -> Iterator[str]:
-    """The group."""
+def try_commands(bench: Bench, top: Path) -> str:
+    """Each command with each of its calls failing."""
     del top
     before = pattern(5, 16, 100)
     runs = sum(try_command(bench, before, *case) for case in CASES)
-    yield f"commands on three blocks, each call failing: {runs} runs, as they must be"
-    yield f"host memory behind a Read that failed: {try_raw(bench, before)} runs, as it must be"
+    return f"commands on three blocks, each call failing: {runs} runs, as they must be"
+
+
+CHECKS: Dict[str, Check] = {"blocks": try_commands, "raw": try_raw}

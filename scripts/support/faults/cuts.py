@@ -2,9 +2,9 @@
 import re
 import subprocess
 from pathlib import Path
-from typing import Iterator, Optional, Tuple
+from typing import Dict, Optional, Tuple
 
-from support.faults.bench import Bench, Wrong, each, must_be
+from support.faults.bench import Bench, Check, Wrong, each, must_be
 from support.faults.model import pattern
 
 LONGEST = 4194304
@@ -55,28 +55,32 @@ def try_cut(bench: Bench, script: bytes, transcript: bytes, before: bytes, at: i
     return True
 
 
-def try_lengths(bench: Bench) -> None:
+def try_lengths(bench: Bench, top: Path) -> str:
     """A comment as long as a script may be, and one that is longer by a byte; from a file, and from standard input."""
+    del top
     before = pattern(8, 3, 5)
     for by_stdin in (False, True):
         shown = bench.run(b"#" * LONGEST, before, by_stdin=by_stdin)
         must_be(f"{LONGEST} bytes of #", shown, 0, b"", b"", before)
         shown = bench.run(b"#" * (LONGEST + 1), before, by_stdin=by_stdin)
         must_be(f"{LONGEST + 1} bytes of #", shown, 1, b"", b"nvmesim: script too long\n", before)
+    return "scripts of the greatest length, and of a byte more: as they must be"
 
 
-def try_endless(bench: Bench) -> None:
+def try_endless(bench: Bench, top: Path) -> str:
     """A script without end, of which no more is taken than says that it is too long."""
+    del top
     room = bench.room()
     (room / "image").write_bytes(b"\7" * 600)
     with open("/dev/zero", "rb") as zeros:
         started = bench.start(room, ["image"], stdin=zeros, stdout=subprocess.PIPE, stderr=subprocess.PIPE)
         shown = bench.finish(room, started)
     must_be("a script without end", shown, 1, b"", b"nvmesim: script too long\n", b"\7" * 600)
+    return "a script without end: as it must be"
 
 
-def check(bench: Bench, top: Path) -> Iterator[str]:
-    """The group."""
+def try_cuts(bench: Bench, top: Path) -> str:
+    """The first example cut after each byte."""
     data = top / "crates/nvme_examples/data"
     script, transcript = (data / "first-steps.nvme").read_bytes(), (data / "first-steps.out").read_bytes()
     before = bytes(64 * 512) + b"behind"
@@ -88,7 +92,7 @@ def check(bench: Bench, top: Path) -> Iterator[str]:
     if not whole[-1] or all(whole):
         raise Wrong("the example is refused whole, or wherever it is cut it is a script")
     counts: Tuple[int, int] = (sum(whole), len(whole) - sum(whole))
-    yield f"the first example cut after each byte: {counts[0]} scripts and {counts[1]} refused, as they must be"
-    try_lengths(bench)
-    try_endless(bench)
-    yield "scripts of the greatest length, of a byte more, and without end: as they must be"
+    return f"the first example cut after each byte: {counts[0]} scripts and {counts[1]} refused, as they must be"
+
+
+CHECKS: Dict[str, Check] = {"each": try_cuts, "lengths": try_lengths, "endless": try_endless}

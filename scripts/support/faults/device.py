@@ -1,14 +1,16 @@
 """Each call on the image failing in turn: with an error, with nothing moved, with a part moved, and from one call on.
 
 What a script must come to is computed, call by call: a call that fails is told by its own command, 2:80 or 2:81, and
-by no other line but those of commands that read a block whose write was lost; the exit status is 0; and the image has
-what those events leave. A call that moves fewer bytes is followed by one for the rest, and nobody notices.
+by no other line but those of commands that read a block whose write was lost; the exit status is 0; the image has what
+those events leave; and no other call is made of it. A call that moves fewer bytes is followed by one for the rest, and
+nobody notices.
 """
+from functools import partial
 from pathlib import Path
-from typing import Iterator, List, Tuple
+from typing import Dict, Iterator, List, Tuple
 
-from support.faults.bench import Bench, Wrong, each, must_be
-from support.faults.model import Command, Disk, Told, pattern, plan, script_of, told_of
+from support.faults.bench import Bench, Check, Wrong, each, must_be
+from support.faults.model import UNNOTICED, Command, Disk, Told, pattern, plan, script_of, told_of
 
 BLOCKS = 40
 HOWS = {"pread": ("EIO", "EINTR", "none", "fewer"), "pwrite": ("EIO", "ENOSPC", "EINTR", "none", "torn", "fewer"),
@@ -56,25 +58,43 @@ def try_place(bench: Bench, commands: List[Command], before: bytes, place: Tuple
     must_be(what, shown, 0, told.transcript(), b"", told.image())
     if shown.image[512 * blocks:] != before[512 * blocks:]:
         raise Wrong(f"{what}: what stands behind the last block was changed")
+    made = {it: shown.counts[it] for it in NAMES}
+    wanted = {it: told.disk.counts[it] for it in NAMES}
+    if (kind, how) not in UNNOTICED and made != wanted:
+        raise Wrong(f"{what}: these calls of the image were made: {made}, and not {wanted}")
     is_made = at <= told.disk.counts[kind]
     if bool(shown.hits) != is_made:
         raise Wrong(f"{what}: the call was {'not ' if is_made else ''}made")
 
 
-def check(bench: Bench, top: Path) -> Iterator[str]:
-    """The group."""
+def try_turns(bench: Bench, top: Path, kind: str) -> str:
+    """Each call of a kind failing."""
     del top
     before = pattern(1, BLOCKS, 392)
     commands = commands_over(before)
-    found = list(places(commands, before, HOWS, False))
+    found = list(places(commands, before, {kind: HOWS[kind]}, False))
     each(lambda place: try_place(bench, commands, before, place), found)
-    for kind, name in NAMES.items():
-        count = sum(it[0] == kind for it in found)
-        yield f"each {name} of the image failing ({', '.join(HOWS[kind])}): {count} runs, as they must be"
-    onward = list(places(commands, before, ONWARD, True))
-    each(lambda place: try_place(bench, commands, before, place), onward)
-    yield f"the image failing from each call on: {len(onward)} runs, as they must be"
-    large, more = pattern(4, 300), beyond_the_cache()
-    others = [it for it in places(more, large, {"pread": ("EIO",)}, False) if it[1] % 16 == 1 or it[1] > 250]
-    each(lambda place: try_place(bench, more, large, place), others)
-    yield f"reads of more blocks than are kept failing: {len(others)} runs, as they must be"
+    return f"each {NAMES[kind]} of the image failing ({', '.join(HOWS[kind])}): {len(found)} runs, as they must be"
+
+
+def try_onward(bench: Bench, top: Path) -> str:
+    """All calls of a kind from one on failing."""
+    del top
+    before = pattern(1, BLOCKS, 392)
+    commands = commands_over(before)
+    found = list(places(commands, before, ONWARD, True))
+    each(lambda place: try_place(bench, commands, before, place), found)
+    return f"the image failing from each call on: {len(found)} runs, as they must be"
+
+
+def try_unkept(bench: Bench, top: Path) -> str:
+    """Reads failing of more blocks than are kept."""
+    del top
+    before, commands = pattern(4, 300), beyond_the_cache()
+    found = [it for it in places(commands, before, {"pread": ("EIO",)}, False) if it[1] % 16 == 1 or it[1] > 250]
+    each(lambda place: try_place(bench, commands, before, place), found)
+    return f"reads of more blocks than are kept failing: {len(found)} runs, as they must be"
+
+
+CHECKS: Dict[str, Check] = {**{f"{name}s": partial(try_turns, kind=kind) for kind, name in NAMES.items()},
+                            "onward": try_onward, "unkept": try_unkept}

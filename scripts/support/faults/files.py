@@ -1,14 +1,13 @@
-"""Images and scripts that are none, images that change while the program runs, and places without room."""
+"""Images and scripts that are none, images that change while the program runs, and limits."""
 import os
 import resource
-import shutil
 import signal
 import socket
 import subprocess
 from pathlib import Path
-from typing import Any, Callable, Dict, Iterator, List, Optional, Tuple
+from typing import Any, Callable, Dict, List, Optional, Tuple
 
-from support.faults.bench import Bench, Shown, Wrong, must_be
+from support.faults.bench import Bench, Check, Shown, Wrong, must_be
 from support.faults.model import Command, Disk, pattern, plan, script_of, told_of
 
 FAULT = b"nvmesim: file fault\n"
@@ -137,8 +136,7 @@ def try_rights(bench: Bench) -> int:
 
 
 def try_opening(bench: Bench) -> int:
-    """Each opening of a file, and each question for what a file is, failing in turn: EROFS as on a file system that
-    can only be read."""
+    """Each opening of a file, and each question for what a file is, failing in turn."""
     before, commands = pattern(15, 4, 9), [Command("write", 0, 4, b"new"), Command("read", 0, 1)]
     told, runs = told_of(commands, Disk(before)), 0
     for kind, how in (("open", "EACCES"), ("open", "EROFS"), ("open", "ENOMEM"), ("open", "EINTR"), ("stat", "EIO"),
@@ -180,50 +178,26 @@ def try_limit(bench: Bench) -> None:
         signal.signal(signal.SIGXFSZ, kept)
 
 
-ROOM = """set -e
-mount -t tmpfs -o size=16k none full
-cp script full/script
-truncate -s 65536 full/image
-touch ready
-../nvmesim full/image full/script >transcript 2>errors || echo $? >status
-cp full/image image
-"""
-
-
-def try_full(bench: Bench) -> bool:
-    """An image with holes on a file system of some pages: blocks find room until there is none. Whether there could be
-    such a file system."""
-    room = bench.room()
-    (room / "full").mkdir()
-    commands = [Command("write", 8 * i, 1, f"page {i}".encode()) for i in range(8)] + [Command("read", 0, 64)]
-    (room / "script").write_bytes(script_of(commands, 128))
-    if shutil.which("unshare") is None:
-        return False
-    subprocess.run(["unshare", "-U", "-r", "-m", "sh", "-c", ROOM], cwd=room, capture_output=True,
-                   env=bench.environment(room, None), check=False)
-    if not (room / "ready").exists():
-        return False
-    # The script takes a page; the others are the image's.
-    told = told_of(commands, Disk(bytes(65536), "pwrite", 4, "ENOSPC", True))
-    shown = Shown(int((room / "status").read_text()) if (room / "status").exists() else 0,
-                  (room / "transcript").read_bytes(), (room / "errors").read_bytes(), (room / "image").read_bytes(), 0)
-    must_be("a file system without room", shown, 0, told.transcript(), b"", told.image())
-    return True
-
-
-def check(bench: Bench, top: Path) -> Iterator[str]:
-    """The group."""
-    del top
-    try_sizes(bench)
+def try_changed(bench: Bench) -> None:
+    """Images that someone else changes during a run."""
     try_shortened(bench)
     try_removed(bench)
-    yield "an image of 5,000 bytes, and one that is shortened, removed or replaced during a run: as they must be"
-    yield f"what is no image, or no script: {try_paths(bench)} runs, as they must be"
-    yield f"files that may not be read or written: {try_rights(bench)} runs, as they must be"
-    yield f"each opening of a file failing: {try_opening(bench)} runs, as they must be"
-    try_limit(bench)
-    yield "a limit on how long files may be: as it must be"
-    if try_full(bench):
-        yield "a file system without room: as it must be"
-    else:
-        yield "a file system without room: left out, since none can be mounted here"
+
+
+def line_of(work: Callable[[Bench], Optional[int]], what: str) -> Check:
+    """A check that says so, with the number of its runs where it is known."""
+    def check(bench: Bench, top: Path) -> str:
+        del top
+        runs = work(bench)
+        return f"{what}: {'' if runs is None else f'{runs} runs, '}as {'it' if runs is None else 'they'} must be"
+    return check
+
+
+CHECKS: Dict[str, Check] = {
+    "sizes": line_of(try_sizes, "an image of 5,000 bytes"),
+    "changed": line_of(try_changed, "an image that is shortened, removed or replaced during a run"),
+    "paths": line_of(try_paths, "what is no image, or no script"),
+    "rights": line_of(try_rights, "files that may not be read or written"),
+    "opening": line_of(try_opening, "each opening of a file failing"),
+    "limit": line_of(try_limit, "a limit on how long files may be"),
+}

@@ -4,16 +4,17 @@ The image has what the calls before that one leave, and the transcript what was 
 """
 import signal
 from pathlib import Path
-from typing import Iterator, Tuple
+from typing import Dict, Tuple
 
 from support.faults import transcript
-from support.faults.bench import Bench, Wrong, each, must_be
+from support.faults.bench import Bench, Check, Wrong, each, must_be
 from support.faults.device import BLOCKS, NAMES, commands_over
 from support.faults.model import Disk, pattern, plan, script_of, told_of
 
 
-def before_calls(bench: Bench) -> int:
+def before_calls(bench: Bench, top: Path) -> str:
     """Kills before each call on the image."""
+    del top
     before = pattern(1, BLOCKS, 392)
     commands = commands_over(before)
     whole = told_of(commands, Disk(before))
@@ -32,11 +33,12 @@ def before_calls(bench: Bench) -> int:
 
     places = [(kind, at) for kind in NAMES for at in range(1, whole.disk.counts[kind] + 1)]
     each(work, places)
-    return len(places)
+    return f"killed before each call on the image: {len(places)} runs, as they must be"
 
 
-def before_writes(bench: Bench) -> int:
+def before_writes(bench: Bench, top: Path) -> str:
     """Kills before each write of the transcript."""
+    del top
     case = transcript.Case()
 
     def work(at: int) -> None:
@@ -45,11 +47,7 @@ def before_writes(bench: Bench) -> int:
         must_be(what, shown, -signal.SIGKILL, case.written_before(at), b"", case.image_at(at))
 
     each(work, range(1, len(case.flushes) + 1))
-    return len(case.flushes)
+    return f"killed before each write of the transcript: {len(case.flushes)} runs, as they must be"
 
 
-def check(bench: Bench, top: Path) -> Iterator[str]:
-    """The group."""
-    del top
-    yield f"killed before each call on the image: {before_calls(bench)} runs, as they must be"
-    yield f"killed before each write of the transcript: {before_writes(bench)} runs, as they must be"
+CHECKS: Dict[str, Check] = {"calls": before_calls, "writes": before_writes}

@@ -5,9 +5,9 @@ image as it was. Behind the first event only the cache of an image asks for memo
 """
 from dataclasses import dataclass
 from pathlib import Path
-from typing import Iterator, Optional
+from typing import Dict, List, Optional
 
-from support.faults.bench import Bench, Shown, Wrong, must_be
+from support.faults.bench import Bench, Check, Shown, Wrong, must_be
 from support.faults.model import Command, Disk, pattern, plan, script_of, told_of
 
 REFUSED = b"nvmesim: out of memory\n"
@@ -60,15 +60,27 @@ def tally(case: Case, requests: int, ended: int) -> str:
     return f"{case.name} {requests} ({ended} end it)"
 
 
-def check(bench: Bench, top: Path) -> Iterator[str]:
-    """The group."""
+def cases(top: Path) -> List[Case]:
+    """The runs."""
     crate = top / "crates/nvmesim"
     before = pattern(1, 9, 392)
     commands = [Command("write", 1, 1, b"Hello"), Command("read", 1, 1), Command("read", 5, 3),
                 Command("compare", 5, 1, before[2560:3072]), Command("read", 1, 1), Command("zeroes", 0, 3)]
     told = told_of(commands, Disk(before))
-    cases = [Case("the stored run", (crate / "stdin").read_bytes(), (crate / "stdout").read_bytes()),
-             Case("a run over an image", script_of(commands, 9), told.transcript(), before, told.image())]
-    counted = [refuse_each(bench, case, is_onward) for case in cases for is_onward in (False, True)]
-    yield "each request for memory refused: " + ", ".join(counted[::2]) + ": as they must be"
-    yield "memory refused from each request on: " + ", ".join(counted[1::2]) + ": as they must be"
+    return [Case("the stored run", (crate / "stdin").read_bytes(), (crate / "stdout").read_bytes()),
+            Case("a run over an image", script_of(commands, 9), told.transcript(), before, told.image())]
+
+
+def try_turns(bench: Bench, top: Path) -> str:
+    """Each request refused."""
+    counted = [refuse_each(bench, case, False) for case in cases(top)]
+    return "each request for memory refused: " + ", ".join(counted) + ": as they must be"
+
+
+def try_onward(bench: Bench, top: Path) -> str:
+    """All requests from one on refused."""
+    counted = [refuse_each(bench, case, True) for case in cases(top)]
+    return "memory refused from each request on: " + ", ".join(counted) + ": as they must be"
+
+
+CHECKS: Dict[str, Check] = {"turns": try_turns, "onward": try_onward}

@@ -10,9 +10,9 @@ import statistics
 import subprocess
 import time
 from pathlib import Path
-from typing import Iterator, List, Tuple
+from typing import Dict, Iterator, List, Tuple
 
-from support.faults.bench import Bench, Shown, Wrong, must_be
+from support.faults.bench import Bench, Check, Shown, Wrong, must_be
 from support.faults.model import BLOCK, Command, Disk, Told, pattern, script_of, told_of
 
 SEED, RUNS = 20, 200
@@ -114,7 +114,10 @@ def at_random(bench: Bench, case: Case) -> str:
     return ", ".join(f"{count} {where}" for where, count in ends.items())
 
 
-def check(bench: Bench, top: Path) -> Iterator[str]:
-    """The group."""
+def try_moments(bench: Bench, top: Path) -> str:
+    """Kills at random moments."""
     del top
-    yield f"killed at {RUNS} random moments (seed {SEED}): {at_random(bench, Case())}, as they must be"
+    return f"killed at {RUNS} random moments (seed {SEED}): {at_random(bench, Case())}, as they must be"
+
+
+CHECKS: Dict[str, Check] = {"random": try_moments}

@@ -4,7 +4,8 @@
 // KIND is alloc (every request for memory), open, stat, read, write (to standard output alone), pread, pwrite or sync.
 // HOW is the number of an errno; `none`, which moves nothing and is no error; `fewer`, a third of the bytes and one at
 // least; `torn`, half of the bytes and then EIO; or `kill`, which ends the program by SIGKILL before the call.
-// FAULTS_TOLD names a file that gets a byte for each call that was made to fail.
+// FAULTS_TOLD names a file that gets a byte for each call that was made to fail. FAULTS_COUNTED names one that gets,
+// when the program ends by itself, how many calls of each kind it made, as numbers of eight bytes in their order.
 //
 // FAULTS_LIE is for trying the checks themselves: the program then does something that no check may let pass.
 //   unharmed  no call is made to fail, though that is told
@@ -14,6 +15,9 @@
 //   garbled   the first byte of the transcript is changed
 //   calm      the program ends with status 0, whatever happened
 //   blurred   the last byte of each text on standard error is changed
+//   bold      a file that can't be opened for reading and writing is opened for reading alone
+//   smooth    what the system refuses to write to the image is told as written
+//   filled    what is read of the image behind its end is told to be zeros
 //
 // It includes nothing and links with nothing, so that a compiler without headers can make it: what it takes of the C
 // library and of Linux on x86-64 is declared here.
@@ -22,7 +26,10 @@ typedef long ssize_t;
 typedef long off_t;
 
 enum { STDOUT = 1, STDERR = 2, HERE = -100, SIGKILL = 9, EIO = 5, ENOMEM = 12, SEEK_END = 2 };
-enum { O_WRONLY = 01, O_CREAT = 0100, O_APPEND = 02000, O_CLOEXEC = 02000000, O_TMPFILE = 020000000 };
+enum {
+    O_WRONLY = 01, O_RDWR = 02, O_CREAT = 0100, O_TRUNC = 01000, O_APPEND = 02000, O_CLOEXEC = 02000000,
+    O_TMPFILE = 020000000
+};
 enum {
     SYS_read = 0, SYS_write = 1, SYS_close = 3, SYS_lseek = 8, SYS_mmap = 9, SYS_pread64 = 17, SYS_pwrite64 = 18,
     SYS_getpid = 39, SYS_kill = 62, SYS_fsync = 74, SYS_fdatasync = 75, SYS_openat = 257, SYS_statx = 332
@@ -49,7 +56,7 @@ static int is_onward;
 static enum how planned_how;
 static int planned_errno;
 static unsigned long counts[KINDS];
-static const char *told;
+static const char *told, *counted;
 static const char *lie = "";
 static int is_ready;
 
@@ -60,6 +67,7 @@ static int lies(const char *what) {
 __attribute__((constructor)) static void read_plan(void) {
     const char *plan = getenv("FAULTS_PLAN");
     told = getenv("FAULTS_TOLD");
+    counted = getenv("FAULTS_COUNTED");
     if (getenv("FAULTS_LIE"))
         lie = getenv("FAULTS_LIE");
     for (int kind = 0; plan && kind < KINDS; kind++) {
@@ -81,6 +89,13 @@ __attribute__((constructor)) static void read_plan(void) {
     is_ready = 1;
 }
 
+// Puts bytes behind those of a file, or in their place.
+static void put(const char *path, int where, const void *bytes, size_t length) {
+    int fd = syscall(SYS_openat, HERE, path, O_WRONLY | where | O_CREAT | O_CLOEXEC, 0666);
+    syscall(SYS_write, fd, bytes, length);
+    syscall(SYS_close, fd);
+}
+
 // Whether this call is to fail. It is counted, and a failure is told.
 static int fails(enum kind kind) {
     if (!is_ready)
@@ -88,11 +103,8 @@ static int fails(enum kind kind) {
     unsigned long count = ++counts[kind];
     if (kind != planned_kind || (is_onward ? count < planned_at : count != planned_at))
         return 0;
-    if (told) {
-        int fd = syscall(SYS_openat, HERE, told, O_WRONLY | O_APPEND | O_CREAT | O_CLOEXEC, 0666);
-        syscall(SYS_write, fd, "x", 1);
-        syscall(SYS_close, fd);
-    }
+    if (told)
+        put(told, O_APPEND, "x", 1);
     if (lies("unharmed"))
         return 0;
     if (planned_how == KILL)
@@ -154,12 +166,17 @@ void *mmap(void *at, size_t length, int protection, int flags, int fd, off_t off
 
 // Files by name
 
+static int opened(int folder, const char *path, int flags, int mode) {
+    int fd = fails(OPEN) ? -1 : (int)syscall(SYS_openat, folder, path, flags, mode);
+    return fd < 0 && lies("bold") ? (int)syscall(SYS_openat, folder, path, flags & ~O_RDWR, mode) : fd;
+}
+
 int openat(int folder, const char *path, int flags, ...) {
     __builtin_va_list rest;
     __builtin_va_start(rest, flags);
     int mode = flags & (O_CREAT | O_TMPFILE) ? __builtin_va_arg(rest, int) : 0;
     __builtin_va_end(rest);
-    return fails(OPEN) ? -1 : (int)syscall(SYS_openat, folder, path, flags, mode);
+    return opened(folder, path, flags, mode);
 }
 
 int open(const char *path, int flags, ...) {
@@ -167,7 +184,7 @@ int open(const char *path, int flags, ...) {
     __builtin_va_start(rest, flags);
     int mode = flags & (O_CREAT | O_TMPFILE) ? __builtin_va_arg(rest, int) : 0;
     __builtin_va_end(rest);
-    return fails(OPEN) ? -1 : (int)syscall(SYS_openat, HERE, path, flags, mode);
+    return opened(HERE, path, flags, mode);
 }
 
 int statx(int folder, const char *path, int flags, unsigned mask, void *found) {
@@ -211,9 +228,18 @@ ssize_t write(int fd, const void *bytes, size_t length) {
 static struct { int fd; off_t at; size_t length; char bytes[512]; } late[1 << 15];
 static size_t late_count;
 
+static ssize_t found(int fd, void *bytes, size_t length, off_t at) {
+    ssize_t moved = syscall(SYS_pread64, fd, bytes, length, at);
+    if (moved < 0 || !lies("filled"))
+        return moved;
+    for (size_t i = moved; i < length; i++)
+        ((char *)bytes)[i] = 0;
+    return length;
+}
+
 ssize_t pread(int fd, void *bytes, size_t length, off_t at) {
     if (!fails(PREAD))
-        return syscall(SYS_pread64, fd, bytes, length, at);
+        return found(fd, bytes, length, at);
     size_t part = part_of(length);
     return answer(part ? syscall(SYS_pread64, fd, bytes, part, at) : 0);
 }
@@ -233,11 +259,16 @@ static ssize_t written(int fd, const void *bytes, size_t length, off_t at) {
     return syscall(SYS_pwrite64, fd, bytes, length, at);
 }
 
+// What the program is told of a write to the image.
+static ssize_t smoothed(ssize_t moved, size_t length) {
+    return moved < 0 && lies("smooth") ? (ssize_t)length : moved;
+}
+
 ssize_t pwrite(int fd, const void *bytes, size_t length, off_t at) {
     if (!fails(PWRITE))
-        return written(fd, bytes, length, at);
+        return smoothed(written(fd, bytes, length, at), length);
     size_t part = part_of(length);
-    return answer(part ? written(fd, bytes, part, at) : 0);
+    return smoothed(answer(part ? written(fd, bytes, part, at) : 0), length);
 }
 
 int fsync(int fd) {
@@ -259,6 +290,8 @@ __attribute__((destructor)) static void end(void) {
     int fd = late_count ? (int)syscall(SYS_openat, HERE, getenv("FAULTS_IMAGE"), O_WRONLY, 0) : -1;
     for (size_t i = 0; i < late_count; i++)
         syscall(SYS_pwrite64, fd, late[i].bytes, late[i].length, late[i].at);
+    if (counted)
+        put(counted, O_TRUNC, counts, sizeof counts);
     if (lies("calm"))
         _exit(0);
 }

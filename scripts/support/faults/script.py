@@ -4,9 +4,9 @@ A script that can't be read is a file fault before the first event; a read that 
 A read that gives fewer bytes than were asked for is followed by the next.
 """
 from pathlib import Path
-from typing import Iterator
+from typing import Dict
 
-from support.faults.bench import Bench, Wrong, each, must_be
+from support.faults.bench import Bench, Check, Wrong, each, must_be
 from support.faults.model import plan
 from support.faults.transcript import FAULT, Case
 
@@ -31,9 +31,12 @@ def try_reads(bench: Bench, case: Case, how: str, by_stdin: bool) -> int:
     return calls
 
 
-def check(bench: Bench, top: Path) -> Iterator[str]:
-    """The group."""
+def try_script(bench: Bench, top: Path) -> str:
+    """Each read in each way, from a file and from standard input."""
     del top
     case = Case()
     reads = sum(try_reads(bench, case, how, by) for how in ("EIO", "EINTR", "fewer") for by in (False, True))
-    yield f"each read of the script failing: {reads} runs, as they must be"
+    return f"each read of the script failing: {reads} runs, as they must be"
+
+
+CHECKS: Dict[str, Check] = {"reads": try_script}

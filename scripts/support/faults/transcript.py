@@ -7,9 +7,9 @@ transcript. The program has no use for SIGPIPE.
 import os
 import subprocess
 from pathlib import Path
-from typing import Iterator, List
+from typing import Dict, List
 
-from support.faults.bench import WITHIN, Bench, Shown, Wrong, each, must_be, tells
+from support.faults.bench import WITHIN, Bench, Check, Shown, Wrong, each, must_be, tells
 from support.faults.model import Command, Disk, Told, flushes_of, pattern, plan, script_of, told_of
 
 BLOCKS = 48
@@ -120,13 +120,27 @@ def try_head(bench: Bench, case: Case) -> None:
         raise Wrong("head -n 1: the image is not what the events up to a write of the transcript leave")
 
 
-def check(bench: Bench, top: Path) -> Iterator[str]:
-    """The group."""
+def try_transcript(bench: Bench, top: Path) -> str:
+    """Each write in each way."""
     del top
     case = Case()
     writes = sum(try_writes(bench, case, how, False) for how in ("EIO", "ENOSPC", "none", "EINTR", "fewer"))
     writes += try_writes(bench, case, "EPIPE", True)
-    yield f"each write of the transcript failing: {writes} runs, as they must be"
-    try_readers(bench, case)
-    try_head(bench, case)
-    yield "a transcript without a reader, to head -n 1, and to a full device: as they must be"
+    return f"each write of the transcript failing: {writes} runs, as they must be"
+
+
+def try_gone(bench: Bench, top: Path) -> str:
+    """A reader that is gone before the program starts, and a device that is full."""
+    del top
+    try_readers(bench, Case())
+    return "a transcript without a reader, and to a full device: as they must be"
+
+
+def try_leaving(bench: Bench, top: Path) -> str:
+    """A reader that goes away."""
+    del top
+    try_head(bench, Case())
+    return "a transcript to head -n 1: as it must be"
+
+
+CHECKS: Dict[str, Check] = {"writes": try_transcript, "gone": try_gone, "leaving": try_leaving}

@@ -1,0 +1,92 @@
+"""File systems of a run's own: one that can only be read, and one without room.
+
+They are mounted where the machine allows it, in a namespace that nobody else sees and that ends with the run. Where it
+does not, calls fail as they would there. What is printed says which it was.
+"""
+import subprocess
+from pathlib import Path
+from typing import Dict, List, Optional, Sequence, Tuple
+
+from support.faults.bench import WITHIN, Bench, Check, Shown, must_be
+from support.faults.model import Command, Disk, pattern, plan, script_of, told_of
+
+FAULT = b"nvmesim: file fault\n"
+# How one comes to mounts of one's own: as anybody who is given a namespace of users too, and as root.
+WAYS: Tuple[Tuple[str, ...], ...] = (("-U", "-r", "-m"), ("-m",))
+READ_ONLY = """set -e
+mount --bind disk disk
+mount -o remount,ro,bind disk
+if touch disk/written 2>/dev/null; then exit 1; fi
+"""
+FULL = """set -e
+mount -t tmpfs -o size=16k none disk
+cp script disk/script
+truncate -s 65536 disk/image
+"""
+RUN = """touch ready
+env "$@" </dev/null >transcript 2>errors || echo $? >status
+cp disk/image image
+"""
+
+
+def read_if_any(file: Path) -> Optional[bytes]:
+    """The bytes of a file, if there is one."""
+    return file.read_bytes() if file.is_file() else None
+
+
+def run_mounted(bench: Bench, room: Path, mounting: str, words: Sequence[str]) -> Optional[Shown]:
+    """A run in a folder whose `disk` is mounted so; None where the machine does not let it be mounted."""
+    orders = [f"{name}={value}" for name, value in bench.orders(room, None, "disk/image").items()]
+    for way in WAYS:
+        command = ["unshare", *way, "sh", "-c", mounting + RUN, "sh", *orders, str(bench.program), *words]
+        try:
+            subprocess.run(command, cwd=room, capture_output=True, timeout=WITHIN, check=False)
+        except FileNotFoundError:
+            return None
+        if (room / "ready").exists():
+            return Shown(int(read_if_any(room / "status") or 0), (room / "transcript").read_bytes(),
+                         (room / "errors").read_bytes(), read_if_any(room / "image"), 0)
+    return None
+
+
+def try_read_only(bench: Bench, top: Path) -> str:
+    """An image on a file system that can only be read is refused before the first event, and stays as it is. A script
+    there is read as any other."""
+    del top
+    before, commands = pattern(15, 4, 9), [Command("write", 0, 4, b"new"), Command("read", 0, 1)]
+    script, what = script_of(commands, 4), "a file system that can only be read"
+    in_memory = told_of(commands, Disk(bytes(4 * 512))).transcript()
+    for words, status, transcript, errors in ((["disk/image", "disk/script"], 2, b"", FAULT),
+                                              (["-", "disk/script"], 0, in_memory, b"")):
+        room = bench.room()
+        (room / "disk").mkdir()
+        (room / "disk/script").write_bytes(script)
+        (room / "disk/image").write_bytes(before)
+        shown = run_mounted(bench, room, READ_ONLY, words)
+        if shown is None:
+            must_be(what, bench.run(script, before, plan("open", 1, "EROFS")), 2, b"", FAULT, before)
+            return f"{what}, which can't be mounted here: its opening fails with EROFS, and all is as it must be"
+        must_be(what, shown, status, transcript, errors, before)
+    return f"{what}, mounted: as it must be"
+
+
+def try_full(bench: Bench, top: Path) -> str:
+    """An image with holes on a file system of some pages: blocks find room until there is none."""
+    del top
+    room, what = bench.room(), "a file system without room"
+    (room / "disk").mkdir()
+    commands: List[Command] = [Command("write", 8 * i, 1, f"page {i}".encode()) for i in range(8)]
+    commands.append(Command("read", 0, 64))
+    (room / "script").write_bytes(script_of(commands, 128))
+    # The script takes a page; the others are the image's.
+    told = told_of(commands, Disk(bytes(65536), "pwrite", 4, "ENOSPC", True))
+    shown = run_mounted(bench, room, FULL, ["disk/image", "disk/script"])
+    how = ", mounted: as it must be"
+    if shown is None:
+        how = ", which can't be mounted here: its writes fail with ENOSPC, and all is as it must be"
+        shown = bench.run(script_of(commands, 128), bytes(65536), plan("pwrite", 4, "ENOSPC", True))
+    must_be(what, shown, 0, told.transcript(), b"", told.image())
+    return what + how
+
+
+CHECKS: Dict[str, Check] = {"read-only": try_read_only, "full": try_full}
