@@ -32,6 +32,7 @@ pub(crate) enum DriverCall<'a> {
 }
 
 /// A driver's call over the link to its controller. The data that it hands up stand at the front of the buffer.
+#[inline(always)]
 fn deliver_over<M: Medium>(
     driver: &mut Driver,
     link: &mut Link<'_, M>,
@@ -63,6 +64,7 @@ fn deliver_over<M: Medium>(
 }
 
 /// A driver's call at its controller: the access state, the medium and all other controllers stay as they are.
+#[inline(always)]
 fn deliver_at<M: Medium>(
     driver: &mut Driver,
     subsystem: &mut Subsystem<M>,
@@ -95,6 +97,7 @@ fn deliver_at<M: Medium>(
 }
 
 /// A call of a host's driver, if it has one.
+#[inline(always)]
 pub(crate) fn deliver<M: Medium>(
     driver: &mut Option<Driver>,
     subsystem: &mut Subsystem<M>,

@@ -176,6 +176,10 @@ impl<M: Medium> Fleet<M> {
         ensures medium { self.new.medium ≡ self.old.medium }
         ensures fits { data_len result ≤ length self.new.state.buffer }
     {
+        // Asked first, so that the compiler knows what a fetch may give, and carries no room for an execution's outcome.
+        let Some(_place) = self.place_of(cntlid) else {
+            return FleetSeen::NoController;
+        };
         told(self.subsystem.apply(Event::Fetch(cntlid, qid)))
     }
 

@@ -1,9 +1,20 @@
+use Rattle.std.proofs.Common.{◌∙◌, refl}
+use Rattle.nvme_machine.specs.declared.event.Event.TheVariants.{Fetch}
+use Rattle.nvme_machine.specs.declared.seen.Seen.TheVariants as given
+use Rattle.nvme_machine.specs.Controllers.{after_fetch}
+use Rattle.nvme_subsys.proofs.Numbers.{misses}
+use Rattle.nvme_subsys.proofs.OverMedium.{medium-is, medium-kept}
 use Rattle.nvme_fleet.specs.FleetStates.{FleetState}
 use Rattle.nvme_fleet.proofs.Happening.{fetched-there}
-use Rattle.nvme_subsys.proofs.OverMedium.{medium-is, medium-kept}
-use Rattle.nvme_machine.specs.declared.event.Event.TheVariants.{Fetch}
-use Rattle.std.proofs.Common.{◌∙◌}
 use Rattle.nvme_fleet.proofs.fleet.Fleet.fetch.Goals as goal
+
+pub returns-in_default-clause-below : goal.returns-in_default-clause-below
+returns-in_default-clause-below g c = record {
+  given = given.NoController;
+  step = misses c.args.self.now.state.subsystem c.args.cntlid (after_fetch c.args.qid) c.in_default.ensures.absent;
+  gives = refl;
+  drivers = refl;
+}
 
 pub invariant_of-self : goal.invariant_of-self
 invariant_of-self g c =
