@@ -116,3 +116,26 @@ fn blocks_are_compared(rt: HostRuntime) -> Result<(), Fail> {
     }
     Ok(())
 }
+
+/// Two blocks are filled with zeros, and flushed. A fault of either is told by it, and by nothing else.
+#[test]
+fn blocks_are_zeroed_and_flushed(rt: HostRuntime) -> Result<(), Fail> {
+    let expected = [
+        (WRITE_FAULT, DONE),
+        (WRITE_FAULT, DONE),
+        (DONE, WRITE_FAULT),
+        (DONE, DONE),
+    ];
+    let zeroes = Request::WriteZeroes {
+        nsid: 1,
+        slba: 0,
+        blocks: 2,
+    };
+    for (call, (zeroed, flushed)) in expected.iter().enumerate() {
+        let mut fleet = open_failing(rt.alloc(), call as u64)?;
+        for (request, wanted) in [(zeroes, zeroed), (Request::Flush { nsid: 1 }, flushed)] {
+            assert_eq!(rt; outcome(&mut fleet, request)?, *wanted, "at call {call}");
+        }
+    }
+    Ok(())
+}
