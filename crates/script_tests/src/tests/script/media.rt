@@ -85,7 +85,7 @@ fn a_fault_of_the_medium_is_told_by_its_own_command(rt: HostRuntime) -> Result<(
 
 /// Runs of requests, and what each execution shows where the call of each number fails: the last line is that of a run
 /// that meets no failure.
-const RUNS: [(&[&[u8]], &[&[u8]]); 3] = [
+const RUNS: [(&[&[u8]], &[&[u8]]); 4] = [
     (
         &[b"write 1 1 0 1 hex:48656c6c6f", b"read 1 1 0 1"],
         &[
@@ -104,6 +104,15 @@ const RUNS: [(&[&[u8]], &[&[u8]]); 3] = [
             b"2:81 0, 2:85 0, ",
             b"0:00 0, 2:81 0, ",
             b"0:00 0, 2:85 0, ",
+        ],
+    ),
+    (
+        &[b"zeroes 1 1 0 2", b"flush 1 1"],
+        &[
+            b"2:80 0, 0:00 0, ",
+            b"2:80 0, 0:00 0, ",
+            b"0:00 0, 2:80 0, ",
+            b"0:00 0, 0:00 0, ",
         ],
     ),
 ];
