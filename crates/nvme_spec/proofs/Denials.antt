@@ -175,7 +175,7 @@ fault-refuses (Some Outside) = (refl, tt)
 
 -- The rules of I/O commands.
 
-io-refuses : (w : World) (k : ℕ) (e : List ℕ) (marked : Bool) (window : List ℕ) → JudgementRefuses (io_judgement w k e marked window)
+pub io-refuses : (w : World) (k : ℕ) (e : List ℕ) (marked : Bool) (window : List ℕ) → JudgementRefuses (io_judgement w k e marked window)
 unfolding io_judgement mark_rule opcode_rule form_rule nsid_rule attachment_rule field_rule reservation_rule protection_rule range_rule pointer_rule action_rule reservation_outcome
 io-refuses w k e marked window =
     rules-refuse (io_rules w k e marked window) (

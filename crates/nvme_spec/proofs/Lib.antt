@@ -29,3 +29,5 @@ pub mod SoundWorlds
 pub mod SoundAttachments
 pub mod SoundOpenings
 pub mod MediumCalls
+pub mod PassingCalls
+pub mod CallLaws

@@ -1,5 +1,5 @@
 -- Calls that are made one after the other.
-use Rattle.std.proofs.Common.{◌≡◌, List, [], ◌∷◌, ◌++◌, subst}
+use Rattle.std.proofs.Common.{List, [], ◌∷◌, ◌++◌, subst}
 use Rattle.nvme_spec.specs.MediumCalls.{Calls}
 
 -- calls that are made, and others behind them

@@ -29,6 +29,8 @@ pub mod CommandCalls
 pub mod Layout
 pub mod FaultFree
 pub mod ExecutionLaws
+pub mod FaultFreeCalls
+pub mod CallLaws
 pub mod Queues
 pub mod QueueLaws
 pub mod Registers

@@ -2,6 +2,7 @@
 
 mod admin;
 mod attachments;
+mod calls;
 mod executions;
 mod queues;
 mod registers;
