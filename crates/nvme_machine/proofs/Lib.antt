@@ -19,3 +19,4 @@ pub mod Calling
 pub mod EventCalls
 pub mod AllowedCalls
 pub mod FencedCalls
+pub mod CallLaws

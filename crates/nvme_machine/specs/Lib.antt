@@ -14,3 +14,6 @@ pub mod Secrecy
 pub mod Preempted
 pub mod Placing
 pub mod Posted
+pub mod FaultFreeCalls
+pub mod CallLaws
+pub mod Examples

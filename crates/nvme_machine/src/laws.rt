@@ -5,6 +5,7 @@ ghost use Rattle.nvme_machine.specs.Runs.{FailuresNeverFall, RunExists, RunIsUni
 ghost use Rattle.nvme_machine.specs.Calling.{CallsAreOfAnExecution, DeniedMakesNoCall, AdminMakesNoCall};
 ghost use Rattle.nvme_machine.specs.EventCalls.{CallsAreOfAStep, CallsAreOfARun};
 ghost use Rattle.nvme_machine.specs.AllowedCalls.{CallsAreAllowed, CallsOfRunsAreAllowed, CallsAreInOrder, FencedCommandsCallNothing, FencedHostsWriteNoBlock, FlushReachesTheMedium};
+ghost use Rattle.nvme_machine.specs.CallLaws.{StepsHaveCalls, RunsHaveCalls, StepCallsAreUnique, RunCallsAreUnique, StepCallsAreComputed, RunCallsAreComputed, RunCallsExist, DeniedIsNoSuccess, FlushedIsOneFlush};
 ghost use Rattle.nvme_machine.specs.Wiring.{OpeningIsWired, WiringStays, WaitsWhereFull};
 ghost use Rattle.nvme_machine.specs.Placing.{OpeningIsPlaced, WindowsKeepTheirLength};
 ghost use Rattle.nvme_machine.specs.Posted.{PostedIsUnread, UnreadStands, UnreadStandsOverRuns};
@@ -65,6 +66,32 @@ pub fn fenced_hosts_call_nothing()
 pub fn flushes_come_behind_writes()
     ensures flush { FlushReachesTheMedium }
     ensures order { CallsAreInOrder }
+{}
+
+/// Each step and each run has calls of its medium, whatever that does. Over a medium that tells its content and none of
+/// whose calls fails there is one list of them alone.
+#[tactic(auto, using(crate::proofs::CallLaws::steps_have_calls, crate::proofs::CallLaws::runs_have_calls, crate::proofs::CallLaws::step_calls_are_unique, crate::proofs::CallLaws::run_calls_are_unique))]
+pub fn calls_are_determined()
+    ensures steps { StepsHaveCalls }
+    ensures runs { RunsHaveCalls }
+    ensures step { StepCallsAreUnique }
+    ensures run { RunCallsAreUnique }
+{}
+
+/// That list is what the functions compute, such a medium passes it, and it leaves the content that the run leaves.
+#[tactic(auto, using(crate::proofs::CallLaws::step_calls_are_computed))]
+pub fn calls_leave_the_content()
+    ensures step { StepCallsAreComputed }
+    ensures run { RunCallsAreComputed }
+    ensures exists { RunCallsExist }
+{}
+
+/// A Flush that is answered Successful Completion has made one flush of its medium, which passed, and no other call:
+/// whatever the medium does, and without asking whether the rules let it pass, since no denied command is answered so.
+#[tactic(auto, using(crate::proofs::CallLaws::denied_is_no_success, crate::proofs::CallLaws::flushed_is_one_flush))]
+pub fn flushed_is_flushed()
+    ensures denied { DeniedIsNoSuccess }
+    ensures flushed { FlushedIsOneFlush }
 {}
 
 /// Bytes of a namespace change only by allowed writes, and its reservation only by allowed reservation commands.

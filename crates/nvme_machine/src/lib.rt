@@ -4,6 +4,7 @@
 #![tactic(auto)]
 
 mod event;
+mod examples;
 mod fetched;
 pub mod laws;
 mod seen;

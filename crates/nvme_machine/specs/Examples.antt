@@ -1,0 +1,64 @@
+-- What the worked examples speak of.
+use Rattle.std.specs.Prelude.{ℕ, true, false, List, [], ◌∷◌, ◌++◌, None, Some, replicate}
+use Rattle.nvme_spec.specs.Configuration.{Configuration}
+use Rattle.nvme_spec.specs.Entries.{transfer_entry, command_entry}
+use Rattle.nvme_spec.specs.Examples.{controller, namespace}
+use Rattle.nvme_spec.specs.Queues as ring
+use Rattle.nvme_spec.specs.World.{opening_world, with_protection}
+use Rattle.nvme_machine.specs.declared.event.Event.{Event}
+use Rattle.nvme_machine.specs.declared.event.Event.TheVariants.{Store}
+use Rattle.nvme_machine.specs.declared.fetched.FetchedCommand.{FetchedCommand}
+use Rattle.nvme_machine.specs.Controllers.{Controller, new_controller}
+use Rattle.nvme_machine.specs.Subsystems.{Subsystem}
+
+-- one controller, attached to one namespace of two blocks
+abbrev pub small : Configuration
+small = record {
+  controllers = controller 1 0xa1 ∷ [];
+  namespaces = namespace 1 2 true ∷ [];
+  attached = (1, 1) ∷ [];
+}
+
+-- a command of I/O queue 1
+abbrev pub of_queue_1 : List ℕ → FetchedCommand
+of_queue_1 entry = record { entry = entry; queue = 1; marked = false }
+
+-- the commands on both blocks, with data at the front of the window, and a Flush
+abbrev pub a_write : FetchedCommand
+a_write = of_queue_1 (transfer_entry 1 1 0 2)
+
+abbrev pub a_read : FetchedCommand
+a_read = of_queue_1 (transfer_entry 2 1 0 2)
+
+abbrev pub a_compare : FetchedCommand
+a_compare = of_queue_1 (transfer_entry 5 1 0 2)
+
+abbrev pub a_flush : FetchedCommand
+a_flush = of_queue_1 (command_entry 0 1 0 0 0)
+
+-- a controller with I/O queue 1, both ends of which have four entries, that has fetched these commands. Of its window
+-- the front is told, in which the data lie
+abbrev pub has_fetched : List FetchedCommand → Controller
+has_fetched commands = record (new_controller 1) {
+  submission = None ∷ Some (record { base = 8192; cqid = 1; head = ring.empty_submission_head 4 }) ∷ None ∷ None ∷ None
+      ∷ [];
+  completion = None ∷ Some (record { base = 12288; tail = ring.empty_completion_tail 4 }) ∷ None ∷ None ∷ None ∷ [];
+  fetched = commands;
+  window = replicate 1024 0;
+}
+
+-- over a medium whose blocks hold the bytes 1 and 2
+abbrev pub having : List FetchedCommand → Subsystem
+having commands = record {
+  world = opening_world small;
+  device = record { content = replicate 512 1 ++ replicate 512 2; failures = 0 };
+  controllers = has_fetched commands ∷ [];
+}
+
+-- the same, where the namespace is write protected
+abbrev pub protected_having : List FetchedCommand → Subsystem
+protected_having commands = record (having commands) { world = with_protection (opening_world small) 1 true }
+
+-- its host stores at the front of the window
+abbrev pub stores : List ℕ → Event
+stores bytes = Store 1 0 (record { ref_ptr = (0, 0); now = bytes })

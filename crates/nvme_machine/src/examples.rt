@@ -1,0 +1,49 @@
+//! Worked examples of the definitions: the calls that events make of a medium, computed. The functions do nothing:
+//! their contracts are proved by computing, so that each definition is seen to say what its reader takes it to say.
+#![tactic(auto, unfolding(nvme_spec::specs::Commands::block_count, nvme_spec::specs::Commands::command_of, nvme_spec::specs::Commands::starting_lba, nvme_spec::specs::DataRules::data_addresses, nvme_spec::specs::DataRules::pointer_rule, nvme_spec::specs::Entries::command_entry, nvme_spec::specs::Entries::transfer_entry, nvme_spec::specs::FaultFree::fault_free_execution, nvme_spec::specs::FaultFreeCalls::command_calls, nvme_spec::specs::IoData::action_outcome, nvme_spec::specs::IoData::action_rule, nvme_spec::specs::IoData::io_judgement, nvme_spec::specs::IoData::reservation_outcome, nvme_spec::specs::IoRules::attachment_rule, nvme_spec::specs::IoRules::field_rule, nvme_spec::specs::IoRules::form_rule, nvme_spec::specs::IoRules::mark_rule, nvme_spec::specs::IoRules::nsid_rule, nvme_spec::specs::IoRules::opcode_rule, nvme_spec::specs::IoRules::protection_rule, nvme_spec::specs::IoRules::range_rule, nvme_spec::specs::IoRules::reservation_rule, nvme_spec::specs::Memory::qword, nvme_spec::specs::Pointer::fault_of, nvme_spec::specs::Pointer::first_fault, nvme_spec::specs::Rules::judgement_by, nvme_spec::specs::Transfers::addresses, nvme_spec::specs::Transfers::with_scattered, nvme_spec::specs::World::host_of, nvme_spec::specs::World::is_attached, nvme_spec::specs::World::namespace_of, nvme_spec::specs::World::opening_world, nvme_wire::specs::Completion::completion_entry, nvme_wire::specs::Submission::cdw10, nvme_wire::specs::Submission::cdw11, nvme_wire::specs::Submission::cdw12, nvme_wire::specs::Submission::cid, nvme_wire::specs::Submission::fuse, nvme_wire::specs::Submission::nsid, nvme_wire::specs::Submission::opcode, nvme_wire::specs::Submission::prp1, nvme_wire::specs::Submission::prp2, nvme_wire::specs::Submission::psdt, crate::specs::Controllers::after_posting, crate::specs::Controllers::after_queue_change, crate::specs::Controllers::after_store, crate::specs::Controllers::open_pair, crate::specs::FaultFree::fault_free_answer, crate::specs::Subsystems::after_answer, crate::specs::Subsystems::after_execution, crate::specs::Subsystems::controller_at, crate::specs::Subsystems::with_controller))]
+
+ghost use Rattle.std.specs.Prelude.{◌≡◌, ◌++◌, [], ◌∷◌, replicate, Ok};
+ghost use Rattle.nvme_spec.specs.MediumCalls.{Reads, Writes, Flushes};
+ghost use Rattle.nvme_machine.specs.FaultFreeCalls.{fault_free_calls};
+ghost use Rattle.nvme_machine.specs.Examples.{a_write, a_read, a_compare, a_flush, having, protected_having, stores};
+
+use crate::Event;
+
+/// The host stores data, its Write of two blocks is executed, and then its Flush: two blocks are written, and the
+/// medium is flushed behind them.
+fn written_and_flushed()
+    ensures { fault_free_calls (having (a_write ∷ a_flush ∷ []))
+        (stores (replicate 512 7 ++ replicate 512 8) ∷ Event.Execute 1 0 ∷ Event.Execute 1 0 ∷ [])
+        ≡ Writes 0 (replicate 512 7) (Ok tt) ∷ Writes 1 (replicate 512 8) (Ok tt) ∷ Flushes (Ok tt) ∷ [] }
+{}
+
+/// What was fetched later may be executed first: then the medium is flushed before the blocks are written. A read
+/// answers what was written before it.
+fn in_another_order()
+    ensures flushed_first { fault_free_calls (having (a_write ∷ a_flush ∷ []))
+        (Event.Execute 1 1 ∷ Event.Execute 1 0 ∷ [])
+        ≡ Flushes (Ok tt) ∷ Writes 0 (replicate 512 0) (Ok tt) ∷ Writes 1 (replicate 512 0) (Ok tt) ∷ [] }
+    ensures read { fault_free_calls (having (a_read ∷ [])) (Event.Execute 1 0 ∷ [])
+        ≡ Reads 0 (Ok (replicate 512 1)) ∷ Reads 1 (Ok (replicate 512 2)) ∷ [] }
+    ensures read_back { fault_free_calls (having (a_write ∷ a_read ∷ [])) (Event.Execute 1 0 ∷ Event.Execute 1 0 ∷ [])
+        ≡ Writes 0 (replicate 512 0) (Ok tt) ∷ Writes 1 (replicate 512 0) (Ok tt) ∷ Reads 0 (Ok (replicate 512 0))
+        ∷ Reads 1 (Ok (replicate 512 0)) ∷ [] }
+{}
+
+/// A Compare reads up to the first block that differs.
+fn compared()
+    ensures first_differs { fault_free_calls (having (a_compare ∷ [])) (Event.Execute 1 0 ∷ [])
+        ≡ Reads 0 (Ok (replicate 512 1)) ∷ [] }
+    ensures second_differs { fault_free_calls (having (a_compare ∷ []))
+        (stores (replicate 512 1) ∷ Event.Execute 1 0 ∷ [])
+        ≡ Reads 0 (Ok (replicate 512 1)) ∷ Reads 1 (Ok (replicate 512 2)) ∷ [] }
+{}
+
+/// A denied Write calls nothing, nor does an execution of a command that is not there, or of a controller that is not.
+fn nothing_called()
+    ensures denied { fault_free_calls (protected_having (a_write ∷ [])) (Event.Execute 1 0 ∷ []) ≡ [] }
+    ensures flush_passes { fault_free_calls (protected_having (a_write ∷ a_flush ∷ []))
+        (Event.Execute 1 0 ∷ Event.Execute 1 0 ∷ []) ≡ Flushes (Ok tt) ∷ [] }
+    ensures not_there { fault_free_calls (having [])
+        (Event.Execute 1 0 ∷ Event.Execute 2 0 ∷ Event.Fetch 1 1 ∷ []) ≡ [] }
+{}
