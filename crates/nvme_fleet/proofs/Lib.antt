@@ -98,3 +98,4 @@ pub mod Unique
 pub mod Mirrored
 pub mod LayersOver
 pub mod AllowedCalls
+pub mod CallLaws

@@ -325,7 +325,7 @@ pub run-counted : (old new : Layers) (events : List FleetEvent) (replies : List 
 unfolding fleet_in
 run-counted old new events replies run = failures_never_fall true (fleet_in old) (fleet_in new) events replies (runs_of_mailboxes true old new events replies run)
 
-layers-alone : (old new other : Layers) (e : FleetEvent) (reply reply' : Reply) → AreCalm old.subsystem new.subsystem other.subsystem → HaveTicketsOnce old → Step true old e reply new → Step true old e reply' other
+pub layers-alone : (old new other : Layers) (e : FleetEvent) (reply reply' : Reply) → AreCalm old.subsystem new.subsystem other.subsystem → HaveTicketsOnce old → Step true old e reply new → Step true old e reply' other
     → (reply' ≡ reply) × (other ≡ new)
 unfolding fleet_in
 layers-alone old new other e reply reply' calm all h g =

@@ -32,3 +32,4 @@ pub mod Regular
 pub mod Unique
 pub mod Secrecy
 pub mod AllowedCalls
+pub mod CallLaws

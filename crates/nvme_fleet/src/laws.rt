@@ -2,6 +2,7 @@
 
 ghost use Rattle.nvme_fleet.specs.Answered.{DoneAnswersItsRequest, DoneIsItsExecution, NewIsClear, ResetClears, TicketNamesItsRequest};
 ghost use Rattle.nvme_fleet.specs.AllowedCalls.{CallsAreAllowed, CallsOfRunsAreAllowed, FencedHostsWriteNoBlock};
+ghost use Rattle.nvme_fleet.specs.CallLaws.{StepsHaveCalls, RunsHaveCalls, StepCallsAreUnique, RunCallsAreUnique, FlushedIsOneFlush};
 ghost use Rattle.nvme_fleet.specs.Apart.{HostsAreApart};
 ghost use Rattle.nvme_fleet.specs.Bytes.{RunsOfMailboxes, LayoutStays, FencedEventsWriteNothing, PermissionsStay as BytePermissionsStay, FencingHolds as ByteFencingHolds, OthersWindowsStay};
 ghost use Rattle.nvme_fleet.specs.Determined.{FailuresNeverFall, RunExists, RunIsUnique};
@@ -53,6 +54,22 @@ pub fn blocks_are_written_as_allowed()
     ensures event { CallsAreAllowed }
     ensures run { CallsOfRunsAreAllowed }
     ensures fenced { FencedHostsWriteNoBlock }
+{}
+
+/// Each step and each run has calls of its medium, whatever that does. Over a medium that tells its content and none of
+/// whose calls fails there is one list of them alone.
+#[tactic(auto, using(crate::proofs::CallLaws::steps_have_calls, crate::proofs::CallLaws::runs_have_calls, crate::proofs::CallLaws::step_calls_are_unique, crate::proofs::CallLaws::run_calls_are_unique))]
+pub fn calls_are_determined()
+    ensures steps { StepsHaveCalls }
+    ensures runs { RunsHaveCalls }
+    ensures step { StepCallsAreUnique }
+    ensures run { RunCallsAreUnique }
+{}
+
+/// A Flush that is answered Successful Completion has made one flush of its medium, which passed, and no other call,
+/// whatever the medium does.
+pub fn flushed_is_flushed()
+    ensures { FlushedIsOneFlush }
 {}
 
 /// A driver that never came up, at a controller that was never enabled, has the fact that the steps rest on, and is the

@@ -1,0 +1,111 @@
+-- The calls that the events of a fleet make of the medium, by the laws of the machine.
+use Rattle.std.proofs.Common.{◌≡◌, ℕ, ◌-◌, ◌^◌, ◌<◌, Bool, true, List, [], ◌∷◌, ◌++◌, Ok, refl, sym, ap, subst, ◌∙◌, arith}
+use Rattle.nvme_spec.specs.declared.outcome.Outcome.{Outcome}
+use Rattle.nvme_spec.specs.FaultFreeCalls.{content_step}
+use Rattle.nvme_spec.specs.MediumCalls.{MediumCall, Calls}
+use Rattle.nvme_spec.proofs.PassingCalls.{content-alone, calls-split}
+use Rattle.nvme_machine.specs.declared.event.Event.TheVariants as event
+use Rattle.nvme_machine.specs.declared.seen.Executed.{Executed}
+use Rattle.nvme_machine.specs.declared.seen.Executed.TheVariants.{Posted}
+use Rattle.nvme_machine.specs.declared.seen.Seen.{Seen}
+use Rattle.nvme_machine.specs.declared.seen.Seen.TheVariants as given
+use Rattle.nvme_machine.specs.EventCalls as machine
+use Rattle.nvme_machine.specs.Subsystems.{Subsystem}
+use Rattle.nvme_machine.proofs.CallLaws as machine_laws
+use Rattle.nvme_event.specs.declared.event.FleetEvent.{FleetEvent}
+use Rattle.nvme_event.specs.declared.event.FleetEvent.TheVariants.{BringUp, Place, Ring, Fetch, Execute, Poll, Reset, RawStore, RawWrite32}
+use Rattle.nvme_event.specs.declared.seen.FleetSeen.TheVariants as seen
+use Rattle.nvme_event.specs.Replies.{Reply}
+use Rattle.nvme_fleet.specs.CallLaws.{StepsHaveCalls, RunsHaveCalls, StepCallsAreUnique, RunCallsAreUnique, FlushedIsOneFlush}
+use Rattle.nvme_fleet.specs.FleetStates.{Layers}
+use Rattle.nvme_fleet.specs.LayerCalls.{AreCallsOfStep, AreCallsOfRun}
+use Rattle.nvme_fleet.specs.Layers.{Run, told}
+use Rattle.nvme_fleet.specs.Unique.{HaveTicketsOnce}
+use Rattle.nvme_fleet.proofs.LayerCalls.{layer_calls_are_of_a_step, layer_calls_are_of_a_run}
+use Rattle.nvme_fleet.proofs.Unique.{AreCalm, count, happens-once, layers-alone, low, run-counted, step-counted}
+
+-- Each step and each run has calls.
+
+pub steps_have_calls : StepsHaveCalls
+steps_have_calls tells old new (BringUp k) reply h = ([], record { mailboxes = h.mailboxes; below = (h.below, refl) })
+steps_have_calls tells old new (Place k request) reply h = ([], record { mailboxes = h.mailboxes; below = (h.below, refl) })
+steps_have_calls tells old new (Ring k) reply h = ([], record { mailboxes = h.mailboxes; below = (h.below, refl) })
+steps_have_calls tells old new (Fetch k q) reply h = ([], record { mailboxes = h.mailboxes; below = (h.below, refl) })
+steps_have_calls tells old new (Execute k i) reply h =
+    let below = h.below in
+    let some = machine_laws.steps_have_calls tells old.subsystem new.subsystem (event.Execute k i) below.given below.step in
+    (some.0, record { mailboxes = h.mailboxes; below = record { given = below.given; step = some.1; gives = below.gives; drivers = below.drivers } })
+steps_have_calls tells old new (Poll k) reply h = ([], record { mailboxes = h.mailboxes; below = (h.below, refl) })
+steps_have_calls tells old new (Reset k) reply h = ([], record { mailboxes = h.mailboxes; below = (h.below, refl) })
+steps_have_calls tells old new (RawStore k address bytes) reply h = ([], record { mailboxes = h.mailboxes; below = (h.below, refl) })
+steps_have_calls tells old new (RawWrite32 k offset v) reply h = ([], record { mailboxes = h.mailboxes; below = (h.below, refl) })
+
+pub runs_have_calls : RunsHaveCalls
+runs_have_calls tells old new [] [] h = ([], (h, refl))
+runs_have_calls tells old new [] (reply ∷ later) h = absurd h
+runs_have_calls tells old new (e ∷ events) [] h = absurd h
+runs_have_calls tells old new (e ∷ events) (reply ∷ later) h =
+    let here = steps_have_calls tells old h.0 e reply h.1 in
+    let behind = runs_have_calls tells h.0 new events later h.2 in
+    (here.0 ++ behind.0, (h.0, here.0, behind.0, here.1, behind.1, refl))
+
+-- They are one list.
+
+pub step_calls_are_unique : StepCallsAreUnique
+step_calls_are_unique tells old new other (BringUp k) reply another calls these content left right h g made also = g.below.1 ∙ sym h.below.1
+step_calls_are_unique tells old new other (Place k request) reply another calls these content left right h g made also = g.below.1 ∙ sym h.below.1
+step_calls_are_unique tells old new other (Ring k) reply another calls these content left right h g made also = g.below.1 ∙ sym h.below.1
+step_calls_are_unique tells old new other (Fetch k q) reply another calls these content left right h g made also = g.below.1 ∙ sym h.below.1
+step_calls_are_unique tells old new other (Execute k i) reply another calls these content left right h g made also =
+    machine_laws.step_calls_are_unique tells old.subsystem new.subsystem other.subsystem (event.Execute k i) h.below.given g.below.given calls these content left right h.below.step g.below.step made also
+step_calls_are_unique tells old new other (Poll k) reply another calls these content left right h g made also = g.below.1 ∙ sym h.below.1
+step_calls_are_unique tells old new other (Reset k) reply another calls these content left right h g made also = g.below.1 ∙ sym h.below.1
+step_calls_are_unique tells old new other (RawStore k address bytes) reply another calls these content left right h g made also = g.below.1 ∙ sym h.below.1
+step_calls_are_unique tells old new other (RawWrite32 k offset v) reply another calls these content left right h g made also = g.below.1 ∙ sym h.below.1
+
+pub run_calls_are_unique : RunCallsAreUnique
+run_calls_are_unique old new other [] [] [] calls these content left right all h g made also a b below = g.1 ∙ sym h.1
+run_calls_are_unique old new other [] (x ∷ later) others calls these content left right all h g made also a b below = absurd h
+run_calls_are_unique old new other [] [] (y ∷ others) calls these content left right all h g made also a b below = absurd g
+run_calls_are_unique old new other (e ∷ events) [] others calls these content left right all h g made also a b below = absurd h
+run_calls_are_unique old new other (e ∷ events) (x ∷ later) [] calls these content left right all h g made also a b below = absurd g
+run_calls_are_unique old new other (e ∷ events) (x ∷ later) (y ∷ others) calls these content left right all (mid, here, behind, step, run, joined) (now, own, rest, stepped, ran, made_of) made also a b below =
+    let s = calls-split content_step here behind content left (subst (λ cs. Calls content_step content cs left) joined made) in
+    let t = calls-split content_step own rest content right (subst (λ cs. Calls content_step content cs right) made_of also) in
+    let one = layer_calls_are_of_a_step true old mid e x here step in
+    let two = layer_calls_are_of_a_step true old now e y own stepped in
+    let p = step-counted old mid e x one in
+    let q = run-counted mid new events later (layer_calls_are_of_a_run true mid new events later behind run) in
+    let p' = step-counted old now e y two in
+    let q' = run-counted now other events others (layer_calls_are_of_a_run true now other events others rest ran) in
+    let calm : AreCalm old.subsystem mid.subsystem now.subsystem = record { one = omega (arith, p, q, a); two = omega (arith, p', q', b); below = below } in
+    let same : now ≡ mid = (layers-alone old mid now e x y calm all one two).1 in
+    let still : count mid.subsystem ≡ count old.subsystem = calm.one in
+    let first : own ≡ here = step_calls_are_unique true old mid now e x y here own content s.mid t.mid step stepped s.first t.first in
+    let reached : t.mid ≡ s.mid = content-alone here content s.mid t.mid s.first (subst (λ cs. Calls content_step content cs t.mid) first t.first) in
+    let after : rest ≡ behind = run_calls_are_unique mid new other events later others behind rest s.mid left right (happens-once true old mid e x.seen one.below all) run
+    (subst (λ l. AreCallsOfRun true l events others other rest) same ran) s.rest (subst (λ c. Calls content_step c rest right) reached t.rest)
+    (a ∙ sym still) (b ∙ sym still) (low mid.subsystem (count old.subsystem) still below) in
+    made_of ∙ (ap (λ cs. cs ++ rest) first ∙ (ap (λ cs. here ++ cs) after ∙ sym joined))
+
+-- A Flush.
+
+executed-is : (e : Executed) (o : Outcome) → seen.Executed e ≡ seen.Executed (Posted o) → given.Executed e ≡ given.Executed (Posted o)
+executed-is e o h = cc
+
+-- what was told was given
+given-is : (x : Seen) (o : Outcome) → told x ≡ seen.Executed (Posted o) → x ≡ given.Executed (Posted o)
+given-is given.Stored o h = absurd (cc)
+given-is given.Outside o h = absurd (cc)
+given-is given.Wrote o h = absurd (cc)
+given-is (given.Value v) o h = absurd (cc)
+given-is (given.Fetched fetched) o h = absurd (cc)
+given-is (given.Executed e) o h = executed-is e o h
+given-is given.NoController o h = absurd (cc)
+
+pub flushed_is_one_flush : FlushedIsOneFlush
+flushed_is_one_flush tells old new k i reply outcome calls h posted flush ok =
+    let below = h.below in
+    let is = given-is below.given outcome (sym below.gives ∙ posted) in
+    machine_laws.flushed_is_one_flush tells old.subsystem new.subsystem k i outcome calls
+    (subst (λ x. machine.AreCallsOfStep tells old.subsystem (event.Execute k i) x new.subsystem calls) is below.step) flush ok
