@@ -72,7 +72,7 @@ field-refuses (Some CreateSubmissionQueue) queues n e = (refl, (refl, (refl, (re
 field-refuses (Some DeleteCompletionQueue) queues n e = (refl, (refl, tt))
 field-refuses (Some CreateCompletionQueue) queues n e = (refl, (refl, (refl, (refl, (refl, tt)))))
 field-refuses (Some Identify) queues n e = (refl, tt)
-field-refuses (Some SetFeatures) queues n e = (refl, (refl, (refl, (refl, (refl, tt)))))
+field-refuses (Some SetFeatures) queues n e = (refl, (refl, (refl, (refl, (refl, (refl, tt))))))
 field-refuses (Some GetFeatures) queues n e = (refl, (refl, tt))
 field-refuses (Some NamespaceAttachment) queues n e = (refl, (refl, tt))
 

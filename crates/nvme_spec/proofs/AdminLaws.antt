@@ -3,12 +3,13 @@ use Rattle.std.proofs.Common.{◌≡◌, ◌⊎◌, ℕ, ◌==◌, Bool, true, f
 use Rattle.std.specs.Prelude.{find, option_map, if◌then◌else◌}
 use Rattle.nvme_wire.specs.Submission.{opcode, nsid}
 use Rattle.nvme_wire.specs.declared.status.Status.{Status}
+use Rattle.nvme_spec.specs.declared.access.Protection.{Protection}
 use Rattle.nvme_spec.specs.declared.command.AdminCommand.{AdminCommand}
 use Rattle.nvme_spec.specs.declared.command.AdminCommand.TheVariants.{DeleteSubmissionQueue, CreateSubmissionQueue, DeleteCompletionQueue, CreateCompletionQueue, Identify, SetFeatures, GetFeatures, NamespaceAttachment}
 use Rattle.nvme_spec.specs.World.{World, Namespace, namespace_of, with_namespace, with_protection}
 use Rattle.nvme_spec.specs.Rules.{Judgement}
 use Rattle.nvme_spec.specs.Attachments.{Outcome, unless_refused, with_attached, without_attached, attach, detach}
-use Rattle.nvme_spec.specs.AdminCommands.{command_of, fid, write_protection, wps, sel}
+use Rattle.nvme_spec.specs.AdminCommands.{command_of, fid, write_protection, wps, protection_of, sel}
 use Rattle.nvme_spec.specs.AdminRules.{admin_judgement, data_of}
 use Rattle.nvme_spec.specs.AdminEffects.{world_of, world_after, execution_by, admin_execution}
 use Rattle.nvme_spec.specs.AdminLaws.{besides_protection, KeepsAllBut, ChangesOnlyProtection, KeepsReservations, AttachesByCommand, DenialsChangeNothing}
@@ -18,10 +19,10 @@ same w = record { controllers = refl; namespaces = refl }
 
 -- write protection
 
-protected-alike : (b : Bool) (n : ℕ) (ns : List Namespace) → map besides_protection (with_namespace (λ m. record m { protected = b }) n ns) ≡ map besides_protection ns
+protected-alike : (b : Protection) (n : ℕ) (ns : List Namespace) → map besides_protection (with_namespace (λ m. record m { protection = b }) n ns) ≡ map besides_protection ns
 protected-alike b n [] = refl
 protected-alike b n (m ∷ ns) =
-    elim (m.nsid == n) as (λ t. map besides_protection (if t then (record m { protected = b }) ∷ ns else m ∷ with_namespace (λ k. record k { protected = b }) n ns) ≡ map besides_protection (m ∷ ns)) [
+    elim (m.nsid == n) as (λ t. map besides_protection (if t then (record m { protection = b }) ∷ ns else m ∷ with_namespace (λ k. record k { protection = b }) n ns) ≡ map besides_protection (m ∷ ns)) [
       | true ↦ refl
       | false ↦ ap (λ rest. besides_protection m ∷ rest) (protected-alike b n ns)
     ]
@@ -53,7 +54,7 @@ either w false a b h k = k
 after : (w : World) (command : AdminCommand) (e sent : List ℕ) → KeepsAllBut w (world_after w command e sent)
 unfolding world_after
 after w SetFeatures e sent =
-    keeps-if w (fid e == write_protection) _ (record { controllers = refl; namespaces = protected-alike (wps e == 1) (nsid e) w.namespaces })
+    keeps-if w (fid e == write_protection) _ (record { controllers = refl; namespaces = protected-alike (protection_of (wps e)) (nsid e) w.namespaces })
 after w NamespaceAttachment e sent = either w (sel e == 0) _ _ (attaching w (nsid e) _) (detaching w (nsid e) _)
 after w DeleteSubmissionQueue e sent = same w
 after w CreateSubmissionQueue e sent = same w
@@ -93,7 +94,7 @@ keeps_reservations w queues cntlid e window n =
 
 -- attachments
 
-attachments-if : (w : World) (t : Bool) (b : Bool) (n : ℕ) → (if t then with_protection w n b else w).attachments ≡ w.attachments
+attachments-if : (w : World) (t : Bool) (b : Protection) (n : ℕ) → (if t then with_protection w n b else w).attachments ≡ w.attachments
 attachments-if w true b n = refl
 attachments-if w false b n = refl
 
@@ -103,7 +104,7 @@ unfolding world_after
 attached-by (Err d) command w cntlid e window = inl refl
 attached-by (Ok u) None w cntlid e window = inl refl
 attached-by (Ok tt) (Some NamespaceAttachment) w cntlid e window = inr (refl, refl)
-attached-by (Ok u) (Some SetFeatures) w cntlid e window = inl (attachments-if w (fid e == write_protection) (wps e == 1) (nsid e))
+attached-by (Ok u) (Some SetFeatures) w cntlid e window = inl (attachments-if w (fid e == write_protection) (protection_of (wps e)) (nsid e))
 attached-by (Ok u) (Some DeleteSubmissionQueue) w cntlid e window = inl refl
 attached-by (Ok u) (Some CreateSubmissionQueue) w cntlid e window = inl refl
 attached-by (Ok u) (Some DeleteCompletionQueue) w cntlid e window = inl refl

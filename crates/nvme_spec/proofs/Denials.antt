@@ -13,7 +13,7 @@ use Rattle.nvme_spec.specs.declared.verdict.Verdict.TheVariants.{Allowed, Denied
 use Rattle.nvme_spec.specs.Reservation as resv
 use Rattle.nvme_spec.specs.World.{World, Namespace, host_of, namespace_of}
 use Rattle.nvme_spec.specs.declared.access.Hold.TheVariants.{Free}
-use Rattle.nvme_spec.specs.Commands.{command_of, data_length_of, action, iekey, rtype}
+use Rattle.nvme_spec.specs.Commands.{command_of, data_length_of, action, iekey, rtype, cptpl}
 use Rattle.nvme_spec.specs.Rules.{Rule, Test, Judgement, judgement_by, denial_by, first_failure, first_failing, else_by, refusal_tests}
 use Rattle.nvme_spec.specs.IoRules.{mark_rule, opcode_rule, form_rule, nsid_rule, attachment_rule, field_rule, reservation_rule, protection_rule, range_rule, conclusion}
 use Rattle.nvme_spec.specs.DataRules.{pointer_rule, data_fault, fault_tests}
@@ -142,11 +142,16 @@ release-refuses r host type key =
 clear-refuses : (r : resv.Reservation) (host key : ℕ) → RefusalRefuses (resv.clear r host key)
 clear-refuses r host key = if-refusal _ _ _ (becoming _) conflict
 
+persisting-refuses : (change : ℕ) (o : resv.Outcome) → RefusalRefuses o → RefusalRefuses (resv.persisting change o)
+unfolding RefusalRefuses
+persisting-refuses change (Ok t) h = tt
+persisting-refuses change (Err s) h = h
+
 action-refuses : (command : Command) (r : resv.Reservation) (host : ℕ) (e keys : List ℕ) → ActionRefuses (action_outcome command r host e keys)
 unfolding action_outcome
 action-refuses ReservationRegister r host e keys =
-    if-refusal (action e == 0) _ _ (register-refuses r host (other_key keys))
-    (if-refusal (action e == 1) _ _ (unregister-refuses r host (iekey e) (current_key keys)) (replace-refuses r host (iekey e) (current_key keys) (other_key keys)))
+    persisting-refuses (cptpl e) _ (if-refusal (action e == 0) _ _ (register-refuses r host (other_key keys))
+    (if-refusal (action e == 1) _ _ (unregister-refuses r host (iekey e) (current_key keys)) (replace-refuses r host (iekey e) (current_key keys) (other_key keys))))
 action-refuses ReservationAcquire r host e keys =
     if-refusal (action e == 0) _ _ (acquire-refuses r host (rtype e) (current_key keys)) (preempt-refuses r host (rtype e) (current_key keys) (other_key keys))
 action-refuses ReservationRelease r host e keys =

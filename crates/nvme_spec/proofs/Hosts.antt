@@ -1,5 +1,5 @@
 -- Registrants that are hosts of controllers: how many there are, and that they stay so.
-use Rattle.std.proofs.Common.{◌≡◌, ℕ, ◌+◌, ◌<◌, ◌≤◌, ◌==◌, ◌||◌, ◌&&◌, Bool, true, false, cond, not, IsTrue, List, [], ◌∷◌, Option, None, Some, length, filter, nat_lt, refl, ap, arith, suc, length-append, ⊎_elim, inl, inr, ◌⊎◌}
+use Rattle.std.proofs.Common.{◌≡◌, ℕ, ◌+◌, ◌<◌, ◌≤◌, ◌==◌, ◌||◌, ◌&&◌, Bool, true, false, cond, not, IsTrue, List, [], ◌∷◌, Option, None, Some, length, filter, nat_lt, refl, ap, arith, suc, length-append, ⊎_elim, inl, inr, ◌⊎◌, Ok, Err}
 use Rattle.std.specs.Prelude.{if◌then◌else◌}
 use Rattle.std.specs.List.{list_any, AllByRecursion}
 use Rattle.std.proofs.lemmas.Bool.{cases_lt, cases_Bool, lt-ltb, le-ltb, eqb-true}
@@ -8,8 +8,8 @@ use Rattle.nvme_spec.specs.declared.access.Registrant.{Registrant}
 use Rattle.nvme_spec.specs.declared.command.Command.{Command}
 use Rattle.nvme_spec.specs.declared.command.Command.TheVariants.{Flush, Write, Read, Compare, WriteZeroes, ReservationRegister, ReservationReport, ReservationAcquire, ReservationRelease}
 use Rattle.nvme_spec.specs.Report.{ControllerHost}
-use Rattle.nvme_spec.specs.Commands.{action, iekey, rtype}
-use Rattle.nvme_spec.specs.Reservation.{Reservation, Outcome, IsRising, with_key, is_registered, is_registered_with, is_free, is_of_type, is_of_all, is_holder, is_holders_key, is_key_in_use, register, unregister, replace, acquire, preempt, release, clear}
+use Rattle.nvme_spec.specs.Commands.{action, iekey, rtype, cptpl}
+use Rattle.nvme_spec.specs.Reservation.{Reservation, Outcome, IsRising, with_key, is_registered, is_registered_with, is_free, is_of_type, is_of_all, is_holder, is_holders_key, is_key_in_use, register, unregister, replace, acquire, preempt, release, clear, persisting, ptpl_after}
 use Rattle.nvme_spec.specs.ReservationLaws.{Keeps}
 use Rattle.nvme_spec.specs.IoData.{action_outcome, current_key, other_key}
 use Rattle.nvme_spec.proofs.Registrants.{all-filter, filter-all, all-map, above_test, rising-filter, rising-with_key, all-append}
@@ -133,13 +133,20 @@ abbrev pub KeepsIfSome : Option Outcome → (Reservation → Type 0) → Type 0
 KeepsIfSome None P = Unit {0}
 KeepsIfSome (Some o) P = Keeps o P
 
+-- whether a reservation persists is no part of it
+pub persisting-keeps : (P : Reservation → Type 0) → ((r : Reservation) (persists : Bool) → P r → P (record r { ptpl = persists }))
+    → (change : ℕ) (o : Outcome) → Keeps o P → Keeps (persisting change o) P
+persisting-keeps P f change (Ok t) h = f t.next (ptpl_after change t.next.ptpl) h
+persisting-keeps P f change (Err s) h = tt
+
 pub keeps-known : (ks : List ControllerHost) (command : Command) (r : Reservation) (host : ℕ) (e keys : List ℕ) → AreKnown ks r.registrants → IsKnown ks host
     → KeepsIfSome (action_outcome command r host e keys) (λ next. AreKnown ks next.registrants)
 unfolding action_outcome
 keeps-known ks ReservationRegister r host e keys a h =
-    keeps-by ks (action e == 0) _ _ (keeps-register ks r host (other_key keys) a h)
+    persisting-keeps (λ next. AreKnown ks next.registrants) (λ r persists known. known) (cptpl e) _
+    (keeps-by ks (action e == 0) _ _ (keeps-register ks r host (other_key keys) a h)
     (keeps-by ks (action e == 1) _ _ (keeps-unregister ks r host (iekey e) (current_key keys) a)
-    (keeps-replace ks r host (iekey e) (current_key keys) (other_key keys) a h))
+    (keeps-replace ks r host (iekey e) (current_key keys) (other_key keys) a h)))
 keeps-known ks ReservationAcquire r host e keys a h =
     keeps-by ks (action e == 0) _ _ (keeps-acquire ks r host (rtype e) (current_key keys) a)
     (keeps-preempt ks r host (rtype e) (current_key keys) (other_key keys) a)

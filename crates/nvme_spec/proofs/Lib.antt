@@ -29,5 +29,7 @@ pub mod SoundWorlds
 pub mod SoundAttachments
 pub mod SoundOpenings
 pub mod MediumCalls
+pub mod Power
+pub mod Protected
 pub mod PassingCalls
 pub mod CallLaws

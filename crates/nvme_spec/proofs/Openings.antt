@@ -3,6 +3,7 @@ use Rattle.std.proofs.Common.{◌≡◌, ◌≢◌, inl, inr, ℕ, ◌+◌, ◌�
 use Rattle.std.specs.Prelude.{find, option_map, if◌then◌else◌}
 use Rattle.std.proofs.lemmas.List.Sums.{sum_by-cons}
 use Rattle.std.proofs.lemmas.Bool.{eqb-true, ltb-false}
+use Rattle.nvme_spec.specs.declared.access.Protection.TheVariants.{Open}
 use Rattle.nvme_spec.specs.declared.config.NsConfig.{NsConfig}
 use Rattle.nvme_spec.specs.Configuration.{Configuration, first_config_fault, total_blocks, has_too_many, has_bad_id, has_bad_size}
 use Rattle.nvme_spec.specs.World.{Namespace, namespace_of, laid_out, opening_world}
@@ -24,7 +25,7 @@ bounds n first (m ∷ ms) x is =
     let total = sum_by-cons (λ (y : NsConfig). y.blocks) m ms in
     (r.0, omega (arith, r.1, total))
   where
-    by : (b : Bool) → option_map extent (cond b (Some (record { nsid = m.nsid; first = first; blocks = m.blocks; shared = m.shared; protected = false; reservation = unreserved })) (find (λ y. y.nsid == n) (laid_out (first + m.blocks) ms))) ≡ Some x
+    by : (b : Bool) → option_map extent (cond b (Some (record { nsid = m.nsid; first = first; blocks = m.blocks; shared = m.shared; protection = Open; reservation = unreserved })) (find (λ y. y.nsid == n) (laid_out (first + m.blocks) ms))) ≡ Some x
         → (found n (laid_out (first + m.blocks) ms) ≡ Some x → (first + m.blocks ≤ x.first) × (x.first + x.blocks ≤ first + m.blocks + total_blocks ms))
         → (first ≤ x.first) × (x.first + x.blocks ≤ first + (m.blocks + total_blocks ms))
     by true e rest = let a : first ≡ x.first = cc in let b : m.blocks ≡ x.blocks = cc in (omega (arith, a), omega (arith, a, b))
@@ -35,8 +36,8 @@ both-found n m first [] x y other p q = absurd (cc)
 both-found n m first (z ∷ zs) x y other p q = by (z.nsid == n) refl (z.nsid == m) refl p q (both-found n m (first + z.blocks) zs x y other)
   where
     by : (a : Bool) → (z.nsid == n) ≡ a → (b : Bool) → (z.nsid == m) ≡ b
-        → option_map extent (cond a (Some (record { nsid = z.nsid; first = first; blocks = z.blocks; shared = z.shared; protected = false; reservation = unreserved })) (find (λ w. w.nsid == n) (laid_out (first + z.blocks) zs))) ≡ Some x
-        → option_map extent (cond b (Some (record { nsid = z.nsid; first = first; blocks = z.blocks; shared = z.shared; protected = false; reservation = unreserved })) (find (λ w. w.nsid == m) (laid_out (first + z.blocks) zs))) ≡ Some y
+        → option_map extent (cond a (Some (record { nsid = z.nsid; first = first; blocks = z.blocks; shared = z.shared; protection = Open; reservation = unreserved })) (find (λ w. w.nsid == n) (laid_out (first + z.blocks) zs))) ≡ Some x
+        → option_map extent (cond b (Some (record { nsid = z.nsid; first = first; blocks = z.blocks; shared = z.shared; protection = Open; reservation = unreserved })) (find (λ w. w.nsid == m) (laid_out (first + z.blocks) zs))) ≡ Some y
         → (found n (laid_out (first + z.blocks) zs) ≡ Some x → found m (laid_out (first + z.blocks) zs) ≡ Some y → AreApart x y)
         → AreApart x y
     by true e true f p q rest = absurd (other (sym (eqb-true z.nsid n e) ∙ eqb-true z.nsid m f))

@@ -8,9 +8,9 @@ use Rattle.nvme_spec.specs.declared.command.Command.{Command}
 use Rattle.nvme_spec.specs.declared.verdict.Plan.{Plan}
 use Rattle.nvme_spec.specs.declared.verdict.Verdict.TheVariants.{Allowed}
 use Rattle.nvme_spec.specs.World.{World, host_of, namespace_of, is_attached}
-use Rattle.nvme_spec.specs.Commands.{command_of, is_one_of, readers, writers, ranged, plan_of, starting_lba, block_count, data_length_of}
+use Rattle.nvme_spec.specs.Commands.{command_of, is_one_of, readers, writers, ranged, plan_of, starting_lba, block_count, data_length_of, altering}
 use Rattle.nvme_spec.specs.Rules.{Rule, Judgement, rule, judgement_by, else_by, first_failing}
-use Rattle.nvme_spec.specs.IoRules.{mark_rule, opcode_rule, form_rule, nsid_rule, attachment_rule, field_rule, reservation_rule, protection_rule, range_rule, access_rules, conclusion, permits_group, has_blocks_below}
+use Rattle.nvme_spec.specs.IoRules.{mark_rule, opcode_rule, form_rule, nsid_rule, attachment_rule, field_rule, reservation_rule, protection_rule, range_rule, access_rules, conclusion, permits_group, is_protected, has_blocks_below}
 use Rattle.nvme_spec.specs.DataRules.{pointer_rule}
 use Rattle.nvme_spec.specs.IoData.{io_rules, io_judgement, io_verdict, action_rule, reservation_outcome, data_of}
 
@@ -34,6 +34,7 @@ pub record HasPassed (w : World) (k : ℕ) (e : List ℕ) (command : Command) : 
   pub permitted : ((is_one_of (Some command) readers && not (permits_group (namespace_of w (nsid e)) (host_of w k) Reading))
       || (is_one_of (Some command) writers && not (permits_group (namespace_of w (nsid e)) (host_of w k) Writing))) ≡ false
   pub fields : judgement_by (field_rule (Some command) e) ≡ Ok tt
+  pub unprotected : (is_one_of (Some command) altering && is_protected (namespace_of w (nsid e))) ≡ false
   pub fits : (is_one_of (Some command) ranged && not (has_blocks_below (namespace_of w (nsid e)) (starting_lba e + block_count e))) ≡ false
 
 pub record IsPlanned (j : Judgement) (command : Option Command) (plan : Plan) : Type 0 where
@@ -54,7 +55,7 @@ judged w k e marked window plan h = planned (first_failing (io_rules w k e marke
 
 pub passes : (w : World) (k : ℕ) (e : List ℕ) (marked : Bool) (later : List Rule) (command : Command)
     → first_failing (access_rules w k e marked ++ later) ≡ Ok tt → command_of (opcode e) ≡ Some command → HasPassed w k e command
-unfolding attachment_rule reservation_rule range_rule
+unfolding attachment_rule reservation_rule protection_rule range_rule
 passes w k e marked later command h named =
     let a = both (judgement_by (mark_rule marked)) _ h in
     let b = both (judgement_by (opcode_rule (command_of (opcode e)))) _ a.1 in
@@ -71,6 +72,7 @@ passes w k e marked later command h named =
       permitted = ap (λ o. (is_one_of o readers && not (permits_group (namespace_of w (nsid e)) (host_of w k) Reading))
           || (is_one_of o writers && not (permits_group (namespace_of w (nsid e)) (host_of w k) Writing))) (sym named) ∙ passed 7 _ _ i.0;
       fields = ap (λ o. judgement_by (field_rule o e)) (sym named) ∙ g.0;
+      unprotected = ap (λ o. is_one_of o altering && is_protected (namespace_of w (nsid e))) (sym named) ∙ passed 8 _ _ j.0;
       fits = ap (λ o. is_one_of o ranged && not (has_blocks_below (namespace_of w (nsid e)) (starting_lba e + block_count e))) (sym named)
           ∙ passed 9 _ _ l.0;
     }

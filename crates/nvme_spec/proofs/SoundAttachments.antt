@@ -13,7 +13,7 @@ use Rattle.nvme_spec.specs.Limits.{longest_controller_list}
 use Rattle.nvme_spec.specs.World.{World, Namespace, host_of, namespace_of, is_attached, with_protection}
 use Rattle.nvme_spec.specs.Rules.{Test, Judgement, test, first_failure, judgement_by}
 use Rattle.nvme_spec.specs.Attachments.{Outcome, are_controllers_above, list_tests, has_controller, is_shared, attach_tests, attach_each, detach_each, unless_refused, with_attached, without_attached, attach, detach}
-use Rattle.nvme_spec.specs.AdminCommands.{command_of, fid, write_protection, wps, sel}
+use Rattle.nvme_spec.specs.AdminCommands.{command_of, fid, write_protection, wps, protection_of, sel}
 use Rattle.nvme_spec.specs.AdminRules.{admin_judgement, listed_controllers, data_of, selection_rule}
 use Rattle.nvme_spec.specs.AdminEffects.{world_of, world_after, execution_by, admin_execution}
 use Rattle.nvme_spec.specs.AdminLaws.{besides_protection}
@@ -262,7 +262,7 @@ either-outcome w false a b h k = k
 after-it : (w : World) (command : AdminCommand) (e sent : List ℕ) → (command ≡ NamespaceAttachment → is_namespace w (nsid e) ≡ true) → AreThere w w.attachments
     → AreThere w (world_after w command e sent).attachments
 unfolding world_after
-after-it w SetFeatures e sent known h = either-way w (fid e == write_protection) (with_protection w (nsid e) (wps e == 1)) w h h
+after-it w SetFeatures e sent known h = either-way w (fid e == write_protection) (with_protection w (nsid e) (protection_of (wps e))) w h h
 after-it w NamespaceAttachment e sent known h =
     either-outcome w (sel e == 0) _ _ (attaching w (nsid e) (listed_controllers sent) (known refl) h) (detaching w (nsid e) (listed_controllers sent) h)
 after-it w DeleteSubmissionQueue e sent known h = h

@@ -4,6 +4,7 @@ use Rattle.std.specs.Prelude.{find, option_map, is_some, if◌then◌else◌}
 use Rattle.std.specs.List.{AllByRecursion, list_any, list_all, enumerate_from}
 use Rattle.std.proofs.lemmas.Bool.{and_parts, eqb-true, eqb-false}
 use Rattle.nvme_spec.specs.declared.config.ControllerConfig.{ControllerConfig}
+use Rattle.nvme_spec.specs.declared.access.Protection.TheVariants.{Open}
 use Rattle.nvme_spec.specs.declared.config.NsConfig.{NsConfig}
 use Rattle.nvme_spec.specs.declared.config.ConfigFault.TheVariants.{TooMany, BadId, BadSize, DoesNotFit}
 use Rattle.nvme_spec.specs.Configuration.{Configuration, first_config_fault, has_too_many, has_bad_id, has_bad_size, total_blocks, are_numbered, is_hostless, has_foreign_nsid, has_repeated_nsid, has_bad_attachment, is_known, is_private}
@@ -78,7 +79,7 @@ known-controller k (x ∷ ks) h = by (x.cntlid == k) h (known-controller k ks)
 known-namespace : (n first : ℕ) (ns : List NsConfig) → list_any (λ (x : NsConfig). x.nsid == n) ns ≡ true
     → is_some (find (λ (m : Namespace). m.nsid == n) (laid_out first ns)) ≡ true
 known-namespace n first [] h = h
-known-namespace n first (x ∷ ns) h = by (x.nsid == n) (Some (record { nsid = x.nsid; first = first; blocks = x.blocks; shared = x.shared; protected = false; reservation = unreserved })) h (known-namespace n (first + x.blocks) ns) refl
+known-namespace n first (x ∷ ns) h = by (x.nsid == n) (Some (record { nsid = x.nsid; first = first; blocks = x.blocks; shared = x.shared; protection = Open; reservation = unreserved })) h (known-namespace n (first + x.blocks) ns) refl
   where
     by : (b : Bool) (o : Option Namespace) → (b || list_any (λ (y : NsConfig). y.nsid == n) ns) ≡ true
         → (list_any (λ (y : NsConfig). y.nsid == n) ns ≡ true → is_some (find (λ (m : Namespace). m.nsid == n) (laid_out (first + x.blocks) ns)) ≡ true)
@@ -95,7 +96,7 @@ shared-namespace n first (x ∷ ns) h public = by (x.nsid == n) h public (shared
         → ((b && not x.shared) || list_any (λ (y : NsConfig). (y.nsid == n) && not y.shared) ns) ≡ false
         → (list_any (λ (y : NsConfig). y.nsid == n) ns ≡ true → list_any (λ (y : NsConfig). (y.nsid == n) && not y.shared) ns ≡ false
         → is_shared (find (λ (m : Namespace). m.nsid == n) (laid_out (first + x.blocks) ns)) ≡ true)
-        → is_shared (cond b (Some (record { nsid = x.nsid; first = first; blocks = x.blocks; shared = x.shared; protected = false; reservation = unreserved }))
+        → is_shared (cond b (Some (record { nsid = x.nsid; first = first; blocks = x.blocks; shared = x.shared; protection = Open; reservation = unreserved }))
         (find (λ (m : Namespace). m.nsid == n) (laid_out (first + x.blocks) ns))) ≡ true
     by true t f later = not_false x.shared (neither (not x.shared) (list_any (λ (y : NsConfig). (y.nsid == n) && not y.shared) ns) f).0
     by false t f later = later t f

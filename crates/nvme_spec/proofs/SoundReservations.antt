@@ -7,14 +7,14 @@ use Rattle.nvme_spec.specs.declared.access.Hold.{Hold}
 use Rattle.nvme_spec.specs.declared.access.Hold.TheVariants.{Free, One, All}
 use Rattle.nvme_spec.specs.declared.command.Command.{Command}
 use Rattle.nvme_spec.specs.declared.command.Command.TheVariants.{Flush, Write, Read, Compare, WriteZeroes, ReservationRegister, ReservationReport, ReservationAcquire, ReservationRelease}
-use Rattle.nvme_spec.specs.Commands.{action, iekey, rtype}
+use Rattle.nvme_spec.specs.Commands.{action, iekey, rtype, cptpl}
 use Rattle.nvme_spec.specs.Reservation.{Reservation, Outcome, IsRising, is_registered, is_registered_with, is_free, is_of_type, is_of_all, is_holder, is_holders_key, is_key_in_use, taken_by, remaining_hold, register, unregister, replace, acquire, preempt, release, clear}
 use Rattle.nvme_spec.specs.ReservationLaws.{Keeps, IsHeldByRegistrants}
 use Rattle.nvme_spec.specs.IoData.{action_outcome, current_key, other_key}
 use Rattle.nvme_spec.specs.Sound.{IsTyped}
 use Rattle.nvme_spec.proofs.Registrants.{rising-filter, rising-with_key}
 use Rattle.nvme_spec.proofs.ReservationLaws.{register-held, replace-held, acquire-held, preempt-held, remaining_hold-held}
-use Rattle.nvme_spec.proofs.Hosts.{keeps-if, KeepsIfSome}
+use Rattle.nvme_spec.proofs.Hosts.{keeps-if, KeepsIfSome, persisting-keeps}
 
 -- Registrants rise.
 
@@ -60,9 +60,10 @@ pub keeps-rising : (command : Command) (r : Reservation) (host : ℕ) (e keys : 
     → KeepsIfSome (action_outcome command r host e keys) (λ next. IsRising next.registrants)
 unfolding action_outcome
 keeps-rising ReservationRegister r host e keys a =
-    rises-if (action e == 0) _ _ (rises-register r host (other_key keys) a)
+    persisting-keeps (λ next. IsRising next.registrants) (λ r persists rises. rises) (cptpl e) _
+    (rises-if (action e == 0) _ _ (rises-register r host (other_key keys) a)
     (rises-if (action e == 1) _ _ (rises-unregister r host (iekey e) (current_key keys) a)
-    (rises-replace r host (iekey e) (current_key keys) (other_key keys) a))
+    (rises-replace r host (iekey e) (current_key keys) (other_key keys) a)))
 keeps-rising ReservationAcquire r host e keys a =
     rises-if (action e == 0) _ _ (rises-acquire r host (rtype e) (current_key keys) a)
     (rises-preempt r host (rtype e) (current_key keys) (other_key keys) a)
@@ -97,9 +98,10 @@ pub keeps-held : (command : Command) (r : Reservation) (host : ℕ) (e keys : Li
     → KeepsIfSome (action_outcome command r host e keys) IsHeldByRegistrants
 unfolding action_outcome
 keeps-held ReservationRegister r host e keys a =
-    held-if (action e == 0) _ _ (register-held r host (other_key keys) a)
+    persisting-keeps IsHeldByRegistrants (λ r persists held. held) (cptpl e) _
+    (held-if (action e == 0) _ _ (register-held r host (other_key keys) a)
     (held-if (action e == 1) _ _ (held-unregister r host (iekey e) (current_key keys))
-    (replace-held r host (iekey e) (current_key keys) (other_key keys) a))
+    (replace-held r host (iekey e) (current_key keys) (other_key keys) a)))
 keeps-held ReservationAcquire r host e keys a =
     held-if (action e == 0) _ _ (acquire-held r host (rtype e) (current_key keys) a)
     (preempt-held r host (rtype e) (current_key keys) (other_key keys))
@@ -181,9 +183,10 @@ pub keeps-typed : (command : Command) (r : Reservation) (host : ℕ) (e keys : L
     → KeepsIfSome (action_outcome command r host e keys) (λ next. IsTyped next.hold)
 unfolding action_outcome
 keeps-typed ReservationRegister r host e keys n a =
-    types-if (action e == 0) _ _ (types-register r host (other_key keys) a)
+    persisting-keeps (λ next. IsTyped next.hold) (λ r persists typed. typed) (cptpl e) _
+    (types-if (action e == 0) _ _ (types-register r host (other_key keys) a)
     (types-if (action e == 1) _ _ (types-unregister r host (iekey e) (current_key keys) a)
-    (types-replace r host (iekey e) (current_key keys) (other_key keys) a))
+    (types-replace r host (iekey e) (current_key keys) (other_key keys) a)))
 keeps-typed ReservationAcquire r host e keys n a =
     types-if (action e == 0) _ _ (types-acquire r host (rtype e) (current_key keys) n.0 n.1 a)
     (types-preempt r host (rtype e) (current_key keys) (other_key keys) n.0 n.1 a)

@@ -5,6 +5,8 @@ use Rattle.std.specs.Prelude.{ℕ, ◌+◌, ◌==◌, Bool, ◌&&◌, if◌then�
 use Rattle.nvme_wire.specs.Entry.{bits}
 use Rattle.nvme_spec.specs.Opcodes.{command_with, is_among}
 use Rattle.nvme_wire.specs.Submission.{cdw10, cdw11}
+use Rattle.nvme_spec.specs.declared.access.Protection.{Protection}
+use Rattle.nvme_spec.specs.declared.access.Protection.TheVariants.{Open, Protected, UntilCycle}
 use Rattle.nvme_spec.specs.declared.command.AdminCommand.{AdminCommand}
 use Rattle.nvme_spec.specs.declared.command.AdminCommand.TheVariants.{DeleteSubmissionQueue, CreateSubmissionQueue, DeleteCompletionQueue, CreateCompletionQueue, Identify, SetFeatures, GetFeatures, NamespaceAttachment}
 
@@ -88,9 +90,17 @@ nsqr e = bits (cdw11 e) 15 0
 unfoldable pub ncqr : List ℕ → ℕ
 ncqr e = bits (cdw11 e) 31 16
 
--- Write Protection State (WPS): bits 2:0 of double word 11; 0 is none, 1 is write protected
+-- Write Protection State (WPS): bits 2:0 of double word 11; 0 is none, 1 write protected, 2 that until a power cycle
 unfoldable pub wps : List ℕ → ℕ
 wps e = bits (cdw11 e) 2 0
+
+abbrev pub protection_of : ℕ → Protection
+protection_of state = if state == 0 then Open else (if state == 1 then Protected else UntilCycle)
+
+abbrev pub state_of : Protection → ℕ
+state_of Open = 0
+state_of Protected = 1
+state_of UntilCycle = 2
 
 -- Enable Extended Host Identifier (EXHID): bit 0 of double word 11
 unfoldable pub exhid : List ℕ → Bool

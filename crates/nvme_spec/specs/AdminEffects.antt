@@ -14,8 +14,8 @@ use Rattle.nvme_spec.specs.Transfers.{with_scattered}
 use Rattle.nvme_spec.specs.World.{World, Namespace, host_of, namespace_of, with_protection}
 use Rattle.nvme_spec.specs.Rules.{Judgement}
 use Rattle.nvme_spec.specs.Attachments.{Outcome}
-use Rattle.nvme_spec.specs.Identify.{bit_of, identify_attached, identify_controller, namespace_list, attached_above}
-use Rattle.nvme_spec.specs.AdminCommands.{command_of, data_length, qid, queue_size, cqid, cns, namespace_structure, controller_structure, fid, number_of_queues, host_identifier, write_protection, wps}
+use Rattle.nvme_spec.specs.Identify.{identify_attached, identify_controller, namespace_list, attached_above}
+use Rattle.nvme_spec.specs.AdminCommands.{command_of, data_length, qid, queue_size, cqid, cns, namespace_structure, controller_structure, fid, number_of_queues, host_identifier, write_protection, wps, protection_of, state_of}
 use Rattle.nvme_spec.specs.DataRules.{data_addresses}
 use Rattle.nvme_spec.specs.AdminRules.{data_of, attachment_outcome, admin_judgement}
 use Rattle.nvme_spec.specs.Statuses as status
@@ -24,10 +24,10 @@ use Rattle.nvme_spec.specs.Statuses as status
 abbrev pub allocated_queues : ℕ
 allocated_queues = 0x00030003
 
--- Namespace Write Protection: 1 where the namespace is write protected
+-- Namespace Write Protection: the state of the namespace
 abbrev pub protection_value : Option Namespace → ℕ
 protection_value None = 0
-protection_value (Some n) = bit_of n.protected
+protection_value (Some n) = state_of n.protection
 
 -- double word 0 of the completion
 unfoldable pub double_word_0 : World → AdminCommand → List ℕ → ℕ
@@ -66,7 +66,8 @@ world_of w (Err refusal) = w
 
 -- what becomes of the world, by the data that the host has sent
 unfoldable pub world_after : World → AdminCommand → List ℕ → List ℕ → World
-world_after w SetFeatures e sent = if fid e == write_protection then with_protection w (nsid e) (wps e == 1) else w
+world_after w SetFeatures e sent =
+    if fid e == write_protection then with_protection w (nsid e) (protection_of (wps e)) else w
 world_after w NamespaceAttachment e sent = world_of w (attachment_outcome w e sent)
 world_after w command e sent = w
 

@@ -1,7 +1,8 @@
 -- What no admin command changes (Base Specification: Admin Command Set, Namespace Attachment command, Reservations,
 -- Namespace Write Protection). No admin command is given a medium, so none changes a block.
-use Rattle.std.specs.Prelude.{◌≡◌, ◌⊎◌, ℕ, false, List, map, Some, Ok, Err, option_map}
+use Rattle.std.specs.Prelude.{◌≡◌, ◌⊎◌, ℕ, List, map, Some, Ok, Err, option_map}
 use Rattle.nvme_wire.specs.Submission.{opcode}
+use Rattle.nvme_spec.specs.declared.access.Protection.TheVariants.{Open}
 use Rattle.nvme_spec.specs.declared.command.AdminCommand.TheVariants.{NamespaceAttachment}
 use Rattle.nvme_spec.specs.declared.queues.Queues.{Queues}
 use Rattle.nvme_spec.specs.declared.queues.QueueChange.TheVariants.{Keep}
@@ -13,7 +14,7 @@ use Rattle.nvme_spec.specs.AdminEffects.{AdminExecution, admin_execution}
 
 -- a namespace, but for its write protection
 abbrev pub besides_protection : Namespace → Namespace
-besides_protection n = record n { protected = false }
+besides_protection n = record n { protection = Open }
 
 -- the controllers are the same, and of the namespaces all but their write protection
 pub record KeepsAllBut (w next : World) : Type 0 where

@@ -1,11 +1,13 @@
 -- The rules that an admin command is judged by, in their order. A rule passes for a command that it doesn't name. The
 -- order of the rules and tests is this subsystem's; each is the standard's (Base Specification: Admin Command Set,
 -- Namespace Identifier Usage, Features, Reservations, Physical Region Page Entry and List, Controller List).
-use Rattle.std.specs.Prelude.{ℕ, ◌+◌, ◌*◌, ◌%◌, ◌==◌, nat_lt, nat_le, Bool, not, ◌&&◌, ◌||◌, if◌then◌else◌, List, [], ◌∷◌, ◌++◌, map, Option, None, Some, is_none, is_some}
+use Rattle.std.specs.Prelude.{ℕ, ◌+◌, ◌*◌, ◌%◌, ◌==◌, nat_lt, nat_le, Bool, true, false, not, ◌&&◌, ◌||◌, if◌then◌else◌, List, [], ◌∷◌, ◌++◌, map, Option, None, Some, is_none, is_some}
 use Rattle.std.specs.List.{range_with_len}
 use Rattle.nvme_wire.specs.Entry.{word_at}
 use Rattle.nvme_wire.specs.Submission.{opcode, nsid, prp1}
 use Rattle.nvme_spec.specs.declared.access.Group.TheVariants.{Write as Writing}
+use Rattle.nvme_spec.specs.declared.access.Protection.{Protection}
+use Rattle.nvme_spec.specs.declared.access.Protection.TheVariants.{Open, Protected, UntilCycle}
 use Rattle.nvme_spec.specs.declared.command.AdminCommand.{AdminCommand}
 use Rattle.nvme_spec.specs.declared.command.AdminCommand.TheVariants.{DeleteSubmissionQueue, CreateSubmissionQueue, DeleteCompletionQueue, CreateCompletionQueue, Identify, SetFeatures, GetFeatures, NamespaceAttachment}
 use Rattle.nvme_spec.specs.declared.queues.Queues.{Queues}
@@ -98,8 +100,18 @@ completion_deletion_rule queues e = record {
 unfoldable pub identify_rule : List ℕ → Rule
 identify_rule e = rule 6 (nat_lt namespace_list_structure (cns e)) status.invalid_field_in_command
 
-unfoldable pub set_features_rule : Queues → List ℕ → Rule
-set_features_rule queues e =
+-- the namespace is write protected until a power cycle, which no command changes
+abbrev pub is_protected_until_cycle : Option Namespace → Bool
+is_protected_until_cycle None = false
+is_protected_until_cycle (Some n) = lasts_until_cycle n.protection
+  where
+    lasts_until_cycle : Protection → Bool
+    lasts_until_cycle Open = false
+    lasts_until_cycle Protected = false
+    lasts_until_cycle UntilCycle = true
+
+unfoldable pub set_features_rule : Queues → Option Namespace → List ℕ → Rule
+set_features_rule queues namespace e =
     let queues_are_set = fid e == number_of_queues in
     let protection_is_set = fid e == write_protection in
     record {
@@ -109,7 +121,8 @@ set_features_rule queues e =
           ∷ test (sv e) status.feature_identifier_not_saveable
           ∷ test (queues_are_set && ((nsqr e == 0xffff) || (ncqr e == 0xffff))) status.invalid_field_in_command
           ∷ test (queues_are_set && has_io_queue queues) status.command_sequence_error
-          ∷ test (protection_is_set && nat_lt 1 (wps e)) status.invalid_field_in_command
+          ∷ test (protection_is_set && nat_lt 2 (wps e)) status.invalid_field_in_command
+          ∷ test (protection_is_set && is_protected_until_cycle namespace) status.feature_not_changeable
           ∷ [];
     }
 
@@ -137,7 +150,7 @@ field_rule (Some CreateSubmissionQueue) queues namespace e = submission_queue_ru
 field_rule (Some DeleteCompletionQueue) queues namespace e = completion_deletion_rule queues e
 field_rule (Some CreateCompletionQueue) queues namespace e = completion_queue_rule queues e
 field_rule (Some Identify) queues namespace e = identify_rule e
-field_rule (Some SetFeatures) queues namespace e = set_features_rule queues e
+field_rule (Some SetFeatures) queues namespace e = set_features_rule queues namespace e
 field_rule (Some GetFeatures) queues namespace e = get_features_rule e
 field_rule (Some NamespaceAttachment) queues namespace e = selection_rule namespace e
 

@@ -5,7 +5,7 @@ use Rattle.std.specs.Prelude.{ℕ, ◌-◌, nat_lt, Bool, ◌&&◌, if◌then◌
 use Rattle.std.specs.List.{range_with_len}
 use Rattle.std.specs.Int.{w16, w32, w64, to_le_bytes}
 use Rattle.nvme_spec.specs.Bytes.{with_bytes}
-use Rattle.nvme_spec.specs.World.{World, Namespace, namespace_of, is_attached}
+use Rattle.nvme_spec.specs.World.{World, Namespace, forbids_writing, namespace_of, is_attached}
 
 -- Bytes at an offset.
 pub record Field : Type 0 where
@@ -49,10 +49,10 @@ namespace_fields n =
     ∷ qword_field 16 n.blocks
     -- NMIC: whether it may be attached to several controllers
     ∷ byte_field 30 (bit_of n.shared)
-    -- RESCAP: the six reservation types; IEKEY as in revision 1.3 and later
-    ∷ byte_field 31 0xfe
+    -- RESCAP: persist through power loss; the six reservation types; IEKEY as in revision 1.3 and later
+    ∷ byte_field 31 0xff
     -- NSATTR: whether it is write protected
-    ∷ byte_field 99 (bit_of n.protected)
+    ∷ byte_field 99 (bit_of (forbids_writing n.protection))
     -- LBAF0: LBADS, blocks of 2 to the power of 9 bytes
     ∷ byte_field 130 9
     ∷ []
@@ -84,8 +84,8 @@ controller_fields cntlid =
     ∷ word_field 520 0x0029
     -- VWC: no volatile write cache; Flush does not take the broadcast identifier
     ∷ byte_field 525 0x04
-    -- NWPC: namespaces can be write protected
-    ∷ byte_field 531 1
+    -- NWPC: namespaces can be write protected, also until a power cycle
+    ∷ byte_field 531 3
     ∷ []
 
 unfoldable pub identify_namespace : Namespace → List ℕ

@@ -8,7 +8,7 @@ use Rattle.nvme_spec.specs.declared.verdict.Verdict.{Verdict}
 use Rattle.nvme_spec.specs.Memory.{qword}
 use Rattle.nvme_spec.specs.Reservation as resv
 use Rattle.nvme_spec.specs.World.{World, Namespace, host_of, namespace_of}
-use Rattle.nvme_spec.specs.Commands.{command_of, data_length_of, action, iekey, rtype}
+use Rattle.nvme_spec.specs.Commands.{command_of, data_length_of, action, iekey, cptpl, rtype}
 use Rattle.nvme_spec.specs.Rules.{Rule, Test, Judgement, refusal_tests, first_failing}
 use Rattle.nvme_spec.specs.IoRules.{access_rules, conclusion}
 use Rattle.nvme_spec.specs.DataRules.{data_in, pointer_rule}
@@ -21,12 +21,17 @@ current_key keys = qword keys 0
 abbrev pub other_key : List ℕ → ℕ
 other_key keys = qword keys 8
 
--- what a reservation command of a host makes of a reservation, by its keys. Other commands make nothing of it
-unfoldable pub action_outcome : Command → resv.Reservation → ℕ → List ℕ → List ℕ → Option resv.Outcome
-action_outcome ReservationRegister r host e keys = Some (
+-- what Reservation Register makes of the key of a host, by its action
+abbrev pub key_outcome : resv.Reservation → ℕ → List ℕ → List ℕ → resv.Outcome
+key_outcome r host e keys =
     if action e == 0 then resv.register r host (other_key keys)
     else (if action e == 1 then resv.unregister r host (iekey e) (current_key keys)
-    else resv.replace r host (iekey e) (current_key keys) (other_key keys)))
+    else resv.replace r host (iekey e) (current_key keys) (other_key keys))
+
+-- what a reservation command of a host makes of a reservation, by its keys. Other commands make nothing of it
+unfoldable pub action_outcome : Command → resv.Reservation → ℕ → List ℕ → List ℕ → Option resv.Outcome
+action_outcome ReservationRegister r host e keys =
+    Some (resv.persisting (cptpl e) (key_outcome r host e keys))
 action_outcome ReservationAcquire r host e keys = Some (
     if action e == 0 then resv.acquire r host (rtype e) (current_key keys)
     else resv.preempt r host (rtype e) (current_key keys) (other_key keys))

@@ -15,7 +15,7 @@ use Rattle.nvme_spec.specs.declared.verdict.Verdict.{Verdict}
 use Rattle.nvme_spec.specs.declared.verdict.Verdict.TheVariants.{Allowed, Denied}
 use Rattle.nvme_spec.specs.Reservation.{role_of}
 use Rattle.nvme_spec.specs.Access.{is_permitted}
-use Rattle.nvme_spec.specs.World.{World, Namespace, host_of, namespace_of, is_attached}
+use Rattle.nvme_spec.specs.World.{World, Namespace, forbids_writing, host_of, namespace_of, is_attached}
 use Rattle.nvme_spec.specs.Commands.{command_of, is_one_of, starting_lba, block_count, action, iekey, cptpl, rtype, eds, report_length, readers, writers, altering, ranged, plan_of}
 use Rattle.nvme_spec.specs.Rules.{Rule, Judgement, rule, test, first_failing}
 use Rattle.nvme_spec.specs.Limits.{highest_nsid, most_blocks, most_bytes}
@@ -53,7 +53,7 @@ field_rule command e = record {
   tests =
       test (is_one_of command (Read ∷ Write ∷ Compare ∷ [])
       && nat_lt most_blocks (block_count e)) status.invalid_field_in_command
-      ∷ test (is_one_of command (ReservationRegister ∷ []) && (nat_lt 2 (action e) || (cptpl e == 1) || (cptpl e == 3)))
+      ∷ test (is_one_of command (ReservationRegister ∷ []) && (nat_lt 2 (action e) || (cptpl e == 1)))
       status.invalid_field_in_command
       ∷ test (is_one_of command (ReservationAcquire ∷ [])
       && (nat_lt 2 (action e) || iekey e || (rtype e == 0) || nat_lt 6 (rtype e)))
@@ -84,7 +84,7 @@ reservation_rule command namespace host =
 
 abbrev pub is_protected : Option Namespace → Bool
 is_protected None = false
-is_protected (Some n) = n.protected
+is_protected (Some n) = forbids_writing n.protection
 
 -- 8: the command would change a namespace that is write protected
 unfoldable pub protection_rule : Option Command → Option Namespace → Rule

@@ -11,6 +11,7 @@ pub mod ReservationLaws
 pub mod ReservationExamples
 pub mod Configuration
 pub mod World
+pub mod Power
 pub mod Opcodes
 pub mod Commands
 pub mod Rules
@@ -47,5 +48,6 @@ pub mod QueueChanges
 pub mod StatusLaws
 pub mod AdminLaws
 pub mod Sound
+pub mod PowerLaws
 pub mod AdminExamples
 pub mod ClusterExamples

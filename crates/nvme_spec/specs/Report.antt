@@ -31,11 +31,12 @@ key_of registrants host = option_map (λ r. r.key) (find (λ r. r.host == host) 
 abbrev pub reported_controllers : Reservation → List ControllerHost → List ControllerHost
 reported_controllers r controllers = filter (λ c. is_registered r.registrants c.1) controllers
 
--- bytes 0 to 3 the generation, 4 the reservation type, 5 and 6 the number of entries, 9 PTPLS, which is 0
+-- bytes 0 to 3 the generation, 4 the reservation type, 5 and 6 the number of entries, 9 Persist Through Power Loss State
+-- (PTPLS)
 unfoldable pub header : Reservation → List ControllerHost → List ℕ
 header r controllers =
     to_le_bytes w32 r.generation ++ type_of r.hold ∷ [] ++ to_le_bytes w16 (length (reported_controllers r controllers))
-    ++ replicate 17 0
+    ++ replicate 2 0 ++ (if r.ptpl then 1 else 0) ∷ [] ++ replicate 14 0
 
 -- bytes 0 and 1 the controller identifier, 2 the status with bit 0 set for a holder, 8 to 15 the host, 16 to 23 its key
 unfoldable pub entry_of : ℕ → Bool → ℕ → ℕ → List ℕ

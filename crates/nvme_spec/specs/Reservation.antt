@@ -11,15 +11,16 @@ use Rattle.nvme_spec.specs.declared.access.Role.{Role}
 use Rattle.nvme_spec.specs.declared.access.Role.TheVariants.{Outsider, Registrant as OnlyRegistrant, Holder}
 use Rattle.nvme_spec.specs.Statuses as status
 
--- the registrants by rising host, the hold, and the generation counter
+-- the registrants by rising host, the hold, the generation counter, and whether these persist through power loss (PTPL)
 pub record Reservation : Type 0 where
   pub registrants : List Registrant
   pub hold : Hold
   pub generation : ℕ
+  pub ptpl : Bool
 
--- a new namespace: nobody is registered, nobody holds it
+-- a new namespace: nobody is registered, nobody holds it, and nothing persists
 abbrev pub unreserved : Reservation
-unreserved = record { registrants = []; hold = Free; generation = 0 }
+unreserved = record { registrants = []; hold = Free; generation = 0; ptpl = false }
 
 -- the host has a key
 abbrev pub is_registered : List Registrant → ℕ → Bool
@@ -116,7 +117,7 @@ preempts r next = Ok (record { next = next; removed = removed_hosts r.registrant
 -- these registrants and this hold, and one more generation: the counter has 32 bits
 abbrev pub next_generation : Reservation → List Registrant → Hold → Reservation
 next_generation r registrants hold =
-    record { registrants = registrants; hold = hold; generation = (r.generation + 1) % 2 ^ 32 }
+    record r { registrants = registrants; hold = hold; generation = (r.generation + 1) % 2 ^ 32 }
 
 -- these registrants, what is left of the hold, and one more generation
 abbrev pub remaining : Reservation → List Registrant → Reservation
@@ -142,6 +143,15 @@ replace r host iekey crkey nrkey =
     if iekey || is_registered_with r.registrants host crkey
     then becomes (next_generation r (with_key r.registrants host nrkey) r.hold)
     else Err status.reservation_conflict
+
+-- Reservation Register command, Change Persist Through Power Loss State: 10b clears it, 11b sets it
+abbrev pub ptpl_after : ℕ → Bool → Bool
+ptpl_after cptpl before = if cptpl == 2 then false else (if cptpl == 3 then true else before)
+
+-- the same outcome, with that change of the next state
+abbrev pub persisting : ℕ → Outcome → Outcome
+persisting cptpl (Err refusal) = Err refusal
+persisting cptpl (Ok t) = Ok (record t { next = record t.next { ptpl = ptpl_after cptpl t.next.ptpl } })
 
 -- Reservation Acquire command, Acquire.
 abbrev pub acquire : Reservation → ℕ → ℕ → ℕ → Outcome

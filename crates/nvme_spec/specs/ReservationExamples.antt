@@ -1,5 +1,5 @@
 -- Words of the worked examples of reservations.
-use Rattle.std.specs.Prelude.{ℕ, Bool, List, [], ◌∷◌, Ok, Err}
+use Rattle.std.specs.Prelude.{ℕ, Bool, List, [], ◌∷◌, Ok, Err, true, false}
 use Rattle.nvme_spec.specs.declared.access.Registrant.{Registrant}
 use Rattle.nvme_spec.specs.declared.access.Hold.{Hold}
 use Rattle.nvme_spec.specs.declared.access.Role.{Role}
@@ -43,7 +43,11 @@ abbrev pub c3 : ℕ → Registrant
 c3 key_of_c3 = record { host = 0xc3; key = key_of_c3 }
 
 abbrev pub state : List Registrant → Hold → ℕ → Reservation
-state rising held changes = record { registrants = rising; hold = held; generation = changes }
+state rising held changes = record { registrants = rising; hold = held; generation = changes; ptpl = false }
+
+-- the same, where these persist through power loss
+abbrev pub persistent : List Registrant → Hold → ℕ → Reservation
+persistent rising held changes = record { registrants = rising; hold = held; generation = changes; ptpl = true }
 
 -- controllers 1 and 3 are of host a1h, controller 2 is of host b2h, controller 4 of host c3h
 abbrev pub four_controllers : List ControllerHost

@@ -29,6 +29,7 @@ denials =
     ∷ status.invalid_queue_size
     ∷ status.invalid_queue_deletion
     ∷ status.feature_identifier_not_saveable
+    ∷ status.feature_not_changeable
     ∷ status.namespace_already_attached
     ∷ status.namespace_is_private
     ∷ status.namespace_not_attached

@@ -1,7 +1,9 @@
 -- The subsystem as its rules see it (Base Specification: NVM Subsystem, Controllers, Namespaces): the
 -- controllers with their hosts, the namespaces with who may change them, and which are attached to which.
-use Rattle.std.specs.Prelude.{ℕ, ◌+◌, ◌*◌, ◌≤◌, Bool, false, ◌&&◌, ◌==◌, List, [], ◌∷◌, map, Option, option_map, find, if◌then◌else◌}
+use Rattle.std.specs.Prelude.{ℕ, ◌+◌, ◌*◌, ◌≤◌, Bool, true, false, ◌&&◌, ◌==◌, List, [], ◌∷◌, map, Option, option_map, find, if◌then◌else◌}
 use Rattle.std.specs.List.{list_any, AllByRecursion}
+use Rattle.nvme_spec.specs.declared.access.Protection.{Protection}
+use Rattle.nvme_spec.specs.declared.access.Protection.TheVariants.{Open, Protected, UntilCycle}
 use Rattle.nvme_spec.specs.declared.config.ControllerConfig.{ControllerConfig}
 use Rattle.nvme_spec.specs.declared.config.NsConfig.{NsConfig}
 use Rattle.nvme_spec.specs.Blocks.{blocks_from}
@@ -15,8 +17,14 @@ pub record Namespace : Type 0 where
   pub first : ℕ
   pub blocks : ℕ
   pub shared : Bool
-  pub protected : Bool
+  pub protection : Protection
   pub reservation : Reservation
+
+-- it may not be written, with or without an end of that
+abbrev pub forbids_writing : Protection → Bool
+forbids_writing Open = false
+forbids_writing Protected = true
+forbids_writing UntilCycle = true
 
 -- the bytes of its blocks
 abbrev pub namespace_bytes : List ℕ → Namespace → List ℕ
@@ -53,7 +61,7 @@ laid_out first (n ∷ rest) =
       first = first;
       blocks = n.blocks;
       shared = n.shared;
-      protected = false;
+      protection = Open;
       reservation = unreserved;
     }
     ∷ laid_out (first + n.blocks) rest
@@ -80,7 +88,7 @@ abbrev pub with_reservation : World → ℕ → Reservation → World
 with_reservation w nsid r =
     record w { namespaces = with_namespace (λ n. record n { reservation = r }) nsid w.namespaces }
 
--- the world, where the namespace with this identifier is write protected, or no longer is
-abbrev pub with_protection : World → ℕ → Bool → World
-with_protection w nsid protected =
-    record w { namespaces = with_namespace (λ n. record n { protected = protected }) nsid w.namespaces }
+-- the world, where the namespace with this identifier is write protected in this way
+abbrev pub with_protection : World → ℕ → Protection → World
+with_protection w nsid protection =
+    record w { namespaces = with_namespace (λ n. record n { protection = protection }) nsid w.namespaces }

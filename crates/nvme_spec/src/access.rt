@@ -1,4 +1,4 @@
-//! Who has which rights to a namespace.
+//! Who has which rights to a namespace, and whether it is write protected.
 
 /// A host that is registered with a namespace, and its reservation key.
 #[derive(Clone, Copy, Debug, Default, PartialEq, Eq)]
@@ -38,4 +38,15 @@ pub enum Group {
     Read,
     /// Write, Write Zeroes, Flush and Namespace Attachment.
     Write,
+}
+
+/// The write protection of a namespace (Base Specification, Namespace Write Protection).
+#[derive(Clone, Copy, Debug, PartialEq, Eq)]
+pub enum Protection {
+    /// It may be written.
+    Open,
+    /// It may not, until its protection is taken off.
+    Protected,
+    /// It may not, and its protection is not taken off, until a power cycle.
+    UntilCycle,
 }

@@ -4,6 +4,7 @@ mod admin;
 mod attachments;
 mod calls;
 mod executions;
+mod power;
 mod queues;
 mod registers;
 mod reservations;

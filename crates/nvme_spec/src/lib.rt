@@ -14,7 +14,7 @@ mod queues;
 mod registers;
 mod verdict;
 
-pub use access::{Group, Hold, Registrant, Role};
+pub use access::{Group, Hold, Protection, Registrant, Role};
 pub use command::{AdminCommand, Command, CommandKind};
 pub use config::{Config, ConfigFault, ControllerConfig, NsConfig};
 pub use medium::MediumFault;

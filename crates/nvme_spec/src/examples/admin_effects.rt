@@ -9,6 +9,7 @@ ghost use Rattle.nvme_spec.specs.AdminEffects.{admin_execution, double_word_0, d
 ghost use Rattle.nvme_spec.specs.AdminExamples.{cluster_world, one_completion_queue, one_queue_pair, listing};
 ghost use Rattle.nvme_spec.specs.Statuses as status;
 
+use crate::access::Protection;
 use crate::command::AdminCommand;
 use crate::queues::QueueChange;
 
@@ -38,15 +39,23 @@ fn queue_changes()
 /// Namespace 1 is write protected by one controller, and another one sees it.
 fn protection()
     ensures protected { (admin_execution cluster_world one_queue_pair 1 (command_entry 9 1 0 0x84 1) []).world
-        ≡ with_protection cluster_world 1 true }
+        ≡ with_protection cluster_world 1 Protection.Protected }
     ensures done { (admin_execution cluster_world one_queue_pair 1 (command_entry 9 1 0 0x84 1) []).status
         ≡ status.successful_completion }
-    ensures seen { (admin_execution (with_protection cluster_world 1 true) one_queue_pair 2
+    ensures seen { (admin_execution (with_protection cluster_world 1 Protection.Protected) one_queue_pair 2
         (command_entry 10 1 0 0x84 0) []).dw0
         ≡ 1 }
-    ensures unprotected { (admin_execution (with_protection cluster_world 1 true) one_queue_pair 1
+    ensures unprotected { (admin_execution (with_protection cluster_world 1 Protection.Protected) one_queue_pair 1
         (command_entry 9 1 0 0x84 0) []).world
         ≡ cluster_world }
+    ensures until_cycle { (admin_execution cluster_world one_queue_pair 1 (command_entry 9 1 0 0x84 2) []).world
+        ≡ with_protection cluster_world 1 Protection.UntilCycle }
+    ensures until_cycle_seen { (admin_execution (with_protection cluster_world 1 Protection.UntilCycle) one_queue_pair 2
+        (command_entry 10 1 0 0x84 0) []).dw0
+        ≡ 2 }
+    ensures until_cycle_stays { (admin_execution (with_protection cluster_world 1 Protection.UntilCycle)
+        one_queue_pair 1 (command_entry 9 1 0 0x84 0) []).world
+        ≡ with_protection cluster_world 1 Protection.UntilCycle }
     ensures not_seen { (admin_execution cluster_world one_queue_pair 2 (command_entry 10 1 0 0x84 0) []).dw0 ≡ 0 }
 {}
 

@@ -6,7 +6,10 @@ ghost use Rattle.nvme_spec.specs.Attachments.{without_attached};
 ghost use Rattle.nvme_spec.specs.ExistingQueues.{only_admin_queues};
 ghost use Rattle.nvme_spec.specs.AdminRules.{admin_judgement};
 ghost use Rattle.nvme_spec.specs.AdminExamples.{denied, cluster_world, reserved_world, one_completion_queue, one_queue_pair, listing};
+ghost use Rattle.nvme_spec.specs.World.{with_protection};
 ghost use Rattle.nvme_spec.specs.Statuses as status;
+
+use crate::access::Protection;
 
 /// An I/O completion queue of 32 entries at 3000h is created; then others are not.
 fn completion_queues()
@@ -75,8 +78,17 @@ fn set_features()
     ensures protection { admin_judgement cluster_world only_admin_queues 1 (command_entry 9 1 0 0x84 1) [] ≡ Ok tt }
     ensures saved { admin_judgement cluster_world only_admin_queues 1 (command_entry 9 1 0 0x80000084 1) []
         ≡ denied 6 status.feature_identifier_not_saveable }
-    ensures other_state { admin_judgement cluster_world only_admin_queues 1 (command_entry 9 1 0 0x84 2) []
+    ensures until_cycle { admin_judgement cluster_world only_admin_queues 1 (command_entry 9 1 0 0x84 2) [] ≡ Ok tt }
+    ensures other_state { admin_judgement cluster_world only_admin_queues 1 (command_entry 9 1 0 0x84 3) []
         ≡ denied 6 status.invalid_field_in_command }
+    ensures taken_off_too_early { admin_judgement (with_protection cluster_world 1 Protection.UntilCycle)
+        only_admin_queues 1 (command_entry 9 1 0 0x84 0) []
+        ≡ denied 6 status.feature_not_changeable }
+    ensures once_more { admin_judgement (with_protection cluster_world 1 Protection.UntilCycle)
+        only_admin_queues 1 (command_entry 9 1 0 0x84 2) []
+        ≡ denied 6 status.feature_not_changeable }
+    ensures taken_off { admin_judgement (with_protection cluster_world 1 Protection.Protected)
+        only_admin_queues 1 (command_entry 9 1 0 0x84 0) [] ≡ Ok tt }
     ensures host_identifier { admin_judgement cluster_world only_admin_queues 1 (command_entry 9 0 0 0x81 0) []
         ≡ denied 6 status.invalid_field_in_command }
     ensures not_attached { admin_judgement cluster_world only_admin_queues 2 (command_entry 9 2 0 0x84 1) []

@@ -12,7 +12,7 @@ ghost use Rattle.nvme_spec.specs.ClusterExamples.{after_sent, verdict_on, outcom
 ghost use Rattle.nvme_spec.specs.Statuses as status;
 ghost use Rattle.nvme_spec.specs.declared.verdict.Verdict.TheVariants.{Allowed, Denied};
 
-use crate::access::Hold;
+use crate::access::{Hold, Protection};
 use crate::command::Command;
 
 /// Blocks of the shared namespace of 64 blocks, and of the private one of 8.
@@ -134,12 +134,12 @@ fn marks()
 
 /// A write protected namespace is read and flushed, and not written.
 fn write_protected()
-    ensures zeroes { verdict (with_protection cluster_world 1 true) 2 (transfer_entry 8 1 0 1) false
+    ensures zeroes { verdict (with_protection cluster_world 1 Protection.Protected) 2 (transfer_entry 8 1 0 1) false
         ≡ Denied 8 status.namespace_is_write_protected }
-    ensures write { verdict (with_protection cluster_world 1 true) 1 (transfer_entry 1 1 64 1) false
+    ensures write { verdict (with_protection cluster_world 1 Protection.Protected) 1 (transfer_entry 1 1 64 1) false
         ≡ Denied 8 status.namespace_is_write_protected }
-    ensures read { verdict (with_protection cluster_world 1 true) 2 (transfer_entry 2 1 0 1) false
+    ensures read { verdict (with_protection cluster_world 1 Protection.Protected) 2 (transfer_entry 2 1 0 1) false
         ≡ Allowed (record { kind = Command.Read; first = 0; blocks = 1; bytes = 512 }) }
-    ensures flush { verdict (with_protection cluster_world 1 true) 2 (command_entry 0 1 0 0 0) false
+    ensures flush { verdict (with_protection cluster_world 1 Protection.Protected) 2 (command_entry 0 1 0 0 0) false
         ≡ Allowed (record { kind = Command.Flush; first = 0; blocks = 0; bytes = 0 }) }
 {}

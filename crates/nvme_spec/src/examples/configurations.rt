@@ -8,19 +8,21 @@ ghost use Rattle.nvme_spec.specs.World.{opening_world, laid_out};
 ghost use Rattle.nvme_spec.specs.Reservation.{unreserved};
 ghost use Rattle.nvme_spec.specs.declared.config.ConfigFault.TheVariants.{BadId, BadSize, TooMany, DoesNotFit};
 
+use crate::access::Protection;
+
 /// Four controllers of three hosts and two namespaces of 72 blocks together.
 fn cluster_fits()
     ensures accepted { first_config_fault cluster 72 ≡ None }
     ensures one_block_short { first_config_fault cluster 71 ≡ Some DoesNotFit }
     ensures empty { first_config_fault empty_configuration 0 ≡ None }
     ensures laid_out { (opening_world cluster).namespaces ≡
-        record { nsid = 1; first = 0; blocks = 64; shared = true; protected = false; reservation = unreserved }
+        record { nsid = 1; first = 0; blocks = 64; shared = true; protection = Protection.Open; reservation = unreserved }
         ∷ record {
           nsid = 2;
           first = 64;
           blocks = 8;
           shared = false;
-          protected = false;
+          protection = Protection.Open;
           reservation = unreserved;
         } ∷ [] }
 {}

@@ -5,6 +5,8 @@ ghost use Rattle.nvme_spec.specs.Identify.{identify_controller, identify_attache
 ghost use Rattle.nvme_spec.specs.World.{with_protection};
 ghost use Rattle.nvme_spec.specs.AdminExamples.{cluster_world};
 
+use crate::access::Protection;
+
 /// Controller 3.
 fn controller()
     ensures size { length (identify_controller 3) ≡ 4096 }
@@ -20,7 +22,7 @@ fn controller()
         ≡ 0x66 ∷ 0x44 ∷ 0x00 ∷ 0x00 ∷ 0x08 ∷ 0x00 ∷ 0x00 ∷ 0x00 ∷ [] }
     ensures commands { slice_range (identify_controller 3) 520 522 ≡ 0x29 ∷ 0x00 ∷ [] }
     ensures cache_and_protection { slice_range (identify_controller 3) 522 532
-        ≡ 0 ∷ 0 ∷ 0 ∷ 0x04 ∷ 0 ∷ 0 ∷ 0 ∷ 0 ∷ 0 ∷ 0x01 ∷ [] }
+        ≡ 0 ∷ 0 ∷ 0 ∷ 0x04 ∷ 0 ∷ 0 ∷ 0 ∷ 0 ∷ 0 ∷ 0x03 ∷ [] }
     ensures nothing_more { slice_range (identify_controller 3) 532 4096 ≡ replicate 3564 0 }
 {}
 
@@ -28,13 +30,16 @@ fn controller()
 fn namespaces()
     ensures sizes { slice_range (identify_attached cluster_world 2 1) 0 24
         ≡ 64 ∷ replicate 7 0 ++ 64 ∷ replicate 7 0 ++ 64 ∷ replicate 7 0 }
-    ensures sharing { slice_range (identify_attached cluster_world 2 1) 24 32 ≡ replicate 6 0 ++ 0x01 ∷ 0xfe ∷ [] }
+    ensures sharing { slice_range (identify_attached cluster_world 2 1) 24 32 ≡ replicate 6 0 ++ 0x01 ∷ 0xff ∷ [] }
     ensures blocks_of_512_bytes { slice_range (identify_attached cluster_world 2 1) 96 132
         ≡ replicate 34 0 ++ 0x09 ∷ 0x00 ∷ [] }
     ensures nothing_more { slice_range (identify_attached cluster_world 2 1) 132 4096 ≡ replicate 3964 0 }
-    ensures protected { slice_range (identify_attached (with_protection cluster_world 1 true) 2 1) 96 100
+    ensures protected { slice_range (identify_attached (with_protection cluster_world 1 Protection.Protected) 2 1) 96 100
         ≡ 0 ∷ 0 ∷ 0 ∷ 1 ∷ [] }
-    ensures private { slice_range (identify_attached cluster_world 1 2) 24 32 ≡ replicate 6 0 ++ 0x00 ∷ 0xfe ∷ [] }
+    ensures until_cycle { slice_range
+        (identify_attached (with_protection cluster_world 1 Protection.UntilCycle) 2 1) 96 100
+        ≡ 0 ∷ 0 ∷ 0 ∷ 1 ∷ [] }
+    ensures private { slice_range (identify_attached cluster_world 1 2) 24 32 ≡ replicate 6 0 ++ 0x00 ∷ 0xff ∷ [] }
     ensures unattached { identify_attached cluster_world 2 2 ≡ no_fields }
     ensures unknown { identify_attached cluster_world 1 3 ≡ no_fields }
 {}
