@@ -3,6 +3,7 @@ use Rattle.std.proofs.Common.{◌≡◌, ℕ, ◌+◌, ◌*◌, ◌<◌, ◌≤�
 use Rattle.std.proofs.lemmas.List.{take_more}
 use Rattle.std.proofs.lemmas.List.Sums.{sum_by-cons}
 use Rattle.std.proofs.lemmas.Bool.Decides.{nat_tests}
+use Rattle.nvme_spec.specs.declared.access.Protection.TheVariants.{Open}
 use Rattle.nvme_spec.specs.declared.config.NsConfig.{NsConfig}
 use Rattle.nvme_spec.specs.Reservation.{unreserved}
 use Rattle.nvme_spec.specs.Configuration.{Configuration, has_too_many, has_bad_size, total_blocks}
@@ -10,7 +11,7 @@ use Rattle.nvme_spec.specs.World.{Namespace, laid_out, LiesWithin}
 
 -- a namespace that begins at a block
 abbrev pub placed : ℕ → NsConfig → Namespace
-placed first n = record { nsid = n.nsid; first = first; blocks = n.blocks; shared = n.shared; protected = false; reservation = unreserved }
+placed first n = record { nsid = n.nsid; first = first; blocks = n.blocks; shared = n.shared; protection = Open; reservation = unreserved }
 
 total-cons : (n : NsConfig) (ns : List NsConfig) → total_blocks (n ∷ ns) ≡ n.blocks + total_blocks ns
 total-cons n ns = sum_by-cons (λ m. m.blocks) n ns

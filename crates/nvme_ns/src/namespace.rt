@@ -1,11 +1,14 @@
 //! A namespace.
 
 ghost use Rattle.std.specs.Prelude.{◌≡◌, ◌+◌, ◌≤◌, false};
+ghost use Rattle.nvme_spec.specs.AdminCommands.{state_of};
+ghost use Rattle.nvme_spec.specs.Power.{cycled_namespace};
+ghost use Rattle.nvme_spec.specs.World.{forbids_writing};
 ghost use Rattle.std.specs.Borrow.{sem};
 ghost use Rattle.nvme_spec.specs.Reservation.{unreserved};
 
 use nvme_resv::Reservation;
-use nvme_spec::NsConfig;
+use nvme_spec::{NsConfig, Protection};
 use std::marker::Model;
 
 /// A namespace: its place on the medium, who may reach it, and who has reserved it.
@@ -15,7 +18,7 @@ pub struct Namespace {
     first: u64,
     blocks: u64,
     shared: bool,
-    protected: bool,
+    protection: Protection,
     reservation: Reservation,
 }
 
@@ -33,7 +36,7 @@ impl Model for Namespace {
       first = a.first;
       blocks = a.blocks;
       shared = a.shared;
-      protected = a.protected;
+      protection = a.protection;
       reservation = a.reservation;
     } };
 }
@@ -45,7 +48,7 @@ impl Default for Namespace {
           first = 0;
           blocks = 0;
           shared = false;
-          protected = false;
+          protection = Protection.Open;
           reservation = unreserved;
         } }
     {
@@ -70,7 +73,7 @@ impl Namespace {
           first = first;
           blocks = config.now.blocks;
           shared = config.now.shared;
-          protected = false;
+          protection = Protection.Open;
           reservation = unreserved;
         } }
     {
@@ -79,7 +82,7 @@ impl Namespace {
             first,
             blocks: config.blocks,
             shared: config.shared,
-            protected: false,
+            protection: Protection::Open,
             reservation: Reservation::new(),
         }
     }
@@ -114,11 +117,29 @@ impl Namespace {
         self.shared
     }
 
+    /// Its write protection.
+    pub fn protection(&self) -> Protection
+        ensures { result ≡ self.now.protection }
+    {
+        self.protection
+    }
+
+    /// The number of its write protection: 0 none, 1 write protected, 2 that until a power cycle (Write Protection State).
+    pub fn protection_state(&self) -> u32
+        ensures { result ≡ state_of self.now.protection }
+    {
+        match self.protection {
+            Protection::Open => 0,
+            Protection::Protected => 1,
+            Protection::UntilCycle => 2,
+        }
+    }
+
     /// Whether it is write protected.
     pub fn is_protected(&self) -> bool
-        ensures { result ≡ self.now.protected }
+        ensures { result ≡ forbids_writing self.now.protection }
     {
-        self.protected
+        !matches!(self.protection, Protection::Open)
     }
 
     /// Who has registered with it, and who holds it.
@@ -128,11 +149,21 @@ impl Namespace {
         &self.reservation
     }
 
-    /// Sets or takes off the write protection.
-    pub fn set_protection(&mut self, protected: bool)
-        ensures { self.new ≡ record self.old { protected = protected } }
+    /// Sets the write protection, whatever it was.
+    pub fn set_protection(&mut self, protection: Protection)
+        ensures { self.new ≡ record self.old { protection = protection } }
     {
-        self.protected = protected;
+        self.protection = protection;
+    }
+
+    /// A power cycle: protection until then ends, and of the reservation there stays what persists.
+    pub fn power_cycle(&mut self)
+        ensures { self.new ≡ cycled_namespace self.old }
+    {
+        if matches!(self.protection, Protection::UntilCycle) {
+            self.protection = Protection::Open;
+        }
+        self.reservation.power_cycle();
     }
 
     /// Lends the reservation. Nothing else changes.

@@ -4,6 +4,7 @@ ghost use Rattle.std.specs.Prelude.{◌≡◌, ◌==◌, ◌≤◌, None, Some, 
 ghost use Rattle.nvme_spec.specs.Configuration.{first_config_fault};
 ghost use Rattle.nvme_spec.specs.Report.{HasRisingIds};
 ghost use Rattle.nvme_spec.specs.World as world;
+ghost use Rattle.nvme_spec.specs.Power.{cycled_namespace, cycled_world};
 ghost use Rattle.std.specs.Borrow.{sem};
 ghost use Rattle.nvme_ns.specs.Configured.{configuration};
 ghost use Rattle.nvme_ns.specs.Lending.{LendsReservation};
@@ -13,7 +14,7 @@ use crate::checks::{MAX_ATTACHMENTS, MAX_CONTROLLERS, MAX_NAMESPACES, check};
 use crate::opening::{attachment_table, controller_table, namespace_table};
 use arrayvec::ArrayVec;
 use nvme_resv::Reservation;
-use nvme_spec::{Config, ConfigFault};
+use nvme_spec::{Config, ConfigFault, Protection};
 use std::marker::Model;
 
 mod attaching;
@@ -137,11 +138,11 @@ impl Spaces {
         Some(self.namespace(nsid)?.reservation())
     }
 
-    /// Whether a namespace is write protected, or None where it isn't configured.
-    pub fn protection(&self, nsid: u32) -> Option<bool>
-        ensures { result ≡ option_map (λ n. n.protected) (world.namespace_of self.now nsid) }
+    /// The write protection of a namespace, or None where it isn't configured.
+    pub fn protection(&self, nsid: u32) -> Option<Protection>
+        ensures { result ≡ option_map (λ n. n.protection) (world.namespace_of self.now nsid) }
     {
-        Some(self.namespace(nsid)?.is_protected())
+        Some(self.namespace(nsid)?.protection())
     }
 
     /// Whether a namespace may be attached to several controllers, or None where it isn't configured.
@@ -161,16 +162,34 @@ impl Spaces {
         self.namespaces.get_mut(place).unwrap().reservation_mut()
     }
 
-    /// Sets or takes off the write protection of a namespace, which has to be configured. Nothing else changes.
-    pub fn set_protection(&mut self, nsid: u32, protected: bool)
+    /// Sets the write protection of a namespace, which has to be configured, whatever it was. Nothing else changes.
+    pub fn set_protection(&mut self, nsid: u32, protection: Protection)
         requires { IsSome (world.namespace_of self.old nsid) }
-        ensures { self.new ≡ world.with_protection self.old nsid protected }
+        ensures { self.new ≡ world.with_protection self.old nsid protection }
     {
         let place = place_of(&self.namespaces, nsid).unwrap();
         self.namespaces
             .get_mut(place)
             .unwrap()
-            .set_protection(protected);
+            .set_protection(protection);
+    }
+
+    /// A power cycle: of each namespace's reservation there stays what persists, and write protection until then ends.
+    /// Nothing else changes.
+    #[tactic(auto, unfolding(nvme_spec::specs::Power::cycled_world))]
+    pub fn power_cycle(&mut self)
+        ensures { self.new ≡ cycled_world self.old }
+    {
+        power_cycle_all(self.namespaces.as_mut_slice());
+    }
+}
+
+/// What a power cycle makes of each namespace.
+fn power_cycle_all(namespaces: &mut [Namespace])
+    ensures { namespaces.new ≡ map cycled_namespace namespaces.old }
+{
+    for i in 0..namespaces.len() {
+        namespaces[i].power_cycle();
     }
 }
 

@@ -2,6 +2,7 @@
 
 ghost use Rattle.std.specs.Prelude.{◌≡◌, ◌↔◌, IsTrue};
 ghost use Rattle.nvme_spec.specs.Reservation as resv;
+ghost use Rattle.nvme_spec.specs.Power.{cycled_reservation};
 ghost use Rattle.nvme_resv.specs.Answers.{HasRoomFor};
 
 use crate::registrants::{Registrants, is_registered};
@@ -11,12 +12,14 @@ use std::marker::Model;
 mod actions;
 mod report;
 
-/// The reservation of one namespace: its registrants with their keys, who holds it, and the generation counter.
+/// The reservation of one namespace: its registrants with their keys, who holds it, the generation counter, and whether
+/// these persist through power loss.
 #[derive(Drop)]
 pub struct Reservation {
     registrants: Registrants,
     hold: Hold,
     generation: u32,
+    ptpl: bool,
 }
 
 impl Model for Reservation {
@@ -24,13 +27,19 @@ impl Model for Reservation {
 
     ghost Value = { State };
 
-    ghost view = { λ a. record { registrants = a.registrants.items; hold = a.hold; generation = a.generation } };
+    ghost view = { λ a. record {
+      registrants = a.registrants.items;
+      hold = a.hold;
+      generation = a.generation;
+      ptpl = a.ptpl;
+    } };
 
     ghost invariant = { λ a. IsRising a.registrants.items };
 }
 
 impl Reservation {
-    /// The reservation of a new namespace: nobody is registered, nobody holds it, and the generation is 0.
+    /// The reservation of a new namespace: nobody is registered, nobody holds it, the generation is 0, and nothing
+    /// persists.
     pub fn new() -> Self
         ensures { result ≡ resv.unreserved }
     {
@@ -38,6 +47,7 @@ impl Reservation {
             registrants: Registrants::new(),
             hold: Hold::Free,
             generation: 0,
+            ptpl: false,
         }
     }
 
@@ -60,6 +70,32 @@ impl Reservation {
         ensures { result ≡ self.now.generation }
     {
         self.generation
+    }
+
+    /// Whether registrants, hold and generation persist through power loss (PTPL).
+    pub fn ptpl(&self) -> bool
+        ensures { result ≡ self.now.ptpl }
+    {
+        self.ptpl
+    }
+
+    /// Says whether registrants, hold and generation are to persist through power loss. Nothing else changes.
+    pub fn set_ptpl(&mut self, ptpl: bool)
+        ensures { self.new ≡ record self.old { ptpl = ptpl } }
+    {
+        self.ptpl = ptpl;
+    }
+
+    /// A power cycle: nobody is registered any more, nobody holds the reservation and the generation is 0, but where
+    /// these persist.
+    pub fn power_cycle(&mut self)
+        ensures { self.new ≡ cycled_reservation self.old }
+    {
+        if !self.ptpl {
+            self.registrants.clear();
+            self.hold = Hold::Free;
+            self.generation = 0;
+        }
     }
 
     /// What the host is to the namespace. Under types 5 and 6 each registrant is a holder.

@@ -56,7 +56,8 @@ impl Reservation {
         append(&mut header, &self.generation.to_le_bytes());
         append(&mut header, &[type_of(self.hold)]);
         append(&mut header, &self.count_reported(controllers).to_le_bytes());
-        append(&mut header, &[0; 17]);
+        append(&mut header, &[0, 0, u8::from(self.ptpl)]);
+        append(&mut header, &[0; 14]);
         header
     }
 

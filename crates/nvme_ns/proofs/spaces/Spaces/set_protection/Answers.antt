@@ -16,6 +16,6 @@ returns c =
     let place : position (λ m. m.nsid == c.args.nsid) table ≡ Some c.unwrap-place.result =
     ap (position (λ m. m.nsid == c.args.nsid)) (sym c.deref.ensures.0) ∙ sym c.place_of.ensures ∙ c.unwrap-place.ensures in
     let here = rw c.unwrap.ensures at c.get_mut.ensures.value in
-    let written = with_namespace-placed (λ (m : Namespace). record m { protected = c.args.protected }) c.args.nsid table c.unwrap-place.result n place here in
+    let written = with_namespace-placed (λ (m : Namespace). record m { protection = c.args.protection }) c.args.nsid table c.unwrap-place.result n place here in
     rw (← c.self.view_is, c.set_protection.ensures)
     (λ i. record { controllers = c.self.inside.controllers.items; namespaces = written i; attachments = c.self.inside.attachments.items })
