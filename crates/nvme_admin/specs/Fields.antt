@@ -18,4 +18,4 @@ kind_fields cntlid =
 abbrev pub command_fields : List Field
 command_fields =
     byte_field 512 0x66 ∷ byte_field 513 0x44 ∷ dword_field 516 8 ∷ word_field 520 0x0029 ∷ byte_field 525 0x04
-    ∷ byte_field 531 1 ∷ []
+    ∷ byte_field 531 3 ∷ []

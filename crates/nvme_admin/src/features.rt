@@ -1,6 +1,6 @@
 //! Set Features and Get Features: Number of Queues, Host Identifier, Namespace Write Protection Config.
 
-ghost use Rattle.std.specs.Prelude.{◌≡◌, ◌==◌, true, [], length, IsSome};
+ghost use Rattle.std.specs.Prelude.{◌≡◌, ◌==◌, true, [], length, IsSome, option_copied};
 ghost use Rattle.nvme_wire.specs.Submission.{nsid};
 ghost use Rattle.nvme_spec.specs.declared.command.AdminCommand.TheVariants.{SetFeatures, GetFeatures};
 ghost use Rattle.nvme_spec.specs.AdminCommands as commands;
@@ -13,10 +13,10 @@ ghost use Rattle.nvme_spec.specs.World.{namespace_of};
 use crate::fields;
 use crate::queues::has_io_queue;
 use nvme_mem::Window;
-use nvme_ns::Spaces;
+use nvme_ns::{Namespace, Spaces};
 use nvme_policy::deny_if;
 use nvme_prp::{Pieces, scatter};
-use nvme_spec::{Denial, Queues};
+use nvme_spec::{Denial, Protection, Queues};
 use nvme_wire::{Sqe, Status};
 
 /// Four I/O submission queues and four I/O completion queues, less one each.
@@ -24,8 +24,12 @@ const ALLOCATED_QUEUES: u32 = 0x0003_0003;
 
 /// Rule 6 of Set Features.
 #[tactic(auto, unfolding(nvme_spec::specs::AdminRules::set_features_rule, nvme_spec::specs::Rules::judgement_by))]
-pub fn check_set_features(queues: &Queues, sqe: &Sqe) -> Result<(), Denial>
-    ensures { result ≡ judgement_by (rules.set_features_rule queues.now sqe.now) }
+pub fn check_set_features(
+    queues: &Queues,
+    namespace: Option<&Namespace>,
+    sqe: &Sqe,
+) -> Result<(), Denial>
+    ensures { result ≡ judgement_by (rules.set_features_rule queues.now (option_copied namespace.entry) sqe.now) }
 {
     let sets_queues = fields::fid(sqe) == fields::NUMBER_OF_QUEUES;
     let sets_protection = fields::fid(sqe) == fields::WRITE_PROTECTION;
@@ -46,10 +50,46 @@ pub fn check_set_features(queues: &Queues, sqe: &Sqe) -> Result<(), Denial>
         Status::COMMAND_SEQUENCE_ERROR,
     )?;
     deny_if(
-        sets_protection && fields::wps(sqe) > 1,
+        sets_protection && fields::wps(sqe) > 2,
         6,
         Status::INVALID_FIELD_IN_COMMAND,
+    )?;
+    deny_if(
+        sets_protection && is_protected_until_cycle(namespace),
+        6,
+        Status::FEATURE_NOT_CHANGEABLE,
     )
+}
+
+/// Whether the namespace is write protected until a power cycle.
+fn is_protected_until_cycle(namespace: Option<&Namespace>) -> bool
+    ensures { result ≡ rules.is_protected_until_cycle (option_copied namespace.entry) }
+{
+    match namespace {
+        Some(namespace) => matches!(namespace.protection(), Protection::UntilCycle),
+        None => false,
+    }
+}
+
+/// The write protection that a state asks for: 0 none, 1 write protected, 2 that until a power cycle.
+fn protection_of(state: u32) -> Protection
+    ensures { result ≡ commands.protection_of state }
+{
+    match state {
+        0 => Protection::Open,
+        1 => Protection::Protected,
+        _ => Protection::UntilCycle,
+    }
+}
+
+/// The state of a namespace's write protection, 0 where there is no namespace.
+fn state_of(namespace: Option<&Namespace>) -> u32
+    ensures { result ≡ effects.protection_value (option_copied namespace.entry) }
+{
+    match namespace {
+        Some(namespace) => namespace.protection_state(),
+        None => 0,
+    }
 }
 
 /// Rule 6 of Get Features.
@@ -81,7 +121,7 @@ pub fn set_features(spaces: &mut Spaces, sqe: &Sqe) -> u32
     match fields::fid(sqe) {
         fields::NUMBER_OF_QUEUES => ALLOCATED_QUEUES,
         fields::WRITE_PROTECTION => {
-            spaces.set_protection(sqe.nsid(), fields::wps(sqe) == 1);
+            spaces.set_protection(sqe.nsid(), protection_of(fields::wps(sqe)));
             0
         }
         _ => 0,
@@ -104,7 +144,7 @@ pub fn get_features(
 {
     match fields::fid(sqe) {
         fields::NUMBER_OF_QUEUES => ALLOCATED_QUEUES,
-        fields::WRITE_PROTECTION => u32::from(spaces.protection(sqe.nsid()).unwrap_or(false)),
+        fields::WRITE_PROTECTION => state_of(spaces.namespace(sqe.nsid())),
         fields::HOST_IDENTIFIER => {
             let host = spaces.host_of(cntlid).unwrap_or(0);
             scatter(window, pieces, &host.to_le_bytes());

@@ -91,7 +91,8 @@ pub fn ncqr(sqe: &Sqe) -> u16
     (sqe.cdw11() >> 16) as u16
 }
 
-/// The write protection that a namespace is to have, 0 to 7: 0 is none, 1 is write protected (WPS).
+/// The write protection that a namespace is to have, 0 to 7: 0 is none, 1 write protected, 2 that until a power cycle
+/// (WPS).
 #[tactic(auto, unfolding(nvme_spec::specs::AdminCommands::wps))]
 pub fn wps(sqe: &Sqe) -> u32
     ensures { result ≡ spec.wps sqe.now }

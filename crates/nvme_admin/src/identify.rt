@@ -73,8 +73,8 @@ fn fill_namespace(structure: &mut [u8], namespace: &Namespace)
     put_u64(structure, 16, namespace.blocks());
     // NMIC: whether it may be attached to several controllers.
     put_u8(structure, 30, u8::from(namespace.is_shared()));
-    // RESCAP: the six reservation types; IEKEY as in revision 1.3 and later.
-    put_u8(structure, 31, 0xfe);
+    // RESCAP: persist through power loss; the six reservation types; IEKEY as in revision 1.3 and later.
+    put_u8(structure, 31, 0xff);
     // NSATTR: whether it is write protected.
     put_u8(structure, 99, u8::from(namespace.is_protected()));
     // LBAF0: LBADS, blocks of 2 to the power of 9 bytes.
@@ -138,8 +138,8 @@ fn fill_commands(structure: &mut [u8])
     put_u16(structure, 520, 0x0029);
     // VWC: no volatile write cache; Flush does not take the broadcast identifier.
     put_u8(structure, 525, 0x04);
-    // NWPC: namespaces can be write protected.
-    put_u8(structure, 531, 1);
+    // NWPC: namespaces can be write protected, also until a power cycle.
+    put_u8(structure, 531, 3);
 }
 
 /// Writes the identifiers of the namespaces that are attached to the controller, from the first above `nsid` on.

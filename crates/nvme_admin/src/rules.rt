@@ -172,7 +172,7 @@ fn check_fields(
         AdminCommand::DeleteCompletionQueue => return delete_completion_queue(queues, sqe),
         AdminCommand::CreateCompletionQueue => return create_completion_queue(queues, sqe),
         AdminCommand::Identify => check_identify(sqe)?,
-        AdminCommand::SetFeatures => check_set_features(queues, sqe)?,
+        AdminCommand::SetFeatures => check_set_features(queues, namespace, sqe)?,
         AdminCommand::GetFeatures => check_get_features(sqe)?,
         AdminCommand::NamespaceAttachment => check_selection(namespace, sqe)?,
     }

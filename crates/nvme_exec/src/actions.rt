@@ -3,12 +3,12 @@
 ghost use Rattle.std.specs.Prelude.{◌≡◌, ◌+◌, ◌≤◌, length};
 ghost use Rattle.nvme_spec.specs.declared.command.Command.TheVariants.{ReservationRegister, ReservationAcquire, ReservationRelease};
 ghost use Rattle.nvme_spec.specs.Commands.{rtype};
-ghost use Rattle.nvme_spec.specs.IoData.{action_outcome, current_key, other_key};
-ghost use Rattle.nvme_resv.specs.Answers.{HasRoomFor};
+ghost use Rattle.nvme_spec.specs.IoData.{action_outcome, key_outcome, current_key, other_key};
+ghost use Rattle.nvme_resv.specs.Answers.{Follows, HasRoomFor};
 ghost use Rattle.nvme_exec.specs.Carrying.{FollowsSome};
 
 use byteorder::{ByteOrder, LittleEndian};
-use nvme_policy::fields::{action, iekey, rtype};
+use nvme_policy::fields::{action, cptpl, iekey, rtype};
 use nvme_resv::{Change, Reservation};
 use nvme_wire::{Sqe, Status};
 
@@ -31,7 +31,7 @@ fn other(keys: &[u8]) -> u64
 }
 
 /// Reservation Register: registers, unregisters or replaces the key of a host, by the two keys of the Reservation
-/// Register Data Structure.
+/// Register Data Structure, and changes whether the reservation persists through power loss.
 ///
 /// # Errors
 ///
@@ -47,6 +47,26 @@ pub fn register(
     requires size { 16 ≤ length keys.now }
     ensures { FollowsSome (action_outcome ReservationRegister reservation.old host sqe.now keys.now) reservation.old
         result reservation.new }
+{
+    let change = change_key(reservation, host, sqe, keys)?;
+    match cptpl(sqe) {
+        2 => reservation.set_ptpl(false),
+        3 => reservation.set_ptpl(true),
+        _ => {}
+    }
+    Ok(change)
+}
+
+/// What Reservation Register makes of the key of a host.
+fn change_key(
+    reservation: &mut Reservation,
+    host: u64,
+    sqe: &Sqe,
+    keys: &[u8],
+) -> Result<Change, Status>
+    requires room { HasRoomFor reservation.old host }
+    requires size { 16 ≤ length keys.now }
+    ensures { Follows (key_outcome reservation.old host sqe.now keys.now) reservation.old result reservation.new }
 {
     match action(sqe) {
         0 => reservation.register(host, other(keys)),

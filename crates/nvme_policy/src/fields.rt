@@ -37,7 +37,7 @@ pub fn iekey(sqe: &Sqe) -> bool
     (sqe.cdw10() >> 3) & 1 == 1
 }
 
-/// How cptpl through power loss is to change, 0 to 3 (CPTPL).
+/// How persistence through power loss is to change, 0 to 3: 0 not at all, 2 clears it, 3 sets it (CPTPL).
 #[tactic(auto, unfolding(nvme_spec::specs::Commands::cptpl))]
 pub fn cptpl(sqe: &Sqe) -> u32
     ensures { result ≡ spec.cptpl sqe.now }

@@ -113,7 +113,7 @@ pub fn check_fields(command: Command, sqe: &Sqe) -> Result<(), Denial>
             Status::INVALID_FIELD_IN_COMMAND,
         ),
         Command::ReservationRegister => deny_if(
-            fields::action(sqe) > 2 || matches!(fields::cptpl(sqe), 1 | 3),
+            fields::action(sqe) > 2 || fields::cptpl(sqe) == 1,
             6,
             Status::INVALID_FIELD_IN_COMMAND,
         ),

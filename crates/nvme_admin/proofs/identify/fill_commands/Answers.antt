@@ -10,4 +10,4 @@ returns-clause-filled c =
     let three = c.put_u32.ensures ∙ ap (λ x. with_field x (dword_field 516 8)) two in
     let four = c.put_u16.ensures ∙ ap (λ x. with_field x (word_field 520 0x0029)) three in
     let five = c.put_u8-3.ensures ∙ ap (λ x. with_field x (byte_field 525 0x04)) four in
-    c.put_u8-4.ensures ∙ ap (λ x. with_field x (byte_field 531 1)) five
+    c.put_u8-4.ensures ∙ ap (λ x. with_field x (byte_field 531 3)) five

@@ -1,4 +1,5 @@
 use Rattle.std.proofs.Common.{◌≡◌, ap, ◌∙◌, rules}
+use Rattle.nvme_spec.specs.World.{forbids_writing}
 use Rattle.nvme_spec.specs.Identify.{bit_of, byte_field, qword_field}
 use Rattle.nvme_admin.proofs.Structures.{with_field}
 use Rattle.nvme_admin.proofs.identify.fill_namespace.Goals as goal
@@ -14,8 +15,8 @@ returns-clause-filled c =
     let shared : c.from.result ≡ bit_of n.shared = search rules in
     let four = c.put_u8.ensures ∙ ap (λ v. with_field c.put_u64-3.new.structure (byte_field 30 v)) shared
     ∙ ap (λ x. with_field x (byte_field 30 (bit_of n.shared))) three in
-    let five = c.put_u8-2.ensures ∙ ap (λ x. with_field x (byte_field 31 0xfe)) four in
-    let protected : c.from-2.result ≡ bit_of n.protected = search rules in
+    let five = c.put_u8-2.ensures ∙ ap (λ x. with_field x (byte_field 31 0xff)) four in
+    let protected : c.from-2.result ≡ bit_of (forbids_writing n.protection) = search rules in
     let six = c.put_u8-3.ensures ∙ ap (λ v. with_field c.put_u8-2.new.structure (byte_field 99 v)) protected
-    ∙ ap (λ x. with_field x (byte_field 99 (bit_of n.protected))) five in
+    ∙ ap (λ x. with_field x (byte_field 99 (bit_of (forbids_writing n.protection)))) five in
     c.put_u8-4.ensures ∙ ap (λ x. with_field x (byte_field 130 9)) six
