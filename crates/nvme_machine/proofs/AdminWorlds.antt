@@ -1,8 +1,9 @@
 -- What an admin command leaves of the world: its hosts, and the places and reservations of its namespaces.
-use Rattle.std.proofs.Common.{◌≡◌, ◌==◌, ℕ, Bool, true, false, List, [], ◌∷◌, Option, None, Some, Ok, Err, refl, sym, ap, subst}
+use Rattle.std.proofs.Common.{◌≡◌, ◌==◌, ℕ, true, false, List, [], ◌∷◌, Option, None, Some, Ok, Err, refl, sym, ap, subst}
 use Rattle.std.specs.Prelude.{if◌then◌else◌}
 use Rattle.std.specs.List.{AllByRecursion}
 use Rattle.nvme_wire.specs.Submission.{opcode, nsid}
+use Rattle.nvme_spec.specs.declared.access.Protection.{Protection}
 use Rattle.nvme_spec.specs.declared.command.AdminCommand.{AdminCommand}
 use Rattle.nvme_spec.specs.declared.command.AdminCommand.TheVariants.{DeleteSubmissionQueue, CreateSubmissionQueue, DeleteCompletionQueue, CreateCompletionQueue, Identify, SetFeatures, GetFeatures, NamespaceAttachment}
 use Rattle.nvme_spec.specs.declared.queues.Queues.{Queues}
@@ -10,7 +11,7 @@ use Rattle.nvme_spec.specs.Rules.{Judgement}
 use Rattle.nvme_spec.specs.World.{World, Namespace, host_of, namespace_of, with_namespace, with_protection}
 use Rattle.nvme_spec.specs.Layout.{Extent, extent_of, reservation_of}
 use Rattle.nvme_spec.specs.Attachments.{unless_refused, attach, detach}
-use Rattle.nvme_spec.specs.AdminCommands.{command_of, fid, write_protection, wps, sel}
+use Rattle.nvme_spec.specs.AdminCommands.{command_of, fid, write_protection, wps, protection_of, sel}
 use Rattle.nvme_spec.specs.AdminRules.{data_of, listed_controllers, admin_judgement}
 use Rattle.nvme_spec.specs.AdminEffects.{world_of, world_after, execution_by, admin_execution}
 use Rattle.nvme_spec.proofs.Namespaces.{found-still}
@@ -35,11 +36,11 @@ same-reservations old new e = record { extents = same-extents old new e; reserva
 abbrev extent : Namespace → Extent
 extent space = record { first = space.first; blocks = space.blocks }
 
-protected : (w : World) (a : ℕ) (b : Bool) → HasSameReservations w (with_protection w a b)
+protected : (w : World) (a : ℕ) (p : Protection) → HasSameReservations w (with_protection w a p)
 unfolding host_of extent_of namespace_of reservation_of
-protected w a b = record {
-  extents = record { hosts = λ k. refl; extents = λ n. found-still extent (λ m. record m { protected = b }) (λ m. refl) (λ m. refl) a n w.namespaces };
-  reservations = λ n. found-still (λ m. m.reservation) (λ m. record m { protected = b }) (λ m. refl) (λ m. refl) a n w.namespaces;
+protected w a p = record {
+  extents = record { hosts = λ k. refl; extents = λ n. found-still extent (λ m. record m { protection = p }) (λ m. refl) (λ m. refl) a n w.namespaces };
+  reservations = λ n. found-still (λ m. m.reservation) (λ m. record m { protection = p }) (λ m. refl) (λ m. refl) a n w.namespaces;
 }
 
 attached : (w : World) (list : List (ℕ × ℕ)) → HasSameReservations w (record w { attachments = list })
@@ -50,7 +51,7 @@ attached w list = record { extents = record { hosts = λ k. refl; extents = λ n
 pub data Becomes (old : World) : World → Type 0 where
   Same : (new : World) → new ≡ old → Becomes old new
   Attached : (new : World) → (list : List (ℕ × ℕ)) → new ≡ record old { attachments = list } → Becomes old new
-  Protected : (new : World) → (n : ℕ) → (b : Bool) → new ≡ with_protection old n b → Becomes old new
+  Protected : (new : World) → (n : ℕ) → (p : Protection) → new ≡ with_protection old n p → Becomes old new
 
 unless-becomes : (w : World) (x : Option Status) (list : List (ℕ × ℕ)) → Becomes w (world_of w (unless_refused x (record w { attachments = list })))
 unless-becomes w None list = Attached _ list refl
@@ -70,8 +71,8 @@ command-becomes w e sent NamespaceAttachment =
       | false ↦ unless-becomes w _ _
     ]
 command-becomes w e sent SetFeatures =
-    elim (fid e == write_protection) as (λ b. Becomes w (if b then with_protection w (nsid e) (wps e == 1) else w)) [
-      | true ↦ Protected _ (nsid e) (wps e == 1) refl
+    elim (fid e == write_protection) as (λ b. Becomes w (if b then with_protection w (nsid e) (protection_of (wps e)) else w)) [
+      | true ↦ Protected _ (nsid e) (protection_of (wps e)) refl
       | false ↦ Same _ refl
     ]
 
@@ -87,7 +88,7 @@ admin-becomes w queues k window e = executed w k window e (admin_judgement w que
 pub still : (old new : World) → Becomes old new → HasSameReservations old new
 still old new (Same n is) = same-reservations old new is
 still old new (Attached n list is) = subst (HasSameReservations old) (sym is) (attached old list)
-still old new (Protected n a b is) = subst (HasSameReservations old) (sym is) (protected old a b)
+still old new (Protected n a p is) = subst (HasSameReservations old) (sym is) (protected old a p)
 
 -- an admin command leaves hosts, places and reservations
 pub admin-keeps : (w : World) (queues : Queues) (k : ℕ) (window e : List ℕ) → HasSameReservations w (admin_execution w queues k e window).world
@@ -95,22 +96,22 @@ admin-keeps w queues k window e = still w _ (admin-becomes w queues k window e)
 
 -- What holds of each namespace by itself, whatever its protection, still holds.
 
-changed-all : (P : Namespace → Type 0) → ((n : Namespace) (b : Bool) → P n → P (record n { protected = b })) → (b : Bool) (a : ℕ) (ns : List Namespace)
-    → AllByRecursion P ns → AllByRecursion P (with_namespace (λ n. record n { protected = b }) a ns)
-changed-all P f b a [] h = tt
-changed-all P f b a (n ∷ ns) h =
-    elim (n.nsid == a) as (λ c. AllByRecursion P (if c then record n { protected = b } ∷ ns else n ∷ with_namespace (λ n. record n { protected = b }) a ns)) [
-      | true ↦ (f n b h.0, h.1)
-      | false ↦ (h.0, changed-all P f b a ns h.1)
+changed-all : (P : Namespace → Type 0) → ((n : Namespace) (p : Protection) → P n → P (record n { protection = p })) → (p : Protection) (a : ℕ) (ns : List Namespace)
+    → AllByRecursion P ns → AllByRecursion P (with_namespace (λ n. record n { protection = p }) a ns)
+changed-all P f p a [] h = tt
+changed-all P f p a (n ∷ ns) h =
+    elim (n.nsid == a) as (λ c. AllByRecursion P (if c then record n { protection = p } ∷ ns else n ∷ with_namespace (λ n. record n { protection = p }) a ns)) [
+      | true ↦ (f n p h.0, h.1)
+      | false ↦ (h.0, changed-all P f p a ns h.1)
     ]
 
-pub all-still : (P : Namespace → Type 0) → ((n : Namespace) (b : Bool) → P n → P (record n { protected = b })) → (old new : World) → Becomes old new
+pub all-still : (P : Namespace → Type 0) → ((n : Namespace) (p : Protection) → P n → P (record n { protection = p })) → (old new : World) → Becomes old new
     → AllByRecursion P old.namespaces → AllByRecursion P new.namespaces
 all-still P f old new (Same n is) h = subst (λ w. AllByRecursion P w.namespaces) (sym is) h
 all-still P f old new (Attached n list is) h = subst (λ w. AllByRecursion P w.namespaces) (sym is) h
-all-still P f old new (Protected n a b is) h = subst (λ w. AllByRecursion P w.namespaces) (sym is) (changed-all P f b a old.namespaces h)
+all-still P f old new (Protected n a p is) h = subst (λ w. AllByRecursion P w.namespaces) (sym is) (changed-all P f p a old.namespaces h)
 
 pub same-controllers : (old new : World) → Becomes old new → new.controllers ≡ old.controllers
 same-controllers old new (Same n is) = ap (λ w. w.controllers) is
 same-controllers old new (Attached n list is) = ap (λ w. w.controllers) is
-same-controllers old new (Protected n a b is) = ap (λ w. w.controllers) is
+same-controllers old new (Protected n a p is) = ap (λ w. w.controllers) is

@@ -24,7 +24,7 @@ use Rattle.nvme_spec.proofs.MediumCalls.{calls-joined}
 use Rattle.nvme_spec.proofs.PassingCalls.{content-alone, calls-split}
 use Rattle.nvme_spec.proofs.StatusLaws.{of-each}
 use Rattle.nvme_machine.specs.declared.event.Event.{Event}
-use Rattle.nvme_machine.specs.declared.event.Event.TheVariants.{Store, Write32, Read32, Fetch, Execute}
+use Rattle.nvme_machine.specs.declared.event.Event.TheVariants.{Store, Write32, Read32, Fetch, Execute, PowerCycle}
 use Rattle.nvme_machine.specs.declared.fetched.FetchedCommand.{FetchedCommand}
 use Rattle.nvme_machine.specs.declared.seen.Executed.TheVariants.{Posted}
 use Rattle.nvme_machine.specs.declared.seen.Seen.{Seen}
@@ -36,7 +36,7 @@ use Rattle.nvme_machine.specs.Controllers.{Controller, QueuePair, Reaction, queu
 use Rattle.nvme_machine.specs.EventCalls.{CallingOver, CallingOne, CallingAt, AreCallsOfStep, AreCallsOfRun}
 use Rattle.nvme_machine.specs.FaultFree.{fault_free_answer, fault_free_step, io_answer, reacting, executing, executing_one, executing_over}
 use Rattle.nvme_machine.specs.FaultFreeCalls.{calls_as, calls_over, calls_one, calls_at, event_calls, fault_free_calls}
-use Rattle.nvme_machine.specs.Subsystems.{Subsystem, ExecutesOver, ExecutesOne, ExecutesAt, controller_at, with_controller, scene_of, after_execution}
+use Rattle.nvme_machine.specs.Subsystems.{Subsystem, ExecutesOver, ExecutesOne, ExecutesAt, controller_at, with_controller, scene_of, after_execution, after_power_cycle}
 use Rattle.nvme_machine.proofs.Denials.{denied_changes_its_entry_alone}
 use Rattle.nvme_machine.proofs.Determined.{step-counts, failures_never_fall, step-alone, answers, steps}
 use Rattle.nvme_machine.proofs.EventCalls.{calls_are_of_a_step, calls_are_of_a_run}
@@ -73,6 +73,7 @@ steps_have_calls tells old new (Write32 k offset v) seen h = ([], (h, refl))
 steps_have_calls tells old new (Read32 k offset) seen h = ([], (h, refl))
 steps_have_calls tells old new (Fetch k q) seen h = ([], (h, refl))
 steps_have_calls tells old new (Execute k i) seen h = at-some (controller_at old k) tells old new k i seen h
+steps_have_calls tells old new PowerCycle seen h = ([], (h.0, h.1, refl))
 
 pub runs_have_calls : RunsHaveCalls
 runs_have_calls tells old new [] [] h = ([], (h, refl))
@@ -122,6 +123,7 @@ step_calls_are_unique tells old new other (Read32 k offset) seen others calls th
 step_calls_are_unique tells old new other (Fetch k q) seen others calls these content left right h g made also = g.1 ∙ sym h.1
 step_calls_are_unique tells old new other (Execute k i) seen others calls these content left right h g made also =
     two-at (controller_at old k) tells old new other k i seen others calls these content left right h g made also
+step_calls_are_unique tells old new other PowerCycle seen others calls these content left right h g made also = g.2 ∙ sym h.2
 
 pub run_calls_are_unique : RunCallsAreUnique
 run_calls_are_unique old new other [] [] [] calls these content left right h g made also f e below = g.1 ∙ sym h.1
@@ -176,6 +178,7 @@ step_calls_are_computed tells old new (Write32 k offset v) seen calls left h mad
 step_calls_are_computed tells old new (Read32 k offset) seen calls left h made = h.1
 step_calls_are_computed tells old new (Fetch k q) seen calls left h made = h.1
 step_calls_are_computed tells old new (Execute k i) seen calls left h made = at-alone (controller_at old k) tells old new k i seen calls left h made
+step_calls_are_computed tells old new PowerCycle seen calls left h made = h.2
 
 -- And they are there: those of the step without a fault, which leave what it leaves.
 
@@ -226,6 +229,11 @@ unfolding with_controller
 reacts-kept None s k f = refl
 reacts-kept (Some c) s k f = refl
 
+-- so does a power cycle
+cycled-kept : (s : Subsystem) → (after_power_cycle s).device.content ≡ s.device.content
+unfolding after_power_cycle
+cycled-kept s = refl
+
 step-made : (s : Subsystem) (event : Event) → IsLaidOut s.world s.device.content
     → AreCallsOfStep true s event (fault_free_step s event).seen (fault_free_step s event).left (event_calls s event) × AreMade s (event_calls s event) (fault_free_step s event).left
 step-made s (Store k address bytes) laid = ((steps s (Store k address bytes) laid, refl), reacts-kept (controller_at s k) s k _)
@@ -233,6 +241,7 @@ step-made s (Write32 k offset v) laid = ((steps s (Write32 k offset v) laid, ref
 step-made s (Read32 k offset) laid = ((steps s (Read32 k offset) laid, refl), reacts-kept (controller_at s k) s k _)
 step-made s (Fetch k q) laid = ((steps s (Fetch k q) laid, refl), reacts-kept (controller_at s k) s k _)
 step-made s (Execute k i) laid = at-made (controller_at s k) s k i laid
+step-made s PowerCycle laid = ((refl, refl, refl), cycled-kept s)
 
 still-laid : (s : Subsystem) (event : Event) → IsLaidOut s.world s.device.content → IsLaidOut (fault_free_step s event).left.world (fault_free_step s event).left.device.content
 still-laid s event laid =

@@ -8,14 +8,14 @@ use Rattle.nvme_spec.specs.Layout.{IsLaidOut}
 use Rattle.nvme_spec.specs.AdminEffects.{admin_execution}
 use Rattle.nvme_spec.proofs.FaultFree as spec
 use Rattle.nvme_machine.specs.declared.event.Event.{Event}
-use Rattle.nvme_machine.specs.declared.event.Event.TheVariants.{Store, Write32, Read32, Fetch, Execute}
+use Rattle.nvme_machine.specs.declared.event.Event.TheVariants.{Store, Write32, Read32, Fetch, Execute, PowerCycle}
 use Rattle.nvme_machine.specs.declared.fetched.FetchedCommand.{FetchedCommand}
 use Rattle.nvme_machine.specs.declared.seen.Executed.TheVariants.{Posted}
 use Rattle.nvme_machine.specs.declared.seen.Seen.{Seen}
 use Rattle.nvme_machine.specs.declared.seen.Seen.TheVariants.{Executed}
 use Rattle.nvme_machine.specs.Controllers.{Controller, QueuePair, Reaction, queues_of, open_pair}
 use Rattle.nvme_machine.specs.Answers.{Answer, Answers, AnswersAs, admin_answer}
-use Rattle.nvme_machine.specs.Subsystems.{Subsystem, Step, ReactsAs, ExecutesAt, ExecutesOne, ExecutesOver, controller_at, with_controller, scene_of, after_execution}
+use Rattle.nvme_machine.specs.Subsystems.{Subsystem, Step, ReactsAs, ExecutesAt, ExecutesOne, ExecutesOver, controller_at, with_controller, scene_of, after_execution, after_power_cycle}
 use Rattle.nvme_machine.specs.FaultFree.{Moment, fault_free_answer, fault_free_step, fault_free_seen, fault_free_left, io_answer, reacting, executing, executing_one, executing_over}
 use Rattle.nvme_machine.specs.Runs.{FailuresNeverFall, RunExists, RunIsUnique}
 use Rattle.nvme_machine.proofs.Denials.{same-answer}
@@ -56,12 +56,17 @@ unfolding with_controller
 reacts-counts None old new k f seen h = whole-counts old new h.1
 reacts-counts (Some c) old new k f seen h = let e = ap (λ (s : Subsystem). s.device.failures) h.1 in omega (arith, e)
 
+cycle-counts : (old new : Subsystem) → new ≡ after_power_cycle old → old.device.failures ≤ new.device.failures
+unfolding after_power_cycle
+cycle-counts old new h = let e = ap (λ (s : Subsystem). s.device.failures) h in omega (arith, e)
+
 pub step-counts : (tells : Bool) (old new : Subsystem) (event : Event) (seen : Seen) → Step tells old event seen new → old.device.failures ≤ new.device.failures
 step-counts tells old new (Store k address bytes) seen h = reacts-counts (controller_at old k) old new k _ seen h
 step-counts tells old new (Write32 k offset v) seen h = reacts-counts (controller_at old k) old new k _ seen h
 step-counts tells old new (Read32 k offset) seen h = reacts-counts (controller_at old k) old new k _ seen h
 step-counts tells old new (Fetch k q) seen h = reacts-counts (controller_at old k) old new k _ seen h
 step-counts tells old new (Execute k i) seen h = executes-counts (controller_at old k) tells old new k i seen h
+step-counts tells old new PowerCycle seen h = cycle-counts old new h.1
 
 pub failures_never_fall : FailuresNeverFall
 failures_never_fall tells old new [] [] run = whole-counts old new run
@@ -121,6 +126,7 @@ step-alone old new (Write32 k offset v) seen h f below = reacts-alone (controlle
 step-alone old new (Read32 k offset) seen h f below = reacts-alone (controller_at old k) old new k _ seen h
 step-alone old new (Fetch k q) seen h f below = reacts-alone (controller_at old k) old new k _ seen h
 step-alone old new (Execute k i) seen h f below = executes-alone (controller_at old k) old new k i seen h f below
+step-alone old new PowerCycle seen h f below = h
 
 pub run_is_unique : RunIsUnique
 run_is_unique old new [] [] run f below = (refl, run)
@@ -194,12 +200,17 @@ unfolding with_controller
 calm-reacts None s k f = refl
 calm-reacts (Some c) s k f = refl
 
+calm-cycle : (s : Subsystem) → (after_power_cycle s).device.failures ≡ s.device.failures
+unfolding after_power_cycle
+calm-cycle s = refl
+
 step-calm : (s : Subsystem) (event : Event) → (fault_free_step s event).left.device.failures ≡ s.device.failures
 step-calm s (Store k address bytes) = calm-reacts (controller_at s k) s k _
 step-calm s (Write32 k offset v) = calm-reacts (controller_at s k) s k _
 step-calm s (Read32 k offset) = calm-reacts (controller_at s k) s k _
 step-calm s (Fetch k q) = calm-reacts (controller_at s k) s k _
 step-calm s (Execute k i) = calm-executes (controller_at s k) s k i
+step-calm s PowerCycle = calm-cycle s
 
 pub steps : (s : Subsystem) (event : Event) → IsLaidOut s.world s.device.content → Step true s event (fault_free_step s event).seen (fault_free_step s event).left
 steps s (Store k address bytes) laid = reacts (controller_at s k) s k _
@@ -207,6 +218,7 @@ steps s (Write32 k offset v) laid = reacts (controller_at s k) s k _
 steps s (Read32 k offset) laid = reacts (controller_at s k) s k _
 steps s (Fetch k q) laid = reacts (controller_at s k) s k _
 steps s (Execute k i) laid = executes (controller_at s k) s k i laid
+steps s PowerCycle laid = (refl, refl)
 
 pub run_exists : RunExists
 run_exists old [] laid = (refl, refl)

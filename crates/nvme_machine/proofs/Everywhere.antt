@@ -6,13 +6,13 @@ use Rattle.nvme_spec.specs.declared.outcome.Marks.{Marks}
 use Rattle.nvme_spec.specs.Blocks.{Device}
 use Rattle.nvme_spec.specs.World.{World}
 use Rattle.nvme_machine.specs.declared.event.Event.{Event}
-use Rattle.nvme_machine.specs.declared.event.Event.TheVariants.{Store, Write32, Read32, Fetch, Execute}
+use Rattle.nvme_machine.specs.declared.event.Event.TheVariants.{Store, Write32, Read32, Fetch, Execute, PowerCycle}
 use Rattle.nvme_machine.specs.declared.fetched.FetchedCommand.{FetchedCommand}
 use Rattle.nvme_machine.specs.declared.seen.Seen.{Seen}
-use Rattle.nvme_machine.specs.Controllers.{Controller, QueuePair, Reaction, queues_of, open_pair, with_marks, after_store, after_write32, wrote, has_read, after_fetch}
+use Rattle.nvme_machine.specs.Controllers.{Controller, QueuePair, Reaction, power_cycled, queues_of, open_pair, with_marks, after_store, after_write32, wrote, has_read, after_fetch}
 use Rattle.nvme_machine.specs.Answers.{Answer, Answers}
-use Rattle.nvme_machine.specs.Subsystems.{Subsystem, Step, Run, ReactsAs, Completes, ExecutesAt, ExecutesOne, ExecutesOver, controller_at, with_controller, after_answer, after_execution, numbered, replaced, marked_from}
-use Rattle.nvme_machine.proofs.Others.{marks-numbered}
+use Rattle.nvme_machine.specs.Subsystems.{Subsystem, Step, Run, ReactsAs, Completes, ExecutesAt, ExecutesOne, ExecutesOver, controller_at, with_controller, after_answer, after_execution, after_power_cycle, numbered, replaced, marked_from}
+use Rattle.nvme_machine.proofs.Others.{marks-numbered, cycled-at}
 
 -- what every action on a controller keeps
 pub record Keeps (P : Controller → Type 0) : Type 0 where
@@ -20,6 +20,7 @@ pub record Keeps (P : Controller → Type 0) : Type 0 where
   pub store : (address : ℕ) → (bytes : List ℕ) → (c : Controller) → P c → P (after_store address bytes c).controller
   pub write : (offset v : ℕ) → (c : Controller) → P c → P (after_write32 offset v c)
   pub fetch : (q : ℕ) → (c : Controller) → P c → P (after_fetch q c).controller
+  pub cycle : (c : Controller) → P c → P (power_cycled c)
   pub finish : (tells : Bool) → (w : World) → (d : Device) → (k i : ℕ) → (c : Controller) → (t : FetchedCommand) → (p : QueuePair) → (a : Answer) → open_pair c t ≡ Some p
       → Answers tells (queues_of c) k t (record { world = w; window = c.window; device = d }) a → P c → P (after_answer i t p a c)
 
@@ -84,12 +85,20 @@ executes : (P : Controller → Type 0) → Keeps P → (o : Option Controller) (
 executes P keeps None tells old new k i seen at h all = subst (Everywhere P) (sym h.1) all
 executes P keeps (Some c) tells old new k i seen at h all = one P keeps (slice_get c.fetched i) tells old new k c i seen at h all
 
+is-cycled : (P : Controller → Type 0) → Keeps P → (o : Option Controller) (d : Controller) → ((c : Controller) → o ≡ Some c → P c) → option_map power_cycled o ≡ Some d → P d
+is-cycled P keeps None d all h = absurd (none-some _ h)
+is-cycled P keeps (Some c) d all h = subst P (same_Some _ _ h) (keeps.cycle c (all c refl))
+
+cycles : (P : Controller → Type 0) → Keeps P → (old new : Subsystem) → new ≡ after_power_cycle old → Everywhere P old → Everywhere P new
+cycles P keeps old new h all k d at = is-cycled P keeps (controller_at old k) d (all k) (sym (cycled-at old new k h) ∙ at)
+
 pub step-keeps : (P : Controller → Type 0) → Keeps P → (tells : Bool) (old new : Subsystem) (event : Event) (seen : Seen) → Step tells old event seen new → Everywhere P old → Everywhere P new
 step-keeps P keeps tells old new (Store k address bytes) seen h all = reacts P (controller_at old k) old new k (after_store address bytes.now) seen refl h (keeps.store address bytes.now) all
 step-keeps P keeps tells old new (Write32 k offset v) seen h all = reacts P (controller_at old k) old new k (wrote offset v) seen refl h (keeps.write offset v) all
 step-keeps P keeps tells old new (Read32 k offset) seen h all = reacts P (controller_at old k) old new k (has_read offset) seen refl h (λ c p. p) all
 step-keeps P keeps tells old new (Fetch k q) seen h all = reacts P (controller_at old k) old new k (after_fetch q) seen refl h (keeps.fetch q) all
 step-keeps P keeps tells old new (Execute k i) seen h all = executes P keeps (controller_at old k) tells old new k i seen refl h all
+step-keeps P keeps tells old new PowerCycle seen h all = cycles P keeps old new h.1 all
 
 pub run-keeps : (P : Controller → Type 0) → Keeps P → (tells : Bool) (old new : Subsystem) (events : List Event) (seen : List Seen) → Run tells old events seen new → Everywhere P old → Everywhere P new
 run-keeps P keeps tells old new [] [] run all = subst (Everywhere P) (sym run) all

@@ -19,7 +19,7 @@ use Rattle.nvme_spec.specs.MediumCalls.{MediumAnswer, MediumCall, Reads, Writes,
 use Rattle.nvme_spec.specs.Statuses as status
 use Rattle.nvme_spec.specs.World.{World, Namespace, namespace_of}
 use Rattle.nvme_machine.specs.declared.event.Event.{Event}
-use Rattle.nvme_machine.specs.declared.event.Event.TheVariants.{Store, Write32, Read32, Fetch, Execute}
+use Rattle.nvme_machine.specs.declared.event.Event.TheVariants.{Store, Write32, Read32, Fetch, Execute, PowerCycle}
 use Rattle.nvme_machine.specs.declared.fetched.FetchedCommand.{FetchedCommand}
 use Rattle.nvme_machine.specs.declared.seen.Executed.TheVariants.{Posted}
 use Rattle.nvme_machine.specs.declared.seen.Seen.TheVariants.{Executed}
@@ -27,11 +27,11 @@ use Rattle.nvme_machine.specs.Calling.{AreCallsAs, AreCallsOfAnswer}
 use Rattle.nvme_machine.specs.Controllers.{Controller, QueuePair, names, open_pair}
 use Rattle.nvme_machine.specs.EventCalls.{CompletesCalling, CallingOver, CallingOne, CallingAt}
 use Rattle.nvme_machine.specs.Fencing.{IsAllowedAt}
-use Rattle.nvme_machine.specs.Subsystems.{Subsystem, Step, controller_at, controller_of, scene_of}
+use Rattle.nvme_machine.specs.Subsystems.{Subsystem, OfItsController, Step, controller_at, scene_of}
 use Rattle.nvme_machine.specs.AllowedCalls.{IsCallOf, MayCall, IsReading, FencedCommandsCallNothing, HaveTheirOwn, KeepsOff, FencedHostsWriteNoBlock, IsOneFlush, FlushReachesTheMedium, CallsAreInOrder}
 use Rattle.nvme_machine.proofs.AllowedCalls.{all-joined, all-mapped, all-of-none, calls_are_allowed}
 use Rattle.nvme_machine.proofs.EventCalls.{calls_are_of_a_step}
-use Rattle.nvme_machine.proofs.Fencing.{permissions_stay}
+use Rattle.nvme_machine.proofs.Fencing.{permissions_stay, still-fenced}
 use Rattle.nvme_machine.proofs.Layouts.{step-extents}
 
 -- A fenced command.
@@ -86,7 +86,7 @@ apart-from : (x y : Extent) (b : ℕ) → AreApart x y → y.first ≤ b → b <
 apart-from x y b (inl before) low high = inr (omega (arith, before, low))
 apart-from x y b (inr behind) low high = inl (omega (arith, behind, high))
 
-pub elsewhere : (s : Subsystem) (event : Event) (n : ℕ) (x : Extent) → HaveTheirOwn s.world → extent_of s.world n ≡ Some x → may_write s.world (controller_of event) n ≡ false → (call : MediumCall) → MayCall s event call → KeepsOff x call
+pub elsewhere : (s : Subsystem) (event : Event) (n : ℕ) (x : Extent) → HaveTheirOwn s.world → extent_of s.world n ≡ Some x → OfItsController (λ k. may_write s.world k n ≡ false) event → (call : MediumCall) → MayCall s event call → KeepsOff x call
 elsewhere s (Execute k i) n x own is fenced (Reads b answer) may = tt
 elsewhere s (Execute k i) n x own is fenced (Flushes answer) may = tt
 elsewhere s (Execute k i) n x own is fenced (Writes b bytes answer) (m, w) =
@@ -103,11 +103,7 @@ elsewhere s (Store k address bytes) n x own is fenced call may = absurd may
 elsewhere s (Write32 k offset v) n x own is fenced call may = absurd may
 elsewhere s (Read32 k offset) n x own is fenced call may = absurd may
 elsewhere s (Fetch k q) n x own is fenced call may = absurd may
-
-still : (old new : World) (n : ℕ) (events : List Event) → ((k : ℕ) → may_write new k n ≡ may_write old k n)
-    → AllByRecursion (λ event. may_write old (controller_of event) n ≡ false) events → AllByRecursion (λ event. may_write new (controller_of event) n ≡ false) events
-still old new n [] same h = tt
-still old new n (event ∷ events) same h = (same (controller_of event) ∙ h.0, still old new n events same h.1)
+elsewhere s PowerCycle n x own is fenced call may = absurd may
 
 pub fenced_hosts_write_no_block : FencedHostsWriteNoBlock
 fenced_hosts_write_no_block tells old new [] [] calls n x own is run fenced = all-of-none (KeepsOff x) calls run.1
@@ -121,7 +117,7 @@ fenced_hosts_write_no_block tells old new (event ∷ events) (seen ∷ later) ca
     (all-joined (KeepsOff x) here behind
     (all-mapped (MayCall old event) (KeepsOff x) here (elsewhere old event n x own is fenced.0) (calls_are_allowed tells old mid event seen here made))
     (fenced_hosts_write_no_block tells mid new events later behind n x kept (same.extents n ∙ is) rest
-    (still old.world mid.world n events (permissions_stay tells old mid event seen n step quiet) fenced.1)))
+    (still-fenced old.world mid.world n events (permissions_stay tells old mid event seen n step quiet) fenced.1)))
 
 -- A Flush.
 

@@ -11,8 +11,9 @@ use Rattle.nvme_spec.specs.World.{World, Namespace, host_of, namespace_of}
 use Rattle.nvme_spec.specs.IoRules.{permits_group}
 use Rattle.nvme_spec.specs.Layout.{reservation_of, may_write, may_read}
 use Rattle.nvme_machine.specs.declared.event.Event.{Event}
+use Rattle.nvme_machine.specs.declared.event.Event.TheVariants.{Store, Write32, Read32, Fetch, Execute, PowerCycle}
 use Rattle.nvme_machine.specs.declared.seen.Seen.{Seen}
-use Rattle.nvme_machine.specs.Subsystems.{Subsystem, Step, controller_of}
+use Rattle.nvme_machine.specs.Subsystems.{Subsystem, OfItsController, Step}
 use Rattle.nvme_machine.specs.Fencing.{namespace_bytes, LeavesReservation, PermissionsStay, FencingHolds}
 use Rattle.nvme_machine.proofs.Layouts.{step-extents, layout_stays, only_allowed_actions_reserve, fenced_events_write_nothing}
 
@@ -38,7 +39,8 @@ permissions_stay tells old new event seen n step quiet k =
     let same = step-extents tells old new event seen step in
     elim (only_allowed_actions_reserve tells old new event seen n step) [
       | inl reservation ↦ may-still old.world new.world n k (same.hosts k) reservation
-      | inr allowed ↦ absurd (quiet allowed)
+      | inr (inl allowed) ↦ absurd (quiet.0 allowed)
+      | inr (inr forgets) ↦ absurd (quiet.1 forgets)
     ]
 
 -- so of reading
@@ -48,14 +50,26 @@ reading-stays tells old new event seen n step quiet k =
     let same = step-extents tells old new event seen step in
     elim (only_allowed_actions_reserve tells old new event seen n step) [
       | inl reservation ↦ read-still old.world new.world n k (same.hosts k) reservation
-      | inr allowed ↦ absurd (quiet allowed)
+      | inr (inl allowed) ↦ absurd (quiet.0 allowed)
+      | inr (inr forgets) ↦ absurd (quiet.1 forgets)
     ]
 
--- what holds of the events in one world holds of them in the next
-still : (old new : World) (n : ℕ) (events : List Event) → ((k : ℕ) → may_write new k n ≡ may_write old k n)
-    → AllByRecursion (λ event. may_write old (controller_of event) n ≡ false) events → AllByRecursion (λ event. may_write new (controller_of event) n ≡ false) events
-still old new n [] same h = tt
-still old new n (event ∷ events) same h = (same (controller_of event) ∙ h.0, still old new n events same h.1)
+-- what holds of the controllers of events in one world holds of them in the next
+of-one : (P Q : ℕ → Type 0) → ((k : ℕ) → P k → Q k) → (event : Event) → OfItsController P event → OfItsController Q event
+of-one P Q f (Store k address bytes) h = f k h
+of-one P Q f (Write32 k offset v) h = f k h
+of-one P Q f (Read32 k offset) h = f k h
+of-one P Q f (Fetch k q) h = f k h
+of-one P Q f (Execute k i) h = f k h
+of-one P Q f PowerCycle h = tt
+
+pub of-each : (P Q : ℕ → Type 0) → ((k : ℕ) → P k → Q k) → (events : List Event) → AllByRecursion (OfItsController P) events → AllByRecursion (OfItsController Q) events
+of-each P Q f [] h = tt
+of-each P Q f (event ∷ events) h = (of-one P Q f event h.0, of-each P Q f events h.1)
+
+pub still-fenced : (old new : World) (n : ℕ) (events : List Event) → ((k : ℕ) → may_write new k n ≡ may_write old k n)
+    → AllByRecursion (OfItsController (λ k. may_write old k n ≡ false)) events → AllByRecursion (OfItsController (λ k. may_write new k n ≡ false)) events
+still-fenced old new n events same h = of-each (λ k. may_write old k n ≡ false) (λ k. may_write new k n ≡ false) (λ k fenced. same k ∙ fenced) events h
 
 pub fencing_holds : FencingHolds
 fencing_holds old new [] [] n laid run fenced = (ap (λ s. namespace_bytes s n) run, λ k. ap (λ s. may_write s.world k n) run)
@@ -64,5 +78,5 @@ fencing_holds old new (event ∷ events) [] n laid run fenced = absurd run
 fencing_holds old new (event ∷ events) (x ∷ later) n laid run fenced =
     let mid = run.0 in
     let same = permissions_stay true old mid event x n run.2 run.1 in
-    let rest = fencing_holds mid new events later n (layout_stays old mid event x laid run.2) run.3 (still old.world mid.world n events same fenced.1) in
+    let rest = fencing_holds mid new events later n (layout_stays old mid event x laid run.2) run.3 (still-fenced old.world mid.world n events same fenced.1) in
     (rest.0 ∙ fenced_events_write_nothing old mid event x n laid run.2 fenced.0, λ k. rest.1 k ∙ same k)

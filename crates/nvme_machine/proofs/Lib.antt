@@ -19,4 +19,5 @@ pub mod Calling
 pub mod EventCalls
 pub mod AllowedCalls
 pub mod FencedCalls
+pub mod PowerCycles
 pub mod CallLaws

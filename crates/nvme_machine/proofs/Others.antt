@@ -1,14 +1,16 @@
 -- An event on one controller changes of the others at most marks.
 use Rattle.std.proofs.Common.{◌≡◌, ◌≢◌, ◌⊎◌, inl, inr, ℕ, zero, suc, ◌+◌, Bool, true, false, List, [], ◌∷◌, Option, None, Some, refl, sym, ap, subst, ◌∙◌, arith}
-use Rattle.std.specs.Prelude.{if◌then◌else◌, slice_get, slice_set, option_map}
+use Rattle.std.specs.Prelude.{if◌then◌else◌, slice_get, slice_set, option_map, map}
 use Rattle.nvme_spec.specs.declared.outcome.Marks.{Marks}
 use Rattle.nvme_spec.specs.World.{World, host_of}
-use Rattle.nvme_machine.specs.declared.event.Event.TheVariants.{Store, Write32, Read32, Fetch, Execute}
+use Rattle.std.proofs.lemmas.Option.{slice_get-map}
+use Rattle.nvme_machine.specs.declared.event.Event.{Event}
+use Rattle.nvme_machine.specs.declared.event.Event.TheVariants.{Store, Write32, Read32, Fetch, Execute, PowerCycle}
 use Rattle.nvme_machine.specs.declared.fetched.FetchedCommand.{FetchedCommand}
 use Rattle.nvme_machine.specs.declared.seen.Seen.{Seen}
-use Rattle.nvme_machine.specs.Controllers.{Controller, QueuePair, Reaction, with_marks, open_pair}
+use Rattle.nvme_machine.specs.Controllers.{Controller, QueuePair, Reaction, power_cycled, with_marks, open_pair}
 use Rattle.nvme_machine.specs.Answers.{Answer}
-use Rattle.nvme_machine.specs.Subsystems.{Subsystem, ReactsAs, Completes, ExecutesAt, ExecutesOne, ExecutesOver, controller_at, with_controller, after_answer, after_execution, numbered, replaced, marked_from, is_host_among}
+use Rattle.nvme_machine.specs.Subsystems.{Subsystem, Step, ReactsAs, Completes, ExecutesAt, ExecutesOne, ExecutesOver, controller_at, controller_of, with_controller, after_answer, after_execution, after_power_cycle, numbered, replaced, marked_from, is_host_among}
 use Rattle.nvme_machine.specs.Runs.{IsMarkedBy, OthersChangeInMarksAlone}
 
 -- what marking may have made of controller k
@@ -98,9 +100,41 @@ executes : (o : Option Controller) (tells : Bool) (old new : Subsystem) (k i : �
 executes None tells old new k i seen h other apart = stays old new seen other h.1
 executes (Some c) tells old new k i seen h other apart = one (slice_get c.fetched i) tells old new k c i seen h other apart
 
+-- an event is one of a controller
+abbrev pub NamesOne : Event → Type 0
+NamesOne (Store k address bytes) = Unit {0}
+NamesOne (Write32 k offset v) = Unit {0}
+NamesOne (Read32 k offset) = Unit {0}
+NamesOne (Fetch k q) = Unit {0}
+NamesOne (Execute k i) = Unit {0}
+NamesOne PowerCycle = ⊥
+
+pub others-keep : (tells : Bool) (old new : Subsystem) (event : Event) (seen : Seen) → Step tells old event seen new → NamesOne event → (other : ℕ) → other ≢ controller_of event → Keeps old new seen other
+others-keep tells old new (Store k address bytes) seen step one other apart = reacts (controller_at old k) old new k _ seen step other apart
+others-keep tells old new (Write32 k offset v) seen step one other apart = reacts (controller_at old k) old new k _ seen step other apart
+others-keep tells old new (Read32 k offset) seen step one other apart = reacts (controller_at old k) old new k _ seen step other apart
+others-keep tells old new (Fetch k q) seen step one other apart = reacts (controller_at old k) old new k _ seen step other apart
+others-keep tells old new (Execute k i) seen step one other apart = executes (controller_at old k) tells old new k i seen step other apart
+others-keep tells old new PowerCycle seen step one other apart = absurd one
+
+-- the k-th controller after a power cycle
+cycled-numbered : (cs : List Controller) (k : ℕ) → numbered (map power_cycled cs) k ≡ option_map power_cycled (numbered cs k)
+cycled-numbered cs zero = refl
+cycled-numbered cs (suc i) = slice_get-map power_cycled cs i
+
+pub cycled-at : (old new : Subsystem) (k : ℕ) → new ≡ after_power_cycle old → controller_at new k ≡ option_map power_cycled (controller_at old k)
+unfolding after_power_cycle controller_at
+cycled-at old new k e = ap (λ s. controller_at s k) e ∙ cycled-numbered old.controllers k
+
+-- with a power cycle as a third case
+or-cycled : {A B C : Type 0} → A ⊎ B → A ⊎ B ⊎ C
+or-cycled (inl same) = inl same
+or-cycled (inr marked) = inr (inl marked)
+
 pub others_change_in_marks_alone : OthersChangeInMarksAlone
-others_change_in_marks_alone tells old new (Store k address bytes) seen step other apart = reacts (controller_at old k) old new k _ seen step other apart
-others_change_in_marks_alone tells old new (Write32 k offset v) seen step other apart = reacts (controller_at old k) old new k _ seen step other apart
-others_change_in_marks_alone tells old new (Read32 k offset) seen step other apart = reacts (controller_at old k) old new k _ seen step other apart
-others_change_in_marks_alone tells old new (Fetch k q) seen step other apart = reacts (controller_at old k) old new k _ seen step other apart
-others_change_in_marks_alone tells old new (Execute k i) seen step other apart = executes (controller_at old k) tells old new k i seen step other apart
+others_change_in_marks_alone tells old new (Store k address bytes) seen step other apart = or-cycled (others-keep tells old new (Store k address bytes) seen step tt other apart)
+others_change_in_marks_alone tells old new (Write32 k offset v) seen step other apart = or-cycled (others-keep tells old new (Write32 k offset v) seen step tt other apart)
+others_change_in_marks_alone tells old new (Read32 k offset) seen step other apart = or-cycled (others-keep tells old new (Read32 k offset) seen step tt other apart)
+others_change_in_marks_alone tells old new (Fetch k q) seen step other apart = or-cycled (others-keep tells old new (Fetch k q) seen step tt other apart)
+others_change_in_marks_alone tells old new (Execute k i) seen step other apart = or-cycled (others-keep tells old new (Execute k i) seen step tt other apart)
+others_change_in_marks_alone tells old new PowerCycle seen step other apart = inr (inr (refl, cycled-at old new other step.1))

@@ -312,6 +312,7 @@ keeps_placed = record {
   store = λ address bytes c p. stored address bytes c p;
   write = λ offset v c p. wrote-it offset v c p;
   fetch = λ q c p. fetched-it q c p;
+  cycle = λ c p. record { window = p.window; registers = begins_consistent; submission = λ q x h. absurd (none-submits q x h); completion = λ q x h. absurd (none-completes q x h) };
   finish = λ tells w d k i c t p a room answers placed. finishes tells w d k i c t p a room answers placed;
 }
 

@@ -32,7 +32,7 @@ use Rattle.nvme_spec.specs.IoData.{io_verdict}
 use Rattle.nvme_spec.specs.Execution.{Scene, ExecutesBy}
 use Rattle.nvme_spec.proofs.Passing.{has-passed}
 use Rattle.nvme_machine.specs.declared.event.Event.{Event}
-use Rattle.nvme_machine.specs.declared.event.Event.TheVariants.{Store, Write32, Read32, Fetch, Execute}
+use Rattle.nvme_machine.specs.declared.event.Event.TheVariants.{Store, Write32, Read32, Fetch, Execute, PowerCycle}
 use Rattle.nvme_machine.specs.declared.fetched.FetchedCommand.{FetchedCommand}
 use Rattle.nvme_machine.specs.declared.seen.Executed.TheVariants.{Posted}
 use Rattle.nvme_machine.specs.declared.seen.Seen.{Seen}
@@ -45,7 +45,7 @@ use Rattle.nvme_machine.specs.Placing.{IsPlaced}
 use Rattle.nvme_machine.specs.Posted.{IsUnread, PostedEntry, entry_address, StandsUnread, PostedIsUnread, Overlaps, is_touched, addresses_of, TakesByExecution, TakesByWrite, UnreadStands, UnreadStandsOverRuns}
 use Rattle.nvme_machine.proofs.Denials.{completion}
 use Rattle.nvme_machine.proofs.Everywhere.{step-keeps}
-use Rattle.nvme_machine.proofs.Others.{marks-numbered, executed-at, others_change_in_marks_alone}
+use Rattle.nvme_machine.proofs.Others.{marks-numbered, executed-at, NamesOne, others-keep}
 use Rattle.nvme_machine.proofs.Placing.{keeps_placed, answer-window, change-suits, IsOpen, is-open, slot-inside, length-entry}
 use Rattle.nvme_machine.proofs.Preempted.{change-is}
 use Rattle.nvme_machine.proofs.Slots.{unread-next, posted-unread, untouched-take, scattered-apart, overlaps-or, stored-apart, stored-there}
@@ -363,8 +363,8 @@ reacts old new k c f seen e h at u =
     ((f c).controller, ap (λ x. controller_at x k) one.1 ∙ replaced-same old.controllers k c (f c).controller at, u)
 
 elsewhere : (tells : Bool) (old new : Subsystem) (event : Event) (seen : Seen) → Step tells old event seen new → (j : ℕ) (c : Controller) (e : PostedEntry) → controller_at old j ≡ Some c → StandsUnread e c
-    → j ≢ controller_of event → Stands e (controller_at new j)
-elsewhere tells old new event seen step j c e at u other = elim (others_change_in_marks_alone tells old new event seen step j other) [
+    → NamesOne event → j ≢ controller_of event → Stands e (controller_at new j)
+elsewhere tells old new event seen step j c e at u one other = elim (others-keep tells old new event seen step one j other) [
   | inl same ↦ unmoved (controller_at old j) (controller_at new j) e same (c, at, u)
   | inr x ↦ marked-too x.outcome.marks.nsid (controller_at old j) (controller_at new j) e x.marked (c, at, u)
 ]
@@ -378,30 +378,31 @@ unread_stands tells old new (Store k address bytes) seen step placed j c e at u 
     | inl stands ↦ inl (here new k j e same (reacts old new k c (after_store address bytes.now) seen e step (ap (controller_at old) same ∙ at) stands))
     | inr over ↦ inr (same, over)
   ]
-  | inr other ↦ inl (elsewhere tells old new (Store k address bytes) seen step j c e at u (λ x. other (sym x)))
+  | inr other ↦ inl (elsewhere tells old new (Store k address bytes) seen step j c e at u tt (λ x. other (sym x)))
 ]
 unread_stands tells old new (Write32 k offset v) seen step placed j c e at u = elim (same_place k j) [
   | inl same ↦ elim (write-it offset v c e u) [
     | inl stands ↦ inl (here new k j e same (reacts old new k c (wrote offset v) seen e step (ap (controller_at old) same ∙ at) stands))
     | inr taken ↦ inr (same, taken)
   ]
-  | inr other ↦ inl (elsewhere tells old new (Write32 k offset v) seen step j c e at u (λ x. other (sym x)))
+  | inr other ↦ inl (elsewhere tells old new (Write32 k offset v) seen step j c e at u tt (λ x. other (sym x)))
 ]
 unread_stands tells old new (Read32 k offset) seen step placed j c e at u = elim (same_place k j) [
   | inl same ↦ inl (here new k j e same (reacts old new k c (has_read offset) seen e step (ap (controller_at old) same ∙ at) u))
-  | inr other ↦ inl (elsewhere tells old new (Read32 k offset) seen step j c e at u (λ x. other (sym x)))
+  | inr other ↦ inl (elsewhere tells old new (Read32 k offset) seen step j c e at u tt (λ x. other (sym x)))
 ]
 unread_stands tells old new (Fetch k q) seen step placed j c e at u = elim (same_place k j) [
   | inl same ↦ inl (here new k j e same (reacts old new k c (after_fetch q) seen e step (ap (controller_at old) same ∙ at) (fetches q c e u)))
-  | inr other ↦ inl (elsewhere tells old new (Fetch k q) seen step j c e at u (λ x. other (sym x)))
+  | inr other ↦ inl (elsewhere tells old new (Fetch k q) seen step j c e at u tt (λ x. other (sym x)))
 ]
 unread_stands tells old new (Execute k i) seen step placed j c e at u = elim (same_place k j) [
   | inl same ↦ elim (executes tells old new k i c seen e (ap (controller_at old) same ∙ at) step (placed j c at) u) [
     | inl stands ↦ inl (here new k j e same stands)
     | inr taken ↦ inr (same, taken)
   ]
-  | inr other ↦ inl (elsewhere tells old new (Execute k i) seen step j c e at u (λ x. other (sym x)))
+  | inr other ↦ inl (elsewhere tells old new (Execute k i) seen step j c e at u tt (λ x. other (sym x)))
 ]
+unread_stands tells old new PowerCycle seen step placed j c e at u = inr tt
 
 pub unread_stands_over_runs : UnreadStandsOverRuns
 unread_stands_over_runs tells old new [] [] j e run placed c at u = (c, ap (λ s. controller_at s j) run ∙ at, u)

@@ -12,7 +12,7 @@ use Rattle.nvme_spec.specs.Memory.{window_size}
 use Rattle.nvme_spec.specs.Registers.{after_write}
 use Rattle.nvme_spec.specs.AdminEffects.{admin_execution}
 use Rattle.nvme_machine.specs.declared.event.Event.{Event}
-use Rattle.nvme_machine.specs.declared.event.Event.TheVariants.{Store, Write32, Read32, Fetch, Execute}
+use Rattle.nvme_machine.specs.declared.event.Event.TheVariants.{Store, Write32, Read32, Fetch, Execute, PowerCycle}
 use Rattle.nvme_machine.specs.declared.fetched.FetchedCommand.{FetchedCommand}
 use Rattle.nvme_machine.specs.declared.seen.Seen.{Seen}
 use Rattle.nvme_machine.specs.declared.seen.Seen.TheVariants.{Stored, Outside}
@@ -21,7 +21,7 @@ use Rattle.nvme_machine.specs.Answers.{Answer, Answers, AnswersAs}
 use Rattle.nvme_machine.specs.Subsystems.{Subsystem, Step, ReactsAs, Completes, ExecutesAt, ExecutesOne, ExecutesOver, controller_at, controller_of, with_controller, after_answer, numbered, replaced, scene_of}
 use Rattle.nvme_machine.specs.Runs.{IsStill}
 use Rattle.nvme_machine.specs.Preempted.{empties, is_emptied, change_of, is_dropped, moved_up, place_posted, place_over, place_one, place_executed, place_after, StandsAt, CommandsAreFollowed, RunKeeping, PreemptedStaysOut}
-use Rattle.nvme_machine.proofs.Others.{marks-numbered, executed-at, others_change_in_marks_alone}
+use Rattle.nvme_machine.proofs.Others.{marks-numbered, executed-at, NamesOne, others-keep}
 use Rattle.nvme_machine.proofs.Staying.{got-map, still-marked, got-front, replaced-same, same_place}
 use Rattle.nvme_machine.proofs.Marking.{io_name, marked_is_aborted, preempted_commands_are_marked}
 
@@ -190,10 +190,10 @@ wrote-at offset v c e = effect-at (after_write c.registers offset v).effect (rec
 
 -- another controller's event
 elsewhere : (tells : Bool) (old new : Subsystem) (event : Event) (seen : Seen) → Step tells old event seen new → (j m : ℕ) (c : Controller) (t : FetchedCommand) → controller_at old j ≡ Some c → slice_get c.fetched m ≡ Some t
-    → j ≢ controller_of event → AtOf (controller_at new j) t m
-elsewhere tells old new event seen step j m c t at found other =
+    → NamesOne event → j ≢ controller_of event → AtOf (controller_at new j) t m
+elsewhere tells old new event seen step j m c t at found one other =
     let here : AtOf (controller_at old j) t m = (c, at, as-it-is t c.fetched m found) in
-    elim (others_change_in_marks_alone tells old new event seen step j other) [
+    elim (others-keep tells old new event seen step one j other) [
       | inl same ↦ unmoved (controller_at old j) (controller_at new j) t m same here
       | inr x ↦ marked-at x.outcome.marks.nsid t (controller_at old j) (controller_at new j) m x.marked here
     ]
@@ -214,15 +214,15 @@ unfolding place_after
 commands_are_followed tells old new (Store k address bytes) seen step j m l c t at found place = elim (same_place k j) [
   | inl same ↦ moved-at new k j t m l same place (reacted old new k c (after_store address bytes.now) seen t m step (ap (λ x. controller_at old x) same ∙ at)
       (as-it-is t _ m (ap (λ xs. slice_get xs m) (stored-at address bytes.now c) ∙ found)))
-  | inr other ↦ replaced-at new j t m l place (elsewhere tells old new (Store k address bytes) seen step j m c t at found (λ e. other (sym e)))
+  | inr other ↦ replaced-at new j t m l place (elsewhere tells old new (Store k address bytes) seen step j m c t at found tt (λ e. other (sym e)))
 ]
 commands_are_followed tells old new (Read32 k offset) seen step j m l c t at found place = elim (same_place k j) [
   | inl same ↦ moved-at new k j t m l same place (reacted old new k c (has_read offset) seen t m step (ap (λ x. controller_at old x) same ∙ at) (as-it-is t c.fetched m found))
-  | inr other ↦ replaced-at new j t m l place (elsewhere tells old new (Read32 k offset) seen step j m c t at found (λ e. other (sym e)))
+  | inr other ↦ replaced-at new j t m l place (elsewhere tells old new (Read32 k offset) seen step j m c t at found tt (λ e. other (sym e)))
 ]
 commands_are_followed tells old new (Fetch k q) seen step j m l c t at found place = elim (same_place k j) [
   | inl same ↦ moved-at new k j t m l same place (reacted old new k c (after_fetch q) seen t m step (ap (λ x. controller_at old x) same ∙ at) (as-it-is t _ m (fetched-at q c t m found)))
-  | inr other ↦ replaced-at new j t m l place (elsewhere tells old new (Fetch k q) seen step j m c t at found (λ e. other (sym e)))
+  | inr other ↦ replaced-at new j t m l place (elsewhere tells old new (Fetch k q) seen step j m c t at found tt (λ e. other (sym e)))
 ]
 commands_are_followed tells old new (Write32 k offset v) seen step j m l c t at found place =
     let r = own-write (k == j && is_emptied (controller_at old j) offset v) m l place in
@@ -231,7 +231,7 @@ commands_are_followed tells old new (Write32 k offset v) seen step j m l c t at 
           ap (λ o. is_emptied o offset v) (sym at) ∙ sym (ap (λ b. b && is_emptied (controller_at old j) offset v) (eq-eqb k j same)) ∙ r.0 in
           moved-at new k j t m l same r.1 (reacted old new k c (wrote offset v) seen t m step (ap (λ x. controller_at old x) same ∙ at)
           (as-it-is t _ m (ap (λ xs. slice_get xs m) (wrote-at offset v c quiet) ∙ found))))
-      | inr other ↦ replaced-at new j t m l r.1 (elsewhere tells old new (Write32 k offset v) seen step j m c t at found (λ e. other (sym e)))
+      | inr other ↦ replaced-at new j t m l r.1 (elsewhere tells old new (Write32 k offset v) seen step j m c t at found tt (λ e. other (sym e)))
     ]
 commands_are_followed tells old new (Execute k i) seen step j m l c t at found place = elim (cases_Bool (k == j)) [
   | inl here ↦ (let same : k ≡ j = eqb-true k j here in
@@ -239,8 +239,9 @@ commands_are_followed tells old new (Execute k i) seen step j m l c t at found p
       executed tells old new j c i m l t seen (subst (λ x. Step tells old (Execute x i) seen new) same step) at found there)
   | inr there ↦ (let other = eqb-false k j there in
       let stays : Some m ≡ Some l = ap (λ b. if b then place_executed (controller_at old j) old j i m else Some m) (sym there) ∙ place in
-      replaced-at new j t m l stays (elsewhere tells old new (Execute k i) seen step j m c t at found (λ e. other (sym e))))
+      replaced-at new j t m l stays (elsewhere tells old new (Execute k i) seen step j m c t at found tt (λ e. other (sym e))))
 ]
+commands_are_followed tells old new PowerCycle seen step j m l c t at found place = absurd (none-some _ place)
 
 -- Runs.
 

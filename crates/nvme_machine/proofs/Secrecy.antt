@@ -2,20 +2,21 @@
 use Rattle.std.proofs.Common.{◌≡◌, ℕ, ◌-◌, ◌^◌, ◌<◌, true, false, List, [], ◌∷◌, Option, None, Some, refl, sym, ap, subst, ◌∙◌}
 use Rattle.std.specs.Prelude.{slice_get}
 use Rattle.nvme_spec.specs.Blocks.{Device}
+use Rattle.nvme_spec.specs.Commands.{reserving}
 use Rattle.nvme_spec.specs.World.{World}
 use Rattle.nvme_spec.specs.Layout.{bytes_at, IsLaidOut, may_read}
 use Rattle.nvme_machine.specs.declared.event.Event.{Event}
-use Rattle.nvme_machine.specs.declared.event.Event.TheVariants.{Store, Write32, Read32, Fetch, Execute}
+use Rattle.nvme_machine.specs.declared.event.Event.TheVariants.{Store, Write32, Read32, Fetch, Execute, PowerCycle}
 use Rattle.nvme_machine.specs.declared.fetched.FetchedCommand.{FetchedCommand}
 use Rattle.nvme_machine.specs.declared.seen.Seen.{Seen}
 use Rattle.nvme_machine.specs.Controllers.{Controller, QueuePair, Reaction, queues_of, open_pair}
 use Rattle.nvme_machine.specs.Answers.{Answer}
-use Rattle.nvme_machine.specs.Subsystems.{Subsystem, Step, Run, ReactsAs, Completes as Finishes, ExecutesAt, ExecutesOne, ExecutesOver, controller_at, controller_of, with_controller, scene_of, after_answer, after_execution}
-use Rattle.nvme_machine.specs.Fencing.{RunWhere, LeavesReservation}
+use Rattle.nvme_machine.specs.Subsystems.{Subsystem, Step, Run, ReactsAs, Completes as Finishes, ExecutesAt, ExecutesOne, ExecutesOver, OfItsController, controller_at, with_controller, scene_of, after_answer, after_execution, after_power_cycle}
+use Rattle.nvme_machine.specs.Fencing.{RunWhere, Allows, Forgets, LeavesReservation}
 use Rattle.nvme_machine.specs.Secrecy.{over, DifferIn, MayNotRead, FencedReading, FencedReadingIsSame}
 use Rattle.nvme_machine.proofs.AdminWorlds.{HasSameExtents}
 use Rattle.nvme_machine.proofs.Determined.{run_is_unique}
-use Rattle.nvme_machine.proofs.Fencing.{reading-stays}
+use Rattle.nvme_machine.proofs.Fencing.{reading-stays, of-each}
 use Rattle.nvme_machine.proofs.Layouts.{step-extents, layout_stays}
 use Rattle.nvme_machine.proofs.SecretCommands.{Mirrors, answer_over, answers-over}
 
@@ -67,8 +68,14 @@ executes : (o : Option Controller) (n : ℕ) (old new : Subsystem) (k i : ℕ) (
 executes None n old new k i seen d laid differ fenced h = (d, (h.0, ap (over d) h.1), whole n old new d differ h.1)
 executes (Some c) n old new k i seen d laid differ fenced h = executes-one (slice_get c.fetched i) n old new k c i seen d laid differ fenced h
 
+cycles : (n : ℕ) (old new : Subsystem) (seen : Seen) (d : Device) → DifferIn n old.world old.device d → Step true old PowerCycle seen new
+    → MirrorsStep n old new (λ x. Step true (over d old) PowerCycle seen (over x new))
+unfolding after_power_cycle
+cycles n old new seen d differ h =
+    (d, (h.0, ap (over d) h.1), subst (λ x. DifferIn n old.world x d) (sym (ap (λ (s : Subsystem). s.device) h.1)) differ)
+
 pub step-over : (n : ℕ) (old new : Subsystem) (event : Event) (seen : Seen) (d : Device) → IsLaidOut old.world old.device.content → DifferIn n old.world old.device d
-    → may_read old.world (controller_of event) n ≡ false → Step true old event seen new
+    → OfItsController (λ k. may_read old.world k n ≡ false) event → Step true old event seen new
     → MirrorsStep n old new (λ x. Step true (over d old) event seen (over x new))
 unfolding controller_at
 step-over n old new (Store k address bytes) seen d laid differ fenced h = reacts (controller_at old k) n old new k _ seen d differ h
@@ -76,17 +83,30 @@ step-over n old new (Write32 k offset v) seen d laid differ fenced h = reacts (c
 step-over n old new (Read32 k offset) seen d laid differ fenced h = reacts (controller_at old k) n old new k _ seen d differ h
 step-over n old new (Fetch k q) seen d laid differ fenced h = reacts (controller_at old k) n old new k _ seen d differ h
 step-over n old new (Execute k i) seen d laid differ fenced h = executes (controller_at old k) n old new k i seen d laid differ fenced h
+step-over n old new PowerCycle seen d laid differ fenced h = cycles n old new seen d differ h
 
 -- Runs.
 
-leaves-over : (n : ℕ) (s : Subsystem) (d : Device) (event : Event) → LeavesReservation n s event → LeavesReservation n (over d s) event
+reserves-over : (n : ℕ) (s : Subsystem) (d : Device) (event : Event) → Allows reserving (over d s) event n → Allows reserving s event n
 unfolding controller_at
-leaves-over n s d (Store k address bytes) quiet h = h
-leaves-over n s d (Write32 k offset v) quiet h = h
-leaves-over n s d (Read32 k offset) quiet h = h
-leaves-over n s d (Fetch k q) quiet h = h
-leaves-over n s d (Execute k i) quiet h =
-    quiet (record { controller = h.controller; command = h.command; at = h.at; found = h.found; named = h.named; allowed = h.allowed })
+reserves-over n s d (Store k address bytes) h = h
+reserves-over n s d (Write32 k offset v) h = h
+reserves-over n s d (Read32 k offset) h = h
+reserves-over n s d (Fetch k q) h = h
+reserves-over n s d (Execute k i) h =
+    record { controller = h.controller; command = h.command; at = h.at; found = h.found; named = h.named; allowed = h.allowed }
+reserves-over n s d PowerCycle h = h
+
+forgets-over : (n : ℕ) (s : Subsystem) (d : Device) (event : Event) → Forgets (over d s) event n → Forgets s event n
+forgets-over n s d (Store k address bytes) h = h
+forgets-over n s d (Write32 k offset v) h = h
+forgets-over n s d (Read32 k offset) h = h
+forgets-over n s d (Fetch k q) h = h
+forgets-over n s d (Execute k i) h = h
+forgets-over n s d PowerCycle h = h
+
+leaves-over : (n : ℕ) (s : Subsystem) (d : Device) (event : Event) → LeavesReservation n s event → LeavesReservation n (over d s) event
+leaves-over n s d event quiet = (λ h. quiet.0 (reserves-over n s d event h), λ h. quiet.1 (forgets-over n s d event h))
 
 -- the extents are the same after a step
 pub differ-still : (n : ℕ) (v w : World) (d e : Device) → HasSameExtents v w → DifferIn n v d e → DifferIn n w d e
@@ -98,8 +118,7 @@ differ-still n v w d e same differ = record {
 }
 
 still : (old new : World) (n : ℕ) (events : List Event) → ((k : ℕ) → may_read new k n ≡ may_read old k n) → MayNotRead old n events → MayNotRead new n events
-still old new n [] same h = tt
-still old new n (event ∷ events) same h = (same (controller_of event) ∙ h.0, still old new n events same h.1)
+still old new n events same h = of-each (λ k. may_read old k n ≡ false) (λ k. may_read new k n ≡ false) (λ k fenced. same k ∙ fenced) events h
 
 pub fenced_reading : FencedReading
 fenced_reading old new d [] [] n laid differ run fenced =

@@ -13,7 +13,7 @@ use Rattle.nvme_spec.specs.Registers.{after_write}
 use Rattle.nvme_spec.specs.Execution.{Scene}
 use Rattle.nvme_spec.specs.AdminEffects.{admin_execution}
 use Rattle.nvme_machine.specs.declared.event.Event.{Event}
-use Rattle.nvme_machine.specs.declared.event.Event.TheVariants.{Store, Write32, Read32, Fetch, Execute}
+use Rattle.nvme_machine.specs.declared.event.Event.TheVariants.{Store, Write32, Read32, Fetch, Execute, PowerCycle}
 use Rattle.nvme_machine.specs.declared.fetched.FetchedCommand.{FetchedCommand}
 use Rattle.nvme_machine.specs.declared.seen.Seen.{Seen}
 use Rattle.nvme_machine.specs.declared.seen.Seen.TheVariants.{Stored, Outside}
@@ -21,7 +21,7 @@ use Rattle.nvme_machine.specs.Controllers.{Controller, SubmissionQueue, QueuePai
 use Rattle.nvme_machine.specs.Answers.{Answer, Answers, AnswersAs}
 use Rattle.nvme_machine.specs.Subsystems.{Subsystem, Step, ReactsAs, Completes, ExecutesAt, ExecutesOne, ExecutesOver, controller_at, controller_of, with_controller, after_answer, numbered, replaced, scene_of}
 use Rattle.nvme_machine.specs.Runs.{IsStill, StandsIn, Deletes, IsReset, FetchedStays}
-use Rattle.nvme_machine.proofs.Others.{marks-numbered, executed-at, others_change_in_marks_alone}
+use Rattle.nvme_machine.proofs.Others.{marks-numbered, executed-at, NamesOne, others-keep}
 
 stands : (t : FetchedCommand) (d : Controller) (m : ℕ) → slice_get d.fetched m ≡ Some t → StandsIn t d
 stands t d m found = record { place = m; found_as = t; found = found; still = record { entry = refl; queue = refl; marked = λ h. h } }
@@ -217,8 +217,8 @@ executes tells old new k c i m t seen h at found =
 
 -- another controller's event
 elsewhere : (tells : Bool) (old new : Subsystem) (event : Event) (seen : Seen) → Step tells old event seen new → (j m : ℕ) (c : Controller) (t : FetchedCommand) → controller_at old j ≡ Some c → slice_get c.fetched m ≡ Some t
-    → j ≢ controller_of event → Stands new j t
-elsewhere tells old new event seen step j m c t at found other = elim (others_change_in_marks_alone tells old new event seen step j other) [
+    → NamesOne event → j ≢ controller_of event → Stands new j t
+elsewhere tells old new event seen step j m c t at found one other = elim (others-keep tells old new event seen step one j other) [
   | inl same ↦ (c, same ∙ at, stands t c m found)
   | inr x ↦ stands-marked-at x.outcome.marks.nsid t (controller_at old j) (controller_at new j) c x.marked at (stands t c m found)
 ]
@@ -229,27 +229,28 @@ moved s k j t same r = (r.0, ap (λ x. controller_at s x) (sym same) ∙ r.1, r.
 pub fetched_stays : FetchedStays
 fetched_stays tells old new (Store k address bytes) seen step j m c t at found = elim (same_place k j) [
   | inl same ↦ inl (moved new k j t same (reacts-at old new k c (after_store address bytes.now) seen t step (ap (λ x. controller_at old x) same ∙ at) (stored address bytes.now c t m found)))
-  | inr other ↦ inl (elsewhere tells old new (Store k address bytes) seen step j m c t at found (λ e. other (sym e)))
+  | inr other ↦ inl (elsewhere tells old new (Store k address bytes) seen step j m c t at found tt (λ e. other (sym e)))
 ]
 fetched_stays tells old new (Read32 k offset) seen step j m c t at found = elim (same_place k j) [
   | inl same ↦ inl (moved new k j t same (reacts-at old new k c (has_read offset) seen t step (ap (λ x. controller_at old x) same ∙ at) (read offset c t m found)))
-  | inr other ↦ inl (elsewhere tells old new (Read32 k offset) seen step j m c t at found (λ e. other (sym e)))
+  | inr other ↦ inl (elsewhere tells old new (Read32 k offset) seen step j m c t at found tt (λ e. other (sym e)))
 ]
 fetched_stays tells old new (Fetch k q) seen step j m c t at found = elim (same_place k j) [
   | inl same ↦ inl (moved new k j t same (reacts-at old new k c (after_fetch q) seen t step (ap (λ x. controller_at old x) same ∙ at) (took-one q c t m found)))
-  | inr other ↦ inl (elsewhere tells old new (Fetch k q) seen step j m c t at found (λ e. other (sym e)))
+  | inr other ↦ inl (elsewhere tells old new (Fetch k q) seen step j m c t at found tt (λ e. other (sym e)))
 ]
 fetched_stays tells old new (Write32 k offset v) seen step j m c t at found = elim (same_place k j) [
   | inl same ↦ elim (wrote offset v c t m found) [
     | inl s ↦ inl (moved new k j t same (reacts-at old new k c (wrote_register offset v) seen t step (ap (λ x. controller_at old x) same ∙ at) s))
     | inr reset ↦ inr (same, reset)
   ]
-  | inr other ↦ inl (elsewhere tells old new (Write32 k offset v) seen step j m c t at found (λ e. other (sym e)))
+  | inr other ↦ inl (elsewhere tells old new (Write32 k offset v) seen step j m c t at found tt (λ e. other (sym e)))
 ]
 fetched_stays tells old new (Execute k i) seen step j m c t at found = elim (same_place k j) [
   | inl same ↦ elim (executes tells old new k c i m t seen step (ap (λ x. controller_at old x) same ∙ at) found) [
     | inl s ↦ inl (moved new k j t same s)
     | inr gone ↦ inr (same, gone)
   ]
-  | inr other ↦ inl (elsewhere tells old new (Execute k i) seen step j m c t at found (λ e. other (sym e)))
+  | inr other ↦ inl (elsewhere tells old new (Execute k i) seen step j m c t at found tt (λ e. other (sym e)))
 ]
+fetched_stays tells old new PowerCycle seen step j m c t at found = inr tt

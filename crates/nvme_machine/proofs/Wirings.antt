@@ -368,6 +368,7 @@ keeps_wired = record {
   store = λ address bytes c w. action-store address bytes c w;
   write = λ offset v c w. action-write offset v c w;
   fetch = λ q c w. action-fetch q c w;
+  cycle = λ c w. record { fetched = λ i t h. absurd (none-some _ h); completes = λ q s h. absurd (none-alone q s h) };
   finish = λ tells w d k i c t p a room answers wired. finishes tells (record { world = w; window = c.window; device = d }) k c i t p a answers wired;
 }
 

@@ -16,13 +16,13 @@ use Rattle.nvme_spec.specs.MediumCalls.{MediumAnswer, MediumCall, Reads, Writes,
 use Rattle.nvme_spec.specs.Statuses as status
 use Rattle.nvme_spec.specs.World.{World, Namespace, namespace_of}
 use Rattle.nvme_machine.specs.declared.event.Event.{Event}
-use Rattle.nvme_machine.specs.declared.event.Event.TheVariants.{Store, Write32, Read32, Fetch, Execute}
+use Rattle.nvme_machine.specs.declared.event.Event.TheVariants.{Store, Write32, Read32, Fetch, Execute, PowerCycle}
 use Rattle.nvme_machine.specs.declared.fetched.FetchedCommand.{FetchedCommand}
 use Rattle.nvme_machine.specs.declared.seen.Executed.TheVariants.{Posted}
 use Rattle.nvme_machine.specs.declared.seen.Seen.{Seen}
 use Rattle.nvme_machine.specs.declared.seen.Seen.TheVariants.{Executed}
 use Rattle.nvme_machine.specs.Controllers.{Controller, QueuePair, names}
-use Rattle.nvme_machine.specs.Subsystems.{Subsystem, Run, controller_at, controller_of}
+use Rattle.nvme_machine.specs.Subsystems.{Subsystem, Run, controller_at, OfItsController}
 use Rattle.nvme_machine.specs.EventCalls.{AreCallsOfStep, AreCallsOfRun}
 use Rattle.nvme_machine.specs.Fencing.{IsAllowedAt, LeavesReservation}
 use Rattle.nvme_machine.specs.Runs.{Waits}
@@ -74,6 +74,7 @@ MayCall s (Store k address bytes) call = ⊥
 MayCall s (Write32 k offset v) call = ⊥
 MayCall s (Read32 k offset) call = ⊥
 MayCall s (Fetch k q) call = ⊥
+MayCall s PowerCycle call = ⊥
 
 -- A block is written only by a Write or Write Zeroes that all rules let pass, on a namespace that the block belongs to
 -- and that the reservation lets its host write, with that command's bytes; it is read only by such a Read or Compare,
@@ -138,14 +139,15 @@ CallsWhere P tells old (event ∷ events) (seen ∷ later) new calls =
 CallsWhere P tells old [] (seen ∷ later) new calls = ⊥
 CallsWhere P tells old (event ∷ events) [] new calls = ⊥
 
--- Fencing holds of the calls: while no reservation command on a namespace is executed but denied ones, no call of hosts
--- that may not write it writes any of its blocks, whatever they store, write, fetch, execute and reset, in any order.
+-- Fencing holds of the calls: while no reservation command on a namespace is executed but denied ones, and power is not
+-- lost or the reservation persists, no call of hosts that may not write it writes any of its blocks, whatever they
+-- store, write, fetch, execute and reset, in any order.
 abbrev pub FencedHostsWriteNoBlock : Type 0
 FencedHostsWriteNoBlock =
     (tells : Bool) → (old new : Subsystem) → (events : List Event) → (seen : List Seen) → (calls : List MediumCall)
     → (n : ℕ) → (x : Extent) → HaveTheirOwn old.world → extent_of old.world n ≡ Some x
     → CallsWhere (LeavesReservation n) tells old events seen new calls
-    → AllByRecursion (λ event. may_write old.world (controller_of event) n ≡ false) events
+    → AllByRecursion (OfItsController (λ k. may_write old.world k n ≡ false)) events
     → AllByRecursion (KeepsOff x) calls
 
 -- A Flush that all rules let pass is one flush call, and its answer is that of the call: success where it passed.

@@ -58,6 +58,10 @@ new_controller k = record {
   window = zeros;
 }
 
+-- Power is lost, and comes back: the controller is as one that was never enabled, and its host's memory stays.
+abbrev pub power_cycled : Controller → Controller
+power_cycled c = record (new_controller c.cntlid) { window = c.window }
+
 abbrev pub submission_at : Controller → ℕ → Option SubmissionQueue
 submission_at c q = slice_index_or c.submission q None
 

@@ -3,13 +3,13 @@
 use Rattle.std.specs.Prelude.{◌≡◌, ℕ, Bool, List, [], ◌∷◌, ◌++◌, Option, None, Some, slice_get}
 use Rattle.nvme_spec.specs.MediumCalls.{MediumCall}
 use Rattle.nvme_machine.specs.declared.event.Event.{Event}
-use Rattle.nvme_machine.specs.declared.event.Event.TheVariants.{Store, Write32, Read32, Fetch, Execute}
+use Rattle.nvme_machine.specs.declared.event.Event.TheVariants.{Store, Write32, Read32, Fetch, Execute, PowerCycle}
 use Rattle.nvme_machine.specs.declared.fetched.FetchedCommand.{FetchedCommand}
 use Rattle.nvme_machine.specs.declared.seen.Executed.TheVariants.{NoSuch, CqFull}
 use Rattle.nvme_machine.specs.declared.seen.Seen.{Seen}
-use Rattle.nvme_machine.specs.declared.seen.Seen.TheVariants.{Executed, NoController}
+use Rattle.nvme_machine.specs.declared.seen.Seen.TheVariants.{Executed, Cycled, NoController}
 use Rattle.nvme_machine.specs.Controllers.{Controller, QueuePair, after_store, wrote, has_read, after_fetch, open_pair}
-use Rattle.nvme_machine.specs.Subsystems.{Subsystem, Completes, Reacts, Step, Run, controller_at, scene_of}
+use Rattle.nvme_machine.specs.Subsystems.{Subsystem, Completes, Reacts, Step, Run, controller_at, scene_of, after_power_cycle}
 use Rattle.nvme_machine.specs.Calling.{AreCallsOfAnswer}
 
 -- A command is executed: it has an answer, all is as that says, and it has made the calls of that very answer.
@@ -41,6 +41,8 @@ AreCallsOfStep tells old (Write32 k offset v) seen new calls = Reacts old k (wro
 AreCallsOfStep tells old (Read32 k offset) seen new calls = Reacts old k (has_read offset) seen new × (calls ≡ [])
 AreCallsOfStep tells old (Fetch k q) seen new calls = Reacts old k (after_fetch q) seen new × (calls ≡ [])
 AreCallsOfStep tells old (Execute k i) seen new calls = CallingAt (controller_at old k) tells old k i seen new calls
+AreCallsOfStep tells old PowerCycle seen new calls =
+    (seen ≡ Cycled) × (new ≡ after_power_cycle old) × (calls ≡ [])
 
 -- Events, one after the other, and the calls that they make, one after the other. Between two events there is one
 -- state, and the calls of the first come before those of the second.

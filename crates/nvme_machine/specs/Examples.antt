@@ -1,5 +1,6 @@
 -- What the worked examples speak of.
 use Rattle.std.specs.Prelude.{ℕ, true, false, List, [], ◌∷◌, ◌++◌, None, Some, replicate}
+use Rattle.nvme_spec.specs.declared.access.Protection.TheVariants.{Protected}
 use Rattle.nvme_spec.specs.Configuration.{Configuration}
 use Rattle.nvme_spec.specs.Entries.{transfer_entry, command_entry}
 use Rattle.nvme_spec.specs.Examples.{controller, namespace}
@@ -57,7 +58,7 @@ having commands = record {
 
 -- the same, where the namespace is write protected
 abbrev pub protected_having : List FetchedCommand → Subsystem
-protected_having commands = record (having commands) { world = with_protection (opening_world small) 1 true }
+protected_having commands = record (having commands) { world = with_protection (opening_world small) 1 Protected }
 
 -- its host stores at the front of the window
 abbrev pub stores : List ℕ → Event

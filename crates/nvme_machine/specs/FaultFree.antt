@@ -6,14 +6,14 @@ use Rattle.nvme_spec.specs.Execution.{Scene}
 use Rattle.nvme_spec.specs.FaultFree.{Execution, fault_free_execution}
 use Rattle.nvme_spec.specs.AdminEffects.{admin_execution}
 use Rattle.nvme_machine.specs.declared.event.Event.{Event}
-use Rattle.nvme_machine.specs.declared.event.Event.TheVariants.{Store, Write32, Read32, Fetch, Execute}
+use Rattle.nvme_machine.specs.declared.event.Event.TheVariants.{Store, Write32, Read32, Fetch, Execute, PowerCycle}
 use Rattle.nvme_machine.specs.declared.fetched.FetchedCommand.{FetchedCommand}
 use Rattle.nvme_machine.specs.declared.seen.Executed.TheVariants.{Posted, NoSuch, CqFull}
 use Rattle.nvme_machine.specs.declared.seen.Seen.{Seen}
-use Rattle.nvme_machine.specs.declared.seen.Seen.TheVariants.{Executed, NoController}
+use Rattle.nvme_machine.specs.declared.seen.Seen.TheVariants.{Executed, Cycled, NoController}
 use Rattle.nvme_machine.specs.Controllers.{Controller, QueuePair, Reaction, queues_of, after_store, wrote, has_read, after_fetch, open_pair}
 use Rattle.nvme_machine.specs.Answers.{Answer, admin_answer}
-use Rattle.nvme_machine.specs.Subsystems.{Subsystem, controller_at, with_controller, scene_of, after_execution}
+use Rattle.nvme_machine.specs.Subsystems.{Subsystem, controller_at, with_controller, scene_of, after_execution, after_power_cycle}
 
 abbrev pub io_answer : Execution → Answer
 io_answer x = record { outcome = x.outcome; change = Keep; left = x.left }
@@ -57,6 +57,7 @@ fault_free_step s (Write32 k offset v) = reacting (controller_at s k) s k (wrote
 fault_free_step s (Read32 k offset) = reacting (controller_at s k) s k (has_read offset)
 fault_free_step s (Fetch k q) = reacting (controller_at s k) s k (after_fetch q)
 fault_free_step s (Execute k i) = executing (controller_at s k) s k i
+fault_free_step s PowerCycle = moment Cycled (after_power_cycle s)
 
 -- what the events give, one after the other
 abbrev pub fault_free_seen : Subsystem → List Event → List Seen

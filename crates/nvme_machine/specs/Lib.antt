@@ -14,6 +14,7 @@ pub mod Secrecy
 pub mod Preempted
 pub mod Placing
 pub mod Posted
+pub mod PowerCycles
 pub mod FaultFreeCalls
 pub mod CallLaws
 pub mod Examples

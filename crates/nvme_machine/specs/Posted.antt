@@ -13,7 +13,7 @@ use Rattle.nvme_spec.specs.Commands as io
 use Rattle.nvme_spec.specs.AdminCommands as admin
 use Rattle.nvme_spec.specs.DataRules.{data_addresses}
 use Rattle.nvme_machine.specs.declared.event.Event.{Event}
-use Rattle.nvme_machine.specs.declared.event.Event.TheVariants.{Store, Write32, Read32, Fetch, Execute}
+use Rattle.nvme_machine.specs.declared.event.Event.TheVariants.{Store, Write32, Read32, Fetch, Execute, PowerCycle}
 use Rattle.nvme_machine.specs.declared.fetched.FetchedCommand.{FetchedCommand}
 use Rattle.nvme_machine.specs.declared.seen.Executed.TheVariants.{Posted}
 use Rattle.nvme_machine.specs.declared.seen.Seen.{Seen}
@@ -115,10 +115,11 @@ TakesEntry s j c e (Store k address bytes) = (k ≡ j) × Overlaps address (leng
 TakesEntry s j c e (Write32 k offset v) = (k ≡ j) × TakesByWrite c e (after_write c.registers offset v).effect
 TakesEntry s j c e (Read32 k offset) = ⊥
 TakesEntry s j c e (Fetch k q) = ⊥
+TakesEntry s j c e PowerCycle = Unit {0}
 TakesEntry s j c e (Execute k i) = (k ≡ j) × TakesByExecution s k c i e
 
 -- An unread entry stands, whatever any controller does, and no later completion takes its slot, until an event of its
--- own host takes it.
+-- own host takes it, or power is lost.
 abbrev pub UnreadStands : Type 0
 UnreadStands =
     (tells : Bool) → (old new : Subsystem) → (event : Event) → (seen : Seen) → Step tells old event seen new

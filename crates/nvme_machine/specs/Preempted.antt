@@ -16,7 +16,7 @@ use Rattle.nvme_spec.specs.IoData.{reservation_outcome, data_of}
 use Rattle.nvme_spec.specs.AdminEffects.{admin_execution}
 use Rattle.nvme_spec.specs.Execution.{removed_by, denial_outcome}
 use Rattle.nvme_machine.specs.declared.event.Event.{Event}
-use Rattle.nvme_machine.specs.declared.event.Event.TheVariants.{Store, Write32, Read32, Fetch, Execute}
+use Rattle.nvme_machine.specs.declared.event.Event.TheVariants.{Store, Write32, Read32, Fetch, Execute, PowerCycle}
 use Rattle.nvme_machine.specs.declared.fetched.FetchedCommand.{FetchedCommand}
 use Rattle.nvme_machine.specs.declared.seen.Executed.TheVariants.{Posted}
 use Rattle.nvme_machine.specs.declared.seen.Seen.{Seen}
@@ -81,6 +81,7 @@ place_after s j m (Write32 k offset v) = if k == j && is_emptied (controller_at 
 place_after s j m (Read32 k offset) = Some m
 place_after s j m (Fetch k q) = Some m
 place_after s j m (Execute k i) = if k == j then place_executed (controller_at s j) s j i m else Some m
+place_after s j m PowerCycle = None
 
 -- a command stands at this place of a list, marked where it was
 pub record StandsAt (t : FetchedCommand) (commands : List FetchedCommand) (l : ℕ) : Type 0 where

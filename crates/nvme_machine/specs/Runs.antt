@@ -14,12 +14,12 @@ use Rattle.nvme_spec.specs.Execution.{Scene, IsPerformed, denial_outcome}
 use Rattle.nvme_spec.specs.Layout.{IsLaidOut}
 use Rattle.nvme_spec.specs.AdminEffects.{admin_execution}
 use Rattle.nvme_machine.specs.declared.event.Event.{Event}
-use Rattle.nvme_machine.specs.declared.event.Event.TheVariants.{Store, Write32, Read32, Fetch, Execute}
+use Rattle.nvme_machine.specs.declared.event.Event.TheVariants.{Store, Write32, Read32, Fetch, Execute, PowerCycle}
 use Rattle.nvme_machine.specs.declared.fetched.FetchedCommand.{FetchedCommand}
 use Rattle.nvme_machine.specs.declared.seen.Executed.TheVariants.{Posted}
 use Rattle.nvme_machine.specs.declared.seen.Seen.{Seen}
 use Rattle.nvme_machine.specs.declared.seen.Seen.TheVariants.{Executed}
-use Rattle.nvme_machine.specs.Controllers.{Controller, QueuePair, queues_of, open_pair, after_posting, with_marks}
+use Rattle.nvme_machine.specs.Controllers.{Controller, QueuePair, queues_of, open_pair, after_posting, with_marks, power_cycled}
 use Rattle.nvme_machine.specs.Answers.{judgement}
 use Rattle.nvme_machine.specs.Subsystems.{Subsystem, Step, Run, controller_at, controller_of, with_controller, scene_of, is_host_among, after_execution}
 use Rattle.nvme_machine.specs.FaultFree.{fault_free_seen, fault_free_left}
@@ -86,13 +86,15 @@ pub record IsMarkedBy (w : World) (seen : Seen) (other : ℕ) (old new : Option 
   pub removed : is_host_among outcome.marks.hosts.items (host_of w other) ≡ true
   pub marked : new ≡ option_map (with_marks outcome.marks.nsid) old
 
--- An event on one controller changes of the others at most marks; so it changes no window but its own.
+-- An event on one controller changes of the others at most marks, and a power cycle resets them all; so no event
+-- changes a window but its own.
 abbrev pub OthersChangeInMarksAlone : Type 0
 OthersChangeInMarksAlone =
     (tells : Bool) → (old new : Subsystem) → (event : Event) → (seen : Seen) → Step tells old event seen new
     → (other : ℕ) → other ≢ controller_of event
     → (controller_at new other ≡ controller_at old other)
     ⊎ IsMarkedBy new.world seen other (controller_at old other) (controller_at new other)
+    ⊎ ((event ≡ PowerCycle) × (controller_at new other ≡ option_map power_cycled (controller_at old other)))
 
 -- the same command, marked where it was, and perhaps now
 pub record IsStill (t u : FetchedCommand) : Type 0 where
@@ -123,16 +125,18 @@ IsReset Shutdown = ⊥
 IsReset (SqTail q v) = ⊥
 IsReset (CqHead q v) = ⊥
 
--- an event takes the m-th command of controller j out of its list: the command is executed, its queue is deleted, or
--- the controller is reset
+-- an event takes the m-th command of controller j out of its list: the command is executed, its queue is deleted, the
+-- controller is reset, or power is lost
 abbrev pub TakesOut : Subsystem → Controller → ℕ → ℕ → FetchedCommand → Event → Type 0
 TakesOut old c j m t (Execute k i) = (k ≡ j) × ((i ≡ m) ⊎ Deletes (scene_of old c) c k i t.queue)
 TakesOut old c j m t (Write32 k offset v) = (k ≡ j) × IsReset (after_write c.registers offset v).effect
 TakesOut old c j m t (Store k address bytes) = ⊥
 TakesOut old c j m t (Read32 k offset) = ⊥
 TakesOut old c j m t (Fetch k q) = ⊥
+TakesOut old c j m t PowerCycle = Unit {0}
 
--- A fetched command leaves the list only by its execution, the deletion of its queue or a reset, and keeps its mark.
+-- A fetched command leaves the list only by its execution, the deletion of its queue, a reset or a power cycle, and
+-- keeps its mark.
 abbrev pub FetchedStays : Type 0
 FetchedStays =
     (tells : Bool) → (old new : Subsystem) → (event : Event) → (seen : Seen) → Step tells old event seen new

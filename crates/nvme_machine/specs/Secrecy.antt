@@ -6,7 +6,7 @@ use Rattle.nvme_spec.specs.World.{World}
 use Rattle.nvme_spec.specs.Layout.{IsLaidOut, bytes_of, may_read}
 use Rattle.nvme_machine.specs.declared.event.Event.{Event}
 use Rattle.nvme_machine.specs.declared.seen.Seen.{Seen}
-use Rattle.nvme_machine.specs.Subsystems.{Subsystem, Run, controller_of}
+use Rattle.nvme_machine.specs.Subsystems.{Subsystem, Run, OfItsController}
 use Rattle.nvme_machine.specs.Fencing.{RunWhere, LeavesReservation}
 
 -- a subsystem over another medium
@@ -20,12 +20,13 @@ pub record DifferIn (n : ℕ) (w : World) (d e : Device) : Type 0 where
   pub size : length e.content ≡ length d.content
   pub others : (m : ℕ) → m ≢ n → bytes_of w e.content m ≡ bytes_of w d.content m
 
--- the controllers of all these events belong to hosts that may not read the namespace
+-- the controllers of all these events, power cycles aside, belong to hosts that may not read the namespace
 abbrev pub MayNotRead : World → ℕ → List Event → Type 0
-MayNotRead w n events = AllByRecursion (λ event. may_read w (controller_of event) n ≡ false) events
+MayNotRead w n events = AllByRecursion (OfItsController (λ k. may_read w k n ≡ false)) events
 
--- Fenced reading: while no reservation command on a namespace is executed but denied ones, whatever hosts that may not
--- read it see and find in their memory, they can see and find as well where its bytes are others.
+-- Fenced reading: while no reservation command on a namespace is executed but denied ones, and power is not lost or the
+-- reservation persists, whatever hosts that may not read it see and find in their memory, they can see and find as well
+-- where its bytes are others.
 abbrev pub FencedReading : Type 0
 FencedReading =
     (old new : Subsystem) → (medium : Device) → (events : List Event) → (seen : List Seen) → (n : ℕ)

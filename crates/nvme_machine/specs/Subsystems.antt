@@ -1,6 +1,6 @@
 -- The subsystem: the access state, the medium and the controllers; and what an event makes of it. An event is one
--- store, one access to a register, one fetch or one execution, of one controller (Base Specification: NVM Subsystem,
--- Controllers).
+-- store, one access to a register, one fetch or one execution, of one controller, or a power cycle of them all (Base
+-- Specification: NVM Subsystem, Controllers, Persist Through Power Loss).
 use Rattle.std.specs.Prelude.{◌≡◌, ◌+◌, ◌==◌, ℕ, zero, suc, Bool, false, if◌then◌else◌, List, [], ◌∷◌, map, Option, None, Some, slice_get, slice_set}
 use Rattle.std.specs.List.{list_any}
 use Rattle.nvme_spec.specs.declared.config.ControllerConfig.{ControllerConfig}
@@ -8,14 +8,15 @@ use Rattle.nvme_spec.specs.declared.outcome.Marks.{Marks}
 use Rattle.nvme_spec.specs.Blocks.{Device}
 use Rattle.nvme_spec.specs.Configuration.{Configuration}
 use Rattle.nvme_spec.specs.World.{World, host_of, opening_world}
+use Rattle.nvme_spec.specs.Power.{cycled_world}
 use Rattle.nvme_spec.specs.Execution.{Scene}
 use Rattle.nvme_machine.specs.declared.event.Event.{Event}
-use Rattle.nvme_machine.specs.declared.event.Event.TheVariants.{Store, Write32, Read32, Fetch, Execute}
+use Rattle.nvme_machine.specs.declared.event.Event.TheVariants.{Store, Write32, Read32, Fetch, Execute, PowerCycle}
 use Rattle.nvme_machine.specs.declared.fetched.FetchedCommand.{FetchedCommand}
 use Rattle.nvme_machine.specs.declared.seen.Executed.TheVariants.{Posted, NoSuch, CqFull}
 use Rattle.nvme_machine.specs.declared.seen.Seen.{Seen}
-use Rattle.nvme_machine.specs.declared.seen.Seen.TheVariants.{Executed, NoController}
-use Rattle.nvme_machine.specs.Controllers.{Controller, QueuePair, Reaction, new_controller, queues_of, after_store, wrote, has_read, after_fetch, open_pair, after_posting, after_queue_change, with_marks}
+use Rattle.nvme_machine.specs.declared.seen.Seen.TheVariants.{Executed, Cycled, NoController}
+use Rattle.nvme_machine.specs.Controllers.{Controller, QueuePair, Reaction, new_controller, power_cycled, queues_of, after_store, wrote, has_read, after_fetch, open_pair, after_posting, after_queue_change, with_marks}
 use Rattle.nvme_machine.specs.Answers.{Answer, Answers}
 
 -- Controller k stands at place k - 1.
@@ -47,13 +48,23 @@ controller_at s k = numbered s.controllers k
 unfoldable pub with_controller : Subsystem → ℕ → Controller → Subsystem
 with_controller s k c = record s { controllers = replaced s.controllers k c }
 
--- the controller of an event
+-- the controller of an event; a power cycle names none, and no controller has the identifier 0
 abbrev pub controller_of : Event → ℕ
 controller_of (Store k address bytes) = k
 controller_of (Write32 k offset v) = k
 controller_of (Read32 k offset) = k
 controller_of (Fetch k q) = k
 controller_of (Execute k i) = k
+controller_of PowerCycle = 0
+
+-- what is said of the controller of an event; nothing is said of a power cycle, which is no host's doing
+abbrev pub OfItsController : (ℕ → Type 0) → Event → Type 0
+OfItsController P (Store k address bytes) = P k
+OfItsController P (Write32 k offset v) = P k
+OfItsController P (Read32 k offset) = P k
+OfItsController P (Fetch k q) = P k
+OfItsController P (Execute k i) = P k
+OfItsController P PowerCycle = Unit {0}
 
 -- A controller reacts, and all else stays; where there is no such controller, nothing changes.
 abbrev pub ReactsAs : Option Controller → Subsystem → ℕ → (Controller → Reaction) → Seen → Subsystem → Type 0
@@ -114,6 +125,11 @@ abbrev pub ExecutesAt : Option Controller → Bool → Subsystem → ℕ → ℕ
 ExecutesAt None tells old k i seen new = (seen ≡ NoController) × (new ≡ old)
 ExecutesAt (Some c) tells old k i seen new = ExecutesOne (slice_get c.fetched i) tells old k c i seen new
 
+-- Power is lost in all of the subsystem, and comes back: what is on the medium stays, and of the world what persists.
+unfoldable pub after_power_cycle : Subsystem → Subsystem
+after_power_cycle s =
+    record s { world = cycled_world s.world; controllers = map power_cycled s.controllers }
+
 -- One event: the subsystem before it, what it gave, and the subsystem after it.
 abbrev pub Step : Bool → Subsystem → Event → Seen → Subsystem → Type 0
 Step tells old (Store k address bytes) seen new = Reacts old k (after_store address bytes.now) seen new
@@ -121,6 +137,7 @@ Step tells old (Write32 k offset v) seen new = Reacts old k (wrote offset v) see
 Step tells old (Read32 k offset) seen new = Reacts old k (has_read offset) seen new
 Step tells old (Fetch k q) seen new = Reacts old k (after_fetch q) seen new
 Step tells old (Execute k i) seen new = ExecutesAt (controller_at old k) tells old k i seen new
+Step tells old PowerCycle seen new = (seen ≡ Cycled) × (new ≡ after_power_cycle old)
 
 -- Events, one after the other, and what each gave.
 abbrev pub Run : Bool → Subsystem → List Event → List Seen → Subsystem → Type 0

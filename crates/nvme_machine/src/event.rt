@@ -1,6 +1,6 @@
 //! What can happen to a subsystem.
 
-/// One event, of one controller, which is named by its identifier (CNTLID).
+/// One event, of one controller, which is named by its identifier (CNTLID), or of them all.
 #[derive(Clone, Copy, Debug)]
 pub enum Event<'a> {
     /// Its host stores bytes in the memory that it shares with the controller, from this address on.
@@ -13,4 +13,6 @@ pub enum Event<'a> {
     Fetch(u16, u16),
     /// It executes the command at this place, from 0, of those that it has fetched.
     Execute(u16, usize),
+    /// Power is lost in the whole subsystem, and comes back.
+    PowerCycle,
 }

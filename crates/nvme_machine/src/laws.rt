@@ -5,6 +5,7 @@ ghost use Rattle.nvme_machine.specs.Runs.{FailuresNeverFall, RunExists, RunIsUni
 ghost use Rattle.nvme_machine.specs.Calling.{CallsAreOfAnExecution, DeniedMakesNoCall, AdminMakesNoCall};
 ghost use Rattle.nvme_machine.specs.EventCalls.{CallsAreOfAStep, CallsAreOfARun};
 ghost use Rattle.nvme_machine.specs.AllowedCalls.{CallsAreAllowed, CallsOfRunsAreAllowed, CallsAreInOrder, FencedCommandsCallNothing, FencedHostsWriteNoBlock, FlushReachesTheMedium};
+ghost use Rattle.nvme_machine.specs.PowerCycles.{PowerTakes, PersistenceLasts, FencingOutlastsPower, SecrecyOutlastsPower, ProtectedUntilPower};
 ghost use Rattle.nvme_machine.specs.CallLaws.{StepsHaveCalls, RunsHaveCalls, StepCallsAreUnique, RunCallsAreUnique, StepCallsAreComputed, RunCallsAreComputed, RunCallsExist, DeniedIsNoSuccess, FlushedIsOneFlush};
 ghost use Rattle.nvme_machine.specs.Wiring.{OpeningIsWired, WiringStays, WaitsWhereFull};
 ghost use Rattle.nvme_machine.specs.Placing.{OpeningIsPlaced, WindowsKeepTheirLength};
@@ -54,8 +55,8 @@ pub fn blocks_are_written_as_allowed()
 {}
 
 /// A command of a host that may not write its namespace makes no write call and no flush call, and where it may not
-/// read either, no call; over runs no block of the namespace is written by such hosts, until a reservation command on it
-/// is executed that all rules let pass.
+/// read either, no call; over runs no block of the namespace is written by such hosts, until a reservation command on
+/// it is executed that all rules let pass, or power is lost that its reservation does not outlast.
 pub fn fenced_hosts_call_nothing()
     ensures command { FencedCommandsCallNothing }
     ensures run { FencedHostsWriteNoBlock }
@@ -94,7 +95,8 @@ pub fn flushed_is_flushed()
     ensures flushed { FlushedIsOneFlush }
 {}
 
-/// Bytes of a namespace change only by allowed writes, and its reservation only by allowed reservation commands.
+/// Bytes of a namespace change only by allowed writes, and its reservation only by allowed reservation commands, or by
+/// a power cycle that it does not outlast.
 #[tactic(auto, using(crate::proofs::Layouts::only_allowed_writes_write, crate::proofs::Layouts::only_allowed_actions_reserve, crate::proofs::Layouts::layout_stays))]
 pub fn only_allowed_commands_change()
     ensures writes { OnlyAllowedWritesWrite }
@@ -103,7 +105,7 @@ pub fn only_allowed_commands_change()
 {}
 
 /// A host that may not write a namespace changes none of its bytes, until a reservation command on it is executed that
-/// all rules let pass.
+/// all rules let pass, or power is lost that its reservation does not outlast.
 #[tactic(auto, using(crate::proofs::Layouts::fenced_events_write_nothing, crate::proofs::Fencing::permissions_stay, crate::proofs::Fencing::fencing_holds))]
 pub fn fencing_is_kept()
     ensures event { FencedEventsWriteNothing }
@@ -112,7 +114,7 @@ pub fn fencing_is_kept()
 {}
 
 /// Hosts that may not read a namespace learn nothing of its bytes, until a reservation command on it is executed that
-/// all rules let pass.
+/// all rules let pass, or power is lost that its reservation does not outlast.
 #[tactic(auto, using(crate::proofs::Secrecy::fenced_reading, crate::proofs::Secrecy::fenced_reading_is_same))]
 pub fn fenced_hosts_read_nothing()
     ensures possible { FencedReading }
@@ -120,14 +122,14 @@ pub fn fenced_hosts_read_nothing()
 {}
 
 /// An event on one controller changes of the others at most marks, and those only where it removed their host's
-/// registration.
+/// registration; a power cycle makes of each what it makes of all.
 #[tactic(auto, using(crate::proofs::Others::others_change_in_marks_alone))]
 pub fn others_are_untouched()
     ensures { OthersChangeInMarksAlone }
 {}
 
-/// A fetched command leaves its list only by its execution, the deletion of its queue or a reset; it has its queues, so
-/// that it waits only where its completion queue is full.
+/// A fetched command leaves its list only by its execution, the deletion of its queue, a reset or a power cycle; it has
+/// its queues, so that it waits only where its completion queue is full.
 #[tactic(auto, using(crate::proofs::Staying::fetched_stays, crate::proofs::Wirings::opening_is_wired, crate::proofs::Wirings::wiring_stays, crate::proofs::Wirings::waits_where_full))]
 pub fn nothing_is_lost()
     ensures fetched { FetchedStays }
@@ -143,7 +145,7 @@ pub fn windows_keep_their_bytes()
 {}
 
 /// A completion that was posted stands unread in its queue, and no later one takes its slot, until its host's doorbell
-/// says that it has consumed it; what else may take it is named, all of it its own host's doing.
+/// says that it has consumed it; what else may take it is named, all of it its own host's doing but a power cycle.
 pub fn completions_stand()
     ensures posted { PostedIsUnread }
     ensures event { UnreadStands }
@@ -158,9 +160,32 @@ pub fn preempted_is_aborted()
 {}
 
 /// After a Preempt and Abort each command on the namespace that a controller of a removed host had fetched before is
-/// aborted, whenever it is executed. A command is followed through a run by its place in the list.
+/// aborted, whenever it is executed. A command is followed through a run by its place in the list; a power cycle takes
+/// it out.
 #[tactic(auto, using(crate::proofs::Preempted::commands_are_followed, crate::proofs::Preempted::preempted_stays_out))]
 pub fn preempted_hosts_stay_out()
     ensures followed { CommandsAreFollowed }
     ensures run { PreemptedStaysOut }
+{}
+
+/// A power cycle takes every queue, every fetched command, the registrants that do not persist, and write protection
+/// that lasts until then; it leaves windows, blocks, attachments, other protection and what persists.
+pub fn power_takes_what_does_not_persist()
+    ensures { PowerTakes }
+{}
+
+/// Fencing outlasts power: while the reservation of a namespace persists through power loss and no reservation command
+/// on it is executed but denied ones, hosts that may not write it change none of its bytes, and hosts that may not read
+/// it learn none, over any run with power cycles at any moment.
+#[tactic(auto, using(crate::proofs::PowerCycles::fencing_outlasts_power, crate::proofs::PowerCycles::secrecy_outlasts_power))]
+pub fn fencing_outlasts_power()
+    ensures persists { PersistenceLasts }
+    ensures writes { FencingOutlastsPower }
+    ensures reads { SecrecyOutlastsPower }
+{}
+
+/// From the moment that a namespace is write protected until a power cycle, no event changes a byte of it or takes the
+/// protection off, until power is lost.
+pub fn protected_until_power()
+    ensures { ProtectedUntilPower }
 {}

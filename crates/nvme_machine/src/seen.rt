@@ -38,6 +38,8 @@ pub enum Seen {
     Fetched(Fetched),
     /// What came of the execution.
     Executed(Executed),
+    /// Power was lost, and came back.
+    Cycled,
     /// There is no such controller.
     NoController,
 }
