@@ -2,7 +2,7 @@
 
 ghost use Rattle.std.specs.Prelude.{◌≡◌, IfOk};
 ghost use Rattle.nvme_spec.specs.Registers.{value_at};
-ghost use Rattle.nvme_machine.specs.Controllers.{new_controller, submission_at, completion_at};
+ghost use Rattle.nvme_machine.specs.Controllers.{new_controller, power_cycled, submission_at, completion_at};
 
 use crate::completion_queue::CompletionQueue;
 use crate::slots::{none, queue_at};
@@ -80,6 +80,16 @@ impl Controller {
         ensures { result.now ≡ self.now.fetched }
     {
         self.fetched.as_slice()
+    }
+
+    /// Power is lost, and comes back: the controller is as one that was never enabled, and its host's memory stays.
+    pub fn power_cycle(&mut self)
+        ensures { self.new ≡ power_cycled self.old }
+    {
+        self.registers = Registers::new();
+        self.submission = none();
+        self.completion = none();
+        self.fetched.clear();
     }
 
     /// The value of a register, 0 where none is.

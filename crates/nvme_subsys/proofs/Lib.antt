@@ -5,3 +5,4 @@ pub mod Runs
 pub mod Unmarked
 pub mod Counts
 pub mod OverMedium
+pub mod Cycled

@@ -2,7 +2,7 @@
 use Rattle.std.proofs.Common.{◌≡◌, Bool, ap, subst}
 use Rattle.nvme_spec.specs.MediumCalls.{MediumCall, MakesCalls, Calls}
 use Rattle.nvme_machine.specs.declared.event.Event.{Event}
-use Rattle.nvme_machine.specs.declared.event.Event.TheVariants.{Store, Write32, Read32, Fetch, Execute}
+use Rattle.nvme_machine.specs.declared.event.Event.TheVariants.{Store, Write32, Read32, Fetch, Execute, PowerCycle}
 use Rattle.nvme_machine.specs.declared.seen.Seen.{Seen}
 use Rattle.nvme_machine.specs.EventCalls.{AreCallsOfStep}
 use Rattle.nvme_machine.specs.Subsystems.{Subsystem}
@@ -21,6 +21,7 @@ ExecutesNothing (Write32 k offset v) = Unit {0}
 ExecutesNothing (Read32 k offset) = Unit {0}
 ExecutesNothing (Fetch k q) = Unit {0}
 ExecutesNothing (Execute k i) = ⊥
+ExecutesNothing PowerCycle = Unit {0}
 
 pub medium-kept : {M : Type 0} (step : M → MediumCall → M → Type 0) (tells : Bool) (old new : Subsystem) (event : Event) (seen : Seen) (before after : M) → ExecutesNothing event
     → MakesCalls step (AreCallsOfStep tells old event seen new) before after → after ≡ before
@@ -29,3 +30,4 @@ medium-kept step tells old new (Write32 k offset v) seen before after quiet h = 
 medium-kept step tells old new (Read32 k offset) seen before after quiet h = subst (λ cs. Calls step before cs after) h.are.1 h.made
 medium-kept step tells old new (Fetch k q) seen before after quiet h = subst (λ cs. Calls step before cs after) h.are.1 h.made
 medium-kept step tells old new (Execute k i) seen before after quiet h = absurd quiet
+medium-kept step tells old new PowerCycle seen before after quiet h = subst (λ cs. Calls step before cs after) h.are.2 h.made

@@ -5,6 +5,7 @@
 mod looking;
 mod marking;
 mod opening;
+mod power;
 mod reacting;
 mod subsystem;
 

@@ -1,6 +1,6 @@
 //! The subsystem, one event of it, and a run of events.
 
-ghost use Rattle.std.specs.Prelude.{◌≡◌, ◌<◌, ◌+◌, ◌/◌, ◌%◌, length, Some, IfOk, IfErr, OnErr, IfSome, IfNone, None, unwrap_or};
+ghost use Rattle.std.specs.Prelude.{◌≡◌, ◌<◌, ◌≤◌, ◌+◌, ◌/◌, ◌%◌, length, Some, IfOk, IfErr, OnErr, IfSome, IfNone, None, unwrap_or};
 ghost use Rattle.nvme_spec.specs.Configuration.{first_config_fault};
 ghost use Rattle.nvme_spec.specs.declared.config.ConfigFault.TheVariants.{NoMemory as WantOfMemory};
 ghost use Rattle.nvme_spec.specs.MediumCalls.{MakesCalls};
@@ -8,13 +8,15 @@ ghost use Rattle.nvme_ns.specs.Configured.{configuration};
 ghost use Rattle.nvme_spec.specs.World.{namespace_of};
 ghost use Rattle.nvme_subsys.specs.Looking.{Looks, LooksBy, place_in};
 ghost use Rattle.nvme_machine.specs.Controllers.{after_store, wrote, has_read, after_fetch};
-ghost use Rattle.nvme_machine.specs.Subsystems.{opening, controller_at, Reacts, ExecutesAt, Step, Run};
+ghost use Rattle.nvme_machine.specs.Subsystems.{opening, controller_at, Reacts, ExecutesAt, Step, Run, after_power_cycle};
+ghost use Rattle.nvme_machine.specs.declared.seen.Seen.TheVariants.{Cycled};
 ghost use Rattle.nvme_machine.specs.EventCalls.{CallingAt, AreCallsOfStep, AreCallsOfRun};
 ghost use Rattle.nvme_subsys.specs.OverMedium.{over};
 
 use crate::looking::place_in;
 use crate::marking::mark_after;
 use crate::opening::{NewFault, controllers_of};
+use crate::power::power_cycle_all;
 use crate::reacting;
 use nvme_ctrl::Controller;
 use nvme_machine::{Event, Executed, Seen};
@@ -117,6 +119,14 @@ impl<M: Medium> Subsystem<M> {
         Some(read_blocks(&mut self.medium, first, buffer))
     }
 
+    /// How many controllers there are; their identifiers count from 1.
+    pub fn controller_count(&self) -> u16
+        ensures count { result ≡ length self.now.state.controllers }
+        ensures few { result ≤ 16 }
+    {
+        self.controllers.len() as u16
+    }
+
     /// The controller of an identifier, if there is one. It bears that identifier.
     #[inline(always)]
     pub fn controller(&self, cntlid: u16) -> Option<&Controller>
@@ -146,8 +156,8 @@ impl<M: Medium> Subsystem<M> {
         Some(place)
     }
 
-    /// One event of the controller that it names; where there is no such controller, nothing happens. An execution
-    /// makes the calls of the medium that its command makes, and no other event makes any.
+    /// One event of the controller that it names, or of all; where there is no such controller, nothing happens. An
+    /// execution makes the calls of the medium that its command makes, and no other event makes any.
     #[inline(always)]
     pub fn apply(&mut self, event: Event) -> Seen
         ensures step { Step M.tells self.old.state event.entry result self.new.state }
@@ -160,6 +170,7 @@ impl<M: Medium> Subsystem<M> {
             Event::Read32(cntlid, offset) => self.read32(cntlid, offset),
             Event::Fetch(cntlid, qid) => self.fetch(cntlid, qid),
             Event::Execute(cntlid, i) => self.execute(cntlid, i),
+            Event::PowerCycle => self.power_cycle(),
         }
     }
 
@@ -218,6 +229,19 @@ impl<M: Medium> Subsystem<M> {
             return Seen::NoController;
         };
         Seen::Executed(self.execute_at(place, i))
+    }
+
+    /// Power is lost, and comes back.
+    #[tactic(auto, unfolding(nvme_machine::specs::Subsystems::after_power_cycle))]
+    #[inline(never)]
+    fn power_cycle(&mut self) -> Seen
+        ensures cycled { result ≡ Cycled }
+        ensures state { self.new.state ≡ after_power_cycle self.old.state }
+        ensures medium { self.new.medium ≡ self.old.medium }
+    {
+        self.spaces.power_cycle();
+        power_cycle_all(&mut self.controllers);
+        Seen::Cycled
     }
 
     /// The controller at a place executes a command, and the controllers of the hosts that this removes are marked.
