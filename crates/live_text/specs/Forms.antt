@@ -32,6 +32,7 @@ form_text form.Poll = codes "poll C"
 form_text form.Reset = codes "reset C"
 form_text form.Store = codes "store C ADDR hex:BYTES"
 form_text form.Write32 = codes "write32 C OFF V"
+form_text form.PowerCycle = codes "powercycle"
 form_text form.LookWindow = codes "?window C ADDR LEN"
 form_text form.LookRegister = codes "?register C OFF"
 form_text form.LookRegisters = codes "?registers C"
@@ -88,6 +89,7 @@ event_form word =
     else if bytes_eq word (codes "reset") then Some form.Reset
     else if bytes_eq word (codes "store") then Some form.Store
     else if bytes_eq word (codes "write32") then Some form.Write32
+    else if bytes_eq word (codes "powercycle") then Some form.PowerCycle
     else None
 
 -- a looking line

@@ -60,6 +60,8 @@ pub enum Form {
     Store,
     /// `write32 C OFF V`
     Write32,
+    /// `powercycle`
+    PowerCycle,
     /// `?window C ADDR LEN`
     LookWindow,
     /// `?register C OFF`
@@ -115,6 +117,7 @@ impl fmt::Display for Form {
             Form::Reset => "reset C",
             Form::Store => "store C ADDR hex:BYTES",
             Form::Write32 => "write32 C OFF V",
+            Form::PowerCycle => "powercycle",
             Form::LookWindow => "?window C ADDR LEN",
             Form::LookRegister => "?register C OFF",
             Form::LookRegisters => "?registers C",
@@ -217,6 +220,8 @@ fn event_form_of(word: &[u8]) -> Option<Form>
         Some(Form::Store)
     } else if word == b"write32".as_slice() {
         Some(Form::Write32)
+    } else if word == b"powercycle".as_slice() {
+        Some(Form::PowerCycle)
     } else {
         None
     }

@@ -5,7 +5,7 @@ ghost use Rattle.nvme_event.specs.Events.{controller_of};
 
 use nvme_driver::Request;
 
-/// One event, of the host whose controller has this identifier (CNTLID).
+/// One event: of the host whose controller has this identifier (CNTLID), or of all.
 #[derive(Clone, Copy)]
 pub enum FleetEvent<'a> {
     /// Its driver brings the controller up.
@@ -26,10 +26,12 @@ pub enum FleetEvent<'a> {
     RawStore(u16, u64, &'a [u8]),
     /// The host, which has no driver, writes a register: the offset, and the value.
     RawWrite32(u16, u64, u32),
+    /// Power is lost in the whole subsystem, and comes back; every driver resets its controller.
+    PowerCycle,
 }
 
 impl FleetEvent<'_> {
-    /// The identifier of the controller that it names.
+    /// The identifier of the controller that it names. A power cycle names none: 0, which no controller has.
     pub fn cntlid(&self) -> u16
         ensures { result ≡ controller_of self.now }
     {
@@ -43,6 +45,7 @@ impl FleetEvent<'_> {
             | FleetEvent::Reset(cntlid)
             | FleetEvent::RawStore(cntlid, _, _)
             | FleetEvent::RawWrite32(cntlid, _, _) => *cntlid,
+            FleetEvent::PowerCycle => 0,
         }
     }
 }

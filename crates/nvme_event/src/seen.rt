@@ -29,6 +29,8 @@ pub enum FleetSeen {
     Outside,
     /// The register is written.
     Wrote,
+    /// Power was lost in the whole subsystem, and came back.
+    Cycled,
     /// There is no such controller.
     NoController,
     /// Its host has no driver.

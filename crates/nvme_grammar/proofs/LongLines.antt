@@ -78,9 +78,10 @@ no_event w c n (x ∷ y ∷ ws) many a d =
     (either (bytes_eq w (codes "reset")) _ _ None refl
     (either (bytes_eq w (codes "store")) _ _ None refl
     (either (bytes_eq w (codes "write32")) _ _ None refl
+    (either (bytes_eq w (codes "powercycle")) _ _ None refl
     (either (bytes_eq w (codes "identify")) _ _ None refl
     (after (number_at 16 c) _ (λ cntlid. after (number_at 32 n) _ (λ nsid.
-    ap (λ r. r >>= (λ request. Some (Place cntlid request))) (no_request w nsid (x ∷ y ∷ ws) many a d))))))))))))
+    ap (λ r. r >>= (λ request. Some (Place cntlid request))) (no_request w nsid (x ∷ y ∷ ws) many a d)))))))))))))
 
 no_sentence : (w c n : List ℕ) (ws : List (List ℕ)) → 6 ≤ length ws → event_at w (c ∷ n ∷ ws) ≡ None → sentence (w ∷ c ∷ n ∷ ws) ≡ None
 unfolding sentence

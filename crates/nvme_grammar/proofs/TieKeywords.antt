@@ -6,7 +6,7 @@ use Rattle.std.specs.Str.{bytes_eq}
 use Rattle.std.proofs.lemmas.Bool.{false≢true}
 use Rattle.std.proofs.lemmas.Slice.Eq.{bytes_eq-Decides}
 use Rattle.nvme_event.specs.declared.event.FleetEvent.{FleetEvent}
-use Rattle.nvme_event.specs.declared.event.FleetEvent.TheVariants.{BringUp, Place as Placed, Ring as Rings, Fetch as Fetches, Execute as Executes, Poll as Polls, Reset as Resets}
+use Rattle.nvme_event.specs.declared.event.FleetEvent.TheVariants.{BringUp, Place as Placed, Ring as Rings, Fetch as Fetches, Execute as Executes, Poll as Polls, Reset as Resets, PowerCycle as Cycles}
 use Rattle.nvme_driver.specs.declared.request.Request.{Request}
 use Rattle.nvme_driver.specs.declared.request.Request.TheVariants.{Read as ReadOf, Write as WriteOf, Compare as CompareOf, WriteZeroes as ZeroesOf, Flush as FlushOf, Protection as ProtectionOf, Attach as AttachOf, Detach as DetachOf}
 use Rattle.script_text.specs.Numbers.{number_at}
@@ -26,7 +26,7 @@ use Rattle.nvme_grammar.specs.Keywords.{keyword_of, keywords}
 use Rattle.nvme_grammar.proofs.TieLemmas.{fine, fine_behind, stands, bound, plain, and_false, and_false2, zero-fine, one-fine, two-fine, three-fine, four-fine, five-fine, numbers-fine, keys-fine, if_fine, keyword-tie}
 use Rattle.nvme_grammar.specs.declared.line.Line.TheVariants.{Controller as Sets, Blank}
 use Rattle.nvme_grammar.specs.declared.keyword.Keyword.{Keyword}
-use Rattle.nvme_grammar.specs.declared.keyword.Keyword.TheVariants.{Controller, Namespace, Attached, Start, Up, Read, Write, Compare, Zeroes, Flush, Register, Acquire, Release, Report, Identify, Protect, Protection, Attach, Detach, Ring, Fetch, Execute, Poll, Reset, Store, Write32}
+use Rattle.nvme_grammar.specs.declared.keyword.Keyword.TheVariants.{Controller, Namespace, Attached, Start, Up, Read, Write, Compare, Zeroes, Flush, Register, Acquire, Release, Report, Identify, Protect, Protection, Attach, Detach, Ring, Fetch, Execute, Poll, Reset, Store, Write32, PowerCycle}
 use Rattle.nvme_grammar.specs.declared.fault.LineFault.{LineFault}
 use Rattle.nvme_grammar.specs.declared.place.Operand.TheVariants as operand
 use Rattle.nvme_grammar.specs.declared.place.Place.{Place}
@@ -171,6 +171,7 @@ keyword-fine started before Poll ws = alone-fine started before Polls ws
 keyword-fine started before Reset ws = alone-fine started before Resets ws
 keyword-fine started before Store ws = store-fine started before ws
 keyword-fine started before Write32 ws = write32-fine started before ws
+keyword-fine started before PowerCycle ws = zero-fine (event_allowed started) refl started before Cycles refl ws
 
 -- a word that is no keyword says nothing
 first_false : {A : Type 0} (b : Bool) (x : A) (o : Option A) → (if b then Some x else o) ≡ None → (b ≡ false) × (o ≡ None)
@@ -203,7 +204,7 @@ no_place word (c ∷ n ∷ ws) other = after (number_at 16 c) _ (λ x. after (nu
 
 no_event : (word : List ℕ) (ws : List (List ℕ)) → ((k : Keyword) → IsNo word k) → event_at word ws ≡ None
 unfolding event_at
-no_event word ws other = rw (other Up, other Ring, other Fetch, other Execute, other Poll, other Reset, other Store, other Write32, other Identify) (no_place word ws other)
+no_event word ws other = rw (other Up, other Ring, other Fetch, other Execute, other Poll, other Reset, other Store, other Write32, other PowerCycle, other Identify) (no_place word ws other)
 
 no_sentence : (word : List ℕ) (ws : List (List ℕ)) → ((k : Keyword) → IsNo word k) → sentence (word ∷ ws) ≡ None
 unfolding sentence
@@ -237,6 +238,7 @@ is_no word h Poll = find_none (λ k. bytes_eq word (keyword_text k)) keywords h 
 is_no word h Reset = find_none (λ k. bytes_eq word (keyword_text k)) keywords h 23 Reset refl
 is_no word h Store = find_none (λ k. bytes_eq word (keyword_text k)) keywords h 24 Store refl
 is_no word h Write32 = find_none (λ k. bytes_eq word (keyword_text k)) keywords h 25 Write32 refl
+is_no word h PowerCycle = find_none (λ k. bytes_eq word (keyword_text k)) keywords h 26 PowerCycle refl
 
 find_some : {A : Type 0} (p : A → Bool) (xs : List A) (x : A) → find p xs ≡ Some x → p x ≡ true
 find_some p [] x h = absurd (false≢true (ap is_some h))

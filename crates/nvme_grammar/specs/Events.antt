@@ -2,11 +2,11 @@
 use Rattle.std.specs.Prelude.{ℕ, List, ◌∷◌, codes, Option, Some, None, option_map, if◌then◌else◌}
 use Rattle.std.specs.Str.{bytes_eq}
 use Rattle.nvme_event.specs.declared.event.FleetEvent.{FleetEvent}
-use Rattle.nvme_event.specs.declared.event.FleetEvent.TheVariants.{BringUp, Place, Ring, Fetch, Execute, Poll, Reset, RawStore, RawWrite32}
+use Rattle.nvme_event.specs.declared.event.FleetEvent.TheVariants.{BringUp, Place, Ring, Fetch, Execute, Poll, Reset, RawStore, RawWrite32, PowerCycle}
 use Rattle.nvme_driver.specs.declared.request.Request.TheVariants.{Identify}
 use Rattle.script_text.specs.Numbers.{number_at}
 use Rattle.script_text.specs.Data.{bytes_at}
-use Rattle.nvme_grammar.specs.Arity.{◌>>=◌, one, two, three}
+use Rattle.nvme_grammar.specs.Arity.{◌>>=◌, zero_words, one, two, three}
 use Rattle.nvme_grammar.specs.Lent.{lent}
 use Rattle.nvme_grammar.specs.Requests.{request_at}
 
@@ -65,5 +65,6 @@ event_at word words =
     else if bytes_eq word (codes "reset") then option_map Reset (alone words)
     else if bytes_eq word (codes "store") then store words
     else if bytes_eq word (codes "write32") then write32 words
+    else if bytes_eq word (codes "powercycle") then zero_words PowerCycle words
     else if bytes_eq word (codes "identify") then identify words
     else place word words

@@ -5,7 +5,7 @@ use Rattle.std.specs.Str.{bytes_eq}
 use Rattle.nvme_grammar.specs.Near.{is_near}
 use Rattle.nvme_grammar.specs.Places.{place_behind, takes_behind, place_name, behind_name}
 use Rattle.nvme_grammar.specs.declared.keyword.Keyword.{Keyword}
-use Rattle.nvme_grammar.specs.declared.keyword.Keyword.TheVariants.{Controller, Namespace, Attached, Start, Up, Read, Write, Compare, Zeroes, Flush, Register, Acquire, Release, Report, Identify, Protect, Protection, Attach, Detach, Ring, Fetch, Execute, Poll, Reset, Store, Write32}
+use Rattle.nvme_grammar.specs.declared.keyword.Keyword.TheVariants.{Controller, Namespace, Attached, Start, Up, Read, Write, Compare, Zeroes, Flush, Register, Acquire, Release, Report, Identify, Protect, Protection, Attach, Detach, Ring, Fetch, Execute, Poll, Reset, Store, Write32, PowerCycle}
 use Rattle.nvme_grammar.specs.declared.place.Operand.TheVariants as operand
 use Rattle.nvme_grammar.specs.declared.place.Place.{Place}
 use Rattle.nvme_grammar.specs.declared.place.Place.TheVariants.{Number, Iekey, Host, Blocks, Sharing, Data, Bytes}
@@ -40,12 +40,13 @@ keyword_text Poll = codes "poll"
 keyword_text Reset = codes "reset"
 keyword_text Store = codes "store"
 keyword_text Write32 = codes "write32"
+keyword_text PowerCycle = codes "powercycle"
 
 -- all of them, those of the lines before `start` first
 abbrev pub keywords : List Keyword
 keywords = Controller ∷ Namespace ∷ Attached ∷ Start ∷ Up ∷ Read ∷ Write ∷ Compare ∷ Zeroes ∷ Flush ∷ Register
     ∷ Acquire ∷ Release ∷ Report ∷ Identify ∷ Protect ∷ Protection ∷ Attach ∷ Detach ∷ Ring ∷ Fetch ∷ Execute ∷ Poll
-    ∷ Reset ∷ Store ∷ Write32 ∷ []
+    ∷ Reset ∷ Store ∷ Write32 ∷ PowerCycle ∷ []
 
 -- the keyword that a word is
 unfoldable pub keyword_of : List ℕ → Option Keyword
@@ -92,6 +93,7 @@ places_of Poll = c ∷ []
 places_of Reset = c ∷ []
 places_of Store = c ∷ Number operand.Address ∷ Bytes ∷ []
 places_of Write32 = c ∷ Number operand.Offset ∷ Number operand.Value ∷ []
+places_of PowerCycle = []
 
 -- what may follow
 abbrev pub behind_of : Keyword → Behind

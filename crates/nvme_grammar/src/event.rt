@@ -3,7 +3,9 @@
 ghost use Rattle.std.specs.Prelude.{◌≡◌, ◌*◌, ◌≤◌, length, map, option_map};
 ghost use Rattle.std.specs.List.{AllByRecursion};
 ghost use Rattle.nvme_spec.specs.Limits.{most_bytes};
+ghost use Rattle.nvme_event.specs.declared.event.FleetEvent.TheVariants.{PowerCycle};
 ghost use Rattle.nvme_grammar.specs.Lent.{request_by_value, event_by_value};
+ghost use Rattle.nvme_grammar.specs.Arity.{zero_words};
 ghost use Rattle.nvme_grammar.specs.Events.{alone, pair, identify, store, write32, place, event_at};
 ghost use Rattle.nvme_grammar.specs.Lists.{list_request, list_event};
 
@@ -65,6 +67,17 @@ fn write32_of<'a>(words: &[&[u8]]) -> Option<FleetEvent<'a>>
     Some(FleetEvent::RawWrite32(cntlid, offset, number_u32(value)?))
 }
 
+/// Nothing: power is lost in the whole subsystem, and no controller is named.
+fn power_cycle_of<'a>(words: &[&[u8]]) -> Option<FleetEvent<'a>>
+    ensures { option_map event_by_value result ≡ zero_words PowerCycle (map (λ word. word.now) words.now) }
+{
+    if words.is_empty() {
+        Some(FleetEvent::PowerCycle)
+    } else {
+        None
+    }
+}
+
 /// `C N`, and what the request of this keyword needs.
 fn place_of<'a>(
     keyword: &[u8],
@@ -117,6 +130,8 @@ pub fn event_of<'a>(
         store_of(words, bytes)
     } else if keyword == b"write32".as_slice() {
         write32_of(words)
+    } else if keyword == b"powercycle".as_slice() {
+        power_cycle_of(words)
     } else if keyword == b"identify".as_slice() {
         identify_of(words)
     } else {

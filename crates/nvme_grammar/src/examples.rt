@@ -1,7 +1,7 @@
 //! Worked examples of the definitions: the contract of each function here is computed by the check.
 
 ghost use Rattle.std.specs.Prelude.{◌≡◌, ◌++◌, ◌∷◌, [], ℕ, List, true, false, Some, None, codes, replicate, take};
-ghost use Rattle.nvme_event.specs.declared.event.FleetEvent.TheVariants.{BringUp, Place, Ring, Fetch, Execute, Poll, Reset, RawStore, RawWrite32};
+ghost use Rattle.nvme_event.specs.declared.event.FleetEvent.TheVariants.{BringUp, Place, Ring, Fetch, Execute, Poll, Reset, RawStore, RawWrite32, PowerCycle};
 ghost use Rattle.script_text.specs.Lines.{text_lines};
 ghost use Rattle.nvme_grammar.specs.Line.{line_at};
 ghost use Rattle.nvme_grammar.specs.Lent.{lent};
@@ -39,6 +39,8 @@ pub fn event_lines()
     ensures store { line_at (codes "store 2 0x1000 hex:00fF")
         ≡ Some (Event (RawStore 2 4096 (lent (0 ∷ 255 ∷ [])))) }
     ensures write32 { line_at (codes "write32 2 0x14 0x00460001") ≡ Some (Event (RawWrite32 2 20 4587521)) }
+    ensures power_cycle { line_at (codes "powercycle") ≡ Some (Event PowerCycle) }
+    ensures separators { line_at (9 ∷ codes "powercycle  " ++ 13 ∷ []) ≡ Some (Event PowerCycle) }
 {}
 
 #[tactic(auto, unfolding(crate::proofs::OnLiterals::lines_on_literals))]
@@ -112,6 +114,8 @@ pub fn no_event_lines()
     ensures protect_without_state { line_at (codes "protect 1 1") ≡ None }
     ensures protection_with_state { line_at (codes "protection 1 1 1") ≡ None }
     ensures identifier_above_16_bits { line_at (codes "attach 1 1 1 2 3 4 5 6 7 65536") ≡ None }
+    ensures power_cycle_of_a_controller { line_at (codes "powercycle 1") ≡ None }
+    ensures two_words { line_at (codes "power cycle") ≡ None }
     ensures nine_words { line_at (codes "register 1 1 0 0 0 1 1 1") ≡ None }
 {}
 

@@ -3,11 +3,12 @@
 ghost use Rattle.std.specs.Prelude.{◌≡◌, ◌++◌, ◌∷◌, [], List, ℕ, Bool, true, false, Some, None, codes};
 ghost use Rattle.nvme_grammar.specs.Lent.{lent};
 ghost use Rattle.nvme_grammar.specs.LineFaults.{fault_of};
+ghost use Rattle.nvme_grammar.specs.FaultTexts.{why_text};
 ghost use Rattle.nvme_grammar.specs.Keywords.{nearest_to};
 ghost use Rattle.nvme_grammar.specs.declared.fault.Why.TheVariants.{Byte, Unknown, Count, Misfit, TooEarly, TooLate};
 ghost use Rattle.nvme_grammar.specs.declared.place.Operand.TheVariants.{Cntlid, Nsid, Queue};
 ghost use Rattle.nvme_grammar.specs.declared.place.Place.TheVariants.{Number, Host, Raw};
-ghost use Rattle.nvme_grammar.specs.declared.keyword.Keyword.TheVariants.{Write, Attach, Attached, Up, Read, Start};
+ghost use Rattle.nvme_grammar.specs.declared.keyword.Keyword.TheVariants.{Write, Attach, Attached, Up, Read, Start, PowerCycle};
 
 #[tactic(auto, unfolding(crate::proofs::OnLiterals::faults_on_literals))]
 pub fn misfits()
@@ -32,13 +33,17 @@ pub fn lines_as_a_whole()
     ensures far { fault_of true (codes " do 1")
         ≡ Some (record { column = 2; why = Unknown (lent (codes "do")) None }) }
     ensures count { fault_of true (codes "write 1 1 0 1") ≡ Some (record { column = 1; why = Count Write }) }
+    ensures no_words { fault_of true (codes " powercycle 1") ≡ Some (record { column = 2; why = Count PowerCycle }) }
     ensures byte { fault_of true (codes "up" ++ 11 ∷ codes "1") ≡ Some (record { column = 3; why = Byte 11 }) }
     ensures early { fault_of false (codes "up 1") ≡ Some (record { column = 1; why = TooEarly Up }) }
+    ensures early_power_cycle { fault_of false (codes "powercycle")
+        ≡ Some (record { column = 1; why = TooEarly PowerCycle }) }
     ensures late { fault_of true (codes "attached 1 1") ≡ Some (record { column = 1; why = TooLate Attached }) }
     ensures twice { fault_of true (codes "start") ≡ Some (record { column = 1; why = TooLate Start }) }
     ensures comment { fault_of true (codes "# " ++ 11 ∷ 0 ∷ 255 ∷ []) ≡ None }
     ensures nothing { fault_of false [] ≡ None }
     ensures good { fault_of true (codes "write 1 1 0 1 fill:00") ≡ None }
+    ensures power_cycle { fault_of true (codes "powercycle") ≡ None }
 {}
 
 #[tactic(auto, unfolding(crate::specs::Keywords::nearest_to))]
@@ -47,6 +52,17 @@ pub fn near_words()
     ensures missing { nearest_to (codes "attch") ≡ Some Attach }
     ensures too_many { nearest_to (codes "upp") ≡ Some Up }
     ensures exchanged { nearest_to (codes "raed") ≡ Some Read }
+    ensures longest { nearest_to (codes "powercylce") ≡ Some PowerCycle }
     ensures upper_case { nearest_to (codes "READ") ≡ None }
     ensures two_wrong { nearest_to (codes "wrets") ≡ None }
+    ensures part { nearest_to (codes "power") ≡ None }
+{}
+
+/// The texts of what a line without operands may be refused for.
+pub fn texts()
+    ensures count { why_text (Count PowerCycle) ≡ codes "powercycle takes 1 word: powercycle" }
+    ensures early { why_text (TooEarly PowerCycle)
+        ≡ codes "powercycle stands behind 'start', and nothing is started yet" }
+    ensures near { why_text (Unknown (lent (codes "powercycel")) (Some PowerCycle))
+        ≡ codes "there is no line 'powercycel'; did you mean 'powercycle'?" }
 {}

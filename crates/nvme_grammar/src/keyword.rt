@@ -36,10 +36,11 @@ pub enum Keyword {
     Reset,
     Store,
     Write32,
+    PowerCycle,
 }
 
 /// All keywords, those of the lines before `start` first.
-const KEYWORDS: [Keyword; 26] = [
+const KEYWORDS: [Keyword; 27] = [
     Keyword::Controller,
     Keyword::Namespace,
     Keyword::Attached,
@@ -66,6 +67,7 @@ const KEYWORDS: [Keyword; 26] = [
     Keyword::Reset,
     Keyword::Store,
     Keyword::Write32,
+    Keyword::PowerCycle,
 ];
 
 /// The controller that a line names.
@@ -106,6 +108,7 @@ impl Keyword {
             Keyword::Reset => "reset",
             Keyword::Store => "store",
             Keyword::Write32 => "write32",
+            Keyword::PowerCycle => "powercycle",
         }
     }
 
@@ -140,6 +143,7 @@ impl Keyword {
             Keyword::Reset => "reset C",
             Keyword::Store => "store C ADDR hex:DIGITS",
             Keyword::Write32 => "write32 C OFF V",
+            Keyword::PowerCycle => "powercycle",
         }
     }
 
@@ -157,7 +161,7 @@ impl Keyword {
             ],
             Keyword::Attached | Keyword::Flush | Keyword::Protection => &[CNTLID, NSID],
             Keyword::Attach | Keyword::Detach => &[CNTLID, NSID],
-            Keyword::Start => &[],
+            Keyword::Start | Keyword::PowerCycle => &[],
             Keyword::Up | Keyword::Ring | Keyword::Poll | Keyword::Reset => &[CNTLID],
             Keyword::Read | Keyword::Zeroes => &[
                 CNTLID,

@@ -77,6 +77,7 @@ seen_text c s seen.Reset bytes = codes "reset " ++ c
 seen_text c s seen.Stored bytes = codes "stored " ++ c
 seen_text c s seen.Outside bytes = codes "outside " ++ c
 seen_text c s seen.Wrote bytes = codes "wrote32 " ++ c
+seen_text c s seen.Cycled bytes = codes "powercycle"
 seen_text c s seen.NoController bytes = codes "nocontroller " ++ c
 seen_text c s seen.NoDriver bytes = codes "nodriver " ++ c
 seen_text c s seen.NotRaw bytes = codes "notraw " ++ c

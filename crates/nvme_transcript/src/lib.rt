@@ -1,6 +1,7 @@
 //! The transcript of a script: a line for each event, which shows what it gave to see.
 #![tactic(auto)]
 
+mod examples;
 mod line;
 mod writing;
 

@@ -41,6 +41,7 @@ impl fmt::Display for TranscriptLine<'_> {
             FleetSeen::Stored => write!(f, "stored {cntlid}"),
             FleetSeen::Outside => write!(f, "outside {cntlid}"),
             FleetSeen::Wrote => write!(f, "wrote32 {cntlid}"),
+            FleetSeen::Cycled => write!(f, "powercycle"),
             FleetSeen::NoController => write!(f, "nocontroller {cntlid}"),
             FleetSeen::NoDriver => write!(f, "nodriver {cntlid}"),
             FleetSeen::NotRaw => write!(f, "notraw {cntlid}"),

@@ -1,0 +1,7 @@
+-- What an answer unfolds to compute lines with literal numbers.
+use Rattle.std.specs.Prelude.{⊤}
+use Rattle.std.specs.Fmt.{digits}
+
+unfoldable pub lines_on_literals : ⊤
+unfolding digits
+lines_on_literals = tt
