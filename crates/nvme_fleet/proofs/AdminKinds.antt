@@ -4,12 +4,13 @@ use Rattle.std.proofs.lemmas.Bool.{and_parts, eqb-true}
 use Rattle.std.specs.Prelude.{if◌then◌else◌}
 use Rattle.nvme_wire.specs.Entry.{bits}
 use Rattle.nvme_wire.specs.Submission.{opcode, nsid, cdw10}
+use Rattle.nvme_spec.specs.declared.access.Protection.{Protection}
+use Rattle.nvme_spec.specs.declared.access.Protection.TheVariants.{Open, Protected, UntilCycle}
 use Rattle.nvme_spec.specs.declared.command.AdminCommand.{AdminCommand}
 use Rattle.nvme_spec.specs.declared.command.AdminCommand.TheVariants as admin
 use Rattle.nvme_spec.specs.declared.queues.QueueChange.TheVariants.{Keep}
 use Rattle.nvme_spec.specs.World.{World, Namespace, namespace_of}
-use Rattle.nvme_spec.specs.AdminCommands.{opcode_of, command_of, fid, number_of_queues, write_protection, data_length, data_length_of}
-use Rattle.nvme_spec.specs.Identify.{bit_of}
+use Rattle.nvme_spec.specs.AdminCommands.{opcode_of, command_of, state_of, fid, number_of_queues, write_protection, data_length, data_length_of}
 use Rattle.nvme_spec.specs.AdminRules as rules
 use Rattle.nvme_spec.specs.AdminEffects.{protection_value, double_word_0, data_out, world_after, queue_change}
 use Rattle.nvme_driver.specs.declared.lane.Lane.TheVariants.{Admin}
@@ -145,13 +146,14 @@ if-below : (b : Bool) (x y n : ℕ) → x < n → y < n → (if b then x else y)
 if-below true x y n f g = f
 if-below false x y n f g = g
 
-bit-small : (b : Bool) → bit_of b < 2 ^ 32
-bit-small true = omega arith
-bit-small false = omega arith
+state-small : (p : Protection) → state_of p < 2 ^ 32
+state-small Open = omega arith
+state-small Protected = omega arith
+state-small UntilCycle = omega arith
 
 protection-small : (o : Option Namespace) → protection_value o < 2 ^ 32
 protection-small None = omega arith
-protection-small (Some n) = bit-small n.protected
+protection-small (Some n) = state-small n.protection
 
 pub dw0-small : (w : World) (x : List ℕ) (command : AdminCommand) → double_word_0 w command x < 2 ^ 32
 unfolding double_word_0

@@ -4,14 +4,15 @@ use Rattle.std.specs.List.{AllByRecursion}
 use Rattle.nvme_spec.specs.Layout.{Extent, extent_of, may_write}
 use Rattle.nvme_spec.specs.MediumCalls.{MediumCall}
 use Rattle.nvme_machine.specs.declared.event.Event.TheVariants as event
+use Rattle.nvme_machine.specs.declared.seen.Seen.TheVariants.{Cycled}
 use Rattle.nvme_machine.specs.AllowedCalls.{HaveTheirOwn, KeepsOff}
 use Rattle.nvme_machine.proofs.AdminWorlds.{HasSameExtents, same-extents}
 use Rattle.nvme_machine.proofs.AllowedCalls.{all-joined, all-mapped, all-of-none, calls_are_allowed as machine_calls_are_allowed}
 use Rattle.nvme_machine.proofs.FencedCalls.{elsewhere}
 use Rattle.nvme_machine.proofs.Layouts.{step-extents}
 use Rattle.nvme_event.specs.declared.event.FleetEvent.{FleetEvent}
-use Rattle.nvme_event.specs.declared.event.FleetEvent.TheVariants.{BringUp, Place, Ring, Fetch, Execute, Poll, Reset, RawStore, RawWrite32}
-use Rattle.nvme_event.specs.Events.{controller_of}
+use Rattle.nvme_event.specs.declared.event.FleetEvent.TheVariants.{BringUp, Place, Ring, Fetch, Execute, Poll, Reset, RawStore, RawWrite32, PowerCycle}
+use Rattle.nvme_event.specs.Events.{OfItsHost}
 use Rattle.nvme_event.specs.Replies.{Reply}
 use Rattle.nvme_fleet.specs.AllowedCalls.{CallsAreAllowed, CallsOfRunsAreAllowed, ComesFrom, FencedHostsWriteNoBlock, MayCall}
 use Rattle.nvme_fleet.specs.FleetStates.{Layers}
@@ -30,6 +31,7 @@ calls_are_allowed tells old new (Poll k) reply calls h = all-of-none (MayCall ol
 calls_are_allowed tells old new (Reset k) reply calls h = all-of-none (MayCall old (Reset k)) calls h.below.1
 calls_are_allowed tells old new (RawStore k address bytes) reply calls h = all-of-none (MayCall old (RawStore k address bytes)) calls h.below.1
 calls_are_allowed tells old new (RawWrite32 k offset v) reply calls h = all-of-none (MayCall old (RawWrite32 k offset v)) calls h.below.1
+calls_are_allowed tells old new PowerCycle reply calls h = all-of-none (MayCall old PowerCycle) calls h.below.1
 
 behind-it : (tells : Bool) (old mid : Layers) (event : FleetEvent) (reply : Reply) (here : List MediumCall) (events : List FleetEvent) (call : MediumCall) → AreCallsOfStep tells old event reply mid here
     → ComesFrom tells mid events call → ComesFrom tells old (event ∷ events) call
@@ -58,7 +60,7 @@ calls_of_runs_are_allowed tells old new (event ∷ events) (reply ∷ later) cal
 
 -- Fenced hosts.
 
-keeps-off : (old : Layers) (e : FleetEvent) (n : ℕ) (x : Extent) → HaveTheirOwn old.subsystem.world → extent_of old.subsystem.world n ≡ Some x → may_write old.subsystem.world (controller_of e) n ≡ false
+keeps-off : (old : Layers) (e : FleetEvent) (n : ℕ) (x : Extent) → HaveTheirOwn old.subsystem.world → extent_of old.subsystem.world n ≡ Some x → OfItsHost (λ k. may_write old.subsystem.world k n ≡ false) e
     → (call : MediumCall) → MayCall old e call → KeepsOff x call
 keeps-off old (Execute k i) n x own is fenced call may = elsewhere old.subsystem (event.Execute k i) n x own is fenced call may
 keeps-off old (BringUp k) n x own is fenced call may = absurd may
@@ -69,12 +71,14 @@ keeps-off old (Poll k) n x own is fenced call may = absurd may
 keeps-off old (Reset k) n x own is fenced call may = absurd may
 keeps-off old (RawStore k address bytes) n x own is fenced call may = absurd may
 keeps-off old (RawWrite32 k offset v) n x own is fenced call may = absurd may
+keeps-off old PowerCycle n x own is fenced call may = absurd may
 
 extents-stay : (tells : Bool) (old new : Layers) (e : FleetEvent) (reply : Reply) → Step tells old e reply new → HasSameExtents old.subsystem.world new.subsystem.world
 extents-stay tells old new e reply step =
     by-event tells old new e reply (HasSameExtents old.subsystem.world new.subsystem.world) step
     (λ same. same-extents old.subsystem.world new.subsystem.world same.world)
     (λ k i is given one. step-extents tells old.subsystem new.subsystem (event.Execute k i) given one)
+    (λ is one. step-extents tells old.subsystem new.subsystem event.PowerCycle Cycled one)
 
 pub fenced_hosts_write_no_block : FencedHostsWriteNoBlock
 fenced_hosts_write_no_block tells old new [] [] calls n x own is run fenced = all-of-none (KeepsOff x) calls run.1

@@ -1,5 +1,5 @@
 -- Each answer that a mailbox holds is of an execution in the run, of a request that was placed in the run.
-use Rattle.std.proofs.Common.{◌≡◌, ◌⊎◌, inl, inr, ℕ, zero, suc, ◌+◌, ◌==◌, Bool, true, false, List, [], ◌∷◌, ◌++◌, length, map, Option, None, Some, Ok, Err, refl, sym, ap, subst, ◌∙◌}
+use Rattle.std.proofs.Common.{◌≡◌, ◌⊎◌, inl, inr, ℕ, zero, suc, ◌+◌, Bool, true, false, List, [], ◌∷◌, ◌++◌, length, map, Option, None, Some, Ok, Err, refl, sym, ap, subst, ◌∙◌}
 use Rattle.std.specs.Prelude.{if◌then◌else◌, slice_get}
 use Rattle.std.specs.List.{AllByRecursion, remove}
 use Rattle.nvme_wire.specs.declared.status.Status.{Status}
@@ -13,11 +13,11 @@ use Rattle.nvme_driver.specs.declared.faults.UpFault.TheVariants.{AlreadyUp}
 use Rattle.nvme_driver.specs.declared.faults.PollFault.TheVariants as poll_fault
 use Rattle.nvme_driver.specs.Requests.{asked_of}
 use Rattle.nvme_event.specs.declared.event.FleetEvent.{FleetEvent}
-use Rattle.nvme_event.specs.declared.event.FleetEvent.TheVariants.{BringUp, Place, Ring, Fetch, Execute, Poll, Reset, RawStore, RawWrite32}
+use Rattle.nvme_event.specs.declared.event.FleetEvent.TheVariants.{BringUp, Place, Ring, Fetch, Execute, Poll, Reset, RawStore, RawWrite32, PowerCycle}
 use Rattle.nvme_event.specs.declared.seen.FleetSeen.{FleetSeen}
 use Rattle.nvme_event.specs.declared.seen.FleetSeen.TheVariants as seen
 use Rattle.nvme_event.specs.Replies.{Reply}
-use Rattle.nvme_event.specs.Events.{controller_of}
+use Rattle.nvme_event.specs.Events.{concerns}
 use Rattle.nvme_fleet.specs.Mailboxes.{Item, FetchedItem, PostedAnswer, LaneBox, Mailbox, box_at, with_box, lane_of, names, with_mark}
 use Rattle.nvme_fleet.specs.Deliveries.{Reaction, reaction, recounted, ring_lane, brought_up, refusal, new_item, with_placed, placed_by, placed, rung, fetched_first, lane_at, fetched_of, answer_reply, handed_up, polled_io, polled_admin, polled_aborted, polled}
 use Rattle.nvme_fleet.specs.Executions.{Response}
@@ -238,20 +238,20 @@ executed-known P Q (Some x) tells j k i old new m n reply same at found h g =
       conclusion_is = refl;
     }
 
-own-known : (P : Item → Type 0) (Q : PostedAnswer → Type 0) (event : FleetEvent) (tells : Bool) (k : ℕ) (old new : Fleet) (m n : Mailbox) (reply : Reply) → controller_of event ≡ k → HasMailbox old k m
+own-known : (P : Item → Type 0) (Q : PostedAnswer → Type 0) (event : FleetEvent) (tells : Bool) (k : ℕ) (old new : Fleet) (m n : Mailbox) (reply : Reply) → concerns event k ≡ true → HasMailbox old k m
     → OwnStep event tells k old.site m reply new.site n → Known P Q m
     → Known (ItemsNow P k old event reply new) (AnswersNow P Q tells k old event reply new) n
 own-known P Q (BringUp j) tells k old new m n reply same at h g =
     subst (Known _ _) (sym h.1) (brought-up _ _ m (before P Q tells k old (BringUp j) reply new m g))
 own-known P Q (Place j request) tells k old new m n reply same at h g =
     subst (Known _ _) (sym h.1)
-    (places _ _ (refusal m request) m request (placing P j k request old new m reply same h.0) (before P Q tells k old (Place j request) reply new m g))
+    (places _ _ (refusal m request) m request (placing P j k request old new m reply (is-same j k same) h.0) (before P Q tells k old (Place j request) reply new m g))
 own-known P Q (Ring j) tells k old new m n reply same at h g =
     subst (Known _ _) (sym h.1) (rings _ _ m (before P Q tells k old (Ring j) reply new m g))
 own-known P Q (Fetch j q) tells k old new m n reply same at h g =
     subst (Known _ _) (sym h.1) (fetches _ _ (lane_at q) m (before P Q tells k old (Fetch j q) reply new m g))
 own-known P Q (Execute j i) tells k old new m n reply same at h g =
-    executed-known P Q (slice_get m.fetched i) tells j k i old new m n reply same at refl h g
+    executed-known P Q (slice_get m.fetched i) tells j k i old new m n reply (is-same j k same) at refl h g
 own-known P Q (Poll j) tells k old new m n reply same at h g =
     subst (Known _ _) (sym h.1) (polls _ _ m.aborted m (before P Q tells k old (Poll j) reply new m g))
 own-known P Q (Reset j) tells k old new m n reply same at h g =
@@ -260,11 +260,13 @@ own-known P Q (RawStore j address bytes) tells k old new m n reply same at h g =
     subst (Known _ _) (sym h.1) (before P Q tells k old (RawStore j address bytes) reply new m g)
 own-known P Q (RawWrite32 j offset v) tells k old new m n reply same at h g =
     subst (Known _ _) (sym h.1) (before P Q tells k old (RawWrite32 j offset v) reply new m g)
+own-known P Q PowerCycle tells k old new m n reply same at h g =
+    subst (Known (ItemsNow P k old PowerCycle reply new) (AnswersNow P Q tells k old PowerCycle reply new)) (sym h.1) ((tt, tt, tt), (tt, tt, tt), tt)
 
-step-known : (P : Item → Type 0) (Q : PostedAnswer → Type 0) (b : Bool) (event : FleetEvent) (tells : Bool) (k : ℕ) (old new : Fleet) (m n : Mailbox) (reply : Reply) → (controller_of event == k) ≡ b → HasMailbox old k m
+step-known : (P : Item → Type 0) (Q : PostedAnswer → Type 0) (b : Bool) (event : FleetEvent) (tells : Bool) (k : ℕ) (old new : Fleet) (m n : Mailbox) (reply : Reply) → concerns event k ≡ b → HasMailbox old k m
     → MailboxStep b event tells k old.site m reply new.site n → Known P Q m
     → Known (ItemsNow P k old event reply new) (AnswersNow P Q tells k old event reply new) n
-step-known P Q true event tells k old new m n reply is at h g = own-known P Q event tells k old new m n reply (is-same (controller_of event) k is) at h g
+step-known P Q true event tells k old new m n reply is at h g = own-known P Q event tells k old new m n reply is at h g
 step-known P Q false event tells k old new m n reply is at h g =
     marks (ItemsNow P k old event reply new) (AnswersNow P Q tells k old event reply new) m n (others-differ event k m reply new.site n h) (before P Q tells k old event reply new m g)
 
@@ -316,7 +318,7 @@ walk P Q k m tells old (event ∷ events) (x ∷ later) new run at g =
     let one = hosts_are_apart tells old run.0 event x run.1 k m at in
     let R : Item → Type 0 = ItemsNow P k old event x run.0 in
     let S : PostedAnswer → Type 0 = AnswersNow P Q tells k old event x run.0 in
-    let here : Known R S one.mailbox = step-known P Q (controller_of event == k) event tells k old run.0 m one.mailbox x refl at one.moves g in
+    let here : Known R S one.mailbox = step-known P Q (concerns event k) event tells k old run.0 m one.mailbox x refl at one.moves g in
     let rest = walk R S k one.mailbox tells run.0 events later new run.2 one.host here in
     record {
       mailbox = rest.mailbox;

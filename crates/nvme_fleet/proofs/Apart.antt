@@ -7,18 +7,18 @@ use Rattle.nvme_machine.specs.declared.seen.Executed.{Executed}
 use Rattle.nvme_machine.specs.declared.seen.Executed.TheVariants.{Posted, NoSuch}
 use Rattle.nvme_machine.specs.Controllers.{Controller}
 use Rattle.nvme_event.specs.declared.event.FleetEvent.{FleetEvent}
-use Rattle.nvme_event.specs.declared.event.FleetEvent.TheVariants.{BringUp, Place, Ring, Fetch, Execute, Poll, Reset, RawStore, RawWrite32}
+use Rattle.nvme_event.specs.declared.event.FleetEvent.TheVariants.{BringUp, Place, Ring, Fetch, Execute, Poll, Reset, RawStore, RawWrite32, PowerCycle}
 use Rattle.nvme_event.specs.declared.seen.FleetSeen.{FleetSeen}
-use Rattle.nvme_event.specs.declared.seen.FleetSeen.TheVariants.{Executed as ExecutedSeen, NoController, NotRaw}
+use Rattle.nvme_event.specs.declared.seen.FleetSeen.TheVariants.{Executed as ExecutedSeen, NoController, NotRaw, Cycled}
 use Rattle.nvme_event.specs.Replies.{Reply}
-use Rattle.nvme_event.specs.Events.{controller_of}
+use Rattle.nvme_event.specs.Events.{concerns}
 use Rattle.nvme_fleet.specs.Mailboxes.{FetchedItem, Mailbox}
-use Rattle.nvme_fleet.specs.Deliveries.{Reaction, plain, fetched}
+use Rattle.nvme_fleet.specs.Deliveries.{Reaction, plain, fetched, reset}
 use Rattle.nvme_fleet.specs.Executions.{Site, Answers}
-use Rattle.nvme_fleet.specs.Fleets.{Host, WithDriver, Raw, Fleet, Is, Completes, ExecutesItem, ExecutesAt, host_at, with_host, called_at, raw_at, fetched_at, settled, after_answer, site_of, marks_in, replaced, numbered}
+use Rattle.nvme_fleet.specs.Fleets.{Host, WithDriver, Raw, Fleet, Is, Completes, ExecutesItem, ExecutesAt, host_at, with_host, power_cycled, called_at, raw_at, fetched_at, settled, after_answer, site_of, marks_in, replaced, numbered}
 use Rattle.nvme_fleet.specs.Apart.{HasMailbox, Becomes, Posts, ExecutesOwn, OwnStep, OthersStep, MailboxStep, MovesOn, HostsAreApart, marks_seen, marked_by}
 use Rattle.nvme_fleet.proofs.MailboxMarks.{spared}
-use Rattle.nvme_fleet.proofs.HostPlaces.{replaced-other, replaced-here, own-set, called-other, raw-other, fetched-other, marks-numbered}
+use Rattle.nvme_fleet.proofs.HostPlaces.{cycled-host, replaced-other, replaced-here, own-set, called-other, raw-other, fetched-other, marks-numbered}
 
 pub is-same : (j k : ℕ) → (j == k) ≡ true → j ≡ k
 is-same j k h = grind (arith, common_steps, h)
@@ -31,7 +31,7 @@ is-other j k h e = grind (arith, common_steps, h, e)
 
 -- Where a host keeps its place.
 
-keeps : (tells : Bool) (old new : Fleet) (event : FleetEvent) (reply : Reply) (k : ℕ) (m : Mailbox) → (controller_of event == k) ≡ false → OthersStep event k m reply new.site m
+keeps : (tells : Bool) (old new : Fleet) (event : FleetEvent) (reply : Reply) (k : ℕ) (m : Mailbox) → concerns event k ≡ false → OthersStep event k m reply new.site m
     → host_at new k ≡ host_at old k → HasMailbox old k m → MovesOn tells old event reply new k m
 keeps tells old new event reply k m other stays same at = record {
   mailbox = m;
@@ -39,7 +39,7 @@ keeps tells old new event reply k m other stays same at = record {
   moves = subst (λ b. MailboxStep b event tells k old.site m reply new.site m) (sym other) stays;
 }
 
-own : (tells : Bool) (old new : Fleet) (event : FleetEvent) (reply : Reply) (k : ℕ) (m n : Mailbox) → (controller_of event == k) ≡ true → HasMailbox new k n
+own : (tells : Bool) (old new : Fleet) (event : FleetEvent) (reply : Reply) (k : ℕ) (m n : Mailbox) → concerns event k ≡ true → HasMailbox new k n
     → OwnStep event tells k old.site m reply new.site n → MovesOn tells old event reply new k m
 own tells old new event reply k m n here at h = record {
   mailbox = n;
@@ -55,7 +55,7 @@ calls old new j k m call reply same at h =
     let so : Is (called_at (Some (WithDriver m)) old j call) reply new = subst (λ o. Is (called_at o old j call) reply new) here h in
     ((so.0, refl), ap (λ f. host_at f k) so.1 ∙ ap (λ x. host_at (with_host old x (WithDriver (call m).mailbox)) k) same ∙ own-set old k (WithDriver m) (WithDriver (call m).mailbox) at)
 
-by-call : (tells : Bool) (old new : Fleet) (event : FleetEvent) (j k : ℕ) (m : Mailbox) (call : Mailbox → Reaction) (reply : Reply) (b : Bool) → (j == k) ≡ b → (controller_of event == k) ≡ b
+by-call : (tells : Bool) (old new : Fleet) (event : FleetEvent) (j k : ℕ) (m : Mailbox) (call : Mailbox → Reaction) (reply : Reply) (b : Bool) → (j == k) ≡ b → concerns event k ≡ b
     → OthersStep event k m reply new.site m → (Becomes (call m) reply (call m).mailbox → OwnStep event tells k old.site m reply new.site (call m).mailbox)
     → HasMailbox old k m → Is (called_at (host_at old j) old j call) reply new → MovesOn tells old event reply new k m
 by-call tells old new event j k m call reply true e here stays becomes at h =
@@ -78,7 +78,7 @@ by-fetch tells old new j q k m reply false e at h =
     keeps tells old new (Fetch j q) reply k m e refl (ap (λ f. host_at f k) h.1 ∙ fetched-other (host_at old j) old j k q (is-other j k e)) at
 
 -- a raw host's event does not reach a host with a driver
-by-raw : (tells : Bool) (old new : Fleet) (event : FleetEvent) (j k : ℕ) (m : Mailbox) (change : Controller → Controller) (what : FleetSeen) (reply : Reply) (b : Bool) → (j == k) ≡ b → (controller_of event == k) ≡ b
+by-raw : (tells : Bool) (old new : Fleet) (event : FleetEvent) (j k : ℕ) (m : Mailbox) (change : Controller → Controller) (what : FleetSeen) (reply : Reply) (b : Bool) → (j == k) ≡ b → concerns event k ≡ b
     → OthersStep event k m reply new.site m → ((reply ≡ plain NotRaw) × (m ≡ m) → OwnStep event tells k old.site m reply new.site m)
     → HasMailbox old k m → Is (raw_at (host_at old j) old j change what) reply new → MovesOn tells old event reply new k m
 by-raw tells old new event j k m change what reply true e here stays becomes at h =
@@ -157,6 +157,15 @@ by-execution tells old new j i k m reply true e at h =
     executes-own tells old new j i k reply m same e at (subst (λ o. ExecutesAt o tells old j i reply new) (ap (host_at old) same ∙ at) h)
 by-execution tells old new j i k m reply false e at h = executes-other (host_at old j) tells old new j i k reply m (is-other j k e) e at h
 
+-- A power cycle.
+
+by-cycle : (tells : Bool) (old new : Fleet) (k : ℕ) (m : Mailbox) (reply : Reply) → HasMailbox old k m → (reply ≡ plain Cycled) × (new ≡ power_cycled old) → MovesOn tells old PowerCycle reply new k m
+by-cycle tells old new k m reply at h = record {
+  mailbox = (reset m).mailbox;
+  host = ap (λ f. host_at f k) h.1 ∙ cycled-host old k (WithDriver m) at;
+  moves = (h.0, refl);
+}
+
 pub hosts_are_apart : HostsAreApart
 hosts_are_apart tells old new (BringUp j) reply h k m at = by-call tells old new (BringUp j) j k m _ reply (j == k) refl refl refl (λ x. x) at h
 hosts_are_apart tells old new (Place j request) reply h k m at = by-call tells old new (Place j request) j k m _ reply (j == k) refl refl refl (λ x. x) at h
@@ -167,3 +176,4 @@ hosts_are_apart tells old new (Poll j) reply h k m at = by-call tells old new (P
 hosts_are_apart tells old new (Reset j) reply h k m at = by-call tells old new (Reset j) j k m _ reply (j == k) refl refl refl (λ x. x) at h
 hosts_are_apart tells old new (RawStore j address bytes) reply h k m at = by-raw tells old new (RawStore j address bytes) j k m _ _ reply (j == k) refl refl refl (λ x. x) at h
 hosts_are_apart tells old new (RawWrite32 j offset v) reply h k m at = by-raw tells old new (RawWrite32 j offset v) j k m _ _ reply (j == k) refl refl refl (λ x. x) at h
+hosts_are_apart tells old new PowerCycle reply h k m at = by-cycle tells old new k m reply at h

@@ -19,17 +19,18 @@ use Rattle.nvme_driver.proofs.Mapped.{IsMapped, rises-mapped}
 use Rattle.nvme_machine.specs.declared.event.Event.{Event}
 use Rattle.nvme_machine.specs.declared.event.Event.TheVariants as event
 use Rattle.nvme_machine.specs.declared.seen.Seen.{Seen}
-use Rattle.nvme_machine.specs.Controllers.{Controller, with_marks}
+use Rattle.nvme_machine.specs.declared.seen.Seen.TheVariants.{Cycled}
+use Rattle.nvme_machine.specs.Controllers.{Controller, power_cycled, with_marks}
 use Rattle.nvme_machine.specs.Runs.{IsMarkedBy}
 use Rattle.nvme_machine.specs.Subsystems as machine
 use Rattle.nvme_machine.specs.Subsystems.{Subsystem, controller_at}
 use Rattle.nvme_machine.proofs.Fencing as fencing
 use Rattle.nvme_machine.proofs.Layouts as layouts
-use Rattle.nvme_machine.proofs.Others.{others_change_in_marks_alone}
+use Rattle.nvme_machine.proofs.Others.{cycled-at, others_change_in_marks_alone}
 use Rattle.nvme_event.specs.declared.event.FleetEvent.{FleetEvent}
-use Rattle.nvme_event.specs.declared.event.FleetEvent.TheVariants.{BringUp, Place, Ring, Fetch, Execute, Poll, Reset, RawStore, RawWrite32}
+use Rattle.nvme_event.specs.declared.event.FleetEvent.TheVariants.{BringUp, Place, Ring, Fetch, Execute, Poll, Reset, RawStore, RawWrite32, PowerCycle}
 use Rattle.nvme_event.specs.declared.seen.FleetSeen.{FleetSeen}
-use Rattle.nvme_event.specs.Events.{controller_of}
+use Rattle.nvme_event.specs.Events.{OfItsHost}
 use Rattle.nvme_event.specs.Replies.{Reply}
 use Rattle.nvme_fleet.specs.declared.delivery.DriverCall.{DriverCall}
 use Rattle.nvme_fleet.specs.declared.delivery.DriverCall.TheVariants as call
@@ -38,7 +39,7 @@ use Rattle.nvme_fleet.specs.Deeds.{CallStep, ComesUp, Does, DoesIfAny, Places, R
 use Rattle.nvme_fleet.specs.Executions.{Site}
 use Rattle.nvme_fleet.specs.Fleets.{Fleet, Is, Moment, host_at}
 use Rattle.nvme_fleet.specs.FleetStates.{Layers, fleet_in}
-use Rattle.nvme_fleet.specs.Layers.{Applies, AppliesRaw, CallsAt, Step, driver_at}
+use Rattle.nvme_fleet.specs.Layers.{Applies, AppliesRaw, CallsAt, Cycles, Step, driver_at}
 use Rattle.nvme_fleet.proofs.Existing.{called-site, fetched-site, raw-site}
 
 -- Runs of the mailboxes.
@@ -51,7 +52,7 @@ runs_of_mailboxes tells old new (e ∷ events) (reply ∷ later) run = (let s = 
 abbrev content-of : Device → List ℕ
 content-of d = d.content
 
--- All events but executions leave access state and medium.
+-- All events but executions and power cycles leave access state and medium.
 
 pub record IsSameSite (old new : Layers) : Type 0 where
   pub world : new.subsystem.world ≡ old.subsystem.world
@@ -64,16 +65,18 @@ same-site old new m reply same h =
     record { world = ap (λ (s : Site). s.world) e; device = ap (λ (s : Site). s.device) e }
 
 pub by-event : (tells : Bool) (old new : Layers) (e : FleetEvent) (reply : Reply) (P : Type 0) → Step tells old e reply new → (IsSameSite old new → P)
-    → ((k i : ℕ) → e ≡ Execute k i → (given : Seen) → machine.Step tells old.subsystem (event.Execute k i) given new.subsystem → P) → P
-by-event tells old new (BringUp k) reply P s alone executes = alone (same-site old new _ reply (called-site (host_at (fleet_in old) k) (fleet_in old) k _) s.mailboxes)
-by-event tells old new (Place k request) reply P s alone executes = alone (same-site old new _ reply (called-site (host_at (fleet_in old) k) (fleet_in old) k _) s.mailboxes)
-by-event tells old new (Ring k) reply P s alone executes = alone (same-site old new _ reply (called-site (host_at (fleet_in old) k) (fleet_in old) k _) s.mailboxes)
-by-event tells old new (Fetch k q) reply P s alone executes = alone (same-site old new _ reply (fetched-site (host_at (fleet_in old) k) (fleet_in old) k q) s.mailboxes)
-by-event tells old new (Execute k i) reply P s alone executes = (let b = s.below in executes k i refl b.given b.step)
-by-event tells old new (Poll k) reply P s alone executes = alone (same-site old new _ reply (called-site (host_at (fleet_in old) k) (fleet_in old) k _) s.mailboxes)
-by-event tells old new (Reset k) reply P s alone executes = alone (same-site old new _ reply (called-site (host_at (fleet_in old) k) (fleet_in old) k _) s.mailboxes)
-by-event tells old new (RawStore k address bytes) reply P s alone executes = alone (same-site old new _ reply (raw-site (host_at (fleet_in old) k) (fleet_in old) k _ _) s.mailboxes)
-by-event tells old new (RawWrite32 k offset v) reply P s alone executes = alone (same-site old new _ reply (raw-site (host_at (fleet_in old) k) (fleet_in old) k _ _) s.mailboxes)
+    → ((k i : ℕ) → e ≡ Execute k i → (given : Seen) → machine.Step tells old.subsystem (event.Execute k i) given new.subsystem → P)
+    → (e ≡ PowerCycle → machine.Step tells old.subsystem event.PowerCycle Cycled new.subsystem → P) → P
+by-event tells old new (BringUp k) reply P s alone executes cycles = alone (same-site old new _ reply (called-site (host_at (fleet_in old) k) (fleet_in old) k _) s.mailboxes)
+by-event tells old new (Place k request) reply P s alone executes cycles = alone (same-site old new _ reply (called-site (host_at (fleet_in old) k) (fleet_in old) k _) s.mailboxes)
+by-event tells old new (Ring k) reply P s alone executes cycles = alone (same-site old new _ reply (called-site (host_at (fleet_in old) k) (fleet_in old) k _) s.mailboxes)
+by-event tells old new (Fetch k q) reply P s alone executes cycles = alone (same-site old new _ reply (fetched-site (host_at (fleet_in old) k) (fleet_in old) k q) s.mailboxes)
+by-event tells old new (Execute k i) reply P s alone executes cycles = (let b = s.below in executes k i refl b.given b.step)
+by-event tells old new (Poll k) reply P s alone executes cycles = alone (same-site old new _ reply (called-site (host_at (fleet_in old) k) (fleet_in old) k _) s.mailboxes)
+by-event tells old new (Reset k) reply P s alone executes cycles = alone (same-site old new _ reply (called-site (host_at (fleet_in old) k) (fleet_in old) k _) s.mailboxes)
+by-event tells old new (RawStore k address bytes) reply P s alone executes cycles = alone (same-site old new _ reply (raw-site (host_at (fleet_in old) k) (fleet_in old) k _ _) s.mailboxes)
+by-event tells old new (RawWrite32 k offset v) reply P s alone executes cycles = alone (same-site old new _ reply (raw-site (host_at (fleet_in old) k) (fleet_in old) k _ _) s.mailboxes)
+by-event tells old new PowerCycle reply P s alone executes cycles = (let b = s.below in cycles refl (refl, b.cycled))
 
 pub fenced_events_write_nothing : FencedEventsWriteNothing
 fenced_events_write_nothing old new e reply n laid step may =
@@ -81,24 +84,43 @@ fenced_events_write_nothing old new e reply n laid step may =
     (λ same. let w = same.world in let d = same.device in (ap (λ x. bytes_of x new.subsystem.device.content n) w ∙ ap (λ x. bytes_of old.subsystem.world (content-of x) n) d))
     (λ k i is given one.
     layouts.fenced_events_write_nothing old.subsystem new.subsystem (event.Execute k i) given n laid one
-    (subst (λ x. may_write old.subsystem.world (controller_of x) n ≡ false) is may))
+    (subst (OfItsHost (λ j. may_write old.subsystem.world j n ≡ false)) is may))
+    (λ is one. layouts.fenced_events_write_nothing old.subsystem new.subsystem event.PowerCycle Cycled n laid one tt)
 
 pub layout_stays : LayoutStays
 layout_stays old new e reply laid step =
     by-event true old new e reply (is_laid_out new) step
     (λ same. let w = same.world in let d = same.device in subst (λ x. IsLaidOut x new.subsystem.device.content) (sym w) (subst (λ x. IsLaidOut old.subsystem.world (content-of x)) (sym d) laid))
     (λ k i is given one. layouts.layout_stays old.subsystem new.subsystem (event.Execute k i) given laid one)
+    (λ is one. layouts.layout_stays old.subsystem new.subsystem event.PowerCycle Cycled laid one)
 
 pub permissions_stay : PermissionsStay
 permissions_stay tells old new e reply n step leaves k =
     by-event tells old new e reply (may_write new.subsystem.world k n ≡ may_write old.subsystem.world k n) step
     (λ same. ap (λ x. may_write x k n) same.world)
-    (λ j i is given one. fencing.permissions_stay tells old.subsystem new.subsystem (event.Execute j i) given n one (subst (LeavesReservation n old) is leaves) k)
+    (λ j i is given one. fencing.permissions_stay tells old.subsystem new.subsystem (event.Execute j i) given n one (subst (LeavesReservation n old) is leaves, λ forgets. forgets) k)
+    (λ is one. fencing.permissions_stay tells old.subsystem new.subsystem event.PowerCycle Cycled n one ((λ allowed. allowed), subst (LeavesReservation n old) is leaves) k)
 
-pub still-fenced : (v w : World) (n : ℕ) (events : List FleetEvent) → ((k : ℕ) → may_write w k n ≡ may_write v k n) → AllByRecursion (λ e. may_write v (controller_of e) n ≡ false) events
-    → AllByRecursion (λ e. may_write w (controller_of e) n ≡ false) events
-still-fenced v w n [] same h = tt
-still-fenced v w n (e ∷ events) same h = (same (controller_of e) ∙ h.0, still-fenced v w n events same h.1)
+-- what holds of the hosts of events in one world holds of them in the next
+of-one : (P Q : ℕ → Type 0) → ((k : ℕ) → P k → Q k) → (e : FleetEvent) → OfItsHost P e → OfItsHost Q e
+of-one P Q f (BringUp k) h = f k h
+of-one P Q f (Place k request) h = f k h
+of-one P Q f (Ring k) h = f k h
+of-one P Q f (Fetch k q) h = f k h
+of-one P Q f (Execute k i) h = f k h
+of-one P Q f (Poll k) h = f k h
+of-one P Q f (Reset k) h = f k h
+of-one P Q f (RawStore k address bytes) h = f k h
+of-one P Q f (RawWrite32 k offset v) h = f k h
+of-one P Q f PowerCycle h = tt
+
+pub of-each : (P Q : ℕ → Type 0) → ((k : ℕ) → P k → Q k) → (events : List FleetEvent) → AllByRecursion (OfItsHost P) events → AllByRecursion (OfItsHost Q) events
+of-each P Q f [] h = tt
+of-each P Q f (e ∷ events) h = (of-one P Q f e h.0, of-each P Q f events h.1)
+
+pub still-fenced : (v w : World) (n : ℕ) (events : List FleetEvent) → ((k : ℕ) → may_write w k n ≡ may_write v k n) → AllByRecursion (OfItsHost (λ k. may_write v k n ≡ false)) events
+    → AllByRecursion (OfItsHost (λ k. may_write w k n ≡ false)) events
+still-fenced v w n events same h = of-each (λ k. may_write v k n ≡ false) (λ k. may_write w k n ≡ false) (λ k fenced. same k ∙ fenced) events h
 
 pub fencing_holds : FencingHolds
 fencing_holds old new [] [] n laid run fenced = (ap (λ l. namespace_bytes l n) run, λ k. ap (λ (l : Layers). may_write l.subsystem.world k n) run)
@@ -115,12 +137,18 @@ marked-window : (n : ℕ) (o : Option Controller) → window_of (option_map (wit
 marked-window n None = refl
 marked-window n (Some c) = refl
 
-other-window : (w : World) (x : Seen) (j : ℕ) (old new : Option Controller) → (new ≡ old) ⊎ IsMarkedBy w x j old new → window_of new ≡ window_of old
-other-window w x j old new (inl e) = ap window_of e
-other-window w x j old new (inr m) = ap window_of m.marked ∙ marked-window m.outcome.marks.nsid old
+cycled-window : (o : Option Controller) → window_of (option_map power_cycled o) ≡ window_of o
+cycled-window None = refl
+cycled-window (Some c) = refl
+
+other-window : (w : World) (x : Seen) (e : Event) (j : ℕ) (old new : Option Controller) → (new ≡ old) ⊎ IsMarkedBy w x j old new ⊎ ((e ≡ event.PowerCycle) × (new ≡ option_map power_cycled old))
+    → window_of new ≡ window_of old
+other-window w x e j old new (inl same) = ap window_of same
+other-window w x e j old new (inr (inl m)) = ap window_of m.marked ∙ marked-window m.outcome.marks.nsid old
+other-window w x e j old new (inr (inr h)) = ap window_of h.1 ∙ cycled-window old
 
 step-window : (tells : Bool) (old new : Subsystem) (e : Event) (x : Seen) (j : ℕ) → machine.Step tells old e x new → j ≢ machine.controller_of e → window_at new j ≡ window_at old j
-step-window tells old new e x j step other = other-window new.world x j (controller_at old j) (controller_at new j) (others_change_in_marks_alone tells old new e x step j other)
+step-window tells old new e x j step other = other-window new.world x e j (controller_at old j) (controller_at new j) (others_change_in_marks_alone tells old new e x step j other)
 
 abbrev AreOf : ℕ → List Event → Type 0
 AreOf k events = AllByRecursion (λ e. machine.controller_of e ≡ k) events
@@ -200,6 +228,9 @@ raw-window None tells old new e x j other h = same-layers j old new h.1
 raw-window (Some None) tells old new e x j other h = applies-window tells old new e x j other h
 raw-window (Some (Some d)) tells old new e x j other h = same-layers j old new h.1
 
+cycles-window : (tells : Bool) (old new : Layers) (x : FleetSeen) (j : ℕ) → Cycles tells old x new → window_at new.subsystem j ≡ window_at old.subsystem j
+cycles-window tells old new x j h = ap window_of (cycled-at old.subsystem new.subsystem j h.cycled) ∙ cycled-window (controller_at old.subsystem j)
+
 pub others_windows_stay : OthersWindowsStay
 others_windows_stay tells old new (BringUp k) reply s j other = calls-window (driver_at old.drivers k) tells old new k j call.BringUp reply.seen other s.below
 others_windows_stay tells old new (Place k request) reply s j other = calls-window (driver_at old.drivers k) tells old new k j (call.Place request) reply.seen other s.below
@@ -210,3 +241,4 @@ others_windows_stay tells old new (Poll k) reply s j other = calls-window (drive
 others_windows_stay tells old new (Reset k) reply s j other = calls-window (driver_at old.drivers k) tells old new k j call.Reset reply.seen other s.below
 others_windows_stay tells old new (RawStore k address bytes) reply s j other = raw-window (driver_at old.drivers k) tells old new (event.Store k address bytes) reply.seen j other s.below
 others_windows_stay tells old new (RawWrite32 k offset v) reply s j other = raw-window (driver_at old.drivers k) tells old new (event.Write32 k offset v) reply.seen j other s.below
+others_windows_stay tells old new PowerCycle reply s j other = cycles-window tells old new reply.seen j s.below

@@ -13,7 +13,7 @@ use Rattle.nvme_machine.specs.EventCalls as machine
 use Rattle.nvme_machine.specs.Subsystems.{Subsystem}
 use Rattle.nvme_machine.proofs.CallLaws as machine_laws
 use Rattle.nvme_event.specs.declared.event.FleetEvent.{FleetEvent}
-use Rattle.nvme_event.specs.declared.event.FleetEvent.TheVariants.{BringUp, Place, Ring, Fetch, Execute, Poll, Reset, RawStore, RawWrite32}
+use Rattle.nvme_event.specs.declared.event.FleetEvent.TheVariants.{BringUp, Place, Ring, Fetch, Execute, Poll, Reset, RawStore, RawWrite32, PowerCycle}
 use Rattle.nvme_event.specs.declared.seen.FleetSeen.TheVariants as seen
 use Rattle.nvme_event.specs.Replies.{Reply}
 use Rattle.nvme_fleet.specs.CallLaws.{StepsHaveCalls, RunsHaveCalls, StepCallsAreUnique, RunCallsAreUnique, FlushedIsOneFlush}
@@ -39,6 +39,7 @@ steps_have_calls tells old new (Poll k) reply h = ([], record { mailboxes = h.ma
 steps_have_calls tells old new (Reset k) reply h = ([], record { mailboxes = h.mailboxes; below = (h.below, refl) })
 steps_have_calls tells old new (RawStore k address bytes) reply h = ([], record { mailboxes = h.mailboxes; below = (h.below, refl) })
 steps_have_calls tells old new (RawWrite32 k offset v) reply h = ([], record { mailboxes = h.mailboxes; below = (h.below, refl) })
+steps_have_calls tells old new PowerCycle reply h = ([], record { mailboxes = h.mailboxes; below = (h.below, refl) })
 
 pub runs_have_calls : RunsHaveCalls
 runs_have_calls tells old new [] [] h = ([], (h, refl))
@@ -62,6 +63,7 @@ step_calls_are_unique tells old new other (Poll k) reply another calls these con
 step_calls_are_unique tells old new other (Reset k) reply another calls these content left right h g made also = g.below.1 ∙ sym h.below.1
 step_calls_are_unique tells old new other (RawStore k address bytes) reply another calls these content left right h g made also = g.below.1 ∙ sym h.below.1
 step_calls_are_unique tells old new other (RawWrite32 k offset v) reply another calls these content left right h g made also = g.below.1 ∙ sym h.below.1
+step_calls_are_unique tells old new other PowerCycle reply another calls these content left right h g made also = g.below.1 ∙ sym h.below.1
 
 pub run_calls_are_unique : RunCallsAreUnique
 run_calls_are_unique old new other [] [] [] calls these content left right all h g made also a b below = g.1 ∙ sym h.1
@@ -102,6 +104,7 @@ given-is (given.Value v) o h = absurd (cc)
 given-is (given.Fetched fetched) o h = absurd (cc)
 given-is (given.Executed e) o h = executed-is e o h
 given-is given.NoController o h = absurd (cc)
+given-is given.Cycled o h = absurd (cc)
 
 pub flushed_is_one_flush : FlushedIsOneFlush
 flushed_is_one_flush tells old new k i reply outcome calls h posted flush ok =

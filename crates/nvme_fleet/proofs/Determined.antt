@@ -21,14 +21,14 @@ use Rattle.nvme_machine.specs.Executing.{Setting, FinishesOne, FinishesOver, sce
 use Rattle.nvme_machine.specs.Answers as machine
 use Rattle.nvme_machine.proofs.Determined as machine_proofs
 use Rattle.nvme_event.specs.declared.event.FleetEvent.{FleetEvent}
-use Rattle.nvme_event.specs.declared.event.FleetEvent.TheVariants.{BringUp, Place, Ring, Fetch, Execute, Poll, Reset, RawStore, RawWrite32}
+use Rattle.nvme_event.specs.declared.event.FleetEvent.TheVariants.{BringUp, Place, Ring, Fetch, Execute, Poll, Reset, RawStore, RawWrite32, PowerCycle}
 use Rattle.nvme_event.specs.declared.seen.FleetSeen.{FleetSeen}
 use Rattle.nvme_event.specs.declared.seen.FleetSeen.TheVariants.{Executed as ExecutedSeen}
 use Rattle.nvme_event.specs.Replies.{Reply}
 use Rattle.nvme_fleet.specs.Mailboxes.{FetchedItem, Mailbox, lane_of}
 use Rattle.nvme_fleet.specs.Deliveries.{Reaction, plain}
 use Rattle.nvme_fleet.specs.Executions.{Site, Response, scene_at, IsServed, AnswersIo, AnswersAs, Answers, io_verdict, admin_judgement, admin_response_by, admin_response, bytes_with, command_entry}
-use Rattle.nvme_fleet.specs.Fleets.{Host, WithDriver, Raw, Fleet, Moment, Is, Step, host_at, with_host, settled, called_at, raw_at, fetched_at, after_execution, after_raw, ExecutesItem, ExecutesRaw, ExecutesAt, setting_of}
+use Rattle.nvme_fleet.specs.Fleets.{Host, WithDriver, Raw, Fleet, Moment, Is, Step, host_at, with_host, power_cycled, settled, called_at, raw_at, fetched_at, after_execution, after_raw, ExecutesItem, ExecutesRaw, ExecutesAt, setting_of}
 use Rattle.nvme_fleet.specs.FaultFree.{served, performance_of, io_response, response_as, response, executing_item, RawExecution, raw_over, raw_one, executing, fault_free_step, fault_free_replies, fault_free_left}
 use Rattle.nvme_fleet.specs.Determined.{failures_in, FailuresNeverFall, RunIsUnique}
 
@@ -114,6 +114,10 @@ fetched-calm None f k q = refl
 fetched-calm (Some (WithDriver m)) f k q = refl
 fetched-calm (Some (Raw c)) f k q = refl
 
+cycled-calm : (f : Fleet) → failures_in (power_cycled f) ≡ failures_in f
+unfolding power_cycled
+cycled-calm f = refl
+
 is-calm : (old new : Fleet) (m : Moment) (reply : Reply) → failures_in m.fleet ≡ failures_in old → Is m reply new → failures_in old ≤ failures_in new
 is-calm old new m reply same h = let e = ap failures_in h.1 in omega (arith, same, e)
 
@@ -127,6 +131,7 @@ step-counts tells old new (Poll k) reply h = is-calm old new _ reply (called-cal
 step-counts tells old new (Reset k) reply h = is-calm old new _ reply (called-calm (host_at old k) old k _) h
 step-counts tells old new (RawStore k address bytes) reply h = is-calm old new _ reply (raw-calm (host_at old k) old k _ _) h
 step-counts tells old new (RawWrite32 k offset v) reply h = is-calm old new _ reply (raw-calm (host_at old k) old k _ _) h
+step-counts tells old new PowerCycle reply h = is-calm old new _ reply (cycled-calm old) h
 
 pub failures_never_fall : FailuresNeverFall
 failures_never_fall tells old new [] [] run = whole-counts old new run
@@ -224,6 +229,7 @@ step-alone old new (Poll k) reply h same below = h
 step-alone old new (Reset k) reply h same below = h
 step-alone old new (RawStore k address bytes) reply h same below = h
 step-alone old new (RawWrite32 k offset v) reply h same below = h
+step-alone old new PowerCycle reply h same below = h
 
 pub run_is_unique : RunIsUnique
 run_is_unique old new [] [] run same below = (refl, run)

@@ -19,6 +19,7 @@ use Rattle.nvme_spec.specs.Layout.{IsLaidOut, extent_of}
 use Rattle.nvme_spec.proofs.Passing.{HasPassed, planned, passes}
 use Rattle.nvme_spec.proofs.FaultFree as spec
 use Rattle.nvme_spec.proofs.Fencing.{performs-rest}
+use Rattle.nvme_spec.proofs.Power.{cycle_keeps_places}
 use Rattle.nvme_driver.specs.declared.lane.Lane.{Lane}
 use Rattle.nvme_driver.specs.declared.lane.Lane.TheVariants.{Admin, Io}
 use Rattle.nvme_driver.specs.Requests.{Asked}
@@ -31,12 +32,12 @@ use Rattle.nvme_machine.proofs.AdminWorlds.{command-becomes, still}
 use Rattle.nvme_machine.proofs.Layouts.{answer-extents, answer-size}
 use Rattle.nvme_machine.proofs.Determined as machine_proofs
 use Rattle.nvme_event.specs.declared.event.FleetEvent.{FleetEvent}
-use Rattle.nvme_event.specs.declared.event.FleetEvent.TheVariants.{BringUp, Place, Ring, Fetch, Execute, Poll, Reset, RawStore, RawWrite32}
+use Rattle.nvme_event.specs.declared.event.FleetEvent.TheVariants.{BringUp, Place, Ring, Fetch, Execute, Poll, Reset, RawStore, RawWrite32, PowerCycle}
 use Rattle.nvme_event.specs.declared.seen.FleetSeen.{FleetSeen}
 use Rattle.nvme_fleet.specs.Mailboxes.{FetchedItem, Mailbox, lane_of}
 use Rattle.nvme_fleet.specs.Deliveries.{Reaction}
 use Rattle.nvme_fleet.specs.Executions.{Site, Response, scene_at, IsServed, AnswersIo, AnswersAs, Answers, action_of, io_judgement, io_verdict, admin_judgement, admin_response_by, admin_response, command_entry}
-use Rattle.nvme_fleet.specs.Fleets.{Host, WithDriver, Raw, Fleet, Step, host_at, with_host, settled, called_at, raw_at, fetched_at, ExecutesItem, ExecutesAt, setting_of}
+use Rattle.nvme_fleet.specs.Fleets.{Host, WithDriver, Raw, Fleet, Step, host_at, with_host, power_cycled, settled, called_at, raw_at, fetched_at, ExecutesItem, ExecutesAt, setting_of}
 use Rattle.nvme_fleet.specs.FaultFree.{served, performance_of, io_response, response_as, response, executing_item, raw_over, raw_one, raw_execution, executing, fault_free_step}
 use Rattle.nvme_fleet.specs.Determined.{failures_in, RunExists}
 use Rattle.nvme_fleet.proofs.Determined.{admin-calm}
@@ -224,6 +225,14 @@ Calm f g = StillLies f.site g.site × (failures_in g ≡ failures_in f)
 calm-site : (f g : Fleet) → g.site ≡ f.site → Calm f g
 calm-site f g e = (lies-same f.site g.site e, ap (λ (s : Site). s.device.failures) e)
 
+cycled-lies : (f : Fleet) → StillLies f.site (power_cycled f).site
+unfolding power_cycled
+cycled-lies f = let places = cycle_keeps_places f.site.world in record { extents = places.extents; size = omega arith }
+
+cycled-steps : (f : Fleet) → Steps f PowerCycle
+unfolding power_cycled
+cycled-steps f = record { step = (refl, refl); lies = cycled-lies f; calm = refl }
+
 steps : (f : Fleet) (event : FleetEvent) → IsLaidOut f.site.world f.site.device.content → Steps f event
 steps f (BringUp k) laid = let r = calm-site f (fault_free_step f (BringUp k)).fleet (called-site (host_at f k) f k _) in record { step = (refl, refl); lies = r.0; calm = r.1 }
 steps f (Place k request) laid = let r = calm-site f (fault_free_step f (Place k request)).fleet (called-site (host_at f k) f k _) in record { step = (refl, refl); lies = r.0; calm = r.1 }
@@ -234,6 +243,7 @@ steps f (Poll k) laid = let r = calm-site f (fault_free_step f (Poll k)).fleet (
 steps f (Reset k) laid = let r = calm-site f (fault_free_step f (Reset k)).fleet (called-site (host_at f k) f k _) in record { step = (refl, refl); lies = r.0; calm = r.1 }
 steps f (RawStore k address bytes) laid = let r = calm-site f (fault_free_step f (RawStore k address bytes)).fleet (raw-site (host_at f k) f k _ _) in record { step = (refl, refl); lies = r.0; calm = r.1 }
 steps f (RawWrite32 k offset v) laid = let r = calm-site f (fault_free_step f (RawWrite32 k offset v)).fleet (raw-site (host_at f k) f k _ _) in record { step = (refl, refl); lies = r.0; calm = r.1 }
+steps f PowerCycle laid = cycled-steps f
 
 pub run_exists : RunExists
 run_exists old [] laid = (refl, refl)

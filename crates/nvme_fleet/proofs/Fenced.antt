@@ -1,20 +1,29 @@
 -- Who may write over runs of a fleet.
-use Rattle.std.proofs.Common.{◌≡◌, ◌⊎◌, inl, inr, ℕ, ◌==◌, Bool, List, [], ◌∷◌, sym, ap, subst, ◌∙◌}
+use Rattle.std.proofs.Common.{◌≡◌, ◌⊎◌, inl, inr, ℕ, ◌==◌, Bool, true, List, [], ◌∷◌, refl, sym, ap, subst, ◌∙◌}
 use Rattle.std.proofs.lemmas.Bool.{cases_Bool, eqb-true, eqb-false}
 use Rattle.nvme_wire.specs.Submission.{nsid}
 use Rattle.nvme_spec.specs.Commands.{reserving}
 use Rattle.nvme_spec.specs.IoData.{reservation_outcome}
+use Rattle.nvme_spec.specs.Blocks.{Device}
 use Rattle.nvme_spec.specs.Layout.{reservation_of, may_write, may_read}
+use Rattle.nvme_spec.specs.Power.{cycled_world}
 use Rattle.nvme_spec.specs.World.{World, host_of}
 use Rattle.nvme_spec.proofs.Namespaces.{IsReserved, is-reserved}
+use Rattle.nvme_spec.proofs.Power.{cycle_keeps_places}
 use Rattle.nvme_machine.proofs.AdminWorlds.{HasSameExtents}
+use Rattle.nvme_machine.specs.declared.event.Event.TheVariants as machine_event
+use Rattle.nvme_machine.specs.declared.seen.Seen.TheVariants.{Cycled}
+use Rattle.nvme_machine.specs.Fencing.{IsFleeting}
+use Rattle.nvme_machine.specs.Subsystems.{Subsystem, after_power_cycle}
 use Rattle.nvme_machine.proofs.Fencing.{may-still, read-still}
+use Rattle.nvme_machine.proofs.Layouts as machine
 use Rattle.nvme_event.specs.declared.event.FleetEvent.{FleetEvent}
+use Rattle.nvme_event.specs.declared.event.FleetEvent.TheVariants.{PowerCycle}
 use Rattle.nvme_event.specs.Replies.{Reply}
 use Rattle.nvme_fleet.specs.Fleets.{Fleet, Step, Run}
 use Rattle.nvme_fleet.specs.IoCommands.{IoCommand}
-use Rattle.nvme_fleet.specs.Fencing.{Allows, OnlyAllowedActionsReserve, LeavesReservation, PermissionsStay, RunWhere}
-use Rattle.nvme_fleet.proofs.IoExecutions.{ActsOn, Acts, Rests, Reserves, acts}
+use Rattle.nvme_fleet.specs.Fencing.{Allows, Forgets, OnlyAllowedActionsReserve, LeavesReservation, PermissionsStay, RunWhere}
+use Rattle.nvme_fleet.proofs.IoExecutions.{ActsOn, Acts, Rests, Reserves, Loses, acts}
 use Rattle.nvme_fleet.proofs.Sites.{leaves}
 
 -- what a reservation command leaves of a world: all but its own reservation
@@ -27,6 +36,7 @@ hosts-stay old new event (Reserves j i number is x found numbered h) k =
     let r = reserved old.site.world new.site.world x number h in
     let l = r.layout in
     l.hosts k
+hosts-stay old new event (Loses is world) k = let places = cycle_keeps_places old.site.world in ap (λ w. host_of w k) world ∙ places.hosts k
 
 -- the namespaces lie where they lay
 pub extents-stay : (old new : Fleet) (event : FleetEvent) → Acts old new event → HasSameExtents old.site.world new.site.world
@@ -35,15 +45,37 @@ extents-stay old new event (Reserves j i number is x found numbered h) =
     let r = reserved old.site.world new.site.world x number h in
     let l = r.layout in
     record { hosts = l.hosts; extents = l.extents }
+extents-stay old new event (Loses is world) =
+    let places = cycle_keeps_places old.site.world in
+    subst (HasSameExtents old.site.world) (sym world) (record { hosts = places.hosts; extents = places.extents })
 
-action : (old new : Fleet) (event : FleetEvent) (n : ℕ) → Acts old new event → (reservation_of new.site.world n ≡ reservation_of old.site.world n) ⊎ Allows reserving old event n
+-- a power cycle leaves a reservation as it was, or it was one that does not persist
+cycled-or : (w : World) (d : Device) (n : ℕ) → (reservation_of (cycled_world w) n ≡ reservation_of w n) ⊎ IsFleeting (reservation_of w n)
+unfolding after_power_cycle
+cycled-or w d n =
+    let s : Subsystem = record { world = w; device = d; controllers = [] } in
+    elim (machine.only_allowed_actions_reserve true s (after_power_cycle s) machine_event.PowerCycle Cycled n (refl, refl)) [
+      | inl same ↦ inl same
+      | inr (inl allowed) ↦ absurd allowed
+      | inr (inr fleeting) ↦ inr fleeting
+    ]
+
+forgets : (old : Fleet) (event : FleetEvent) (n : ℕ) → event ≡ PowerCycle → IsFleeting (reservation_of old.site.world n) → Forgets old event n
+forgets old event n is h = subst (λ e. Forgets old e n) (sym is) h
+
+action : (old new : Fleet) (event : FleetEvent) (n : ℕ) → Acts old new event
+    → (reservation_of new.site.world n ≡ reservation_of old.site.world n) ⊎ Allows reserving old event n ⊎ Forgets old event n
 action old new event n (Rests h) = inl (h.reservations n)
 action old new event n (Reserves k i number is x found numbered h) =
     elim (cases_Bool (nsid x.entry == n)) [
-      | inl here ↦ inr (subst (λ e. Allows reserving old e n) (sym is)
-          (record { command = x; found = found; is = record { names = eqb-true (nsid x.entry) n here; is_one = h.is_one }; allowed = h.allowed }))
+      | inl here ↦ inr (inl (subst (λ e. Allows reserving old e n) (sym is)
+          (record { command = x; found = found; is = record { names = eqb-true (nsid x.entry) n here; is_one = h.is_one }; allowed = h.allowed })))
       | inr there ↦ (let r = reserved old.site.world new.site.world x number h in inl (r.others n (λ same. eqb-false (nsid x.entry) n there (sym same))))
     ]
+action old new event n (Loses is world) = elim (cycled-or old.site.world old.site.device n) [
+  | inl same ↦ inl (ap (λ w. reservation_of w n) world ∙ same)
+  | inr fleeting ↦ inr (inr (forgets old event n is fleeting))
+]
 
 pub step-acts : (tells : Bool) (old new : Fleet) (event : FleetEvent) (reply : Reply) → Step tells old event reply new → Acts old new event
 step-acts tells old new event reply step = acts tells old new event (leaves tells old new event reply step)
@@ -57,7 +89,8 @@ stays-one tells old new event reply n step quiet k =
     let h = step-acts tells old new event reply step in
     elim (action old new event n h) [
       | inl reservation ↦ may-still old.site.world new.site.world n k (hosts-stay old new event h k) reservation
-      | inr allowed ↦ absurd (quiet allowed)
+      | inr (inl allowed) ↦ absurd (quiet.0 allowed)
+      | inr (inr forgotten) ↦ absurd (quiet.1 forgotten)
     ]
 
 -- so of reading
@@ -67,7 +100,8 @@ reading-stays tells old new event reply n step quiet k =
     let h = step-acts tells old new event reply step in
     elim (action old new event n h) [
       | inl reservation ↦ read-still old.site.world new.site.world n k (hosts-stay old new event h k) reservation
-      | inr allowed ↦ absurd (quiet allowed)
+      | inr (inl allowed) ↦ absurd (quiet.0 allowed)
+      | inr (inr forgotten) ↦ absurd (quiet.1 forgotten)
     ]
 
 pub permissions_stay : PermissionsStay

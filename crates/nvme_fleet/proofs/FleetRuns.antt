@@ -8,7 +8,7 @@ use Rattle.nvme_driver.specs.declared.faults.PlaceRefusal.{PlaceRefusal}
 use Rattle.nvme_driver.specs.declared.lane.Lane.{Lane}
 use Rattle.nvme_machine.specs.Controllers as machine
 use Rattle.nvme_event.specs.declared.event.FleetEvent.{FleetEvent}
-use Rattle.nvme_event.specs.declared.event.FleetEvent.TheVariants.{BringUp, Place, Ring, Fetch, Execute, Poll, Reset, RawStore, RawWrite32}
+use Rattle.nvme_event.specs.declared.event.FleetEvent.TheVariants.{BringUp, Place, Ring, Fetch, Execute, Poll, Reset, RawStore, RawWrite32, PowerCycle}
 use Rattle.nvme_event.specs.declared.seen.FleetSeen.{FleetSeen}
 use Rattle.nvme_event.specs.Replies.{Reply}
 use Rattle.nvme_fleet.specs.Mailboxes.{Item, FetchedItem, Mailbox, box_at}
@@ -95,6 +95,7 @@ fits-room tells old (Poll k) reply new step few = few
 fits-room tells old (Reset k) reply new step few = none-long reply (quiet-call (host_at old k) old k reset reply new (λ m. refl) step)
 fits-room tells old (RawStore k address bytes) reply new step few = none-long reply (quiet-raw (host_at old k) old k _ _ reply new step)
 fits-room tells old (RawWrite32 k offset v) reply new step few = none-long reply (quiet-raw (host_at old k) old k _ _ reply new step)
+fits-room tells old PowerCycle reply new step few = none-long reply (ap (λ (r : Reply). r.bytes) step.0)
 
 -- bytes that are copied into a vector with room for them
 pub copied : {E : Type 0} (r : Result Unit E) (before after bytes : List ℕ) → after ≡ (if is_ok r then before ++ bytes else before) → IsOk r → before ≡ [] → after ≡ bytes

@@ -6,7 +6,7 @@ use Rattle.nvme_spec.specs.Bytes.{with_bytes}
 use Rattle.nvme_spec.specs.Memory.{window_size}
 use Rattle.nvme_driver.specs.Drivers.{Driver}
 use Rattle.nvme_machine.specs.declared.event.Event.{Event}
-use Rattle.nvme_machine.specs.declared.event.Event.TheVariants.{Store, Write32, Read32, Fetch, Execute}
+use Rattle.nvme_machine.specs.declared.event.Event.TheVariants.{Store, Write32, Read32, Fetch, Execute, PowerCycle}
 use Rattle.nvme_machine.specs.declared.seen.Fetched.{Fetched}
 use Rattle.nvme_machine.specs.declared.seen.Fetched.TheVariants.{Took, Idle}
 use Rattle.nvme_machine.specs.declared.seen.Seen.{Seen}
@@ -38,6 +38,7 @@ told-plain given.Wrote buffer = refl
 told-plain (given.Value v) buffer = refl
 told-plain (given.Fetched f) buffer = refl
 told-plain (given.Executed e) buffer = refl
+told-plain given.Cycled buffer = refl
 told-plain given.NoController buffer = refl
 
 told-short : (x : Seen) → data_len (told x) ≡ 0
@@ -47,6 +48,7 @@ told-short given.Wrote = refl
 told-short (given.Value v) = refl
 told-short (given.Fetched f) = refl
 told-short (given.Executed e) = refl
+told-short given.Cycled = refl
 told-short given.NoController = refl
 
 -- Where no controller is, no host is, and no driver.
@@ -219,6 +221,7 @@ applied-raw tells a new k d (Write32 j offset v) x s there is none own host h =
 applied-raw tells a new k d (Read32 j offset) x s there is none own host h = absurd host
 applied-raw tells a new k d (Fetch j q) x s there is none own host h = absurd host
 applied-raw tells a new k d (Execute j i) x s there is none own host h = absurd host
+applied-raw tells a new k d PowerCycle x s there is none own host h = absurd host
 
 pub refused-raw : (a : FleetState) (k : ℕ) (d : Option Driver) (event : Event) → IsSoundFleet a → IsThere a.subsystem k → d ≡ get_or a.drivers (k - 1) d → is_some d ≡ true → controller_of event ≡ k → IsOfHost event
     → Is (raw_moment (fleet_of a) event) (plain seen.NotRaw) (fleet_of a)
@@ -233,6 +236,7 @@ refused-raw a k d (Write32 j offset v) s there is some own host =
 refused-raw a k d (Read32 j offset) s there is some own host = absurd host
 refused-raw a k d (Fetch j q) s there is some own host = absurd host
 refused-raw a k d (Execute j i) s there is some own host = absurd host
+refused-raw a k d PowerCycle s there is some own host = absurd host
 
 pub missed-raw : (a : FleetState) (k : ℕ) (event : Event) → controller_at a.subsystem k ≡ None → controller_of event ≡ k → IsOfHost event → Is (raw_moment (fleet_of a) event) (plain seen.NoController) (fleet_of a)
 missed-raw a k (Store j address bytes) none own host = rw (host-none a j (ap (controller_at a.subsystem) own ∙ none)) (refl, refl)
@@ -240,6 +244,7 @@ missed-raw a k (Write32 j offset v) none own host = rw (host-none a j (ap (contr
 missed-raw a k (Read32 j offset) none own host = absurd host
 missed-raw a k (Fetch j q) none own host = absurd host
 missed-raw a k (Execute j i) none own host = absurd host
+missed-raw a k PowerCycle none own host = absurd host
 
 -- the same below
 pub refused-below : (tells : Bool) (a : FleetState) (k : ℕ) (d : Option Driver) (event : Event) → driver_at a.drivers k ≡ Some d → is_some d ≡ true → AppliesRaw (driver_at a.drivers k) tells (layers_of a) event seen.NotRaw (layers_of a)

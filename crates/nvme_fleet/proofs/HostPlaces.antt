@@ -1,6 +1,7 @@
 -- What an event leaves at the place of one host.
 use Rattle.std.proofs.Common.{◌≡◌, ◌≢◌, ℕ, zero, suc, ◌+◌, Bool, true, false, List, [], ◌∷◌, Option, None, Some, refl, ap, ◌∙◌, arith}
-use Rattle.std.specs.Prelude.{if◌then◌else◌, slice_get, slice_set}
+use Rattle.std.specs.Prelude.{if◌then◌else◌, map, option_map, slice_get, slice_set}
+use Rattle.std.proofs.lemmas.Option.{slice_get-map}
 use Rattle.nvme_spec.specs.declared.outcome.Marks.{Marks}
 use Rattle.nvme_spec.specs.World.{World, host_of}
 use Rattle.nvme_machine.specs.Controllers.{Controller}
@@ -8,7 +9,7 @@ use Rattle.nvme_machine.specs.Subsystems.{is_host_among}
 use Rattle.nvme_event.specs.declared.seen.FleetSeen.{FleetSeen}
 use Rattle.nvme_fleet.specs.Mailboxes.{Mailbox, with_marks}
 use Rattle.nvme_fleet.specs.Deliveries.{Reaction}
-use Rattle.nvme_fleet.specs.Fleets.{Host, WithDriver, Raw, Fleet, host_at, with_host, called_at, raw_at, fetched_at, marked, marked_from, numbered, replaced}
+use Rattle.nvme_fleet.specs.Fleets.{Host, WithDriver, Raw, Fleet, host_at, with_host, host_cycled, power_cycled, called_at, raw_at, fetched_at, marked, marked_from, numbered, replaced}
 use Rattle.nvme_fleet.specs.Apart.{marked_by}
 
 set-other : (hs : List Host) (i j : ℕ) (h : Host) → j ≢ i → slice_get (slice_set hs j h) i ≡ slice_get hs i
@@ -40,6 +41,18 @@ other-set f j k h other = replaced-other f.hosts j k h other
 pub own-set : (f : Fleet) (k : ℕ) (g h : Host) → host_at f k ≡ Some g → host_at (with_host f k h) k ≡ Some h
 unfolding host_at with_host
 own-set f k g h at = replaced-here f.hosts k g h at
+
+-- a host behind a power cycle
+cycled-numbered : (hs : List Host) (k : ℕ) → numbered (map host_cycled hs) k ≡ option_map host_cycled (numbered hs k)
+cycled-numbered hs zero = refl
+cycled-numbered hs (suc i) = slice_get-map host_cycled hs i
+
+pub cycled-at : (f : Fleet) (k : ℕ) → host_at (power_cycled f) k ≡ option_map host_cycled (host_at f k)
+unfolding host_at power_cycled
+cycled-at f k = cycled-numbered f.hosts k
+
+pub cycled-host : (f : Fleet) (k : ℕ) (h : Host) → host_at f k ≡ Some h → host_at (power_cycled f) k ≡ Some (host_cycled h)
+cycled-host f k h at = cycled-at f k ∙ ap (option_map host_cycled) at
 
 -- an event of another host
 

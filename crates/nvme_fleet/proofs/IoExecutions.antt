@@ -14,6 +14,7 @@ use Rattle.nvme_spec.specs.AdminCommands as admin_commands
 use Rattle.nvme_spec.specs.Commands.{command_of, is_one_of, reserving}
 use Rattle.nvme_spec.specs.Execution.{Scene, ExecutesBy, Performs, world_after}
 use Rattle.nvme_spec.specs.IoData as spec
+use Rattle.nvme_spec.specs.Power.{cycled_world}
 use Rattle.nvme_spec.specs.Rules.{Judgement}
 use Rattle.nvme_spec.specs.World.{World}
 use Rattle.nvme_spec.proofs.Passing.{planned}
@@ -29,7 +30,7 @@ use Rattle.nvme_machine.specs.Executing.{Setting, FinishesOne, FinishesOver, sce
 use Rattle.nvme_machine.proofs.AdminWorlds.{HasSameReservations, same-reservations, admin-keeps, command-becomes, still}
 use Rattle.nvme_machine.proofs.Denials.{io-answer}
 use Rattle.nvme_event.specs.declared.event.FleetEvent.{FleetEvent}
-use Rattle.nvme_event.specs.declared.event.FleetEvent.TheVariants.{Execute}
+use Rattle.nvme_event.specs.declared.event.FleetEvent.TheVariants.{Execute, PowerCycle}
 use Rattle.nvme_event.specs.declared.seen.FleetSeen.TheVariants.{Executed as ExecutedSeen}
 use Rattle.nvme_event.specs.Replies.{Reply}
 use Rattle.nvme_fleet.specs.Mailboxes.{FetchedItem, Mailbox, lane_of}
@@ -37,7 +38,7 @@ use Rattle.nvme_fleet.specs.Deliveries.{plain}
 use Rattle.nvme_fleet.specs.Executions.{Site, Response, scene_at, Answers, AnswersAs, AnswersIo, io_verdict, admin_judgement, admin_response_by, admin_response, command_entry}
 use Rattle.nvme_fleet.specs.Fleets.{Host, WithDriver, Raw, Fleet, host_at, settled, site_of, setting_of, ExecutesItem, ExecutesRaw, ExecutesAt}
 use Rattle.nvme_fleet.specs.IoCommands.{IoCommand, asked_command, raw_command, asked_in, asked_by, sent_by, command_in, command_at, AreNumbered, IsExecutedBy, verdict_on, ExecutedAsThePolicyAllows}
-use Rattle.nvme_fleet.proofs.Sites.{Leaves, AsItWas, ByRequest, ByCommand, leaves}
+use Rattle.nvme_fleet.proofs.Sites.{Leaves, AsItWas, ByRequest, ByCommand, PowerLost, leaves}
 
 -- An answer is what the rules say.
 
@@ -181,6 +182,7 @@ world-left (Allowed plan) tells k x old new outcome is h =
 pub data Acts (old new : Fleet) (event : FleetEvent) : Type 0 where
   Rests : HasSameReservations old.site.world new.site.world → Acts old new event
   Reserves : (k i number : ℕ) → event ≡ Execute k i → (x : IoCommand) → command_at old k i ≡ Some x → (AreNumbered old → number ≡ k) → ActsOn number x old.site.world new.site.world → Acts old new event
+  Loses : event ≡ PowerCycle → new.site.world ≡ cycled_world old.site.world → Acts old new event
 
 request-at : (f : Fleet) (k i : ℕ) (m : Mailbox) (x : FetchedItem) → host_at f k ≡ Some (WithDriver m) → slice_get m.fetched i ≡ Some x
     → command_at f k i ≡ asked_in (lane_of x.item) f.site.world k x
@@ -236,3 +238,4 @@ unfolding Answers machine.Answers
 acts tells old new event (AsItWas e) = Rests (same-reservations old.site.world new.site.world (ap (λ (s : Site). s.world) e))
 acts tells old new event (ByRequest k i is m y r at found h leaves) = by-lane (lane_of y.item) tells old new event k i y r is (request-at old k i m y at found) h leaves
 acts tells old new event (ByCommand k i is c t a at found h leaves) = by-queue (t.queue == 0) tells old new event k i c t a is (raw-at old k i c t at found) at h leaves
+acts tells old new event (PowerLost is e) = Loses is (ap (λ (s : Site). s.world) e)

@@ -64,7 +64,7 @@ access-same w k x y marked h =
 
 same-outcome : (x y : List ℕ) (command : Command) (r : resv.Reservation) (host : ℕ) (keys : List ℕ) → SameFields x y → action_outcome command r host y keys ≡ action_outcome command r host x keys
 unfolding action_outcome
-same-outcome x y io.ReservationRegister r host keys h = rw (same-action x y h, same-iekey x y h) refl
+same-outcome x y io.ReservationRegister r host keys h = rw (same-action x y h, same-iekey x y h, same-cptpl x y h) refl
 same-outcome x y io.ReservationAcquire r host keys h = rw (same-action x y h, same-rtype x y h) refl
 same-outcome x y io.ReservationRelease r host keys h = rw (same-action x y h, same-rtype x y h) refl
 same-outcome x y io.Read r host keys h = refl

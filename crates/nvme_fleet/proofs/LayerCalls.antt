@@ -5,7 +5,7 @@ use Rattle.std.proofs.lemmas.List.{append-nil, append_assoc}
 use Rattle.nvme_spec.specs.MediumCalls.{MediumCall, MakesCalls}
 use Rattle.nvme_spec.proofs.MediumCalls.{calls-joined}
 use Rattle.nvme_machine.specs.declared.event.Event.{Event}
-use Rattle.nvme_machine.specs.declared.event.Event.TheVariants.{Store, Write32, Read32, Fetch, Execute}
+use Rattle.nvme_machine.specs.declared.event.Event.TheVariants.{Store, Write32, Read32, Fetch, Execute, PowerCycle}
 use Rattle.nvme_machine.specs.declared.seen.Seen.{Seen}
 use Rattle.nvme_machine.specs.EventCalls as machine
 use Rattle.nvme_machine.specs.Subsystems.{Subsystem}
@@ -42,6 +42,7 @@ hosts-execute-nothing (Write32 k offset v) h = tt
 hosts-execute-nothing (Read32 k offset) h = tt
 hosts-execute-nothing (Fetch k q) h = tt
 hosts-execute-nothing (Execute k i) h = absurd h
+hosts-execute-nothing PowerCycle h = absurd h
 
 pub applies-calling : {M : Type 0} (step : M → MediumCall → M → Type 0) (tells : Bool) (old new : Layers) (event : Event) (given : Seen) (what : FleetSeen) (before after : M) → new.drivers ≡ old.drivers → what ≡ told given
     → MakesCalls step (machine.AreCallsOfStep tells old.subsystem event given new.subsystem) before after → MakesCalls step (AppliesCalling tells old event what new) before after
@@ -89,6 +90,7 @@ below-of tells old new (fleet.Poll k) what calls h = h.0
 below-of tells old new (fleet.Reset k) what calls h = h.0
 below-of tells old new (fleet.RawStore k address bytes) what calls h = h.0
 below-of tells old new (fleet.RawWrite32 k offset v) what calls h = h.0
+below-of tells old new fleet.PowerCycle what calls h = h.0
 
 pub layer_calls_are_of_a_step : LayerCallsAreOfAStep
 layer_calls_are_of_a_step tells old new event reply calls h = record { mailboxes = h.mailboxes; below = below-of tells old new event reply.seen calls h.below }

@@ -1,5 +1,5 @@
 -- Both layers over another medium: what an event makes of them, but for the medium.
-use Rattle.std.proofs.Common.{◌≡◌, ◌<◌, ◌-◌, ◌^◌, ℕ, Bool, true, false, List, [], ◌∷◌, Option, None, Some, Result, Ok, Err, sym, ap, subst, ◌∙◌}
+use Rattle.std.proofs.Common.{◌≡◌, ◌<◌, ◌+◌, ◌-◌, ◌^◌, ℕ, Bool, true, false, List, [], ◌∷◌, Option, None, Some, Result, Ok, Err, sym, ap, subst, ◌∙◌}
 use Rattle.std.specs.Prelude.{if◌then◌else◌}
 use Rattle.nvme_spec.specs.Blocks.{Device}
 use Rattle.nvme_spec.specs.Layout.{may_read}
@@ -22,19 +22,19 @@ use Rattle.nvme_driver.specs.Polls.{answered, answered_poll, found, found_poll, 
 use Rattle.nvme_machine.specs.declared.event.Event.{Event}
 use Rattle.nvme_machine.specs.declared.event.Event.TheVariants as event
 use Rattle.nvme_machine.specs.Secrecy.{DifferIn, over}
-use Rattle.nvme_machine.specs.Subsystems.{Subsystem, controller_at}
+use Rattle.nvme_machine.specs.Subsystems.{Subsystem, after_power_cycle, controller_at}
 use Rattle.nvme_machine.proofs.Secrecy as machine
 use Rattle.nvme_event.specs.declared.event.FleetEvent.{FleetEvent}
-use Rattle.nvme_event.specs.declared.event.FleetEvent.TheVariants.{BringUp, Place, Ring, Fetch, Execute, Poll, Reset, RawStore, RawWrite32}
+use Rattle.nvme_event.specs.declared.event.FleetEvent.TheVariants.{BringUp, Place, Ring, Fetch, Execute, Poll, Reset, RawStore, RawWrite32, PowerCycle}
 use Rattle.nvme_event.specs.declared.seen.FleetSeen.{FleetSeen}
-use Rattle.nvme_event.specs.Events.{controller_of}
+use Rattle.nvme_event.specs.Events.{OfItsHost}
 use Rattle.nvme_event.specs.Replies.{Reply}
 use Rattle.nvme_fleet.specs.declared.delivery.DriverCall.{DriverCall}
 use Rattle.nvme_fleet.specs.declared.delivery.DriverCall.TheVariants as call
 use Rattle.nvme_fleet.specs.Deeds.{ComesUp, Consumes, Does, DoesIfAny, Places, Polls, Ran, Rings, events_of_calls, reset_events, ring_events, window_at}
 use Rattle.nvme_fleet.specs.FleetStates.{Layers, fleet_in}
 use Rattle.nvme_fleet.specs.Fleets.{host_at}
-use Rattle.nvme_fleet.specs.Layers.{Applies, AppliesRaw, CallsAt, Happens, Step, driver_at}
+use Rattle.nvme_fleet.specs.Layers.{Applies, AppliesRaw, CallsAt, Cycles, Happens, Step, driver_at, resets_from}
 use Rattle.nvme_fleet.specs.Regular.{IsRegular}
 use Rattle.nvme_fleet.specs.Secrecy.{layers_over}
 use Rattle.nvme_fleet.specs.Unique.{HaveTicketsOnce}
@@ -166,7 +166,26 @@ executes n old new other m k i x both fenced h g =
     let o = machine.step-over n old.subsystem new.subsystem (event.Execute k i) h.given m regular.laid both.differ fenced h.step in
     led n old new other m o.0 (Execute k i) x both o.2 (record { given = h.given; step = o.1; gives = h.gives; drivers = h.drivers }) g
 
-leads : (n : ℕ) (old new other : Layers) (m : Device) (e : FleetEvent) (reply : Reply) → AreBoth n old new other m → may_read old.subsystem.world (controller_of e) n ≡ false → Step true old e reply new
+quiet-resets : (k : ℕ) (ds : List (Option Driver)) → AreQuiet (resets_from k ds)
+quiet-resets k [] = tt
+quiet-resets k (None ∷ ds) = quiet-resets (k + 1) ds
+quiet-resets k (Some d ∷ ds) = (tt, quiet-resets (k + 1) ds)
+
+cycles-over : (old new : Layers) (m : Device) (x : FleetSeen) → Cycles true old x new → Cycles true (layers_over m old) x (layers_over m new)
+unfolding after_power_cycle
+cycles-over old new m x h = record {
+  gives = h.gives;
+  ran = ran-over (event.PowerCycle ∷ resets_from 1 old.drivers) old.subsystem new.subsystem m (tt, quiet-resets 1 old.drivers) h.ran;
+  cycled = ap (over m) h.cycled;
+  drivers = h.drivers;
+}
+
+cycles : (n : ℕ) (old new other : Layers) (m : Device) (x : FleetSeen) → AreBoth n old new other m → Cycles true old x new → Happens true (layers_over m old) PowerCycle x other → IsLed n old new other
+unfolding after_power_cycle
+cycles n old new other m x both h g =
+    led n old new other m m PowerCycle x both (subst (λ (s : Subsystem). DifferIn n old.subsystem.world s.device m) (sym h.cycled) both.differ) (cycles-over old new m x h) g
+
+leads : (n : ℕ) (old new other : Layers) (m : Device) (e : FleetEvent) (reply : Reply) → AreBoth n old new other m → OfItsHost (λ k. may_read old.subsystem.world k n ≡ false) e → Step true old e reply new
     → Happens true (layers_over m old) e reply.seen other → IsLed n old new other
 leads n old new other m (BringUp k) reply both fenced s g =
     quietly n old new other m (BringUp k) reply.seen both (same-site old new _ reply (called-site (host_at (fleet_in old) k) (fleet_in old) k _) s.mailboxes) (calls-over (driver_at old.drivers k) old new k m call.BringUp reply.seen s.below) g
@@ -187,9 +206,10 @@ leads n old new other m (RawStore k address bytes) reply both fenced s g =
 leads n old new other m (RawWrite32 k offset v) reply both fenced s g =
     quietly n old new other m (RawWrite32 k offset v) reply.seen both (same-site old new _ reply (raw-site (host_at (fleet_in old) k) (fleet_in old) k _ _) s.mailboxes)
     (raw-over (driver_at old.drivers k) old new m (event.Write32 k offset v) reply.seen tt s.below) g
+leads n old new other m PowerCycle reply both fenced s g = cycles n old new other m reply.seen both s.below g
 
 pub step-leads : (n : ℕ) (old new other : Layers) (m : Device) (e : FleetEvent) (reply : Reply) → count new.subsystem ≡ count old.subsystem → count other.subsystem ≡ count old.subsystem → count old.subsystem < 2 ^ 64 - 1
-    → HaveTicketsOnce old → IsRegular (fleet_in old) → DifferIn n old.subsystem.world old.subsystem.device m → may_read old.subsystem.world (controller_of e) n ≡ false → Step true old e reply new
+    → HaveTicketsOnce old → IsRegular (fleet_in old) → DifferIn n old.subsystem.world old.subsystem.device m → OfItsHost (λ k. may_read old.subsystem.world k n ≡ false) e → Step true old e reply new
     → Step true (layers_over m old) e reply other → IsLed n old new other
 step-leads n old new other m e reply one two below tickets regular differ fenced s g =
     leads n old new other m e reply (record { one = one; two = two; below = below; tickets = tickets; regular = regular; differ = differ }) fenced s g.below

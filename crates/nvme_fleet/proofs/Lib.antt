@@ -98,4 +98,7 @@ pub mod Unique
 pub mod Mirrored
 pub mod LayersOver
 pub mod AllowedCalls
+pub mod PowerStep
+pub mod PowerLink
+pub mod PowerCycles
 pub mod CallLaws

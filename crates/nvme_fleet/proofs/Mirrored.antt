@@ -29,7 +29,7 @@ use Rattle.nvme_machine.specs.declared.seen.Seen.TheVariants as given
 use Rattle.nvme_machine.specs.Answers as machine
 use Rattle.nvme_machine.specs.Controllers.{Controller, QueuePair, Reaction, after_posting, after_store, after_write32, has_read, open_pair, queues_of, reaction, taking_effect, with_admin_queues}
 use Rattle.nvme_machine.specs.Secrecy.{over}
-use Rattle.nvme_machine.specs.Subsystems.{Completes, ExecutesAt, ExecutesOne, ExecutesOver, ReactsAs, Run, Step, Subsystem, after_answer, after_execution, controller_at, marked_from, numbered, replaced, scene_of, with_controller}
+use Rattle.nvme_machine.specs.Subsystems.{Completes, ExecutesAt, ExecutesOne, ExecutesOver, ReactsAs, Run, Step, Subsystem, after_answer, after_execution, after_power_cycle, controller_at, marked_from, numbered, replaced, scene_of, with_controller}
 use Rattle.nvme_machine.proofs.Denials.{unmarked}
 use Rattle.nvme_machine.proofs.SecretCommands.{answer_over, scene_over}
 use Rattle.nvme_machine.proofs.Staying.{replaced-same}
@@ -44,6 +44,7 @@ IsQuiet (event.Write32 k offset v) = Unit {0}
 IsQuiet (event.Read32 k offset) = Unit {0}
 IsQuiet (event.Fetch k q) = Unit {0}
 IsQuiet (event.Execute k i) = ⊥
+IsQuiet event.PowerCycle = Unit {0}
 
 abbrev pub AreQuiet : List Event → Type 0
 AreQuiet [] = Unit {0}
@@ -54,6 +55,10 @@ unfolding with_controller
 react-over None p q k f x m h = (h.0, ap (over m) h.1)
 react-over (Some c) p q k f x m h = (h.0, ap (over m) h.1)
 
+cycle-over : (p q : Subsystem) (m : Device) (x : Seen) → Step true p event.PowerCycle x q → Step true (over m p) event.PowerCycle x (over m q)
+unfolding after_power_cycle
+cycle-over p q m x h = (h.0, ap (over m) h.1)
+
 pub quiet-over : (tells : Bool) (e : Event) (p q : Subsystem) (x : Seen) (m : Device) → IsQuiet e → Step tells p e x q → Step tells (over m p) e x (over m q)
 unfolding controller_at
 quiet-over tells (event.Store k address bytes) p q x m quiet h = react-over (controller_at p k) p q k _ x m h
@@ -61,6 +66,7 @@ quiet-over tells (event.Write32 k offset v) p q x m quiet h = react-over (contro
 quiet-over tells (event.Read32 k offset) p q x m quiet h = react-over (controller_at p k) p q k _ x m h
 quiet-over tells (event.Fetch k n) p q x m quiet h = react-over (controller_at p k) p q k _ x m h
 quiet-over tells (event.Execute k i) p q x m quiet h = absurd quiet
+quiet-over tells event.PowerCycle p q x m quiet h = cycle-over p q m x h
 
 pub quiet-run : (tells : Bool) (events : List Event) (given : List Seen) (p q : Subsystem) (m : Device) → AreQuiet events → Run tells p events given q → Run tells (over m p) events given (over m q)
 quiet-run tells [] [] p q m quiet run = ap (over m) run

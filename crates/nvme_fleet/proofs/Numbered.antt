@@ -1,6 +1,6 @@
 -- Each raw host's controller bears the number of its place.
 use Rattle.std.proofs.Common.{◌≡◌, ℕ, zero, suc, ◌+◌, Bool, true, false, List, [], ◌∷◌, Option, None, Some, refl, sym, ap, subst, ◌∙◌}
-use Rattle.std.specs.Prelude.{map, slice_get, slice_set, if◌then◌else◌}
+use Rattle.std.specs.Prelude.{map, option_map, slice_get, slice_set, if◌then◌else◌}
 use Rattle.std.proofs.lemmas.Option.{none-some, same_Some}
 use Rattle.nvme_spec.specs.declared.config.ControllerConfig.{ControllerConfig}
 use Rattle.nvme_spec.specs.declared.outcome.Marks.{Marks}
@@ -16,14 +16,15 @@ use Rattle.nvme_machine.specs.Subsystems.{is_host_among, after_answer as after_m
 use Rattle.nvme_subsys.proofs.Openings.{numbers}
 use Rattle.nvme_subsys.proofs.Sound.{store-id, write-id, fetch-id}
 use Rattle.nvme_event.specs.declared.event.FleetEvent.{FleetEvent}
-use Rattle.nvme_event.specs.declared.event.FleetEvent.TheVariants.{BringUp, Place, Ring, Fetch, Execute, Poll, Reset, RawStore, RawWrite32}
+use Rattle.nvme_event.specs.declared.event.FleetEvent.TheVariants.{BringUp, Place, Ring, Fetch, Execute, Poll, Reset, RawStore, RawWrite32, PowerCycle}
 use Rattle.nvme_event.specs.declared.seen.FleetSeen.{FleetSeen}
 use Rattle.nvme_event.specs.Replies.{Reply}
 use Rattle.nvme_fleet.specs.Mailboxes.{FetchedItem, Mailbox, new_mailbox}
 use Rattle.nvme_fleet.specs.Deliveries.{Reaction}
 use Rattle.nvme_fleet.specs.Executions.{Site}
-use Rattle.nvme_fleet.specs.Fleets.{Host, WithDriver, Raw, Fleet, Moment, Is, Step, new_host, opening, replaced, host_at, with_host, marked, marked_from, settled, called_at, raw_at, fetched_at, ExecutesItem, ExecutesAt, setting_of}
+use Rattle.nvme_fleet.specs.Fleets.{Host, WithDriver, Raw, Fleet, Moment, Is, Step, new_host, opening, replaced, host_at, with_host, host_cycled, power_cycled, marked, marked_from, settled, called_at, raw_at, fetched_at, ExecutesItem, ExecutesAt, setting_of}
 use Rattle.nvme_fleet.specs.IoCommands.{BearsItsNumber, AreNumbered, OpeningIsNumbered, NumbersStay}
+use Rattle.nvme_fleet.proofs.HostPlaces.{cycled-at}
 
 -- Lists.
 
@@ -121,6 +122,14 @@ fetched None f k q at all = all
 fetched (Some (WithDriver m)) f k q at all = put f k _ all tt
 fetched (Some (Raw c)) f k q at all = put f k _ all (fetch-id q c ∙ all k (Raw c) at)
 
+cycled-one : (k : ℕ) (o : Option Host) → ((h : Host) → o ≡ Some h → BearsItsNumber k h) → (h : Host) → option_map host_cycled o ≡ Some h → BearsItsNumber k h
+cycled-one k None all h at = absurd (none-some _ at)
+cycled-one k (Some (WithDriver m)) all h at = subst (BearsItsNumber k) (same_Some _ _ at) tt
+cycled-one k (Some (Raw c)) all h at = subst (BearsItsNumber k) (same_Some _ _ at) (all (Raw c) refl)
+
+cycled : (f : Fleet) → AreNumbered f → AreNumbered (power_cycled f)
+cycled f all k h at = cycled-one k (host_at f k) (all k) h (sym (cycled-at f k) ∙ at)
+
 item : (o : Option FetchedItem) (tells : Bool) (old new : Fleet) (k : ℕ) (m : Mailbox) (i : ℕ) (reply : Reply) → ExecutesItem o tells old k m i reply new → AreNumbered old → AreNumbered new
 item None tells old new k m i reply h all = whole old new h.1 all
 item (Some x) tells old new k m i reply h all = whole _ new h.leaves (settles old k h.response.left _ h.response.outcome.marks all tt)
@@ -144,6 +153,7 @@ step tells old new (Poll k) reply h all = moves new _ reply (called (host_at old
 step tells old new (Reset k) reply h all = moves new _ reply (called (host_at old k) old k _ all) h
 step tells old new (RawStore k address bytes) reply h all = moves new _ reply (raw (host_at old k) old k _ _ (λ c. store-id address bytes.now c) refl all) h
 step tells old new (RawWrite32 k offset v) reply h all = moves new _ reply (raw (host_at old k) old k _ _ (λ c. write-id offset v c) refl all) h
+step tells old new PowerCycle reply h all = moves new _ reply (cycled old all) h
 
 pub numbers_stay : NumbersStay
 numbers_stay tells old new [] [] run all = whole old new run all

@@ -12,15 +12,16 @@ use Rattle.nvme_spec.specs.declared.access.Group.TheVariants.{Write as Writing}
 use Rattle.nvme_spec.specs.declared.command.Command.{Command}
 use Rattle.nvme_spec.specs.declared.command.Command.TheVariants.{Flush, Write, Read, Compare, WriteZeroes, ReservationRegister, ReservationReport, ReservationAcquire, ReservationRelease}
 use Rattle.nvme_spec.specs.Access.{Row, rights_table, is_permitted}
-use Rattle.nvme_spec.specs.Commands.{action, iekey, rtype}
+use Rattle.nvme_spec.specs.Commands.{action, cptpl, iekey, rtype}
 use Rattle.nvme_spec.specs.Execution.{world_after, removed_by}
-use Rattle.nvme_spec.specs.IoData.{current_key, other_key, action_outcome, outcome_in}
+use Rattle.nvme_spec.specs.IoData.{current_key, other_key, key_outcome, action_outcome, outcome_in}
 use Rattle.nvme_spec.specs.IoRules.{permits_group}
 use Rattle.nvme_spec.specs.Layout.{reservation_of}
 use Rattle.nvme_spec.specs.Reservation as resv
 use Rattle.nvme_spec.specs.Reservation.{Reservation, Outcome, is_registered, is_registered_with, is_key_in_use, is_holders_key, is_holder, is_of_type, is_of_all, is_free, with_key, removed_hosts}
 use Rattle.nvme_spec.specs.ReservationLaws.{Keeps}
 use Rattle.nvme_spec.specs.World.{World, Namespace, namespace_of, with_namespace, with_reservation}
+use Rattle.nvme_spec.proofs.Hosts.{persisting-keeps}
 use Rattle.nvme_spec.proofs.Namespaces.{others-reserved}
 use Rattle.nvme_fleet.specs.Preempting.{IsOutside}
 
@@ -121,9 +122,10 @@ command-out : (command : Command) (r : Reservation) (by : ℕ) (e keys : List �
     → IfActs (KeepsOut host) (action_outcome command r by e keys)
 unfolding action_outcome
 command-out ReservationRegister r by e keys host other h =
-    either (KeepsOut host) (action e == 0) _ _ (register-out r by (other_key keys) host (other refl) h)
+    persisting-keeps (IsOut host) (λ r persists out. out) (cptpl e) (key_outcome r by e keys)
+    (either (KeepsOut host) (action e == 0) _ _ (register-out r by (other_key keys) host (other refl) h)
     (either (KeepsOut host) (action e == 1) _ _ (unregister-out r by (iekey e) (current_key keys) host h)
-    (replace-out r by (iekey e) (current_key keys) (other_key keys) host (other refl) h))
+    (replace-out r by (iekey e) (current_key keys) (other_key keys) host (other refl) h)))
 command-out ReservationAcquire r by e keys host other h =
     either (KeepsOut host) (action e == 0) _ _ (acquire-out r by (rtype e) (current_key keys) host h) (preempt-out r by (rtype e) (current_key keys) (other_key keys) host h)
 command-out ReservationRelease r by e keys host other h =

@@ -1,6 +1,7 @@
 -- A preempted host stays out.
-use Rattle.std.proofs.Common.{◌≡◌, ◌≢◌, ℕ, true, List, [], ◌∷◌, Option, None, Some, Ok, refl, sym, ap, subst, ◌∙◌}
-use Rattle.std.specs.Prelude.{option_map}
+use Rattle.std.proofs.Common.{◌≡◌, ◌≢◌, ℕ, Bool, true, false, List, [], ◌∷◌, Option, None, Some, Ok, refl, sym, ap, subst, ◌∙◌}
+use Rattle.std.specs.Prelude.{option_map, if◌then◌else◌}
+use Rattle.std.proofs.lemmas.Option.{none-some, same_Some}
 use Rattle.nvme_wire.specs.Submission.{opcode, nsid}
 use Rattle.nvme_spec.specs.declared.access.Group.TheVariants.{Write as Writing}
 use Rattle.nvme_spec.specs.declared.command.Command.{Command}
@@ -10,7 +11,10 @@ use Rattle.nvme_spec.specs.Commands.{command_of, is_one_of, plan_of}
 use Rattle.nvme_spec.specs.IoData.{reservation_outcome, outcome_in}
 use Rattle.nvme_spec.specs.IoRules.{permits_group, conclusion}
 use Rattle.nvme_spec.specs.Layout.{reservation_of, may_write}
+use Rattle.nvme_spec.specs.Power.{cycled_reservation}
+use Rattle.nvme_spec.specs.Reservation.{Reservation, unreserved}
 use Rattle.nvme_spec.specs.World.{World, Namespace, host_of, namespace_of}
+use Rattle.nvme_spec.proofs.Power.{cycled-reservation-at}
 use Rattle.nvme_machine.specs.declared.seen.Executed.TheVariants.{Posted}
 use Rattle.nvme_event.specs.declared.event.FleetEvent.{FleetEvent}
 use Rattle.nvme_event.specs.declared.event.FleetEvent.TheVariants.{Execute}
@@ -19,7 +23,7 @@ use Rattle.nvme_fleet.specs.Deliveries.{plain}
 use Rattle.nvme_fleet.specs.Fleets.{Fleet}
 use Rattle.nvme_fleet.specs.IoCommands.{IoCommand, AreNumbered, HasItsEffect, IsExecutedBy, verdict_on}
 use Rattle.nvme_fleet.specs.Preempting.{IsOutside, OutsidersMayNotWrite, Registers, LeavesOutside, OutsidersStayOutside, PreemptedIsOutside, PreemptedStaysOut}
-use Rattle.nvme_fleet.proofs.IoExecutions.{ActsOn, Acts, Rests, Reserves, executed_as_the_policy_allows}
+use Rattle.nvme_fleet.proofs.IoExecutions.{ActsOn, Acts, Rests, Reserves, Loses, executed_as_the_policy_allows}
 use Rattle.nvme_fleet.proofs.Fenced.{step-acts, plainly}
 use Rattle.nvme_fleet.proofs.Numbered.{step, numbers_stay}
 use Rattle.nvme_fleet.proofs.Outsiders.{IsOut, IfActs, Removes, outcome-out, outcome-removes, world-out, removed-world, outsider-shut}
@@ -44,6 +48,15 @@ acted-out old new n k host x h other out =
     (λ same. outcome-out (command_of (opcode x.entry)) (namespace_of old (nsid x.entry)) (host_of old k) x.entry x.sent host (other same)
     (stands old (nsid x.entry) host (subst (λ m. IsOutside old m host) (sym same) out))))
 
+-- a power cycle registers nobody
+cycled-out : (o : Option Reservation) (r : Reservation) (host : ℕ) → ((s : Reservation) → o ≡ Some s → IsOut host s) → option_map cycled_reservation o ≡ Some r → IsOut host r
+cycled-out None r host out at = absurd (none-some _ at)
+cycled-out (Some s) r host out at = subst (IsOut host) (same_Some _ _ at) (by s.ptpl)
+  where
+    by : (b : Bool) → IsOut host (if b then s else unreserved)
+    by true = out s refl
+    by false = refl
+
 event-out : (old new : Fleet) (event : FleetEvent) (n host : ℕ) → AreNumbered old → Acts old new event → LeavesOutside n host old event → IsOutside old.site.world n host → IsOutside new.site.world n host
 event-out old new event n host all (Rests h) quiet out = λ r at. out r (sym (h.reservations n) ∙ at)
 event-out old new event n host all (Reserves k i number is x found numbered h) quiet out =
@@ -52,6 +65,8 @@ event-out old new event n host all (Reserves k i number is x found numbered h) q
       ap (host_of old.site.world) (sym (numbered all)) ∙ sender,
       record { command = x; found = found; is = record { names = same; is_one = ap (λ o. is_one_of o (ReservationRegister ∷ [])) one }; allowed = h.allowed },
     ))) out
+event-out old new event n host all (Loses is world) quiet out =
+    λ r at. cycled-out (reservation_of old.site.world n) r host out (sym (cycled-reservation-at old.site.world n) ∙ ap (λ w. reservation_of w n) (sym world) ∙ at)
 
 pub outsiders_stay_outside : OutsidersStayOutside
 outsiders_stay_outside tells old new [] [] n host all run out = subst (λ (f : Fleet). IsOutside f.site.world n host) (sym run) out

@@ -33,7 +33,7 @@ use Rattle.nvme_fleet.specs.Regular.{IsRegular, OpeningIsRegular, RegularityStay
 use Rattle.nvme_fleet.proofs.Existing.{allowed-passes}
 use Rattle.nvme_fleet.proofs.Fenced.{extents-stay, step-acts}
 use Rattle.nvme_fleet.proofs.Numbered as numbered
-use Rattle.nvme_fleet.proofs.Sites.{AsItWas, ByCommand, ByRequest, Leaves, leaves}
+use Rattle.nvme_fleet.proofs.Sites.{AsItWas, ByCommand, ByRequest, Leaves, PowerLost, leaves}
 use Rattle.nvme_fleet.proofs.Taken as taken
 
 -- A request that was taken brings its data.
@@ -123,6 +123,7 @@ size-left old new event regular (ByRequest k i is m x r at found answers leaves)
 size-left old new event regular (ByCommand k i is c t a at found answers leaves) =
     ap (λ (s : Site). length s.device.content) leaves
     ∙ answer-size (t.queue == 0) (queues_of c) c.cntlid t (scene_in (setting_of old c)) a regular.laid answers
+size-left old new event regular (PowerLost is leaves) = ap (λ (s : Site). length s.device.content) leaves
 
 -- One event.
 pub step-regular : (old new : Fleet) (event : FleetEvent) (reply : Reply) → Step true old event reply new → IsRegular old → IsRegular new

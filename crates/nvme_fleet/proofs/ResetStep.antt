@@ -48,11 +48,11 @@ side-off c = refl
 side-reset : (d : Driver) → host_side (after_reset d) ≡ reset (host_side d)
 side-reset d = refl
 
-fits : (d : Driver) (lane : Lane) → EndsFit (ends lane (after_reset d))
+pub fits : (d : Driver) (lane : Lane) → EndsFit (ends lane (after_reset d))
 fits d Admin = record { tail = refl; head = refl }
 fits d Io = record { tail = refl; head = refl }
 
-abort-size : (o : Option Waiting) → received_in o ≤ most_bytes → received_in (abort o) ≤ most_bytes
+pub abort-size : (o : Option Waiting) → received_in o ≤ most_bytes → received_in (abort o) ≤ most_bytes
 abort-size None h = h
 abort-size (Some w) h = h
 

@@ -7,6 +7,7 @@ use Rattle.nvme_spec.specs.declared.verdict.Verdict.{Verdict}
 use Rattle.nvme_spec.specs.declared.verdict.Verdict.TheVariants.{Allowed, Denied}
 use Rattle.nvme_spec.specs.AdminCommands as admin_commands
 use Rattle.nvme_spec.specs.Blocks.{Device}
+use Rattle.nvme_spec.specs.Commands.{reserving}
 use Rattle.nvme_spec.specs.Layout.{IsLaidOut, may_read}
 use Rattle.nvme_spec.specs.Rules.{Judgement}
 use Rattle.nvme_spec.specs.World.{World}
@@ -23,21 +24,21 @@ use Rattle.nvme_machine.specs.Subsystems.{after_answer as after_machine_answer}
 use Rattle.nvme_machine.proofs.SecretCommands.{Mirrors, answer_over, answers-over, performs}
 use Rattle.nvme_machine.proofs.Secrecy.{differ-still}
 use Rattle.nvme_event.specs.declared.event.FleetEvent.{FleetEvent}
-use Rattle.nvme_event.specs.declared.event.FleetEvent.TheVariants.{BringUp, Place, Ring, Fetch, Execute, Poll, Reset, RawStore, RawWrite32}
+use Rattle.nvme_event.specs.declared.event.FleetEvent.TheVariants.{BringUp, Place, Ring, Fetch, Execute, Poll, Reset, RawStore, RawWrite32, PowerCycle}
 use Rattle.nvme_event.specs.declared.seen.FleetSeen.{FleetSeen}
-use Rattle.nvme_event.specs.Events.{controller_of}
+use Rattle.nvme_event.specs.Events.{OfItsHost}
 use Rattle.nvme_event.specs.Replies.{Reply}
 use Rattle.nvme_fleet.specs.Mailboxes.{FetchedItem, Mailbox, lane_of}
 use Rattle.nvme_fleet.specs.Deliveries.{Reaction}
 use Rattle.nvme_fleet.specs.Bytes as bytes
 use Rattle.nvme_fleet.specs.FleetStates.{Layers, fleet_in}
 use Rattle.nvme_fleet.specs.Executions.{Answers, AnswersAs, AnswersIo, Response, Site, admin_judgement, admin_response, admin_response_by, command_entry, io_verdict, scene_at}
-use Rattle.nvme_fleet.specs.Fencing.{LeavesReservation, RunWhere}
-use Rattle.nvme_fleet.specs.Fleets.{ExecutesAt, ExecutesItem, ExecutesRaw, Fleet, Host, Is, Raw, Step, WithDriver, after_answer, after_execution, after_raw, called_at, fetched_at, host_at, raw_at, setting_of, settled, with_host}
+use Rattle.nvme_fleet.specs.Fencing.{Allows, Forgets, LeavesReservation, RunWhere}
+use Rattle.nvme_fleet.specs.Fleets.{ExecutesAt, ExecutesItem, ExecutesRaw, Fleet, Host, Is, Raw, Step, WithDriver, after_answer, after_execution, after_raw, called_at, fetched_at, host_at, power_cycled, raw_at, setting_of, settled, with_host}
 use Rattle.nvme_fleet.specs.IoCommands.{command_at}
 use Rattle.nvme_fleet.specs.Regular.{IsRegular, WasTaken}
 use Rattle.nvme_fleet.specs.Secrecy.{FencedReading, FencedReadingIsSame, LayersReadTheSame, MayNotRead, layers_over, over, site_over}
-use Rattle.nvme_fleet.proofs.Bytes.{runs_of_mailboxes}
+use Rattle.nvme_fleet.proofs.Bytes.{of-each, runs_of_mailboxes}
 use Rattle.nvme_fleet.proofs.Determined.{run_is_unique}
 use Rattle.nvme_fleet.proofs.Existing.{allowed-passes, called-site, fetched-site, raw-site}
 use Rattle.nvme_fleet.proofs.Fenced.{extents-stay, plainly, reading-stays, step-acts}
@@ -179,8 +180,13 @@ executes-over (Some (Raw c)) n old new k i reply d regular differ fenced at h =
 
 -- Events.
 
+cycles : (n : ℕ) (old new : Fleet) (reply : Reply) (d : Device) → DifferIn n old.site.world old.site.device d → Step true old PowerCycle reply new
+    → MirrorsStep n old new (λ x. Step true (over d old) PowerCycle reply (over x new))
+unfolding power_cycled
+cycles n old new reply d differ h = (d, (h.0, ap (over d) h.1), same-device n old.site.world old.site.device new.site.device d differ (ap (λ (f : Fleet). f.site.device) h.1))
+
 step-over : (n : ℕ) (old new : Fleet) (event : FleetEvent) (reply : Reply) (d : Device) → IsRegular old → DifferIn n old.site.world old.site.device d
-    → may_read old.site.world (controller_of event) n ≡ false → Step true old event reply new
+    → OfItsHost (λ k. may_read old.site.world k n ≡ false) event → Step true old event reply new
     → MirrorsStep n old new (λ x. Step true (over d old) event reply (over x new))
 unfolding host_at
 step-over n old new (BringUp k) reply d regular differ fenced h =
@@ -200,24 +206,32 @@ step-over n old new (RawStore k address bytes) reply d regular differ fenced h =
     (d, raw-over (host_at old k) old k _ _ d reply new h, stays n old new d differ (ap (λ (f : Fleet). f.site) h.1 ∙ raw-site (host_at old k) old k _ _))
 step-over n old new (RawWrite32 k offset v) reply d regular differ fenced h =
     (d, raw-over (host_at old k) old k _ _ d reply new h, stays n old new d differ (ap (λ (f : Fleet). f.site) h.1 ∙ raw-site (host_at old k) old k _ _))
+step-over n old new PowerCycle reply d regular differ fenced h = cycles n old new reply d differ h
 
 -- Runs.
 
-leaves-over : (n : ℕ) (f : Fleet) (d : Device) (event : FleetEvent) → LeavesReservation n f event → LeavesReservation n (over d f) event
+reserves-over : (n : ℕ) (f : Fleet) (d : Device) (event : FleetEvent) → Allows reserving (over d f) event n → Allows reserving f event n
 unfolding host_at command_at
-leaves-over n f d (BringUp k) quiet h = h
-leaves-over n f d (Place k request) quiet h = h
-leaves-over n f d (Ring k) quiet h = h
-leaves-over n f d (Fetch k q) quiet h = h
-leaves-over n f d (Execute k i) quiet h = quiet (record { command = h.command; found = h.found; is = h.is; allowed = h.allowed })
-leaves-over n f d (Poll k) quiet h = h
-leaves-over n f d (Reset k) quiet h = h
-leaves-over n f d (RawStore k address bytes) quiet h = h
-leaves-over n f d (RawWrite32 k offset v) quiet h = h
+reserves-over n f d (BringUp k) h = h
+reserves-over n f d (Place k request) h = h
+reserves-over n f d (Ring k) h = h
+reserves-over n f d (Fetch k q) h = h
+reserves-over n f d (Execute k i) h = record { command = h.command; found = h.found; is = h.is; allowed = h.allowed }
+reserves-over n f d (Poll k) h = h
+reserves-over n f d (Reset k) h = h
+reserves-over n f d (RawStore k address bytes) h = h
+reserves-over n f d (RawWrite32 k offset v) h = h
+reserves-over n f d PowerCycle h = h
+
+forgets-over : (n : ℕ) (f : Fleet) (d : Device) (event : FleetEvent) → Forgets (over d f) event n → Forgets f event n
+forgets-over n f d PowerCycle h = h
+forgets-over n f d other h = h
+
+leaves-over : (n : ℕ) (f : Fleet) (d : Device) (event : FleetEvent) → LeavesReservation n f event → LeavesReservation n (over d f) event
+leaves-over n f d event quiet = (λ h. quiet.0 (reserves-over n f d event h), λ h. quiet.1 (forgets-over n f d event h))
 
 still : (old new : World) (n : ℕ) (events : List FleetEvent) → ((k : ℕ) → may_read new k n ≡ may_read old k n) → MayNotRead old n events → MayNotRead new n events
-still old new n [] same h = tt
-still old new n (event ∷ events) same h = (same (controller_of event) ∙ h.0, still old new n events same h.1)
+still old new n events same h = of-each (λ k. may_read old k n ≡ false) (λ k. may_read new k n ≡ false) (λ k fenced. same k ∙ fenced) events h
 
 pub fenced_reading : FencedReading
 fenced_reading old new d [] [] n regular differ run fenced = (d, ap (over d) run, subst (λ (f : Fleet). DifferIn n f.site.world f.site.device d) (sym run) differ)

@@ -1,5 +1,5 @@
 -- A driver that is down waits for nothing, from an opening on.
-use Rattle.std.proofs.Common.{◌≡◌, inl, inr, ℕ, ◌+◌, ◌==◌, Bool, true, false, List, [], ◌∷◌, map, Option, None, Some, refl, sym, ap, subst, ◌∙◌}
+use Rattle.std.proofs.Common.{◌≡◌, inl, inr, ℕ, ◌+◌, Bool, true, false, List, [], ◌∷◌, map, Option, None, Some, refl, sym, ap, subst, ◌∙◌}
 use Rattle.std.specs.Prelude.{slice_get}
 use Rattle.std.proofs.lemmas.Option.{none-some}
 use Rattle.nvme_driver.specs.declared.faults.PlaceRefusal.{PlaceRefusal}
@@ -7,8 +7,8 @@ use Rattle.nvme_driver.specs.declared.lane.Lane.{Lane}
 use Rattle.nvme_driver.specs.declared.lane.Lane.TheVariants.{Admin, Io}
 use Rattle.nvme_driver.specs.declared.request.Request.{Request}
 use Rattle.nvme_event.specs.declared.event.FleetEvent.{FleetEvent}
-use Rattle.nvme_event.specs.declared.event.FleetEvent.TheVariants.{BringUp, Place, Ring, Fetch, Execute, Poll, Reset, RawStore, RawWrite32}
-use Rattle.nvme_event.specs.Events.{controller_of}
+use Rattle.nvme_event.specs.declared.event.FleetEvent.TheVariants.{BringUp, Place, Ring, Fetch, Execute, Poll, Reset, RawStore, RawWrite32, PowerCycle}
+use Rattle.nvme_event.specs.Events.{concerns}
 use Rattle.nvme_event.specs.Replies.{Reply}
 use Rattle.nvme_fleet.specs.Mailboxes.{FetchedItem, Item, LaneBox, Mailbox, PostedAnswer, box_at, lane_of, new_mailbox, with_box, with_mark}
 use Rattle.nvme_fleet.specs.Deliveries.{Reaction, brought_up, fetched, fetched_first, fetched_of, handed_up, lane_at, placed, placed_by, polled, polled_aborted, polled_admin, polled_io, refusal, reset, rung}
@@ -162,6 +162,7 @@ own-rests (Poll j) tells k s left m n reply e h = becomes (polled m) n e.1 (rest
 own-rests (Reset j) tells k s left m n reply e h = becomes (reset m) n e.1 (rests-reset m)
 own-rests (RawStore j address bytes) tells k s left m n reply e h = subst Rests (sym e.1) h
 own-rests (RawWrite32 j offset v) tells k s left m n reply e h = subst Rests (sym e.1) h
+own-rests PowerCycle tells k s left m n reply e h = becomes (reset m) n e.1 (rests-reset m)
 
 step-rests : (own : Bool) (event : FleetEvent) (tells : Bool) (k : ℕ) (s left : Site) (m n : Mailbox) (reply : Reply) → MailboxStep own event tells k s m reply left n → Rests m → Rests n
 step-rests true event tells k s left m n reply e h = own-rests event tells k s left m n reply e h
@@ -178,7 +179,7 @@ run-rests tells old new [] (reply ∷ later) k m n run at there h = absurd run
 run-rests tells old new (e ∷ events) [] k m n run at there h = absurd run
 run-rests tells old new (e ∷ events) (reply ∷ later) k m n (mid, step, rest) at there h =
     let moves = hosts_are_apart tells old mid e reply step k m at in
-    run-rests tells mid new events later k moves.mailbox n rest moves.host there (step-rests (controller_of e == k) e tells k old.site mid.site m moves.mailbox reply moves.moves h)
+    run-rests tells mid new events later k moves.mailbox n rest moves.host there (step-rests (concerns e k) e tells k old.site mid.site m moves.mailbox reply moves.moves h)
 
 -- as it opens
 new-rests : Rests (new_mailbox 1)

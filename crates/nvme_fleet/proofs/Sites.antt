@@ -1,26 +1,28 @@
--- What each event of a fleet leaves of access state and medium: what was there, or what an execution answers.
+-- What each event of a fleet leaves of access state and medium.
 use Rattle.std.proofs.Common.{◌≡◌, ℕ, Bool, Option, None, Some, refl, ap, ◌∙◌}
 use Rattle.std.specs.Prelude.{slice_get}
+use Rattle.nvme_spec.specs.Power.{cycled_world}
 use Rattle.nvme_machine.specs.declared.fetched.FetchedCommand.{FetchedCommand}
 use Rattle.nvme_machine.specs.declared.seen.Executed.{Executed}
 use Rattle.nvme_machine.specs.Controllers.{Controller, QueuePair, queues_of, open_pair}
 use Rattle.nvme_machine.specs.Answers as machine
 use Rattle.nvme_machine.specs.Executing.{Setting, FinishesOne, FinishesOver, scene_in}
 use Rattle.nvme_event.specs.declared.event.FleetEvent.{FleetEvent}
-use Rattle.nvme_event.specs.declared.event.FleetEvent.TheVariants.{BringUp, Place, Ring, Fetch, Execute, Poll, Reset, RawStore, RawWrite32}
+use Rattle.nvme_event.specs.declared.event.FleetEvent.TheVariants.{BringUp, Place, Ring, Fetch, Execute, Poll, Reset, RawStore, RawWrite32, PowerCycle}
 use Rattle.nvme_event.specs.Replies.{Reply}
 use Rattle.nvme_fleet.specs.Mailboxes.{FetchedItem, Mailbox}
 use Rattle.nvme_fleet.specs.Executions.{Response, Answers}
-use Rattle.nvme_fleet.specs.Fleets.{Host, WithDriver, Raw, Fleet, Moment, Is, Step, host_at, settled, site_of, setting_of, ExecutesItem, ExecutesRaw, ExecutesAt}
+use Rattle.nvme_fleet.specs.Fleets.{Host, WithDriver, Raw, Fleet, Moment, Is, Step, host_at, power_cycled, settled, site_of, setting_of, ExecutesItem, ExecutesRaw, ExecutesAt}
 use Rattle.nvme_fleet.proofs.Existing.{called-site, raw-site, fetched-site}
 
--- What an event leaves.
+-- What an event leaves: what was there, what an execution answers, or what outlasts a power cycle.
 pub data Leaves (tells : Bool) (old new : Fleet) (event : FleetEvent) : Type 0 where
   AsItWas : new.site ≡ old.site → Leaves tells old new event
   ByRequest : (k i : ℕ) → event ≡ Execute k i → (m : Mailbox) → (x : FetchedItem) → (r : Response) → host_at old k ≡ Some (WithDriver m) → slice_get m.fetched i ≡ Some x
       → Answers tells k x old.site r → new.site ≡ r.left → Leaves tells old new event
   ByCommand : (k i : ℕ) → event ≡ Execute k i → (c : Controller) → (t : FetchedCommand) → (a : machine.Answer) → host_at old k ≡ Some (Raw c) → slice_get c.fetched i ≡ Some t
       → machine.Answers tells (queues_of c) c.cntlid t (scene_in (setting_of old c)) a → new.site ≡ record { world = a.left.world; device = a.left.device } → Leaves tells old new event
+  PowerLost : event ≡ PowerCycle → new.site ≡ record { world = cycled_world old.site.world; device = old.site.device } → Leaves tells old new event
 
 whole : (tells : Bool) (old new : Fleet) (event : FleetEvent) → new ≡ old → Leaves tells old new event
 whole tells old new event e = AsItWas (ap (λ (f : Fleet). f.site) e)
@@ -56,6 +58,10 @@ executes None tells old new k i reply at h = whole tells old new (Execute k i) h
 executes (Some (WithDriver m)) tells old new k i reply at h = item (slice_get m.fetched i) tells old new k m i reply at refl h
 executes (Some (Raw c)) tells old new k i reply at h = raw tells old new k c i reply at h
 
+cycles : (tells : Bool) (old new : Fleet) → new ≡ power_cycled old → Leaves tells old new PowerCycle
+unfolding power_cycled
+cycles tells old new h = PowerLost refl (ap (λ (f : Fleet). f.site) h)
+
 pub leaves : (tells : Bool) (old new : Fleet) (event : FleetEvent) (reply : Reply) → Step tells old event reply new → Leaves tells old new event
 leaves tells old new (BringUp k) reply h = moves tells old new _ _ reply (called-site (host_at old k) old k _) h
 leaves tells old new (Place k request) reply h = moves tells old new _ _ reply (called-site (host_at old k) old k _) h
@@ -66,3 +72,4 @@ leaves tells old new (Poll k) reply h = moves tells old new _ _ reply (called-si
 leaves tells old new (Reset k) reply h = moves tells old new _ _ reply (called-site (host_at old k) old k _) h
 leaves tells old new (RawStore k address bytes) reply h = moves tells old new _ _ reply (raw-site (host_at old k) old k _ _) h
 leaves tells old new (RawWrite32 k offset v) reply h = moves tells old new _ _ reply (raw-site (host_at old k) old k _ _) h
+leaves tells old new PowerCycle reply h = cycles tells old new h.1

@@ -14,13 +14,13 @@ use Rattle.nvme_driver.specs.Requests.{is_bad}
 use Rattle.nvme_machine.specs.Controllers.{Controller}
 use Rattle.nvme_machine.specs.Subsystems.{is_host_among}
 use Rattle.nvme_event.specs.declared.event.FleetEvent.{FleetEvent}
-use Rattle.nvme_event.specs.declared.event.FleetEvent.TheVariants.{BringUp, Place, Ring, Fetch, Execute, Poll, Reset, RawStore, RawWrite32}
+use Rattle.nvme_event.specs.declared.event.FleetEvent.TheVariants.{BringUp, Place, Ring, Fetch, Execute, Poll, Reset, RawStore, RawWrite32, PowerCycle}
 use Rattle.nvme_event.specs.declared.seen.FleetSeen.{FleetSeen}
 use Rattle.nvme_event.specs.Replies.{Reply}
 use Rattle.nvme_fleet.specs.Mailboxes.{FetchedItem, Item, LaneBox, Mailbox, PostedAnswer, new_mailbox}
 use Rattle.nvme_fleet.specs.Deliveries.{Reaction, brought_up, lane_at, placed, polled, refusal, reset, rung}
 use Rattle.nvme_fleet.specs.Executions.{Site}
-use Rattle.nvme_fleet.specs.Fleets.{Fleet, Host, Is, Moment, Raw, Step, WithDriver, ExecutesAt, ExecutesItem, called_at, fetched_at, host_at, marked, marked_from, new_host, opening, raw_at, replaced, settled, with_host}
+use Rattle.nvme_fleet.specs.Fleets.{Fleet, Host, Is, Moment, Raw, Step, WithDriver, ExecutesAt, ExecutesItem, called_at, fetched_at, host_at, host_cycled, power_cycled, marked, marked_from, new_host, opening, raw_at, replaced, settled, with_host}
 use Rattle.nvme_fleet.specs.Regular.{HoldsTaken, WasTaken}
 use Rattle.nvme_fleet.specs.Tickets.{posted_answers, requests_in, waiting}
 use Rattle.nvme_fleet.proofs.Answered.{Known, KnownIn, OfItem, all-append, all-get, all-marked, answered, brought-up, fetches, known-of, places, polls, rings}
@@ -144,6 +144,15 @@ fetched None f k q at all = all
 fetched (Some (WithDriver m)) f k q at all = put f k _ all (fetches WasTaken Any (lane_at q) m (there f k (WithDriver m) at all))
 fetched (Some (Raw c)) f k q at all = put f k _ all tt
 
+hosts-cycled : (hs : List Host) → AllByRecursion Holds (map host_cycled hs)
+hosts-cycled [] = tt
+hosts-cycled (WithDriver m ∷ hs) = (takes-reset m, hosts-cycled hs)
+hosts-cycled (Raw c ∷ hs) = (tt, hosts-cycled hs)
+
+cycled : (f : Fleet) → AllHold (power_cycled f)
+unfolding power_cycled
+cycled f = hosts-cycled f.hosts
+
 item : (o : Option FetchedItem) (tells : Bool) (old new : Fleet) (k : ℕ) (m : Mailbox) (i : ℕ) (reply : Reply) → Takes m → ExecutesItem o tells old k m i reply new → AllHold old → AllHold new
 item None tells old new k m i reply t h all = whole old new h.1 all
 item (Some x) tells old new k m i reply t h all =
@@ -167,6 +176,7 @@ step tells old new (Poll k) reply h all = moves new _ reply (called (host_at old
 step tells old new (Reset k) reply h all = moves new _ reply (called (host_at old k) old k reset (λ m t. takes-reset m) refl all) h
 step tells old new (RawStore k address bytes) reply h all = moves new _ reply (raw (host_at old k) old k _ _ all) h
 step tells old new (RawWrite32 k offset v) reply h all = moves new _ reply (raw (host_at old k) old k _ _ all) h
+step tells old new PowerCycle reply h all = moves new _ reply (cycled old) h
 
 -- the request at a place of what was fetched
 pub at-place : (f : Fleet) (k i : ℕ) (m : Mailbox) (x : FetchedItem) → HoldsTaken f → host_at f k ≡ Some (WithDriver m) → slice_get m.fetched i ≡ Some x → WasTaken x.item

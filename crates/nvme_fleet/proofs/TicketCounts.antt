@@ -1,5 +1,5 @@
 -- Tickets are given in order, and go once.
-use Rattle.std.proofs.Common.{◌≡◌, inl, inr, ℕ, zero, suc, ◌+◌, ◌≤◌, ◌==◌, nat_lt, Bool, true, false, List, [], ◌∷◌, ◌++◌, map, Option, None, Some, Ok, Err, refl, sym, ap, subst, ◌∙◌, arith}
+use Rattle.std.proofs.Common.{◌≡◌, inl, inr, ℕ, zero, suc, ◌+◌, ◌≤◌, nat_lt, Bool, true, false, List, [], ◌∷◌, ◌++◌, map, Option, None, Some, Ok, Err, refl, sym, ap, subst, ◌∙◌, arith}
 use Rattle.std.specs.Prelude.{if◌then◌else◌, slice_get}
 use Rattle.std.proofs.lemmas.Grind.{common_steps}
 use Rattle.std.proofs.lemmas.List.{length-append, length-map}
@@ -14,10 +14,10 @@ use Rattle.nvme_driver.specs.declared.faults.UpFault.TheVariants.{AlreadyUp}
 use Rattle.nvme_driver.specs.declared.faults.PollFault.TheVariants as poll_fault
 use Rattle.nvme_driver.specs.Requests.{asked_of}
 use Rattle.nvme_event.specs.declared.event.FleetEvent.{FleetEvent}
-use Rattle.nvme_event.specs.declared.event.FleetEvent.TheVariants.{BringUp, Place, Ring, Fetch, Execute, Poll, Reset, RawStore, RawWrite32}
+use Rattle.nvme_event.specs.declared.event.FleetEvent.TheVariants.{BringUp, Place, Ring, Fetch, Execute, Poll, Reset, RawStore, RawWrite32, PowerCycle}
 use Rattle.nvme_event.specs.declared.seen.FleetSeen.TheVariants as seen
 use Rattle.nvme_event.specs.Replies.{Reply}
-use Rattle.nvme_event.specs.Events.{controller_of}
+use Rattle.nvme_event.specs.Events.{concerns}
 use Rattle.nvme_fleet.specs.Mailboxes.{Item, FetchedItem, PostedAnswer, LaneBox, Mailbox, box_at, with_box, lane_of, new_mailbox}
 use Rattle.nvme_fleet.specs.Deliveries.{Reaction, reaction, plain, recounted, ring_lane, brought_up, refusal, new_item, with_placed, placed_by, rung, fetched_first, lane_at, fetched_of, handed_up, polled_io, polled_admin, polled_aborted, reset}
 use Rattle.nvme_fleet.specs.Executions.{Site, Response}
@@ -132,6 +132,9 @@ by-execution (Some x) tells k s left m n i reply h =
 by-refusal : (m n : Mailbox) (reply : Reply) → (reply ≡ plain seen.NotRaw) × (n ≡ m) → Gives m n (given_in reply.seen)
 by-refusal m n reply h = subst (λ (x : Reply). Gives m n (given_in x.seen)) (sym h.0) (none m n (ap (λ (x : Mailbox). x.next) h.1))
 
+by-cycle : (m n : Mailbox) (reply : Reply) → (reply ≡ plain seen.Cycled) × (n ≡ (reset m).mailbox) → Gives m n (given_in reply.seen)
+by-cycle m n reply h = subst (λ (x : Reply). Gives m n (given_in x.seen)) (sym h.0) (none m n (ap (λ (x : Mailbox). x.next) h.1))
+
 own-gives : (event : FleetEvent) (tells : Bool) (k : ℕ) (s left : Site) (m n : Mailbox) (reply : Reply) → OwnStep event tells k s m reply left n → Gives m n (given_in reply.seen)
 own-gives (BringUp j) tells k s left m n reply h = by-call m n _ reply h (brought-up m)
 own-gives (Place j request) tells k s left m n reply h = by-call m n _ reply h (places (refusal m request) m request)
@@ -142,6 +145,7 @@ own-gives (Poll j) tells k s left m n reply h = by-call m n _ reply h (polls m.a
 own-gives (Reset j) tells k s left m n reply h = by-call m n _ reply h (none m (reset m).mailbox refl)
 own-gives (RawStore j address bytes) tells k s left m n reply h = by-refusal m n reply h
 own-gives (RawWrite32 j offset v) tells k s left m n reply h = by-refusal m n reply h
+own-gives PowerCycle tells k s left m n reply h = by-cycle m n reply h
 
 pub step-gives : (b : Bool) (event : FleetEvent) (tells : Bool) (k : ℕ) (s left : Site) (m n : Mailbox) (reply : Reply) → MailboxStep b event tells k s m reply left n → Gives m n (if b then given_in reply.seen else [])
 step-gives true event tells k s left m n reply h = own-gives event tells k s left m n reply h
@@ -156,7 +160,7 @@ walk k m n tells old (event ∷ events) [] new run at end = absurd run
 walk k m n tells old (event ∷ events) (x ∷ later) new run at end =
     let one = hosts_are_apart tells old run.0 event x run.1 k m at in
     gives-on m one.mailbox n (given k old event x) (along (given k) tells run.0 events later new run.2)
-    (step-gives (controller_of event == k) event tells k old.site run.0.site m one.mailbox x one.moves)
+    (step-gives (concerns event k) event tells k old.site run.0.site m one.mailbox x one.moves)
     (walk k one.mailbox n tells run.0 events later new run.2 one.host end)
 
 pub tickets_are_consecutive : TicketsAreConsecutive

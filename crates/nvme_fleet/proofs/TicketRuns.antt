@@ -1,15 +1,15 @@
 -- What becomes of tickets over a run.
-use Rattle.std.proofs.Common.{◌≡◌, ℕ, ◌+◌, ◌==◌, Bool, true, false, List, [], ◌∷◌, Option, None, Some, refl, sym, ap, subst, ◌∙◌, arith}
+use Rattle.std.proofs.Common.{◌≡◌, ℕ, ◌+◌, Bool, true, false, List, [], ◌∷◌, Option, None, Some, refl, sym, ap, subst, ◌∙◌, arith}
 use Rattle.std.specs.Prelude.{if◌then◌else◌, slice_get}
 use Rattle.nvme_machine.specs.declared.seen.Executed.TheVariants.{Posted}
 use Rattle.nvme_event.specs.declared.event.FleetEvent.{FleetEvent}
-use Rattle.nvme_event.specs.declared.event.FleetEvent.TheVariants.{BringUp, Place, Ring, Fetch, Execute, Poll, Reset, RawStore, RawWrite32}
+use Rattle.nvme_event.specs.declared.event.FleetEvent.TheVariants.{BringUp, Place, Ring, Fetch, Execute, Poll, Reset, RawStore, RawWrite32, PowerCycle}
 use Rattle.nvme_event.specs.declared.seen.FleetSeen.{FleetSeen}
 use Rattle.nvme_event.specs.declared.seen.FleetSeen.TheVariants as seen
 use Rattle.nvme_event.specs.Replies.{Reply}
-use Rattle.nvme_event.specs.Events.{controller_of}
+use Rattle.nvme_event.specs.Events.{concerns}
 use Rattle.nvme_fleet.specs.Mailboxes.{FetchedItem, Mailbox}
-use Rattle.nvme_fleet.specs.Deliveries.{Reaction, plain}
+use Rattle.nvme_fleet.specs.Deliveries.{Reaction, plain, reset}
 use Rattle.nvme_fleet.specs.Executions.{Site}
 use Rattle.nvme_fleet.specs.Fleets.{Host, WithDriver, Fleet, Run, host_at, after_answer}
 use Rattle.nvme_fleet.specs.Views.{total}
@@ -48,6 +48,10 @@ by-refusal : (w : ℕ → ℕ) (m n : Mailbox) (reply : Reply) → (reply ≡ pl
 by-refusal w m n reply h =
     subst (λ x. FlowsIn w m n x.seen []) (sym h.0) (subst (λ x. Flow w m x 0 0 0 0) (sym h.1) (stays w m m refl refl refl))
 
+by-cycle : (w : ℕ → ℕ) (m n : Mailbox) (reply : Reply) → (reply ≡ plain seen.Cycled) × (n ≡ (reset m).mailbox) → FlowsIn w m n reply.seen []
+by-cycle w m n reply h =
+    subst (λ x. FlowsIn w m n x.seen []) (sym h.0) (subst (λ x. Flow w m x 0 0 0 0) (sym h.1) (resets w m))
+
 by-execution : (w : ℕ → ℕ) (o : Option FetchedItem) (tells : Bool) (k : ℕ) (s left : Site) (m n : Mailbox) (i : ℕ) (reply : Reply) → slice_get m.fetched i ≡ o
     → ExecutesOwn o tells k s m i reply left n → FlowsIn w m n reply.seen (ticket_of o)
 by-execution w None tells k s left m n i reply found h =
@@ -59,26 +63,27 @@ by-execution w (Some x) tells k s left m n i reply found h =
     subst (λ y. FlowsIn w m n y.seen (x.item.ticket ∷ [])) (sym h.gives)
     (reads w m n _ 0 _ (w x.item.ticket + 0) _ 0 _ 0 c (omega arith) (omega arith) (omega arith) (omega arith))
 
-own-flow : (w : ℕ → ℕ) (event : FleetEvent) (tells : Bool) (old : Fleet) (k : ℕ) (s left : Site) (m n : Mailbox) (reply : Reply) → controller_of event ≡ k → HasMailbox old k m
+own-flow : (w : ℕ → ℕ) (event : FleetEvent) (tells : Bool) (old : Fleet) (k : ℕ) (s left : Site) (m n : Mailbox) (reply : Reply) → concerns event k ≡ true → HasMailbox old k m
     → OwnStep event tells k s m reply left n → FlowsIn w m n reply.seen (ticket_of (named_by old event))
 own-flow w (BringUp j) tells old k s left m n reply same at h = by-call w m n _ reply h (brought-up w m)
 own-flow w (Place j request) tells old k s left m n reply same at h = by-call w m n _ reply h (places w m request)
 own-flow w (Ring j) tells old k s left m n reply same at h = by-call w m n _ reply h (rings w m)
 own-flow w (Fetch j q) tells old k s left m n reply same at h = by-call w m n _ reply h (fetches-from w q m)
 own-flow w (Execute j i) tells old k s left m n reply same at h =
-    subst (λ o. FlowsIn w m n reply.seen (ticket_of (fetched_by o i))) (sym (ap (host_at old) same ∙ at))
+    subst (λ o. FlowsIn w m n reply.seen (ticket_of (fetched_by o i))) (sym (ap (host_at old) (is-same j k same) ∙ at))
     (by-execution w (slice_get m.fetched i) tells k s left m n i reply refl h)
 own-flow w (Poll j) tells old k s left m n reply same at h = by-call w m n _ reply h (polls-once w m)
 own-flow w (Reset j) tells old k s left m n reply same at h = by-call w m n _ reply h (resets w m)
 own-flow w (RawStore j address bytes) tells old k s left m n reply same at h = by-refusal w m n reply h
 own-flow w (RawWrite32 j offset v) tells old k s left m n reply same at h = by-refusal w m n reply h
+own-flow w PowerCycle tells old k s left m n reply same at h = by-cycle w m n reply h
 
 -- One event, of any host.
-step-flow : (w : ℕ → ℕ) (b : Bool) (event : FleetEvent) (tells : Bool) (old : Fleet) (k : ℕ) (s left : Site) (m n : Mailbox) (reply : Reply) → (controller_of event == k) ≡ b → HasMailbox old k m
+step-flow : (w : ℕ → ℕ) (b : Bool) (event : FleetEvent) (tells : Bool) (old : Fleet) (k : ℕ) (s left : Site) (m n : Mailbox) (reply : Reply) → concerns event k ≡ b → HasMailbox old k m
     → MailboxStep b event tells k s m reply left n
     → Flow w m n (total w (if b then given_in reply.seen else [])) (total w (if b then where_posted reply.seen (ticket_of (named_by old event)) else []))
     (total w (if b then done_in reply.seen else [])) (total w (if b then aborted_in reply.seen else []))
-step-flow w true event tells old k s left m n reply is at h = own-flow w event tells old k s left m n reply (is-same (controller_of event) k is) at h
+step-flow w true event tells old k s left m n reply is at h = own-flow w event tells old k s left m n reply is at h
 step-flow w false event tells old k s left m n reply is at h = marks_flow w m n (others-differ event k m reply left n h)
 
 -- A run.
@@ -96,7 +101,7 @@ walk w k m tells old (event ∷ events) [] new run at = absurd run
 walk w k m tells old (event ∷ events) (x ∷ later) new run at =
     let one = hosts_are_apart tells old run.0 event x run.1 k m at in
     let rest = walk w k one.mailbox tells run.0 events later new run.2 one.host in
-    let f = step-flow w (controller_of event == k) event tells old k old.site run.0.site m one.mailbox x refl at one.moves in
+    let f = step-flow w (concerns event k) event tells old k old.site run.0.site m one.mailbox x refl at one.moves in
     let all = flows-on w m one.mailbox rest.mailbox _ _ _ _ _ _ _ _ f rest.flow in
     let g = total-append w (given k old event x) (along (given k) tells run.0 events later new run.2) in
     let e = total-append w (executed k old event x) (along (executed k) tells run.0 events later new run.2) in

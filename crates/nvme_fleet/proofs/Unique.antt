@@ -1,6 +1,6 @@
 -- Without a fault of the medium there is one run of both layers over each list of events.
 use Rattle.std.proofs.Common.{◌≡◌, ◌≢◌, ◌⊎◌, inl, inr, ◌<◌, ◌≤◌, ℕ, zero, suc, ◌-◌, ◌^◌, ◌==◌, nat_lt, Bool, true, false, List, [], ◌∷◌, map, Option, None, Some, Result, Ok, Err, refl, sym, ap, subst, ◌∙◌, arith}
-use Rattle.std.specs.Prelude.{slice_get, slice_set, if◌then◌else◌, replicate}
+use Rattle.std.specs.Prelude.{option_map, slice_get, slice_set, if◌then◌else◌, replicate}
 use Rattle.std.proofs.lemmas.Bool.{cases_Bool, eqb-true, eqb-false, eq-eqb}
 use Rattle.std.proofs.lemmas.Option.{none-some, same_Some}
 use Rattle.nvme_spec.specs.declared.config.ControllerConfig.{ControllerConfig}
@@ -12,7 +12,7 @@ use Rattle.nvme_driver.specs.declared.faults.UpFault.{UpFault}
 use Rattle.nvme_driver.specs.declared.request.Request.{Request}
 use Rattle.nvme_driver.specs.declared.slots.Waiting.{Waiting}
 use Rattle.nvme_driver.specs.declared.ticket.Ticket.{Ticket}
-use Rattle.nvme_driver.specs.Drivers.{Driver, new_driver, placed, stores_of}
+use Rattle.nvme_driver.specs.Drivers.{Driver, after_reset, new_driver, placed, stores_of}
 use Rattle.nvme_driver.specs.Once as once
 use Rattle.nvme_driver.specs.Once.{bears, borne}
 use Rattle.nvme_driver.specs.Polls.{IsNotBelow, IsOldest, aborted_at, polled, waiting_at}
@@ -24,7 +24,7 @@ use Rattle.nvme_machine.specs.declared.seen.Seen.TheVariants as given
 use Rattle.nvme_machine.specs.Subsystems.{Subsystem}
 use Rattle.nvme_machine.proofs.Determined as machine
 use Rattle.nvme_event.specs.declared.event.FleetEvent.{FleetEvent}
-use Rattle.nvme_event.specs.declared.event.FleetEvent.TheVariants.{BringUp, Place, Ring, Fetch, Execute, Poll, Reset, RawStore, RawWrite32}
+use Rattle.nvme_event.specs.declared.event.FleetEvent.TheVariants.{BringUp, Place, Ring, Fetch, Execute, Poll, Reset, RawStore, RawWrite32, PowerCycle}
 use Rattle.nvme_event.specs.declared.seen.FleetSeen.{FleetSeen}
 use Rattle.nvme_event.specs.declared.seen.FleetSeen.TheVariants as seen
 use Rattle.nvme_event.specs.Replies.{Reply}
@@ -32,7 +32,7 @@ use Rattle.nvme_fleet.specs.declared.delivery.DriverCall.{DriverCall}
 use Rattle.nvme_fleet.specs.declared.delivery.DriverCall.TheVariants as call
 use Rattle.nvme_fleet.specs.Deeds.{CallStep, ComesUp, Does, DoesIfAny, Places, Polls, Ran, Rings, events_of, events_of_calls, reset_events, ring_events, window_at}
 use Rattle.nvme_fleet.specs.FleetStates.{Layers, fleet_in, opening_driver}
-use Rattle.nvme_fleet.specs.Layers.{Applies, AppliesRaw, CallsAt, Happens, Run, Step, driver_at, with_driver}
+use Rattle.nvme_fleet.specs.Layers.{Applies, AppliesRaw, CallsAt, Cycles, Happens, Run, Step, driver_at, with_driver}
 use Rattle.nvme_fleet.specs.Unique.{HasTicketsOnce, HaveTicketsOnce, LayersRunIsUnique, OpeningHasTicketsOnce, TicketsStayOnce}
 use Rattle.nvme_fleet.proofs.Bytes.{runs_of_mailboxes}
 use Rattle.nvme_fleet.proofs.Determined.{failures_never_fall, step-alone, step-counts}
@@ -109,6 +109,18 @@ raw-once None tells old new e x h all = subst HaveTicketsOnce (sym h.1) all
 raw-once (Some None) tells old new e x h all = applies-once tells old new e x h all
 raw-once (Some (Some d)) tells old new e x h all = subst HaveTicketsOnce (sym h.1) all
 
+-- a driver of a list where each was reset
+reset-get : (xs : List (Option Driver)) (i : ℕ) (d : Driver) → slice_get (map (option_map after_reset) xs) i ≡ Some (Some d) → (c : Driver) × (slice_get xs i ≡ Some (Some c)) × (d ≡ after_reset c)
+reset-get [] i d h = absurd (none-some _ h)
+reset-get (None ∷ xs) zero d h = absurd (none-some _ (same_Some _ _ h))
+reset-get (Some c ∷ xs) zero d h = (c, refl, sym (same_Some _ _ (same_Some _ _ h)))
+reset-get (x ∷ xs) (suc i) d h = reset-get xs i d h
+
+cycles-once : (tells : Bool) (old new : Layers) (x : FleetSeen) → Cycles tells old x new → HaveTicketsOnce old → HaveTicketsOnce new
+cycles-once tells old new x h all i d found =
+    let r = reset-get old.drivers i d (ap (λ ds. slice_get ds i) (sym h.drivers) ∙ found) in
+    keeps-once once.Resets r.0 d r.2 (all i r.0 r.1)
+
 pub happens-once : (tells : Bool) (old new : Layers) (e : FleetEvent) (x : FleetSeen) → Happens tells old e x new → HaveTicketsOnce old → HaveTicketsOnce new
 happens-once tells old new (BringUp k) x h all = calls-once (driver_at old.drivers k) tells old new k call.BringUp x refl h all
 happens-once tells old new (Place k request) x h all = calls-once (driver_at old.drivers k) tells old new k (call.Place request) x refl h all
@@ -119,6 +131,7 @@ happens-once tells old new (Poll k) x h all = calls-once (driver_at old.drivers 
 happens-once tells old new (Reset k) x h all = calls-once (driver_at old.drivers k) tells old new k call.Reset x refl h all
 happens-once tells old new (RawStore k address bytes) x h all = raw-once (driver_at old.drivers k) tells old new (event.Store k address bytes) x h all
 happens-once tells old new (RawWrite32 k offset v) x h all = raw-once (driver_at old.drivers k) tells old new (event.Write32 k offset v) x h all
+happens-once tells old new PowerCycle x h all = cycles-once tells old new x h all
 
 pub tickets_stay_once : TicketsStayOnce
 tickets_stay_once tells old new [] [] run all = subst HaveTicketsOnce (sym run) all
@@ -314,6 +327,7 @@ happens-alone old new other (Poll k) x calm all h g = calls-alone (driver_at old
 happens-alone old new other (Reset k) x calm all h g = calls-alone (driver_at old.drivers k) old new other k call.Reset x calm refl all h g
 happens-alone old new other (RawStore k address bytes) x calm all h g = raw-alone (driver_at old.drivers k) old new other (event.Store k address bytes) x calm h g
 happens-alone old new other (RawWrite32 k offset v) x calm all h g = raw-alone (driver_at old.drivers k) old new other (event.Write32 k offset v) x calm h g
+happens-alone old new other PowerCycle x calm all h g = together new other (g.cycled ∙ sym h.cycled) (g.drivers ∙ sym h.drivers)
 
 -- One event.
 

@@ -7,16 +7,15 @@ use Rattle.nvme_driver.specs.declared.faults.PlaceRefusal.{PlaceRefusal}
 use Rattle.nvme_driver.specs.declared.faults.UpFault.TheVariants.{AlreadyUp}
 use Rattle.nvme_driver.specs.declared.faults.PollFault.TheVariants as poll_fault
 use Rattle.nvme_event.specs.declared.event.FleetEvent.{FleetEvent}
-use Rattle.nvme_event.specs.declared.event.FleetEvent.TheVariants.{BringUp, Place, Ring, Fetch, Execute, Poll, Reset, RawStore, RawWrite32}
+use Rattle.nvme_event.specs.declared.event.FleetEvent.TheVariants.{BringUp, Place, Ring, Fetch, Execute, Poll, Reset, RawStore, RawWrite32, PowerCycle}
 use Rattle.nvme_event.specs.declared.seen.FleetSeen.TheVariants as seen
 use Rattle.nvme_event.specs.Replies.{Reply}
-use Rattle.nvme_event.specs.Events.{controller_of}
 use Rattle.nvme_fleet.specs.Mailboxes.{Item, FetchedItem, PostedAnswer, Mailbox, box_at}
 use Rattle.nvme_fleet.specs.Deliveries.{Reaction, reaction, recounted, ring_lane, brought_up, refusal, placed_by, rung, fetched_first, lane_at, fetched_of, polled_io, polled_admin, polled_aborted}
 use Rattle.nvme_fleet.specs.Executions.{Site}
 use Rattle.nvme_fleet.specs.Apart.{Becomes, ExecutesOwn, OwnStep, MailboxStep}
 use Rattle.nvme_fleet.specs.Unseen.{IsUnseen, UnseenNeverComes}
-use Rattle.nvme_fleet.proofs.Apart.{same-is, hosts_are_apart}
+use Rattle.nvme_fleet.proofs.Apart.{hosts_are_apart}
 
 abbrev Spares : Reaction → Type 0
 Spares r = IsUnseen r.reply.seen → ⊥
@@ -80,6 +79,7 @@ own-spares (Poll j) tells k s left m n reply h u = by-call _ reply n h (polls m.
 own-spares (Reset j) tells k s left m n reply h u = subst (λ (x : Reply). IsUnseen x.seen) h.0 u
 own-spares (RawStore j address bytes) tells k s left m n reply h u = subst (λ (x : Reply). IsUnseen x.seen) h.0 u
 own-spares (RawWrite32 j offset v) tells k s left m n reply h u = subst (λ (x : Reply). IsUnseen x.seen) h.0 u
+own-spares PowerCycle tells k s left m n reply h u = subst (λ (x : Reply). IsUnseen x.seen) h.0 u
 
 pub unseen_never_comes : UnseenNeverComes
 unseen_never_comes tells old new [] [] run k m at h = h
@@ -88,7 +88,7 @@ unseen_never_comes tells old new (event ∷ events) [] run k m at h = h
 unseen_never_comes tells old new (event ∷ events) (x ∷ later) run k m at (inl h) =
     let one = hosts_are_apart tells old run.0 event x run.1 k m at in
     own-spares event tells k old.site run.0.site m one.mailbox x
-    (subst (λ b. MailboxStep b event tells k old.site m x run.0.site one.mailbox) (same-is (controller_of event) k h.host) one.moves) h.seen
+    (subst (λ b. MailboxStep b event tells k old.site m x run.0.site one.mailbox) h.host one.moves) h.seen
 unseen_never_comes tells old new (event ∷ events) (x ∷ later) run k m at (inr h) =
     let one = hosts_are_apart tells old run.0 event x run.1 k m at in
     unseen_never_comes tells run.0 new events later run.2 k one.mailbox one.host h

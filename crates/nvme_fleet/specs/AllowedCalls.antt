@@ -7,8 +7,8 @@ use Rattle.nvme_spec.specs.Layout.{Extent, extent_of, may_write}
 use Rattle.nvme_spec.specs.MediumCalls.{MediumCall}
 use Rattle.nvme_machine.specs.AllowedCalls.{IsCallOf, HaveTheirOwn, KeepsOff}
 use Rattle.nvme_event.specs.declared.event.FleetEvent.{FleetEvent}
-use Rattle.nvme_event.specs.declared.event.FleetEvent.TheVariants.{BringUp, Place, Ring, Fetch, Execute, Poll, Reset, RawStore, RawWrite32}
-use Rattle.nvme_event.specs.Events.{controller_of}
+use Rattle.nvme_event.specs.declared.event.FleetEvent.TheVariants.{BringUp, Place, Ring, Fetch, Execute, Poll, Reset, RawStore, RawWrite32, PowerCycle}
+use Rattle.nvme_event.specs.Events.{OfItsHost}
 use Rattle.nvme_event.specs.Replies.{Reply}
 use Rattle.nvme_fleet.specs.Bytes.{LeavesReservation}
 use Rattle.nvme_fleet.specs.FleetStates.{Layers}
@@ -26,6 +26,7 @@ MayCall l (Poll k) call = ⊥
 MayCall l (Reset k) call = ⊥
 MayCall l (RawStore k address bytes) call = ⊥
 MayCall l (RawWrite32 k offset v) call = ⊥
+MayCall l PowerCycle call = ⊥
 
 -- A block is written only by a Write or Write Zeroes that all rules let pass, on a namespace that the block belongs to
 -- and that the reservation lets its host write, with that command's bytes; it is read only by such a Read or Compare,
@@ -64,13 +65,13 @@ CallsWhere P tells old (event ∷ events) (reply ∷ later) new calls =
 CallsWhere P tells old [] (reply ∷ later) new calls = ⊥
 CallsWhere P tells old (event ∷ events) [] new calls = ⊥
 
--- Fencing holds of the calls: while no reservation command on a namespace is executed but denied ones, no call of hosts
--- that may not write it writes any of its blocks, whatever they place, ring, fetch, execute, poll, reset, bring up,
--- store and write, in any order.
+-- Fencing holds of the calls: while no reservation command on a namespace is executed but denied ones, and power is not
+-- lost or the reservation persists, no call of hosts that may not write it writes any of its blocks, whatever they
+-- place, ring, fetch, execute, poll, reset, bring up, store and write, in any order.
 abbrev pub FencedHostsWriteNoBlock : Type 0
 FencedHostsWriteNoBlock =
     (tells : Bool) → (old new : Layers) → (events : List FleetEvent) → (replies : List Reply)
     → (calls : List MediumCall) → (n : ℕ) → (x : Extent) → HaveTheirOwn old.subsystem.world
     → extent_of old.subsystem.world n ≡ Some x → CallsWhere (LeavesReservation n) tells old events replies new calls
-    → AllByRecursion (λ event. may_write old.subsystem.world (controller_of event) n ≡ false) events
+    → AllByRecursion (OfItsHost (λ k. may_write old.subsystem.world k n ≡ false)) events
     → AllByRecursion (KeepsOff x) calls

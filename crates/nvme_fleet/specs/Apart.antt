@@ -7,10 +7,10 @@ use Rattle.nvme_spec.specs.Execution.{no_marks}
 use Rattle.nvme_machine.specs.Subsystems.{is_host_among}
 use Rattle.nvme_machine.specs.declared.seen.Executed.TheVariants.{Posted, NoSuch}
 use Rattle.nvme_event.specs.declared.event.FleetEvent.{FleetEvent}
-use Rattle.nvme_event.specs.declared.event.FleetEvent.TheVariants.{BringUp, Place, Ring, Fetch, Execute, Poll, Reset, RawStore, RawWrite32}
+use Rattle.nvme_event.specs.declared.event.FleetEvent.TheVariants.{BringUp, Place, Ring, Fetch, Execute, Poll, Reset, RawStore, RawWrite32, PowerCycle}
 use Rattle.nvme_event.specs.declared.seen.FleetSeen.{FleetSeen}
-use Rattle.nvme_event.specs.declared.seen.FleetSeen.TheVariants.{Executed as ExecutedSeen, NotRaw}
-use Rattle.nvme_event.specs.Events.{controller_of}
+use Rattle.nvme_event.specs.declared.seen.FleetSeen.TheVariants.{Executed as ExecutedSeen, NotRaw, Cycled}
+use Rattle.nvme_event.specs.Events.{concerns}
 use Rattle.nvme_event.specs.Replies.{Reply}
 use Rattle.nvme_fleet.specs.Mailboxes.{FetchedItem, Mailbox, with_marks}
 use Rattle.nvme_fleet.specs.Deliveries.{plain, Reaction, brought_up, placed, rung, fetched, polled, reset}
@@ -47,7 +47,7 @@ abbrev pub ExecutesOwn : Option FetchedItem → Bool → ℕ → Site → Mailbo
 ExecutesOwn None tells k s m i reply left n = (reply ≡ plain (ExecutedSeen NoSuch)) × (n ≡ m)
 ExecutesOwn (Some x) tells k s m i reply left n = Posts tells k s m i x reply left n
 
--- an event of its own
+-- an event of its own; a power cycle is one of every host
 abbrev pub OwnStep : FleetEvent → Bool → ℕ → Site → Mailbox → Reply → Site → Mailbox → Type 0
 OwnStep (BringUp j) tells k s m reply left n = Becomes (brought_up m) reply n
 OwnStep (Place j request) tells k s m reply left n = Becomes (placed m request) reply n
@@ -58,6 +58,7 @@ OwnStep (Poll j) tells k s m reply left n = Becomes (polled m) reply n
 OwnStep (Reset j) tells k s m reply left n = Becomes (reset m) reply n
 OwnStep (RawStore j address bytes) tells k s m reply left n = (reply ≡ plain NotRaw) × (n ≡ m)
 OwnStep (RawWrite32 j offset v) tells k s m reply left n = (reply ≡ plain NotRaw) × (n ≡ m)
+OwnStep PowerCycle tells k s m reply left n = (reply ≡ plain Cycled) × (n ≡ (reset m).mailbox)
 
 -- an event of another host
 abbrev pub OthersStep : FleetEvent → ℕ → Mailbox → Reply → Site → Mailbox → Type 0
@@ -74,7 +75,7 @@ pub record MovesOn (tells : Bool) (old : Fleet) (event : FleetEvent) (reply : Re
     (m : Mailbox) : Type 0 where
   pub mailbox : Mailbox
   pub host : HasMailbox new k mailbox
-  pub moves : MailboxStep (controller_of event == k) event tells k old.site m reply new.site mailbox
+  pub moves : MailboxStep (concerns event k) event tells k old.site m reply new.site mailbox
 
 abbrev pub HostsAreApart : Type 0
 HostsAreApart =

@@ -3,12 +3,12 @@
 use Rattle.std.specs.Prelude.{◌≡◌, ◌≢◌, ℕ, Bool, true, false, List, [], ◌∷◌}
 use Rattle.std.specs.List.{AllByRecursion}
 use Rattle.nvme_spec.specs.Commands.{reserving}
-use Rattle.nvme_spec.specs.Layout.{IsLaidOut, bytes_of, may_write}
+use Rattle.nvme_spec.specs.Layout.{IsLaidOut, bytes_of, may_write, reservation_of}
 use Rattle.nvme_machine.specs.declared.event.Event.TheVariants as event
-use Rattle.nvme_machine.specs.Fencing.{Allows}
+use Rattle.nvme_machine.specs.Fencing.{Allows, IsFleeting}
 use Rattle.nvme_event.specs.declared.event.FleetEvent.{FleetEvent}
-use Rattle.nvme_event.specs.declared.event.FleetEvent.TheVariants.{BringUp, Place, Ring, Fetch, Execute, Poll, Reset, RawStore, RawWrite32}
-use Rattle.nvme_event.specs.Events.{controller_of}
+use Rattle.nvme_event.specs.declared.event.FleetEvent.TheVariants.{BringUp, Place, Ring, Fetch, Execute, Poll, Reset, RawStore, RawWrite32, PowerCycle}
+use Rattle.nvme_event.specs.Events.{controller_of, OfItsHost}
 use Rattle.nvme_event.specs.Replies.{Reply}
 use Rattle.nvme_fleet.specs.Deeds.{window_at}
 use Rattle.nvme_fleet.specs.FleetStates.{Layers, fleet_in}
@@ -28,11 +28,11 @@ namespace_bytes l n = bytes_of l.subsystem.world l.subsystem.device.content n
 abbrev pub is_laid_out : Layers → Type 0
 is_laid_out l = IsLaidOut l.subsystem.world l.subsystem.device.content
 
--- An event of a host that may not write a namespace changes no byte of it.
+-- An event of a host that may not write a namespace changes no byte of it, nor does a power cycle.
 abbrev pub FencedEventsWriteNothing : Type 0
 FencedEventsWriteNothing =
     (old new : Layers) → (event : FleetEvent) → (reply : Reply) → (n : ℕ) → is_laid_out old
-    → Step true old event reply new → may_write old.subsystem.world (controller_of event) n ≡ false
+    → Step true old event reply new → OfItsHost (λ k. may_write old.subsystem.world k n ≡ false) event
     → namespace_bytes new n ≡ namespace_bytes old n
 
 -- The layout of namespaces never changes.
@@ -41,7 +41,8 @@ LayoutStays =
     (old new : Layers) → (event : FleetEvent) → (reply : Reply) → is_laid_out old → Step true old event reply new
     → is_laid_out new
 
--- the event executes no reservation command on the namespace that all rules let pass
+-- the event executes no reservation command on the namespace that all rules let pass, and is no power cycle that the
+-- reservation does not outlast
 abbrev pub LeavesReservation : ℕ → Layers → FleetEvent → Type 0
 LeavesReservation n l (Execute k i) = Allows reserving l.subsystem (event.Execute k i) n → ⊥
 LeavesReservation n l (BringUp k) = Unit {0}
@@ -52,8 +53,9 @@ LeavesReservation n l (Poll k) = Unit {0}
 LeavesReservation n l (Reset k) = Unit {0}
 LeavesReservation n l (RawStore k address bytes) = Unit {0}
 LeavesReservation n l (RawWrite32 k offset v) = Unit {0}
+LeavesReservation n l PowerCycle = IsFleeting (reservation_of l.subsystem.world n) → ⊥
 
--- Where it does not, every host may write and not write as before.
+-- There every host may write and not write as before.
 abbrev pub PermissionsStay : Type 0
 PermissionsStay =
     (tells : Bool) → (old new : Layers) → (event : FleetEvent) → (reply : Reply) → (n : ℕ)
@@ -68,14 +70,14 @@ RunWhere P old (event ∷ events) (reply ∷ later) new =
 RunWhere P old [] (reply ∷ later) new = ⊥
 RunWhere P old (event ∷ events) [] new = ⊥
 
--- Fencing holds: while no reservation command on a namespace is executed but denied ones, hosts that may not write it
--- change none of its bytes, whatever they place, ring, fetch, execute, poll, reset, bring up, store and write, in any
--- order; and they still may not write it.
+-- Fencing holds: while no reservation command on a namespace is executed but denied ones, and power is not lost or the
+-- reservation persists, hosts that may not write it change none of its bytes, whatever they place, ring, fetch,
+-- execute, poll, reset, bring up, store and write, in any order; and they still may not write it.
 abbrev pub FencingHolds : Type 0
 FencingHolds =
     (old new : Layers) → (events : List FleetEvent) → (replies : List Reply) → (n : ℕ) → is_laid_out old
     → RunWhere (LeavesReservation n) old events replies new
-    → AllByRecursion (λ event. may_write old.subsystem.world (controller_of event) n ≡ false) events
+    → AllByRecursion (OfItsHost (λ k. may_write old.subsystem.world k n ≡ false)) events
     → (namespace_bytes new n ≡ namespace_bytes old n)
     × ((k : ℕ) → may_write new.subsystem.world k n ≡ may_write old.subsystem.world k n)
 

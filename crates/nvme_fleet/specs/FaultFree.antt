@@ -19,13 +19,13 @@ use Rattle.nvme_machine.specs.Executing.{Setting, setting, scene_in}
 use Rattle.nvme_machine.specs.Answers as machine
 use Rattle.nvme_machine.specs.FaultFree.{fault_free_answer}
 use Rattle.nvme_event.specs.declared.event.FleetEvent.{FleetEvent}
-use Rattle.nvme_event.specs.declared.event.FleetEvent.TheVariants.{BringUp, Place, Ring, Fetch, Execute, Poll, Reset, RawStore, RawWrite32}
-use Rattle.nvme_event.specs.declared.seen.FleetSeen.TheVariants.{Executed as ExecutedSeen, NoController}
+use Rattle.nvme_event.specs.declared.event.FleetEvent.TheVariants.{BringUp, Place, Ring, Fetch, Execute, Poll, Reset, RawStore, RawWrite32, PowerCycle}
+use Rattle.nvme_event.specs.declared.seen.FleetSeen.TheVariants.{Executed as ExecutedSeen, NoController, Cycled}
 use Rattle.nvme_event.specs.Replies.{Reply}
 use Rattle.nvme_fleet.specs.Mailboxes.{FetchedItem, Mailbox, lane_of}
 use Rattle.nvme_fleet.specs.Deliveries.{plain, brought_up, placed, rung, polled, reset}
 use Rattle.nvme_fleet.specs.Executions.{Site, Response, scene_at, command_entry, denial_response, bytes_with, action_of, io_verdict, admin_response}
-use Rattle.nvme_fleet.specs.Fleets.{Host, WithDriver, Raw, Fleet, Moment, moment, host_at, called, raw_stored, raw_wrote, fetched_at, after_execution, setting_of, after_raw}
+use Rattle.nvme_fleet.specs.Fleets.{Host, WithDriver, Raw, Fleet, Moment, moment, host_at, called, raw_stored, raw_wrote, fetched_at, after_execution, setting_of, after_raw, power_cycled}
 
 -- an allowed I/O command, by what the definitions say of it
 abbrev pub served : Command → ℕ → Asked → Site → Performance → Response
@@ -104,6 +104,7 @@ fault_free_step f (Poll k) = called f k polled
 fault_free_step f (Reset k) = called f k reset
 fault_free_step f (RawStore k address bytes) = raw_stored f k address bytes.now
 fault_free_step f (RawWrite32 k offset v) = raw_wrote f k offset v
+fault_free_step f PowerCycle = moment (power_cycled f) Cycled
 
 -- what the events give, one after the other
 abbrev pub fault_free_replies : Fleet → List FleetEvent → List Reply

@@ -1,6 +1,6 @@
 -- Hosts of a fleet that a reservation keeps from writing a namespace, hosts with a driver and raw ones alike: their
--- writes are refused, whatever any host does, until a reservation command on it is executed that all rules let pass
--- (Base Specification: Reservations).
+-- writes are refused, whatever any host does, until a reservation command on it is executed that all rules let pass, or
+-- power is lost that its reservation does not outlast (Base Specification: Reservations).
 use Rattle.std.specs.Prelude.{◌≡◌, ◌⊎◌, ℕ, Bool, true, false, List, [], ◌∷◌, take, Some, Ok, Err}
 use Rattle.nvme_wire.specs.Submission.{opcode, nsid}
 use Rattle.nvme_spec.specs.declared.command.Command.{Command}
@@ -14,8 +14,9 @@ use Rattle.nvme_spec.specs.Rules.{Judgement, Rule, first_failing}
 use Rattle.nvme_spec.specs.Statuses as status
 use Rattle.nvme_spec.specs.World.{World}
 use Rattle.nvme_machine.specs.declared.seen.Executed.TheVariants.{Posted}
+use Rattle.nvme_machine.specs.Fencing.{IsFleeting}
 use Rattle.nvme_event.specs.declared.event.FleetEvent.{FleetEvent}
-use Rattle.nvme_event.specs.declared.event.FleetEvent.TheVariants.{BringUp, Place, Ring, Fetch, Execute, Poll, Reset, RawStore, RawWrite32}
+use Rattle.nvme_event.specs.declared.event.FleetEvent.TheVariants.{BringUp, Place, Ring, Fetch, Execute, Poll, Reset, RawStore, RawWrite32, PowerCycle}
 use Rattle.nvme_event.specs.declared.seen.FleetSeen.TheVariants.{Executed as ExecutedSeen}
 use Rattle.nvme_event.specs.Replies.{Reply}
 use Rattle.nvme_fleet.specs.Deliveries.{plain}
@@ -45,14 +46,21 @@ Allows commands f (Poll k) n = ⊥
 Allows commands f (Reset k) n = ⊥
 Allows commands f (RawStore k address bytes) n = ⊥
 Allows commands f (RawWrite32 k offset v) n = ⊥
+Allows commands f PowerCycle n = ⊥
+
+-- an event is a power cycle, and the reservation of the namespace does not persist
+abbrev pub Forgets : Fleet → FleetEvent → ℕ → Type 0
+Forgets f PowerCycle n = IsFleeting (reservation_of f.site.world n)
+Forgets f other n = ⊥
 
 -- The reservation of a namespace changes only where a Reservation Register, Acquire or Release on it is executed that
--- all rules let pass.
+-- all rules let pass, or where it does not persist and power is lost.
 abbrev pub OnlyAllowedActionsReserve : Type 0
 OnlyAllowedActionsReserve =
     (tells : Bool) → (old new : Fleet) → (event : FleetEvent) → (reply : Reply) → (n : ℕ)
     → Step tells old event reply new
     → (reservation_of new.site.world n ≡ reservation_of old.site.world n) ⊎ Allows reserving old event n
+    ⊎ Forgets old event n
 
 -- a run in which each event is so in the state that it finds
 abbrev pub RunWhere : (Fleet → FleetEvent → Type 0) → Bool → Fleet → List FleetEvent → List Reply → Fleet → Type 0
@@ -63,10 +71,14 @@ RunWhere P tells old [] (reply ∷ later) new = ⊥
 RunWhere P tells old (event ∷ events) [] new = ⊥
 
 -- no event executes a reservation command on the namespace that all rules let pass
-abbrev pub LeavesReservation : ℕ → Fleet → FleetEvent → Type 0
-LeavesReservation n f event = Allows reserving f event n → ⊥
+abbrev pub ReservesNothing : ℕ → Fleet → FleetEvent → Type 0
+ReservesNothing n f event = Allows reserving f event n → ⊥
 
--- While none does, every host may write and not write as before.
+-- nor is it a power cycle that the reservation does not outlast
+abbrev pub LeavesReservation : ℕ → Fleet → FleetEvent → Type 0
+LeavesReservation n f event = ReservesNothing n f event × (Forgets f event n → ⊥)
+
+-- While events do neither, every host may write and not write as before.
 abbrev pub PermissionsStay : Type 0
 PermissionsStay =
     (tells : Bool) → (old new : Fleet) → (events : List FleetEvent) → (replies : List Reply) → (n : ℕ)
@@ -92,10 +104,10 @@ FencedWritesAreDenied =
     (f : Fleet) → (n k i : ℕ) → (x : IoCommand) → AreNumbered f → command_at f k i ≡ Some x → IsOn n writers x
     → may_write f.site.world k n ≡ false → x.judgement ≡ Err (fenced f.site.world k x)
 
--- Fencing holds: while no reservation command on a namespace is executed but denied ones, each write of a host that may
--- not write it is answered Reservation Conflict, or with the denial of a rule before, and changes neither access state
--- nor medium, whatever any host places, rings, fetches, executes, polls, resets, stores and writes until then, in any
--- order.
+-- Fencing holds: while no reservation command on a namespace is executed but denied ones, and power is not lost or the
+-- reservation persists, each write of a host that may not write it is answered Reservation Conflict, or with the denial
+-- of a rule before, and changes neither access state nor medium, whatever any host places, rings, fetches, executes,
+-- polls, resets, stores and writes until then, in any order.
 abbrev pub FencingHolds : Type 0
 FencingHolds =
     (tells : Bool) → (old mid new : Fleet) → (events : List FleetEvent) → (replies : List Reply) → (n k i : ℕ)

@@ -7,6 +7,7 @@ use Rattle.nvme_spec.specs.Blocks.{Device}
 use Rattle.nvme_spec.specs.Memory.{window_size}
 use Rattle.nvme_spec.specs.Configuration.{Configuration}
 use Rattle.nvme_spec.specs.World.{World, host_of, opening_world}
+use Rattle.nvme_spec.specs.Power.{cycled_world}
 use Rattle.nvme_spec.specs.Execution.{no_marks}
 use Rattle.nvme_machine.specs.declared.seen.Fetched.{Fetched}
 use Rattle.nvme_machine.specs.declared.seen.Fetched.TheVariants.{Took, Idle}
@@ -16,9 +17,9 @@ use Rattle.nvme_machine.specs.Controllers as machine
 use Rattle.nvme_machine.specs.Subsystems.{is_host_among}
 use Rattle.nvme_machine.specs.Executing.{Setting, setting, ExecutesNth}
 use Rattle.nvme_event.specs.declared.event.FleetEvent.{FleetEvent}
-use Rattle.nvme_event.specs.declared.event.FleetEvent.TheVariants.{BringUp, Place, Ring, Fetch, Execute, Poll, Reset, RawStore, RawWrite32}
+use Rattle.nvme_event.specs.declared.event.FleetEvent.TheVariants.{BringUp, Place, Ring, Fetch, Execute, Poll, Reset, RawStore, RawWrite32, PowerCycle}
 use Rattle.nvme_event.specs.declared.seen.FleetSeen.{FleetSeen}
-use Rattle.nvme_event.specs.declared.seen.FleetSeen.TheVariants.{Fetched as FetchedSeen, Executed as ExecutedSeen, Stored, Outside, Wrote, NoController, NoDriver, NotRaw}
+use Rattle.nvme_event.specs.declared.seen.FleetSeen.TheVariants.{Fetched as FetchedSeen, Executed as ExecutedSeen, Stored, Outside, Wrote, Cycled, NoController, NoDriver, NotRaw}
 use Rattle.nvme_event.specs.Replies.{Reply}
 use Rattle.nvme_fleet.specs.Mailboxes.{FetchedItem, PostedAnswer, LaneBox, Mailbox, new_mailbox, box_at, with_box, lane_of, with_marks}
 use Rattle.nvme_fleet.specs.Deliveries.{plain, Reaction, brought_up, placed, rung, fetched, polled, reset}
@@ -181,6 +182,18 @@ ExecutesAt (Some (WithDriver m)) tells old k i reply new =
     ExecutesItem (slice_get m.fetched i) tells old k m i reply new
 ExecutesAt (Some (Raw c)) tells old k i reply new = ExecutesRaw tells old k c i reply new
 
+-- Power is lost, and comes back: of the world there stays what persists, each driver resets its controller, and each
+-- raw host's controller is as one that was never enabled.
+abbrev pub host_cycled : Host → Host
+host_cycled (WithDriver m) = WithDriver (reset m).mailbox
+host_cycled (Raw c) = Raw (machine.power_cycled c)
+
+unfoldable pub power_cycled : Fleet → Fleet
+power_cycled f = record {
+  site = record { world = cycled_world f.site.world; device = f.site.device };
+  hosts = map host_cycled f.hosts;
+}
+
 -- One event: the fleet before it, what it gave, and the fleet after it.
 abbrev pub Is : Moment → Reply → Fleet → Type 0
 Is m reply new = (reply ≡ m.reply) × (new ≡ m.fleet)
@@ -195,6 +208,7 @@ Step tells old (Poll k) reply new = Is (called old k polled) reply new
 Step tells old (Reset k) reply new = Is (called old k reset) reply new
 Step tells old (RawStore k address bytes) reply new = Is (raw_stored old k address bytes.now) reply new
 Step tells old (RawWrite32 k offset v) reply new = Is (raw_wrote old k offset v) reply new
+Step tells old PowerCycle reply new = Is (moment (power_cycled old) Cycled) reply new
 
 -- Events, one after the other, and what each gave.
 abbrev pub Run : Bool → Fleet → List FleetEvent → List Reply → Fleet → Type 0

@@ -7,7 +7,7 @@ use Rattle.nvme_machine.specs.declared.event.Event.TheVariants as event
 use Rattle.nvme_machine.specs.declared.seen.Seen.{Seen}
 use Rattle.nvme_machine.specs.EventCalls as machine
 use Rattle.nvme_event.specs.declared.event.FleetEvent.{FleetEvent}
-use Rattle.nvme_event.specs.declared.event.FleetEvent.TheVariants.{BringUp, Place, Ring, Fetch, Execute, Poll, Reset, RawStore, RawWrite32}
+use Rattle.nvme_event.specs.declared.event.FleetEvent.TheVariants.{BringUp, Place, Ring, Fetch, Execute, Poll, Reset, RawStore, RawWrite32, PowerCycle}
 use Rattle.nvme_event.specs.declared.seen.FleetSeen.{FleetSeen}
 use Rattle.nvme_event.specs.Replies.{Reply}
 use Rattle.nvme_fleet.specs.FleetStates.{Layers, fleet_in}
@@ -35,6 +35,7 @@ HappensCalling tells old (RawStore k address bytes) what new calls =
     Happens tells old (RawStore k address bytes) what new × (calls ≡ [])
 HappensCalling tells old (RawWrite32 k offset v) what new calls =
     Happens tells old (RawWrite32 k offset v) what new × (calls ≡ [])
+HappensCalling tells old PowerCycle what new calls = Happens tells old PowerCycle what new × (calls ≡ [])
 
 -- One event, seen from both layers at once, and the calls that it makes.
 pub record AreCallsOfStep (tells : Bool) (old : Layers) (event : FleetEvent) (reply : Reply) (new : Layers)

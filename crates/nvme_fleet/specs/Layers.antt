@@ -1,7 +1,7 @@
 -- A fleet as both of its layers at once: the subsystem, and the driver of each controller's host. What each event makes
 -- of both: of the mailboxes that they stand for, and of the subsystem, event by event.
-use Rattle.std.specs.Prelude.{◌≡◌, ℕ, zero, suc, Bool, List, [], ◌∷◌, Option, None, Some, slice_get, slice_set}
-use Rattle.nvme_driver.specs.Drivers.{Driver}
+use Rattle.std.specs.Prelude.{◌≡◌, ◌+◌, ℕ, zero, suc, Bool, List, [], ◌∷◌, ◌++◌, map, Option, None, Some, option_map, slice_get, slice_set}
+use Rattle.nvme_driver.specs.Drivers.{Driver, after_reset}
 use Rattle.nvme_machine.specs.declared.event.Event.{Event}
 use Rattle.nvme_machine.specs.declared.event.Event.TheVariants as event
 use Rattle.nvme_machine.specs.declared.seen.Seen.{Seen}
@@ -9,13 +9,13 @@ use Rattle.nvme_machine.specs.declared.seen.Seen.TheVariants as given
 use Rattle.nvme_machine.specs.Subsystems as machine
 use Rattle.nvme_machine.specs.Subsystems.{Subsystem}
 use Rattle.nvme_event.specs.declared.event.FleetEvent.{FleetEvent}
-use Rattle.nvme_event.specs.declared.event.FleetEvent.TheVariants.{BringUp, Place, Ring, Fetch, Execute, Poll, Reset, RawStore, RawWrite32}
+use Rattle.nvme_event.specs.declared.event.FleetEvent.TheVariants.{BringUp, Place, Ring, Fetch, Execute, Poll, Reset, RawStore, RawWrite32, PowerCycle}
 use Rattle.nvme_event.specs.declared.seen.FleetSeen.{FleetSeen}
 use Rattle.nvme_event.specs.declared.seen.FleetSeen.TheVariants as seen
 use Rattle.nvme_event.specs.Replies.{Reply}
 use Rattle.nvme_fleet.specs.declared.delivery.DriverCall.{DriverCall}
 use Rattle.nvme_fleet.specs.declared.delivery.DriverCall.TheVariants as call
-use Rattle.nvme_fleet.specs.Deeds.{DoesIfAny}
+use Rattle.nvme_fleet.specs.Deeds.{DoesIfAny, Ran, reset_events}
 use Rattle.nvme_fleet.specs.FleetStates.{Layers, fleet_in}
 use Rattle.nvme_fleet.specs.Fleets as mailboxes
 
@@ -43,6 +43,7 @@ told given.Wrote = seen.Wrote
 told (given.Value v) = seen.Wrote
 told (given.Fetched fetched) = seen.Fetched fetched
 told (given.Executed executed) = seen.Executed executed
+told given.Cycled = seen.Cycled
 told given.NoController = seen.NoController
 
 -- One event of the subsystem; all drivers stay.
@@ -58,6 +59,19 @@ AppliesRaw None tells old event what new = (what ≡ seen.NoController) × (new 
 AppliesRaw (Some None) tells old event what new = Applies tells old event what new
 AppliesRaw (Some (Some d)) tells old event what new = (what ≡ seen.NotRaw) × (new ≡ old)
 
+-- the resets of the drivers of these hosts, from controller k on; a raw host has none
+abbrev pub resets_from : ℕ → List (Option Driver) → List Event
+resets_from k [] = []
+resets_from k (None ∷ drivers) = resets_from (k + 1) drivers
+resets_from k (Some d ∷ drivers) = reset_events k ++ resets_from (k + 1) drivers
+
+-- A power cycle: the subsystem's, and behind it the resets of all drivers, which change nothing there any more.
+pub record Cycles (tells : Bool) (old : Layers) (what : FleetSeen) (new : Layers) : Type 0 where
+  pub gives : what ≡ seen.Cycled
+  pub ran : Ran tells old.subsystem (event.PowerCycle ∷ resets_from 1 old.drivers) new.subsystem
+  pub cycled : new.subsystem ≡ machine.after_power_cycle old.subsystem
+  pub drivers : new.drivers ≡ map (option_map after_reset) old.drivers
+
 -- What an event of a fleet is at the subsystem: exactly which of its events, and what they leave.
 abbrev pub Happens : Bool → Layers → FleetEvent → FleetSeen → Layers → Type 0
 Happens tells old (BringUp k) what new = CallsAt (driver_at old.drivers k) tells old k call.BringUp what new
@@ -72,6 +86,7 @@ Happens tells old (RawStore k address bytes) what new =
     AppliesRaw (driver_at old.drivers k) tells old (event.Store k address bytes) what new
 Happens tells old (RawWrite32 k offset v) what new =
     AppliesRaw (driver_at old.drivers k) tells old (event.Write32 k offset v) what new
+Happens tells old PowerCycle what new = Cycles tells old what new
 
 -- One event, seen from both layers at once.
 pub record Step (tells : Bool) (old : Layers) (event : FleetEvent) (reply : Reply) (new : Layers) : Type 0 where

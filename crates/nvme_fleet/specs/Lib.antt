@@ -21,6 +21,7 @@ pub mod Layers
 pub mod LayerCalls
 pub mod LinkCalls
 pub mod RawEvents
+pub mod PowerReset
 pub mod Running
 pub mod Apart
 pub mod Tickets
@@ -32,4 +33,5 @@ pub mod Regular
 pub mod Unique
 pub mod Secrecy
 pub mod AllowedCalls
+pub mod PowerCycles
 pub mod CallLaws

@@ -13,7 +13,7 @@ use Rattle.nvme_spec.specs.World.{World, host_of}
 use Rattle.nvme_machine.specs.declared.seen.Executed.TheVariants.{Posted}
 use Rattle.nvme_machine.specs.Subsystems.{is_host_among}
 use Rattle.nvme_event.specs.declared.event.FleetEvent.{FleetEvent}
-use Rattle.nvme_event.specs.declared.event.FleetEvent.TheVariants.{BringUp, Place, Ring, Fetch, Execute, Poll, Reset, RawStore, RawWrite32}
+use Rattle.nvme_event.specs.declared.event.FleetEvent.TheVariants.{BringUp, Place, Ring, Fetch, Execute, Poll, Reset, RawStore, RawWrite32, PowerCycle}
 use Rattle.nvme_event.specs.declared.seen.FleetSeen.TheVariants.{Executed as ExecutedSeen}
 use Rattle.nvme_event.specs.Replies.{Reply}
 use Rattle.nvme_fleet.specs.Deliveries.{plain}
@@ -48,6 +48,7 @@ Registers n host f (Poll k) = ⊥
 Registers n host f (Reset k) = ⊥
 Registers n host f (RawStore k address bytes) = ⊥
 Registers n host f (RawWrite32 k offset v) = ⊥
+Registers n host f PowerCycle = ⊥
 
 abbrev pub LeavesOutside : ℕ → ℕ → Fleet → FleetEvent → Type 0
 LeavesOutside n host f event = Registers n host f event → ⊥

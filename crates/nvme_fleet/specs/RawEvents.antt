@@ -1,6 +1,6 @@
 -- What the events of a raw host are at the fleet of mailboxes.
 use Rattle.nvme_machine.specs.declared.event.Event.{Event}
-use Rattle.nvme_machine.specs.declared.event.Event.TheVariants.{Store, Write32, Read32, Fetch, Execute}
+use Rattle.nvme_machine.specs.declared.event.Event.TheVariants.{Store, Write32, Read32, Fetch, Execute, PowerCycle}
 use Rattle.nvme_event.specs.declared.seen.FleetSeen.TheVariants.{NoController}
 use Rattle.nvme_fleet.specs.Fleets.{Fleet, Moment, moment, raw_stored, raw_wrote}
 
@@ -11,6 +11,7 @@ IsOfHost (Write32 k offset v) = Unit {0}
 IsOfHost (Read32 k offset) = ⊥
 IsOfHost (Fetch k q) = ⊥
 IsOfHost (Execute k i) = ⊥
+IsOfHost PowerCycle = ⊥
 
 abbrev pub raw_moment : Fleet → Event → Moment
 raw_moment f (Store k address bytes) = raw_stored f k address bytes.now
@@ -18,3 +19,4 @@ raw_moment f (Write32 k offset v) = raw_wrote f k offset v
 raw_moment f (Read32 k offset) = moment f NoController
 raw_moment f (Fetch k q) = moment f NoController
 raw_moment f (Execute k i) = moment f NoController
+raw_moment f PowerCycle = moment f NoController

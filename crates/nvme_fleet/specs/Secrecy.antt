@@ -7,7 +7,7 @@ use Rattle.nvme_spec.specs.World.{World}
 use Rattle.nvme_spec.specs.Layout.{may_read}
 use Rattle.nvme_machine.specs.Secrecy.{DifferIn}
 use Rattle.nvme_event.specs.declared.event.FleetEvent.{FleetEvent}
-use Rattle.nvme_event.specs.Events.{controller_of}
+use Rattle.nvme_event.specs.Events.{OfItsHost}
 use Rattle.nvme_event.specs.Replies.{Reply}
 use Rattle.nvme_fleet.specs.Executions.{Site}
 use Rattle.nvme_fleet.specs.Fleets.{Fleet, Run}
@@ -26,13 +26,14 @@ site_over d s = record { world = s.world; device = d }
 abbrev pub over : Device → Fleet → Fleet
 over d f = record { site = site_over d f.site; hosts = f.hosts }
 
--- the controllers of all these events belong to hosts that may not read the namespace
+-- the controllers of all these events, power cycles aside, belong to hosts that may not read the namespace
 abbrev pub MayNotRead : World → ℕ → List FleetEvent → Type 0
-MayNotRead w n events = AllByRecursion (λ event. may_read w (controller_of event) n ≡ false) events
+MayNotRead w n events = AllByRecursion (OfItsHost (λ k. may_read w k n ≡ false)) events
 
--- Fenced reading: while no reservation command on a namespace is executed but denied ones, whatever hosts that may not
--- read it are answered, with whatever data, they can be answered as well where its bytes are others; and they find the
--- same: each driver's mailbox, each raw host's controller with its host memory.
+-- Fenced reading: while no reservation command on a namespace is executed but denied ones, and power is not lost or the
+-- reservation persists, whatever hosts that may not read it are answered, with whatever data, they can be answered as
+-- well where its bytes are others; and they find the same: each driver's mailbox, each raw host's controller with its
+-- host memory.
 abbrev pub FencedReading : Type 0
 FencedReading =
     (old new : Fleet) → (medium : Device) → (events : List FleetEvent) → (replies : List Reply) → (n : ℕ)

@@ -11,7 +11,7 @@ use Rattle.nvme_event.specs.declared.event.FleetEvent.TheVariants.{Execute}
 use Rattle.nvme_event.specs.declared.seen.FleetSeen.{FleetSeen}
 use Rattle.nvme_event.specs.declared.seen.FleetSeen.TheVariants.{Placed, Executed, Polled}
 use Rattle.nvme_event.specs.Replies.{Reply}
-use Rattle.nvme_event.specs.Events.{controller_of}
+use Rattle.nvme_event.specs.Events.{concerns}
 use Rattle.nvme_fleet.specs.Mailboxes.{Item, FetchedItem, PostedAnswer, LaneBox, Mailbox, new_mailbox, held}
 use Rattle.nvme_fleet.specs.Fleets.{Host, WithDriver, Raw, Fleet, Run, host_at, opening}
 use Rattle.nvme_fleet.specs.Views.{total}
@@ -78,7 +78,7 @@ where_posted other tickets = []
 
 -- the same, where the event is one of host k
 abbrev pub own : ℕ → FleetEvent → List ℕ → List ℕ
-own k event tickets = if controller_of event == k then tickets else []
+own k event tickets = if concerns event k then tickets else []
 
 abbrev pub given : ℕ → Fleet → FleetEvent → Reply → List ℕ
 given k f event reply = own k event (given_in reply.seen)

@@ -1,6 +1,6 @@
 -- What no event of a host with a driver gives: a completion queue that has no room, a completion that answers no
 -- request, and a controller that does not come up.
-use Rattle.std.specs.Prelude.{◌≡◌, ℕ, Bool, List, Err}
+use Rattle.std.specs.Prelude.{◌≡◌, ℕ, Bool, true, List, Err}
 use Rattle.nvme_machine.specs.declared.seen.Executed.TheVariants.{CqFull}
 use Rattle.nvme_driver.specs.declared.faults.UpFault.TheVariants.{NotReady, NoAnswer, Refused}
 use Rattle.nvme_driver.specs.declared.faults.PollFault.TheVariants.{UnknownCommand}
@@ -8,7 +8,7 @@ use Rattle.nvme_event.specs.declared.event.FleetEvent.{FleetEvent}
 use Rattle.nvme_event.specs.declared.seen.FleetSeen.{FleetSeen}
 use Rattle.nvme_event.specs.declared.seen.FleetSeen.TheVariants.{Up, Executed, Polled}
 use Rattle.nvme_event.specs.Replies.{Reply}
-use Rattle.nvme_event.specs.Events.{controller_of}
+use Rattle.nvme_event.specs.Events.{concerns}
 use Rattle.nvme_fleet.specs.Mailboxes.{Mailbox}
 use Rattle.nvme_fleet.specs.Fleets.{Fleet, Run}
 use Rattle.nvme_fleet.specs.Apart.{HasMailbox}
@@ -24,7 +24,7 @@ IsUnseen other = ⊥
 
 -- an event of host k gives it
 pub record GivesUnseen (k : ℕ) (old : Fleet) (event : FleetEvent) (reply : Reply) (new : Fleet) : Type 0 where
-  pub host : controller_of event ≡ k
+  pub host : concerns event k ≡ true
   pub seen : IsUnseen reply.seen
 
 abbrev pub UnseenNeverComes : Type 0

@@ -11,15 +11,17 @@ ghost use Rattle.nvme_subsys.specs.Looking.{Looks, LooksBy, place_in};
 ghost use Rattle.nvme_ns.specs.Configured.{configuration};
 ghost use Rattle.nvme_machine.specs.Subsystems.{controller_at, controller_of};
 ghost use Rattle.nvme_event.specs.Replies.{data_len};
+ghost use Rattle.nvme_event.specs.declared.seen.FleetSeen.TheVariants.{Cycled};
 ghost use Rattle.nvme_fleet.specs.FleetStates.{fleet_of, layers_of, opening_layers, data_in, reply_in, reaction_to};
-ghost use Rattle.nvme_fleet.specs.Layers.{Applies, AppliesRaw, CallsAt, Happens, driver_at, told as told_of};
+ghost use Rattle.nvme_fleet.specs.Layers.{Applies, AppliesRaw, CallsAt, Cycles, Happens, driver_at, told as told_of};
 ghost use Rattle.nvme_fleet.specs.LayerCalls.{AppliesCalling, HappensCalling};
 ghost use Rattle.nvme_fleet.specs.Linked.{IsThere, controller_in};
-ghost use Rattle.nvme_fleet.specs.Fleets.{Is, Step, ExecutesAt, called, fetched_at, host_at, opening};
+ghost use Rattle.nvme_fleet.specs.Fleets.{Is, Step, ExecutesAt, called, fetched_at, host_at, moment, opening, power_cycled};
 ghost use Rattle.nvme_fleet.specs.RawEvents.{IsOfHost, raw_moment};
 
 use crate::delivery::{DriverCall, deliver};
 use crate::opening::{fault_of, rooms_of};
+use crate::power::reset_all;
 use nvme_ctrl::Controller;
 use nvme_driver::Driver;
 use nvme_event::{FleetEvent, FleetSeen};
@@ -79,6 +81,7 @@ fn told(seen: Seen) -> FleetSeen
         Seen::Wrote | Seen::Value(_) => FleetSeen::Wrote,
         Seen::Fetched(fetched) => FleetSeen::Fetched(fetched),
         Seen::Executed(executed) => FleetSeen::Executed(executed),
+        Seen::Cycled => FleetSeen::Cycled,
         Seen::NoController => FleetSeen::NoController,
     }
 }
@@ -221,8 +224,22 @@ impl<M: Medium> Fleet<M> {
         told(self.subsystem.apply(event))
     }
 
-    /// One event of the host that it names; where there is no such controller, or its host is of the other kind,
-    /// nothing happens.
+    /// Power is lost in the subsystem, and comes back; then each driver resets its controller.
+    #[inline(never)]
+    fn power_cycle(&mut self) -> FleetSeen
+        ensures step { Is (moment (power_cycled (fleet_of self.old.state)) Cycled)
+            (reply_in result self.new.state.buffer) (fleet_of self.new.state) }
+        ensures below { Cycles M.tells (layers_of self.old.state) result (layers_of self.new.state) }
+        ensures medium { self.new.medium ≡ self.old.medium }
+        ensures fits { data_len result ≤ length self.new.state.buffer }
+    {
+        self.subsystem.apply(Event::PowerCycle);
+        reset_all(&mut self.drivers, &mut self.subsystem);
+        FleetSeen::Cycled
+    }
+
+    /// One event of the host that it names, or of all; where there is no such controller, or its host is of the other
+    /// kind, nothing happens.
     #[inline(always)]
     fn happen(&mut self, event: FleetEvent<'_>) -> FleetSeen
         ensures step { Step M.tells (fleet_of self.old.state) event.entry (reply_in result self.new.state.buffer)
@@ -246,6 +263,7 @@ impl<M: Medium> Fleet<M> {
             FleetEvent::RawWrite32(cntlid, offset, value) => {
                 self.apply_raw(cntlid, Event::Write32(cntlid, offset, value))
             }
+            FleetEvent::PowerCycle => self.power_cycle(),
         }
     }
 

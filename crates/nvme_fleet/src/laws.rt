@@ -11,6 +11,7 @@ ghost use Rattle.nvme_fleet.specs.IoCommands.{OpeningIsNumbered, NumbersStay, Ex
 ghost use Rattle.nvme_fleet.specs.Preempting.{OutsidersMayNotWrite, OutsidersStayOutside, PreemptedIsOutside, PreemptedStaysOut};
 ghost use Rattle.nvme_fleet.specs.Links.{BringUpIsAStep};
 ghost use Rattle.nvme_fleet.specs.LayerCalls.{LayerCallsAreOfAStep, LayerCallsAreOfARun};
+ghost use Rattle.nvme_fleet.specs.PowerCycles.{PowerTakes, PowerAborts, DoneSincePower, PersistenceLasts, FencingOutlastsPower, BytesOutlastPower, SecrecyOutlastsPower, RepliesOutlastPower, LayersOutlastPower, ProtectedUntilPower};
 ghost use Rattle.nvme_fleet.specs.Regular.{OpeningIsRegular, RegularityStays};
 ghost use Rattle.nvme_fleet.specs.Secrecy.{FencedReading, FencedReadingIsSame, LayersReadTheSame};
 ghost use Rattle.nvme_fleet.specs.SinceUp.{DownIsClear, DoneSinceItCameUp};
@@ -49,7 +50,7 @@ pub fn calls_are_of_events()
 /// or Write Zeroes that all rules let pass, on a namespace that the block belongs to and its host may write, with that
 /// command's bytes; a block is read only by such a Read or Compare, and the medium is flushed only by such a Flush.
 /// So hosts that may not write a namespace write none of its blocks, until a reservation command on it is executed that
-/// all rules let pass.
+/// all rules let pass, or power is lost that its reservation does not outlast.
 pub fn blocks_are_written_as_allowed()
     ensures event { CallsAreAllowed }
     ensures run { CallsOfRunsAreAllowed }
@@ -126,7 +127,8 @@ pub fn executions_are_steps()
 {}
 
 /// A host that has a driver goes on having one, and its mailbox becomes what its own events make of it, whatever all
-/// others do: their events leave it as it is, but for the marks of a Preempt and Abort.
+/// others do: their events leave it as it is, but for the marks of a Preempt and Abort. A power cycle is an event of
+/// all hosts.
 #[tactic(auto, using(crate::proofs::Apart::hosts_are_apart))]
 pub fn hosts_are_apart()
     ensures apart { HostsAreApart }
@@ -183,7 +185,8 @@ pub fn executed_as_the_policy_allows()
 {}
 
 /// A host that may not write a namespace is answered Reservation Conflict for each of its writes, or the denial of a
-/// rule before, until a reservation command on the namespace is executed that all rules let pass.
+/// rule before, until a reservation command on the namespace is executed that all rules let pass, or power is lost that
+/// its reservation does not outlast.
 pub fn fencing_is_kept()
     ensures reserves { OnlyAllowedActionsReserve }
     ensures permissions { PermissionsStay }
@@ -201,8 +204,9 @@ pub fn preempted_hosts_stay_out()
 {}
 
 /// A run of both layers is one of the mailboxes. Fencing is kept below as well: a host that may not write a namespace
-/// changes none of its bytes, until a reservation command on it is executed that all rules let pass; and no event
-/// changes a byte of the memory that another host shares with its controller.
+/// changes none of its bytes, until a reservation command on it is executed that all rules let pass, or power is lost
+/// that its reservation does not outlast; and no event changes a byte of the memory that another host shares with its
+/// controller, nor does a power cycle of any.
 pub fn bytes_are_kept()
     ensures mailboxes { RunsOfMailboxes }
     ensures layout { LayoutStays }
@@ -220,8 +224,8 @@ pub fn done_since_it_came_up()
 {}
 
 /// Hosts that may not read a namespace learn nothing of its bytes, with a driver or raw, until a reservation command on
-/// it is executed that all rules let pass: whatever they are answered and find, they can be answered and find as well
-/// where its bytes are others. Without a fault of the medium they are: replies and mailboxes are the same, and of both
+/// it is executed that all rules let pass, or power is lost that its reservation does not outlast: whatever they are
+/// answered and find, they can be answered and find as well where its bytes are others. Without a fault of the medium they are: replies and mailboxes are the same, and of both
 /// layers each driver, and each controller with the memory that it shares with its host. It is so of every fleet whose
 /// namespaces lie on its medium, whose raw hosts' controllers bear their numbers, and whose drivers took each request
 /// that waits: of every opening, and over every run.
@@ -231,4 +235,33 @@ pub fn fenced_hosts_learn_nothing()
     ensures possible { FencedReading }
     ensures same { FencedReadingIsSame }
     ensures layers { LayersReadTheSame }
+{}
+
+/// A power cycle leaves of the subsystem what outlasts it, and takes every queue and every fetched command. Each driver
+/// is down then, and waits for nothing: exactly those of its requests that were not handed up are aborted, behind those
+/// that were aborted before, in the order of their tickets, which go on. So what is handed up as done behind a power
+/// cycle was placed, and then executed, since then.
+pub fn power_aborts_what_was_not_handed_up()
+    ensures takes { PowerTakes }
+    ensures aborts { PowerAborts }
+    ensures done { DoneSincePower }
+{}
+
+/// While the reservation of a namespace persists through power loss, and no reservation command on it is executed that
+/// all rules let pass, over any run with power cycles at any moment: each write of a host that may not write it is
+/// answered Reservation Conflict, or the denial of a rule before, and such hosts change none of its bytes; and hosts
+/// that may not read it learn nothing of them.
+pub fn fencing_outlasts_power()
+    ensures persists { PersistenceLasts }
+    ensures answers { FencingOutlastsPower }
+    ensures bytes { BytesOutlastPower }
+    ensures possible { SecrecyOutlastsPower }
+    ensures same { RepliesOutlastPower }
+    ensures layers { LayersOutlastPower }
+{}
+
+/// From the moment that a namespace is write protected until a power cycle, no event changes a byte of it or takes the
+/// protection off, until power is lost.
+pub fn protected_until_power()
+    ensures { ProtectedUntilPower }
 {}

@@ -13,6 +13,7 @@ mod member;
 mod opening;
 mod place;
 mod poll;
+mod power;
 mod running;
 
 pub use fleet::Fleet;

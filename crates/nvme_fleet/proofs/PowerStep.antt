@@ -1,0 +1,168 @@
+-- A power cycle is a step of each mailbox, and of the fleet.
+use Rattle.std.proofs.Common.{◌≡◌, ◌+◌, ◌<◌, ◌≤◌, ℕ, zero, suc, Bool, true, false, List, [], ◌∷◌, ◌++◌, length, map, Option, None, Some, refl, sym, ap, subst, ◌∙◌, arith}
+use Rattle.std.specs.Prelude.{slice_get, slice_set, option_map}
+use Rattle.std.proofs.lemmas.List.{length-map}
+use Rattle.std.proofs.lemmas.Option.{same_Some}
+use Rattle.nvme_spec.specs.Limits.{most_bytes}
+use Rattle.nvme_driver.specs.declared.slots.Waiting.{Waiting}
+use Rattle.nvme_driver.specs.Drivers as driver
+use Rattle.nvme_driver.specs.Drivers.{Driver, after_reset, abort}
+use Rattle.nvme_driver.specs.Polls.{waiting_at}
+use Rattle.nvme_machine.specs.declared.event.Event.{Event}
+use Rattle.nvme_machine.specs.declared.event.Event.TheVariants.{Write32, PowerCycle}
+use Rattle.nvme_machine.specs.declared.seen.Seen.{Seen}
+use Rattle.nvme_machine.specs.declared.seen.Seen.TheVariants.{Cycled, Wrote, NoController}
+use Rattle.nvme_machine.specs.Controllers.{Controller, power_cycled, after_write32, wrote}
+use Rattle.nvme_machine.specs.Subsystems.{Subsystem, Run, Step, ReactsAs, Reacts, numbered, replaced, controller_at, with_controller, after_power_cycle}
+use Rattle.nvme_fleet.specs.Deeds.{Ran, reset_events}
+use Rattle.nvme_fleet.specs.Deliveries as mail
+use Rattle.nvme_fleet.specs.FleetStates.{FleetState, IsSoundFleet, SoundBy, fleet_in, fleet_of, host_by, hosts_of, layers_of}
+use Rattle.nvme_fleet.specs.Fleets as mailboxes
+use Rattle.nvme_fleet.specs.Fleets.{Host, WithDriver, Raw, Fleet, host_cycled}
+use Rattle.nvme_fleet.specs.Lanes.{Both, reset, turned_off}
+use Rattle.nvme_fleet.specs.Layers.{Cycles, resets_from}
+use Rattle.nvme_event.specs.declared.seen.FleetSeen.TheVariants as seen
+use Rattle.nvme_fleet.specs.PowerReset.{AreCycled}
+use Rattle.nvme_fleet.specs.Sound.{Sound, EndsFit, IsOff, host_side, device_side, mailbox}
+use Rattle.nvme_fleet.specs.Views.{received_in}
+use Rattle.nvme_fleet.proofs.Orders.{pending-abort}
+use Rattle.nvme_fleet.proofs.Places.{no-way}
+use Rattle.nvme_fleet.proofs.Registering.{disabled-off}
+use Rattle.nvme_fleet.proofs.ResetStep.{fits, abort-size}
+use Rattle.nvme_fleet.proofs.Resetting.{reset-both, reset-mail}
+
+-- One host.
+
+is-off : (c : Controller) → IsOff (power_cycled c)
+is-off c = record { submission = refl; completion = refl; fetched = refl; off = refl; disabled = refl }
+
+-- a driver that was reset and its controller behind the power cycle
+pub record AreReset (d : Driver) (c : Controller) : Type 0 where
+  pub sound : Sound (after_reset d) (power_cycled c)
+  pub mail : mailbox (after_reset d) (power_cycled c) ≡ (mail.reset (mailbox d c)).mailbox
+
+pub are-reset : (d : Driver) (c : Controller) → Sound d c → AreReset d c
+are-reset d c s =
+    let b : Both (host_side d) (device_side c) = s.both in
+    record {
+      sound = record {
+        both = reset-both (host_side d) (device_side c) b;
+        fits = fits d;
+        sizes = λ k. rw (pending-abort d.slots k) (abort-size (waiting_at d.slots k) (s.sizes k));
+        up = λ u. absurd (no-way false refl u);
+        down = λ u. is-off c;
+      };
+      mail = reset-mail (host_side d) (device_side c) b;
+    }
+
+-- All hosts.
+
+sound-by : (d : Option Driver) (c : Controller) → SoundBy d c → SoundBy (option_map after_reset d) (power_cycled c)
+sound-by None c s = tt
+sound-by (Some d) c s = (are-reset d c s).sound
+
+host-so : (d : Option Driver) (c : Controller) → SoundBy d c → host_by (option_map after_reset d) (power_cycled c) ≡ host_cycled (host_by d c)
+host-so None c s = refl
+host-so (Some d) c s = ap WithDriver (are-reset d c s).mail
+
+-- what holds of each pair
+abbrev AreSound : List (Option Driver) → List Controller → Type 0
+AreSound ds cs = (i : ℕ) (d : Option Driver) (c : Controller) → slice_get ds i ≡ Some d → slice_get cs i ≡ Some c → SoundBy d c
+
+hosts-so : (ds : List (Option Driver)) (cs : List Controller) → AreSound ds cs
+    → hosts_of (map (option_map after_reset) ds) (map power_cycled cs) ≡ map host_cycled (hosts_of ds cs)
+hosts-so [] cs s = refl
+hosts-so (d ∷ ds) [] s = refl
+hosts-so (d ∷ ds) (c ∷ cs) s =
+    λ i. (host-so d c (s 0 d c refl refl) i) ∷ (hosts-so ds cs (λ j e k at there. s (suc j) e k at there) i)
+
+-- who stands at a place behind the power cycle stood there before
+driver-before : (ds : List (Option Driver)) (i : ℕ) (e : Option Driver) → slice_get (map (option_map after_reset) ds) i ≡ Some e
+    → (d : Option Driver) × (slice_get ds i ≡ Some d) × (e ≡ option_map after_reset d)
+driver-before [] i e h = absurd (cc)
+driver-before (d ∷ ds) zero e h = (d, refl, sym (same_Some _ _ h))
+driver-before (d ∷ ds) (suc i) e h = driver-before ds i e h
+
+controller-before : (cs : List Controller) (i : ℕ) (x : Controller) → slice_get (map power_cycled cs) i ≡ Some x
+    → (c : Controller) × (slice_get cs i ≡ Some c) × (x ≡ power_cycled c)
+controller-before [] i x h = absurd (cc)
+controller-before (c ∷ cs) zero x h = (c, refl, sym (same_Some _ _ h))
+controller-before (c ∷ cs) (suc i) x h = controller-before cs i x h
+
+all-sound : (ds : List (Option Driver)) (cs : List Controller) → AreSound ds cs → AreSound (map (option_map after_reset) ds) (map power_cycled cs)
+all-sound ds cs s i e x at there =
+    let d = driver-before ds i e at in
+    let c = controller-before cs i x there in
+    subst (λ f. SoundBy f x) (sym d.2) (subst (λ y. SoundBy (option_map after_reset d.0) y) (sym c.2) (sound-by d.0 c.0 (s i d.0 c.0 d.1 c.1)))
+
+-- The subsystem.
+
+pub are-cycled : (s : Subsystem) → AreCycled (after_power_cycle s)
+unfolding controller_at after_power_cycle
+are-cycled s k c at = by k at
+  where
+    by : (k : ℕ) → numbered (map power_cycled s.controllers) k ≡ Some c → c ≡ power_cycled c
+    by zero at = absurd (cc)
+    by (suc i) at = let b = controller-before s.controllers i c at in b.2 ∙ ap power_cycled (sym b.2)
+
+-- a reset changes nothing at a controller that was not enabled since
+written : (c : Controller) → after_write32 driver.cc 0 (power_cycled c) ≡ power_cycled c
+written c = disabled-off (power_cycled c) refl
+
+pub written-still : (c : Controller) → c ≡ power_cycled c → after_write32 driver.cc 0 c ≡ c
+written-still c same = subst (λ x. after_write32 driver.cc 0 x ≡ x) (sym same) (written c)
+
+set-same : (cs : List Controller) (k : ℕ) (c : Controller) → numbered cs k ≡ Some c → replaced cs k c ≡ cs
+set-same cs zero c at = refl
+set-same [] (suc i) c at = refl
+set-same (x ∷ cs) (suc zero) c at = ap (λ y. y ∷ cs) (sym (same_Some _ _ at))
+set-same (x ∷ cs) (suc (suc i)) c at = ap (λ ys. x ∷ ys) (set-same cs (suc i) c at)
+
+-- what a reset gives at a controller, if it is there
+abbrev reset_seen : Option Controller → Seen
+reset_seen None = NoController
+reset_seen (Some c) = Wrote
+
+reset-still : (o : Option Controller) (s : Subsystem) (k : ℕ) → controller_at s k ≡ o → AreCycled s → ReactsAs o s k (wrote driver.cc 0) (reset_seen o) s
+unfolding with_controller controller_at
+reset-still None s k at h = (refl, refl)
+reset-still (Some c) s k at h =
+    (refl, ap (λ cs. record s { controllers = cs }) (sym (ap (replaced s.controllers k) (written-still c (h k c at)) ∙ set-same s.controllers k c at)))
+
+pub resets-ran : (tells : Bool) (s : Subsystem) (k : ℕ) (ds : List (Option Driver)) → AreCycled s → Ran tells s (resets_from k ds) s
+resets-ran tells s k [] h = ([], refl)
+resets-ran tells s k (None ∷ ds) h = resets-ran tells s (k + 1) ds h
+resets-ran tells s k (Some d ∷ ds) h =
+    let later = resets-ran tells s (k + 1) ds h in
+    (reset_seen (controller_at s k) ∷ later.0, (s, reset-still (controller_at s k) s k refl h, later.1))
+
+-- The fleet.
+
+pub record IsCycledFleet (tells : Bool) (a b : FleetState) : Type 0 where
+  pub sound : IsSoundFleet b
+  pub step : fleet_of b ≡ mailboxes.power_cycled (fleet_of a)
+  pub below : Cycles tells (layers_of a) seen.Cycled (layers_of b)
+
+-- the fleet behind a power cycle
+abbrev pub cycled-state : FleetState → FleetState
+cycled-state a = record a { subsystem = after_power_cycle a.subsystem; drivers = map (option_map after_reset) a.drivers }
+
+pub is-cycled : (tells : Bool) (a : FleetState) → IsSoundFleet a → IsCycledFleet tells a (cycled-state a)
+unfolding mailboxes.power_cycled after_power_cycle fleet_in
+is-cycled tells a s =
+    let ran = resets-ran tells (after_power_cycle a.subsystem) 1 a.drivers (are-cycled a.subsystem) in
+    record {
+      sound = record {
+        pairs = length-map a.drivers (option_map after_reset) ∙ s.pairs ∙ sym (length-map a.subsystem.controllers power_cycled);
+        sound = all-sound a.drivers a.subsystem.controllers s.sound;
+        room = s.room;
+        fits = s.fits;
+      };
+      step = ap (λ hs. (let f : Fleet = record (mailboxes.power_cycled (fleet_of a)) { hosts = hs } in f)) (hosts-so a.drivers a.subsystem.controllers s.sound);
+      below = record {
+        gives = refl;
+        ran = (Cycled ∷ ran.0, (after_power_cycle a.subsystem, (refl, refl), ran.1));
+        cycled = refl;
+        drivers = refl;
+      };
+    }

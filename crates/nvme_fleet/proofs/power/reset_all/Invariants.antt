@@ -1,0 +1,12 @@
+use Rattle.std.proofs.Common.{◌≡◌, ◌++◌, map, take, drop}
+use Rattle.std.specs.Prelude.{option_map}
+use Rattle.nvme_driver.specs.Drivers.{after_reset}
+use Rattle.nvme_fleet.proofs.power.reset_all.Given as goal
+
+-- the drivers before i were reset, and nothing has changed at the subsystem
+abbrev pub invariant-loop-i : goal.invariant-loop-i
+invariant-loop-i g l = record {
+  reset : l.drivers ≡ map (option_map after_reset) (take l.i l.initial.drivers) ++ drop l.i l.initial.drivers;
+  state : l.subsystem.state ≡ l.initial.subsystem.state;
+  medium : l.subsystem.medium ≡ l.initial.subsystem.medium;
+}
