@@ -4,5 +4,6 @@ mod bench;
 mod configurations;
 mod faults;
 mod mailboxes;
+mod power;
 mod raw_hosts;
 mod running;

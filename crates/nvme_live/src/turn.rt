@@ -27,8 +27,8 @@ const MOST_BYTES: u32 = 131_072;
 /// The first words of all lines of a session.
 pub const ALL_LINES: &str =
     "help controller namespace attached start up read write compare zeroes flush register \
-acquire release report identify protect protection attach detach ring fetch execute poll reset store write32 ?window \
-?register ?registers ?queues ?fetched ?driver ?namespaces ?reservation ?attached ?blocks ?help";
+acquire release report identify protect protection attach detach ring fetch execute poll reset store write32 \
+powercycle ?window ?register ?registers ?queues ?fetched ?driver ?namespaces ?reservation ?attached ?blocks ?help";
 
 /// Answers a line that is not carried out.
 pub fn refuse<W: Write>(number: u64, why: Why, text: &mut String, writer: &mut W) -> io::Result<()>
@@ -180,7 +180,7 @@ fn look_at_reservation<W: Write>(
     match spaces.namespace(nsid) {
         Some(namespace) => {
             let reservation = namespace.reservation();
-            let protected = namespace.is_protected();
+            let protected = namespace.protection_state();
             say(
                 writer,
                 text,

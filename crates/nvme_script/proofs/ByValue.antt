@@ -5,7 +5,7 @@ use Rattle.nvme_driver.specs.declared.request.Request.{Request}
 use Rattle.nvme_driver.specs.declared.request.Request.TheVariants as request
 use Rattle.nvme_driver.specs.declared.faults.PlaceRefusal.{PlaceRefusal}
 use Rattle.nvme_event.specs.declared.event.FleetEvent.{FleetEvent}
-use Rattle.nvme_event.specs.declared.event.FleetEvent.TheVariants.{BringUp, Place, Ring, Fetch, Execute, Poll, Reset, RawStore, RawWrite32}
+use Rattle.nvme_event.specs.declared.event.FleetEvent.TheVariants.{BringUp, Place, Ring, Fetch, Execute, Poll, Reset, RawStore, RawWrite32, PowerCycle}
 use Rattle.nvme_event.specs.Replies.{Reply}
 use Rattle.nvme_fleet.specs.Mailboxes.{Mailbox}
 use Rattle.nvme_fleet.specs.Deliveries.{Reaction, placed, placed_by, refusal}
@@ -72,6 +72,7 @@ Step-by_value tells old (Poll k) reply new s = s
 Step-by_value tells old (Reset k) reply new s = s
 Step-by_value tells old (RawStore k address bytes) reply new s = s
 Step-by_value tells old (RawWrite32 k offset v) reply new s = s
+Step-by_value tells old PowerCycle reply new s = s
 
 -- the line of an event is the same
 pub line-by_value : (event : FleetEvent) (reply : Reply) → line_of (event_by_value event) reply ≡ line_of event reply
@@ -87,6 +88,7 @@ line-by_value (Poll k) reply = refl
 line-by_value (Reset k) reply = refl
 line-by_value (RawStore k address bytes) reply = refl
 line-by_value (RawWrite32 k offset v) reply = refl
+line-by_value PowerCycle reply = refl
 
 -- What it asks is the same.
 lane-by_value : (r : Request) → lane_of (request_by_value r) ≡ lane_of r
@@ -137,6 +139,7 @@ below-by_value tells old new (Poll k) what calls h = h
 below-by_value tells old new (Reset k) what calls h = h
 below-by_value tells old new (RawStore k address bytes) what calls h = (stored-by_value (driver_at old.drivers k) tells old k address bytes what new h.0, h.1)
 below-by_value tells old new (RawWrite32 k offset v) what calls h = h
+below-by_value tells old new PowerCycle what calls h = h
 
 -- and the calls of an event
 pub calls-by_value : (tells : Bool) (old new : Layers) (event : FleetEvent) (reply : Reply) (calls : List MediumCall) → AreCallsOfStep tells old event reply new calls → AreCallsOfStep tells old (event_by_value event) reply new calls

@@ -26,7 +26,7 @@ impl fmt::Display for NamespaceText<'_> {
     fn fmt<W: fmt::Write>(&self, f: &mut fmt::Formatter<W>) -> fmt::Result {
         let namespace = self.0;
         let shared = u8::from(namespace.is_shared());
-        let protected = u8::from(namespace.is_protected());
+        let protected = namespace.protection_state();
         write!(
             f,
             " namespace {} first {}",
@@ -60,20 +60,24 @@ impl fmt::Display for AttachedText<'_> {
 pub struct ReservationText<'a> {
     pub nsid: u32,
     pub reservation: &'a Reservation,
-    pub protected: bool,
+    pub protected: u32,
 }
 
 impl fmt::Display for ReservationText<'_> {
     fn fmt<W: fmt::Write>(&self, f: &mut fmt::Formatter<W>) -> fmt::Result {
-        let protected = u8::from(self.protected);
+        let protected = self.protected;
         let generation = self.reservation.generation();
+        let persists = u8::from(self.reservation.ptpl());
         write!(
             f,
             "reservation {} {}",
             self.nsid,
             HoldText(self.reservation.hold())
         )?;
-        write!(f, " generation {generation} protected {protected}")?;
+        write!(
+            f,
+            " generation {generation} persists {persists} protected {protected}"
+        )?;
         for registrant in self.reservation.registrants() {
             write!(f, "{}", RegistrantText(*registrant))?;
         }

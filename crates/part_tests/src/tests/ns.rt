@@ -3,6 +3,7 @@
 use crate::tests::configuration::{cluster, opened};
 use nvme_ns::{ConfigFault, ControllerConfig, NsConfig, Spaces};
 use nvme_resv::Role;
+use nvme_spec::Protection;
 use nvme_wire::Status;
 use std::test::Fail;
 
@@ -24,7 +25,7 @@ fn a_cluster_opens(rt: HostRuntime) -> Result<(), Fail> {
     );
     assert_eq!(rt;
         (spaces.blocks(3), spaces.protection(1)),
-        (None, Some(false))
+        (None, Some(Protection::Open))
     );
     Ok(())
 }
@@ -84,9 +85,40 @@ fn a_lent_reservation_keeps_what_is_registered(rt: HostRuntime) -> Result<(), Fa
 fn a_namespace_is_protected_alone(rt: HostRuntime) -> Result<(), Fail> {
     let mut spaces = opened(rt.alloc())?;
     assert!(rt; spaces.protection(2).is_some());
-    spaces.set_protection(2, true);
-    assert_eq!(rt; spaces.protection(2), Some(true));
-    assert_eq!(rt; spaces.protection(1), Some(false));
+    spaces.set_protection(2, Protection::Protected);
+    assert_eq!(rt; spaces.protection(2), Some(Protection::Protected));
+    assert_eq!(rt; spaces.protection(1), Some(Protection::Open));
+    Ok(())
+}
+
+#[test]
+fn a_power_cycle_takes_what_does_not_persist(rt: HostRuntime) -> Result<(), Fail> {
+    let mut spaces = opened(rt.alloc())?;
+    for nsid in [1, 2] {
+        let before = spaces
+            .reservation(nsid)
+            .expect(&rt, "the namespace is configured");
+        assert!(rt; before.has_room_for(0xa1));
+        assert!(rt; spaces.reservation_mut(nsid).register(0xa1, 0x11).is_ok());
+    }
+    assert!(rt; spaces.reservation(2).is_some());
+    spaces.reservation_mut(2).set_ptpl(true);
+    assert!(rt; spaces.protection(1).is_some());
+    spaces.set_protection(1, Protection::UntilCycle);
+    assert!(rt; spaces.protection(2).is_some());
+    spaces.set_protection(2, Protection::Protected);
+
+    spaces.power_cycle();
+    for (nsid, role, protection) in [
+        (1, Role::Outsider, Protection::Open),
+        (2, Role::Registrant, Protection::Protected),
+    ] {
+        let after = spaces
+            .reservation(nsid)
+            .expect(&rt, "the namespace is configured");
+        assert_eq!(rt; after.role(0xa1), role);
+        assert_eq!(rt; spaces.protection(nsid), Some(protection));
+    }
     Ok(())
 }
 

@@ -2,6 +2,7 @@
 
 use crate::tests::configuration::opened;
 use nvme_policy::{Command, Plan, Verdict, judge};
+use nvme_spec::Protection;
 use nvme_wire::{Sqe, Status};
 use std::test::Fail;
 
@@ -132,7 +133,7 @@ fn a_reservation_fences_by_host(rt: HostRuntime) -> Result<(), Fail> {
 fn write_protection_comes_behind_reservations(rt: HostRuntime) -> Result<(), Fail> {
     let mut spaces = opened(rt.alloc())?;
     assert!(rt; spaces.protection(1).is_some());
-    spaces.set_protection(1, true);
+    spaces.set_protection(1, Protection::Protected);
     let protected = Verdict::Denied(8, Status::NAMESPACE_IS_WRITE_PROTECTED);
     assert_eq!(rt; judge(&spaces, 2, &entry(8, 1, 64, 0, 0), false), protected);
     assert!(rt;

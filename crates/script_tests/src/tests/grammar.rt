@@ -34,7 +34,8 @@ execute 1 0
 poll 1
 reset 1
 store 2 0x1000 hex:00fF
-write32 2 0x14 0x00460001";
+write32 2 0x14 0x00460001
+powercycle";
 
 /// The script that a text spells, read in room of its own.
 fn script_of(alloc: Global, text: &[u8]) -> Result<Script, ParseFault> {
@@ -76,6 +77,17 @@ fn reads_long_lists(rt: HostRuntime) {
     }
 }
 
+/// A power cycle is of the whole subsystem: its line names no controller.
+#[test]
+fn reads_a_power_cycle(rt: HostRuntime) {
+    let mut bytes = [0; 131_072];
+    let mut identifiers = [0; 16];
+    let line = parse_line(b" powercycle\r", &mut bytes, &mut identifiers);
+    assert!(rt; matches!(&line, Some(Line::Event(FleetEvent::PowerCycle))));
+    let line = parse_line(b"powercycle 1", &mut bytes, &mut identifiers);
+    assert!(rt; line.is_none());
+}
+
 #[test]
 fn names_the_first_line_outside(rt: HostRuntime) -> Result<(), Fail> {
     let cases = [
@@ -88,6 +100,8 @@ fn names_the_first_line_outside(rt: HostRuntime) -> Result<(), Fail> {
         (b"read 1 1 0 1".as_slice(), 1),
         (b"start\nattach 1 1 1 2 3 4 5 6 7 65536".as_slice(), 2),
         (b"start\n\nflush 1 1 1 1 1 1 1 1 1".as_slice(), 3),
+        (b"start\npowercycle\npowercycle 1".as_slice(), 3),
+        (b"powercycle\nstart".as_slice(), 1),
     ];
     for (text, number) in cases {
         let script = script_of(rt.alloc(), text);
@@ -97,7 +111,7 @@ fn names_the_first_line_outside(rt: HostRuntime) -> Result<(), Fail> {
 }
 
 /// Lines that are refused, whether `start` was said before, and the text of the fault of each.
-const REFUSED: [(&[u8], bool, &str); 20] = [
+const REFUSED: [(&[u8], bool, &str); 23] = [
     (
         b"wirte 1 1 0 1 fill:00",
         true,
@@ -186,6 +200,21 @@ const REFUSED: [(&[u8], bool, &str); 20] = [
         "column 1: attached stands before 'start', which was said already",
     ),
     (b"\tstart", true, "column 2: start stands in a script once"),
+    (
+        b"powercycle 1",
+        true,
+        "column 1: powercycle takes 1 word: powercycle",
+    ),
+    (
+        b"powercycle",
+        false,
+        "column 1: powercycle stands behind 'start', and nothing is started yet",
+    ),
+    (
+        b"powrecycle",
+        true,
+        "column 1: there is no line 'powrecycle'; did you mean 'powercycle'?",
+    ),
 ];
 
 #[test]

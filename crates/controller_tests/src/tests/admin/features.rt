@@ -4,6 +4,7 @@ use crate::tests::admin::bench::{ADMIN_QUEUES, denied, done, open_bench, run, ru
 use crate::tests::entries::{GET_FEATURES, SET_FEATURES, entry};
 use crate::tests::memory::holds;
 use nvme_admin::Queues;
+use nvme_spec::Protection;
 use nvme_wire::Status;
 use std::test::Fail;
 
@@ -38,15 +39,15 @@ fn protection_is_set_for_all_controllers(rt: HostRuntime) -> Result<(), Fail> {
         run(&mut bench, 1, &saved),
         denied(6, Status::FEATURE_IDENTIFIER_NOT_SAVEABLE)
     );
-    let permanent = entry(SET_FEATURES, 1, 0, [0x84, 2]);
+    let permanent = entry(SET_FEATURES, 1, 0, [0x84, 3]);
     assert_eq!(rt;
         run(&mut bench, 1, &permanent),
         denied(6, Status::INVALID_FIELD_IN_COMMAND)
     );
-    assert_eq!(rt; bench.spaces.protection(1), Some(false));
+    assert_eq!(rt; bench.spaces.protection(1), Some(Protection::Open));
     let protect = entry(SET_FEATURES, 1, 0, [0x84, 1]);
     assert_eq!(rt; run(&mut bench, 1, &protect), done(0));
-    assert_eq!(rt; bench.spaces.protection(1), Some(true));
+    assert_eq!(rt; bench.spaces.protection(1), Some(Protection::Protected));
     let get = entry(GET_FEATURES, 1, 0, [0x84, 0]);
     assert_eq!(rt; run(&mut bench, 2, &get), done(1));
     let private = entry(SET_FEATURES, 2, 0, [0x84, 1]);
@@ -54,7 +55,28 @@ fn protection_is_set_for_all_controllers(rt: HostRuntime) -> Result<(), Fail> {
         run(&mut bench, 2, &private),
         denied(5, Status::INVALID_FIELD_IN_COMMAND)
     );
-    assert_eq!(rt; bench.spaces.protection(2), Some(false));
+    assert_eq!(rt; bench.spaces.protection(2), Some(Protection::Open));
+    Ok(())
+}
+
+#[test]
+fn protection_until_a_power_cycle_is_not_taken_off(rt: HostRuntime) -> Result<(), Fail> {
+    let mut bench = open_bench(rt.alloc())?;
+    let until_cycle = entry(SET_FEATURES, 1, 0, [0x84, 2]);
+    assert_eq!(rt; run(&mut bench, 1, &until_cycle), done(0));
+    assert_eq!(rt; bench.spaces.protection(1), Some(Protection::UntilCycle));
+    for state in 0..3 {
+        let set = entry(SET_FEATURES, 1, 0, [0x84, state]);
+        assert_eq!(rt;
+            run(&mut bench, 2, &set),
+            denied(6, Status::FEATURE_NOT_CHANGEABLE),
+            "state {state}"
+        );
+    }
+    let get = entry(GET_FEATURES, 1, 0, [0x84, 0]);
+    assert_eq!(rt; run(&mut bench, 2, &get), done(2));
+    bench.spaces.power_cycle();
+    assert_eq!(rt; run(&mut bench, 2, &get), done(0));
     Ok(())
 }
 

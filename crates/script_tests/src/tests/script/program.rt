@@ -1,6 +1,6 @@
 //! The program over streams and files: its words, texts and statuses.
 
-use super::lines::{HELLO, HELLO_SHOWN, SETUP, carried};
+use super::lines::{HELLO, HELLO_SHOWN, SETUP, carried, with_setup};
 use nvme_script::run_program;
 use std::alloc::{AllocError, Global};
 use std::fs::File;
@@ -72,6 +72,41 @@ fn answers_each_event(rt: HostRuntime) -> Result<(), Fail> {
         assert_eq!(rt; shown.status, 0);
         assert!(rt; shown.errors.is_empty());
     }
+    Ok(())
+}
+
+/// A Flush is fetched when power is lost, and the driver comes up behind that.
+const POWER: &[u8] = b"up 1
+flush 1 1
+ring 1
+fetch 1 1
+powercycle
+execute 1 0
+poll 1
+poll 1
+up 1
+flush 1 1
+";
+
+/// What these lines print.
+const POWER_SHOWN: &[u8] = b"up 1 ok
+placed 1 1
+rung 1
+fetch 1 1 took
+powercycle
+execute 1 0 none
+poll 1 1 aborted
+poll 1 NotUp
+up 1 ok
+placed 1 2
+";
+
+#[test]
+fn power_is_lost_under_a_request(rt: HostRuntime) -> Result<(), Fail> {
+    let text = with_setup(rt.alloc(), POWER)?;
+    let shown = run(&rt, &[], &mut text.as_slice())?;
+    assert_eq!(rt; shown.output.as_slice(), POWER_SHOWN);
+    assert_eq!(rt; shown.status, 0);
     Ok(())
 }
 
