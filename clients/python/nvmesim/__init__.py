@@ -15,8 +15,8 @@ from __future__ import annotations
 
 from .answers import Answer, parse_answer
 from .controllers import Controller, RawHost
-from .enums import (AcquireAction, AdminOpcode, ExecuteOutcome, IoOpcode, PollOutcome, Refusal, RegisterAction,
-                    ReleaseAction, ReservationType, Rule, Status, UpOutcome)
+from .enums import (AcquireAction, AdminOpcode, ExecuteOutcome, IoOpcode, Persistence, PollOutcome, Protection, Refusal,
+                    RegisterAction, ReleaseAction, ReservationType, Rule, Status, UpOutcome)
 from .errors import (ConfigurationRefused, ExpressionError, LineError, NotDone, NvmeError, NvmesimError,
                      ProgramDied, ProgramHangs, ProgramNotFound, ProtocolError, RequestAborted, RequestRefused,
                      ScriptError, SessionClosed, SessionError)
@@ -28,8 +28,8 @@ from .subsystem import Subsystem
 __all__ = [
     "AcquireAction", "AdminOpcode", "Answer", "Command", "ConfigurationRefused", "Controller", "Event",
     "ExecuteOutcome", "ExpressionError", "Host", "IoOpcode", "LineError", "Namespace", "NotDone", "NvmeError",
-    "NvmesimError", "PollOutcome", "ProgramDied", "ProgramHangs", "ProgramNotFound", "ProtocolError", "RawHost",
-    "Refusal", "RegisterAction", "ReleaseAction", "RequestAborted", "RequestRefused", "ReservationType", "Rule",
+    "NvmesimError", "Persistence", "PollOutcome", "ProgramDied", "ProgramHangs", "ProgramNotFound", "Protection",
+    "ProtocolError", "RawHost", "Refusal", "RegisterAction", "ReleaseAction", "RequestAborted", "RequestRefused", "ReservationType", "Rule",
     "ScriptError", "Session", "SessionClosed", "SessionError", "Status", "Subsystem", "UpOutcome", "parse_answer",
 ]
 __version__ = "0.1.0"

@@ -104,6 +104,11 @@ class Wrote32:
 
 
 @dataclass(frozen=True)
+class PowerCycled:
+    """`powercycle`: power was lost in the whole subsystem and came back; all drivers and controllers are down."""
+
+
+@dataclass(frozen=True)
 class NotThere:
     """`nocontroller C`, `nodriver C` or `notraw C`: the line isn't one for this controller, and nothing happened."""
 
@@ -111,7 +116,7 @@ class NotThere:
     why: str
 
 
-Answer = Union[Up, Placed, Refused, Rung, Fetched, Executed, Polled, Reset, Stored, Wrote32, NotThere]
+Answer = Union[Up, Placed, Refused, Rung, Fetched, Executed, Polled, Reset, Stored, Wrote32, PowerCycled, NotThere]
 
 _NUMBER = re.compile(r"(?:0|[1-9][0-9]*)\Z")
 _VALUE = re.compile(r"[0-9a-f]{8}\Z")
@@ -210,6 +215,11 @@ def _wrote32(words: List[str]) -> Answer:
     return Wrote32(number_in(controller))
 
 
+def _power_cycled(words: List[str]) -> Answer:
+    () = words
+    return PowerCycled()
+
+
 def _stored(is_inside: bool) -> Callable[[List[str]], Answer]:
     def parse(words: List[str]) -> Answer:
         (controller,) = words
@@ -236,6 +246,7 @@ _FORMS: Dict[str, Callable[[List[str]], Answer]] = {
     "stored": _stored(True),
     "outside": _stored(False),
     "wrote32": _wrote32,
+    "powercycle": _power_cycled,
     "nocontroller": _not_there("nocontroller"),
     "nodriver": _not_there("nodriver"),
     "notraw": _not_there("notraw"),

@@ -34,6 +34,7 @@ class Status(enum.Enum):
     INVALID_QUEUE_SIZE = ("1:02", "Invalid Queue Size")
     INVALID_QUEUE_DELETION = ("1:0c", "Invalid Queue Deletion")
     FEATURE_IDENTIFIER_NOT_SAVEABLE = ("1:0d", "Feature Identifier Not Saveable")
+    FEATURE_NOT_CHANGEABLE = ("1:0e", "Feature Not Changeable")
     NAMESPACE_ALREADY_ATTACHED = ("1:18", "Namespace Already Attached")
     NAMESPACE_IS_PRIVATE = ("1:19", "Namespace Is Private")
     NAMESPACE_NOT_ATTACHED = ("1:1a", "Namespace Not Attached")
@@ -137,6 +138,22 @@ class ReleaseAction(enum.IntEnum):
 
     RELEASE = 0
     CLEAR = 1
+
+
+class Persistence(enum.IntEnum):
+    """CPTPL of a Reservation Register: what becomes of whether registrants and reservation outlast a loss of power."""
+
+    KEEP = 0
+    CLEAR = 2
+    SET = 3
+
+
+class Protection(enum.IntEnum):
+    """Write protection of a namespace, by the states of Set Features: none, until it is ended, until a power cycle."""
+
+    NONE = 0
+    PROTECTED = 1
+    UNTIL_POWER_CYCLE = 2
 
 
 class IoOpcode(enum.IntEnum):

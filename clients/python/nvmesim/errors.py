@@ -125,14 +125,14 @@ class NvmeError(NvmesimError):
 
 
 class RequestAborted(NvmesimError):
-    """A reset met a request before its answer was handed up. It may have been executed or not.
+    """A reset or a power cycle met a request before its answer was handed up. It may have been executed or not.
 
     Attributes:
         line: the request's line.
     """
 
     def __init__(self, line: str) -> None:
-        super().__init__(f"{line!r} was aborted by a reset, which does not tell whether it was executed")
+        super().__init__(f"{line!r} was aborted by a reset or a power cycle, which does not tell whether it was executed")
         self.line = line
 
 

@@ -4,7 +4,8 @@ from __future__ import annotations
 from dataclasses import dataclass, field
 from typing import Dict, Iterable, List, Optional, Sequence
 
-from .answers import Answer, Executed, Fetched, Placed, Polled, Refused, Reset, Rung, Stored, Up, Wrote32, parse_answer
+from .answers import (Answer, Executed, Fetched, Placed, Polled, PowerCycled, Refused, Reset, Rung, Stored, Up, Wrote32,
+                      parse_answer)
 from .enums import ExecuteOutcome, PollOutcome, Rule, Status, UpOutcome
 from .errors import ProtocolError, ScriptError
 from .raw import Entry, RawQueues
@@ -21,7 +22,7 @@ class Command:
         line: the request's line; None for a raw host's command.
         ticket: the driver's ticket; None for a raw host's command.
         entry: the entry as a raw host stored it; None for a request.
-        reset: the reset that it met before its answer was handed up.
+        reset: the reset or power cycle that it met before its answer was handed up.
         status, rule: what its execution gave.
         value, data: what the poll handed up with it.
     """
@@ -116,6 +117,8 @@ class Follower:
                 event.commands = self._reset(event, answer.controller)
         elif isinstance(answer, Reset):
             event.commands = self._reset(event, answer.controller)
+        elif isinstance(answer, PowerCycled):
+            event.commands = self._power_cycled(event)
         elif isinstance(answer, Up) and answer.outcome is UpOutcome.OK:
             self._side(answer.controller).forget()
         return event
@@ -155,6 +158,13 @@ class Follower:
             it.reset = event.number
         side.forget()
         return met
+
+    def _power_cycled(self, event: Event) -> List[Command]:
+        """The commands that a power cycle meets, those of each controller in turn."""
+        for side in self._sides.values():
+            if side.raw is not None:
+                side.raw.power_cycle()
+        return [command for controller in sorted(self._sides) for command in self._reset(event, controller)]
 
 
 def _place(event: Event, answer: Placed, side: _Side) -> Command:
@@ -209,11 +219,16 @@ def check_fits(line: ScriptLine, text: str) -> None:
         ProtocolError: the answer is another line's.
     """
     words = text.split(" ")
-    heads = ("placed", "refused") if line.is_request else _HEADS.get(line.verb, (line.verb,))
-    named = [words[1]] if line.verb not in ("fetch", "execute") or words[0] in _MISSES else words[1:3]
-    wanted = [str(it) for it in line.numbers()[:len(named)]]
-    if words[0] not in (*heads, *_MISSES) or named != wanted:
+    if not (text == line.verb if line.is_power_cycle else _is_answered(line, words)):
         raise ProtocolError(f"{text!r} does not answer the line {line.text!r}")
+
+
+def _is_answered(line: ScriptLine, words: List[str]) -> bool:
+    """Whether these words answer a line that names a controller."""
+    heads = ("placed", "refused") if line.is_request else _HEADS.get(line.verb, (line.verb,))
+    count = 1 if line.verb not in ("fetch", "execute") or words[0] in _MISSES else 2
+    wanted = [str(it) for it in line.numbers()[:count]]
+    return words[0] in (*heads, *_MISSES) and words[1:1 + count] == wanted
 
 
 def follow(lines: Sequence[ScriptLine], transcript: str) -> List[Event]:

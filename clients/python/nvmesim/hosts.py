@@ -7,8 +7,8 @@ from typing import Dict, Iterable, Optional, Union
 from . import lines, looks
 from .answers import Polled, Refused, Reset, Rung, Up
 from .controllers import Controller, answer_of
-from .enums import (AcquireAction, ExecuteOutcome, PollOutcome, RegisterAction, ReleaseAction, ReservationType,
-                    Status)
+from .enums import (AcquireAction, ExecuteOutcome, Persistence, PollOutcome, Protection, RegisterAction, ReleaseAction,
+                    ReservationType, Status)
 from .errors import NotDone, NvmeError, RequestAborted, RequestRefused
 from .history import Command
 from .lines import Bytes
@@ -114,10 +114,11 @@ class Host:
         return self.place(lines.flush(self.number, nsid_of(namespace)))
 
     def place_register(self, namespace: NamespaceLike, new_key: int = 0, current_key: int = 0,
-                       action: RegisterAction = RegisterAction.REGISTER, ignore_existing_key: bool = False) -> int:
+                       action: RegisterAction = RegisterAction.REGISTER, ignore_existing_key: bool = False,
+                       persist: Persistence = Persistence.KEEP) -> int:
         """Places a Reservation Register; keys have 64 bits."""
         return self.place(lines.register(self.number, nsid_of(namespace), action, new_key, current_key,
-                                         ignore_existing_key))
+                                         ignore_existing_key, persist))
 
     def place_acquire(self, namespace: NamespaceLike, rtype: ReservationType, key: int, preempted_key: int = 0,
                       action: AcquireAction = AcquireAction.ACQUIRE) -> int:
@@ -137,12 +138,12 @@ class Host:
         """Places an Identify: CNS 0 the namespace, 1 the controller, 2 its namespaces above `namespace`."""
         return self.place(lines.identify(self.number, cns, nsid_of(namespace)))
 
-    def place_protect(self, namespace: NamespaceLike, is_protected: bool = True) -> int:
+    def place_protect(self, namespace: NamespaceLike, state: Union[Protection, bool] = Protection.PROTECTED) -> int:
         """Places a Set Features that protects a namespace from being written, or ends that."""
-        return self.place(lines.protect(self.number, nsid_of(namespace), int(is_protected)))
+        return self.place(lines.protect(self.number, nsid_of(namespace), state))
 
     def place_protection(self, namespace: NamespaceLike) -> int:
-        """Places a Get Features: whether a namespace is protected, in double word 0 of the answer."""
+        """Places a Get Features: the state of a namespace's write protection, in double word 0 of the answer."""
         return self.place(lines.protection(self.number, nsid_of(namespace)))
 
     def place_attach(self, namespace: NamespaceLike, controllers: Iterable[int]) -> int:
@@ -174,9 +175,10 @@ class Host:
         self.finish(self.place_flush(namespace))
 
     def register(self, namespace: NamespaceLike, new_key: int = 0, current_key: int = 0,
-                 action: RegisterAction = RegisterAction.REGISTER, ignore_existing_key: bool = False) -> None:
-        """Registers, unregisters or replaces this host's key."""
-        self.finish(self.place_register(namespace, new_key, current_key, action, ignore_existing_key))
+                 action: RegisterAction = RegisterAction.REGISTER, ignore_existing_key: bool = False,
+                 persist: Persistence = Persistence.KEEP) -> None:
+        """Registers, unregisters or replaces this host's key; `persist` says what outlasts a loss of power from now on."""
+        self.finish(self.place_register(namespace, new_key, current_key, action, ignore_existing_key, persist))
 
     def acquire(self, namespace: NamespaceLike, rtype: ReservationType, key: int, preempted_key: int = 0,
                 action: AcquireAction = AcquireAction.ACQUIRE) -> None:
@@ -196,13 +198,13 @@ class Host:
         """The 4,096 bytes of an Identify."""
         return self.finish(self.place_identify(cns, namespace)).data or b""
 
-    def protect(self, namespace: NamespaceLike, is_protected: bool = True) -> None:
-        """Protects a namespace from being written, or ends that."""
-        self.finish(self.place_protect(namespace, is_protected))
+    def protect(self, namespace: NamespaceLike, state: Union[Protection, bool] = Protection.PROTECTED) -> None:
+        """Protects a namespace from being written, or ends that. Nothing but a power cycle ends one that lasts so long."""
+        self.finish(self.place_protect(namespace, state))
 
-    def protection(self, namespace: NamespaceLike) -> bool:
-        """Whether a namespace is protected from being written."""
-        return self.finish(self.place_protection(namespace)).value == 1
+    def protection(self, namespace: NamespaceLike) -> Protection:
+        """How a namespace is protected from being written; `Protection.NONE`, which is false, where it is not."""
+        return Protection(self.finish(self.place_protection(namespace)).value)
 
     def attach(self, namespace: NamespaceLike, controllers: Iterable[int]) -> None:
         """Attaches controllers, by their numbers, which rise."""
@@ -220,7 +222,7 @@ class Host:
 
         Raises:
             NvmeError: the request was answered with another status than success.
-            RequestAborted: a reset met it.
+            RequestAborted: a reset or a power cycle met it.
             NotDone: it can't be brought to its end, because nothing is fetched or executed any more.
         """
         command = self._commands.get(ticket)

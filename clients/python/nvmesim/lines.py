@@ -8,7 +8,7 @@ from __future__ import annotations
 from typing import Iterable, Union
 
 from .answers import BLOCK_BYTES
-from .enums import AcquireAction, RegisterAction, ReleaseAction, ReservationType
+from .enums import AcquireAction, Persistence, Protection, RegisterAction, ReleaseAction, ReservationType
 
 Bytes = Union[bytes, bytearray, memoryview]
 
@@ -58,6 +58,11 @@ def reset(controller: int) -> str:
     return f"reset {controller}"
 
 
+def power_cycle() -> str:
+    """Power is lost in the whole subsystem, and comes back."""
+    return "powercycle"
+
+
 def read(controller: int, nsid: int, slba: int, blocks: int = 1) -> str:
     """Read of 1 to 256 blocks from block `slba` on."""
     return f"read {controller} {nsid} {slba} {blocks}"
@@ -84,9 +89,9 @@ def flush(controller: int, nsid: int) -> str:
 
 
 def register(controller: int, nsid: int, action: RegisterAction, new_key: int = 0, current_key: int = 0,
-             ignore_existing_key: bool = False, persist: int = 0) -> str:
+             ignore_existing_key: bool = False, persist: Union[Persistence, int] = Persistence.KEEP) -> str:
     """Reservation Register; keys have 64 bits. `persist` is CPTPL, 0 to 3."""
-    return (f"register {controller} {nsid} {int(action)} {int(ignore_existing_key)} {persist} "
+    return (f"register {controller} {nsid} {int(action)} {int(ignore_existing_key)} {int(persist)} "
             f"{current_key:#x} {new_key:#x}")
 
 
@@ -111,13 +116,13 @@ def identify(controller: int, cns: int, nsid: int = 0) -> str:
     return f"identify {controller} {cns} {nsid}"
 
 
-def protect(controller: int, nsid: int, state: int) -> str:
-    """Set Features: state 1 protects the namespace from being written, 0 ends that."""
-    return f"protect {controller} {nsid} {state}"
+def protect(controller: int, nsid: int, state: Union[Protection, int]) -> str:
+    """Set Features: state 1 protects the namespace from being written, 2 until a power cycle, 0 ends state 1."""
+    return f"protect {controller} {nsid} {int(state)}"
 
 
 def protection(controller: int, nsid: int) -> str:
-    """Get Features: whether the namespace is protected."""
+    """Get Features: the state of the namespace's write protection."""
     return f"protection {controller} {nsid}"
 
 

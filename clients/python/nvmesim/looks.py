@@ -6,7 +6,7 @@ from dataclasses import dataclass
 from typing import Dict, List, Optional, Tuple
 
 from .answers import BLOCK_BYTES, data_in, number_in
-from .enums import ReservationType
+from .enums import Protection, ReservationType
 from .errors import ProtocolError
 
 _HEX_NUMBER = re.compile(r"0x[0-9a-f]+\Z")
@@ -75,13 +75,18 @@ class Queue:
 
 @dataclass(frozen=True)
 class NamespaceState:
-    """A namespace: its first block on the medium, its blocks of 512 bytes, whether it is shared and protected."""
+    """A namespace: its first block on the medium, its blocks of 512 bytes, whether it is shared, how it is protected."""
 
     number: int
     first: int
     blocks: int
     is_shared: bool
-    is_protected: bool
+    protection: Protection
+
+    @property
+    def is_protected(self) -> bool:
+        """Whether it is write protected, until a power cycle or without an end."""
+        return self.protection is not Protection.NONE
 
 
 @dataclass(frozen=True)
@@ -93,7 +98,8 @@ class ReservationState:
         holder: the host that holds it; None where nobody does, or where all registrants do.
         is_held_by_all: whether all registrants hold it.
         generation: the generation, as a report has it.
-        is_protected: whether the namespace is write protected.
+        persists: whether it and its registrants outlast a loss of power.
+        protection: how the namespace is write protected.
         registrants: each registered host with its key.
     """
 
@@ -101,8 +107,14 @@ class ReservationState:
     holder: Optional[int]
     is_held_by_all: bool
     generation: int
-    is_protected: bool
+    persists: bool
+    protection: Protection
     registrants: Dict[int, int]
+
+    @property
+    def is_protected(self) -> bool:
+        """Whether the namespace is write protected, until a power cycle or without an end."""
+        return self.protection is not Protection.NONE
 
 
 class _Words:
@@ -141,6 +153,10 @@ class _Words:
     def flag(self, label: str) -> bool:
         """The next word as 0 or 1."""
         return self.one_of(label, "0", "1") == "1"
+
+    def protection(self) -> Protection:
+        """How a namespace is write protected, 0 to 2."""
+        return Protection(int(self.one_of("protected", "0", "1", "2")))
 
     def one_of(self, label: str, *known: str) -> str:
         """The next word, one of these."""
@@ -240,7 +256,7 @@ def namespaces(text: str) -> List[NamespaceState]:
     found: List[NamespaceState] = []
     while not words.is_done:
         found.append(NamespaceState(words.number("namespace"), words.number("first"), words.number("blocks"),
-                                    words.flag("shared"), words.flag("protected")))
+                                    words.flag("shared"), words.protection()))
     return found
 
 
@@ -253,12 +269,12 @@ def reservation(text: str, nsid: int) -> ReservationState:
         raise words.fault() from None
     who = words.word("holder")
     holder = None if who in ("none", "all") else hexadecimal_in(who)
-    generation, is_protected = words.number("generation"), words.flag("protected")
+    generation, persists, protection = words.number("generation"), words.flag("persists"), words.protection()
     registrants: Dict[int, int] = {}
     while not words.is_done:
         host = words.hexadecimal("registrant")
         registrants[host] = words.hexadecimal("key")
-    return ReservationState(rtype, holder, who == "all", generation, is_protected, registrants)
+    return ReservationState(rtype, holder, who == "all", generation, persists, protection, registrants)
 
 
 def attached(text: str) -> List[Tuple[int, int]]:

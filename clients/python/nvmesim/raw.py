@@ -79,6 +79,10 @@ class RawQueues:
         self._queues = {0: _Queue(low | high << 32, size)} if value & 1 else {}
         return True
 
+    def power_cycle(self) -> None:
+        """Power was lost and came back: registers and queues are as at first, and the window keeps its bytes."""
+        self._registers, self._queues = {}, {}
+
     def fetch(self, number: int) -> Entry:
         """The entry that the controller took from this queue. An unknown queue gives one of zeros."""
         queue = self._queues.get(number)

@@ -13,7 +13,8 @@ CONFIGURATION_VERBS = ("controller", "namespace", "attached")
 ADMIN_VERBS = ("identify", "protect", "protection", "attach", "detach")
 IO_VERBS = ("read", "write", "compare", "zeroes", "flush", "register", "acquire", "release", "report")
 REQUEST_VERBS = ADMIN_VERBS + IO_VERBS
-EVENT_VERBS = REQUEST_VERBS + ("up", "ring", "fetch", "execute", "poll", "reset", "store", "write32")
+EVENT_VERBS = REQUEST_VERBS + ("up", "ring", "fetch", "execute", "poll", "reset", "store", "write32",
+                               "powercycle")
 
 MOST_BLOCKS = 256
 """The most blocks that a Read, Write or Compare has."""
@@ -25,7 +26,7 @@ _WORDS: Dict[str, Optional[int]] = {
     "controller": None, "namespace": 5, "attached": 3, "start": 1, "up": 2, "read": 5, "write": 6, "compare": 6,
     "zeroes": 5, "flush": 3, "register": 8, "acquire": 7, "release": 6, "report": 4, "identify": 4, "protect": 4,
     "protection": 3, "attach": None, "detach": None, "ring": 2, "fetch": 3, "execute": 3, "poll": 2, "reset": 2,
-    "store": 4, "write32": 4,
+    "store": 4, "write32": 4, "powercycle": 1,
 }
 _DATA_AT = {"write": 5, "compare": 5, "store": 3}
 
@@ -63,8 +64,13 @@ class ScriptLine:
 
     @property
     def controller(self) -> int:
-        """The controller that an event names."""
-        return number_of(self.words[1])
+        """The controller that an event names; 0, which no controller has, for a power cycle."""
+        return 0 if self.is_power_cycle else number_of(self.words[1])
+
+    @property
+    def is_power_cycle(self) -> bool:
+        """Whether it is a power cycle, the event that names no controller and is one of all."""
+        return self.verb == "powercycle"
 
     @property
     def is_request(self) -> bool:

@@ -5,7 +5,8 @@ from types import TracebackType
 from typing import Dict, List, Optional, Tuple, Type, Union
 
 from . import lines, looks
-from .controllers import RawHost
+from .answers import PowerCycled
+from .controllers import RawHost, answer_of
 from .hosts import Host, Namespace, NamespaceLike, nsid_of
 from .process import PathLike
 from .session import SECONDS, Session
@@ -77,6 +78,15 @@ class Subsystem:
     def start(self) -> None:
         """Ends the description. Raises `ConfigurationRefused` where it has a fault."""
         self.session.start()
+
+    def power_cycle(self) -> PowerCycled:
+        """Power is lost in the whole subsystem, and comes back.
+
+        All drivers and controllers are down, and all requests that wait will be handed up as aborted. Blocks,
+        attachments and plain write protection stay; write protection until a power cycle ends. Registrants and the
+        reservation of a namespace stay where they were registered with `Persistence.SET`, and are gone elsewhere.
+        """
+        return answer_of(self.session.event(lines.power_cycle()), PowerCycled)
 
     def reservation(self, namespace: NamespaceLike) -> looks.ReservationState:
         """The reservation of a namespace. Changes nothing."""

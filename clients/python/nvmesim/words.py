@@ -3,9 +3,10 @@ from __future__ import annotations
 
 from typing import Dict, List, Optional, Sequence
 
-from .answers import Answer, Executed, Fetched, NotThere, Polled, Refused, Reset, Rung, Stored, Up, Wrote32
-from .enums import (AcquireAction, AdminOpcode, ExecuteOutcome, IoOpcode, PollOutcome, RegisterAction, ReleaseAction,
-                    ReservationType, Rule, Status, UpOutcome)
+from .answers import (Answer, Executed, Fetched, NotThere, Polled, PowerCycled, Refused, Reset, Rung, Stored, Up,
+                      Wrote32)
+from .enums import (AcquireAction, AdminOpcode, ExecuteOutcome, IoOpcode, Persistence, PollOutcome, Protection,
+                    RegisterAction, ReleaseAction, ReservationType, Rule, Status, UpOutcome)
 from .history import Command, Event
 from .raw import Entry
 from .script import Configuration, LineKind, ScriptLine, number_of
@@ -21,6 +22,13 @@ _REGISTERS = {
     0x14: "Controller Configuration", 0x24: "the sizes of the admin queues",
     0x28: "the address of the admin submission queue, low half", 0x2C: "the same, high half",
     0x30: "the address of the admin completion queue, low half", 0x34: "the same, high half",
+}
+_PROTECTIONS = {
+    Protection.NONE: "ended", Protection.PROTECTED: "set", Protection.UNTIL_POWER_CYCLE: "set until a power cycle",
+}
+_PERSISTENCES = {
+    Persistence.KEEP: "", Persistence.CLEAR: "; nothing persists through a loss of power from now on",
+    Persistence.SET: "; all persists through a loss of power from now on",
 }
 _RANGED = (IoOpcode.READ, IoOpcode.WRITE, IoOpcode.COMPARE, IoOpcode.WRITE_ZEROES)
 
@@ -105,7 +113,7 @@ def request_words(line: ScriptLine) -> str:
     if line.verb == "report":
         return f"{words}, {4 * numbers[1]} bytes"
     if line.verb == "protect":
-        return f"{words}, state {numbers[1]}"
+        return f"{words}, {_PROTECTIONS.get(numbers[1], f'state {numbers[1]}')}"
     if line.verb in ("attach", "detach"):
         return f"{words}, {_controllers(numbers[1:])}"
     return words
@@ -129,12 +137,13 @@ def _type_words(number: int) -> str:
 def _reservation_words(verb: str, numbers: List[int]) -> str:
     action = numbers[0]
     if verb == "register":
-        _, ignore, _, current, new = numbers
+        _, ignore, cptpl, current, new = numbers
+        lasting = _PERSISTENCES.get(cptpl, f"; CPTPL {cptpl}")
         known = "any key" if ignore else f"key {hexadecimal(current)}"
         texts: Dict[int, str] = {
-            RegisterAction.REGISTER: f"registers key {hexadecimal(new)}",
-            RegisterAction.UNREGISTER: f"unregisters {known}",
-            RegisterAction.REPLACE: f"replaces {known} by {hexadecimal(new)}",
+            RegisterAction.REGISTER: f"registers key {hexadecimal(new)}{lasting}",
+            RegisterAction.UNREGISTER: f"unregisters {known}{lasting}",
+            RegisterAction.REPLACE: f"replaces {known} by {hexadecimal(new)}{lasting}",
         }
     elif verb == "acquire":
         _, rtype, current, preempted = numbers
@@ -213,6 +222,8 @@ def meaning(event: Event, configuration: Configuration) -> str:
     answer, number = event.answer, event.line.controller
     if isinstance(answer, NotThere):
         return f"controller {number}: {_MISSES[answer.why]}"
+    if isinstance(answer, PowerCycled):
+        return _power_words(event)
     host = configuration.hosts.get(number)
     who = f"{host_words(host)}'s driver" if host is not None else "the driver"
     if isinstance(answer, Refused):
@@ -246,6 +257,25 @@ def _driver_words(event: Event, answer: Answer) -> str:
         met = f", and {tickets_words(event.commands)} will be handed up as aborted" if event.commands else ""
         return f"resets controller {number}; both are down{met}"
     return _poll_words(event, answer) if isinstance(answer, Polled) else event.text
+
+
+def _power_words(event: Event) -> str:
+    """What a power cycle does, and which commands it meets."""
+    words = "power is lost in the whole subsystem, and comes back; all drivers and controllers are down"
+    waiting: Dict[int, List[Command]] = {}
+    for command in event.commands:
+        if command.ticket is not None:
+            waiting.setdefault(command.controller, []).append(command)
+    for controller, commands in waiting.items():
+        words += f"; controller {controller}'s {tickets_words(commands)} will be handed up as aborted"
+    forgotten = sum(command.ticket is None for command in event.commands)
+    if forgotten:
+        words += f"; {_forgotten_words(forgotten)}"
+    return words
+
+
+def _forgotten_words(count: int) -> str:
+    return f"{count} fetched command{' is' if count == 1 else 's are'} forgotten"
 
 
 def _poll_words(event: Event, answer: Polled) -> str:
@@ -303,6 +333,5 @@ def _raw_words(event: Event, answer: Answer) -> str:
         return f"stores {bytes_words} from {hexadecimal(address)} on in its window"
     words = f"writes {hexadecimal(rest[0])} to {register_words(address)}"
     if address == 0x14 and event.commands:
-        count = len(event.commands)
-        words += f"; {count} fetched command{' is' if count == 1 else 's are'} forgotten"
+        words += f"; {_forgotten_words(len(event.commands))}"
     return words

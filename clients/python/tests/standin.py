@@ -32,7 +32,8 @@ class Namespace:
     rtype: int = 0
     holder: Optional[int] = None
     generation: int = 0
-    protected: bool = False
+    persists: bool = False
+    protection: int = 0
 
     def holds(self, host: int) -> bool:
         return bool(self.rtype) and (host in self.keys if self.rtype > 4 else self.holder == host)
@@ -41,6 +42,12 @@ class Namespace:
         if not self.rtype or self.holds(host) or self.rtype in (3, 4, 5, 6) and host in self.keys:
             return True
         return self.rtype in (1, 3, 5) and verb in READERS
+
+    def power_cycle(self) -> None:
+        if not self.persists:
+            self.keys, self.rtype, self.holder, self.generation = {}, 0, None, 0
+        if self.protection == 2:
+            self.protection = 0
 
     def leave(self, host: int) -> None:
         self.keys.pop(host, None)
@@ -119,6 +126,8 @@ class World:
         return "ok"
 
     def event(self, words: List[str]) -> str:
+        if words == ["powercycle"]:
+            return self.power_cycle()
         verb, c = words[0], number(words[1])
         call = getattr(self, f"do_{verb}", None) or (self.place if verb in NAMES else None)
         if call is None:
@@ -209,6 +218,13 @@ class World:
         side.lanes, side.posted = ([], []), ([], [])
         return f"reset {c}"
 
+    def power_cycle(self) -> str:
+        for c, side in self.sides.items():
+            self.do_reset(c, side, [])
+        for space in self.spaces.values():
+            space.power_cycle()
+        return "powercycle"
+
     def judge(self, c: int, host: int, command: Command) -> Tuple[str, int, str]:
         side = self.sides[c]
         lane = 0 if command.verb in ADMIN else 1
@@ -231,11 +247,14 @@ class World:
         space = self.spaces[nsid]
         numbers = [number(it) for n, it in enumerate(words[1:]) if not (verb in ("write", "compare") and n == 4)]
         if verb in ("register", "acquire") and numbers[2] > 2 or verb == "release" and numbers[2] > 1 or (
-                verb == "acquire" and not 1 <= numbers[3] <= 6) or verb == "protect" and numbers[2] > 1:
+                verb == "acquire" and not 1 <= numbers[3] <= 6) or verb == "protect" and numbers[2] > 2 or (
+                verb == "register" and numbers[4] == 1):
             return "0:02", 6
+        if verb == "protect" and space.protection == 2:
+            return "1:0e", 6
         if verb in (*READERS, *WRITERS) and not space.permits(host, verb):
             return "0:83", 7
-        if verb in ("write", "zeroes") and space.protected:
+        if verb in ("write", "zeroes") and space.protection:
             return "0:20", 8
         if verb in ("read", "write", "compare", "zeroes") and numbers[2] + numbers[3] > space.blocks:
             return "0:80", 9
@@ -251,8 +270,8 @@ class World:
         if verb == "report":
             return "0:00", "00000000 " + spelled(self.report(space)[:4 * numbers[0]].ljust(4 * numbers[0], b"\0"))
         if verb == "protect":
-            space.protected = numbers[0] == 1
-        return "0:00", f"{int(space.protected):08x}" if verb == "protection" else "00000000"
+            space.protection = numbers[0]
+        return "0:00", f"{space.protection:08x}" if verb == "protection" else "00000000"
 
     def on_blocks(self, verb: str, words: List[str], space: Namespace) -> Tuple[str, str]:
         slba, count = number(words[3]), number(words[4])
@@ -272,7 +291,7 @@ class World:
         return raw * size if word.startswith("fill:") else raw.ljust(size, b"\0")
 
     def register(self, host: int, space: Namespace, numbers: List[int]) -> str:
-        action, ignore, _, current, new = numbers
+        action, ignore, cptpl, current, new = numbers
         mine = space.keys.get(host)
         if action == 0 and mine not in (None, new) or action == 1 and (
                 mine is None or not ignore and mine != current) or action == 2 and not ignore and mine != current:
@@ -281,6 +300,7 @@ class World:
             space.leave(host)
         else:
             space.keys[host] = new
+        space.persists = {2: False, 3: True}.get(cptpl, space.persists)
         space.generation += 1
         return "0:00"
 
@@ -332,7 +352,7 @@ class World:
     def report(self, space: Namespace) -> bytes:
         found = space.generation.to_bytes(4, "little") + bytes((space.rtype,))
         controllers = [(c, it.host) for c, it in self.sides.items() if it.host in space.keys]
-        found += len(controllers).to_bytes(2, "little") + bytes(17)
+        found += len(controllers).to_bytes(2, "little") + bytes((0, 0, space.persists)) + bytes(14)
         for c, host in controllers:
             found += c.to_bytes(2, "little") + bytes((space.holds(host),)) + bytes(5)
             found += host.to_bytes(8, "little") + space.keys[host].to_bytes(8, "little")
@@ -360,8 +380,8 @@ class World:
         if word == "reservation":
             who = "none" if not space.rtype else "all" if space.rtype > 4 else f"{space.holder or 0:#x}"
             parts = [f"registrant {host:#x} key {key:#x}" for host, key in space.keys.items()]
-            return " ".join((head, f"type {space.rtype} holder {who} generation {space.generation} protected "
-                             f"{int(space.protected)}", *parts))
+            return " ".join((head, f"type {space.rtype} holder {who} generation {space.generation} persists "
+                             f"{int(space.persists)} protected {space.protection}", *parts))
         if word == "blocks":
             data = b"".join(space.data.get(numbers[1] + n, bytes(BLOCK)) for n in range(numbers[2]))
             return f"{head} {spelled(data).split()[1]}"

@@ -6,7 +6,7 @@ import re
 import unittest
 
 from nvmesim import ExecuteOutcome, PollOutcome, ProtocolError, Refusal, Rule, Status, parse_answer
-from nvmesim.answers import Executed, Fetched, NotThere, Placed, Polled, Refused
+from nvmesim.answers import Executed, Fetched, NotThere, Placed, Polled, PowerCycled, Refused
 
 from .support import PACKAGE, TOP, examples
 
@@ -17,7 +17,8 @@ WRONG = (
     "poll 1 answered", "poll 1 aborted", "poll 1 2 0:00", "poll 1 2 0:00 0", "poll 1 2 0:00 0000000G", "ok", "started",
     "poll 1 2 0:00 00000000 512", "poll 1 2 0:00 00000000 1 0000", "poll 1 2 0:00 00000000 512 zz", "wirte 1",
     "poll 1 2 0:00 00000000 512 - -", "up 1", "up 1 Refused", "up 1 ok ok", "reset", "reset 1 2", "! line 1 word 1: no",
-    "PLACED 1 1", "placed 1 1 ", "placed 1 ١", "nocontroller", "stored x",
+    "PLACED 1 1", "placed 1 1 ", "placed 1 ١", "nocontroller", "stored x", "powercycle 1", "powercycle 0", "powercycle ",
+    "power cycle", "powercycled",
 )
 
 
@@ -39,6 +40,7 @@ class AnswersTest(unittest.TestCase):
                          Polled(1, PollOutcome.ANSWERED, 3, Status.SUCCESSFUL_COMPLETION, 31, b"\1\2\0\0"))
         self.assertEqual(parse_answer("poll 1 3 0:00 00000000 512 -").data, bytes(512))
         self.assertEqual(parse_answer("nodriver 4"), NotThere(4, "nodriver"))
+        self.assertEqual(parse_answer("powercycle"), PowerCycled())
 
     def test_what_is_no_answer_raises(self) -> None:
         for line in WRONG:

@@ -116,6 +116,29 @@ execute 2 0
 poll 2
 poll 2
 """
+# Power is lost while host a registers and asks for persistence, and while host b protects the namespace.
+POWER = HEAD + """# host a
+register 1 1 0 0 3 0 0x11
+ring 1
+fetch 1 1
+execute 1 0
+# host b
+protect 2 1 2
+ring 2
+fetch 2 0
+execute 2 0
+# host power
+powercycle
+# then
+poll 1
+poll 2
+up 1
+report 1 1 12
+ring 1
+fetch 1 1
+execute 1 0
+poll 1
+"""
 PROGRAM = LIVE or STANDIN
 RACE_TEXT = RACE.read_text(encoding="utf-8")
 
@@ -233,7 +256,7 @@ class PlanTest(unittest.TestCase):
 
 class WalkTest(unittest.TestCase):
     def test_counts_are_those_of_the_orders_one_by_one(self) -> None:
-        for name, text in (("small", SMALL), ("race", RACE_TEXT), ("shared", SHARED)):
+        for name, text in (("small", SMALL), ("race", RACE_TEXT), ("shared", SHARED), ("power", POWER)):
             plan = Plan(text)
             walk = walk_of(plan)
             with self.subTest(name):

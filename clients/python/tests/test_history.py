@@ -25,7 +25,7 @@ class ScriptTest(unittest.TestCase):
         for text, number in (("wirte 1", 1), (HEAD + "wirte 1 1 0 1 hex:00", 5), (HEAD + "read 1 1 0", 5), ("up 1", 1),
                              (HEAD + "start", 5), (HEAD + "attached 1 1", 5), (HEAD + "ring -1", 5),
                              (HEAD + "write 1 1 0 1 hex:0", 5), (HEAD + "write 1 1 0 1 fill:0000", 5),
-                             (HEAD + "write 1 1 0 1 what", 5)):
+                             (HEAD + "write 1 1 0 1 what", 5), (HEAD + "powercycle 1", 5), ("powercycle", 1)):
             with self.subTest(text), self.assertRaises(ScriptError) as caught:
                 list(read_lines(text))
             self.assertEqual(caught.exception.number, number)
@@ -54,6 +54,29 @@ class FollowTest(unittest.TestCase):
                                     "Create I/O Submission Queue, CID 2, queue 1", "Read, CID 7, namespace 1, block 3",
                                     "Write, CID 8, namespace 1, block 4"])
 
+    def test_a_power_cycle_meets_the_requests_of_all_hosts(self) -> None:
+        script = (HEAD.replace("start", "controller 2 host 0xb2\nattached 2 1\nstart") + "up 1\nup 2\nflush 2 1\nflush 1 1\n"
+                  "ring 1\nfetch 1 1\npowercycle\npowercycle\npoll 1\n")
+        told = ["up 1 ok", "up 2 ok", "placed 2 1", "placed 1 1", "rung 1", "fetch 1 1 took", "powercycle", "powercycle",
+                "poll 1 1 aborted"]
+        lines = list(read_lines(script))
+        events = follow(lines, "\n".join(told))
+        self.assertEqual([(it.controller, it.reset) for it in events[6].commands], [(1, 7), (2, 7)])
+        self.assertEqual(events[7].commands, [])
+        self.assertIs(events[8].command, events[6].commands[0])
+        for text in ("powercycle 1", "nocontroller 0", "reset 1", "wrote32 0"):
+            with self.subTest(text), self.assertRaises(ProtocolError):
+                follow(lines, "\n".join([*told[:6], text, *told[7:]]))
+
+    def test_a_power_cycle_forgets_what_a_raw_host_had(self) -> None:
+        script = ("controller 1 host 1 raw\nstart\nstore 1 0 hex:06\nwrite32 1 0x24 0x10001\nwrite32 1 0x14 1\n"
+                  "write32 1 0x1000 1\nfetch 1 0\npowercycle\nwrite32 1 0x14 1\nfetch 1 0\n")
+        told = ["stored 1", *["wrote32 1"] * 3, "fetch 1 0 took", "powercycle", "wrote32 1", "fetch 1 0 took"]
+        events = follow(list(read_lines(script)), "\n".join(told))
+        first, second = events[4].command, events[7].command
+        self.assertEqual(events[5].commands, [first])
+        self.assertEqual([command_words(it) for it in (first, second) if it], ["Identify, CID 0"] * 2)
+
     def test_transcripts_that_do_not_fit(self) -> None:
         script = HEAD + "up 1\nflush 1 1\nring 1\nfetch 1 1\nexecute 1 0\npoll 1\n"
         right = ["up 1 ok", "placed 1 1", "rung 1", "fetch 1 1 took", "execute 1 0 posted 0:00 0",
@@ -78,6 +101,18 @@ class ExplainTest(unittest.TestCase):
             wanted = [it for it in read_lines(script) if it.kind not in (LineKind.COMMENT, LineKind.BLANK)]
             with self.subTest(name):
                 self.assertEqual(len(begins), len(wanted))
+
+    def test_what_a_power_cycle_says(self) -> None:
+        script, transcript = next((one, two) for name, one, two in examples() if name == "power-cycle")
+        told = " ".join(" ".join(explain(script, transcript, 400)).split())
+        for words in ("powercycle powercycle power is lost in the whole subsystem, and comes back; all drivers and controllers "
+                      "are down; controller 1's ticket 9 will be handed up as aborted",
+                      "host a1h's driver hands ticket 9 (Read) up as aborted",
+                      "Reservation Register, namespace 1, registers key 11h; all persists through a loss of power from now on",
+                      "Reservation Register, namespace 2, registers key 11h ",
+                      "Set Features, write protection, namespace 1, set until a power cycle",
+                      "denied with Feature Not Changeable (1:0e) by rule 6"):
+            self.assertIn(words, told)
 
     def test_what_a_denied_command_says(self) -> None:
         script, transcript = next((one, two) for name, one, two in examples() if name == "preempt-and-abort")

@@ -5,9 +5,9 @@ import subprocess
 import time
 import unittest
 
-from nvmesim import (AcquireAction, ConfigurationRefused, LineError, NotDone, NvmeError, PollOutcome, ProgramDied,
-                     ProgramHangs, ProgramNotFound, ProtocolError, Refusal, RequestAborted, RequestRefused,
-                     ReservationType, Rule, Session, SessionClosed, Status, Subsystem)
+from nvmesim import (AcquireAction, ConfigurationRefused, LineError, NotDone, NvmeError, Persistence, PollOutcome,
+                     ProgramDied, ProgramHangs, ProgramNotFound, Protection, ProtocolError, Refusal, RequestAborted,
+                     RequestRefused, ReservationType, Rule, Session, SessionClosed, Status, Subsystem)
 
 from .support import LIVE, PROGRAMS, SIM, FolderCase, examples
 
@@ -96,6 +96,39 @@ class UserTest(unittest.TestCase):
                 with self.assertRaises(RequestAborted):
                     host.finish(third)
                 self.assertIs(host.poll().outcome, PollOutcome.NOT_UP)
+
+    def test_a_power_cycle(self) -> None:
+        for program in PROGRAMS:
+            with self.subTest(program), Subsystem(program=program) as subsystem:
+                one, two = subsystem.controller(host=0xA1), subsystem.controller(host=0xB2)
+                kept, lost = subsystem.namespace(blocks=8), subsystem.namespace(blocks=8)
+                for host, disk in ((one, kept), (one, lost), (two, kept), (two, lost)):
+                    subsystem.attach(host, disk)
+                subsystem.start()
+                one.up()
+                two.up()
+                for disk, persist in ((kept, Persistence.SET), (lost, Persistence.CLEAR)):
+                    one.register(disk, new_key=0x11, persist=persist)
+                    one.acquire(disk, ReservationType.WRITE_EXCLUSIVE, 0x11)
+                one.protect(kept, Protection.UNTIL_POWER_CYCLE)
+                one.protect(lost)
+                with self.assertRaises(NvmeError) as caught:
+                    two.protect(kept, Protection.NONE)
+                self.assertIs(caught.exception.status, Status.FEATURE_NOT_CHANGEABLE)
+                ticket = one.place_flush(kept)
+                subsystem.power_cycle()
+                with self.assertRaises(RequestAborted):
+                    one.finish(ticket)
+                told = [subsystem.reservation(it) for it in (kept, lost)]
+                self.assertEqual([(it.persists, it.protection, it.registrants) for it in told],
+                                 [(True, Protection.NONE, {0xA1: 0x11}), (False, Protection.PROTECTED, {})])
+                two.up()
+                with self.assertRaises(NvmeError) as caught:
+                    two.write(kept, 0, b"b2")
+                self.assertIs(caught.exception.rule, Rule.RESERVATION)
+                self.assertIs(two.protection(lost), Protection.PROTECTED)
+                two.protect(lost, Protection.NONE)
+                two.write(lost, 0, b"b2")
 
     def test_bad_lines_and_configurations(self) -> None:
         for program in PROGRAMS:

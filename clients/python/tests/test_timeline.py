@@ -62,6 +62,12 @@ class TimelineTest(unittest.TestCase):
         self.assertEqual(len(with_class(parts, "reset")), 2)
         self.assertEqual(len(with_class(parts, "aborted")), 2)
 
+    def test_a_power_cycle_is_a_band_over_each_host(self) -> None:
+        script = HEAD.replace("start", "controller 2 host 0xb2\nstart") + "flush 1 1\npowercycle\npoll 1\n"
+        parts = pictures(timeline(script, transcript_of(script)))
+        self.assertEqual([it.text for it in with_class(parts, "band-text")], ["up", "power", "power"])
+        self.assertEqual(len(with_class(parts, "aborted")), 1)
+
     def test_five_hundred_events(self) -> None:
         script = HEAD + "write 1 1 0 1 hex:01\nread 1 1 0 1\nring 1\nfetch 1 1\nfetch 1 1\nexecute 1 1\nexecute 1 0\n" \
             "poll 1\npoll 1\nread 1 1 8 1\nring 1\nfetch 1 1\nexecute 1 0\npoll 1\n" * 36

@@ -22,7 +22,7 @@ static void try_identify(int fd) {
     CHECK_IS(number_at(room + 78, 2), 1);
     CHECK_IS(admin(fd, IDENTIFY, 1, 0, 0, room, PAGE), SUCCESS);
     CHECK_IS(number_at(room, 8), 2048);
-    CHECK_IS(room[31], 0xfe);
+    CHECK_IS(room[31], 0xff);
     CHECK_IS(room[130], 9);
     CHECK_IS(admin(fd, IDENTIFY, 0, 2, 0, room, PAGE), SUCCESS);
     CHECK_IS(number_at(room, 8), 0x0000000200000001);

@@ -19,7 +19,7 @@ from .values import FIELDS, Value, Values, texts_of
 
 Scalar = Union[str, int, bool, None]
 
-_RESERVATION_FIELDS = ("type", "name", "holder", "generation", "is_protected", "registrants")
+_RESERVATION_FIELDS = ("type", "name", "holder", "generation", "persists", "protection", "is_protected", "registrants")
 _OPERATORS: Dict[Type[ast.cmpop], Callable[[Any, Any], bool]] = {
     ast.Eq: operator.eq, ast.NotEq: operator.ne, ast.Lt: operator.lt, ast.LtE: operator.le, ast.Gt: operator.gt,
     ast.GtE: operator.ge, ast.In: lambda one, many: one in many, ast.NotIn: lambda one, many: one not in many,
@@ -162,7 +162,8 @@ class Expression:
         told = values.reservations[arguments[0]]
         holder: Scalar = "all" if told.is_held_by_all else told.holder
         return {"type": int(told.rtype), "name": told.rtype.text, "holder": holder, "generation": told.generation,
-                "is_protected": told.is_protected, "registrants": tuple(told.registrants)}
+                "persists": told.persists, "protection": int(told.protection), "is_protected": told.is_protected,
+                "registrants": tuple(told.registrants)}
 
     def _plain(self, value: Any) -> Any:
         """An answer as its text."""

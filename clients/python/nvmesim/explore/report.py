@@ -5,6 +5,7 @@ import textwrap
 from itertools import groupby
 from typing import Dict, Iterator, List, Sequence, Tuple
 
+from ..enums import Protection
 from ..looks import ReservationState
 from ..words import data_words, hexadecimal, shortened
 from .expressions import Expression
@@ -153,7 +154,9 @@ def reservation_words(told: ReservationState) -> str:
         who = "all registrants" if told.is_held_by_all or told.holder is None else f"host {hexadecimal(told.holder)}"
         held = f"{told.rtype.text} of {who}"
     keys = ", ".join(f"{hexadecimal(host)} key {hexadecimal(key)}" for host, key in told.registrants.items())
-    return f"{held}; registered: {keys or 'nobody'}" + ("; write protected" if told.is_protected else "")
+    protected = {Protection.NONE: "", Protection.PROTECTED: "; write protected",
+                 Protection.UNTIL_POWER_CYCLE: "; write protected until a power cycle"}[told.protection]
+    return f"{held}; registered: {keys or 'nobody'}{'; persists' if told.persists else ''}{protected}"
 
 
 def _table(rows: Dict[str, str], indent: str) -> Iterator[str]:

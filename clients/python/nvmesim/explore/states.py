@@ -46,9 +46,11 @@ class Looks:
     def behind(self, step: Step) -> List[str]:
         """The lines that are asked behind an event: what it can have changed.
 
-        An execution may change what hosts share and mark what other controllers have fetched; every other event
-        changes its own controller and host alone.
+        An execution may change what hosts share and mark what other controllers have fetched, and a power cycle may
+        change everything; every other event changes its own controller and host alone.
         """
+        if step.line.is_power_cycle:
+            return self.all()
         number = step.line.controller
         own = self._own(number) if number in self.controllers else []
         if step.line.verb != "execute":
@@ -120,12 +122,15 @@ class State:
         number, seen, tracks = step.line.controller, dict(self.looks), dict(self.tracks)
         name = _executing(step, seen.get(f"?fetched {number}", ""), number)
         found = self._shared(looks, seen) if name in _TELLING else b""
-        label, tracks[number] = labelled(step, answer, tracks.get(number, Track()), found)
-        raw, medium = self.raw, self.medium
-        if number in plan.configuration.raw:
-            chains = dict(raw)
-            chains[number] = _digest(chains.get(number, b""), step.name.encode(), answer.encode(), found)
-            raw = tuple(sorted(chains.items()))
+        if step.line.is_power_cycle:
+            label, tracks = answer, {it: track.emptied() for it, track in tracks.items()}
+        else:
+            label, tracks[number] = labelled(step, answer, tracks.get(number, Track()), found)
+        chains, medium = dict(self.raw), self.medium
+        for it in plan.configuration.raw:
+            if it == number or step.line.is_power_cycle:
+                chains[it] = _digest(chains.get(it, b""), step.name.encode(), answer.encode(), found)
+        raw = tuple(sorted(chains.items()))
         if name in _WRITING and not looks.are_blocks_seen:
             medium = _digest(medium, label.encode(), dict(raw).get(number, b""))
         seen.update(told)

@@ -26,13 +26,15 @@ _TEXTS: Dict[str, FrozenSet[str]] = {
     "reset": frozenset(("reset",)),
     "store": frozenset(("stored", "outside")),
     "write32": frozenset(("wrote32",)),
+    "powercycle": frozenset(("powercycle",)),
 }
 _OF_REQUESTS = _STATUSES | {ABORTED, UNANSWERED} | {f"refused {it.value}" for it in Refusal}
 
 
 def texts_of(line: ScriptLine) -> FrozenSet[str]:
     """All texts that the answer of a line can be."""
-    return (_OF_REQUESTS if line.is_request else _TEXTS[line.verb]) | _MISSES
+    misses = frozenset() if line.is_power_cycle else _MISSES
+    return (_OF_REQUESTS if line.is_request else _TEXTS[line.verb]) | misses
 
 
 @dataclass(frozen=True)

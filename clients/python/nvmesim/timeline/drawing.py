@@ -4,7 +4,7 @@ from __future__ import annotations
 from html import escape
 from typing import Iterator, List, Sequence, Tuple
 
-from ..answers import Executed, Fetched, Polled, Reset, Rung, Up
+from ..answers import Executed, Fetched, Polled, PowerCycled, Reset, Rung, Up
 from ..enums import ExecuteOutcome, UpOutcome
 from ..history import Command, Event
 from ..words import (command_label, command_words, rule_words, shortened, status_words, tickets_words,
@@ -126,11 +126,13 @@ class Part:
     def _mark(self, event: Event) -> List[str]:
         """What an event adds to the picture: arrows, crosses, bands."""
         number, answer, y = event.line.controller, event.answer, self.y(event.number)
+        if isinstance(answer, PowerCycled):
+            return [shape for it in self.layout.hosts for shape in self._band(it, "power", y)]
         host, controller = self.layout.hosts.get(number), self.layout.controllers.get(number)
         if host is None or controller is None:
             return []
         if isinstance(answer, Reset) or isinstance(answer, Up) and answer.outcome is UpOutcome.OK:
-            return self._band(event)
+            return self._band(number, "reset" if isinstance(answer, Reset) else "up", y)
         if isinstance(answer, Rung) and answer.is_up:
             return [_arrow(host.left + 8, controller.left + 6, y, "ring")]
         if isinstance(answer, Executed) and answer.outcome is ExecuteOutcome.POSTED and event.command is not None:
@@ -156,11 +158,9 @@ class Part:
         }
         return [f'<path class="reach" d="M{x + 7} {y}H{end - 9}"/>', shapes[shape]]
 
-    def _band(self, event: Event) -> List[str]:
-        """A driver and its controller go down, or come up."""
-        number, y = event.line.controller, self.y(event.number)
+    def _band(self, number: int, kind: str, y: float) -> List[str]:
+        """A host and its controller go down, or come up."""
         host, controller = self.layout.hosts[number], self.layout.controllers[number]
-        kind = "reset" if isinstance(event.answer, Reset) else "up"
         left, width = host.left + 2, controller.left + controller.width - host.left - 4
         return [f'<rect class="band {kind}" x="{left}" y="{y - 8}" width="{width}" height="16" rx="3"/>',
                 f'<text class="band-text {kind}" x="{left + width / 2}" y="{y + 4}">{kind}</text>']

@@ -45,9 +45,10 @@ svg .words { fill: var(--faint); }
 .reach { fill: none; stroke: var(--done); stroke-width: 1.3; }
 .changes { fill: var(--done); } .looks, .other { fill: var(--ground); stroke: var(--done); stroke-width: 2; }
 svg .rule { fill: var(--denied); font-size: 10.5px; font-weight: 600; }
-.band { fill: none; stroke: var(--up); stroke-width: 1.5; } .band.reset { fill: var(--aborted); stroke: none; }
+.band { fill: none; stroke: var(--up); stroke-width: 1.5; } .band.reset,
+.band.power { fill: var(--aborted); stroke: none; }
 svg .band-text { text-anchor: middle; fill: var(--up); font-size: 11px; font-weight: 600; }
-svg .band-text.reset { fill: var(--ground); }
+svg .band-text.reset, svg .band-text.power { fill: var(--ground); }
 table { border-collapse: collapse; font-size: 14px; } th, td { text-align: left; padding: 3px 14px 3px 0;
   border-bottom: 1px solid var(--line); vertical-align: top; }
 details { margin-top: 24px; } summary { cursor: pointer; } ol { font-size: 14px; }
