@@ -14,6 +14,8 @@ FOLDERS = ("crates", "docs", "scripts", "bench", "man", ".ci", "clients")
 PARTS = ("src", "specs", "proofs", "data", "must-fail", "wrong-bodies")
 CRATE = re.compile(r"(?:nvme|script|part|fleet|controller)_[a-z0-9_]+$")
 WORD = re.compile(r"[A-Za-z_]\w*")
+# Modules of definitions that a table need not name.
+ASIDE = re.compile(r"^(?:Lib|Example\w*|\w+(?:Examples|Laws))$")
 CARRIED = re.compile(r"Carried by ((?:`[\w:]+`(?:,| and)? ?)+)")
 # The documents that cite definitions, and the picture.
 CITING = ("README.md", "docs/CRATES.md", "docs/THEOREMS.md", "docs/ARCHITECTURE.md", "docs/READING.md",
@@ -81,6 +83,18 @@ def check_crates(top: Path, found: List[Document]) -> Iterator[Finding]:
             name = span.split("::")[0].split("/")[0]
             if CRATE.match(name) and name not in known and name not in of_kit and not is_word(top, name):
                 yield Finding(document.path, n, f"crates.txt has no crate {name}")
+
+
+def check_modules(top: Path, found: List[Document]) -> Iterator[Finding]:
+    """README and the architecture have each module of definitions in a table, but for those of examples and of laws."""
+    modules = {it.stem for it in (top / "crates/nvme_spec/specs").glob("*.antt")}
+    for document in found:
+        if document.path not in ("README.md", "docs/ARCHITECTURE.md"):
+            continue
+        rows = {name for _, line in document.prose if line.startswith("|") for name in SPANS.findall(line)}
+        for name in sorted(modules - rows):
+            if not ASIDE.search(name):
+                yield Finding(document.path, 1, f"no table has the module {name}")
 
 
 def check_contracts(found: List[Document]) -> Iterator[Finding]:

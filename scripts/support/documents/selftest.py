@@ -41,6 +41,7 @@ CHANGED = (
     ("docs/THEOREMS.md", "FencingHolds =\n    (old new : Subsystem)",
      "FencingHolds =\n    ..\n    (old mid : Subsystem)", "Fencing.antt: abbrev pub FencingHolds"),
     ("docs/CRATES.md", "## nvme_mem", "## nvme_memory", "nvme_memory is here or in the table of README.md"),
+    ("README.md", "`Limits`, ", "", "no table has the module Limits"),
     ("docs/ARCHITECTURE.md", "| `nvme_ring` |", "| `nvme_wire` |", "no table has the crate nvme_ring"),
     ("docs/ARCHITECTURE.md", "| `Window::new` |", "| `Window::store` |", "no public call Window::store takes memory"),
     ("crates/nvme_ring/src/sq_head.rt", "    pub fn ", "    pub fn kept(alloc: Global) {}\n    pub fn ",
