@@ -42,6 +42,8 @@ CHANGED = (
      "FencingHolds =\n    ..\n    (old mid : Subsystem)", "Fencing.antt: abbrev pub FencingHolds"),
     ("docs/CRATES.md", "## nvme_mem", "## nvme_memory", "nvme_memory is here or in the table of README.md"),
     ("README.md", "`Limits`, ", "", "no table has the module Limits"),
+    ("CONTRIBUTING.md", "`nvme_exec/specs/Carrying.antt`", "`nvme_exec/specs`",
+     "no list has crates/nvme_exec/specs/Carrying.antt, which names Compare"),
     ("docs/ARCHITECTURE.md", "| `nvme_ring` |", "| `nvme_wire` |", "no table has the crate nvme_ring"),
     ("docs/ARCHITECTURE.md", "| `Window::new` |", "| `Window::store` |", "no public call Window::store takes memory"),
     ("crates/nvme_ring/src/sq_head.rt", "    pub fn ", "    pub fn kept(alloc: Global) {}\n    pub fn ",
