@@ -1,6 +1,7 @@
 //! Scripts over streams that fail in the middle.
 
-use super::lines::carried;
+use super::lines::{HELLO, SETUP, carried};
+use super::program::run_to;
 use super::streams::{FailingReader, FailingWriter};
 use nvme_medium::MemMedium;
 use nvme_script::{ScriptFault, run_script};
@@ -99,5 +100,41 @@ fn a_writer_that_fails_stops_behind_its_command(rt: HostRuntime) -> Result<(), F
         refused == 16,
         "each line is one write at least, and the last write is reached"
     );
+    Ok(())
+}
+
+/// A transcript that goes through the buffer whole, and one of which a part is written before its end.
+#[test]
+fn the_program_says_that_the_transcript_is_not_written(rt: HostRuntime) -> Result<(), Fail> {
+    let short = carried(rt.alloc(), HELLO)?;
+    let long = carried(rt.alloc(), &[b"flush 1 1".as_slice(); 120])?;
+    let cases = [
+        (short.as_slice(), FailingWriter::at_write(rt.alloc(), 0)),
+        (short.as_slice(), FailingWriter::at_flush(rt.alloc(), 0)),
+        (long.as_slice(), FailingWriter::at_write(rt.alloc(), 0)),
+        (long.as_slice(), FailingWriter::at_write(rt.alloc(), 1)),
+    ];
+    for (text, mut writer) in cases {
+        let (status, errors) = run_to(&rt, &[], &mut &text[..], &mut writer)?;
+        assert_eq!(rt;
+            errors.as_slice(),
+            b"nvmesim: file fault\nnvmesim: standard output can't be written\n".as_slice()
+        );
+        assert_eq!(rt; status, 2);
+    }
+    Ok(())
+}
+
+#[test]
+fn the_program_says_that_the_script_is_not_read(rt: HostRuntime) -> Result<(), Fail> {
+    let mut reader = FailingReader::new(SETUP, 3);
+    let mut written: Vec<u8> = Vec::new(rt.alloc());
+    let (status, errors) = run_to(&rt, &[], &mut reader, &mut written)?;
+    assert_eq!(rt;
+        errors.as_slice(),
+        b"nvmesim: file fault\nnvmesim: standard input can't be read\n".as_slice()
+    );
+    assert_eq!(rt; status, 2);
+    assert!(rt; written.is_empty());
     Ok(())
 }

@@ -210,6 +210,59 @@ nvmesim: line 1: namespace 1 ends behind the 1024 blocks of the medium, where th
     Ok(())
 }
 
+/// A line, so many times, and `start` behind them.
+fn repeated(alloc: Global, line: &[u8], count: usize) -> Result<Vec<u8>, AllocError> {
+    let mut text = Vec::new(alloc);
+    for _ in 0..count {
+        text.extend_from_slice(line)?;
+    }
+    text.extend_from_slice(b"start\n")?;
+    Ok(text)
+}
+
+#[test]
+fn names_the_first_line_that_is_one_too_many(rt: HostRuntime) -> Result<(), Fail> {
+    let cases = [
+        (
+            b"controller 1 host 1\n".as_slice(),
+            17,
+            b"nvmesim: line 18: TooMany
+nvmesim: line 17: this is controller 17, and 16 is the most
+"
+                .as_slice(),
+        ),
+        (
+            b"attached 1 1\n",
+            129,
+            b"nvmesim: line 130: TooMany
+nvmesim: line 129: this is attachment 129, and 128 is the most
+",
+        ),
+        (
+            b"controller 1 host 1\n",
+            16,
+            b"nvmesim: line 17: BadId
+nvmesim: line 2: controller 2 has to stand here, and not 1: they are counted from 1
+",
+        ),
+        (
+            b"attached 1 1\n",
+            128,
+            b"nvmesim: line 129: BadId
+nvmesim: line 1: controller 1 is not configured
+",
+        ),
+    ];
+    for (line, count, told) in cases {
+        let text = repeated(rt.alloc(), line, count)?;
+        let shown = run(&rt, &[], &mut text.as_slice())?;
+        assert_eq!(rt; shown.errors.as_slice(), told, "{count} lines");
+        assert_eq!(rt; shown.status, 1);
+        assert!(rt; shown.output.is_empty());
+    }
+    Ok(())
+}
+
 /// Lines between two controllers, two namespaces and `start`, and the rule that each breaks.
 const BROKEN: [(&str, &str); 9] = [
     (
