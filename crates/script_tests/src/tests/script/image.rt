@@ -274,3 +274,21 @@ fn a_script_is_a_path_as_it_stands(rt: HostRuntime) -> Result<(), Fail> {
     assert_eq!(rt; shown.output.as_slice(), HELLO_SHOWN);
     Ok(())
 }
+
+#[test]
+fn a_script_that_is_too_long_is_named(rt: HostRuntime) -> Result<(), Fail> {
+    let text = vec![in rt.alloc(); b'#'; 4_194_305]?;
+    fs::write(&rt, "too-long", text.as_slice())?;
+    let shown = run(&rt, &["-", "too-long"], &mut &b""[..])?;
+    fs::remove_file(&rt, "too-long")?;
+    assert_eq!(rt;
+        shown.errors.as_slice(),
+        b"nvmesim: script too long
+nvmesim: too-long has more than 4194304 bytes; an image is the first word: nvmesim [IMAGE [SCRIPT]]
+"
+            .as_slice()
+    );
+    assert_eq!(rt; shown.status, 1);
+    assert!(rt; shown.output.is_empty());
+    Ok(())
+}
