@@ -1,4 +1,5 @@
-//! Tests of commands, controllers and subsystems, through their public calls alone.
+//! Tests of commands, controllers and subsystems, apart since a crate with tests of its own is proved twice; they use
+//! public calls alone.
 #![tactic(auto)]
 
 #[cfg(test)]

@@ -1,5 +1,5 @@
-//! The text of sessions: their lines one at a time, the lines that look and change nothing, how each line is written,
-//! and what one that is not carried out is answered.
+//! The text of sessions, apart from having them so that it is proved without fleets: their lines one at a time, the
+//! lines that look and change nothing, how each line is written, and what one that is not carried out is answered.
 #![tactic(auto)]
 
 mod fault;

@@ -1,5 +1,5 @@
-//! The words that a fleet's hosts, a script's lines and its transcript have in common: what can happen to a fleet, what
-//! that gives to see, and the reply that an event gets.
+//! What fleets, scripts and transcripts share, apart so that scripts are proved without fleets: what can happen to a
+//! fleet, what that gives to see, and the reply that an event gets.
 #![tactic(auto)]
 
 mod event;

@@ -1,4 +1,5 @@
-//! The transcript of a script: a line for each event, which shows what it gave to see.
+//! The transcript of a script, apart from its run so that it is proved without fleets: a line for each event, which
+//! shows what it gave to see.
 #![tactic(auto)]
 
 mod examples;

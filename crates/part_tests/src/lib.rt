@@ -1,4 +1,5 @@
-//! Tests of the parts that controllers and hosts are made of, through their public calls alone.
+//! Tests of the parts that controllers and hosts are made of, apart since a crate with tests of its own is proved
+//! twice; they use public calls alone.
 #![tactic(auto)]
 
 #[cfg(test)]

@@ -1,5 +1,6 @@
-//! The pieces of a script's text: a text read to its end, its lines, the words of a line, the numbers and the data that
-//! words spell, the data that a transcript shows, and bytes on their way to a writer.
+//! The pieces of a script's text, apart since nothing here is of NVMe, and proved beside all that is: a text read to
+//! its end, its lines, the words of a line, the numbers and the data that words spell, the data that a transcript
+//! shows, and bytes on their way to a writer.
 #![tactic(auto)]
 
 mod data;
