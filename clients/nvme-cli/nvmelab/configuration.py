@@ -1,6 +1,6 @@
 """CONFIG: the lines of a script before its `start`, which describe the subsystem."""
 from dataclasses import dataclass, field
-from typing import Dict, List
+from typing import Dict, List, Set
 
 from nvmelab.faults import LabFault
 
@@ -18,10 +18,12 @@ def number_of(word: str) -> int:
 
 @dataclass
 class Configuration:
-    """The lines as they are handed to the subsystem, and what the lab has to know of them itself."""
+    """The lines as they were written and as they are handed to the subsystem, and what the lab has to know of them."""
     lines: List[str] = field(default_factory=list)
-    # The host of each controller, and the size of each namespace in blocks.
+    handed: List[str] = field(default_factory=list)
+    # The host of each controller, those controllers whose host has a driver, and the size of each namespace in blocks.
     hosts: Dict[int, int] = field(default_factory=dict)
+    drivers: Set[int] = field(default_factory=set)
     blocks: Dict[int, int] = field(default_factory=dict)
 
     @property
@@ -33,16 +35,22 @@ class Configuration:
         return [cntlid for cntlid, its_host in sorted(self.hosts.items()) if its_host == host]
 
 
-def read_line(configuration: Configuration, line: str) -> str:
-    """Takes one line in; what it is handed on as. The lab drives each controller itself, so that all are raw.
+def read_line(configuration: Configuration, line: str, has_drivers: bool) -> str:
+    """Takes one line in; what it is handed on as. A host has a driver where drivers are wanted and its line does not
+    end in `raw`; else the lab itself is its software, and it is handed on as a raw host.
 
     Lines are judged by the subsystem; what is not understood here is handed on as it stands.
     """
     words = line.split()
     try:
         if len(words) >= 4 and words[0] == "controller" and words[2] == "host":
-            configuration.hosts[number_of(words[1])] = number_of(words[3])
-            return " ".join(words + ["raw"] if len(words) == 4 else words)
+            cntlid = number_of(words[1])
+            configuration.hosts[cntlid] = number_of(words[3])
+            if len(words) == 4 and not has_drivers:
+                words.append("raw")
+            elif len(words) == 4:
+                configuration.drivers.add(cntlid)
+            return " ".join(words)
         if len(words) == 5 and words[0] == "namespace" and words[2] == "blocks":
             configuration.blocks[number_of(words[1])] = number_of(words[3])
     except ValueError:
@@ -50,7 +58,7 @@ def read_line(configuration: Configuration, line: str) -> str:
     return line
 
 
-def read_configuration(text: str, name: str) -> Configuration:
+def read_configuration(text: str, name: str, has_drivers: bool) -> Configuration:
     """Reads CONFIG. A last `start` may stand there; nothing may stand behind it."""
     configuration = Configuration()
     lines = text.split("\n")
@@ -62,7 +70,9 @@ def read_configuration(text: str, name: str) -> Configuration:
         lines = lines[:starts[0]]
     while lines and not lines[-1].strip():
         lines.pop()
-    configuration.lines = [line if line.startswith("#") else read_line(configuration, line) for line in lines]
+    configuration.lines = lines
+    configuration.handed = [line if line.startswith("#") else read_line(configuration, line, has_drivers)
+                            for line in lines]
     if not configuration.hosts:
         raise LabFault(f"{name} has no controller: a line is `controller 1 host 0xa1`")
     return configuration

@@ -6,7 +6,7 @@ from nvmelab.queues import DATA_PLACE, LIST_PLACE, NOWHERE, PAGE
 
 DELETE_SUBMISSION, CREATE_SUBMISSION, DELETE_COMPLETION, CREATE_COMPLETION = 0x00, 0x01, 0x04, 0x05
 CREATE_QUEUE = (CREATE_SUBMISSION, CREATE_COMPLETION)
-IDENTIFY, SET_FEATURES, ATTACHMENT = 0x06, 0x09, 0x15
+IDENTIFY, SET_FEATURES, GET_FEATURES, ATTACHMENT = 0x06, 0x09, 0x0a, 0x15
 WRITE_PROTECTION = 0x84
 
 
@@ -26,6 +26,15 @@ class Command:
     @property
     def opcode(self) -> int:
         return self.entry[0]
+
+    @property
+    def has_plain_form(self) -> bool:
+        """Whether it is not fused, and its data pointer is of PRP entries: FUSE and PSDT are 0."""
+        return self.entry[1] & 0xc3 == 0
+
+    @property
+    def nsid(self) -> int:
+        return self.double_word(1)
 
     @property
     def sends_data(self) -> bool:
@@ -50,6 +59,11 @@ class Completion:
         self.dw0, _, self.sq_head, self.sq_id, self.cid, field = struct.unpack("<IIHHHH", entry)
         self.phase = field & 1
         self.status = field >> 1
+
+    @classmethod
+    def of(cls, status: int, dw0: int = 0) -> "Completion":
+        """One of which nothing but the status and double word 0 is known."""
+        return cls(struct.pack("<IIHHHH", dw0, 0, 0, 0, 0, status << 1))
 
     @property
     def is_success(self) -> bool:

@@ -1,21 +1,16 @@
-"""A raw host: it brings its controller up and hands commands to it, one at a time, each to its end."""
+"""A host's side of one controller: it brings the controller up and has commands carried out, one at a time."""
+from abc import ABC, abstractmethod
 from dataclasses import dataclass
 from typing import Dict, List, Optional, Tuple
 
-from nvmelab import entries, looks, queues
+from nvmelab import looks
 from nvmelab.entries import Command, Completion
 from nvmelab.faults import Ended, LabFault
-from nvmelab.queues import CompletionQueue, Queues, SubmissionQueue
+from nvmelab.queues import PAGE
 from nvmelab.subsystem import Subsystem
 
 # The registers before the doorbells.
 REGISTERS = (0x00, 0x04, 0x08, 0x14, 0x1c, 0x24, 0x28, 0x2c, 0x30, 0x34)
-# What bringing up writes: admin queues of 64 entries each, entries of 64 and 16 bytes, EN.
-CONFIGURATION, STATUS, ADMIN_SIZES = 0x14, 0x1c, 0x24
-ADMIN_SUBMISSION, ADMIN_COMPLETION = 0x28, 0x30
-ENABLED = 0x460001
-READY = 1
-STORED, WRITTEN = "stored", "wrote32"
 
 
 @dataclass
@@ -26,29 +21,45 @@ class Data:
     content: bytes = b""
     is_mapped: bool = True
 
+    @property
+    def padded(self) -> bytes:
+        """The data with zeros behind them up to the end of their last page: what a command finds there."""
+        slack = -(self.offset + len(self.content)) % PAGE if self.content else 0
+        return self.content + bytes(slack)
+
 
 class NoQueue(LabFault):
     """The command's queue is not there: someone has deleted it."""
 
 
-class Host:
+class Host(ABC):
     """The host's side of one controller."""
 
     def __init__(self, subsystem: Subsystem, cntlid: int) -> None:
         self.subsystem = subsystem
         self.cntlid = cntlid
-        self.queues = Queues()
-        self.next_cid = 0
-        self.rung_later: List[str] = []
 
-    def store_line(self, place: int, content: bytes) -> str:
-        return f"store {self.cntlid} {place} hex:{content.hex()}"
+    @property
+    @abstractmethod
+    def queue_entries(self) -> int:
+        """How many entries the submission queue has that I/O commands go to first."""
 
-    def write_line(self, offset: int, value: int) -> str:
-        return f"write32 {self.cntlid} {offset:#x} {value:#x}"
+    @abstractmethod
+    def bring_up(self) -> None:
+        """Resets the controller, and makes it ready for commands of both kinds."""
 
-    def zero_line(self, place: int, entry_bytes: int) -> str:
-        return self.store_line(place, bytes(entry_bytes * queues.QUEUE_ENTRIES))
+    @abstractmethod
+    def run(self, is_admin: bool, command: Command, data: Data) -> Tuple[Completion, bytes]:
+        """One command to its end: its completion, and the data that it brought; none where they went to the controller
+        or the command failed."""
+
+    def admin(self, command: Command, data: Optional[Data] = None) -> Tuple[Completion, bytes]:
+        return self.run(True, command, data or Data())
+
+    def registers(self) -> Dict[int, int]:
+        """What reads of the registers give now, by their offsets."""
+        answers = self.ask([looks.register_line(self.cntlid, offset) for offset in REGISTERS], [])
+        return dict(zip(REGISTERS, map(looks.register_value, answers)))
 
     def ask(self, lines: List[str], wanted: List[str]) -> List[str]:
         """Hands lines in whose first answers have to be these; gives the answers behind them."""
@@ -57,125 +68,3 @@ class Host:
             if answer != expected:
                 raise Ended(f"`{line[:60]}` was answered `{answer[:60]}`")
         return answers[len(wanted):]
-
-    def bring_up(self) -> None:
-        """Resets the controller, enables it, and makes the pair of I/O queues 1."""
-        c = self.cntlid
-        self.queues = Queues()
-        self.rung_later = []
-        last = queues.QUEUE_ENTRIES - 1
-        lines = [
-            self.write_line(CONFIGURATION, 0),
-            self.write_line(ADMIN_SIZES, last << 16 | last),
-            self.write_line(ADMIN_SUBMISSION, queues.submission_place(0)),
-            self.write_line(ADMIN_SUBMISSION + 4, 0),
-            self.write_line(ADMIN_COMPLETION, queues.completion_place(0)),
-            self.write_line(ADMIN_COMPLETION + 4, 0),
-            self.zero_line(queues.completion_place(0), queues.COMPLETION_BYTES),
-            self.write_line(CONFIGURATION, ENABLED),
-            looks.register_line(c, STATUS),
-        ]
-        answers = self.ask(lines, [f"{WRITTEN} {c}"] * 6 + [f"{STORED} {c}", f"{WRITTEN} {c}"])
-        if looks.register_value(answers[0]) & READY == 0:
-            raise Ended(f"controller {c} does not come up")
-        size = last << 16
-        for command in (Command.of(entries.CREATE_COMPLETION, cdw10=size | 1, cdw11=1),
-                        Command.of(entries.CREATE_SUBMISSION, cdw10=size | 1, cdw11=1 << 16 | 1)):
-            completion, _ = self.admin(command)
-            if not completion.is_success:
-                raise Ended(f"controller {c} makes no I/O queue: status {completion.status:#x}")
-
-    def registers(self) -> Dict[int, int]:
-        """What reads of the registers give now, by their offsets."""
-        answers = self.ask([looks.register_line(self.cntlid, offset) for offset in REGISTERS], [])
-        return dict(zip(REGISTERS, map(looks.register_value, answers)))
-
-    def admin(self, command: Command, data: Optional[Data] = None) -> Tuple[Completion, bytes]:
-        return self.run(True, command, data or Data())
-
-    def run(self, is_admin: bool, command: Command, data: Data) -> Tuple[Completion, bytes]:
-        """One command to its end: its completion, and the data that it brought; none where they went to the controller
-        or the command failed."""
-        queue = self.queues.lane(is_admin)
-        if queue is None:
-            raise NoQueue(f"controller {self.cntlid} has no I/O queue")
-        stores = self.place(queue, command, data)
-        length = 0 if command.sends_data else len(data.content)
-        seen = [looks.window_line(self.cntlid, queues.DATA_PLACE + data.offset, length)] if length else []
-        completion, answers = self.carry_out(queue, stores, seen)
-        if is_admin and completion.is_success:
-            self.follow(command, data)
-        if not answers or not completion.is_success:
-            return completion, b""
-        return completion, looks.window_bytes(answers[0], length)
-
-    def place(self, queue: SubmissionQueue, command: Command, data: Data) -> List[str]:
-        """The lines that store a command with its data, and the pages that a new queue needs."""
-        lines = []
-        command.identify_by(self.next_cid)
-        if data.content:
-            slack = -(data.offset + len(data.content)) % queues.PAGE
-            prp1, prp2, later = entries.pointer(data.offset, len(data.content))
-            lines.append(self.store_line(queues.DATA_PLACE + data.offset, data.content + bytes(slack)))
-            if later:
-                lines.append(self.store_line(queues.LIST_PLACE, entries.list_bytes(later)))
-            command.point_to(prp1, prp2)
-        elif queue.qid == 0 and data.is_mapped and command.opcode in entries.CREATE_QUEUE:
-            place = self.new_place(command)
-            lines.append(self.zero_line(place, queues.COMPLETION_BYTES))
-            command.point_to(place, 0)
-        else:
-            command.point_to(queues.NOWHERE, queues.NOWHERE)
-        lines.append(self.store_line(queue.slot, bytes(command.entry)))
-        return lines
-
-    def new_place(self, command: Command) -> int:
-        """Where a queue goes that a command makes: its own page where it is not there yet, else a page that no other
-        has, since the command is refused."""
-        qid = command.double_word(10) & 0xffff
-        is_submission = command.opcode == entries.CREATE_SUBMISSION
-        there = self.queues.submission if is_submission else self.queues.completion
-        if qid > queues.MOST_QUEUE or qid in there:
-            return queues.SPARE_PLACE
-        return queues.submission_place(qid) if is_submission else queues.completion_place(qid)
-
-    def carry_out(self, queue: SubmissionQueue, stores: List[str], seen: List[str]) -> Tuple[Completion, List[str]]:
-        """Stores, rings, fetches, executes, and takes the completion; and what the looking lines behind that show.
-
-        The doorbell of a completion that was taken is rung with the next command, which spares a turn of its own."""
-        c, cid = self.cntlid, self.next_cid
-        answered = self.queues.completion.get(queue.cqid)
-        if answered is None:
-            raise NoQueue(f"controller {c} has no completion queue {queue.cqid}")
-        queue.advance()
-        rung, self.rung_later = [*self.rung_later, *stores, self.write_line(queue.doorbell, queue.tail)], []
-        wanted = [f"{STORED if line.startswith('store ') else WRITTEN} {c}" for line in rung]
-        lines = [*rung, f"fetch {c} {queue.qid}", f"execute {c} 0",
-                 looks.window_line(c, answered.slot, queues.COMPLETION_BYTES), *seen]
-        fetched, executed, posted, *answers = self.ask(lines, wanted)
-        completion = Completion(looks.window_bytes(posted, queues.COMPLETION_BYTES))
-        is_carried_out = fetched.endswith(" took") and executed.startswith(f"execute {c} 0 posted ")
-        is_ours = completion.phase == answered.phase and (completion.sq_id, completion.cid) == (queue.qid, cid)
-        if not is_carried_out or not is_ours:
-            raise NoQueue(f"controller {c} has lost its queue {queue.qid}")
-        self.next_cid = (cid + 1) % 0x10000
-        answered.advance()
-        self.rung_later = [self.write_line(answered.doorbell, answered.head)]
-        return completion, answers
-
-    def follow(self, command: Command, data: Data) -> None:
-        """Keeps the queues that an admin command has made or deleted. One whose place was given as data is not used:
-        the data of the next command will lie there."""
-        qid = command.double_word(10) & 0xffff
-        size = (command.double_word(10) >> 16) + 1
-        if command.opcode == entries.DELETE_SUBMISSION:
-            self.queues.submission.pop(qid, None)
-        elif command.opcode == entries.DELETE_COMPLETION:
-            self.queues.completion.pop(qid, None)
-        elif command.opcode == entries.CREATE_COMPLETION and not data.content:
-            self.queues.completion[qid] = CompletionQueue(qid, size)
-        elif command.opcode == entries.CREATE_SUBMISSION and not data.content:
-            cqid = command.double_word(11) >> 16
-            if cqid in self.queues.completion:
-                self.queues.submission[qid] = SubmissionQueue(qid, cqid, size)
-

@@ -49,18 +49,19 @@ class Lab:
     program: List[str]
     image: Optional[str]
     script: Optional[str]
+    has_drivers: bool
     place: Path
 
     @classmethod
-    def of(cls, name: str, program: List[str], image: Optional[str], script: Optional[str]) -> "Lab":
+    def of(cls, name: str, program: List[str], image: Optional[str], script: Optional[str], has_drivers: bool) -> "Lab":
         path = Path(name).resolve()
         try:
             text = path.read_text("ascii", "surrogateescape")
         except OSError as fault:
             raise LabFault(f"{name} can't be read: {fault.strerror}") from fault
         digest = hashlib.sha256(str(path).encode("utf-8", "surrogateescape")).hexdigest()[:16]
-        return cls(name, read_configuration(text, name), program, image and str(Path(image).resolve()),
-                   script and str(Path(script).resolve()), base_folder() / digest)
+        return cls(name, read_configuration(text, name, has_drivers), program, image and str(Path(image).resolve()),
+                   script and str(Path(script).resolve()), has_drivers, base_folder() / digest)
 
     @property
     def folder(self) -> Path:
@@ -77,7 +78,8 @@ class Lab:
     @property
     def options(self) -> Dict[str, object]:
         """What a second lab of the same CONFIG must not say otherwise."""
-        return {"lines": self.configuration.lines, "image": self.image, "script": self.script}
+        return {"lines": self.configuration.lines, "image": self.image, "script": self.script,
+                "drivers": self.has_drivers}
 
     def join(self, host: str) -> Path:
         """Joins the lab as a host, with this process as one that uses it; it is started where it does not run. Gives
@@ -124,6 +126,8 @@ class Lab:
             wanted = self.options[option]
             if wanted is not None and wanted != running[option]:
                 raise LabFault(f"the lab of {self.name} runs already, without --{option} {wanted}")
+        if self.has_drivers and not running["drivers"]:
+            raise LabFault(f"the lab of {self.name} runs already, without --drivers")
 
     def start(self) -> None:
         """Starts the server, in a session of its own, so that no key of a terminal reaches it."""

@@ -1,4 +1,4 @@
-"""The lines of nvmelive that look, and what their answers say."""
+"""The lines of nvmelive that look, and what their answers and the data of others say."""
 from nvmelab.faults import Ended
 
 
@@ -10,19 +10,23 @@ def window_line(cntlid: int, address: int, length: int) -> str:
     return f"?window {cntlid} {address} {length}"
 
 
+def data_bytes(word: str, length: int) -> bytes:
+    """Bytes as answers spell them: in hexadecimal, without the zeros at their end, `-` for none."""
+    try:
+        found = bytes.fromhex("" if word == "-" else word)
+    except ValueError as fault:
+        raise refused(word) from fault
+    if len(found) > length:
+        raise refused(word)
+    return found + bytes(length - len(found))
+
+
 def window_bytes(answer: str, length: int) -> bytes:
-    """The bytes of a window: the last word has them in hexadecimal, without the zeros at their end, `-` for none."""
+    """The bytes of a window, which the last word has."""
     words = answer.split()
     if not words or answer.startswith("!"):
         raise refused(answer)
-    digits = "" if words[-1] == "-" else words[-1]
-    try:
-        found = bytes.fromhex(digits)
-    except ValueError as fault:
-        raise refused(answer) from fault
-    if len(found) > length:
-        raise refused(answer)
-    return found + bytes(length - len(found))
+    return data_bytes(words[-1], length)
 
 
 def register_line(cntlid: int, offset: int) -> str:

@@ -17,13 +17,15 @@ TOP = PACKAGE.parent.parent
 FAILED, NOT_RUN, NOT_FOUND = 125, 126, 127
 
 USAGE = """\
-lab [--host H] [--image IMAGE] [--script FILE] [--program PROGRAM] CONFIG [-- COMMAND ..]
+lab [--host H] [--drivers] [--image IMAGE] [--script FILE] [--program PROGRAM] CONFIG [-- COMMAND ..]
 
 Runs COMMAND, or a shell, where /dev/nvme0, /dev/nvme0n1 .. are the controllers and namespaces that CONFIG describes:
 the lines of a script before its `start`. Labs of one CONFIG that run at the same time are one lab; it ends with the
 last of their COMMANDs.
 
 --host H            see the controllers of host H alone, as its own machine does; without it those of all hosts
+--drivers           have commands made by the proved drivers of the hosts, but for lines of CONFIG that end in `raw`;
+                    without it all hosts are raw, and commands are what COMMAND makes of them
 --image IMAGE       keep the blocks in this file, which must be long enough; else they go with the lab
 --script FILE       write what happens as a script, which nvmesim runs again
 --program PROGRAM   take this nvmelive; else ./nvmelive of this repository, which is built on first use
@@ -41,6 +43,7 @@ class Words:
     image: Optional[str] = None
     script: Optional[str] = None
     program: str = ""
+    has_drivers: bool = False
 
 
 def take_apart(given: List[str]) -> Words:
@@ -56,6 +59,8 @@ def take_apart(given: List[str]) -> Words:
             if value is None:
                 raise LabFault(f"{word} wants a word behind it")
             setattr(found, word[2:], value)
+        elif word == "--drivers":
+            found.has_drivers = True
         elif word.startswith("-"):
             raise LabFault(f"there is no option {word}; --help says which there are")
         elif found.config:
@@ -132,7 +137,7 @@ def main(given: List[str]) -> NoReturn:
         sys.exit(0)
     try:
         words = take_apart(given)
-        lab = Lab.of(words.config, program_words(words.program), words.image, words.script)
+        lab = Lab.of(words.config, program_words(words.program), words.image, words.script, words.has_drivers)
         preloaded = library(library_folder())
         view = lab.join(words.host)
     except LabFault as fault:
@@ -149,6 +154,6 @@ def serve_here() -> NoReturn:
     import json
     folder, lock, name, image, script, *program = sys.argv[1:]
     options = json.loads((Path(folder) / "options").read_text())
-    read = configuration.read_configuration("\n".join(options["lines"]), name)
+    read = configuration.read_configuration("\n".join(options["lines"]), name, options["drivers"])
     place = server.Place(Path(folder), Path(lock), options["token"])
     sys.exit(server.serve(place, read, name, program, image, Path(script) if script else None))

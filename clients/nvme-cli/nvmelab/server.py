@@ -19,9 +19,11 @@ from typing import Callable, Dict, List, Optional
 
 from nvmelab import entries, protocol
 from nvmelab.configuration import Configuration, number_of
+from nvmelab.driver_host import DriverHost
 from nvmelab.faults import Ended, LabFault
 from nvmelab.host import Host, NoQueue
 from nvmelab.protocol import Malformed, Request
+from nvmelab.raw_host import RawHost
 from nvmelab.subsystem import Subsystem
 from nvmelab.tree import View
 
@@ -98,7 +100,8 @@ class Server:
 
     def bring_up(self) -> None:
         for cntlid in sorted(self.configuration.hosts):
-            self.hosts[cntlid] = Host(self.subsystem, cntlid)
+            kind = DriverHost if cntlid in self.configuration.drivers else RawHost
+            self.hosts[cntlid] = kind(self.subsystem, cntlid)
             self.hosts[cntlid].bring_up()
 
     def watch(self, stream: object, call: Callable[[], None]) -> None:

@@ -28,7 +28,7 @@ class Subsystem:
 
     def start(self, configuration: Configuration, name: str) -> None:
         """Describes the subsystem and starts it. There is no limit of time: the program may be built first."""
-        answers = self.ask([*configuration.lines, "start"], seconds=None)
+        answers = self.ask([*configuration.handed, "start"], seconds=None)
         for number, (line, answer) in enumerate(zip(configuration.lines, answers), 1):
             # What is not understood is told with the number of its line, which is that of CONFIG.
             if answer.startswith("! "):

@@ -122,14 +122,14 @@ class View:
             "subsysnqn": first.subsystem, "model": text_of(first.model), "serial": text_of(first.serial),
             "firmware_rev": text_of(first.firmware), "iopolicy": "numa", "subsystype": "nvm",
         })
-        for number, identity in enumerate(self.identities):
+        for number, (identity, host) in enumerate(zip(self.identities, self.hosts)):
             (subsystem / f"nvme{number}").mkdir()
             (self.devices / f"nvme{number}").touch()
             write_files(self.classes("nvme") / f"nvme{number}", {
                 "address": f"0000:{number + 1:02x}:00.0", "cntlid": identity.cntlid, "cntrltype": "io",
                 "dctype": "none", "firmware_rev": text_of(identity.firmware), "model": text_of(identity.model),
                 "numa_node": -1, "queue_count": 2, "serial": text_of(identity.serial),
-                "sqsize": queues.QUEUE_ENTRIES - 1, "state": "live", "subsysnqn": identity.subsystem,
+                "sqsize": host.queue_entries - 1, "state": "live", "subsysnqn": identity.subsystem,
                 "transport": "pcie",
             })
 

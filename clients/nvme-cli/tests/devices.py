@@ -4,10 +4,14 @@ import random
 import signal
 import sys
 import time
+from typing import List
 
-from support import LONGEST_SECONDS, Bench, Fault, check_is, children_of, server_of, view_of, wait_until
+from support import CONFIG, LONGEST_SECONDS, Bench, Fault, check_is, children_of, server_of, view_of, wait_until
 
-CLIENT_TRIALS = ("files", "admin", "queues", "attachment", "blocks", "pointers", "reservations", "others")
+CLIENT_TRIALS = ("files", "admin", "queues", "unread", "attachment", "blocks", "pointers", "reservations", "others")
+# No request of a driver says queues; what else none says is tried in their place.
+DRIVER_TRIALS = ("files", "admin", "unsaid", "unread", "attachment", "blocks", "pointers", "reservations")
+DRIVERS = ["--drivers"]
 
 # Says what is wrong to the server in each way, in the lab: nothing, a part, too much, no sense, and no wish to hear.
 ROUGH = r"""
@@ -54,9 +58,25 @@ def commands(bench: Bench) -> None:
             bench.try_client(name)
 
 
+def requests(bench: Bench) -> None:
+    """The same by requests of drivers: of both hosts, and of one beside a raw host. Who joins need not ask for them."""
+    mixed = bench.place / "mixed.nvme"
+    mixed.write_text(CONFIG.read_text().replace("host 0xb2", "host 0xb2 raw"))
+    for config in (CONFIG, mixed):
+        with bench.held(DRIVERS, config):
+            for name in DRIVER_TRIALS:
+                bench.try_client(name, "driver", config=config)
+
+
 def several(bench: Bench) -> None:
-    """Two hosts' processes and a third, each in a shell of its own, on one namespace at once."""
-    running = [bench.begin([bench.client, "hammer", device, first, "25"], options) for device, first, options in (
+    """Processes of two hosts and a third, each in a shell of its own, on one namespace at once."""
+    for drivers in ([], DRIVERS):
+        hammered_at_once(bench, drivers)
+
+
+def hammered_at_once(bench: Bench, drivers: List[str]) -> None:
+    running = [bench.begin([bench.client, "hammer", device, first, "25"], [*drivers, *options])
+               for device, first, options in (
         ("/dev/nvme0n1", "0", ["--host", "0xa1"]), ("/dev/nvme0n1", "300", ["--host", "0xb2"]),
         ("/dev/nvme1n1", "600", []))]
     for process in running:
@@ -104,4 +124,4 @@ def killed_server(bench: Bench) -> None:
     pulled(bench, lambda server: os.kill(server, signal.SIGTERM))
 
 
-TRIALS = (commands, several, killed_clients, killed_server)
+TRIALS = (commands, requests, several, killed_clients, killed_server)

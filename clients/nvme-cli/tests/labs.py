@@ -38,22 +38,29 @@ def shells(bench: Bench) -> None:
 
 def images(bench: Bench) -> None:
     """An image keeps the blocks; a script of all that happened runs again, and ends as the lab did."""
+    for drivers in ([], ["--drivers"]):
+        kept_and_run_again(bench, drivers)
+    small = bench.place / "small"
+    small.write_bytes(bytes(512))
+    expect_fault(bench, ["--image", str(small)], "refused line 9: DoesNotFit", whole=False)
+
+
+def kept_and_run_again(bench: Bench, drivers: "list[str]") -> None:
     image, again, script = (bench.place / name for name in ("image", "again", "script.nvme"))
     for each in (image, again):
         with open(each, "wb") as file:
             file.truncate((2048 + 64) * 512)
-    options = ["--image", str(image), "--script", str(script)]
+    options = [*drivers, "--image", str(image), "--script", str(script)]
     done = bench.run([bench.client, "hammer", "/dev/nvme0n1", "0", "3"], options)
     check_is(f"the end of a lab with an image, with {done.errors!r},", done.status, 0)
     bench.wait_over()
     if not any(image.read_bytes()):
         raise Fault("nothing has come to the image")
+    is_driver = "\nup 1\n" in script.read_text()
+    check_is("whether drivers have done it", is_driver, bool(drivers))
     done = bench.run_words([bench.program, str(again), str(script)])
     check_is(f"the end of the script, with {done.errors!r},", done.status, 0)
     check_is("whether the script leaves the same image", again.read_bytes() == image.read_bytes(), True)
-    small = bench.place / "small"
-    small.write_bytes(bytes(512))
-    expect_fault(bench, ["--image", str(small)], "refused line 9: DoesNotFit", whole=False)
 
 
 def undisturbed(bench: Bench) -> None:
@@ -108,7 +115,7 @@ def faults(bench: Bench) -> None:
 
 
 def changed(bench: Bench, config: Path) -> None:
-    """A second lab of a CONFIG that has changed, or with another image, does not join the first."""
+    """A second lab of a CONFIG that has changed, with another image, or with drivers, does not join the first."""
     config.write_text("controller 1 host 1\nnamespace 1 blocks 8 shared\nattached 1 1\n")
     inner = " ".join(bench.words([], ["true"], config))
     done = bench.run(["sh", "-c", f"{inner} && echo '# more' >>{config} && {inner}"], config=config)
@@ -118,6 +125,10 @@ def changed(bench: Bench, config: Path) -> None:
     done = bench.run(["sh", "-c", inner], config=config)
     check_is("another image", (done.status, done.errors),
              (125, f"lab: the lab of {config} runs already, without --image {config}\n"))
+    inner = " ".join(bench.words(["--drivers"], ["true"], config))
+    done = bench.run(["sh", "-c", inner], config=config)
+    check_is("drivers, where there are none", (done.status, done.errors),
+             (125, f"lab: the lab of {config} runs already, without --drivers\n"))
 
 
 def without_compiler(bench: Bench) -> None:

@@ -13,6 +13,13 @@ STATUS = re.compile(r"NVMe status: ([^:(]*)")
 PROMPT = re.compile(r"^(a1|b2)\$ (.*)$")
 HOSTS = {"a1": "0xa1", "b2": "0xb2"}
 END = "end of what was typed"
+# Commands that no request of a driver says, by words of their lines, and what nvme-cli then says of them.
+UNSAID = (
+    (("--feature-id=7", "--feature-id=0x81", "--save"), "NVMe status: Invalid Field in Command: A reserved coded value "
+     "or an unsupported value in a defined field(0x2)"),
+    (("admin-passthru",), "NVMe status: Invalid Command Opcode: A reserved coded value or an unsupported value in the "
+     "command opcode field(0x1)"),
+)
 
 
 def version_of_tool() -> Optional[Tuple[int, int]]:
@@ -42,9 +49,10 @@ def read_session(text: str) -> Iterator[Tuple[str, str, List[str]]]:
 class Shells:
     """A shell for each host, all in one lab."""
 
-    def __init__(self, bench: Bench) -> None:
+    def __init__(self, bench: Bench, options: List[str]) -> None:
         self.shells: Dict[str, "subprocess.Popen[str]"] = {
-            name: bench.begin(["sh", "-c", "exec sh 2>&1"], ["--host", host]) for name, host in HOSTS.items()}
+            name: bench.begin(["sh", "-c", "exec sh 2>&1"], [*options, "--host", host])
+            for name, host in HOSTS.items()}
 
     def type(self, name: str, line: str) -> List[str]:
         """Types a line, and gives what comes back."""
@@ -68,11 +76,20 @@ def statuses(lines: List[str]) -> List[str]:
     return [found[1].strip() for line in lines for found in STATUS.finditer(line)]
 
 
-def run_session(bench: Bench, name: str) -> None:
-    shells = Shells(bench)
+def of_drivers(line: str, wanted: List[str]) -> List[str]:
+    """What comes back of a line where hosts have drivers."""
+    for words, said in UNSAID:
+        if any(it in line.split() for it in words):
+            return [said]
+    return wanted
+
+
+def run_session(bench: Bench, name: str, has_drivers: bool = False) -> None:
+    shells = Shells(bench, ["--drivers"] if has_drivers else [])
     try:
         for who, line, wanted in read_session((HERE / name).read_text()):
             found = shells.type(who, line)
+            wanted = of_drivers(line, wanted) if has_drivers else wanted
             if version_of_tool() != LEAST_VERSION:
                 found, wanted = statuses(found), statuses(wanted)
             check_is(f"{name}: `{line}` in the shell of {who}", found, wanted)
@@ -82,13 +99,15 @@ def run_session(bench: Bench, name: str) -> None:
 
 
 def fencing(bench: Bench) -> None:
-    """A preempted host's write is refused, by nvme-cli alone."""
+    """A preempted host's write is refused, by nvme-cli alone: of raw hosts, and of hosts with drivers."""
     run_session(bench, "fencing.session")
+    run_session(bench, "fencing.session", has_drivers=True)
 
 
 def tour(bench: Bench) -> None:
-    """Each command of nvme-cli that the lab answers, and some that the subsystem does not have."""
+    """Each command of nvme-cli that the lab answers, and some that the subsystem or its drivers do not have."""
     run_session(bench, "tour.session")
+    run_session(bench, "tour.session", has_drivers=True)
 
 
 TRIALS = (fencing, tour)

@@ -65,21 +65,22 @@ class Bench:
                               cwd=self.place, env=self.environment, timeout=LONGEST_SECONDS)
         return Ended(done.returncode, done.stdout, done.stderr)
 
-    def try_client(self, *words: str, options: Optional[List[str]] = None) -> None:
+    def try_client(self, *words: str, options: Optional[List[str]] = None, config: Path = CONFIG) -> None:
         """Runs the client in a lab, where it has to find everything as it must be."""
-        done = self.run([self.client, *words], options)
+        done = self.run([self.client, *words], options, config)
         if done.status != 0:
             raise Fault(f"client {' '.join(words)} ended with {done.status}: {done.errors.strip()}")
 
-    def begin(self, command: List[str], options: Optional[List[str]] = None) -> "subprocess.Popen[str]":
+    def begin(self, command: List[str], options: Optional[List[str]] = None,
+              config: Path = CONFIG) -> "subprocess.Popen[str]":
         """Begins a command in a lab, with pipes for all its streams."""
-        return subprocess.Popen(self.words(options or [], command), cwd=self.place, env=self.environment, text=True,
-                                stdin=subprocess.PIPE, stdout=subprocess.PIPE, stderr=subprocess.PIPE)
+        return subprocess.Popen(self.words(options or [], command, config), cwd=self.place, env=self.environment,
+                                text=True, stdin=subprocess.PIPE, stdout=subprocess.PIPE, stderr=subprocess.PIPE)
 
     @contextmanager
-    def held(self) -> Iterator[None]:
+    def held(self, options: Optional[List[str]] = None, config: Path = CONFIG) -> Iterator[None]:
         """Keeps one lab meanwhile, so that those who join it need not begin one."""
-        shell = self.begin(["sh", "-c", "echo begun; cat"])
+        shell = self.begin(["sh", "-c", "echo begun; cat"], options, config)
         check_is("the word of a lab that is kept", shell.stdout.readline(), "begun\n")
         try:
             yield

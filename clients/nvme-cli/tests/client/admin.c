@@ -33,38 +33,47 @@ static void try_identify(int fd) {
     free(room - 3);
 }
 
-static void try_features(int fd, int namespace) {
+// The features of a controller, which no request of a driver says.
+static void try_controller_features(int fd) {
     uint8_t *room = room_at(PAGE, 0);
-    CHECK_IS(admin(fd, GET_FEATURES, 0, 7, 0, NULL, 0), SUCCESS);
-    CHECK_IS(result, 0x30003);
-    CHECK_IS(admin(fd, SET_FEATURES, 0, 7, 0x30003, NULL, 0), SEQUENCE);
-    CHECK_IS(admin(fd, GET_FEATURES, 0, 0x81, 0, room, PAGE), SUCCESS);
-    CHECK_IS(number_at(room, 8), 0xa1);
+    CHECK_IS(admin(fd, GET_FEATURES, 0, 7, 0, NULL, 0), of_raw(SUCCESS));
+    CHECK_IS(result, has_driver ? 0 : 0x30003);
+    CHECK_IS(admin(fd, SET_FEATURES, 0, 7, 0x30003, NULL, 0), of_raw(SEQUENCE));
+    CHECK_IS(admin(fd, GET_FEATURES, 0, 0x81, 0, room, PAGE), of_raw(SUCCESS));
+    CHECK_IS(number_at(room, 8), has_driver ? 0xa5a5a5a5a5a5a5a5 : 0xa1);
     CHECK_IS(room[8], 0xa5);
-    CHECK_IS(admin(fd, GET_FEATURES, 0, 0x81, 0, room, 8), SUCCESS);
+    CHECK_IS(admin(fd, GET_FEATURES, 0, 0x81, 0, room, 8), of_raw(SUCCESS));
     CHECK_IS(admin(fd, GET_FEATURES, 0, 6, 0, NULL, 0), INVALID_FIELD);
-    CHECK_IS(admin(namespace, SET_FEATURES, 1, 0x80000084, 1, NULL, 0), NOT_SAVEABLE);
+    free(room);
+}
+
+static void try_protection(int namespace) {
+    uint8_t *room = room_at(PAGE, 0);
+    CHECK_IS(admin(namespace, SET_FEATURES, 1, 0x80000084, 1, NULL, 0), of_raw(NOT_SAVEABLE));
     CHECK_IS(admin(namespace, SET_FEATURES, 1, 0x84, 1, NULL, 0), SUCCESS);
     CHECK_IS(admin(namespace, GET_FEATURES, 1, 0x84, 0, NULL, 0), SUCCESS);
     CHECK_IS(result, 1);
     CHECK_IS(on_blocks(namespace, WRITE, 0, 1, room), PROTECTED);
     CHECK_IS(admin(namespace, SET_FEATURES, 1, 0x84, 0, NULL, 0), SUCCESS);
     CHECK_IS(on_blocks(namespace, WRITE, 0, 1, room), SUCCESS);
+    CHECK_IS(admin(namespace, SET_FEATURES, 1, 0x84, 7, NULL, 0), INVALID_FIELD);
+    CHECK_IS(admin(namespace, GET_FEATURES, 9, 0x84, 0, NULL, 0), INVALID_NAMESPACE);
     free(room);
 }
 
 void try_admin(void) {
     int fd = open_device("/dev/nvme0"), namespace = open_device("/dev/nvme0n1");
     try_identify(fd);
-    try_features(fd, namespace);
+    try_controller_features(fd);
+    try_protection(namespace);
     CHECK_IS(admin(fd, 0x02, UINT32_MAX, 0, 0, NULL, 0), INVALID_OPCODE);
     CHECK_IS(admin(fd, 0x0d, 1, 0, 0, NULL, 0), INVALID_OPCODE);
     struct nvme_passthru_cmd fused = {.opcode = GET_FEATURES, .flags = 1, .cdw10 = 7};
     CHECK_IS(ioctl(fd, NVME_IOCTL_ADMIN_CMD, &fused), INVALID_FIELD);
 #ifdef NVME_IOCTL_ADMIN64_CMD
     struct nvme_passthru_cmd64 wide = {.opcode = GET_FEATURES, .cdw10 = 7, .result = UINT64_MAX};
-    CHECK_IS(ioctl(fd, NVME_IOCTL_ADMIN64_CMD, &wide), SUCCESS);
-    CHECK_IS(wide.result, 0x30003);
+    CHECK_IS(ioctl(fd, NVME_IOCTL_ADMIN64_CMD, &wide), of_raw(SUCCESS));
+    CHECK_IS(wide.result, has_driver ? 0 : 0x30003);
 #endif
     CHECK_IS(ioctl(namespace, NVME_IOCTL_ID), 1);
     CHECK_FAILS(ioctl(fd, NVME_IOCTL_ID), ENOTTY);

@@ -153,5 +153,7 @@ void try_pointers(void) {
         .metadata_len = 8};
     CHECK_FAILS(ioctl(fd, NVME_IOCTL_IO_CMD, &command), EINVAL);
     free(room);
-    try_hostile(fd, controller);
+    if (!has_driver) {
+        try_hostile(fd, controller);
+    }
 }

@@ -24,9 +24,9 @@ enum {
 // Statuses: the type in bits 10 to 8, the code below.
 enum {
     SUCCESS = 0, INVALID_OPCODE = 0x01, INVALID_FIELD = 0x02, DATA_TRANSFER = 0x04, INVALID_NAMESPACE = 0x0b,
-    SEQUENCE = 0x0c, PROTECTED = 0x20, OUT_OF_RANGE = 0x80, CONFLICT = 0x83, NO_CQ = 0x100, INVALID_QUEUE = 0x101,
-    INVALID_DELETION = 0x10c, NOT_SAVEABLE = 0x10d, ALREADY_ATTACHED = 0x118, IS_PRIVATE = 0x119, NOT_ATTACHED = 0x11a,
-    MISCOMPARE = 0x285,
+    SEQUENCE = 0x0c, INCONSISTENT_FORMAT = 0x18, PROTECTED = 0x20, OUT_OF_RANGE = 0x80, CONFLICT = 0x83,
+    NO_CQ = 0x100, INVALID_QUEUE = 0x101, INVALID_DELETION = 0x10c, NOT_SAVEABLE = 0x10d,
+    ALREADY_ATTACHED = 0x118, IS_PRIVATE = 0x119, NOT_ATTACHED = 0x11a, MISCOMPARE = 0x285,
 };
 
 #define CHECK(it)                                                                                                      \
@@ -42,6 +42,11 @@ enum {
 void fail(const char *file, int line, const char *what);
 void check_is(const char *file, int line, const char *what, long long found, long long wanted);
 void check_fails(const char *file, int line, const char *what, int found, int why);
+
+// Whether the hosts have drivers, whose requests say fewer commands than a raw host can spell.
+extern bool has_driver;
+// The status of a command that no request says because of a field, where there are drivers; else this one.
+int of_raw(int status);
 
 int open_device(const char *name);
 void fill(uint8_t *at, size_t length, unsigned seed);
@@ -64,6 +69,8 @@ void try_attachment(void);
 void try_blocks(void);
 void try_pointers(void);
 void try_reservations(void);
+void try_unsaid(void);
+void try_unread(void);
 void try_files(void);
 void try_others(void);
 void hammer(const char *device, unsigned first, unsigned rounds);

@@ -1,4 +1,4 @@
-// client WHAT ..: tries one thing, or hammers a device.
+// client WHAT [driver]: tries one thing, of raw hosts or of those with drivers; or hammers a device, or waits at one.
 #include "client.h"
 
 #include <string.h>
@@ -24,7 +24,8 @@ static const struct {
     void (*what)(void);
 } trials[] = {
     {"admin", try_admin}, {"queues", try_queues}, {"attachment", try_attachment}, {"blocks", try_blocks},
-    {"pointers", try_pointers}, {"reservations", try_reservations}, {"files", try_files}, {"others", try_others},
+    {"pointers", try_pointers}, {"reservations", try_reservations}, {"unsaid", try_unsaid}, {"unread", try_unread},
+    {"files", try_files}, {"others", try_others},
 };
 
 // `gone DEVICE SECONDS`: opens a device, waits for a byte, and says what a command then comes to.
@@ -39,7 +40,8 @@ static int tell_gone(const char *device) {
 }
 
 int main(int count, char **words) {
-    for (size_t i = 0; count == 2 && i < sizeof trials / sizeof *trials; i++) {
+    has_driver = count == 3 && strcmp(words[2], "driver") == 0;
+    for (size_t i = 0; (count == 2 || has_driver) && i < sizeof trials / sizeof *trials; i++) {
         if (strcmp(words[1], trials[i].name) == 0) {
             trials[i].what();
             return 0;

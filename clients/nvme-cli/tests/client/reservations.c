@@ -49,7 +49,7 @@ void try_reservations(void) {
     CHECK_IS(report[26], 1);
     CHECK_IS(number_at(report + 32, 8), 0xb2);
     CHECK_IS(number_at(report + 40, 8), 0xb);
-    CHECK_IS(io(a, REPORT, 1, PAGE / 4 - 1, 1, 0, report, PAGE), 0x18);
+    CHECK_IS(io(a, REPORT, 1, PAGE / 4 - 1, 1, 0, report, PAGE), of_raw(INCONSISTENT_FORMAT));
     CHECK_IS(with_keys(b, RELEASE, 2 << 8, 0xb, 0), INVALID_FIELD);
     CHECK_IS(with_keys(b, RELEASE, 1 << 8, 0xb, 0), SUCCESS);
     CHECK_IS(on_blocks(a, WRITE, 7, 1, block), SUCCESS);

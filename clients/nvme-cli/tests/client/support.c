@@ -7,6 +7,11 @@
 #include <sys/ioctl.h>
 
 uint32_t result;
+bool has_driver;
+
+int of_raw(int status) {
+    return has_driver ? INVALID_FIELD : status;
+}
 
 void fail(const char *file, int line, const char *what) {
     fprintf(stderr, "%s:%d: not so: %s (errno %d, %s)\n", file, line, what, errno, strerror(errno));
