@@ -8,12 +8,12 @@ import struct
 from typing import Callable, Dict, List
 
 from nvmelab import entries
+from nvmelab.configuration import BLOCK_BYTES
 from nvmelab.entries import Command
 from nvmelab.host import Data
 from nvmelab.queues import MOST_DATA, PAGE
 
 INVALID_OPCODE, INVALID_FIELD, DATA_TRANSFER_ERROR = 0x01, 0x02, 0x04
-BLOCK_BYTES = 512
 ATTACH, DETACH = 0, 1
 
 Maker = Callable[[Command, Data], List[object]]
