@@ -10,7 +10,7 @@ from typing import Callable, List, Optional, Sequence
 
 from .errors import NvmesimError
 from .explain import explain
-from .explore import Plan, Shard, Statistics, explore
+from .explore import Medium, Plan, Shard, Statistics, explore
 from .explore.dask import explore_on_dask
 from .explore.expressions import Expression
 from .explore.outcomes import Findings
@@ -80,6 +80,8 @@ def _add_explore(parser: argparse.ArgumentParser) -> None:
     parser.add_argument("--always", action="append", default=[], metavar="EXPR", help="must hold of every order")
     parser.add_argument("--never", action="append", default=[], metavar="EXPR", help="must hold of no order")
     parser.add_argument("--counterexample", metavar="FILE", help="write the first counterexample there, as a script")
+    parser.add_argument("--image", metavar="IMAGE", help="each run begins with a copy of this image, which is never "
+                        "written; without it, with zeros in memory")
     parser.add_argument("--jobs", type=int, default=min(4, os.cpu_count() or 1), metavar="N", help="runs at once")
     parser.add_argument("--shard", metavar="K/N", help="explore the K-th of N parts, and print JSON lines")
     parser.add_argument("--merge", nargs="+", metavar="FILE", help="join what --shard printed; no script is wanted")
@@ -134,6 +136,8 @@ def _explore(words: argparse.Namespace) -> int:
         raise NvmesimError("explore wants a SCRIPT, or --merge and files")
     if words.jobs < 1 or words.shards < 1:
         raise NvmesimError("--jobs and --shards are 1 at least")
+    if words.merge is not None and words.image is not None:
+        raise NvmesimError("--image stands where parts are explored, and not at their --merge")
     if words.merge is not None:
         plan, found = merge([Path(it).read_text(encoding="utf-8").splitlines() for it in words.merge])
         return _report(words, plan, _checks(words, plan), found)
@@ -143,13 +147,16 @@ def _explore(words: argparse.Namespace) -> int:
         if checks or words.dask is not None:
             raise NvmesimError("--shard prints what --merge judges: give --always and --never there")
         shard = Shard.parse(words.shard)
-        for line in json_lines(plan, shard, _found(words, plan, shard)):
+        with Medium(words.image) as medium:
+            found = _found(words, plan, shard, medium)
+        for line in json_lines(plan, shard, found, medium.digest):
             print(line)
         return 0
     if words.dask is not None:
-        found = explore_on_dask(plan, words.dask, words.shards, words.program, words.seconds)
+        found = explore_on_dask(plan, words.dask, words.shards, words.program, words.seconds, words.image)
     else:
-        found = _found(words, plan, Shard(1, 1))
+        with Medium(words.image) as medium:
+            found = _found(words, plan, Shard(1, 1), medium)
     return _report(words, plan, checks, found)
 
 
@@ -160,7 +167,7 @@ def _checks(words: argparse.Namespace, plan: Plan) -> List[Check]:
             for texts, is_wanted in ((words.always, True), (words.never, False)) for text in texts]
 
 
-def _found(words: argparse.Namespace, plan: Plan, shard: Shard) -> Findings:
+def _found(words: argparse.Namespace, plan: Plan, shard: Shard, medium: Medium) -> Findings:
     """Explores here, and shows on a terminal how far it is."""
     begun, shown = time.monotonic(), [0.0]
     last = Statistics()
@@ -173,7 +180,7 @@ def _found(words: argparse.Namespace, plan: Plan, shard: Shard) -> Findings:
             shown[0] = now
             print(f"\r{_told(statistics)}, {now - begun:.1f} seconds ", end="", file=sys.stderr, flush=True)
 
-    found = explore(plan, words.program, shard.prefixes(plan), words.jobs, words.seconds, report)
+    found = explore(plan, words.program, shard.prefixes(plan), words.jobs, words.seconds, report, medium)
     if is_terminal:
         print("\r\033[K", end="", file=sys.stderr, flush=True)
     if words.statistics:

@@ -1,5 +1,5 @@
 #!/usr/bin/env python3
-"""A stand-in for nvmelive, in Python: hosts with drivers, one medium in memory, the lines that the client's tests send.
+"""A stand-in for nvmelive, in Python: hosts with drivers, one medium, the lines that the client's tests send.
 
 It lets the client be tested where the program is not built. The examples' transcripts judge it (test_standin.py), and
 nothing is claimed of it beyond them: raw hosts, identify and lists of controllers are answered `!`.
@@ -8,7 +8,7 @@ from __future__ import annotations
 
 import sys
 from dataclasses import dataclass, field
-from typing import Dict, List, Optional, Tuple
+from typing import BinaryIO, Dict, List, Optional, Tuple
 
 BLOCK = 512
 RING, SLOTS = 7, 24
@@ -27,6 +27,7 @@ def number(word: str) -> int:
 @dataclass
 class Namespace:
     blocks: int
+    first: int = 0
     data: Dict[int, bytes] = field(default_factory=dict)
     keys: Dict[int, int] = field(default_factory=dict)
     rtype: int = 0
@@ -91,7 +92,8 @@ class Side:
 
 
 class World:
-    def __init__(self) -> None:
+    def __init__(self, image: Optional[BinaryIO] = None) -> None:
+        self.image = image
         self.sides: Dict[int, Side] = {}
         self.spaces: Dict[int, Namespace] = {}
         self.attached: List[Tuple[int, int]] = []
@@ -118,7 +120,8 @@ class World:
         if words[0] == "controller" and len(words) == 4:
             self.sides[number(words[1])] = Side(number(words[3]))
         elif words[0] == "namespace":
-            self.spaces[number(words[1])] = Namespace(number(words[3]))
+            first = sum(it.blocks for it in self.spaces.values())
+            self.spaces[number(words[1])] = Namespace(number(words[3]), first)
         elif words[0] == "attached":
             self.attached.append((number(words[1]), number(words[2])))
         else:
@@ -275,7 +278,7 @@ class World:
 
     def on_blocks(self, verb: str, words: List[str], space: Namespace) -> Tuple[str, str]:
         slba, count = number(words[3]), number(words[4])
-        old = b"".join(space.data.get(slba + n, bytes(BLOCK)) for n in range(count))
+        old = b"".join(self.block(space, slba + n) for n in range(count))
         if verb == "read":
             return "0:00", "00000000 " + spelled(old)
         new = bytes(BLOCK * count) if verb == "zeroes" else self.bytes_of(words[5], BLOCK * count)
@@ -283,7 +286,16 @@ class World:
             return ("0:00" if old == new else "2:85"), "00000000"
         for n in range(count):
             space.data[slba + n] = new[BLOCK * n:BLOCK * (n + 1)]
+        if self.image is not None:
+            self.image.seek(BLOCK * (space.first + slba))
+            self.image.write(new)
         return "0:00", "00000000"
+
+    def block(self, space: Namespace, place: int) -> bytes:
+        if place not in space.data and self.image is not None:
+            self.image.seek(BLOCK * (space.first + place))
+            space.data[place] = self.image.read(BLOCK)
+        return space.data.get(place, bytes(BLOCK))
 
     @staticmethod
     def bytes_of(word: str, size: int) -> bytes:
@@ -383,7 +395,7 @@ class World:
             return " ".join((head, f"type {space.rtype} holder {who} generation {space.generation} persists "
                              f"{int(space.persists)} protected {space.protection}", *parts))
         if word == "blocks":
-            data = b"".join(space.data.get(numbers[1] + n, bytes(BLOCK)) for n in range(numbers[2]))
+            data = b"".join(self.block(space, numbers[1] + n) for n in range(numbers[2]))
             return f"{head} {spelled(data).split()[1]}"
         raise ValueError(word)
 
@@ -404,7 +416,7 @@ def spelled(data: bytes) -> str:
 
 
 def main() -> int:
-    world = World()
+    world = World(open(sys.argv[1], "r+b", buffering=0) if sys.argv[1:] not in ([], ["-"]) else None)
     for line in sys.stdin:
         world.count += 1
         answer = world.answer(line.rstrip("\n"))

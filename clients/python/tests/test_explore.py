@@ -336,7 +336,7 @@ class ProgramTest(FolderCase):
                 return futures
 
         plan = Plan(SMALL)
-        found = explore_on_dask(plan, "tcp://nowhere:1", 2, str(PROGRAM), 10.0, Cluster())
+        found = explore_on_dask(plan, "tcp://nowhere:1", 2, str(PROGRAM), 10.0, client=Cluster())
         self.assertEqual(found, walk_of(plan).explore())
         self.assertEqual(joined([explore_shard(SMALL, Shard(n, 2), PROGRAM) for n in (1, 2)]), found)
 

@@ -6,6 +6,7 @@ from typing import Callable, Optional, Sequence
 
 from ..process import PathLike, find_program
 from ..session import SECONDS
+from .medium import Medium
 from .outcomes import Findings
 from .plan import Order, Plan
 from .runs import Runner
@@ -13,11 +14,12 @@ from .shards import Shard
 from .states import Looks
 from .walk import Statistics, Walk
 
-__all__ = ["Plan", "Shard", "Statistics", "explore", "explore_shard"]
+__all__ = ["Medium", "Plan", "Shard", "Statistics", "explore", "explore_shard"]
 
 
 def explore(plan: Plan, program: Optional[PathLike] = None, prefixes: Sequence[Order] = ((),), jobs: int = 1,
-            seconds: float = SECONDS, report: Callable[[Statistics], None] = lambda statistics: None) -> Findings:
+            seconds: float = SECONDS, report: Callable[[Statistics], None] = lambda statistics: None,
+            medium: Optional[Medium] = None) -> Findings:
     """What the orders of a plan come to.
 
     Args:
@@ -27,13 +29,14 @@ def explore(plan: Plan, program: Optional[PathLike] = None, prefixes: Sequence[O
         jobs: so many runs of the program at once.
         seconds: the time limit of each answer.
         report: is told what was done, while it goes on.
+        medium: what each run begins with; None for 1,024 blocks of zeros in memory.
     """
     found: Path = find_program(program)
-    return Walk(Runner(plan, Looks(plan), found, seconds), prefixes, jobs, report).explore()
+    return Walk(Runner(plan, Looks(plan), found, seconds, medium), prefixes, jobs, report).explore()
 
 
 def explore_shard(text: str, shard: Shard, program: Optional[PathLike] = None, jobs: int = 1,
-                  seconds: float = SECONDS) -> Findings:
+                  seconds: float = SECONDS, medium: Optional[Medium] = None) -> Findings:
     """What the orders of one part of a script's exploration come to; for workers that get the script as a text."""
     plan = Plan(text)
-    return explore(plan, program, shard.prefixes(plan), jobs, seconds)
+    return explore(plan, program, shard.prefixes(plan), jobs, seconds, medium=medium)

@@ -5,6 +5,7 @@ from typing import Any, Callable, List, Optional
 
 from ..errors import NvmesimError
 from . import Shard, explore_shard
+from .medium import Medium, MediumError
 from .outcomes import Findings, joined
 from .plan import Plan
 
@@ -23,7 +24,7 @@ def _connect(address: str) -> Any:
 
 
 def explore_on_dask(plan: Plan, address: str, shards: int, program: Optional[str], seconds: float,
-                    client: Any = None) -> Findings:
+                    image: Optional[str] = None, client: Any = None) -> Findings:
     """Explores in parts, each a task of the cluster whose scheduler has this address.
 
     Args:
@@ -32,15 +33,21 @@ def explore_on_dask(plan: Plan, address: str, shards: int, program: Optional[str
         shards: so many parts.
         program: the program `nvmelive` as the workers find it, or None for what they find themselves.
         seconds: the time limit of each answer.
+        image: the image, which the workers find where it lies here; None for zeros in memory.
         client: a client of the cluster, if there is one.
     """
     whole = client if client is not None else _connect(address)
     parts = [Shard(number, shards) for number in range(1, shards + 1)]
-    futures: List[Any] = whole.map(_task, [(plan.text, it, program, seconds) for it in parts])
+    with Medium(image) as medium:
+        digest = medium.digest
+    futures: List[Any] = whole.map(_task, [(plan.text, it, program, seconds, image, digest) for it in parts])
     return joined(whole.gather(futures))
 
 
 def _task(given: Any) -> Findings:
     """One part, on a worker."""
-    text, shard, program, seconds = given
-    return explore_shard(text, shard, program, 1, seconds)
+    text, shard, program, seconds, image, digest = given
+    with Medium(image) as medium:
+        if medium.digest != digest:
+            raise MediumError(f"{image} has other bytes on a worker than where the exploration began")
+        return explore_shard(text, shard, program, 1, seconds, medium)

@@ -1,12 +1,13 @@
-"""Runs one order: a fresh subsystem, the events in this order, and looking lines behind those that are new."""
+"""Runs one order: a fresh subsystem and medium, the events in this order, and looking lines behind the new ones."""
 from __future__ import annotations
 
 from dataclasses import dataclass
 from pathlib import Path
-from typing import Dict, List, Tuple
+from typing import Dict, List, Optional, Tuple
 
 from ..errors import ConfigurationRefused, ProtocolError, ScriptError
 from ..process import Process
+from .medium import Medium
 from .outcomes import in_one_form
 from .plan import Order, Plan
 from .states import Looks
@@ -42,9 +43,11 @@ class Run:
 class Runner:
     """Runs orders of a plan, each in a process of its own, so that several can be run at once."""
 
-    def __init__(self, plan: Plan, looks: Looks, program: Path, seconds: float) -> None:
-        """Takes the program `nvmelive`, and the time limit of an answer."""
+    def __init__(self, plan: Plan, looks: Looks, program: Path, seconds: float,
+                 medium: Optional[Medium] = None) -> None:
+        """Takes the program `nvmelive`, the time limit of an answer, and the medium; None for zeros in memory."""
         self.plan, self.looks, self.program, self.seconds = plan, looks, program, seconds
+        self.medium = medium or Medium()
 
     def run(self, order: Order, known: int) -> Run:
         """Runs a whole order; looking lines are asked behind its events from the one at place `known` on.
@@ -75,15 +78,16 @@ class Runner:
 
     def _answers(self, setup: List[str], lines: List[str]) -> List[str]:
         """The answers of these lines, of a fresh subsystem. The setup is judged before the rest is sent."""
-        process = Process([self.program, "-"], self.seconds)
-        try:
-            first = process.exchange(setup)
-            self._check(setup, first)
-            if any(it not in _HEADS for it in first):
-                raise ProtocolError(f"the description was answered {first!r}")
-            answers = process.exchange(lines)
-        finally:
-            process.abandon()
+        with self.medium.of_a_run() as image:
+            process = Process([self.program, image], self.seconds)
+            try:
+                first = process.exchange(setup)
+                self._check(setup, first)
+                if any(it not in _HEADS for it in first):
+                    raise ProtocolError(f"the description was answered {first!r}")
+                answers = process.exchange(lines)
+            finally:
+                process.abandon()
         self._check(lines, answers)
         return [*first, *answers]
 

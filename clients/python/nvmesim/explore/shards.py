@@ -56,11 +56,15 @@ def digest_of(plan: Plan) -> str:
     return hashlib.sha256(plan.text.encode("utf-8")).hexdigest()
 
 
-def json_lines(plan: Plan, shard: Shard, found: Findings) -> Iterator[str]:
-    """What a part found: a line that says which part of what it is, and a line for each outcome."""
+def json_lines(plan: Plan, shard: Shard, found: Findings, image: str = "") -> Iterator[str]:
+    """What a part found: a line that says which part of what it is, and a line for each outcome.
+
+    Args:
+        image: the digest of the image that its runs began with; an empty text for zeros in memory.
+    """
     count = sum(it.count for it in found.values())
-    yield json.dumps({"explore": VERSION, "script": plan.text, "digest": digest_of(plan), "shard": shard.number,
-                      "shards": shard.count, "orders": count})
+    yield json.dumps({"explore": VERSION, "script": plan.text, "digest": digest_of(plan), "image": image,
+                      "shard": shard.number, "shards": shard.count, "orders": count})
     for outcome, ways in found.items():
         yield json.dumps({"answers": dict(outcome.labels), "last": list(outcome.last), "orders": ways.count,
                           "changes": ways.changes, "order": list(ways.order)})
@@ -87,7 +91,7 @@ def merge(parts: Sequence[Iterable[str]]) -> Tuple[Plan, Findings]:
             heads.append(json.loads(head))
             found.append(dict(map(_finding, rest)))
             told = sum(it.count for it in found[-1].values())
-            if heads[-1]["explore"] != VERSION or heads[-1]["orders"] != told:
+            if heads[-1]["explore"] != VERSION or heads[-1]["orders"] != told or "image" not in heads[-1]:
                 raise ShardError("a part is not whole, or of another version of this program")
         except (ValueError, KeyError, TypeError, AttributeError):
             raise ShardError("a file is not what explore --shard writes") from None
@@ -104,7 +108,7 @@ def _check(heads: Sequence[Dict[str, Any]]) -> None:
     """Refuses parts of different explorations, and parts that lack or stand there twice."""
     if not heads:
         raise ShardError("there are no parts to join")
-    if len({(it["digest"], it["shards"]) for it in heads}) > 1:
+    if len({(it["digest"], it["image"], it["shards"]) for it in heads}) > 1:
         raise ShardError("these are parts of different explorations")
     numbers = sorted(it["shard"] for it in heads)
     count = heads[0]["shards"]
