@@ -7,6 +7,7 @@ import os
 import re
 import subprocess
 import sys
+import tempfile
 import textwrap
 import unittest
 from typing import List
@@ -41,6 +42,16 @@ class DocumentsTest(unittest.TestCase):
         self.assertEqual(shown, told.getvalue().strip("\n"))
         marked = next(it for it in blocks_of("docs/EXPLORE.md") if it.startswith("# host a"))
         self.assertIn(marked, RACE.read_text(encoding="utf-8"))
+
+    def test_the_example_over_an_image(self) -> None:
+        code = next(it for it in blocks_of("docs/EXPLORE.md") if it.startswith("truncate"))
+        environment = {**os.environ, "NVMELIVE": str(PROGRAMS[-1]), "PYTHONPATH": str(PACKAGE)}
+        with tempfile.TemporaryDirectory() as room:
+            os.symlink(RACE.parent, os.path.join(room, "examples"))
+            done = subprocess.run(["bash", "-ec", code], capture_output=True, text=True, env=environment, cwd=room,
+                                  timeout=60)
+        self.assertEqual((done.returncode, done.stderr), (0, ""))
+        self.assertEqual(done.stdout.count("block 1:0   512 bytes, 48656c6c6f 'Hello'"), 2)
 
     def test_every_option_is_told(self) -> None:
         text = (TOP / "docs" / "EXPLORE.md").read_text(encoding="utf-8")
