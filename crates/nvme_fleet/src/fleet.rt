@@ -270,6 +270,8 @@ impl<M: Medium> Fleet<M> {
     /// One event: the step of the fleet of mailboxes, and exactly these events of the subsystem. One that is refused,
     /// or finds nothing to do, leaves both layers as they were. An execution makes the calls of the medium that its
     /// command makes, and no other event makes any.
+    // Inlined, so that what an event gave, which has room for an execution's outcome, is not moved once more.
+    #[inline(always)]
     pub fn apply(&mut self, event: FleetEvent<'_>) -> FleetSeen
         ensures step { Step M.tells (fleet_of self.old.state) event.entry
             (record { seen = result; bytes = data_in self.new.state }) (fleet_of self.new.state) }
