@@ -1,7 +1,9 @@
 -- A text taken apart at its first line feed.
-use Rattle.std.proofs.Common.{◌≡◌, ℕ, suc, ◌+◌, List, [], ◌∷◌, length, take, drop, true, false, Bool, refl, arith}
+use Rattle.std.proofs.Common.{◌≡◌, ℕ, suc, ◌+◌, List, [], ◌∷◌, length, take, drop, get_or, not, true, false, Bool, refl, sym, ap, arith}
 use Rattle.std.specs.Prelude.{◌==◌}
 use Rattle.std.specs.List.{prefix_len}
+use Rattle.std.proofs.lemmas.List.Sums.{prefix_len_is}
+use Rattle.memchr.specs.Find.{Nowhere, NoneBefore, Passes, is_byte}
 use Rattle.script_text.specs.Lines.{text_lines, is_of_line}
 
 -- the lines behind a line feed, where one stands there
@@ -24,3 +26,20 @@ first_line (b ∷ text) = by (b == 10) refl (first_line text)
         → text_lines (b ∷ text) ≡ take (prefix_len is_of_line (b ∷ text)) (b ∷ text) ∷ lines_behind (drop (prefix_len is_of_line (b ∷ text)) (b ∷ text))
     by true e rest = rw e refl
     by false e rest = rw (e, rest, one-more (prefix_len is_of_line text)) refl
+
+-- a line ends where the first line feed stands, and where none stands with its text
+other : (b : ℕ) → ((b == 10) ≡ true → ⊥) → is_of_line b ≡ true
+other b h = by (b == 10) h
+  where
+    by : (t : Bool) → (t ≡ true → ⊥) → not t ≡ true
+    by true k = absurd (k refl)
+    by false k = refl
+
+pub line-found : (text : List ℕ) (place : ℕ) → NoneBefore (Passes (is_byte 10) text) 0 (length text) place × Passes (is_byte 10) text place
+    → place ≡ prefix_len is_of_line text
+line-found text place h =
+    sym (prefix_len_is is_of_line text place 0 (omega (arith, h.0.high)) (λ k l. other (get_or text k 0) (h.0.before k (omega arith) l)) (λ l. ap not h.1))
+
+pub line-not_found : (text : List ℕ) → Nowhere (Passes (is_byte 10) text) 0 (length text) → length text ≡ prefix_len is_of_line text
+line-not_found text h =
+    sym (prefix_len_is is_of_line text (length text) 0 (omega arith) (λ k l. other (get_or text k 0) (h k (omega arith) l)) (λ l. absurd (omega (arith, l))))

@@ -5,6 +5,7 @@ ghost use Rattle.std.specs.Prelude.{◌≡◌, ◌^◌, ◌≤◌};
 ghost use Rattle.script_text.specs.Numbers.{numeral, below, number_at};
 
 /// The number that digits of a base spell, where it fits 64 bits.
+#[inline(always)]
 fn numeral_of(digits: &[u8], base: u32) -> Option<u64>
     requires low { 2 ≤ base }
     requires high { base ≤ 16 }

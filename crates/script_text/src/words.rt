@@ -10,6 +10,7 @@ use arrayvec::ArrayVec;
 pub const MOST_WORDS: usize = 8;
 
 /// Whether a byte stands between words: a space, a tab or a carriage return, and no other.
+#[inline(always)]
 fn is_separator_byte(byte: u8) -> bool
     ensures { result ≡ is_separator byte }
 {
@@ -17,6 +18,7 @@ fn is_separator_byte(byte: u8) -> bool
 }
 
 /// Whether a byte may stand in a word: a visible character.
+#[inline(always)]
 fn is_visible_byte(byte: u8) -> bool
     ensures { result ≡ is_visible byte }
 {
@@ -33,6 +35,7 @@ pub fn text_len(line: &[u8]) -> usize
 }
 
 /// What is left of a line behind the separators at its front.
+#[inline(always)]
 pub fn behind_separators(line: &[u8]) -> &[u8]
     ensures exact { result.now ≡ behind_separators line.now }
     ensures words { line_words result.now ≡ line_words line.now }
@@ -51,6 +54,7 @@ pub fn behind_separators(line: &[u8]) -> &[u8]
 }
 
 /// How many bytes at the front of a line may stand in a word.
+#[inline(always)]
 fn word_len(line: &[u8]) -> usize
     ensures { result ≡ prefix_len is_visible line.now }
 {
@@ -68,6 +72,7 @@ pub struct FirstWord<'a> {
 
 /// The first word of a line that begins with no separator. `None` where the word is empty, or a byte ends it that
 /// neither stands between words nor may stand in one.
+#[inline(always)]
 pub fn first_word(line: &[u8]) -> Option<FirstWord<'_>>
     requires apart { starts_apart line.now ≡ true }
     requires some { 0 < length line.now }
