@@ -5,6 +5,7 @@ mod LongLines
 pub mod OnLiterals
 pub mod ReadingLemmas
 mod ScriptLemmas
+mod BriefLemmas
 mod FaultLemmas
 mod TieLemmas
 mod TieKeywords

@@ -1,4 +1,5 @@
 pub mod Arity
+pub mod Brief
 pub mod Lent
 pub mod Requests
 pub mod Events

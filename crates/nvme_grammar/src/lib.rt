@@ -2,6 +2,7 @@
 //! fleet that it asks for.
 #![tactic(auto)]
 
+mod brief;
 mod buffers;
 mod configuration;
 mod event;

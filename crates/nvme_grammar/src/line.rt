@@ -1,6 +1,6 @@
 //! What one line of a script says.
 
-ghost use Rattle.std.specs.Prelude.{◌≡◌, ◌<◌, ◌+◌, ◌*◌, ◌≤◌, ◌++◌, true, None, length, map, option_map, if◌then◌else◌};
+ghost use Rattle.std.specs.Prelude.{◌≡◌, ◌<◌, ◌+◌, ◌*◌, ◌≤◌, ◌++◌, true, false, None, length, map, option_map, if◌then◌else◌};
 ghost use Rattle.std.specs.List.{AllByRecursion};
 ghost use Rattle.nvme_spec.specs.Limits.{most_bytes};
 ghost use Rattle.script_text.specs.Words.{most_words, starts_apart, is_line_text, line_words};
@@ -9,6 +9,7 @@ ghost use Rattle.nvme_grammar.specs.Line.{sentence, is_comment, line_at};
 ghost use Rattle.nvme_grammar.specs.Room.{HasBytesRoom};
 ghost use Rattle.nvme_grammar.specs.Lists.{long_line};
 
+use super::brief::event_in_brief;
 use super::configuration::{attached_of, controller_of, namespace_of, start_of};
 use super::event::{event_of, list_event_of};
 use super::identifiers::long_list_of;
@@ -86,6 +87,24 @@ pub fn is_comment_line(line: &[u8]) -> bool
     line.first() == Some(&b'#')
 }
 
+/// What a line that is no comment says, by way of a table of its words.
+#[inline(never)]
+#[tactic(auto, unfolding(crate::specs::Line::line_at))]
+fn parse_words<'a>(line: &[u8], bytes: &'a mut [u8], identifiers: &'a mut [u16]) -> Option<Line<'a>>
+    requires comment { is_comment line.now ≡ false }
+    requires bytes_room { HasBytesRoom line.now bytes.old }
+    requires identifiers_room { most_words line.now ≤ length identifiers.old }
+    ensures line { option_map line_by_value result ≡ line_at line.now }
+{
+    let front = words_of(line)?;
+    let words = front.words.as_slice();
+    if front.rest.is_empty() {
+        sentence_of(words, bytes, identifiers)
+    } else {
+        long_sentence_of(words, front.rest, identifiers)
+    }
+}
+
 /// What a line says, without the line feed that ends it: `None` where it is outside the grammar. The bytes and the
 /// identifiers of an event are put into these buffers, and the line's answer borrows them.
 #[tactic(auto, unfolding(crate::specs::Line::line_at))]
@@ -98,14 +117,14 @@ pub fn parse_line<'a>(
     requires identifiers_room { most_words line.now ≤ length identifiers.old }
     ensures line { option_map line_by_value result ≡ line_at line.now }
 {
+    if line.is_empty() {
+        return Some(Line::Blank);
+    }
     if is_comment_line(line) {
         return Some(Line::Blank);
     }
-    let front = words_of(line)?;
-    let words = front.words.as_slice();
-    if front.rest.is_empty() {
-        sentence_of(words, bytes, identifiers)
-    } else {
-        long_sentence_of(words, front.rest, identifiers)
+    if let Some(brief) = event_in_brief(line) {
+        return Some(Line::Event(brief.event()));
     }
+    parse_words(line, bytes, identifiers)
 }
