@@ -1,16 +1,12 @@
 -- Lines that begin a script, and one more.
-use Rattle.std.proofs.Common.{◌≡◌, ℕ, suc, ◌+◌, ◌<◌, Bool, true, false, List, [], ◌∷◌, ◌++◌, length, take, drop, get_or, Option, Some, None, refl, sym, ap, ◌∙◌, subst, append_assoc, take-append-drop, arith, inl, inr, Bor}
-use Rattle.std.specs.Prelude.{◌&&◌}
-use Rattle.std.specs.Iterator.{Yields}
-use Rattle.std.proofs.lemmas.Iterator.{YieldsList}
-use Rattle.std.proofs.lemmas.Iterator.Consumers.{YieldsList-turn, YieldsList-end}
-use Rattle.std.specs.List.{filter_map, list_all, enumerate_from}
+use Rattle.std.proofs.Common.{◌≡◌, ℕ, suc, ◌+◌, ◌<◌, Bool, true, false, List, [], ◌∷◌, ◌++◌, length, take, drop, get_or, take_all, length-drop, Option, Some, None, refl, sym, ap, ◌∙◌, subst, append_assoc, take-append-drop, arith, inl, inr, Bor}
+use Rattle.std.specs.Prelude.{◌≤◌, ◌&&◌, IfSome}
+use Rattle.std.specs.List.{filter_map, list_all}
 use Rattle.std.specs.Option.{is_some}
 use Rattle.std.proofs.lemmas.Bool.{false≢true, cases_lt}
-use Rattle.std.proofs.lemmas.List.{append-nil, take_more, take-take, length-take-le}
+use Rattle.std.proofs.lemmas.List.{append-nil, take_more, drop_more, take-take, length-take-le}
 use Rattle.std.proofs.lemmas.List.Elements.{filter_map-append}
 use Rattle.std.proofs.lemmas.List.Folds.{list_all-append}
-use Rattle.std.proofs.lemmas.List.FromFn.{length-enumerate_from, get_or-enumerate_from}
 use Rattle.nvme_grammar.specs.Line.{line_at}
 use Rattle.nvme_grammar.specs.Script.{Begins, ArePlaced, IsFirstOutside, said, fits_behind}
 use Rattle.nvme_grammar.specs.declared.line.Line.{Line}
@@ -97,27 +93,26 @@ module _ (raw : List (List ℕ)) (i : ℕ) (bytes : List ℕ) (below : i < lengt
   pub said-next : (line : Line) → line_at bytes ≡ Some line → said (take (i + 1) raw) ≡ said (take i raw) ++ line ∷ []
   said-next line e = ap said next_line ∙ said-push (take i raw) bytes line e
 
--- an element and its place among all of them
-enumerated : (raw : List (List ℕ)) (i n : ℕ) (bytes : List ℕ) → i < length (enumerate_from 0 raw) → (n, bytes) ≡ get_or (enumerate_from 0 raw) i (n, bytes)
-    → (i < length raw) × (n ≡ i) × (bytes ≡ get_or raw i bytes)
-enumerated raw i n bytes below e =
-    let inside : i < length raw = rw (length-enumerate_from 0 raw) at below in
-    let both : (n, bytes) ≡ (0 + i, get_or raw i bytes) = e ∙ get_or-enumerate_from 0 raw i (n, bytes) inside in
-    (inside, from_zero n i (ap (λ p. p.0) both), ap (λ p. p.1) both)
-  where
-    from_zero : (n i : ℕ) → n ≡ 0 + i → n ≡ i
-    from_zero n i h = omega (arith, h)
+-- the text behind some lines, where there is one, is no longer than what the lines leave
+abbrev pub lines_length : Option (Bor (List ℕ)) → ℕ
+lines_length None = 0
+lines_length (Some rest) = length rest.now + 1
 
--- the lines of a text as a loop meets them: each with its place, and at the end all of them
-module _ {S : Type 0} {steps : S → Option (ℕ × Bor (List ℕ)) → S → Type 0} {s : S} (raw : List (List ℕ)) (xs : List (ℕ × Bor (List ℕ))) (t : S) (y : Yields steps s xs t) (r : Option (ℕ × Bor (List ℕ))) (u : S) where
-  pub line_turn : (x : ℕ × Bor (List ℕ)) → r ≡ Some x → steps t r u → YieldsList steps (λ p. (p.0, p.1.now)) s (enumerate_from 0 raw)
-      → (length xs < length raw) × (x.0 ≡ length xs) × (x.1.now ≡ get_or raw (length xs) x.1.now)
-  line_turn x e step road =
-      let turn = YieldsList-turn road xs t y r u x e step in
-      enumerated raw (length xs) x.0 x.1.now turn.0 turn.1
+pub lines_shorter : (rest : Option (Bor (List ℕ))) (n : ℕ) → IfSome rest (λ r. length r.now < n) → lines_length rest ≤ n
+lines_shorter None n h = omega arith
+lines_shorter (Some r) n h = omega (arith, h)
 
-  pub line_end : r ≡ None → steps t r u → YieldsList steps (λ p. (p.0, p.1.now)) s (enumerate_from 0 raw) → length xs ≡ length raw
-  line_end e step road = (YieldsList-end road xs t y r u e step).1 ∙ length-enumerate_from 0 raw
+-- the line at a place, and the lines behind it
+pub line_here : (raw : List (List ℕ)) (i : ℕ) (line : List ℕ) (behind : List (List ℕ)) → drop i raw ≡ line ∷ behind
+    → (i < length raw) × (line ≡ get_or raw i line) × (drop (i + 1) raw ≡ behind)
+line_here raw i line behind h =
+    let below : i < length raw = omega (arith, ap length h, length-drop i raw) in
+    let both : line ∷ behind ≡ get_or raw i line ∷ drop (i + 1) raw = sym h ∙ drop_more raw i line below in
+    (below, ap (λ l. get_or l 0 line) both, sym (ap (λ l. drop 1 l) both))
+
+-- where no line is left, all were read
+pub all_read : (raw : List (List ℕ)) (i : ℕ) → [] ≡ drop i raw → take i raw ≡ raw
+all_read raw i h = take_all i raw (omega (arith, ap length h, length-drop i raw))
 
 -- the lines so far say one thing each
 pub length-said-taken : (raw : List (List ℕ)) (i : ℕ) → i < length raw → AllBegin i raw → length (said (take i raw)) ≡ i

@@ -12,6 +12,7 @@ ghost use Rattle.nvme_grammar.specs.declared.script.ParseFault.TheVariants.{NoMe
 
 use super::line::{Line, parse_line};
 use nvme_spec::Config;
+use script_text::front_line;
 use std::alloc::{AllocError, Global};
 
 /// What a script sets up. Its events stay in its text: whoever runs them parses the lines behind `start` again, one
@@ -122,15 +123,19 @@ pub fn parse(
     ensures fault { IfErr result (λ fault. IsParseFault (text_lines text.now) fault) }
 {
     let mut script = Script::new(alloc);
-    for (index, line) in text.split(|byte| *byte == b'\n').enumerate() {
-        let number = index + 1;
+    let mut before = 0;
+    let mut rest = Some(text);
+    while let Some(lines) = rest {
+        let (line, behind) = front_line(lines);
         let Some(line) = parse_line(line, bytes, identifiers) else {
-            return Err(ParseFault::Syntax(number));
+            return Err(ParseFault::Syntax(before + 1));
         };
         if !script.allows(&line) {
-            return Err(ParseFault::Syntax(number));
+            return Err(ParseFault::Syntax(before + 1));
         }
-        script.add(number, line)?;
+        before += 1;
+        script.add(before, line)?;
+        rest = behind;
     }
     Ok(script.finished())
 }

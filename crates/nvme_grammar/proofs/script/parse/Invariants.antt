@@ -1,17 +1,18 @@
-use Rattle.std.proofs.Common.{take, length}
-use Rattle.std.specs.List.{enumerate_from}
-use Rattle.std.proofs.lemmas.Iterator.{YieldsList}
-use Rattle.script_text.specs.Lines.{text_lines}
+use Rattle.std.proofs.Common.{◌≡◌, ◌+◌, ◌≤◌, drop, length, take}
+use Rattle.script_text.specs.Lines.{text_lines, lines_left}
+use Rattle.nvme_grammar.specs.Room.{HasBytesRoom}
 use Rattle.nvme_grammar.specs.Script.{said}
 use Rattle.nvme_grammar.specs.Reading.{Reads}
-use Rattle.nvme_grammar.proofs.ScriptLemmas.{AllBegin}
+use Rattle.nvme_grammar.proofs.ScriptLemmas.{AllBegin, lines_length}
 use Rattle.nvme_grammar.proofs.script.parse.Given as goal
 
-abbrev pub invariant-loop-index : goal.invariant-loop-index
-invariant-loop-index l = record {
-  can : (goal.iterator-loop-index).can_next l.index-iterator;
-  finite : (goal.iterator-loop-index).is_finite l.index-iterator;
-  lines : YieldsList (goal.iterator-loop-index).next_gives (λ p. (p.0, p.1.now)) l.initial.index-iterator (enumerate_from 0 (text_lines l.text));
-  begun : AllBegin (length l.yielded) (text_lines l.text);
-  read : Reads l.script (said (take (length l.yielded) (text_lines l.text)));
+abbrev pub invariant-loop-rest : goal.invariant-loop-rest
+invariant-loop-rest l = record {
+  left : lines_left l.rest ≡ drop l.before (text_lines l.text);
+  begun : AllBegin l.before (text_lines l.text);
+  read : Reads l.script (said (take l.before (text_lines l.text)));
+  within : l.before + lines_length l.rest ≤ length l.text + 1;
 }
+
+abbrev pub decreases-loop-rest : goal.decreases-loop-rest
+decreases-loop-rest l = lines_length l.rest
