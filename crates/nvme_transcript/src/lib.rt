@@ -4,6 +4,7 @@
 
 mod examples;
 mod line;
+mod short;
 mod writing;
 
 pub use line::TranscriptLine;

@@ -7,6 +7,7 @@ ghost use Rattle.nvme_transcript.specs.Transcript.{seen_line};
 ghost use Rattle.nvme_transcript.specs.Writing.{WritesLine};
 
 use crate::line::TranscriptLine;
+use crate::short::{Short, put_line};
 use script_text::{Sink, write_whole};
 use std::fmt::Write as _;
 use std::io;
@@ -31,6 +32,11 @@ pub fn write_line<W: Sink>(
         (Cuts (W.contents writer.old) (W.contents writer.new)
         (seen_line line.now.event line.now.seen.now line.now.bytes.now)) }
 {
+    let mut short = Short::new();
+    if put_line(&mut short, line) {
+        short.push_str("\n");
+        return write_whole(writer, short.as_str().as_bytes());
+    }
     text.clear();
     if writeln!(text, "{line}").is_err() {
         return Err(io::Error::from(ErrorKind::OutOfMemory));

@@ -1,0 +1,186 @@
+//! Lines of the transcript that are put together by hand, as most are: a formatter takes several times as long.
+
+ghost use Rattle.std.specs.Prelude.{◌≡◌, ◌+◌, ◌≤◌, ◌++◌, [], true, length, codes, decimal, IsTrue};
+ghost use Rattle.arrayvec.specs.ArrayString.{array_string_len};
+ghost use Rattle.nvme_wire.specs.StatusNames.{status_text};
+ghost use Rattle.nvme_transcript.specs.Transcript.{answer_text, event_text, executed_text, fetched_text, polled_text, subject_text};
+
+use crate::line::TranscriptLine;
+use arrayvec::ArrayString;
+use itoa::Buffer;
+use nvme_driver::{Answer, PollFault};
+use nvme_event::{FleetEvent, FleetSeen};
+use nvme_machine::{Executed, Fetched};
+use nvme_wire::Status;
+
+/// How many bytes a line has at most that is put together by hand, and a few more.
+const ROOM: usize = 96;
+
+/// A line, or its front.
+pub type Short = ArrayString<ROOM>;
+
+/// Appends a number of at most 16 bits.
+#[inline(always)]
+fn put_u16(text: &mut Short, number: u16)
+    requires room { array_string_len text.old + 5 ≤ 96 }
+    ensures bytes { text.new.bytes ≡ text.old.bytes ++ decimal number }
+    ensures short { array_string_len text.new ≤ array_string_len text.old + 5 }
+{
+    let mut buffer = Buffer::new();
+    text.push_str(buffer.format(number));
+}
+
+/// Appends a number of at most 64 bits.
+#[inline(always)]
+fn put_u64(text: &mut Short, number: u64)
+    requires room { array_string_len text.old + 20 ≤ 96 }
+    ensures bytes { text.new.bytes ≡ text.old.bytes ++ decimal number }
+    ensures short { array_string_len text.new ≤ array_string_len text.old + 20 }
+{
+    let mut buffer = Buffer::new();
+    text.push_str(buffer.format(number));
+}
+
+/// Appends the controller of an event, with the queue of a fetch or the place of an execution.
+#[inline(always)]
+fn put_subject(text: &mut Short, event: &FleetEvent<'_>)
+    requires room { array_string_len text.old + 26 ≤ 96 }
+    ensures bytes { text.new.bytes ≡ text.old.bytes ++ subject_text event.now }
+    ensures short { array_string_len text.new ≤ array_string_len text.old + 26 }
+{
+    put_u16(text, event.cntlid());
+    match event {
+        FleetEvent::Fetch(_, qid) => {
+            text.push_str(" ");
+            put_u16(text, *qid);
+        }
+        FleetEvent::Execute(_, i) => {
+            text.push_str(" ");
+            put_u64(text, *i as u64);
+        }
+        _ => {}
+    }
+}
+
+/// Whether a status is that of success, as most are.
+#[inline(always)]
+fn is_success(status: Status) -> bool
+    ensures { IsTrue result → status_text status ≡ codes "0:00" }
+{
+    status.sct == 0 && status.sc == 0
+}
+
+/// Appends what came of an execution, where its status is that of success; else nothing.
+#[inline(always)]
+fn put_executed(text: &mut Short, executed: &Executed) -> bool
+    requires room { array_string_len text.old + 20 ≤ 96 }
+    ensures bytes { IsTrue result → text.new.bytes ≡ text.old.bytes ++ executed_text executed.now }
+    ensures short { array_string_len text.new ≤ array_string_len text.old + 20 }
+{
+    match executed {
+        Executed::Posted(outcome) => {
+            if !is_success(outcome.status) {
+                return false;
+            }
+            text.push_str("posted 0:00 ");
+            put_u16(text, u16::from(outcome.rule));
+        }
+        Executed::NoSuch => text.push_str("none"),
+        Executed::CqFull => text.push_str("full"),
+    }
+    true
+}
+
+/// Appends an answer that is handed up, where it is of success, and without data; else nothing.
+#[inline(always)]
+fn put_answer(text: &mut Short, answer: &Answer, bytes: &[u8]) -> bool
+    requires room { array_string_len text.old + 40 ≤ 96 }
+    ensures bytes { IsTrue result → text.new.bytes ≡ text.old.bytes ++ answer_text answer.now bytes.now }
+    ensures short { array_string_len text.new ≤ array_string_len text.old + 40 }
+{
+    match answer {
+        Answer::Done {
+            ticket,
+            status,
+            dw0,
+            ..
+        } => {
+            if !is_success(*status) || *dw0 != 0 || !bytes.is_empty() {
+                return false;
+            }
+            put_u64(text, ticket.0);
+            text.push_str(" 0:00 00000000");
+            true
+        }
+        Answer::Aborted { .. } => false,
+    }
+}
+
+/// Appends what a poll handed up, where that is nothing or an answer as above; else nothing.
+#[inline(always)]
+fn put_polled(text: &mut Short, polled: &Result<Option<Answer>, PollFault>, bytes: &[u8]) -> bool
+    requires room { array_string_len text.old + 40 ≤ 96 }
+    ensures bytes { IsTrue result → text.new.bytes ≡ text.old.bytes ++ polled_text polled.now bytes.now }
+    ensures short { array_string_len text.new ≤ array_string_len text.old + 40 }
+{
+    match polled {
+        Ok(None) => {
+            text.push_str("nothing");
+            true
+        }
+        Ok(Some(answer)) => put_answer(text, answer, bytes),
+        Err(_) => false,
+    }
+}
+
+/// Appends a word and the space behind it, and a controller.
+#[inline(always)]
+fn put_named(text: &mut Short, word: &str, cntlid: u16)
+    requires room { array_string_len text.old + length word.now + 5 ≤ 96 }
+    ensures bytes { text.new.bytes ≡ text.old.bytes ++ word.now ++ decimal cntlid }
+    ensures short { array_string_len text.new ≤ array_string_len text.old + length word.now + 5 }
+{
+    text.push_str(word);
+    put_u16(text, cntlid);
+}
+
+/// Puts a line together, and tells whether it did: it is one of those that a running script mostly has.
+#[inline(always)]
+pub fn put_line(text: &mut Short, line: &TranscriptLine<'_>) -> bool
+    requires empty { text.old.bytes ≡ [] }
+    ensures bytes { IsTrue result → text.new.bytes ≡ event_text line.now.event line.now.seen.now line.now.bytes.now }
+    ensures short { array_string_len text.new ≤ 95 }
+{
+    let cntlid = line.event.cntlid();
+    match line.seen {
+        FleetSeen::Placed(Ok(ticket)) => {
+            put_named(text, "placed ", cntlid);
+            text.push_str(" ");
+            put_u64(text, ticket.0);
+        }
+        FleetSeen::Rung(Ok(())) => put_named(text, "rung ", cntlid),
+        FleetSeen::Fetched(fetched) => {
+            text.push_str("fetch ");
+            put_subject(text, &line.event);
+            text.push_str(match fetched {
+                Fetched::Took => " took",
+                Fetched::Idle => " idle",
+            });
+        }
+        FleetSeen::Executed(executed) => {
+            text.push_str("execute ");
+            put_subject(text, &line.event);
+            text.push_str(" ");
+            return put_executed(text, executed);
+        }
+        FleetSeen::Polled(polled) => {
+            put_named(text, "poll ", cntlid);
+            text.push_str(" ");
+            return put_polled(text, polled, line.bytes);
+        }
+        FleetSeen::Reset => put_named(text, "reset ", cntlid),
+        FleetSeen::Stored => put_named(text, "stored ", cntlid),
+        _ => return false,
+    }
+    true
+}
