@@ -9,4 +9,4 @@ mod run;
 
 pub use configuration::{BrokenRule, ConfigReason, SetupLine};
 pub use program::{Failure, Paths, image_at, paths_of, run_program, scratch};
-pub use run::{ScriptFault, run_events, run_script};
+pub use run::{ScriptFault, run_events, run_script, run_text};

@@ -9,7 +9,7 @@ ghost use Rattle.nvme_medium.specs.declared.host.FileFault.TheVariants.{NoMemory
 
 use crate::configuration::ConfigReason;
 use crate::reason::Reason;
-use crate::run::{ScriptFault, run_script};
+use crate::run::{ScriptFault, run_text};
 use clap::error::ErrorKind;
 use clap::{Arg, ArgAction, Command};
 use nvme_grammar::{Buffers, fault_at, parse};
@@ -241,7 +241,7 @@ fn run_over<I: Read, O: Write, E: Write, M: Medium + Drop>(
         Ok(buffered) => buffered,
         Err(error) => return Err(told(errors, Failure::from(&error), None)),
     };
-    if let Err((fault, medium)) = run_script(alloc, &mut text.as_slice(), &mut buffered, medium) {
+    if let Err((fault, medium)) = run_text(alloc, text.as_slice(), &mut buffered, medium) {
         return Err(refused(alloc, errors, paths, &text, fault, medium.blocks()));
     }
     match buffered.flush() {

@@ -1,7 +1,7 @@
 //! A script from its text to its transcript.
 
 ghost use Rattle.std.specs.Prelude.{◌≡◌, ◌≤◌, ◌⊎◌, ◌∷◌, [], ℕ, List, IfOk, IfErr, OnOk, OnErr, Ok, length, vec_len};
-ghost use Rattle.script_text.specs.Reading.{IsRead};
+ghost use Rattle.script_text.specs.Reading.{IsRead, longest};
 ghost use Rattle.script_text.specs.Words.{most_words};
 ghost use Rattle.nvme_grammar.specs.Room.{HasBytesRoom};
 ghost use Rattle.nvme_fleet.specs.Fleets.{Run};
@@ -77,37 +77,28 @@ impl From<AllocError> for ScriptFault {
     }
 }
 
-/// A script that was read, and the room that its events work in: no memory is taken after its fleet is made.
+/// What a text says, and the room that its events work in: no memory is taken after its fleet is made.
 #[derive(Drop)]
 struct Ready {
-    text: Vec<u8>,
     script: Script,
     buffers: Buffers,
     /// One line of the transcript.
     line: String,
 }
 
-/// Reads a script, and makes the room that its events work in.
-fn prepare<R: Source>(alloc: Global, reader: &mut R) -> Result<Ready, ScriptFault>
-    ensures text { IfOk result (λ ready. IsRead R.step R.remaining reader.old (Ok ready.text.items) reader.new) }
-    ensures script { IfOk result (λ ready. IsReady ready.text.items ready.script) }
-    ensures bytes_room { IfOk result (λ ready. HasBytesRoom ready.text.items ready.buffers.bytes.items) }
-    ensures identifiers_room { IfOk result (λ ready. most_words ready.text.items ≤ vec_len ready.buffers.identifiers) }
-    ensures fault { IfErr result (λ fault. ReadsThen R.step R.remaining reader.old reader.new fault
-        (λ text. (size : ℕ) → IsEarlyFault fault text size)) }
+/// Judges a text, and makes the room that its events work in.
+fn prepare(alloc: Global, text: &[u8]) -> Result<Ready, ScriptFault>
+    requires short { length text.now ≤ longest }
+    ensures script { IfOk result (λ ready. IsReady text.now ready.script) }
+    ensures bytes_room { IfOk result (λ ready. HasBytesRoom text.now ready.buffers.bytes.items) }
+    ensures identifiers_room { IfOk result (λ ready. most_words text.now ≤ vec_len ready.buffers.identifiers) }
+    ensures fault { IfErr result (λ fault. (size : ℕ) → IsEarlyFault fault text.now size) }
     ensures early { IfErr result (λ fault. ¬ IsWrite fault) }
 {
-    let text = read_text(alloc, reader)?;
-    let mut buffers = Buffers::for_text(alloc, text.as_slice())?;
-    let script = parse(
-        alloc,
-        text.as_slice(),
-        &mut buffers.bytes,
-        &mut buffers.identifiers,
-    )?;
+    let mut buffers = Buffers::for_text(alloc, text)?;
+    let script = parse(alloc, text, &mut buffers.bytes, &mut buffers.identifiers)?;
     let line = String::with_capacity(alloc, LONGEST_LINE)?;
     Ok(Ready {
-        text,
         script,
         buffers,
         line,
@@ -190,26 +181,27 @@ pub fn run_events<W: Write, M: Medium>(
     Ok(())
 }
 
-/// Runs a script that was read: opens its configuration over the medium, and lets its events happen.
+/// Runs a script that was judged: opens its configuration over the medium, and lets its events happen.
 fn run_ready<W: Write, M: Medium>(
     alloc: Global,
+    text: &[u8],
     ready: &mut Ready,
     writer: &mut W,
     medium: M,
 ) -> Result<M, (ScriptFault, M)>
-    requires script { IsReady ready.old.text.items ready.old.script }
-    requires bytes_room { HasBytesRoom ready.old.text.items ready.old.buffers.bytes.items }
-    requires identifiers_room { most_words ready.old.text.items ≤ vec_len ready.old.buffers.identifiers }
-    ensures ok { IfOk result (λ after. IsScript ready.old.text.items (M.size medium)
-        × Runs M.tells ready.old.text.items (M.device medium) (M.device after) (W.contents writer.old)
+    requires script { IsReady text.now ready.old.script }
+    requires bytes_room { HasBytesRoom text.now ready.old.buffers.bytes.items }
+    requires identifiers_room { most_words text.now ≤ vec_len ready.old.buffers.identifiers }
+    ensures ok { IfOk result (λ after. IsScript text.now (M.size medium)
+        × Runs M.tells text.now (M.device medium) (M.device after) (W.contents writer.old)
         (W.contents writer.new)) }
     ensures fault { IfErr result (λ e.
-        IsFault M.tells e.0 ready.old.text.items (M.size medium) (M.device medium) (M.device e.1)
+        IsFault M.tells e.0 text.now (M.size medium) (M.device medium) (M.device e.1)
         (W.contents writer.old) (W.contents writer.new)) }
     ensures early { IfErr result (λ e. IsWrite e.0 ⊎ ((e.1 ≡ medium) × (writer.new ≡ writer.old))) }
-    ensures calls { IfOk result (λ after. RunsCalling M.step M.tells M.device ready.old.text.items medium after
+    ensures calls { IfOk result (λ after. RunsCalling M.step M.tells M.device text.now medium after
         (W.contents writer.old) (W.contents writer.new)) }
-    ensures stopped { IfErr result (λ e. IsWrite e.0 → StopsCalling M.step M.tells M.device ready.old.text.items medium
+    ensures stopped { IfErr result (λ e. IsWrite e.0 → StopsCalling M.step M.tells M.device text.now medium
         e.1 (W.contents writer.old) (W.contents writer.new)) }
 {
     let mut fleet = match Fleet::new(alloc, &ready.script.config, medium) {
@@ -219,7 +211,7 @@ fn run_ready<W: Write, M: Medium>(
         }
     };
     let outcome = run_events(
-        ready.text.as_slice(),
+        text,
         &mut fleet,
         &mut ready.buffers.bytes,
         &mut ready.buffers.identifiers,
@@ -229,6 +221,38 @@ fn run_ready<W: Write, M: Medium>(
     match outcome {
         Ok(()) => Ok(fleet.into_medium()),
         Err(_) => Err((ScriptFault::Write, fleet.into_medium())),
+    }
+}
+
+/// Runs a script whose text was read: opens its configuration over the medium, and lets its events happen in their
+/// order, each of which adds its line to the transcript. `run_script` reads the text too.
+///
+/// The text has at most 4,194,304 bytes. Faults are found in the order grammar (`Syntax`), configuration (`Config`),
+/// writing (`Write`). `NoMemory` may come at any point before the first event, and never later. What holds after each of
+/// them is what `run_script` says.
+pub fn run_text<W: Write, M: Medium>(
+    alloc: Global,
+    text: &[u8],
+    writer: &mut W,
+    medium: M,
+) -> Result<M, (ScriptFault, M)>
+    requires short { length text.now ≤ longest }
+    // The transcript is that of the text, the medium has what its events left, and the calls that were made of it are
+    // those of these events, and no other.
+    ensures ok { IfOk result (λ after. IsScript text.now (M.size medium)
+        × Runs M.tells text.now (M.device medium) (M.device after) (W.contents writer.old) (W.contents writer.new)
+        × RunsCalling M.step M.tells M.device text.now medium after (W.contents writer.old) (W.contents writer.new)) }
+    // What each fault says of the text.
+    ensures fault { IfErr result (λ e. IsFault M.tells e.0 text.now (M.size medium) (M.device medium) (M.device e.1)
+        (W.contents writer.old) (W.contents writer.new)
+        × (IsWrite e.0 → StopsCalling M.step M.tells M.device text.now medium e.1 (W.contents writer.old)
+        (W.contents writer.new))) }
+    // Each fault but one of the writer comes before the first event, and no call is made of the medium.
+    ensures early { IfErr result (λ e. IsWrite e.0 ⊎ ((e.1 ≡ medium) × (writer.new ≡ writer.old))) }
+{
+    match prepare(alloc, text) {
+        Ok(mut ready) => run_ready(alloc, text, &mut ready, writer, medium),
+        Err(fault) => Err((fault, medium)),
     }
 }
 
@@ -263,8 +287,8 @@ pub fn run_script<R: Source, W: Write, M: Medium>(
     // Each fault but one of the writer comes before the first event, and no call is made of the medium.
     ensures early { IfErr result (λ e. IsWrite e.0 ⊎ ((e.1 ≡ medium) × (writer.new ≡ writer.old))) }
 {
-    match prepare(alloc, reader) {
-        Ok(mut ready) => run_ready(alloc, &mut ready, writer, medium),
-        Err(fault) => Err((fault, medium)),
+    match read_text(alloc, reader) {
+        Ok(text) => run_text(alloc, text.as_slice(), writer, medium),
+        Err(fault) => Err((ScriptFault::from(fault), medium)),
     }
 }

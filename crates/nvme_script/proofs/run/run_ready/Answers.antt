@@ -7,7 +7,7 @@ use Rattle.nvme_script.proofs.run.run_ready.Goals as goal
 pub returns-in-Err-clause-fault : goal.returns-in-Err-clause-fault
 returns-in-Err-clause-fault g c =
     let ready = c.args.ready.now in
-    let text = ready.text.items in
+    let text = c.args.text.now in
     let size = g.M.Medium.size c.args.medium in
     let device = g.M.Medium.device c.args.medium in
     let left = g.M.Medium.device c.in-Err.field-0.medium in
@@ -20,30 +20,30 @@ returns-in-Err-clause-fault g c =
 pub returns-in-Ok-outcome-clause-ok : goal.returns-in-Ok-outcome-clause-ok
 returns-in-Ok-outcome-clause-ok g c =
     let ready = c.args.ready.now in
-    ran_whole g.M.Medium.tells ready.text.items (g.M.Medium.size c.args.medium) (g.M.Medium.device c.args.medium) (g.M.Medium.device c.into_medium.result)
+    ran_whole g.M.Medium.tells c.args.text.now (g.M.Medium.size c.args.medium) (g.M.Medium.device c.args.medium) (g.M.Medium.device c.into_medium.result)
     (g.W.Write.contents c.args.writer.now) (g.W.Write.contents c.run_events-outcome.new.writer) ready.script c.in-Ok.fleet.state c.run_events-outcome.new.fleet.state c.requires.script
-    c.in-Ok.ensures.accepted c.in-Ok.ensures.mailboxes c.into_medium.ensures.device (rw (c.as_slice.ensures.value) at c.in-Ok-outcome.ensures.ok)
+    c.in-Ok.ensures.accepted c.in-Ok.ensures.mailboxes c.into_medium.ensures.device c.in-Ok-outcome.ensures.ok
 
 pub returns-in-Err-outcome-clause-fault : goal.returns-in-Err-outcome-clause-fault
 returns-in-Err-outcome-clause-fault g c =
     let ready = c.args.ready.now in
-    ran_in_part g.M.Medium.tells ready.text.items (g.M.Medium.size c.args.medium) (g.M.Medium.device c.args.medium) (g.M.Medium.device c.into_medium-in-Err-outcome.result)
+    ran_in_part g.M.Medium.tells c.args.text.now (g.M.Medium.size c.args.medium) (g.M.Medium.device c.args.medium) (g.M.Medium.device c.into_medium-in-Err-outcome.result)
     (g.W.Write.contents c.args.writer.now) (g.W.Write.contents c.run_events-outcome.new.writer) ready.script c.in-Ok.fleet.state c.run_events-outcome.new.fleet.state c.requires.script
-    c.in-Ok.ensures.accepted c.in-Ok.ensures.mailboxes c.into_medium-in-Err-outcome.ensures.device (rw (c.as_slice.ensures.value) at c.in-Err-outcome.ensures.err)
+    c.in-Ok.ensures.accepted c.in-Ok.ensures.mailboxes c.into_medium-in-Err-outcome.ensures.device c.in-Err-outcome.ensures.err
 
 pub returns-in-Ok-outcome-clause-calls : goal.returns-in-Ok-outcome-clause-calls
 returns-in-Ok-outcome-clause-calls g c =
     let ready = c.args.ready.now in
-    called_whole g.M.Medium.step g.M.Medium.tells g.M.Medium.device ready.text.items c.args.medium c.into_medium.result
+    called_whole g.M.Medium.step g.M.Medium.tells g.M.Medium.device c.args.text.now c.args.medium c.into_medium.result
     (g.W.Write.contents c.args.writer.now) (g.W.Write.contents c.run_events-outcome.new.writer) ready.script c.in-Ok.fleet c.run_events-outcome.new.fleet c.requires.script
-    c.in-Ok.ensures.opened c.in-Ok.ensures.medium c.into_medium.ensures.medium (rw (c.as_slice.ensures.value) at c.in-Ok-outcome.ensures.calls)
+    c.in-Ok.ensures.opened c.in-Ok.ensures.medium c.into_medium.ensures.medium c.in-Ok-outcome.ensures.calls
 
 pub returns-in-Err-outcome-clause-stopped : goal.returns-in-Err-outcome-clause-stopped
 returns-in-Err-outcome-clause-stopped g c =
     let ready = c.args.ready.now in
-    λ write. called_in_part g.M.Medium.step g.M.Medium.tells g.M.Medium.device ready.text.items c.args.medium c.into_medium-in-Err-outcome.result
+    λ write. called_in_part g.M.Medium.step g.M.Medium.tells g.M.Medium.device c.args.text.now c.args.medium c.into_medium-in-Err-outcome.result
     (g.W.Write.contents c.args.writer.now) (g.W.Write.contents c.run_events-outcome.new.writer) ready.script c.in-Ok.fleet c.run_events-outcome.new.fleet c.requires.script
-    c.in-Ok.ensures.opened c.in-Ok.ensures.medium c.into_medium-in-Err-outcome.ensures.medium (rw (c.as_slice.ensures.value) at c.in-Err-outcome.ensures.stopped)
+    c.in-Ok.ensures.opened c.in-Ok.ensures.medium c.into_medium-in-Err-outcome.ensures.medium c.in-Err-outcome.ensures.stopped
 
 pub returns-in-Err-clause-stopped : goal.returns-in-Err-clause-stopped
 returns-in-Err-clause-stopped g c =
