@@ -1,59 +1,67 @@
 -- What a line is answered once the fleet is there, and what it leaves.
-use Rattle.std.specs.Prelude.{◌≡◌, Bool, ℕ, List, Option, codes}
+use Rattle.std.specs.Prelude.{◌≡◌, ◌*◌, ◌==◌, ◌||◌, nat_lt, Bool, ℕ, List, length, codes, Option, None, Some, Result, MatchResult, if◌then◌else◌}
 use Rattle.std.specs.Io.KnownBytes.{Appends}
 use Rattle.nvme_event.specs.declared.event.FleetEvent.{FleetEvent}
 use Rattle.nvme_event.specs.Replies.{Reply}
 use Rattle.nvme_fleet.specs.FleetStates.{Layers}
 use Rattle.nvme_fleet.specs.Layers.{Step}
 use Rattle.nvme_transcript.specs.Transcript.{line_of}
-use Rattle.nvme_spec.specs.Blocks.{Told}
+use Rattle.nvme_spec.specs.World.{namespace_of}
+use Rattle.nvme_spec.specs.declared.medium.MediumFault.{MediumFault}
+use Rattle.nvme_subsys.specs.Looking.{Reads, place_in}
 use Rattle.live_text.specs.Faults.{refusal}
-use Rattle.live_text.specs.declared.fault.Why.TheVariants.{BeforeStart}
+use Rattle.live_text.specs.declared.fault.Why.TheVariants.{BeforeStart, OutsideNamespace}
+use Rattle.live_text.specs.declared.looking.Looking.{Looking}
+use Rattle.live_text.specs.declared.looking.Looking.TheVariants as look
 use Rattle.nvme_live.specs.declared.asking.Asked.{Asked}
 use Rattle.nvme_live.specs.declared.asking.Asked.TheVariants.{Fails, Nothing, Looks, Sets, Does}
 use Rattle.nvme_live.specs.Saying.{Breaks, with_feed}
+use Rattle.nvme_live.specs.Showing.{shown_text, read_text}
 
--- An event happened, and the line of it and of what it gave was written.
-pub record Happened (tells : Bool) (old : Layers) (event : FleetEvent) (before after : Option (List ℕ))
-    (new : Layers) : Type 0 where
+-- An event happened, and it is answered by the line of it and of what it gave.
+pub record Happens (tells : Bool) (old : Layers) (event : FleetEvent) (answer : List ℕ) (new : Layers) : Type 0 where
   pub reply : Reply
   pub step : Step tells old event reply new
-  pub wrote : Appends before after (line_of event reply)
+  pub says : answer ≡ line_of event reply
 
--- An event happened, and its line was written in part.
-pub record Broke (tells : Bool) (old : Layers) (event : FleetEvent) (before after : Option (List ℕ))
-    (new : Layers) : Type 0 where
-  pub reply : Reply
-  pub step : Step tells old event reply new
-  pub wrote : Breaks before after (line_of event reply)
-
--- Nothing has changed but how often a call of the medium has failed.
-pub record Leaves (tells : Bool) (old new : Layers) : Type 0 where
+-- Blocks were looked at, from this one of the medium on: nothing has changed but how often a call of the medium has
+-- failed, where one has.
+pub record LooksAtBlocks (tells : Bool) (n m slba count first : ℕ) (old : Layers) (answer : List ℕ) (new : Layers)
+    : Type 0 where
+  pub bytes : List ℕ
+  pub result : Result (Unit {0}) MediumFault
+  pub whole : length bytes ≡ 512 * count
+  pub reads : Reads tells first old.subsystem bytes result new.subsystem
   pub drivers : new.drivers ≡ old.drivers
-  pub world : new.subsystem.world ≡ old.subsystem.world
-  pub controllers : new.subsystem.controllers ≡ old.subsystem.controllers
-  pub content : Told tells (new.subsystem.device.content ≡ old.subsystem.device.content)
+  pub says : answer ≡ with_feed (read_text n m slba count bytes result)
 
--- what a line leaves, whether its answer could be written or not; of an event `AnsweredBy` and `BrokenBy` say it
-abbrev pub LeftBy : Bool → Asked → Layers → Layers → Type 0
-LeftBy tells (Fails why) old new = new ≡ old
-LeftBy tells Nothing old new = new ≡ old
-LeftBy tells (Looks looking) old new = Leaves tells old new
-LeftBy tells (Sets line) old new = new ≡ old
-LeftBy tells (Does event) old new = Unit {0}
+-- A look at blocks, at this place of the medium, if they all lie in the namespace and are 1 to 256; else it is refused.
+abbrev pub ShowsBlocks : Option ℕ → Bool → ℕ → ℕ → ℕ → ℕ → Layers → List ℕ → Layers → Type 0
+ShowsBlocks None tells n m slba count old answer new =
+    (answer ≡ with_feed (refusal n OutsideNamespace)) × (new ≡ old)
+ShowsBlocks (Some first) tells n m slba count old answer new =
+    LooksAtBlocks tells n m slba count first old answer new
 
--- what the n-th line is answered
-abbrev pub AnsweredBy : Bool → ℕ → Asked → Layers → Option (List ℕ) → Option (List ℕ) → Layers → Type 0
-AnsweredBy tells n (Fails why) old before after new = Appends before after (with_feed (refusal n why))
-AnsweredBy tells n Nothing old before after new = Appends before after (with_feed (codes "ok"))
-AnsweredBy tells n (Looks looking) old before after new = Unit {0}
-AnsweredBy tells n (Sets line) old before after new = Appends before after (with_feed (refusal n BeforeStart))
-AnsweredBy tells n (Does event) old before after new = Happened tells old event before after new
+abbrev pub place_of : ℕ → ℕ → ℕ → Layers → Option ℕ
+place_of m slba count l =
+    if (count == 0) || nat_lt 256 count then None else place_in (namespace_of l.subsystem.world m) slba count
 
--- what it is where the writer failed
-abbrev pub BrokenBy : Bool → ℕ → Asked → Layers → Option (List ℕ) → Option (List ℕ) → Layers → Type 0
-BrokenBy tells n (Fails why) old before after new = Breaks before after (with_feed (refusal n why))
-BrokenBy tells n Nothing old before after new = Breaks before after (with_feed (codes "ok"))
-BrokenBy tells n (Looks looking) old before after new = Unit {0}
-BrokenBy tells n (Sets line) old before after new = Breaks before after (with_feed (refusal n BeforeStart))
-BrokenBy tells n (Does event) old before after new = Broke tells old event before after new
+-- what a looking line is answered: it says what it looks at, and changes nothing
+abbrev pub Shows : Bool → ℕ → Looking → Layers → List ℕ → Layers → Type 0
+Shows tells n (look.Blocks m slba count) old answer new =
+    ShowsBlocks (place_of m slba count old) tells n m slba count old answer new
+Shows tells n looking old answer new = (answer ≡ with_feed (shown_text n looking old)) × (new ≡ old)
+
+-- what the n-th line is answered, and what it leaves
+abbrev pub Answered : Bool → ℕ → Asked → Layers → List ℕ → Layers → Type 0
+Answered tells n (Fails why) old answer new = (answer ≡ with_feed (refusal n why)) × (new ≡ old)
+Answered tells n Nothing old answer new = (answer ≡ with_feed (codes "ok")) × (new ≡ old)
+Answered tells n (Looks looking) old answer new = Shows tells n looking old answer new
+Answered tells n (Sets line) old answer new = (answer ≡ with_feed (refusal n BeforeStart)) × (new ≡ old)
+Answered tells n (Does event) old answer new = Happens tells old event answer new
+
+-- An answer of which something is said was written whole and flushed, or else in part.
+abbrev pub Answers : {T E : Type 0} → Result T E → (List ℕ → Type 0) → Option (List ℕ) → Option (List ℕ) → Type 0
+Answers result Of before after =
+    MatchResult result (λ _. (answer : List ℕ) × Of answer × Appends before after answer)
+    (λ _. (answer : List ℕ) × Of answer × Breaks before after answer)

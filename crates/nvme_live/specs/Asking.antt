@@ -1,13 +1,11 @@
 -- What one line of a session asks, by its bytes alone.
 use Rattle.std.specs.Prelude.{ℕ, nat_lt, List, length, Option, Some, None, if◌then◌else◌}
-use Rattle.nvme_event.specs.declared.event.FleetEvent.{FleetEvent}
 use Rattle.nvme_grammar.specs.Line.{line_at}
 use Rattle.nvme_grammar.specs.Lent.{line_by_value, event_by_value}
 use Rattle.nvme_grammar.specs.declared.line.Line.{Line}
 use Rattle.nvme_grammar.specs.declared.line.Line.TheVariants.{Blank, Controller, Namespace, Attached, Start, Event}
 use Rattle.live_text.specs.Faults.{outside}
 use Rattle.live_text.specs.Looking.{is_looking, looking_at}
-use Rattle.live_text.specs.declared.fault.Why.{Why}
 use Rattle.live_text.specs.declared.fault.Why.TheVariants.{TooLong}
 use Rattle.live_text.specs.declared.looking.Looking.{Looking}
 use Rattle.nvme_live.specs.declared.asking.Asked.{Asked}

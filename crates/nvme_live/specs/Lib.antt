@@ -9,4 +9,13 @@ pub use Rattle.nvme_transcript.specs.Transcript
 pub mod Asking
 pub mod Saying
 pub mod Showing
+pub mod Shown
 pub mod Answers
+pub mod Taking
+pub mod Standings
+pub mod Settling
+pub mod Conversations
+pub mod Lives
+pub use Rattle.nvme_script.specs.Faults as ScriptFaults
+pub use Rattle.nvme_script.specs.ScriptCalls
+pub mod Keeping

@@ -2,7 +2,10 @@
 #![tactic(auto)]
 
 mod asking;
+mod conversation;
+pub mod laws;
 mod names;
+mod opening;
 mod program;
 mod reading;
 mod rooms;

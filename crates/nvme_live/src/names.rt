@@ -1,9 +1,16 @@
 //! Names that looking lines show.
 
+ghost use Rattle.std.specs.Prelude.{◌≡◌};
+ghost use Rattle.nvme_live.specs.Showing as spec;
+ghost use Rattle.nvme_live.specs.Standings as standing;
+
 use nvme_fleet::{Lane, State};
+use nvme_spec::ConfigFault;
 
 /// The name of a command, by its queue and its opcode; `unknown` where the controller has none such.
-pub fn command_name(queue: u16, opcode: u8) -> &'static str {
+pub fn command_name(queue: u16, opcode: u8) -> &'static str
+    ensures { result.now ≡ spec.command_name queue opcode }
+{
     if queue == 0 {
         admin_name(opcode)
     } else {
@@ -12,7 +19,9 @@ pub fn command_name(queue: u16, opcode: u8) -> &'static str {
 }
 
 /// The name of an admin command.
-fn admin_name(opcode: u8) -> &'static str {
+fn admin_name(opcode: u8) -> &'static str
+    ensures { result.now ≡ spec.admin_name opcode }
+{
     match opcode {
         0x00 => "delete_submission_queue",
         0x01 => "create_submission_queue",
@@ -27,7 +36,9 @@ fn admin_name(opcode: u8) -> &'static str {
 }
 
 /// The name of an I/O command.
-fn io_name(opcode: u8) -> &'static str {
+fn io_name(opcode: u8) -> &'static str
+    ensures { result.now ≡ spec.io_name opcode }
+{
     match opcode {
         0x00 => "flush",
         0x01 => "write",
@@ -43,7 +54,9 @@ fn io_name(opcode: u8) -> &'static str {
 }
 
 /// The name of a driver's state.
-pub fn driver_state_name(state: State) -> &'static str {
+pub fn driver_state_name(state: State) -> &'static str
+    ensures { result.now ≡ spec.state_text state }
+{
     match state {
         State::Down => "down",
         State::Up => "up",
@@ -52,9 +65,38 @@ pub fn driver_state_name(state: State) -> &'static str {
 }
 
 /// The name of a lane.
-pub fn lane_name(lane: Lane) -> &'static str {
+pub fn lane_name(lane: Lane) -> &'static str
+    ensures { result.now ≡ spec.lane_text lane }
+{
     match lane {
         Lane::Admin => "admin",
         Lane::Io => "io",
+    }
+}
+
+/// What a request that was not handed up is.
+pub fn life_name(is_live: bool) -> &'static str
+    ensures { result.now ≡ spec.life_text is_live }
+{
+    if is_live { "live" } else { "aborted" }
+}
+
+/// A bit, as a digit.
+pub fn bit_name(bit: bool) -> &'static str
+    ensures { result.now ≡ spec.bit_text bit }
+{
+    if bit { "1" } else { "0" }
+}
+
+/// The name of a configuration's fault.
+pub fn fault_name(fault: ConfigFault) -> &'static str
+    ensures { result.now ≡ standing.fault_name fault }
+{
+    match fault {
+        ConfigFault::BadId => "BadId",
+        ConfigFault::BadSize => "BadSize",
+        ConfigFault::TooMany => "TooMany",
+        ConfigFault::DoesNotFit => "DoesNotFit",
+        ConfigFault::NoMemory => "NoMemory",
     }
 }

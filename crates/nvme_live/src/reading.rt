@@ -1,14 +1,19 @@
 //! Reading a session's lines, one at a time.
 
-ghost use Rattle.std.specs.Prelude.{◌≤◌, length, vec_len};
+ghost use Rattle.std.specs.Prelude.{◌≡◌, ◌≢◌, ◌≤◌, ◌<◌, ◌+◌, ◌++◌, ◌∷◌, [], IfOk, IfErr, OnOk, length, take, vec_len};
+ghost use Rattle.std.specs.List.{prefix_len};
+ghost use Rattle.script_text.specs.Lines.{is_of_line};
+ghost use Rattle.nvme_script.specs.declared.run.ScriptFault.TheVariants.{Read as ReadFault};
+ghost use Rattle.nvme_live.specs.Taking.{IsCut, ReadsLine, TakesFront, TakesPart, kept};
 
 use crate::asking::LONGEST_LINE;
-use std::io;
+use nvme_script::ScriptFault;
+use std::alloc::AllocError;
 use std::io::BufRead;
 
 /// What a look at the input came to.
 #[derive(Clone, Copy, Debug, PartialEq, Eq)]
-enum Part {
+pub(crate) enum Part {
     /// The line goes on behind it.
     Middle,
     /// It had the line's end.
@@ -17,56 +22,78 @@ enum Part {
     Nothing,
 }
 
-/// How many bytes the first line of some bytes has.
+/// How many bytes of a line stand at the front of some bytes.
 fn line_len(bytes: &[u8]) -> usize
-    ensures { result ≤ length bytes.now }
+    ensures { result ≡ prefix_len is_of_line bytes.now }
 {
     bytes.iter().take_while(|byte| **byte != b'\n').count()
 }
 
+/// The part of a line that stands at the front of some bytes: what it is, how many bytes of the line it has, and how many
+/// bytes it is with its line feed.
+fn cut(bytes: &[u8]) -> (Part, usize, usize)
+    ensures { IsCut result.0 bytes.now result.1 result.2 }
+{
+    let len = line_len(bytes);
+    if len < bytes.len() {
+        (Part::Last, len, len + 1)
+    } else if len == 0 {
+        (Part::Nothing, 0, 0)
+    } else {
+        (Part::Middle, len, len)
+    }
+}
+
 /// Keeps bytes of a line, as far as one byte more than a line may have.
-fn keep(line: &mut Vec<u8>, bytes: &[u8])
+fn keep(line: &mut Vec<u8>, bytes: &[u8]) -> Result<(), AllocError>
     requires { vec_len line.old ≤ 1048577 }
-    ensures { vec_len line.new ≤ 1048577 }
+    ensures room { vec_len line.new ≤ 1048577 }
+    ensures kept { OnOk result (line.new.items ≡ kept (line.old.items ++ bytes.now)) }
 {
     let room = (LONGEST_LINE + 1 - line.len()).min(bytes.len());
-    // There is room for them, so that no memory is asked for.
-    let _fits = line.extend_from_slice(&bytes[..room]);
+    line.extend_from_slice(&bytes[..room])
 }
 
 /// Takes what the reader has at hand of a line.
-fn take_part<R: BufRead>(reader: &mut R, line: &mut Vec<u8>) -> io::Result<Part>
+fn take_part<R: BufRead>(reader: &mut R, line: &mut Vec<u8>) -> Result<Part, ScriptFault>
     requires { vec_len line.old ≤ 1048577 }
-    ensures { vec_len line.new ≤ 1048577 }
+    ensures room { vec_len line.new ≤ 1048577 }
+    ensures part { IfOk result (λ part. TakesPart part (R.remaining reader.old) (R.remaining reader.new) line.old.items
+        line.new.items) }
+    ensures err { IfErr result (λ e. (e ≡ ReadFault) × TakesFront (R.remaining reader.old) (R.remaining reader.new)) }
 {
-    let available = reader.fill_buf()?;
-    if available.is_empty() {
-        return Ok(Part::Nothing);
+    let Ok(available) = reader.fill_buf() else {
+        return Err(ScriptFault::Read);
+    };
+    let (part, len, taken) = cut(available);
+    if keep(line, &available[..len]).is_err() {
+        return Err(ScriptFault::Read);
     }
-    let len = line_len(available);
-    keep(line, &available[..len]);
-    if len < available.len() {
-        reader.consume(len + 1);
-        Ok(Part::Last)
-    } else {
-        reader.consume(len);
-        Ok(Part::Middle)
-    }
+    reader.consume(taken);
+    Ok(part)
 }
 
 /// Reads the next line, of which one byte more is kept than it may have, and the rest is passed over. The answer is
 /// false at the end of the input.
-pub fn read_line<R: BufRead>(reader: &mut R, line: &mut Vec<u8>) -> io::Result<bool>
-    ensures { vec_len line.new ≤ 1048577 }
+///
+/// # Errors
+///
+/// `Read` where the reader fails, where the line has too many parts to count, or where no memory is found for it, which
+/// does not come where the line's vector has room for 1,048,577 bytes. What the line has in front is taken then.
+pub fn read_line<R: BufRead>(reader: &mut R, line: &mut Vec<u8>) -> Result<bool, ScriptFault>
+    ensures line { IfOk result (λ some. ReadsLine some (R.remaining reader.old) (R.remaining reader.new)
+        line.new.items) }
+    ensures err { IfErr result (λ e. (e ≡ ReadFault) × TakesFront (R.remaining reader.old) (R.remaining reader.new)) }
 {
     line.clear();
     let mut some = false;
     for _ in 0..u64::MAX {
-        match take_part(reader, line)? {
-            Part::Middle => some = true,
-            Part::Last => return Ok(true),
-            Part::Nothing => return Ok(some),
+        match take_part(reader, line) {
+            Ok(Part::Middle) => some = true,
+            Ok(Part::Last) => return Ok(true),
+            Ok(Part::Nothing) => return Ok(some),
+            Err(fault) => return Err(fault),
         }
     }
-    Err(io::Error::from(io::ErrorKind::Other))
+    Err(ScriptFault::Read)
 }

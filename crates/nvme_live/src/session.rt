@@ -1,114 +1,70 @@
-//! A session from its first line to its last.
+//! A session from the script that is run first to its end.
 
-ghost use Rattle.std.specs.Prelude.{◌≡◌, ◌≤◌, IfOk, length, vec_len};
+ghost use Rattle.std.specs.Prelude.{◌≡◌, ◌<◌, ◌-◌, ◌^◌, ℕ, List, Option, IfErr, IfOk, None, Ok, Some, length};
+ghost use Rattle.std.specs.Io.KnownBytes.{Appends};
+ghost use Rattle.script_text.specs.Reading.{IsRead};
+ghost use Rattle.nvme_spec.specs.Configuration.{first_config_fault};
+ghost use Rattle.nvme_ns.specs.Configured.{configuration};
+ghost use Rattle.nvme_fleet.specs.FleetStates.{layers_of, opening_layers};
+ghost use Rattle.nvme_grammar.specs.declared.line.Line.TheVariants.{Start};
+ghost use Rattle.nvme_script.specs.Faults.{IsReady, IsScript, ReadsThen, of_opening};
+ghost use Rattle.nvme_live.specs.Asking.{asked};
+ghost use Rattle.nvme_live.specs.declared.asking.Asked.TheVariants.{Sets};
+ghost use Rattle.nvme_live.specs.Conversations.{Ends, EndsBy};
+ghost use Rattle.nvme_live.specs.Lives.{Fails, FailsFirst, LivesOn, Rests, RunsTo, StartFails, StartRefused};
+ghost use Rattle.nvme_live.specs.Saying.{with_feed};
+ghost use Rattle.nvme_live.specs.Standings.{Setting, refused_text, started_text};
+ghost use Rattle.nvme_live.specs.Taking.{TakesLine};
 
-use crate::asking::asked_of;
-use crate::reading::read_line;
+use crate::conversation::{run_on, set_up};
+use crate::names::fault_name;
+use crate::opening::{Opening, prepare};
 use crate::rooms::Rooms;
 use crate::saying::say;
-use crate::setting::{Settled, settle};
-use crate::turn::answer;
 use nvme_fleet::{Fleet, NewFault};
-use nvme_grammar::{Script, parse};
 use nvme_medium::Medium;
 use nvme_script::{ScriptFault, run_events};
-use nvme_spec::ConfigFault;
-use script_text::read_text;
+use nvme_spec::{Config, ConfigFault};
+use script_text::Source;
 use std::alloc::Global;
-use std::io::{BufRead, Read, Write};
+use std::fmt;
+use std::io::{BufRead, Write};
 
-/// What a session begins with: the script that is run first, what it says, and the room that lines work in.
-#[derive(Drop)]
-struct Opening {
-    text: Vec<u8>,
-    script: Script,
-    rooms: Rooms,
+/// The answer to `start`, which has this number, where the configuration is refused.
+#[derive(Clone, Copy)]
+struct RefusedText {
+    number: u64,
+    fault: ConfigFault,
 }
 
-/// Answers the lines before the fleet is there, up to `start`, whose number is the answer; `None` at the end of the
-/// input.
-fn set_up<R: BufRead, W: Write>(
-    script: &mut Script,
-    line: &mut Vec<u8>,
-    bytes: &mut [u8],
-    identifiers: &mut [u16],
-    text: &mut String,
-    reader: &mut R,
-    writer: &mut W,
-) -> Result<Option<u64>, ScriptFault>
-    requires bytes_room { length bytes.old ≡ 2097153 }
-    requires identifiers_room { length identifiers.old ≡ 2097153 }
-{
-    for number in 1..u64::MAX {
-        match read_line(reader, line) {
-            Ok(true) => {}
-            Ok(false) => return Ok(None),
-            Err(_) => return Err(ScriptFault::Read),
-        }
-        let asked = asked_of(line.as_slice(), bytes, identifiers);
-        if settle(number, asked, script, text, writer)? == Settled::Started {
-            return Ok(Some(number));
-        }
+impl fmt::Display for RefusedText {
+    ghost output = { λ r. Some (refused_text r.number r.fault) };
+
+    fn fmt<W: fmt::Write>(&self, f: &mut fmt::Formatter<W>) -> fmt::Result {
+        write!(
+            f,
+            "refused line {}: {}",
+            self.number,
+            fault_name(self.fault)
+        )
     }
-    Ok(None)
 }
 
-/// Answers the lines once the fleet is there, up to the end of the input.
-fn converse<R: BufRead, W: Write, M: Medium>(
-    first: u64,
-    fleet: &mut Fleet<M>,
-    line: &mut Vec<u8>,
-    bytes: &mut [u8],
-    identifiers: &mut [u16],
-    blocks: &mut [u8],
+/// Answers `start`, whose fleet was refused; want of memory is not answered.
+fn refuse_start<W: Write>(
+    number: u64,
+    fault: ConfigFault,
     text: &mut String,
-    reader: &mut R,
     writer: &mut W,
-) -> Result<(), ScriptFault>
-    requires bytes_room { length bytes.old ≡ 2097153 }
-    requires identifiers_room { length identifiers.old ≡ 2097153 }
-    requires blocks_room { length blocks.old ≡ 131072 }
+) -> ScriptFault
+    ensures { StartRefused result number fault (W.contents writer.old) (W.contents writer.new) }
 {
-    for number in first..u64::MAX {
-        match read_line(reader, line) {
-            Ok(true) => {}
-            Ok(false) => return Ok(()),
-            Err(_) => return Err(ScriptFault::Read),
-        }
-        let asked = asked_of(line.as_slice(), bytes, identifiers);
-        if answer(number, asked, fleet, blocks, text, writer).is_err() {
-            return Err(ScriptFault::Write);
-        }
-    }
-    Ok(())
-}
-
-/// Answers the lines once the fleet is there, and gives the medium back.
-fn run_on<R: BufRead, W: Write, M: Medium>(
-    first: u64,
-    mut fleet: Fleet<M>,
-    rooms: &mut Rooms,
-    reader: &mut R,
-    writer: &mut W,
-) -> Result<M, (ScriptFault, M)>
-    requires bytes_room { length rooms.old.bytes.items ≡ 2097153 }
-    requires identifiers_room { length rooms.old.identifiers.items ≡ 2097153 }
-    requires blocks_room { length rooms.old.blocks.items ≡ 131072 }
-{
-    let ran = converse(
-        first,
-        &mut fleet,
-        &mut rooms.line,
-        &mut rooms.bytes,
-        &mut rooms.identifiers,
-        &mut rooms.blocks,
-        &mut rooms.text,
-        reader,
-        writer,
-    );
-    match ran {
-        Ok(()) => Ok(fleet.into_medium()),
-        Err(fault) => Err((fault, fleet.into_medium())),
+    match fault {
+        ConfigFault::NoMemory => ScriptFault::NoMemory,
+        _ => match say(writer, text, RefusedText { number, fault }) {
+            Ok(()) => ScriptFault::Config(number as usize, fault),
+            Err(_) => ScriptFault::Write,
+        },
     }
 }
 
@@ -116,26 +72,58 @@ fn run_on<R: BufRead, W: Write, M: Medium>(
 fn start<W: Write, M: Medium>(
     alloc: Global,
     number: u64,
-    script: &Script,
+    config: &Config,
     text: &mut String,
     writer: &mut W,
     medium: M,
-) -> Result<Fleet<M>, (ScriptFault, M)> {
-    let (fault, medium) = match Fleet::new(alloc, &script.config, medium) {
-        Ok(fleet) => {
-            return match say(writer, text, "started") {
-                Ok(()) => Ok(fleet),
-                Err(_) => Err((ScriptFault::Write, fleet.into_medium())),
-            };
+) -> Result<Fleet<M>, (ScriptFault, M)>
+    ensures opened { IfOk result (λ fleet. layers_of fleet.state
+        ≡ opening_layers (configuration config.now) (M.device medium)) }
+    ensures accepted { IfOk result (λ _. first_config_fault (configuration config.now) (M.size medium) ≡ None) }
+    ensures said { IfOk result (λ _. Appends (W.contents writer.old) (W.contents writer.new) (with_feed started_text)) }
+    ensures fault { IfErr result (λ e. StartFails e.0 (M.size medium) (M.device medium) number
+        (configuration config.now) (W.contents writer.old) (W.contents writer.new)) }
+    ensures kept { IfErr result (λ e. e.1 ≡ medium) }
+{
+    match Fleet::new(alloc, config, medium) {
+        Ok(fleet) => match say(writer, text, "started") {
+            Ok(()) => Ok(fleet),
+            Err(_) => Err((ScriptFault::Write, fleet.into_medium())),
+        },
+        Err(NewFault { fault, medium }) => {
+            Err((refuse_start(number, fault, text, writer), medium))
         }
-        Err(NewFault { fault, medium }) => (fault, medium),
-    };
-    if fault == ConfigFault::NoMemory {
-        return Err((ScriptFault::NoMemory, medium));
     }
-    match say(writer, text, format_args!("refused line {number}: {fault}")) {
-        Ok(()) => Err((ScriptFault::Config(number as usize, fault), medium)),
-        Err(_) => Err((ScriptFault::Write, medium)),
+}
+
+/// Answers `start`, which has this number and was just read, and the lines behind it.
+fn run_from_start<R: BufRead, W: Write, M: Medium>(
+    alloc: Global,
+    number: u64,
+    config: &Config,
+    rooms: &mut Rooms,
+    reader: &mut R,
+    writer: &mut W,
+    medium: M,
+) -> Result<M, (ScriptFault, M)>
+    requires countable { number < 2 ^ 64 - 1 }
+    requires bytes_room { length rooms.old.bytes.items ≡ 2097153 }
+    requires identifiers_room { length rooms.old.identifiers.items ≡ 2097153 }
+    requires blocks_room { length rooms.old.blocks.items ≡ 131072 }
+    ensures ok { IfOk result (λ after. (line : List ℕ) (between : Option (List ℕ))
+        → TakesLine between line (R.remaining reader.old) → asked line ≡ Sets Start
+        → Rests (λ last. Ends M.tells (M.size medium) (M.device medium) number (Setting (configuration config.now)) last
+        between (R.remaining reader.new) (W.contents writer.old) (W.contents writer.new)) (M.device medium)
+        (M.device after)) }
+    ensures fault { IfErr result (λ e. (line : List ℕ) (between : Option (List ℕ))
+        → TakesLine between line (R.remaining reader.old) → asked line ≡ Sets Start
+        → Rests (λ last. EndsBy e.0 M.tells (M.size medium) (M.device medium) number (Setting (configuration config.now))
+        last between (R.remaining reader.new) (W.contents writer.old) (W.contents writer.new)) (M.device medium)
+        (M.device e.1)) }
+{
+    match start(alloc, number, config, &mut rooms.text, writer, medium) {
+        Ok(fleet) => run_on(number + 1, fleet, rooms, reader, writer),
+        Err(fault) => Err(fault),
     }
 }
 
@@ -150,9 +138,15 @@ fn run_from_setting<R: BufRead, W: Write, M: Medium>(
     requires bytes_room { length opening.old.rooms.bytes.items ≡ 2097153 }
     requires identifiers_room { length opening.old.rooms.identifiers.items ≡ 2097153 }
     requires blocks_room { length opening.old.rooms.blocks.items ≡ 131072 }
+    ensures ok { IfOk result (λ after. Rests (λ last. Ends M.tells (M.size medium) (M.device medium) 1
+        (Setting (configuration opening.old.script.config)) last (R.remaining reader.old) (R.remaining reader.new)
+        (W.contents writer.old) (W.contents writer.new)) (M.device medium) (M.device after)) }
+    ensures fault { IfErr result (λ e. Rests (λ last. EndsBy e.0 M.tells (M.size medium) (M.device medium) 1
+        (Setting (configuration opening.old.script.config)) last (R.remaining reader.old) (R.remaining reader.new)
+        (W.contents writer.old) (W.contents writer.new)) (M.device medium) (M.device e.1)) }
 {
     let set = set_up(
-        &mut opening.script,
+        &mut opening.script.config,
         &mut opening.rooms.line,
         &mut opening.rooms.bytes,
         &mut opening.rooms.identifiers,
@@ -163,39 +157,38 @@ fn run_from_setting<R: BufRead, W: Write, M: Medium>(
     match set {
         Ok(None) => Ok(medium),
         Err(fault) => Err((fault, medium)),
-        Ok(Some(number)) => {
-            let fleet = start(
-                alloc,
-                number,
-                &opening.script,
-                &mut opening.rooms.text,
-                writer,
-                medium,
-            )?;
-            run_on(
-                number.saturating_add(1),
-                fleet,
-                &mut opening.rooms,
-                reader,
-                writer,
-            )
-        }
+        Ok(Some(number)) => run_from_start(
+            alloc,
+            number,
+            &opening.script.config,
+            &mut opening.rooms,
+            reader,
+            writer,
+            medium,
+        ),
     }
 }
 
-/// A session whose script has started.
-fn run_from_script<R: BufRead, W: Write, M: Medium>(
+/// Opens the fleet of a script that has started, and runs its events.
+fn run_first<W: Write, M: Medium>(
     alloc: Global,
     start: usize,
     opening: &mut Opening,
-    reader: &mut R,
     writer: &mut W,
     medium: M,
-) -> Result<M, (ScriptFault, M)>
-    requires text { vec_len opening.old.text ≤ 4194304 }
+) -> Result<Fleet<M>, (ScriptFault, M)>
+    requires ready { IsReady opening.old.text.items opening.old.script }
+    requires starts { opening.old.script.start ≡ Some start }
     requires bytes_room { length opening.old.rooms.bytes.items ≡ 2097153 }
     requires identifiers_room { length opening.old.rooms.identifiers.items ≡ 2097153 }
-    requires blocks_room { length opening.old.rooms.blocks.items ≡ 131072 }
+    ensures bytes { length opening.new.rooms.bytes.items ≡ 2097153 }
+    ensures identifiers { length opening.new.rooms.identifiers.items ≡ 2097153 }
+    ensures blocks { length opening.new.rooms.blocks.items ≡ length opening.old.rooms.blocks.items }
+    ensures ok { IfOk result (λ fleet. IsScript opening.old.text.items (M.size medium)
+        × RunsTo M.step M.tells M.device opening.old.text.items medium (layers_of fleet.state) fleet.medium
+        (W.contents writer.old) (W.contents writer.new)) }
+    ensures fault { IfErr result (λ e. FailsFirst M.step M.tells M.device (M.size medium) opening.old.text.items medium
+        e.0 e.1 (W.contents writer.old) (W.contents writer.new)) }
 {
     let mut fleet = match Fleet::new(alloc, &opening.script.config, medium) {
         Ok(fleet) => fleet,
@@ -212,59 +205,58 @@ fn run_from_script<R: BufRead, W: Write, M: Medium>(
     if ran.is_err() || writer.flush().is_err() {
         return Err((ScriptFault::Write, fleet.into_medium()));
     }
-    run_on(1, fleet, &mut opening.rooms, reader, writer)
+    Ok(fleet)
 }
 
 /// The fault of a script whose fleet was refused.
-fn refused_at(start: usize, fault: ConfigFault) -> ScriptFault {
+fn refused_at(start: usize, fault: ConfigFault) -> ScriptFault
+    ensures { result ≡ of_opening (Some start) fault }
+{
     match fault {
         ConfigFault::NoMemory => ScriptFault::NoMemory,
         _ => ScriptFault::Config(start, fault),
     }
 }
 
-/// Reads the script that is run first, and makes the room that lines work in.
-fn prepare<S: Read>(alloc: Global, script: &mut S) -> Result<Opening, ScriptFault>
-    ensures text { IfOk result (λ opening. vec_len opening.text ≤ 4194304) }
-    ensures bytes { IfOk result (λ opening. length opening.rooms.bytes.items ≡ 2097153) }
-    ensures identifiers { IfOk result (λ opening. length opening.rooms.identifiers.items ≡ 2097153) }
-    ensures blocks { IfOk result (λ opening. length opening.rooms.blocks.items ≡ 131072) }
-{
-    let text = read_text(alloc, script)?;
-    let mut rooms = Rooms::new(alloc)?;
-    let script = parse(
-        alloc,
-        text.as_slice(),
-        &mut rooms.bytes,
-        &mut rooms.identifiers,
-    )?;
-    Ok(Opening {
-        text,
-        script,
-        rooms,
-    })
-}
-
 /// A session: runs a script first, then answers each line of the input by one line, which is flushed before the next
 /// line is read.
 ///
+/// The lines that are read are those of the input, each whole, and no other; what is written is the script's transcript,
+/// and behind it the answer of each line, in their order: what `start` and the lines before it set up, what an event
+/// gives, or why a line is not carried out. A line that looks, and one that is not carried out, changes nothing.
+///
 /// # Errors
 ///
-/// The faults of the script, which are those of `run_script`; `Config` too where the session's own `start` is refused,
-/// with the number of that line; `Read` and `Write` where a stream fails. The medium is as after the last event.
-pub fn run_live<S: Read, R: BufRead, W: Write, M: Medium>(
+/// The faults of the script, which are those of `run_script`, and no line was read then. Behind it: `Config` where the
+/// session's own `start` is refused, with the number of that line, and it is answered so; `Write` where the answer of a
+/// line could not be written and flushed, and what that line does was done; `Read` where the next line could not be read
+/// whole; `NoMemory` where no memory was found for a line before `start`, or for the fleet. The medium is as after the
+/// last event.
+pub fn run_live<S: Source, R: BufRead, W: Write, M: Medium>(
     alloc: Global,
     script: &mut S,
     reader: &mut R,
     writer: &mut W,
     medium: M,
-) -> Result<M, (ScriptFault, M)> {
+) -> Result<M, (ScriptFault, M)>
+    // The input was read to its end.
+    ensures ok { IfOk result (λ after. (text : List ℕ) × IsRead S.step S.remaining script.old (Ok text) script.new
+        × LivesOn M.step M.tells M.device (M.size medium) text medium after (R.remaining reader.old)
+        (R.remaining reader.new) (W.contents writer.old) (W.contents writer.new)) }
+    // What each fault says of the script's reads, of the text that they gave, and of the session behind it.
+    ensures fault { IfErr result (λ e. ReadsThen S.step S.remaining script.old script.new e.0 (λ text.
+        Fails M.step M.tells M.device (M.size medium) text medium e.0 e.1 (R.remaining reader.old)
+        (R.remaining reader.new) (W.contents writer.old) (W.contents writer.new))) }
+{
     let mut opening = match prepare(alloc, script) {
         Ok(opening) => opening,
         Err(fault) => return Err((fault, medium)),
     };
-    match opening.script.start {
-        Some(start) => run_from_script(alloc, start, &mut opening, reader, writer, medium),
-        None => run_from_setting(alloc, &mut opening, reader, writer, medium),
+    let Some(start) = opening.script.start else {
+        return run_from_setting(alloc, &mut opening, reader, writer, medium);
+    };
+    match run_first(alloc, start, &mut opening, writer, medium) {
+        Ok(fleet) => run_on(1, fleet, &mut opening.rooms, reader, writer),
+        Err(fault) => Err(fault),
     }
 }

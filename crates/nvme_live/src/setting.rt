@@ -1,11 +1,24 @@
 //! One line of a session before its fleet is there.
 
+ghost use Rattle.std.specs.Prelude.{◌≡◌, ℕ, MatchResult, OnErr, OnOk, Ok, Err};
+ghost use Rattle.nvme_grammar.specs.Lent.{line_by_value};
+ghost use Rattle.nvme_ns.specs.Configured.{configuration};
+ghost use Rattle.nvme_script.specs.declared.run.ScriptFault.TheVariants.{Write as WriteFault};
+ghost use Rattle.nvme_live.specs.Asking.{asked_by_value};
+ghost use Rattle.nvme_live.specs.declared.asking.Asked.TheVariants.{Sets};
+ghost use Rattle.nvme_live.specs.Settling.{Comes};
+ghost use Rattle.nvme_live.specs.Standings.{set_by};
+ghost use Rattle.nvme_live.specs.declared.setting.Settled.TheVariants.{Answered as IsAnswered};
+
 use crate::asking::Asked;
 use crate::saying::say;
-use crate::turn::{refuse, say_help};
-use live_text::{Looking, Why};
-use nvme_grammar::{Line, Script};
+use crate::turn::refuse;
+use crate::views::shown_early;
+use live_text::Why;
+use nvme_grammar::Line;
 use nvme_script::ScriptFault;
+use nvme_spec::Config;
+use std::alloc::AllocError;
 use std::io;
 use std::io::Write;
 
@@ -19,41 +32,45 @@ pub enum Settled {
 }
 
 /// What was answered, or the fault of the writer.
-fn answered(written: io::Result<()>) -> Result<Settled, ScriptFault> {
+fn answered(written: io::Result<()>) -> Result<Settled, ScriptFault>
+    ensures { MatchResult written (λ _. result ≡ Ok IsAnswered) (λ _. result ≡ Err WriteFault) }
+{
     match written {
         Ok(()) => Ok(Settled::Answered),
         Err(_) => Err(ScriptFault::Write),
     }
 }
 
-/// Takes a line that sets up, or starts.
-fn set<W: Write>(
-    number: u64,
-    line: Line<'_>,
-    script: &mut Script,
-    text: &mut String,
-    writer: &mut W,
-) -> Result<Settled, ScriptFault> {
-    let is_start = matches!(line, Line::Start);
-    script.add(number as usize, line)?;
-    if is_start {
-        Ok(Settled::Started)
-    } else {
-        answered(say(writer, text, "ok"))
+/// Adds to a configuration what a line sets up.
+fn set(config: &mut Config, line: Line<'_>) -> Result<(), AllocError>
+    ensures ok { OnOk result (configuration config.new ≡ set_by (configuration config.old) (line_by_value line.entry)) }
+    ensures err { OnErr result (configuration config.new ≡ configuration config.old) }
+{
+    match line {
+        Line::Controller(controller) => config.controllers.push(controller)?,
+        Line::Namespace(namespace) => config.namespaces.push(namespace)?,
+        Line::Attached { cntlid, nsid } => config.attached.push((cntlid, nsid))?,
+        Line::Blank | Line::Start | Line::Event(_) => {}
     }
+    Ok(())
 }
 
-/// Answers a looking line before there is anything to look at.
-fn look_early<W: Write>(
-    number: u64,
-    looking: Looking,
+/// Takes a line of the grammar, and answers it unless it is `start`.
+fn take<W: Write>(
+    line: Line<'_>,
+    config: &mut Config,
     text: &mut String,
     writer: &mut W,
-) -> io::Result<()> {
-    match looking {
-        Looking::Help => say_help(None, text, writer),
-        Looking::HelpOn(form) => say_help(Some(form), text, writer),
-        _ => refuse(number, Why::BehindStart, text, writer),
+) -> Result<Settled, ScriptFault>
+    ensures { (n : ℕ) → Comes result n (configuration config.old) (Sets (line_by_value line.entry))
+        (configuration config.new) (W.contents writer.old) (W.contents writer.new) }
+{
+    match line {
+        Line::Start => Ok(Settled::Started),
+        line => match set(config, line) {
+            Ok(()) => answered(say(writer, text, "ok")),
+            Err(_) => Err(ScriptFault::NoMemory),
+        },
     }
 }
 
@@ -61,15 +78,18 @@ fn look_early<W: Write>(
 pub fn settle<W: Write>(
     number: u64,
     asked: Asked<'_>,
-    script: &mut Script,
+    config: &mut Config,
     text: &mut String,
     writer: &mut W,
-) -> Result<Settled, ScriptFault> {
+) -> Result<Settled, ScriptFault>
+    ensures { Comes result number (configuration config.old) (asked_by_value asked.entry) (configuration config.new)
+        (W.contents writer.old) (W.contents writer.new) }
+{
     match asked {
-        Asked::Sets(line) => set(number, line, script, text, writer),
+        Asked::Sets(line) => take(line, config, text, writer),
         Asked::Fails(why) => answered(refuse(number, why, text, writer)),
         Asked::Nothing => answered(say(writer, text, "ok")),
-        Asked::Looks(looking) => answered(look_early(number, looking, text, writer)),
+        Asked::Looks(looking) => answered(say(writer, text, shown_early(number, looking))),
         Asked::Does(_) => answered(refuse(number, Why::BehindStart, text, writer)),
     }
 }

@@ -1,11 +1,11 @@
 //! What looking lines show.
 
+mod commands;
 mod controllers;
 mod drivers;
+mod queues;
+mod shown;
 mod spaces;
 
-pub use controllers::{
-    BlocksText, FetchedText, QueuesText, RegisterText, RegistersText, WindowText,
-};
-pub use drivers::DriverText;
-pub use spaces::{AttachedText, NamespacesText, ReservationText};
+pub use controllers::BlocksText;
+pub use shown::{Shown, shown_early, shown_of};

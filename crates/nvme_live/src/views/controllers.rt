@@ -1,10 +1,10 @@
 //! What looking lines show of a controller, and of blocks.
 
-ghost use Rattle.std.specs.Prelude.{Some};
-ghost use Rattle.nvme_live.specs.Showing.{blocks_text, register_text, window_text};
+ghost use Rattle.std.specs.Prelude.{◌≡◌, ◌+◌, ◌<◌, Some};
+ghost use Rattle.nvme_spec.specs.Registers.{value_at};
+ghost use Rattle.nvme_live.specs.Showing.{blocks_text, narrow_text, queue_registers_text, register_text, registers_text, state_registers_text, wide_text, window_text};
 
-use crate::names::command_name;
-use nvme_fleet::{CompletionQueue, Controller, FetchedCommand, SubmissionQueue};
+use nvme_fleet::Controller;
 use script_text::HexText;
 use std::fmt;
 
@@ -73,6 +73,38 @@ impl fmt::Display for RegisterText {
     }
 }
 
+/// A register of one double word.
+#[derive(Clone, Copy)]
+struct NarrowText(u32);
+
+impl fmt::Display for NarrowText {
+    ghost output = { λ r. Some (narrow_text r.0) };
+
+    #[tactic(auto, unfolding(crate::specs::Showing::narrow_text))]
+    fn fmt<W: fmt::Write>(&self, f: &mut fmt::Formatter<W>) -> fmt::Result {
+        let value = self.0;
+        write!(f, "0x{value:08x}")
+    }
+}
+
+/// A register of two double words.
+#[derive(Clone, Copy)]
+struct WideText {
+    high: u32,
+    low: u32,
+}
+
+impl fmt::Display for WideText {
+    ghost output = { λ r. Some (wide_text r.high r.low) };
+
+    #[tactic(auto, unfolding(crate::specs::Showing::wide_text))]
+    fn fmt<W: fmt::Write>(&self, f: &mut fmt::Formatter<W>) -> fmt::Result {
+        let high = self.high;
+        let low = self.low;
+        write!(f, "0x{high:08x}{low:08x}")
+    }
+}
+
 /// All registers, by their names.
 #[derive(Clone, Copy)]
 pub struct RegistersText<'a> {
@@ -81,150 +113,74 @@ pub struct RegistersText<'a> {
 }
 
 impl fmt::Display for RegistersText<'_> {
+    ghost output = { λ r. Some (registers_text r.cntlid r.controller.now.registers) };
+
     fn fmt<W: fmt::Write>(&self, f: &mut fmt::Formatter<W>) -> fmt::Result {
         let controller = self.controller;
-        write!(f, "registers {}", self.cntlid)?;
         write!(
             f,
-            " cap 0x{:08x}{:08x}",
-            controller.read32(0x04),
-            controller.read32(0x00)
-        )?;
-        write!(f, " vs 0x{:08x}", controller.read32(0x08))?;
-        write!(f, " cc 0x{:08x}", controller.read32(0x14))?;
-        write!(f, " csts 0x{:08x}", controller.read32(0x1c))?;
-        write!(f, " aqa 0x{:08x}", controller.read32(0x24))?;
-        write!(
-            f,
-            " asq 0x{:08x}{:08x}",
-            controller.read32(0x2c),
-            controller.read32(0x28)
-        )?;
-        write!(
-            f,
-            " acq 0x{:08x}{:08x}",
-            controller.read32(0x34),
-            controller.read32(0x30)
+            "registers {}{}{}",
+            self.cntlid,
+            StateText(controller),
+            QueuesAtText(controller)
         )
     }
 }
 
-/// The queues of a controller.
-#[derive(Clone, Copy)]
-pub struct QueuesText<'a> {
-    pub cntlid: u16,
-    pub controller: &'a Controller,
+/// A register of one double word of a controller, at this offset.
+fn narrow(controller: &Controller, offset: u64) -> NarrowText
+    ensures { result.0 ≡ value_at controller.now.registers offset }
+{
+    NarrowText(controller.read32(offset))
 }
 
-impl fmt::Display for QueuesText<'_> {
-    fn fmt<W: fmt::Write>(&self, f: &mut fmt::Formatter<W>) -> fmt::Result {
-        write!(f, "queues {}", self.cntlid)?;
-        for qid in 0..5u16 {
-            let queue = self.controller.submission_queue(qid);
-            write!(f, "{}", SubmissionText { qid, queue })?;
-            let queue = self.controller.completion_queue(qid);
-            write!(f, "{}", CompletionText { qid, queue })?;
-        }
-        Ok(())
+/// A register of two double words of a controller, the lower of which is at this offset.
+fn wide(controller: &Controller, offset: u64) -> WideText
+    requires { offset < 4096 }
+    ensures low { result.low ≡ value_at controller.now.registers offset }
+    ensures high { result.high ≡ value_at controller.now.registers (offset + 4) }
+{
+    WideText {
+        high: controller.read32(offset + 4),
+        low: controller.read32(offset),
     }
 }
 
-/// A submission queue, if there is one.
+/// What a controller can do, is told and says of itself.
 #[derive(Clone, Copy)]
-struct SubmissionText {
-    qid: u16,
-    queue: Option<SubmissionQueue>,
-}
+struct StateText<'a>(&'a Controller);
 
-impl fmt::Display for SubmissionText {
+impl fmt::Display for StateText<'_> {
+    ghost output = { λ c. Some (state_registers_text c.0.now.registers) };
+
     fn fmt<W: fmt::Write>(&self, f: &mut fmt::Formatter<W>) -> fmt::Result {
-        let Some(queue) = self.queue else {
-            return Ok(());
-        };
+        let controller = self.0;
         write!(
             f,
-            " sq {} place {} size {}",
-            self.qid,
-            queue.base(),
-            queue.size()
-        )?;
-        write!(
-            f,
-            " head {} tail {} to {}",
-            queue.head(),
-            queue.tail(),
-            queue.cqid()
+            " cap {} vs {} cc {} csts {}",
+            wide(controller, 0x00),
+            narrow(controller, 0x08),
+            narrow(controller, 0x14),
+            narrow(controller, 0x1c)
         )
     }
 }
 
-/// A completion queue, if there is one.
+/// Where the admin queues of a controller lie, and how long they are.
 #[derive(Clone, Copy)]
-struct CompletionText {
-    qid: u16,
-    queue: Option<CompletionQueue>,
-}
+struct QueuesAtText<'a>(&'a Controller);
 
-impl fmt::Display for CompletionText {
+impl fmt::Display for QueuesAtText<'_> {
+    ghost output = { λ c. Some (queue_registers_text c.0.now.registers) };
+
     fn fmt<W: fmt::Write>(&self, f: &mut fmt::Formatter<W>) -> fmt::Result {
-        let Some(queue) = self.queue else {
-            return Ok(());
-        };
-        let phase = u8::from(queue.phase());
+        let controller = self.0;
         write!(
             f,
-            " cq {} place {} size {}",
-            self.qid,
-            queue.base(),
-            queue.size()
-        )?;
-        write!(
-            f,
-            " head {} tail {} phase {phase}",
-            queue.head(),
-            queue.tail()
+            " aqa {} asq {} acq {}",
+            narrow(controller, 0x24),
+            wide(controller, 0x28),
+            wide(controller, 0x30)
         )
-    }
-}
-
-/// The fetched commands of a controller.
-#[derive(Clone, Copy)]
-pub struct FetchedText<'a> {
-    pub cntlid: u16,
-    pub commands: &'a [FetchedCommand],
-}
-
-impl fmt::Display for FetchedText<'_> {
-    fn fmt<W: fmt::Write>(&self, f: &mut fmt::Formatter<W>) -> fmt::Result {
-        write!(f, "fetched {}", self.cntlid)?;
-        for place in 0..self.commands.len() {
-            let command = &self.commands[place];
-            write!(f, "{}", CommandText { place, command })?;
-        }
-        Ok(())
-    }
-}
-
-/// A fetched command, and its place among them.
-#[derive(Clone, Copy)]
-struct CommandText<'a> {
-    place: usize,
-    command: &'a FetchedCommand,
-}
-
-impl fmt::Display for CommandText<'_> {
-    fn fmt<W: fmt::Write>(&self, f: &mut fmt::Formatter<W>) -> fmt::Result {
-        let entry = self.command.entry;
-        let queue = self.command.queue;
-        let marked = u8::from(self.command.marked);
-        let name = command_name(queue, entry.opcode());
-        write!(
-            f,
-            " command {} queue {queue} cid {}",
-            self.place,
-            entry.cid()
-        )?;
-        write!(f, " opcode {} name {name}", entry.opcode())?;
-        write!(f, " nsid {} marked {marked}", entry.nsid())
     }
 }

@@ -1,5 +1,10 @@
 //! What looking lines show of the access state.
 
+ghost use Rattle.std.specs.Prelude.{◌≡◌, ◌/◌, ◌%◌, Some};
+ghost use Rattle.std.specs.List.{flat_map};
+ghost use Rattle.nvme_live.specs.Showing.{attached_text, attachment_text, hold_text, host_text, namespace_text, namespaces_text, registrant_text, reservation_text};
+
+use crate::names::bit_name;
 use nvme_ns::Namespace;
 use nvme_resv::{Hold, Registrant, Reservation};
 use std::fmt;
@@ -9,10 +14,25 @@ use std::fmt;
 pub struct NamespacesText<'a>(pub &'a [Namespace]);
 
 impl fmt::Display for NamespacesText<'_> {
+    ghost output = { λ n. Some (namespaces_text n.0.now) };
+
     fn fmt<W: fmt::Write>(&self, f: &mut fmt::Formatter<W>) -> fmt::Result {
-        write!(f, "namespaces")?;
-        for namespace in self.0 {
-            write!(f, "{}", NamespaceText(namespace))?;
+        write!(f, "namespaces{}", EachNamespace(self.0))
+    }
+}
+
+/// Namespaces, one after the other.
+#[derive(Clone, Copy)]
+struct EachNamespace<'a>(&'a [Namespace]);
+
+impl fmt::Display for EachNamespace<'_> {
+    ghost output = { λ n. Some (flat_map namespace_text n.0.now) };
+
+    fn fmt<W: fmt::Write>(&self, f: &mut fmt::Formatter<W>) -> fmt::Result {
+        let mut rest = self.0;
+        while let Some((first, behind)) = rest.split_first() {
+            write!(f, "{}", NamespaceText(first))?;
+            rest = behind;
         }
         Ok(())
     }
@@ -23,20 +43,18 @@ impl fmt::Display for NamespacesText<'_> {
 struct NamespaceText<'a>(&'a Namespace);
 
 impl fmt::Display for NamespaceText<'_> {
+    ghost output = { λ n. Some (namespace_text n.0.now) };
+
     fn fmt<W: fmt::Write>(&self, f: &mut fmt::Formatter<W>) -> fmt::Result {
         let namespace = self.0;
-        let shared = u8::from(namespace.is_shared());
-        let protected = namespace.protection_state();
         write!(
             f,
-            " namespace {} first {}",
+            " namespace {} first {} blocks {} shared {} protected {}",
             namespace.nsid(),
-            namespace.first_block()
-        )?;
-        write!(
-            f,
-            " blocks {} shared {shared} protected {protected}",
-            namespace.blocks()
+            namespace.first_block(),
+            namespace.blocks(),
+            bit_name(namespace.is_shared()),
+            namespace.protection_state()
         )
     }
 }
@@ -46,12 +64,40 @@ impl fmt::Display for NamespaceText<'_> {
 pub struct AttachedText<'a>(pub &'a [(u16, u32)]);
 
 impl fmt::Display for AttachedText<'_> {
+    ghost output = { λ a. Some (attached_text a.0.now) };
+
     fn fmt<W: fmt::Write>(&self, f: &mut fmt::Formatter<W>) -> fmt::Result {
-        write!(f, "attached")?;
-        for (cntlid, nsid) in self.0 {
-            write!(f, " controller {cntlid} namespace {nsid}")?;
+        write!(f, "attached{}", EachAttachment(self.0))
+    }
+}
+
+/// Attachments, one after the other.
+#[derive(Clone, Copy)]
+struct EachAttachment<'a>(&'a [(u16, u32)]);
+
+impl fmt::Display for EachAttachment<'_> {
+    ghost output = { λ a. Some (flat_map attachment_text a.0.now) };
+
+    fn fmt<W: fmt::Write>(&self, f: &mut fmt::Formatter<W>) -> fmt::Result {
+        let mut rest = self.0;
+        while let Some((first, behind)) = rest.split_first() {
+            write!(f, "{}", AttachmentText(*first))?;
+            rest = behind;
         }
         Ok(())
+    }
+}
+
+/// An attachment: a controller, and a namespace.
+#[derive(Clone, Copy)]
+struct AttachmentText((u16, u32));
+
+impl fmt::Display for AttachmentText {
+    ghost output = { λ a. Some (attachment_text a.0) };
+
+    fn fmt<W: fmt::Write>(&self, f: &mut fmt::Formatter<W>) -> fmt::Result {
+        let (cntlid, nsid) = self.0;
+        write!(f, " controller {cntlid} namespace {nsid}")
     }
 }
 
@@ -64,24 +110,48 @@ pub struct ReservationText<'a> {
 }
 
 impl fmt::Display for ReservationText<'_> {
+    ghost output = { λ r. Some (reservation_text r.nsid r.reservation.now r.protected) };
+
     fn fmt<W: fmt::Write>(&self, f: &mut fmt::Formatter<W>) -> fmt::Result {
-        let protected = self.protected;
-        let generation = self.reservation.generation();
-        let persists = u8::from(self.reservation.ptpl());
+        let reservation = self.reservation;
         write!(
             f,
-            "reservation {} {}",
+            "reservation {} {} generation {} persists {} protected {}{}",
             self.nsid,
-            HoldText(self.reservation.hold())
-        )?;
-        write!(
-            f,
-            " generation {generation} persists {persists} protected {protected}"
-        )?;
-        for registrant in self.reservation.registrants() {
-            write!(f, "{}", RegistrantText(*registrant))?;
+            HoldText(reservation.hold()),
+            reservation.generation(),
+            bit_name(reservation.ptpl()),
+            self.protected,
+            RegistrantsText(reservation.registrants())
+        )
+    }
+}
+
+/// The upper and the lower 64 bits of a number.
+fn halves(number: u128) -> (u64, u64)
+    ensures upper { result.0 ≡ number / 18446744073709551616 }
+    ensures lower { result.1 ≡ number % 18446744073709551616 }
+{
+    let upper = number / 18_446_744_073_709_551_616;
+    let lower = number % 18_446_744_073_709_551_616;
+    (upper as u64, lower as u64)
+}
+
+/// The identifier of a host, in hexadecimal.
+#[derive(Clone, Copy)]
+struct HostText(u128);
+
+impl fmt::Display for HostText {
+    ghost output = { λ h. Some (host_text h.0) };
+
+    #[tactic(auto, unfolding(crate::specs::Showing::host_text))]
+    fn fmt<W: fmt::Write>(&self, f: &mut fmt::Formatter<W>) -> fmt::Result {
+        let (upper, lower) = halves(self.0);
+        if upper == 0 {
+            write!(f, "0x{lower:x}")
+        } else {
+            write!(f, "0x{upper:x}{lower:016x}")
         }
-        Ok(())
     }
 }
 
@@ -90,12 +160,33 @@ impl fmt::Display for ReservationText<'_> {
 struct HoldText(Hold);
 
 impl fmt::Display for HoldText {
+    ghost output = { λ h. Some (hold_text h.0) };
+
     fn fmt<W: fmt::Write>(&self, f: &mut fmt::Formatter<W>) -> fmt::Result {
         match self.0 {
             Hold::Free => write!(f, "type 0 holder none"),
-            Hold::One(rtype, host) => write!(f, "type {rtype} holder 0x{host:x}"),
+            Hold::One(rtype, host) => {
+                write!(f, "type {rtype} holder {}", HostText(u128::from(host)))
+            }
             Hold::All(rtype) => write!(f, "type {rtype} holder all"),
         }
+    }
+}
+
+/// Registrants, one after the other.
+#[derive(Clone, Copy)]
+struct RegistrantsText<'a>(&'a [Registrant]);
+
+impl fmt::Display for RegistrantsText<'_> {
+    ghost output = { λ r. Some (flat_map registrant_text r.0.now) };
+
+    fn fmt<W: fmt::Write>(&self, f: &mut fmt::Formatter<W>) -> fmt::Result {
+        let mut rest = self.0;
+        while let Some((first, behind)) = rest.split_first() {
+            write!(f, "{}", RegistrantText(*first))?;
+            rest = behind;
+        }
+        Ok(())
     }
 }
 
@@ -104,7 +195,11 @@ impl fmt::Display for HoldText {
 struct RegistrantText(Registrant);
 
 impl fmt::Display for RegistrantText {
+    ghost output = { λ r. Some (registrant_text r.0) };
+
     fn fmt<W: fmt::Write>(&self, f: &mut fmt::Formatter<W>) -> fmt::Result {
-        write!(f, " registrant 0x{:x} key 0x{:x}", self.0.host, self.0.key)
+        let host = HostText(u128::from(self.0.host));
+        let key = self.0.key;
+        write!(f, " registrant {host} key 0x{key:x}")
     }
 }

@@ -1,32 +1,27 @@
-use Rattle.std.proofs.Common.{◌≡◌}
-use Rattle.std.specs.Io.KnownBytes.{Appends}
+use Rattle.std.proofs.Common.{sym, ap, ◌∙◌}
 use Rattle.nvme_event.specs.Replies.{Reply}
 use Rattle.nvme_transcript.specs.Transcript.{seen_line}
 use Rattle.nvme_fleet.specs.FleetStates.{data_in, layers_of}
-use Rattle.nvme_fleet.specs.Layers.{Step}
-use Rattle.nvme_script.proofs.Running.{on_ok-map, on_err-map}
-use Rattle.nvme_live.specs.Answers.{Broke, Happened}
-use Rattle.nvme_live.specs.Saying.{Breaks}
+use Rattle.nvme_fleet.proofs.LayerCalls.{layer_calls_are_of_a_step, replied}
+use Rattle.nvme_grammar.specs.Lent.{event_by_value}
+use Rattle.nvme_script.proofs.ByValue.{calls-by_value, line-by_value}
+use Rattle.nvme_live.specs.Answers.{Happens}
+use Rattle.nvme_live.proofs.Turns.{answers-by}
 use Rattle.nvme_live.proofs.turn.apply.Goals as goal
 
-pub returns-clause-ok : goal.returns-clause-ok
-returns-clause-ok g c =
-    let before = g.W.Write.contents c.args.writer.now in
-    let after = g.W.Write.contents c.say.new.writer in
+pub returns : goal.returns
+returns g c =
+    let tells = g.M.Medium.tells in
+    let event = c.args.event in
+    let old = layers_of c.args.fleet.now.state in
+    let new = layers_of c.apply-seen.new.self.state in
     let reply : Reply = record { seen = c.apply-seen.result; bytes = data_in c.apply-seen.new.self.state } in
-    let step : Step g.M.Medium.tells (layers_of c.args.fleet.now.state) c.args.event reply (layers_of c.apply-seen.new.self.state) = record { mailboxes = c.apply-seen.ensures.step; below = c.apply-seen.ensures.below } in
-    let made : Appends before after (seen_line c.args.event c.apply-seen.result c.data-data.result.now)
-    → Happened g.M.Medium.tells (layers_of c.args.fleet.now.state) c.args.event before after (layers_of c.apply-seen.new.self.state) =
-    λ wrote. record { reply = reply; step = step; wrote = rw (← c.data-data.ensures.value) wrote } in
-    on_ok-map _ _ c.say.result made c.say.ensures.ok
-
-pub returns-clause-err : goal.returns-clause-err
-returns-clause-err g c =
-    let before = g.W.Write.contents c.args.writer.now in
-    let after = g.W.Write.contents c.say.new.writer in
-    let reply : Reply = record { seen = c.apply-seen.result; bytes = data_in c.apply-seen.new.self.state } in
-    let step : Step g.M.Medium.tells (layers_of c.args.fleet.now.state) c.args.event reply (layers_of c.apply-seen.new.self.state) = record { mailboxes = c.apply-seen.ensures.step; below = c.apply-seen.ensures.below } in
-    let made : Breaks before after (seen_line c.args.event c.apply-seen.result c.data-data.result.now)
-    → Broke g.M.Medium.tells (layers_of c.args.fleet.now.state) c.args.event before after (layers_of c.apply-seen.new.self.state) =
-    λ broke. record { reply = reply; step = step; wrote = rw (← c.data-data.ensures.value) broke } in
-    on_err-map _ _ c.say.result made c.say.ensures.err
+    let called = replied g.M.Medium.step tells old new event c.apply-seen.result (data_in c.apply-seen.new.self.state) c.args.fleet.now.medium c.apply-seen.new.self.medium c.apply-seen.ensures.step c.apply-seen.ensures.calls in
+    let step = layer_calls_are_of_a_step tells old new (event_by_value event) reply called.calls (calls-by_value tells old new event reply called.calls called.are) in
+    let happens : Happens tells old (event_by_value event) (seen_line event c.apply-seen.result c.data-data.result.now) new = record {
+      reply = reply;
+      step = step;
+      says = ap (λ bytes. seen_line event c.apply-seen.result bytes) c.data-data.ensures.value ∙ sym (line-by_value event reply);
+    } in
+    answers-by c.say.result (λ answer. Happens tells old (event_by_value event) answer new) (seen_line event c.apply-seen.result c.data-data.result.now)
+    (g.W.Write.contents c.args.writer.now) (g.W.Write.contents c.say.new.writer) happens c.say.ensures.ok c.say.ensures.err

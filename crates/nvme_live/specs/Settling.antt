@@ -1,0 +1,35 @@
+-- What a line before `start` comes to.
+use Rattle.std.specs.Prelude.{◌≡◌, ℕ, List, Option, Result, Ok, Err}
+use Rattle.std.specs.Io.KnownBytes.{Appends}
+use Rattle.nvme_spec.specs.Blocks.{Device}
+use Rattle.nvme_spec.specs.Configuration.{Configuration}
+use Rattle.nvme_grammar.specs.declared.line.Line.{Line}
+use Rattle.nvme_grammar.specs.declared.line.Line.TheVariants.{Start}
+use Rattle.nvme_script.specs.declared.run.ScriptFault.{ScriptFault}
+use Rattle.nvme_script.specs.declared.run.ScriptFault.TheVariants.{Syntax, Config, TooLong, NoMemory, Read, Write}
+use Rattle.nvme_live.specs.declared.asking.Asked.{Asked}
+use Rattle.nvme_live.specs.declared.asking.Asked.TheVariants.{Sets}
+use Rattle.nvme_live.specs.declared.setting.Settled.{Settled}
+use Rattle.nvme_live.specs.declared.setting.Settled.TheVariants.{Answered, Started}
+use Rattle.nvme_live.specs.Saying.{Breaks}
+use Rattle.nvme_live.specs.Standings.{Setting, Settles}
+
+-- over any medium the n-th line is answered so, and leaves this configuration
+abbrev pub SettlesAlike : ℕ → Configuration → Asked → List ℕ → Configuration → Type 0
+SettlesAlike n old asks answer new = (blocks : ℕ) (d : Device) → Settles blocks d n old asks answer (Setting new)
+
+-- It was answered; or it is `start`, and nothing was written yet; or its answer was not written whole, or not flushed; or
+-- no memory was found for it.
+abbrev pub Comes : Result Settled ScriptFault → ℕ → Configuration → Asked → Configuration → Option (List ℕ)
+    → Option (List ℕ) → Type 0
+Comes (Ok Answered) n old asks new before after =
+    (answer : List ℕ) × SettlesAlike n old asks answer new × Appends before after answer
+Comes (Ok Started) n old asks new before after = (asks ≡ Sets Start) × (new ≡ old) × (after ≡ before)
+Comes (Err Write) n old asks new before after =
+    (answer : List ℕ) × SettlesAlike n old asks answer new × Breaks before after answer
+Comes (Err NoMemory) n old asks new before after =
+    (line : Line) × (asks ≡ Sets line) × (new ≡ old) × (after ≡ before)
+Comes (Err (Syntax k)) n old asks new before after = ⊥
+Comes (Err (Config k fault)) n old asks new before after = ⊥
+Comes (Err TooLong) n old asks new before after = ⊥
+Comes (Err Read) n old asks new before after = ⊥

@@ -1,0 +1,123 @@
+//! The lines of a session, one after the other: before `start`, and behind it.
+
+ghost use Rattle.std.specs.Prelude.{◌≡◌, ◌<◌, ℕ, IfErr, IfOk, length};
+ghost use Rattle.nvme_spec.specs.Blocks.{Device};
+ghost use Rattle.nvme_ns.specs.Configured.{configuration};
+ghost use Rattle.nvme_fleet.specs.FleetStates.{layers_of};
+ghost use Rattle.nvme_live.specs.Conversations.{Ends, EndsBy, SetsUp};
+ghost use Rattle.nvme_live.specs.Lives.{Rests};
+ghost use Rattle.nvme_live.specs.Standings.{Running};
+
+use crate::asking::asked_of;
+use crate::reading::read_line;
+use crate::rooms::Rooms;
+use crate::setting::{Settled, settle};
+use crate::turn::answer;
+use nvme_fleet::Fleet;
+use nvme_medium::Medium;
+use nvme_script::ScriptFault;
+use nvme_spec::Config;
+use std::io::{BufRead, Write};
+
+/// Answers the lines before the fleet is there, up to `start`, whose number is the answer; `None` at the end of the
+/// input.
+pub fn set_up<R: BufRead, W: Write>(
+    config: &mut Config,
+    line: &mut Vec<u8>,
+    bytes: &mut [u8],
+    identifiers: &mut [u16],
+    text: &mut String,
+    reader: &mut R,
+    writer: &mut W,
+) -> Result<Option<u64>, ScriptFault>
+    requires bytes_room { length bytes.old ≡ 2097153 }
+    requires identifiers_room { length identifiers.old ≡ 2097153 }
+    ensures { SetsUp result (configuration config.old) (configuration config.new)
+        (R.remaining reader.old) (R.remaining reader.new) (W.contents writer.old) (W.contents writer.new) }
+{
+    for number in 1..u64::MAX {
+        match read_line(reader, line) {
+            Ok(true) => {}
+            Ok(false) => return Ok(None),
+            Err(fault) => return Err(fault),
+        }
+        let asked = asked_of(line.as_slice(), bytes, identifiers);
+        match settle(number, asked, config, text, writer) {
+            Ok(Settled::Answered) => {}
+            Ok(Settled::Started) => return Ok(Some(number)),
+            Err(fault) => return Err(fault),
+        }
+    }
+    Err(ScriptFault::Read)
+}
+
+/// Answers the lines once the fleet is there, up to the end of the input.
+fn converse<R: BufRead, W: Write, M: Medium>(
+    first: u64,
+    fleet: &mut Fleet<M>,
+    line: &mut Vec<u8>,
+    bytes: &mut [u8],
+    identifiers: &mut [u16],
+    blocks: &mut [u8],
+    text: &mut String,
+    reader: &mut R,
+    writer: &mut W,
+) -> Result<(), ScriptFault>
+    requires bytes_room { length bytes.old ≡ 2097153 }
+    requires identifiers_room { length identifiers.old ≡ 2097153 }
+    requires blocks_room { length blocks.old ≡ 131072 }
+    ensures ok { IfOk result (λ _. (size : ℕ) (d : Device) → Ends M.tells size d first
+        (Running (layers_of fleet.old.state)) (Running (layers_of fleet.new.state))
+        (R.remaining reader.old) (R.remaining reader.new) (W.contents writer.old) (W.contents writer.new)) }
+    ensures fault { IfErr result (λ e. (size : ℕ) (d : Device) → EndsBy e M.tells size d first
+        (Running (layers_of fleet.old.state)) (Running (layers_of fleet.new.state))
+        (R.remaining reader.old) (R.remaining reader.new) (W.contents writer.old) (W.contents writer.new)) }
+{
+    for number in first..u64::MAX {
+        match read_line(reader, line) {
+            Ok(true) => {}
+            Ok(false) => return Ok(()),
+            Err(fault) => return Err(fault),
+        }
+        let asked = asked_of(line.as_slice(), bytes, identifiers);
+        if answer(number, asked, fleet, blocks, text, writer).is_err() {
+            return Err(ScriptFault::Write);
+        }
+    }
+    Err(ScriptFault::Read)
+}
+
+/// Answers the lines once the fleet is there, and gives the medium back.
+pub fn run_on<R: BufRead, W: Write, M: Medium>(
+    first: u64,
+    mut fleet: Fleet<M>,
+    rooms: &mut Rooms,
+    reader: &mut R,
+    writer: &mut W,
+) -> Result<M, (ScriptFault, M)>
+    requires bytes_room { length rooms.old.bytes.items ≡ 2097153 }
+    requires identifiers_room { length rooms.old.identifiers.items ≡ 2097153 }
+    requires blocks_room { length rooms.old.blocks.items ≡ 131072 }
+    ensures ok { IfOk result (λ after. (size : ℕ) (d : Device) → Rests (λ last. Ends M.tells size d first
+        (Running (layers_of fleet.state)) last (R.remaining reader.old) (R.remaining reader.new)
+        (W.contents writer.old) (W.contents writer.new)) d (M.device after)) }
+    ensures fault { IfErr result (λ e. (size : ℕ) (d : Device) → Rests (λ last. EndsBy e.0 M.tells size d first
+        (Running (layers_of fleet.state)) last (R.remaining reader.old) (R.remaining reader.new)
+        (W.contents writer.old) (W.contents writer.new)) d (M.device e.1)) }
+{
+    let ran = converse(
+        first,
+        &mut fleet,
+        &mut rooms.line,
+        &mut rooms.bytes,
+        &mut rooms.identifiers,
+        &mut rooms.blocks,
+        &mut rooms.text,
+        reader,
+        writer,
+    );
+    match ran {
+        Ok(()) => Ok(fleet.into_medium()),
+        Err(fault) => Err((fault, fleet.into_medium())),
+    }
+}

@@ -1,0 +1,45 @@
+//! What a session begins with.
+
+ghost use Rattle.std.specs.Prelude.{◌≡◌, ℕ, IfErr, IfOk, Ok, length};
+ghost use Rattle.script_text.specs.Reading.{IsRead};
+ghost use Rattle.nvme_script.specs.Faults.{IsEarlyFault, IsReady, IsWrite, ReadsThen};
+
+use crate::rooms::Rooms;
+use nvme_grammar::{Script, parse};
+use nvme_script::ScriptFault;
+use script_text::{Source, read_text};
+use std::alloc::Global;
+
+/// What a session begins with: the script that is run first, what it says, and the room that lines work in.
+#[derive(Drop)]
+pub(crate) struct Opening {
+    pub text: Vec<u8>,
+    pub script: Script,
+    pub rooms: Rooms,
+}
+
+/// Reads the script that is run first, and makes the room that lines work in.
+pub(crate) fn prepare<S: Source>(alloc: Global, script: &mut S) -> Result<Opening, ScriptFault>
+    ensures text { IfOk result (λ opening. IsRead S.step S.remaining script.old (Ok opening.text.items) script.new) }
+    ensures script { IfOk result (λ opening. IsReady opening.text.items opening.script) }
+    ensures bytes { IfOk result (λ opening. length opening.rooms.bytes.items ≡ 2097153) }
+    ensures identifiers { IfOk result (λ opening. length opening.rooms.identifiers.items ≡ 2097153) }
+    ensures blocks { IfOk result (λ opening. length opening.rooms.blocks.items ≡ 131072) }
+    ensures fault { IfErr result (λ fault. ReadsThen S.step S.remaining script.old script.new fault
+        (λ text. (size : ℕ) → IsEarlyFault fault text size)) }
+    ensures early { IfErr result (λ fault. ¬ IsWrite fault) }
+{
+    let text = read_text(alloc, script)?;
+    let mut rooms = Rooms::new(alloc)?;
+    let script = parse(
+        alloc,
+        text.as_slice(),
+        &mut rooms.bytes,
+        &mut rooms.identifiers,
+    )?;
+    Ok(Opening {
+        text,
+        script,
+        rooms,
+    })
+}

@@ -1,0 +1,188 @@
+//! What a looking line shows, as a value whose text is the answer.
+
+ghost use Rattle.std.specs.Prelude.{◌≡◌, Some};
+ghost use Rattle.nvme_machine.specs.Subsystems.{controller_at};
+ghost use Rattle.nvme_fleet.specs.FleetStates.{layers_of};
+ghost use Rattle.live_text.specs.Faults.{refusal};
+ghost use Rattle.nvme_live.specs.Showing.{controller_shown, driver_shown, early_text, of_controller, reservation_shown, shown_text, window_shown};
+ghost use Rattle.nvme_live.specs.Shown.{shown_by};
+
+use crate::views::commands::FetchedText;
+use crate::views::controllers::{RegisterText, RegistersText, WindowText};
+use crate::views::drivers::DriverText;
+use crate::views::queues::QueuesText;
+use crate::views::spaces::{AttachedText, NamespacesText, ReservationText};
+use live_text::{Form, Looking, Refusal, Why};
+use nvme_fleet::{Controller, Fleet};
+use nvme_medium::Medium;
+use nvme_ns::Spaces;
+use std::fmt;
+
+/// How many bytes of a window a line shows at most.
+const MOST_BYTES: u32 = 131_072;
+
+/// The first words of all lines of a session.
+const ALL_LINES: &str =
+    "help controller namespace attached start up read write compare zeroes flush register \
+acquire release report identify protect protection attach detach ring fetch execute poll reset store write32 \
+powercycle ?window ?register ?registers ?queues ?fetched ?driver ?namespaces ?reservation ?attached ?blocks ?help";
+
+/// What a looking line shows.
+#[derive(Clone, Copy)]
+pub enum Shown<'a> {
+    /// Nothing, for this reason.
+    Nothing(Refusal),
+    /// The first words of all lines.
+    Help,
+    /// How lines are written.
+    HelpOn(Form),
+    Window(WindowText<'a>),
+    Register(RegisterText),
+    Registers(RegistersText<'a>),
+    Queues(QueuesText<'a>),
+    Fetched(FetchedText<'a>),
+    Driver(DriverText<'a>),
+    Namespaces(NamespacesText<'a>),
+    Attached(AttachedText<'a>),
+    Reservation(ReservationText<'a>),
+}
+
+impl fmt::Display for Shown<'_> {
+    ghost output = { λ shown. Some (shown_by shown) };
+
+    fn fmt<W: fmt::Write>(&self, f: &mut fmt::Formatter<W>) -> fmt::Result {
+        match self {
+            Shown::Nothing(refusal) => write!(f, "{refusal}"),
+            Shown::Help => write!(f, "{ALL_LINES}"),
+            Shown::HelpOn(form) => write!(f, "help {form}"),
+            Shown::Window(text) => write!(f, "{text}"),
+            Shown::Register(text) => write!(f, "{text}"),
+            Shown::Registers(text) => write!(f, "{text}"),
+            Shown::Queues(text) => write!(f, "{text}"),
+            Shown::Fetched(text) => write!(f, "{text}"),
+            Shown::Driver(text) => write!(f, "{text}"),
+            Shown::Namespaces(text) => write!(f, "{text}"),
+            Shown::Attached(text) => write!(f, "{text}"),
+            Shown::Reservation(text) => write!(f, "{text}"),
+        }
+    }
+}
+
+/// Nothing, for this reason, at the line with this number.
+fn nothing<'a>(number: u64, why: Why) -> Shown<'a>
+    ensures { shown_by result ≡ refusal number why }
+{
+    Shown::Nothing(Refusal { number, why })
+}
+
+/// What is shown before there is anything to look at.
+pub fn shown_early<'a>(number: u64, looking: Looking) -> Shown<'a>
+    ensures { shown_by result ≡ early_text number looking }
+{
+    match looking {
+        Looking::Help => Shown::Help,
+        Looking::HelpOn(form) => Shown::HelpOn(form),
+        _ => nothing(number, Why::BehindStart),
+    }
+}
+
+/// What is shown of a window.
+fn window_of(number: u64, place: (u16, u64, u32), controller: &Controller) -> Shown<'_>
+    ensures { shown_by result ≡ window_shown number place.0 place.1 place.2 controller.now }
+{
+    let (cntlid, address, len) = place;
+    if len > MOST_BYTES {
+        return nothing(number, Why::OutsideWindow);
+    }
+    match controller.window().piece(address, u64::from(len)) {
+        Some(bytes) => Shown::Window(WindowText {
+            cntlid,
+            address,
+            bytes,
+        }),
+        None => nothing(number, Why::OutsideWindow),
+    }
+}
+
+/// What is shown of a controller.
+fn controller_of(number: u64, looking: Looking, controller: &Controller) -> Shown<'_>
+    ensures { shown_by result ≡ controller_shown number looking controller.now }
+{
+    match looking {
+        Looking::Window {
+            cntlid,
+            address,
+            len,
+        } => window_of(number, (cntlid, address, len), controller),
+        Looking::Register { cntlid, offset } => {
+            let value = controller.read32(offset);
+            Shown::Register(RegisterText {
+                cntlid,
+                offset,
+                value,
+            })
+        }
+        Looking::Registers(cntlid) => Shown::Registers(RegistersText { cntlid, controller }),
+        Looking::Queues(cntlid) => Shown::Queues(QueuesText { cntlid, controller }),
+        Looking::Fetched(cntlid) => {
+            let commands = controller.fetched();
+            Shown::Fetched(FetchedText { cntlid, commands })
+        }
+        _ => nothing(number, Why::NoController),
+    }
+}
+
+/// What is shown of a namespace's reservation.
+fn reservation_of(number: u64, nsid: u32, spaces: &Spaces) -> Shown<'_>
+    ensures { shown_by result ≡ reservation_shown number nsid spaces.now }
+{
+    match spaces.namespace(nsid) {
+        Some(namespace) => Shown::Reservation(ReservationText {
+            nsid,
+            reservation: namespace.reservation(),
+            protected: namespace.protection_state(),
+        }),
+        None => nothing(number, Why::NoNamespace),
+    }
+}
+
+/// What is shown of a controller, if there is one with this identifier.
+fn named<M: Medium>(number: u64, cntlid: u16, looking: Looking, fleet: &Fleet<M>) -> Shown<'_>
+    ensures { shown_by result ≡ of_controller number (controller_at fleet.now.state.subsystem cntlid)
+        (controller_shown number looking) }
+{
+    match fleet.controller(cntlid) {
+        Some(controller) => controller_of(number, looking, controller),
+        None => nothing(number, Why::NoController),
+    }
+}
+
+/// What is shown of a host's driver, if it has one.
+fn driver_of<M: Medium>(number: u64, cntlid: u16, fleet: &Fleet<M>) -> Shown<'_>
+    ensures { shown_by result ≡ driver_shown number cntlid fleet.now.state.drivers }
+{
+    match fleet.driver(cntlid) {
+        Some(driver) => Shown::Driver(DriverText { cntlid, driver }),
+        None => nothing(number, Why::NoDriver),
+    }
+}
+
+/// What the line with this number shows, one that looks at anything but blocks.
+pub fn shown_of<M: Medium>(number: u64, looking: Looking, fleet: &Fleet<M>) -> Shown<'_>
+    ensures { shown_by result ≡ shown_text number looking (layers_of fleet.now.state) }
+{
+    match looking {
+        Looking::Help => Shown::Help,
+        Looking::HelpOn(form) => Shown::HelpOn(form),
+        Looking::Namespaces => Shown::Namespaces(NamespacesText(fleet.spaces().namespaces())),
+        Looking::Attached => Shown::Attached(AttachedText(fleet.spaces().attachments())),
+        Looking::Reservation(nsid) => reservation_of(number, nsid, fleet.spaces()),
+        Looking::Driver(cntlid) => driver_of(number, cntlid, fleet),
+        Looking::Window { cntlid, .. }
+        | Looking::Register { cntlid, .. }
+        | Looking::Registers(cntlid)
+        | Looking::Queues(cntlid)
+        | Looking::Fetched(cntlid) => named(number, cntlid, looking, fleet),
+        Looking::Blocks { .. } => nothing(number, Why::OutsideNamespace),
+    }
+}
