@@ -1,0 +1,60 @@
+/* Round trips a second of an nvmelive over two pipes: PROGRAM COUNT. It rings, fetches, executes and polls in turn, and
+   reads each answer before it writes the next line. It says too how much memory the program had at the first line and
+   at the last, in KiB, where the system tells. */
+#include <stdio.h>
+#include <stdlib.h>
+#include <string.h>
+#include <sys/types.h>
+#include <time.h>
+#include <unistd.h>
+
+static char held[1 << 16];
+
+static void ask(int to, int from, const char *line) {
+    size_t len = strlen(line), got = 0;
+    if (write(to, line, len) != (ssize_t)len) exit(2);
+    do {
+        ssize_t n = read(from, held + got, sizeof held - got);
+        if (n <= 0) exit(3);
+        got += (size_t)n;
+    } while (held[got - 1] != '\n');
+}
+
+static long memory_of(pid_t process) {
+    char path[64], line[256];
+    long kib = 0;
+    snprintf(path, sizeof path, "/proc/%ld/status", (long)process);
+    FILE *file = fopen(path, "r");
+    if (!file) return 0;
+    while (fgets(line, sizeof line, file)) sscanf(line, "VmRSS: %ld", &kib);
+    fclose(file);
+    return kib;
+}
+
+int main(int argc, char **argv) {
+    static const char *set_up[] = {"controller 1 host 0xa1\n", "namespace 1 blocks 64 shared\n", "attached 1 1\n",
+                                   "start\n", "up 1\n"};
+    static const char *lines[] = {"ring 1\n", "fetch 1 1\n", "execute 1 0\n", "poll 1\n"};
+    int down[2], up[2];
+    struct timespec begun, ended;
+    if (argc != 3 || pipe(down) || pipe(up)) return 1;
+    long count = atol(argv[2]);
+    pid_t process = fork();
+    if (process == 0) {
+        dup2(down[0], 0);
+        dup2(up[1], 1);
+        close(down[0]), close(down[1]), close(up[0]), close(up[1]);
+        execl(argv[1], argv[1], (char *)0);
+        _exit(127);
+    }
+    close(down[0]), close(up[1]);
+    for (int i = 0; i < 5; i++) ask(down[1], up[0], set_up[i]);
+    long before = memory_of(process);
+    clock_gettime(CLOCK_MONOTONIC, &begun);
+    for (long i = 0; i < count; i++) ask(down[1], up[0], lines[i % 4]);
+    clock_gettime(CLOCK_MONOTONIC, &ended);
+    double seconds = (ended.tv_sec - begun.tv_sec) + (ended.tv_nsec - begun.tv_nsec) / 1e9;
+    printf("%ld round trips, %.0f a second; %ld KiB at the first, %ld KiB at the last\n", count, count / seconds,
+           before, memory_of(process));
+    return 0;
+}
