@@ -3,6 +3,7 @@
 
 mod asking;
 mod conversation;
+mod examples;
 pub mod laws;
 mod names;
 mod opening;
