@@ -1,6 +1,6 @@
 //! Worked examples of the definitions: the contract of each function here is computed by the check.
 
-ghost use Rattle.std.specs.Prelude.{◌≡◌, ◌++◌, ◌∷◌, [], Some, None, codes, replicate};
+ghost use Rattle.std.specs.Prelude.{◌≡◌, ◌+◌, ◌^◌, ◌++◌, ◌∷◌, [], Some, None, codes, replicate};
 ghost use Rattle.script_text.specs.Numbers.{number_at};
 ghost use Rattle.script_text.specs.Words.{line_words};
 ghost use Rattle.script_text.specs.Data.{data_at, bytes_at};
@@ -13,6 +13,7 @@ pub fn numbers()
     ensures lower_case { number_at 32 (codes "0xdeadbeef") ≡ Some 0xdeadbeef }
     ensures upper_case { number_at 32 (codes "0xDEADbeef") ≡ Some 0xdeadbeef }
     ensures widest { number_at 64 (codes "0xffffffffffffffff") ≡ Some 18446744073709551615 }
+    ensures of_128_bits { number_at 128 (codes "18446744073709551777") ≡ Some (2 ^ 64 + 161) }
 {}
 
 #[tactic(auto, unfolding(crate::specs::Numbers::number_at))]
@@ -21,6 +22,7 @@ pub fn no_numbers()
     ensures above_16_bits { number_at 16 (codes "65536") ≡ None }
     ensures above_32_bits { number_at 32 (codes "0x100000000") ≡ None }
     ensures above_64_bits { number_at 64 (codes "18446744073709551616") ≡ None }
+    ensures above_128_bits { number_at 128 (codes "0x100000000000000000000000000000000") ≡ None }
     ensures plus { number_at 64 (codes "+1") ≡ None }
     ensures minus { number_at 64 (codes "-1") ≡ None }
     ensures no_digit { number_at 64 (codes "0x") ≡ None }

@@ -4,6 +4,25 @@
 ghost use Rattle.std.specs.Prelude.{◌≡◌, ◌^◌, ◌≤◌};
 ghost use Rattle.script_text.specs.Numbers.{numeral, below, number_at};
 
+/// The number that digits of a base spell, where it fits 128 bits.
+fn wide_numeral_of(digits: &[u8], base: u32) -> Option<u128>
+    requires low { 2 ≤ base }
+    requires high { base ≤ 16 }
+    ensures { result ≡ below (2 ^ 128) (numeral base digits.now) }
+{
+    if digits.is_empty() {
+        return None;
+    }
+    let mut value: u128 = 0;
+    for byte in digits {
+        let digit = char::from(*byte).to_digit(base)?;
+        value = value
+            .checked_mul(u128::from(base))?
+            .checked_add(u128::from(digit))?;
+    }
+    Some(value)
+}
+
 /// The number that digits of a base spell, where it fits 64 bits.
 #[inline(always)]
 fn numeral_of(digits: &[u8], base: u32) -> Option<u64>
@@ -22,6 +41,17 @@ fn numeral_of(digits: &[u8], base: u32) -> Option<u64>
             .checked_add(u64::from(digit))?;
     }
     Some(value)
+}
+
+/// The number of 128 bits that a word spells. `None` where it spells none, or one that does not fit.
+#[tactic(auto, unfolding(crate::specs::Numbers::number_at))]
+pub fn number_u128(word: &[u8]) -> Option<u128>
+    ensures value { result ≡ number_at 128 word.now }
+{
+    match word.strip_prefix(b"0x".as_slice()) {
+        Some(digits) => wide_numeral_of(digits, 16),
+        None => wide_numeral_of(word, 10),
+    }
 }
 
 /// The number of 64 bits that a word spells. `None` where it spells none, or one that does not fit.

@@ -1,4 +1,4 @@
-use Rattle.std.proofs.Common.{[], ◌≡◌, ◌<◌, ◌∷◌, arith, length, take, drop, sym, ap, ◌∙◌, true, false, refl, rules}
+use Rattle.std.proofs.Common.{◌≡◌, ◌<◌, ◌∷◌, arith, length, take, drop, sym, ap, ◌∙◌, true, false, refl, rules}
 use Rattle.std.proofs.lemmas.List.Sums.{prefix_len-le-length}
 use Rattle.std.proofs.lemmas.Grind.{common_steps}
 use Rattle.script_text.specs.Words.{line_words, is_visible, is_line_text, is_separator}
