@@ -1,5 +1,5 @@
 -- What a power cycle leaves of the access state.
-use Rattle.std.proofs.Common.{◌≡◌, ℕ, ◌==◌, Bool, true, false, cond, List, [], ◌∷◌, map, Option, None, Some, refl, sym, ap, subst, ◌∙◌}
+use Rattle.std.proofs.Common.{◌≡◌, ℕ, ◌==◌, Bool, true, false, cond, List, [], ◌∷◌, map, Option, None, Some, refl, sym, ap, ◌∙◌}
 use Rattle.std.specs.Prelude.{find, option_map, if◌then◌else◌}
 use Rattle.std.specs.List.{AllByRecursion}
 use Rattle.nvme_spec.specs.declared.access.Group.{Group}
@@ -11,7 +11,7 @@ use Rattle.nvme_spec.specs.Reservation.{Reservation, unreserved}
 use Rattle.nvme_spec.specs.World.{World, Namespace, host_of, namespace_of}
 use Rattle.nvme_spec.specs.IoRules.{permits_group}
 use Rattle.nvme_spec.specs.Layout.{Extent, extent_of, reservation_of, may_read, may_write}
-use Rattle.nvme_spec.specs.Sound.{IsSound, IsSoundReservation, Site, site_of}
+use Rattle.nvme_spec.specs.Sound.{IsSoundReservation, site_of}
 use Rattle.nvme_spec.specs.Power.{cycled_reservation, cycled_protection, cycled_namespace, cycled_world}
 use Rattle.nvme_spec.specs.PowerLaws.{protection_at, CycleKeepsPlaces, CycleKeepsPersistent, CycleKeepsRights, CycleForgetsOthers, CycleEndsProtection, CycleKeepsItSound, CyclesAreOne}
 use Rattle.nvme_spec.proofs.SoundWorlds.{sound-by}

@@ -1,5 +1,5 @@
 -- What write protection holds.
-use Rattle.std.proofs.Common.{◌≡◌, ◌≢◌, ◌⊎◌, inl, inr, ℕ, ◌==◌, ◌&&◌, ◌||◌, nat_lt, not, Bool, true, false, cond, List, [], ◌∷◌, map, Option, None, Some, Ok, Err, refl, sym, ap, subst, ◌∙◌}
+use Rattle.std.proofs.Common.{◌≡◌, ◌≢◌, inl, inr, ℕ, ◌==◌, ◌&&◌, ◌||◌, nat_lt, not, Bool, true, false, cond, List, [], ◌∷◌, map, Option, None, Some, Ok, Err, refl, sym, ap, ◌∙◌}
 use Rattle.std.specs.Prelude.{find, option_map, if◌then◌else◌}
 use Rattle.std.proofs.lemmas.Bool.{cases_Bool, eqb-true, eqb-false, false≢true}
 use Rattle.nvme_wire.specs.Submission.{opcode, nsid}
@@ -9,7 +9,7 @@ use Rattle.nvme_spec.specs.declared.access.Protection.TheVariants.{Open, Protect
 use Rattle.nvme_spec.specs.declared.command.AdminCommand.{AdminCommand}
 use Rattle.nvme_spec.specs.declared.command.AdminCommand.TheVariants.{DeleteSubmissionQueue, CreateSubmissionQueue, DeleteCompletionQueue, CreateCompletionQueue, Identify, SetFeatures, GetFeatures, NamespaceAttachment}
 use Rattle.nvme_spec.specs.declared.queues.Queues.{Queues}
-use Rattle.nvme_spec.specs.World.{World, Namespace, forbids_writing, namespace_of, with_namespace, with_protection}
+use Rattle.nvme_spec.specs.World.{World, Namespace, forbids_writing, namespace_of, with_protection}
 use Rattle.nvme_spec.specs.IoRules.{is_protected}
 use Rattle.nvme_spec.specs.Layout.{HasSameLayout, unreserved_one}
 use Rattle.nvme_spec.specs.AdminCommands.{command_of, fid, number_of_queues, write_protection, sv, nsqr, ncqr, wps, protection_of, sel}

@@ -126,7 +126,7 @@ data_length DeleteCompletionQueue e = 0
 data_length CreateCompletionQueue e = 0
 data_length Identify e = 4096
 data_length SetFeatures e = 0
-data_length GetFeatures e = if fid e == host_identifier then 8 else 0
+data_length GetFeatures e = if fid e == host_identifier then 16 else 0
 data_length NamespaceAttachment e = 4096
 
 abbrev pub data_length_of : Option AdminCommand → List ℕ → ℕ

@@ -2,7 +2,7 @@
 -- queues and of the world (Base Specification: Create and Delete I/O Completion Queue, Create and Delete I/O Submission
 -- Queue, Identify, Set Features, Get Features, Namespace Attachment).
 use Rattle.std.specs.Prelude.{ℕ, ◌==◌, if◌then◌else◌, List, [], Option, None, Some, unwrap_or, Ok, Err}
-use Rattle.std.specs.Int.{w64, to_le_bytes}
+use Rattle.std.specs.Int.{w128, to_le_bytes}
 use Rattle.nvme_wire.specs.Submission.{opcode, nsid, prp1}
 use Rattle.nvme_wire.specs.declared.status.Status.{Status}
 use Rattle.nvme_spec.specs.declared.command.AdminCommand.{AdminCommand}
@@ -49,7 +49,7 @@ identify_data w cntlid e =
 unfoldable pub data_out : World → ℕ → AdminCommand → List ℕ → List ℕ
 data_out w cntlid Identify e = identify_data w cntlid e
 data_out w cntlid GetFeatures e =
-    if fid e == host_identifier then to_le_bytes w64 (unwrap_or (host_of w cntlid) 0) else []
+    if fid e == host_identifier then to_le_bytes w128 (unwrap_or (host_of w cntlid) 0) else []
 data_out w cntlid command e = []
 
 -- what becomes of the queues

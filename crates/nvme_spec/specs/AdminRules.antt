@@ -132,7 +132,7 @@ get_features_rule e = record {
   tests =
       test (not ((fid e == number_of_queues) || (fid e == write_protection)
       || (fid e == host_identifier))) status.invalid_field_in_command
-      ∷ test ((fid e == host_identifier) && exhid e) status.invalid_field_in_command
+      ∷ test ((fid e == host_identifier) && not (exhid e)) status.invalid_field_in_command
       ∷ [];
 }
 

@@ -71,6 +71,8 @@ controller_fields cntlid =
     ∷ word_field 78 cntlid
     -- VER 2.0
     ∷ dword_field 80 0x00020000
+    -- CTRATT: host identifiers of 128 bits
+    ∷ dword_field 96 0x00000001
     -- CNTRLTYPE: an I/O controller
     ∷ byte_field 111 1
     -- OACS: Namespace Attachment

@@ -60,7 +60,8 @@ field_rule command e = record {
       status.invalid_field_in_command
       ∷ test (is_one_of command (ReservationRelease ∷ [])
       && (nat_lt 1 (action e) || iekey e)) status.invalid_field_in_command
-      ∷ test (is_one_of command (ReservationReport ∷ []) && eds e) status.host_identifier_inconsistent_format
+      ∷ test (is_one_of command (ReservationReport ∷ [])
+      && not (eds e)) status.host_identifier_inconsistent_format
       ∷ test (is_one_of command (ReservationReport ∷ [])
       && nat_lt most_bytes (report_length e)) status.invalid_field_in_command
       ∷ [];

@@ -1,6 +1,6 @@
 -- What a power cycle makes of the access state (Base Specification: Persist Through Power Loss of Reservations;
 -- Namespace Write Protection, Write Protect Until Power Cycle).
-use Rattle.std.specs.Prelude.{Bool, if◌then◌else◌, List, map}
+use Rattle.std.specs.Prelude.{if◌then◌else◌, map}
 use Rattle.nvme_spec.specs.declared.access.Protection.{Protection}
 use Rattle.nvme_spec.specs.declared.access.Protection.TheVariants.{Open, Protected, UntilCycle}
 use Rattle.nvme_spec.specs.Reservation.{Reservation, unreserved}

@@ -1,8 +1,8 @@
 -- The data of Reservation Report (NVM Express Base Specification 2.0, "Reservation Report command", Reservation Status
--- Data Structure): a header, and an entry for each controller whose host is registered.
+-- Extended Data Structure): a header, and an entry for each controller whose host is registered, of 64 bytes each.
 use Rattle.std.specs.Prelude.{ℕ, ◌-◌, ◌<◌, ◌==◌, Bool, if◌then◌else◌, Option, option_map, unwrap_or, find, List, [], ◌∷◌, ◌++◌, length, filter, flat_map, replicate, take}
 use Rattle.std.specs.List.{AllByRecursion}
-use Rattle.std.specs.Int.{w16, w32, w64, to_le_bytes}
+use Rattle.std.specs.Int.{w16, w32, w64, w128, to_le_bytes}
 use Rattle.nvme_spec.specs.declared.access.Registrant.{Registrant}
 use Rattle.nvme_spec.specs.declared.access.Hold.{Hold}
 use Rattle.nvme_spec.specs.declared.access.Hold.TheVariants.{Free, One, All}
@@ -36,13 +36,13 @@ reported_controllers r controllers = filter (λ c. is_registered r.registrants c
 unfoldable pub header : Reservation → List ControllerHost → List ℕ
 header r controllers =
     to_le_bytes w32 r.generation ++ type_of r.hold ∷ [] ++ to_le_bytes w16 (length (reported_controllers r controllers))
-    ++ replicate 2 0 ++ (if r.ptpl then 1 else 0) ∷ [] ++ replicate 14 0
+    ++ replicate 2 0 ++ (if r.ptpl then 1 else 0) ∷ [] ++ replicate 54 0
 
--- bytes 0 and 1 the controller identifier, 2 the status with bit 0 set for a holder, 8 to 15 the host, 16 to 23 its key
+-- bytes 0 and 1 the controller identifier, 2 the status with bit 0 set for a holder, 8 to 15 its key, 16 to 31 the host
 unfoldable pub entry_of : ℕ → Bool → ℕ → ℕ → List ℕ
 entry_of cntlid holds host key =
-    to_le_bytes w16 cntlid ++ (if holds then 1 else 0) ∷ [] ++ replicate 5 0 ++ to_le_bytes w64 host
-    ++ to_le_bytes w64 key
+    to_le_bytes w16 cntlid ++ (if holds then 1 else 0) ∷ [] ++ replicate 5 0 ++ to_le_bytes w64 key
+    ++ to_le_bytes w128 host ++ replicate 32 0
 
 -- a registered host has a key
 abbrev pub entry : Reservation → ControllerHost → List ℕ

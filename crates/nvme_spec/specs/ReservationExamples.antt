@@ -1,5 +1,5 @@
 -- Words of the worked examples of reservations.
-use Rattle.std.specs.Prelude.{ℕ, Bool, List, [], ◌∷◌, Ok, Err, true, false}
+use Rattle.std.specs.Prelude.{ℕ, ◌+◌, ◌^◌, Bool, List, [], ◌∷◌, Ok, Err, true, false}
 use Rattle.nvme_spec.specs.declared.access.Registrant.{Registrant}
 use Rattle.nvme_spec.specs.declared.access.Hold.{Hold}
 use Rattle.nvme_spec.specs.declared.access.Role.{Role}
@@ -42,6 +42,10 @@ b2 key_of_b2 = record { host = 0xb2; key = key_of_b2 }
 abbrev pub c3 : ℕ → Registrant
 c3 key_of_c3 = record { host = 0xc3; key = key_of_c3 }
 
+-- a host whose lower 64 bits are those of host a1h
+abbrev pub wide : ℕ → Registrant
+wide its_key = record { host = 2 ^ 64 + 0xa1; key = its_key }
+
 abbrev pub state : List Registrant → Hold → ℕ → Reservation
 state rising held changes = record { registrants = rising; hold = held; generation = changes; ptpl = false }
 
@@ -52,3 +56,7 @@ persistent rising held changes = record { registrants = rising; hold = held; gen
 -- controllers 1 and 3 are of host a1h, controller 2 is of host b2h, controller 4 of host c3h
 abbrev pub four_controllers : List ControllerHost
 four_controllers = (1, 0xa1) ∷ (2, 0xb2) ∷ (3, 0xa1) ∷ (4, 0xc3) ∷ []
+
+-- controller 1 is of the host with a 1 above the lower 64 bits, controllers 2 and 3 of host a1h
+abbrev pub wide_controllers : List ControllerHost
+wide_controllers = (1, 2 ^ 64 + 0xa1) ∷ (2, 0xa1) ∷ (3, 0xa1) ∷ []

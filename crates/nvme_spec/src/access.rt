@@ -1,10 +1,12 @@
 //! Who has which rights to a namespace, and whether it is write protected.
 
+use crate::HostId;
+
 /// A host that is registered with a namespace, and its reservation key.
 #[derive(Clone, Copy, Debug, Default, PartialEq, Eq)]
 pub struct Registrant {
     /// The host identifier.
-    pub host: u64,
+    pub host: HostId,
     /// The reservation key that the host registered.
     pub key: u64,
 }
@@ -15,7 +17,7 @@ pub enum Hold {
     /// Nobody: the namespace is not reserved.
     Free,
     /// One host, which is named: types 1 to 4.
-    One(u8, u64),
+    One(u8, HostId),
     /// Every registrant: types 5 and 6.
     All(u8),
 }

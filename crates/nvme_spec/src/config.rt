@@ -1,5 +1,6 @@
 //! How a subsystem is set up.
 
+use crate::HostId;
 use thiserror::Error;
 
 /// A controller, and the host that it belongs to.
@@ -8,7 +9,7 @@ pub struct ControllerConfig {
     /// The controller identifier: k for the k-th controller of a configuration, from 1.
     pub cntlid: u16,
     /// The host identifier, not 0. Several controllers may belong to one host.
-    pub host: u64,
+    pub host: HostId,
     /// Whether its host is a raw one: it has no driver, and its controller is used by single stores and register
     /// writes. This is of a `Fleet`; a `Subsystem` has no drivers, and reads nothing of it.
     pub raw: bool,

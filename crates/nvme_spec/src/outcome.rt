@@ -2,7 +2,7 @@
 
 ghost use Rattle.std.specs.Prelude.{◌≡◌};
 
-use crate::Denial;
+use crate::{Denial, HostId};
 use arrayvec::ArrayVec;
 use nvme_wire::Status;
 
@@ -13,7 +13,7 @@ pub struct Marks {
     /// The namespace identifier, 0 where there are no hosts.
     pub nsid: u32,
     /// The host identifiers, rising.
-    pub hosts: ArrayVec<u64, 16>,
+    pub hosts: ArrayVec<HostId, 16>,
 }
 
 impl Marks {

@@ -67,11 +67,11 @@ fn features()
         ≡ 0x00030003 }
     ensures refused { (admin_execution cluster_world one_queue_pair 1 (command_entry 9 0 0 0x07 0x00070007) []).dw0
         ≡ 0 }
-    ensures host { (admin_execution cluster_world only_admin_queues 2 (command_entry 10 0 4 0x81 0)
-        (replicate 16 7)).window
-        ≡ replicate 4 7 ++ 0xb2 ∷ replicate 7 0 ++ replicate 4 7 }
-    ensures no_word { (admin_execution cluster_world only_admin_queues 2 (command_entry 10 0 4 0x81 0)
-        (replicate 16 7)).dw0 ≡ 0 }
+    ensures host { (admin_execution cluster_world only_admin_queues 2 (command_entry 10 0 4 0x81 1)
+        (replicate 24 7)).window
+        ≡ replicate 4 7 ++ 0xb2 ∷ replicate 15 0 ++ replicate 4 7 }
+    ensures no_word { (admin_execution cluster_world only_admin_queues 2 (command_entry 10 0 4 0x81 1)
+        (replicate 24 7)).dw0 ≡ 0 }
 {}
 
 /// Structures that are asked for.

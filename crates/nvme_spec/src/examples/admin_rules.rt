@@ -98,17 +98,17 @@ fn set_features()
     ensures reserved { admin_judgement reserved_world only_admin_queues 2 (command_entry 9 1 0 0x84 1) [] ≡ Ok tt }
 {}
 
-/// Features that are asked for: a host identifier of 8 bytes.
+/// Features that are asked for: a host identifier of 16 bytes, and not one of 8.
 fn get_features()
-    ensures host_identifier { admin_judgement cluster_world only_admin_queues 2 (command_entry 10 0 0x5000 0x81 0) []
+    ensures host_identifier { admin_judgement cluster_world only_admin_queues 2 (command_entry 10 0 0x5000 0x81 1) []
         ≡ Ok tt }
-    ensures extended { admin_judgement cluster_world only_admin_queues 2 (command_entry 10 0 0x5000 0x81 1) []
+    ensures not_extended { admin_judgement cluster_world only_admin_queues 2 (command_entry 10 0 0x5000 0x81 0) []
         ≡ denied 6 status.invalid_field_in_command }
     ensures other { admin_judgement cluster_world only_admin_queues 2 (command_entry 10 0 0x5000 0x82 0) []
         ≡ denied 6 status.invalid_field_in_command }
-    ensures offset { admin_judgement cluster_world only_admin_queues 2 (command_entry 10 0 0x5002 0x81 0) []
+    ensures offset { admin_judgement cluster_world only_admin_queues 2 (command_entry 10 0 0x5002 0x81 1) []
         ≡ denied 10 status.prp_offset_invalid }
-    ensures outside { admin_judgement cluster_world only_admin_queues 2 (command_entry 10 0 0x400000 0x81 0) []
+    ensures outside { admin_judgement cluster_world only_admin_queues 2 (command_entry 10 0 0x400000 0x81 1) []
         ≡ denied 10 status.data_transfer_error }
     ensures no_data { admin_judgement cluster_world only_admin_queues 2 (command_entry 10 0 0x5002 0x07 0) [] ≡ Ok tt }
 {}

@@ -87,9 +87,9 @@ fn preempted()
 fn preempted_all()
     ensures taken { after_sent cluster_world (registers 1 0 0 0x11 ∷ registers 2 0 0 0x22 ∷ acquires 1 0 6 0x11 0
         ∷ acquires 2 1 1 0x22 0 ∷ []) ≡ with_reservation cluster_world 1 (state (b2 0x22 ∷ []) (Hold.One 1 0xb2) 3) }
-    ensures report { report_on (with_reservation cluster_world 1 (state (b2 0x22 ∷ []) (Hold.One 1 0xb2) 3)) 1 48 ≡
-        3 ∷ 0 ∷ 0 ∷ 0 ∷ 1 ∷ 1 ∷ replicate 18 0 ++ 2 ∷ 0 ∷ 1 ∷ replicate 5 0 ++ 0xb2 ∷ replicate 7 0
-        ++ 0x22 ∷ replicate 7 0 }
+    ensures report { report_on (with_reservation cluster_world 1 (state (b2 0x22 ∷ []) (Hold.One 1 0xb2) 3)) 1 128 ≡
+        3 ∷ 0 ∷ 0 ∷ 0 ∷ 1 ∷ 1 ∷ replicate 58 0 ++ 2 ∷ 0 ∷ 1 ∷ replicate 5 0 ++ 0x22 ∷ replicate 7 0
+        ++ 0xb2 ∷ replicate 47 0 }
     ensures single { verdict_on
         (after_sent cluster_world (registers 1 0 0 0x11 ∷ registers 2 0 0 0x22 ∷ acquires 1 0 6 0x11 0
         ∷ acquires 2 1 1 0x22 0 ∷ [])) (acquires 2 1 3 0x22 0) ≡ Denied 11 status.invalid_field_in_command }
@@ -105,7 +105,7 @@ fn last_registrant()
     ensures none_left { after_sent (with_reservation cluster_world 1 (state (c3 0x33 ∷ []) (Hold.All 5) 5))
         (registers 4 1 0x33 0 ∷ [])
         ≡ with_reservation cluster_world 1 (state [] Hold.Free 6) }
-    ensures report { report_on (with_reservation cluster_world 1 (state [] Hold.Free 6)) 1 24 ≡ 6 ∷ replicate 23 0 }
+    ensures report { report_on (with_reservation cluster_world 1 (state [] Hold.Free 6)) 1 64 ≡ 6 ∷ replicate 63 0 }
     ensures everyone { verdict (with_reservation cluster_world 1 (state [] Hold.Free 6)) 1
         (transfer_entry 1 1 0 1) false
         ≡ Allowed (record { kind = Command.Write; first = 0; blocks = 1; bytes = 512 }) }

@@ -16,7 +16,8 @@ fn controller()
     ensures firmware_revision { slice_range (identify_controller 3) 64 76 ≡ codes "1.0     " ++ replicate 4 0 }
     ensures identifier { slice_range (identify_controller 3) 76 84
         ≡ 0x02 ∷ 0x05 ∷ 0x03 ∷ 0x00 ∷ 0x00 ∷ 0x00 ∷ 0x02 ∷ 0x00 ∷ [] }
-    ensures kind { slice_range (identify_controller 3) 84 112 ≡ replicate 27 0 ++ 1 ∷ [] }
+    ensures host_identifiers { slice_range (identify_controller 3) 84 100 ≡ replicate 12 0 ++ 1 ∷ 0 ∷ 0 ∷ 0 ∷ [] }
+    ensures kind { slice_range (identify_controller 3) 100 112 ≡ replicate 11 0 ++ 1 ∷ [] }
     ensures admin_commands { slice_range (identify_controller 3) 112 258 ≡ replicate 144 0 ++ 0x08 ∷ 0x00 ∷ [] }
     ensures entries_and_namespaces { slice_range (identify_controller 3) 512 520
         ≡ 0x66 ∷ 0x44 ∷ 0x00 ∷ 0x00 ∷ 0x08 ∷ 0x00 ∷ 0x00 ∷ 0x00 ∷ [] }

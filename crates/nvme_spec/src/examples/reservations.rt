@@ -1,11 +1,11 @@
 //! Reservations of a namespace whose hosts have the identifiers a1h, b2h and c3h.
 
-ghost use Rattle.std.specs.Prelude.{◌≡◌, true, false, [], ◌∷◌, ◌++◌, Err, replicate};
+ghost use Rattle.std.specs.Prelude.{◌≡◌, ◌+◌, ◌^◌, true, false, [], ◌∷◌, ◌++◌, Err, replicate};
 ghost use Rattle.nvme_spec.specs.Reservation.{unreserved, becomes, role_of, register, unregister, replace, acquire, preempt, release, clear};
 ghost use Rattle.nvme_spec.specs.Statuses as status;
 ghost use Rattle.nvme_spec.specs.Access.{is_permitted};
 ghost use Rattle.nvme_spec.specs.Report.{reported_controllers, report_data};
-ghost use Rattle.nvme_spec.specs.ReservationExamples.{preempting, steps, permissions, state, a1, b2, c3, four_controllers};
+ghost use Rattle.nvme_spec.specs.ReservationExamples.{preempting, steps, permissions, state, a1, b2, c3, wide, four_controllers, wide_controllers};
 
 use crate::access::{Group, Hold, Role};
 
@@ -52,17 +52,38 @@ fn preempt_of_all_registrants()
         ∷ (λ r. acquire r 0xa1 6 0x11) ∷ []) ≡ becomes (state (a1 0x11 ∷ b2 0x22 ∷ []) (Hold.All 6) 2) }
     ensures preempted { preempt (state (a1 0x11 ∷ b2 0x22 ∷ []) (Hold.All 6) 2) 0xb2 1 0x22 0
         ≡ preempting (state (b2 0x22 ∷ []) (Hold.One 1 0xb2) 3) (0xa1 ∷ []) }
-    ensures reported { report_data (state (b2 0x22 ∷ []) (Hold.One 1 0xb2) 3) four_controllers 48
-        ≡ (3 ∷ 0 ∷ 0 ∷ 0 ∷ 1 ∷ 1 ∷ []) ++ replicate 18 0 ++ (2 ∷ 0 ∷ 1 ∷ []) ++ replicate 5 0 ++ (0xb2 ∷ [])
-        ++ replicate 7 0 ++ (0x22 ∷ []) ++ replicate 7 0 }
+    ensures reported { report_data (state (b2 0x22 ∷ []) (Hold.One 1 0xb2) 3) four_controllers 128
+        ≡ (3 ∷ 0 ∷ 0 ∷ 0 ∷ 1 ∷ 1 ∷ []) ++ replicate 58 0 ++ (2 ∷ 0 ∷ 1 ∷ []) ++ replicate 5 0 ++ (0x22 ∷ [])
+        ++ replicate 7 0 ++ (0xb2 ∷ []) ++ replicate 47 0 }
     ensures cut { report_data (state (b2 0x22 ∷ []) (Hold.One 1 0xb2) 3) four_controllers 8
         ≡ 3 ∷ 0 ∷ 0 ∷ 0 ∷ 1 ∷ 1 ∷ 0 ∷ 0 ∷ [] }
-    ensures filled { report_data (state (b2 0x22 ∷ []) (Hold.One 1 0xb2) 3) four_controllers 52
-        ≡ report_data (state (b2 0x22 ∷ []) (Hold.One 1 0xb2) 3) four_controllers 48 ++ replicate 4 0 }
+    ensures filled { report_data (state (b2 0x22 ∷ []) (Hold.One 1 0xb2) 3) four_controllers 132
+        ≡ report_data (state (b2 0x22 ∷ []) (Hold.One 1 0xb2) 3) four_controllers 128 ++ replicate 4 0 }
     ensures again_with_type_3 { preempt (state (b2 0x22 ∷ []) (Hold.One 1 0xb2) 3) 0xb2 3 0x22 0
         ≡ Err status.invalid_field_in_command }
     ensures again { preempt (state (b2 0x22 ∷ []) (Hold.One 1 0xb2) 3) 0xb2 1 0x22 0
         ≡ Err status.invalid_field_in_command }
+{}
+
+/// Hosts that differ in their upper 64 bits alone are two hosts, of which one holds the reservation; the other is no
+/// registrant, has no key, and is not reported.
+#[tactic(auto, unfolding(crate::specs::Report::report_data, crate::specs::Report::header, crate::specs::Report::entry_of))]
+fn hosts_of_128_bits()
+    ensures reserved { steps unreserved ((λ r. register r (2 ^ 64 + 0xa1) 0x11)
+        ∷ (λ r. acquire r (2 ^ 64 + 0xa1) 2 0x11) ∷ [])
+        ≡ becomes (state (wide 0x11 ∷ []) (Hold.One 2 (2 ^ 64 + 0xa1)) 1) }
+    ensures holder { role_of (state (wide 0x11 ∷ []) (Hold.One 2 (2 ^ 64 + 0xa1)) 1) (2 ^ 64 + 0xa1) ≡ Role.Holder }
+    ensures outsider { role_of (state (wide 0x11 ∷ []) (Hold.One 2 (2 ^ 64 + 0xa1)) 1) 0xa1 ≡ Role.Outsider }
+    ensures registrant { role_of (state (a1 0x11 ∷ wide 0x12 ∷ []) (Hold.One 2 (2 ^ 64 + 0xa1)) 1) 0xa1
+        ≡ Role.Registrant }
+    ensures other_key { acquire (state (a1 0x11 ∷ wide 0x12 ∷ []) Hold.Free 1) 0xa1 2 0x12
+        ≡ Err status.reservation_conflict }
+    ensures reported { report_data (state (wide 0x11 ∷ []) (Hold.One 2 (2 ^ 64 + 0xa1)) 1) wide_controllers 128
+        ≡ (1 ∷ 0 ∷ 0 ∷ 0 ∷ 2 ∷ 1 ∷ []) ++ replicate 58 0 ++ (1 ∷ 0 ∷ 1 ∷ []) ++ replicate 5 0 ++ (0x11 ∷ [])
+        ++ replicate 7 0 ++ (0xa1 ∷ []) ++ replicate 7 0 ++ (1 ∷ []) ++ replicate 39 0 }
+    ensures own_keys { report_data (state (a1 0x11 ∷ wide 0x12 ∷ []) Hold.Free 2) ((1, 2 ^ 64 + 0xa1) ∷ []) 128
+        ≡ (2 ∷ 0 ∷ 0 ∷ 0 ∷ 0 ∷ 1 ∷ []) ++ replicate 58 0 ++ (1 ∷ []) ++ replicate 7 0 ++ (0x12 ∷ [])
+        ++ replicate 7 0 ++ (0xa1 ∷ []) ++ replicate 7 0 ++ (1 ∷ []) ++ replicate 39 0 }
 {}
 
 /// Registrants leave a type 5 reservation: the hold stays until the last one leaves.
@@ -74,7 +95,7 @@ fn registrants_leave()
     ensures writes { is_permitted (Hold.All 5) Role.Outsider Group.Write ≡ false }
     ensures last_left { unregister (state (c3 0x33 ∷ []) (Hold.All 5) 5) 0xc3 false 0x33
         ≡ becomes (state [] Hold.Free 6) }
-    ensures reported { report_data (state [] Hold.Free 6) four_controllers 24 ≡ 6 ∷ replicate 23 0 }
+    ensures reported { report_data (state [] Hold.Free 6) four_controllers 64 ≡ 6 ∷ replicate 63 0 }
 {}
 
 /// Key 0 is a key like any other, but Preempt never finds it.
