@@ -11,8 +11,8 @@ name_fields =
 -- what kind of controller it is
 abbrev pub kind_fields : ℕ → List Field
 kind_fields cntlid =
-    byte_field 76 0x02 ∷ byte_field 77 5 ∷ word_field 78 cntlid ∷ dword_field 80 0x00020000 ∷ byte_field 111 1
-    ∷ word_field 256 0x0008 ∷ []
+    byte_field 76 0x02 ∷ byte_field 77 5 ∷ word_field 78 cntlid ∷ dword_field 80 0x00020000
+    ∷ dword_field 96 0x00000001 ∷ byte_field 111 1 ∷ word_field 256 0x0008 ∷ []
 
 -- what its I/O commands are like
 abbrev pub command_fields : List Field

@@ -32,7 +32,7 @@ pub fn data_length(command: AdminCommand, sqe: &Sqe) -> u64
 {
     match command {
         AdminCommand::Identify | AdminCommand::NamespaceAttachment => 4096,
-        AdminCommand::GetFeatures if fields::fid(sqe) == fields::HOST_IDENTIFIER => 8,
+        AdminCommand::GetFeatures if fields::fid(sqe) == fields::HOST_IDENTIFIER => 16,
         _ => 0,
     }
 }

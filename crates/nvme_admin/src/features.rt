@@ -103,7 +103,7 @@ pub fn check_get_features(sqe: &Sqe) -> Result<(), Denial>
         || fid == fields::HOST_IDENTIFIER;
     deny_if(!is_known, 6, Status::INVALID_FIELD_IN_COMMAND)?;
     deny_if(
-        fid == fields::HOST_IDENTIFIER && fields::exhid(sqe),
+        fid == fields::HOST_IDENTIFIER && !fields::exhid(sqe),
         6,
         Status::INVALID_FIELD_IN_COMMAND,
     )

@@ -117,6 +117,8 @@ fn fill_kind(structure: &mut [u8], cntlid: u16)
     put_u16(structure, 78, cntlid);
     // VER 2.0.
     put_u32(structure, 80, 0x0002_0000);
+    // CTRATT: host identifiers of 128 bits.
+    put_u32(structure, 96, 0x0000_0001);
     // CNTRLTYPE: an I/O controller.
     put_u8(structure, 111, 1);
     // OACS: Namespace Attachment.

@@ -20,7 +20,7 @@ use crate::queues::{
 };
 use nvme_ns::{Namespace, Spaces};
 use nvme_policy::{check_form, deny_if, is_no_nsid, permits_host};
-use nvme_spec::{AdminCommand, Denial, Group, QueueChange, Queues};
+use nvme_spec::{AdminCommand, Denial, Group, HostId, QueueChange, Queues};
 use nvme_wire::{Sqe, Status};
 
 /// The lowest identifier above which no list of namespaces can begin.
@@ -206,7 +206,7 @@ fn check_selection(namespace: Option<&Namespace>, sqe: &Sqe) -> Result<(), Denia
 fn check_reservation(
     command: AdminCommand,
     namespace: Option<&Namespace>,
-    host: Option<u64>,
+    host: Option<HostId>,
 ) -> Result<(), Denial>
     ensures { result ≡ judgement_by (rules.reservation_rule (Some command) (option_copied namespace.entry) host) }
 {

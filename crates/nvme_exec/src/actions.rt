@@ -10,6 +10,7 @@ ghost use Rattle.nvme_exec.specs.Carrying.{FollowsSome};
 use byteorder::{ByteOrder, LittleEndian};
 use nvme_policy::fields::{action, cptpl, iekey, rtype};
 use nvme_resv::{Change, Reservation};
+use nvme_spec::HostId;
 use nvme_wire::{Sqe, Status};
 
 /// The first key of a command's data: the current one (CRKEY).
@@ -39,7 +40,7 @@ fn other(keys: &[u8]) -> u64
 #[tactic(auto, unfolding(nvme_spec::specs::IoData::action_outcome))]
 pub fn register(
     reservation: &mut Reservation,
-    host: u64,
+    host: HostId,
     sqe: &Sqe,
     keys: &[u8],
 ) -> Result<Change, Status>
@@ -60,7 +61,7 @@ pub fn register(
 /// What Reservation Register makes of the key of a host.
 fn change_key(
     reservation: &mut Reservation,
-    host: u64,
+    host: HostId,
     sqe: &Sqe,
     keys: &[u8],
 ) -> Result<Change, Status>
@@ -84,7 +85,7 @@ fn change_key(
 #[tactic(auto, unfolding(nvme_spec::specs::IoData::action_outcome))]
 pub fn acquire(
     reservation: &mut Reservation,
-    host: u64,
+    host: HostId,
     sqe: &Sqe,
     keys: &[u8],
 ) -> Result<Change, Status>
@@ -107,7 +108,7 @@ pub fn acquire(
 #[tactic(auto, unfolding(nvme_spec::specs::IoData::action_outcome))]
 pub fn release(
     reservation: &mut Reservation,
-    host: u64,
+    host: HostId,
     sqe: &Sqe,
     keys: &[u8],
 ) -> Result<Change, Status>

@@ -14,7 +14,7 @@ use nvme_mem::Window;
 use nvme_ns::Spaces;
 use nvme_policy::Admitted;
 use nvme_prp::{Pieces, locate};
-use nvme_spec::{Denial, Plan};
+use nvme_spec::{Denial, HostId, Plan};
 use nvme_wire::Sqe;
 
 /// Blocks of a medium, one after the other.
@@ -29,7 +29,7 @@ pub struct Extent {
 pub struct Admission {
     pub plan: Plan,
     /// The host of its controller.
-    pub host: u64,
+    pub host: HostId,
     /// Its blocks on the medium.
     pub extent: Extent,
     /// Its data in host memory: no pieces where it has none.

@@ -9,8 +9,8 @@ use nvme_mem::Window;
 use nvme_ns::Spaces;
 use nvme_prp::{Pieces, scatter_padded};
 
-/// At least as many bytes as a report of 16 controllers has: all that it has behind them are zeros.
-const FRONT: usize = 512;
+/// The bytes of a report of 16 controllers: all that a report has behind them are zeros.
+const FRONT: usize = 1088;
 
 /// Stores a report of so many bytes.
 pub fn report(spaces: &Spaces, nsid: u32, window: &mut Window, pieces: &Pieces, bytes: u64)

@@ -7,10 +7,12 @@ ghost use Rattle.nvme_spec.specs.World.{laid_out, controller_host};
 use crate::Namespace;
 use crate::checks::{MAX_ATTACHMENTS, MAX_CONTROLLERS, MAX_NAMESPACES};
 use arrayvec::ArrayVec;
-use nvme_spec::{ControllerConfig, NsConfig};
+use nvme_spec::{ControllerConfig, HostId, NsConfig};
 
 /// The table of controllers: the identifier of each with its host.
-pub fn controller_table(controllers: &[ControllerConfig]) -> ArrayVec<(u16, u64), MAX_CONTROLLERS>
+pub fn controller_table(
+    controllers: &[ControllerConfig],
+) -> ArrayVec<(u16, HostId), MAX_CONTROLLERS>
     requires { length controllers.now ≤ 16 }
     ensures { result.items ≡ map controller_host controllers.now }
 {

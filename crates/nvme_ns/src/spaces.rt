@@ -14,7 +14,7 @@ use crate::checks::{MAX_ATTACHMENTS, MAX_CONTROLLERS, MAX_NAMESPACES, check};
 use crate::opening::{attachment_table, controller_table, namespace_table};
 use arrayvec::ArrayVec;
 use nvme_resv::Reservation;
-use nvme_spec::{Config, ConfigFault, Protection};
+use nvme_spec::{Config, ConfigFault, HostId, Protection};
 use std::marker::Model;
 
 mod attaching;
@@ -23,7 +23,7 @@ mod attaching;
 #[derive(Drop)]
 pub struct Spaces {
     /// The identifier of each controller with its host, by rising identifier.
-    controllers: ArrayVec<(u16, u64), MAX_CONTROLLERS>,
+    controllers: ArrayVec<(u16, HostId), MAX_CONTROLLERS>,
     namespaces: ArrayVec<Namespace, MAX_NAMESPACES>,
     /// The identifier of a controller with that of a namespace.
     attachments: ArrayVec<(u16, u32), MAX_ATTACHMENTS>,
@@ -68,7 +68,7 @@ impl Spaces {
     }
 
     /// The identifiers of all controllers with their hosts, by rising identifier.
-    pub fn controllers(&self) -> &[(u16, u64)]
+    pub fn controllers(&self) -> &[(u16, HostId)]
         ensures listed { result.now ≡ self.now.controllers }
         ensures few { length self.now.controllers ≤ 16 }
         ensures rising { HasRisingIds self.now.controllers }
@@ -92,7 +92,7 @@ impl Spaces {
 
     /// The host that a controller belongs to, or None for a controller that isn't configured.
     #[tactic(auto, unfolding(nvme_spec::specs::World::host_of))]
-    pub fn host_of(&self, cntlid: u16) -> Option<u64>
+    pub fn host_of(&self, cntlid: u16) -> Option<HostId>
         ensures host { result ≡ world.host_of self.now cntlid }
         ensures few { length self.now.controllers ≤ 16 }
     {

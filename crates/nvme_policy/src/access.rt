@@ -5,7 +5,7 @@ ghost use Rattle.nvme_spec.specs.Access.{is_permitted};
 ghost use Rattle.nvme_spec.specs.IoRules as policy;
 
 use nvme_ns::Namespace;
-use nvme_spec::{Group, Hold, Role};
+use nvme_spec::{Group, Hold, HostId, Role};
 
 /// Whether a command of this group is permitted to a host in this role under a hold (Base Specification, Reservation
 /// Types). Without a hold everything is permitted.
@@ -30,7 +30,7 @@ pub fn permits(hold: Hold, role: Role, group: Group) -> bool
 
 /// Whether the reservation of a namespace permits commands of this group to the host of a controller. A controller that
 /// isn't configured has no host.
-pub fn permits_host(namespace: &Namespace, host: Option<u64>, group: Group) -> bool
+pub fn permits_host(namespace: &Namespace, host: Option<HostId>, group: Group) -> bool
     ensures { result ≡ policy.permits_group (Some namespace.now) host group }
 {
     let reservation = namespace.reservation();

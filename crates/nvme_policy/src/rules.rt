@@ -11,7 +11,7 @@ use crate::access::permits_host;
 use crate::command::{command_of, traits_of};
 use crate::fields;
 use nvme_ns::{Namespace, Spaces};
-use nvme_spec::{Command, Denial};
+use nvme_spec::{Command, Denial, HostId};
 use nvme_wire::{Sqe, Status};
 
 /// The highest namespace identifier.
@@ -129,7 +129,7 @@ pub fn check_fields(command: Command, sqe: &Sqe) -> Result<(), Denial>
         ),
         Command::ReservationReport => {
             deny_if(
-                fields::eds(sqe),
+                !fields::eds(sqe),
                 6,
                 Status::HOST_IDENTIFIER_INCONSISTENT_FORMAT,
             )?;
@@ -147,7 +147,7 @@ pub fn check_fields(command: Command, sqe: &Sqe) -> Result<(), Denial>
 pub fn check_reservation(
     command: Command,
     namespace: &Namespace,
-    host: Option<u64>,
+    host: Option<HostId>,
 ) -> Result<(), Denial>
     ensures { result ≡ judgement_by (policy.reservation_rule (Some command) (Some namespace.now) host) }
 {

@@ -3,12 +3,13 @@
 ghost use Rattle.std.specs.Prelude.{◌≡◌, []};
 
 use arrayvec::ArrayVec;
+use nvme_spec::HostId;
 
 /// What an action did to other hosts.
 #[derive(Drop)]
 pub struct Change {
     /// The hosts that Preempt unregistered, by rising host identifier. After any other action there are none.
-    pub removed: ArrayVec<u64, 16>,
+    pub removed: ArrayVec<HostId, 16>,
 }
 
 impl Change {

@@ -7,26 +7,26 @@ ghost use Rattle.nvme_resv.specs.Places.{IsGapFor, IsPlaceOf};
 ghost use Rattle.nvme_resv.specs.Leaving.{leaves_test};
 
 use arrayvec::ArrayVec;
-use nvme_spec::Registrant;
+use nvme_spec::{HostId, Registrant};
 
 /// Registrants by rising host.
 pub(crate) type Registrants = ArrayVec<Registrant, 16>;
 
-pub(crate) fn is_registered(registrants: &[Registrant], host: u64) -> bool
+pub(crate) fn is_registered(registrants: &[Registrant], host: HostId) -> bool
     ensures { result ≡ resv.is_registered registrants.now host }
 {
     registrants.iter().any(|r| r.host == host)
 }
 
 /// The host's key, where it is registered.
-pub(crate) fn key_of(registrants: &[Registrant], host: u64) -> Option<u64>
+pub(crate) fn key_of(registrants: &[Registrant], host: HostId) -> Option<u64>
     ensures { result ≡ report.key_of registrants.now host }
 {
     registrants.iter().find(|r| r.host == host).map(|r| r.key)
 }
 
 /// Where the host is, or where it would go.
-fn search(registrants: &[Registrant], host: u64) -> Result<usize, usize>
+fn search(registrants: &[Registrant], host: HostId) -> Result<usize, usize>
     requires { resv.IsRising registrants.now }
     ensures found { IfOk result (IsPlaceOf registrants.now host) }
     ensures absent { IfErr result (IsGapFor registrants.now host) }
@@ -35,7 +35,7 @@ fn search(registrants: &[Registrant], host: u64) -> Result<usize, usize>
 }
 
 /// Gives a host a key. The registrants rise, and stay so.
-pub(crate) fn set_key(registrants: &mut Registrants, host: u64, key: u64)
+pub(crate) fn set_key(registrants: &mut Registrants, host: HostId, key: u64)
     requires rising { resv.IsRising registrants.old.items }
     requires room { IsTrue (resv.is_registered registrants.old.items host) ⊎ (length registrants.old.items < 16) }
     ensures { registrants.new.items ≡ resv.with_key registrants.old.items host key }
@@ -47,7 +47,7 @@ pub(crate) fn set_key(registrants: &mut Registrants, host: u64, key: u64)
 }
 
 /// Removes the host.
-pub(crate) fn remove_host(registrants: &mut Registrants, host: u64)
+pub(crate) fn remove_host(registrants: &mut Registrants, host: HostId)
     ensures { registrants.new.items ≡ filter (λ r. not (r.host == host)) registrants.old.items }
 {
     registrants.retain(|r| r.host != host);
@@ -57,8 +57,8 @@ pub(crate) fn remove_host(registrants: &mut Registrants, host: u64)
 pub(crate) fn expel(
     registrants: &mut Registrants,
     key: Option<u64>,
-    spared: Option<u64>,
-) -> ArrayVec<u64, 16>
+    spared: Option<HostId>,
+) -> ArrayVec<HostId, 16>
     ensures stay { registrants.new.items ≡ filter (λ r. not (leaves_test key spared r)) registrants.old.items }
     ensures removed { result.items ≡ map (λ r. r.host) (filter (leaves_test key spared) registrants.old.items) }
 {
@@ -73,7 +73,7 @@ pub(crate) fn expel(
 }
 
 /// Whether a registrant has this key, where one is given, and is not the spared host.
-fn leaves(r: &Registrant, key: Option<u64>, spared: Option<u64>) -> bool
+fn leaves(r: &Registrant, key: Option<u64>, spared: Option<HostId>) -> bool
     ensures { result ≡ leaves_test key spared r.now }
 {
     key.is_none_or(|k| r.key == k) && spared != Some(r.host)

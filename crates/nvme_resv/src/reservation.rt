@@ -6,7 +6,7 @@ ghost use Rattle.nvme_spec.specs.Power.{cycled_reservation};
 ghost use Rattle.nvme_resv.specs.Answers.{HasRoomFor};
 
 use crate::registrants::{Registrants, is_registered};
-use nvme_spec::{Hold, Registrant, Role};
+use nvme_spec::{Hold, HostId, Registrant, Role};
 use std::marker::Model;
 
 mod actions;
@@ -99,7 +99,7 @@ impl Reservation {
     }
 
     /// What the host is to the namespace. Under types 5 and 6 each registrant is a holder.
-    pub fn role(&self, host: u64) -> Role
+    pub fn role(&self, host: HostId) -> Role
         ensures { result ≡ resv.role_of self.now host }
     {
         if !is_registered(&self.registrants, host) {
@@ -113,7 +113,7 @@ impl Reservation {
     }
 
     /// Whether the host is registered or can be: a namespace has at most sixteen registrants.
-    pub fn has_room_for(&self, host: u64) -> bool
+    pub fn has_room_for(&self, host: HostId) -> bool
         ensures room { IsTrue result ↔ HasRoomFor self.now host }
         // The registrants rise by host, so that each host is counted once.
         ensures rising { resv.IsRising self.now.registrants }
@@ -121,7 +121,7 @@ impl Reservation {
         is_registered(&self.registrants, host) || !self.registrants.is_full()
     }
 
-    fn is_holder(&self, host: u64) -> bool
+    fn is_holder(&self, host: HostId) -> bool
         ensures { result ≡ resv.is_holder self.now host }
     {
         matches!(self.role(host), Role::Holder)

@@ -8,7 +8,7 @@ ghost use Rattle.nvme_resv.specs.Leaving.{leaves_test};
 use super::Reservation;
 use crate::change::Change;
 use crate::registrants::{expel, is_registered, remove_host, set_key};
-use nvme_spec::{Hold, Registrant};
+use nvme_spec::{Hold, HostId, Registrant};
 use nvme_wire::Status;
 
 impl Reservation {
@@ -20,7 +20,7 @@ impl Reservation {
     /// # Errors
     ///
     /// Reservation Conflict where the host is registered with another key. Nothing is changed then.
-    pub fn register(&mut self, host: u64, nrkey: u64) -> Result<Change, Status>
+    pub fn register(&mut self, host: HostId, nrkey: u64) -> Result<Change, Status>
         requires { HasRoomFor self.old host }
         ensures { Follows (resv.register self.old host nrkey) self.old result self.new }
     {
@@ -37,7 +37,7 @@ impl Reservation {
     ///
     /// Reservation Conflict where the host is not registered, or where IEKEY is clear and CRKEY is not its key. Nothing
     /// is changed then.
-    pub fn unregister(&mut self, host: u64, iekey: bool, crkey: u64) -> Result<Change, Status>
+    pub fn unregister(&mut self, host: HostId, iekey: bool, crkey: u64) -> Result<Change, Status>
         ensures { Follows (resv.unregister self.old host iekey crkey) self.old result self.new }
     {
         let has_right_key = iekey || self.has_key(host, crkey);
@@ -58,7 +58,7 @@ impl Reservation {
     /// Reservation Conflict where IEKEY is clear and the host is not registered with CRKEY. Nothing is changed then.
     pub fn replace(
         &mut self,
-        host: u64,
+        host: HostId,
         iekey: bool,
         crkey: u64,
         nrkey: u64,
@@ -79,7 +79,7 @@ impl Reservation {
     ///
     /// Reservation Conflict where the host is not registered with CRKEY, where another host holds the reservation, or
     /// where it is of another type. Nothing is changed then.
-    pub fn acquire(&mut self, host: u64, rtype: u8, crkey: u64) -> Result<Change, Status>
+    pub fn acquire(&mut self, host: HostId, rtype: u8, crkey: u64) -> Result<Change, Status>
         requires { (1 ≤ rtype) × (rtype ≤ 6) }
         ensures { Follows (resv.acquire self.old host rtype crkey) self.old result self.new }
     {
@@ -111,7 +111,7 @@ impl Reservation {
     /// Command where PRKEY is 0 and the reservation is not all registrants'. Nothing is changed then.
     pub fn preempt(
         &mut self,
-        host: u64,
+        host: HostId,
         rtype: u8,
         crkey: u64,
         prkey: u64,
@@ -144,7 +144,7 @@ impl Reservation {
     ///
     /// Reservation Conflict where the host is not registered with CRKEY; Invalid Field in Command where it is a holder
     /// and RTYPE is not the type that it holds. Nothing is changed then.
-    pub fn release(&mut self, host: u64, rtype: u8, crkey: u64) -> Result<Change, Status>
+    pub fn release(&mut self, host: HostId, rtype: u8, crkey: u64) -> Result<Change, Status>
         ensures { Follows (resv.release self.old host rtype crkey) self.old result self.new }
     {
         if !self.has_key(host, crkey) {
@@ -164,7 +164,7 @@ impl Reservation {
     /// # Errors
     ///
     /// Reservation Conflict where the host is not registered with CRKEY. Nothing is changed then.
-    pub fn clear(&mut self, host: u64, crkey: u64) -> Result<Change, Status>
+    pub fn clear(&mut self, host: HostId, crkey: u64) -> Result<Change, Status>
         ensures { Follows (resv.clear self.old host crkey) self.old result self.new }
     {
         if !self.has_key(host, crkey) {
@@ -177,7 +177,7 @@ impl Reservation {
     }
 
     /// Registers the host with this key, or gives it this key.
-    fn give_key(&mut self, host: u64, key: u64) -> Change
+    fn give_key(&mut self, host: HostId, key: u64) -> Change
         requires { HasRoomFor self.old host }
         ensures next { self.new
             ≡ resv.next_generation self.old (resv.with_key self.old.registrants host key) self.old.hold }
@@ -189,7 +189,7 @@ impl Reservation {
     }
 
     /// Removes the host.
-    fn remove_host(&mut self, host: u64)
+    fn remove_host(&mut self, host: HostId)
         ensures { self.new ≡ resv.remaining self.old (filter (λ r. not (r.host == host)) self.old.registrants) }
     {
         remove_host(&mut self.registrants, host);
@@ -209,7 +209,7 @@ impl Reservation {
     }
 
     /// Removes the others with this key, or all others, and takes the reservation.
-    fn take_over(&mut self, host: u64, rtype: u8, key: Option<u64>) -> Change
+    fn take_over(&mut self, host: HostId, rtype: u8, key: Option<u64>) -> Change
         ensures next { self.new ≡ resv.next_generation self.old
             (filter (λ r. not (leaves_test key (Some host) r)) self.old.registrants) (resv.taken_by host rtype) }
         ensures removed { result.removed.items ≡ resv.removed_hosts self.old.registrants self.new.registrants }
@@ -220,7 +220,7 @@ impl Reservation {
         Change { removed }
     }
 
-    fn has_key(&self, host: u64, key: u64) -> bool
+    fn has_key(&self, host: HostId, key: u64) -> bool
         ensures { result ≡ resv.is_registered_with self.now.registrants host key }
     {
         self.registrants
@@ -245,7 +245,7 @@ impl Reservation {
 }
 
 /// The hold of a host that takes a reservation of this type.
-fn taken_by(host: u64, rtype: u8) -> Hold
+fn taken_by(host: HostId, rtype: u8) -> Hold
     ensures { result ≡ resv.taken_by host rtype }
 {
     if rtype <= 4 {

@@ -6,22 +6,22 @@ ghost use Rattle.nvme_spec.specs.Report as spec;
 use super::Reservation;
 use crate::registrants::{is_registered, key_of};
 use arrayvec::ArrayVec;
-use nvme_spec::Hold;
+use nvme_spec::{Hold, HostId};
 
 /// The header, or an entry, of a report.
-type Part = ArrayVec<u8, 24>;
+type Part = ArrayVec<u8, 64>;
 
 /// A header and sixteen entries.
-type Report = ArrayVec<u8, 408>;
+type Report = ArrayVec<u8, 1088>;
 
 impl Reservation {
-    /// Fills the buffer with the data of Reservation Report (Reservation Status Data Structure): as much of the report
+    /// Fills the buffer with the data of Reservation Report (Reservation Status Extended Data Structure): as much of the report
     /// as it takes, and zeros behind a shorter one. All numbers are little-endian. There is an entry for each of the
     /// controllers, given with their hosts, whose host is registered.
     ///
     /// There are at most sixteen controllers, by rising identifier, each once.
     #[tactic(auto, unfolding(nvme_spec::specs::Report::report_data))]
-    pub fn report_into(&self, controllers: &[(u16, u64)], buffer: &mut [u8])
+    pub fn report_into(&self, controllers: &[(u16, HostId)], buffer: &mut [u8])
         requires few { length controllers.now ≤ 16 }
         requires rising { spec.HasRisingIds controllers.now }
         ensures { buffer.new ≡ spec.report_data self.now controllers.now (length buffer.old) }
@@ -33,7 +33,7 @@ impl Reservation {
     }
 
     /// The whole report.
-    fn report(&self, controllers: &[(u16, u64)]) -> Report
+    fn report(&self, controllers: &[(u16, HostId)]) -> Report
         requires { length controllers.now ≤ 16 }
         ensures { result.items ≡ spec.report self.now controllers.now }
     {
@@ -48,7 +48,7 @@ impl Reservation {
     }
 
     #[tactic(auto, unfolding(nvme_spec::specs::Report::header))]
-    fn header(&self, controllers: &[(u16, u64)]) -> Part
+    fn header(&self, controllers: &[(u16, HostId)]) -> Part
         requires { length controllers.now ≤ 16 }
         ensures { result.items ≡ spec.header self.now controllers.now }
     {
@@ -57,12 +57,12 @@ impl Reservation {
         append(&mut header, &[type_of(self.hold)]);
         append(&mut header, &self.count_reported(controllers).to_le_bytes());
         append(&mut header, &[0, 0, u8::from(self.ptpl)]);
-        append(&mut header, &[0; 14]);
+        append(&mut header, &[0; 54]);
         header
     }
 
     /// How many of the controllers have a host that is registered.
-    fn count_reported(&self, controllers: &[(u16, u64)]) -> u16
+    fn count_reported(&self, controllers: &[(u16, HostId)]) -> u16
         requires { length controllers.now ≤ 16 }
         ensures { result ≡ length (spec.reported_controllers self.now controllers.now) }
     {
@@ -85,14 +85,15 @@ fn type_of(hold: Hold) -> u8
 
 /// The entry of a controller whose host has this key.
 #[tactic(auto, unfolding(nvme_spec::specs::Report::entry_of))]
-fn entry(cntlid: u16, is_holder: bool, host: u64, key: u64) -> Part
+fn entry(cntlid: u16, is_holder: bool, host: HostId, key: u64) -> Part
     ensures { result.items ≡ spec.entry_of cntlid is_holder host key }
 {
     let mut entry = Part::new();
     append(&mut entry, &cntlid.to_le_bytes());
     append(&mut entry, &[u8::from(is_holder), 0, 0, 0, 0, 0]);
-    append(&mut entry, &host.to_le_bytes());
     append(&mut entry, &key.to_le_bytes());
+    append(&mut entry, &host.to_le_bytes());
+    append(&mut entry, &[0; 32]);
     entry
 }
 
