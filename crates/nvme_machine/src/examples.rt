@@ -2,9 +2,10 @@
 //! their contracts are proved by computing, so that each definition is seen to say what its reader takes it to say.
 #![tactic(auto, unfolding(nvme_spec::specs::Commands::block_count, nvme_spec::specs::Commands::command_of, nvme_spec::specs::Commands::starting_lba, nvme_spec::specs::DataRules::data_addresses, nvme_spec::specs::DataRules::pointer_rule, nvme_spec::specs::Entries::command_entry, nvme_spec::specs::Entries::transfer_entry, nvme_spec::specs::FaultFree::fault_free_execution, nvme_spec::specs::FaultFreeCalls::command_calls, nvme_spec::specs::IoData::action_outcome, nvme_spec::specs::IoData::action_rule, nvme_spec::specs::IoData::io_judgement, nvme_spec::specs::IoData::reservation_outcome, nvme_spec::specs::IoRules::attachment_rule, nvme_spec::specs::IoRules::field_rule, nvme_spec::specs::IoRules::form_rule, nvme_spec::specs::IoRules::mark_rule, nvme_spec::specs::IoRules::nsid_rule, nvme_spec::specs::IoRules::opcode_rule, nvme_spec::specs::IoRules::protection_rule, nvme_spec::specs::IoRules::range_rule, nvme_spec::specs::IoRules::reservation_rule, nvme_spec::specs::Memory::qword, nvme_spec::specs::Pointer::fault_of, nvme_spec::specs::Pointer::first_fault, nvme_spec::specs::Rules::judgement_by, nvme_spec::specs::Transfers::addresses, nvme_spec::specs::Transfers::with_scattered, nvme_spec::specs::World::host_of, nvme_spec::specs::World::is_attached, nvme_spec::specs::World::namespace_of, nvme_spec::specs::World::opening_world, nvme_wire::specs::Completion::completion_entry, nvme_wire::specs::Submission::cdw10, nvme_wire::specs::Submission::cdw11, nvme_wire::specs::Submission::cdw12, nvme_wire::specs::Submission::cid, nvme_wire::specs::Submission::fuse, nvme_wire::specs::Submission::nsid, nvme_wire::specs::Submission::opcode, nvme_wire::specs::Submission::prp1, nvme_wire::specs::Submission::prp2, nvme_wire::specs::Submission::psdt, crate::specs::Controllers::after_posting, crate::specs::Controllers::after_queue_change, crate::specs::Controllers::after_store, crate::specs::Controllers::open_pair, crate::specs::FaultFree::fault_free_answer, crate::specs::Subsystems::after_answer, crate::specs::Subsystems::after_execution, crate::specs::Subsystems::controller_at, crate::specs::Subsystems::with_controller))]
 
-ghost use Rattle.std.specs.Prelude.{◌≡◌, ◌++◌, [], ◌∷◌, replicate, Ok};
+ghost use Rattle.std.specs.Prelude.{◌≡◌, ◌+◌, ◌^◌, ◌++◌, [], ◌∷◌, true, false, replicate, Ok, Some};
 ghost use Rattle.nvme_spec.specs.MediumCalls.{Reads, Writes, Flushes};
 ghost use Rattle.nvme_machine.specs.FaultFreeCalls.{fault_free_calls};
+ghost use Rattle.nvme_machine.specs.Subsystems.{is_host_among};
 ghost use Rattle.nvme_machine.specs.Examples.{a_write, a_read, a_compare, a_flush, having, protected_having, stores};
 
 use crate::Event;
@@ -46,4 +47,10 @@ fn nothing_called()
         (Event.Execute 1 0 ∷ Event.Execute 1 0 ∷ []) ≡ Flushes (Ok tt) ∷ [] }
     ensures not_there { fault_free_calls (having [])
         (Event.Execute 1 0 ∷ Event.Execute 2 0 ∷ Event.Fetch 1 1 ∷ []) ≡ [] }
+{}
+
+/// Hosts that differ in their upper 64 bits alone are two hosts: what one has fetched is not marked for the other.
+fn hosts_of_128_bits()
+    ensures itself { is_host_among ((2 ^ 64 + 0xa1) ∷ []) (Some (2 ^ 64 + 0xa1)) ≡ true }
+    ensures another { is_host_among ((2 ^ 64 + 0xa1) ∷ []) (Some 0xa1) ≡ false }
 {}
