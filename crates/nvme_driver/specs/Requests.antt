@@ -103,7 +103,7 @@ asked_of (Acquire nsid action rtype crkey prkey) =
     sending (on_reservation io.ReservationAcquire nsid action (2 ^ 8 * rtype)) 16 (key crkey ++ key prkey)
 asked_of (Release nsid action rtype crkey) =
     sending (on_reservation io.ReservationRelease nsid action (2 ^ 8 * rtype)) 8 (key crkey)
-asked_of (Report nsid dwords) = receiving (on_io io.ReservationReport nsid (dwords - 1) 0 0) (4 * dwords)
+asked_of (Report nsid dwords) = receiving (on_io io.ReservationReport nsid (dwords - 1) 1 0) (4 * dwords)
 asked_of (Identify cns nsid) = receiving (on_admin admin.Identify nsid cns 0) memory_page
 asked_of (Protect nsid state) = without_data (on_admin admin.SetFeatures nsid admin_commands.write_protection state)
 asked_of (Protection nsid) = without_data (on_admin admin.GetFeatures nsid admin_commands.write_protection 0)

@@ -10,6 +10,9 @@ use crate::opcode::{admin, io};
 /// The feature Namespace Write Protection Config.
 const WRITE_PROTECTION: u32 = 0x84;
 
+/// EDS of a Reservation Report: its hosts have 128 bits.
+const EXTENDED_DATA_STRUCTURE: u32 = 1;
+
 /// SEL of a Namespace Attachment that detaches.
 const DETACH: u32 = 1;
 
@@ -69,7 +72,7 @@ pub enum Request<'a> {
         rtype: u8,
         crkey: u64,
     },
-    /// Reservation Report of 1 to 32,768 double words.
+    /// Reservation Report of 1 to 32,768 double words, by the extended data structure.
     Report {
         nsid: u32,
         dwords: u32,
@@ -249,7 +252,7 @@ impl Request<'_> {
             Request::Acquire { action, rtype, .. } | Request::Release { action, rtype, .. } => {
                 [u32::from(action) + (u32::from(rtype) << 8), 0, 0]
             }
-            Request::Report { dwords, .. } => [dwords - 1, 0, 0],
+            Request::Report { dwords, .. } => [dwords - 1, EXTENDED_DATA_STRUCTURE, 0],
             Request::Identify { cns, .. } => [u32::from(cns), 0, 0],
             Request::Protect { state, .. } => [WRITE_PROTECTION, u32::from(state), 0],
             Request::Protection { .. } => [WRITE_PROTECTION, 0, 0],
