@@ -8,17 +8,17 @@ ghost use Rattle.nvme_subsys.specs.Marked.{marked_for, marks_after};
 use nvme_ctrl::Controller;
 use nvme_machine::Executed;
 use nvme_ns::Spaces;
-use nvme_spec::Marks;
+use nvme_spec::{HostId, Marks};
 
 /// Whether a host is one of these.
-fn is_one_of(hosts: &[u64], host: u64) -> bool
+fn is_one_of(hosts: &[HostId], host: HostId) -> bool
     ensures { result ≡ list_any (λ h. h == host) hosts.now }
 {
     hosts.iter().any(|h| *h == host)
 }
 
 /// Whether a controller's host is one of these.
-fn is_among(hosts: &[u64], host: Option<u64>) -> bool
+fn is_among(hosts: &[HostId], host: Option<HostId>) -> bool
     ensures { result ≡ is_host_among hosts.now host }
 {
     match host {
