@@ -34,7 +34,7 @@ length-controller : (k : ℕ) → length (identify_controller k) ≡ 4096
 unfolding identify_controller
 length-controller k =
     length-with_fields 4096 (controller_fields k) no_fields
-    (omega arith, (omega arith, (omega arith, (omega arith, (omega arith, (omega arith, (omega arith, (omega arith, (omega arith, (omega arith, (omega arith, (omega arith, (omega arith, (omega arith, (omega arith, tt)))))))))))))))
+    (omega arith, (omega arith, (omega arith, (omega arith, (omega arith, (omega arith, (omega arith, (omega arith, (omega arith, (omega arith, (omega arith, (omega arith, (omega arith, (omega arith, (omega arith, (omega arith, tt))))))))))))))))
     length-no_fields
 
 -- four bytes for each namespace
