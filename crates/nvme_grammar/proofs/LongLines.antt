@@ -90,7 +90,7 @@ no_sentence w c n (x ∷ []) many e = absurd (omega (arith, many))
 no_sentence w c n (x ∷ y ∷ []) many e = absurd (omega (arith, many))
 no_sentence w c n (x ∷ y ∷ z ∷ ws) many e =
     either (bytes_eq w (codes "controller")) _ _ None
-    (either (bytes_eq n (codes "host")) _ _ None (after (number_at 16 c) _ (λ cntlid. after (number_at 64 x) _ (λ host. refl))) refl)
+    (either (bytes_eq n (codes "host")) _ _ None (after (number_at 16 c) _ (λ cntlid. after (number_at 128 x) _ (λ host. refl))) refl)
     (either (bytes_eq w (codes "namespace")) _ _ None refl
     (either (bytes_eq w (codes "attached")) _ _ None refl
     (either (bytes_eq w (codes "start")) _ _ None refl

@@ -123,7 +123,7 @@ controller-fine started before [] = refl
 controller-fine started before (c ∷ []) = and_false _
 controller-fine started before (c ∷ k ∷ []) = and_false2 _ _
 controller-fine started before (c ∷ k ∷ h ∷ ws) =
-    if_fine (is_allowed_line started) refl _ (bytes_eq k (codes "host")) _ _ (bound (is_allowed_line started) (number_at 16 c) _ _ refl (λ x e. bound (is_allowed_line started) (number_at 64 h) _ _ refl (λ y f.
+    if_fine (is_allowed_line started) refl _ (bytes_eq k (codes "host")) _ _ (bound (is_allowed_line started) (number_at 16 c) _ _ refl (λ x e. bound (is_allowed_line started) (number_at 128 h) _ _ refl (λ y f.
     raw-fine (λ o. is_allowed_line started (o >>= (λ raw. Some (Sets (record { cntlid = x; host = y; raw = raw }))))) refl (not started) (λ r. refl) h ws)))
 
 namespace-fine : (started : Bool) (before : List ℕ) (ws : List (List ℕ))

@@ -19,7 +19,7 @@ rawness words = None
 abbrev pub controller : List (List ℕ) → Option Line
 controller (c ∷ keyword ∷ h ∷ words) = if bytes_eq keyword (codes "host") then (do
   cntlid ← number_at 16 c
-  host ← number_at 64 h
+  host ← number_at 128 h
   raw ← rawness words
   Some (Controller (record { cntlid = cntlid; host = host; raw = raw }))) else None
 controller words = None

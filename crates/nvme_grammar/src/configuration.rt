@@ -6,7 +6,7 @@ ghost use Rattle.nvme_grammar.specs.Line.{rawness, controller, namespace, attach
 
 use super::line::Line;
 use nvme_spec::{ControllerConfig, NsConfig};
-use script_text::{number_u16, number_u32, number_u64};
+use script_text::{number_u16, number_u32, number_u64, number_u128};
 
 /// Whether a controller's host is raw: what follows `controller C host H`, nothing or `raw`, says it.
 fn is_raw(words: &[&[u8]]) -> Option<bool>
@@ -34,7 +34,7 @@ pub fn controller_of<'a>(words: &[&[u8]]) -> Option<Line<'a>>
     }
     Some(Line::Controller(ControllerConfig {
         cntlid: number_u16(cntlid)?,
-        host: number_u64(host)?,
+        host: number_u128(host)?,
         raw: is_raw(behind)?,
     }))
 }

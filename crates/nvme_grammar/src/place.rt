@@ -6,7 +6,7 @@ ghost use Rattle.nvme_grammar.specs.Places.{operand_name, operand_bits, spells, 
 
 use super::configuration::is_shared;
 use super::request::bit_in;
-use script_text::{bytes_in, data_in, number_u8, number_u16, number_u32, number_u64};
+use script_text::{bytes_in, data_in, number_u8, number_u16, number_u32, number_u64, number_u128};
 use std::fmt;
 
 /// A number of a line, by what it is of.
@@ -75,7 +75,7 @@ impl Operand {
         }
     }
 
-    /// How many bits it has: 8, 16, 32 or 64.
+    /// How many bits it has: 8, 16, 32, 64 or 128.
     pub(crate) fn bits(self) -> u32
         ensures { result ≡ operand_bits self }
     {
@@ -84,8 +84,9 @@ impl Operand {
             Operand::Cntlid | Operand::Queue | Operand::Index => 16,
             Operand::Nsid | Operand::AnyNsid | Operand::Blocks | Operand::Dwords => 32,
             Operand::Value => 32,
-            Operand::Host | Operand::Size | Operand::Slba | Operand::Address => 64,
-            Operand::Crkey | Operand::Nrkey | Operand::Prkey | Operand::Offset => 64,
+            Operand::Size | Operand::Slba | Operand::Address | Operand::Offset => 64,
+            Operand::Crkey | Operand::Nrkey | Operand::Prkey => 64,
+            Operand::Host => 128,
         }
     }
 
@@ -97,7 +98,8 @@ impl Operand {
             8 => number_u8(word).is_some(),
             16 => number_u16(word).is_some(),
             32 => number_u32(word).is_some(),
-            _ => number_u64(word).is_some(),
+            64 => number_u64(word).is_some(),
+            _ => number_u128(word).is_some(),
         }
     }
 }
