@@ -2,7 +2,7 @@
 
 use nvme_medium::MemMedium;
 use nvme_mem::Window;
-use nvme_spec::{Config, ControllerConfig, NsConfig};
+use nvme_spec::{Config, ControllerConfig, HostId, NsConfig};
 use std::alloc::Global;
 use std::io;
 
@@ -31,7 +31,7 @@ pub(crate) fn configuration(alloc: Global, controllers: u16) -> io::Result<Confi
     for cntlid in 1..controllers.min(16) + 1 {
         config.controllers.push(ControllerConfig {
             cntlid,
-            host: 0x100 + u64::from(cntlid),
+            host: 0x100 + HostId::from(cntlid),
             raw: false,
         })?;
         config.attached.push((cntlid, 1))?;

@@ -1,9 +1,9 @@
 //! The configurations that subsystems are opened with.
 
-use nvme_spec::{Config, ControllerConfig, NsConfig};
+use nvme_spec::{Config, ControllerConfig, HostId, NsConfig};
 use std::alloc::{AllocError, Global};
 
-fn controller(cntlid: u16, host: u64) -> ControllerConfig {
+fn controller(cntlid: u16, host: HostId) -> ControllerConfig {
     ControllerConfig {
         cntlid,
         host,

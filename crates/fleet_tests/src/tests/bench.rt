@@ -5,7 +5,7 @@ use nvme_fleet::{
     Request, Ticket, UpFault,
 };
 use nvme_medium::{Medium, MemMedium};
-use nvme_spec::{Config, ControllerConfig, NsConfig};
+use nvme_spec::{Config, ControllerConfig, HostId, NsConfig};
 use nvme_wire::Status;
 use std::alloc::{AllocError, Global};
 use std::process::Abort;
@@ -93,7 +93,7 @@ pub(crate) fn expect_data(
     assert_eq!(rt; fleet.data(), data);
 }
 
-fn driven(cntlid: u16, host: u64) -> ControllerConfig {
+fn driven(cntlid: u16, host: HostId) -> ControllerConfig {
     ControllerConfig {
         cntlid,
         host,

@@ -1,17 +1,18 @@
 //! The reservation of a namespace: who holds it, and what a report tells.
 
 use nvme_resv::{Change, Hold, Reservation, Role};
+use nvme_spec::HostId;
 use nvme_wire::Status;
 use std::process::Abort;
 use std::test::Fail;
 
-const CONTROLLERS: [(u16, u64); 4] = [(1, 0xa1), (2, 0xb2), (3, 0xa1), (4, 0xc3)];
+const CONTROLLERS: [(u16, HostId); 4] = [(1, 0xa1), (2, 0xb2), (3, 0xa1), (4, 0xc3)];
 
 /// Registers a host for which there is room.
 fn register(
     rt: &impl Abort,
     reservation: &mut Reservation,
-    host: u64,
+    host: HostId,
     key: u64,
 ) -> Result<Change, Status> {
     assert!(rt; reservation.has_room_for(host));
@@ -57,11 +58,12 @@ fn preempt_of_all_registrants(rt: HostRuntime) -> Result<(), Fail> {
         ([0xa1].as_slice(), Hold::One(1, 0xb2))
     );
 
-    let report = [
-        3, 0, 0, 0, 1, 1, 0, 0, 0, 0, 0, 0, 0, 0, 0, 0, 0, 0, 0, 0, 0, 0, 0, 0, // header
-        2, 0, 1, 0, 0, 0, 0, 0, 0xb2, 0, 0, 0, 0, 0, 0, 0, 0x22, 0, 0, 0, 0, 0, 0, 0,
-    ];
-    let mut data = [0xff; 48];
+    let mut report = [0; 128];
+    report[..6].copy_from_slice(&[3, 0, 0, 0, 1, 1]);
+    report[64..67].copy_from_slice(&[2, 0, 1]);
+    report[72] = 0x22;
+    report[80] = 0xb2;
+    let mut data = [0xff; 128];
     reservation.report_into(&CONTROLLERS, &mut data);
     assert_eq!(rt; data.as_slice(), report.as_slice());
 
@@ -94,9 +96,9 @@ fn registrants_leave(rt: HostRuntime) -> Result<(), Fail> {
     reservation.unregister(0xc3, false, 0x33)?;
     assert_eq!(rt; reservation.hold(), Hold::Free);
 
-    let mut data = [0xff; 24];
+    let mut data = [0xff; 64];
     reservation.report_into(&CONTROLLERS, &mut data);
-    let mut report = [0; 24];
+    let mut report = [0; 64];
     report[0] = 6;
     assert_eq!(rt; data.as_slice(), report.as_slice());
     Ok(())

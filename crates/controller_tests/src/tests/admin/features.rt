@@ -83,19 +83,16 @@ fn protection_until_a_power_cycle_is_not_taken_off(rt: HostRuntime) -> Result<()
 #[test]
 fn each_controller_tells_its_host(rt: HostRuntime) -> Result<(), Fail> {
     let mut bench = open_bench(rt.alloc())?;
-    bench.window.store(0x5000, &[0xee; 12])?;
-    let get = entry(GET_FEATURES, 0, 0x5000, [0x81, 0]);
+    bench.window.store(0x5000, &[0xee; 20])?;
+    let get = entry(GET_FEATURES, 0, 0x5000, [0x81, 1]);
     assert_eq!(rt; run(&mut bench, 2, &get), done(0));
-    assert!(rt;
-        holds(
-            &bench.window,
-            0x5000,
-            &[0xb2, 0, 0, 0, 0, 0, 0, 0, 0xee, 0xee, 0xee, 0xee]
-        )
-    );
-    let extended = entry(GET_FEATURES, 0, 0x5000, [0x81, 1]);
+    let mut host = [0; 16];
+    host[0] = 0xb2;
+    assert!(rt; holds(&bench.window, 0x5000, &host));
+    assert!(rt; holds(&bench.window, 0x5010, &[0xee; 4]));
+    let short = entry(GET_FEATURES, 0, 0x5000, [0x81, 0]);
     assert_eq!(rt;
-        run(&mut bench, 2, &extended),
+        run(&mut bench, 2, &short),
         denied(6, Status::INVALID_FIELD_IN_COMMAND)
     );
     let set = entry(SET_FEATURES, 0, 0x5000, [0x81, 0]);
@@ -103,7 +100,7 @@ fn each_controller_tells_its_host(rt: HostRuntime) -> Result<(), Fail> {
         run(&mut bench, 2, &set),
         denied(6, Status::INVALID_FIELD_IN_COMMAND)
     );
-    let odd = entry(GET_FEATURES, 0, 0x5002, [0x81, 0]);
+    let odd = entry(GET_FEATURES, 0, 0x5002, [0x81, 1]);
     assert_eq!(rt;
         run(&mut bench, 2, &odd),
         denied(10, Status::PRP_OFFSET_INVALID)

@@ -29,7 +29,7 @@ const PRIVATE: [(u64, &[u8]); 7] = [
 ];
 
 /// Controller 3.
-const CONTROLLER: [(u64, &[u8]); 15] = [
+const CONTROLLER: [(u64, &[u8]); 16] = [
     (4, b"NVMESIM             "),
     (24, b"Multi-Host Subsystem                    "),
     (64, b"1.0     "),
@@ -37,6 +37,7 @@ const CONTROLLER: [(u64, &[u8]); 15] = [
     (77, &[0x05]),
     (78, &[0x03, 0x00]),
     (80, &[0x00, 0x00, 0x02, 0x00]),
+    (96, &[0x01, 0x00, 0x00, 0x00]),
     (111, &[0x01]),
     (256, &[0x08, 0x00]),
     (512, &[0x66]),

@@ -65,18 +65,22 @@ fn a_report_lists_the_controllers_of_registered_hosts(rt: HostRuntime) -> Result
         run(&mut bench, 2, &entry(REGISTER, 1, 0x5000, [0, 0])),
         DONE
     );
-    bench.window.store(0x6000, &[0xee; 64])?;
+    bench.window.store(0x6000, &[0xee; 144])?;
     assert_eq!(rt;
-        run(&mut bench, 2, &entry(REPORT, 1, 0x6000, [11, 0])),
+        run(&mut bench, 2, &entry(REPORT, 1, 0x6000, [31, 0])),
+        Some((Status::HOST_IDENTIFIER_INCONSISTENT_FORMAT, 6))
+    );
+    assert_eq!(rt;
+        run(&mut bench, 2, &entry(REPORT, 1, 0x6000, [31, 1])),
         DONE
     );
-    let mut report = [0; 48];
+    let mut report = [0; 128];
     report[0] = 1;
     report[5] = 1;
-    report[24] = 2;
-    report[32] = 0xb2;
-    report[40] = 0x22;
+    report[64] = 2;
+    report[72] = 0x22;
+    report[80] = 0xb2;
     assert!(rt; holds(&bench.window, 0x6000, &report));
-    assert!(rt; holds(&bench.window, 0x6030, &[0xee; 16]));
+    assert!(rt; holds(&bench.window, 0x6080, &[0xee; 16]));
     Ok(())
 }
