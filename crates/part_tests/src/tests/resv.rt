@@ -148,8 +148,8 @@ fn preempt_of_the_holder(rt: HostRuntime) -> Result<(), Fail> {
 #[test]
 fn sixteen_registrants(rt: HostRuntime) -> Result<(), Fail> {
     let mut reservation = Reservation::new();
-    for host in 1..=16 {
-        register(&rt, &mut reservation, host, host)?;
+    for key in 1..=16 {
+        register(&rt, &mut reservation, HostId::from(key), key)?;
     }
     assert!(rt; !reservation.has_room_for(17));
     assert!(rt; reservation.has_room_for(16));
