@@ -93,7 +93,8 @@ Consumes tells k old (Ok (Some (Aborted ticket))) new = new ≡ old
 Consumes tells k old (Ok None) new = new ≡ old
 Consumes tells k old (Err fault) new = new ≡ old
 
--- Some request, or none, is the oldest aborted one; what the poll then comes to is its answer, the driver and the calls.
+-- Some request, or none, is the oldest aborted one; what the poll then comes to is its answer, the driver and the
+-- calls.
 pub record Polls (tells : Bool) (k : ℕ) (d : Driver) (old : Subsystem) (result : Result (Option Answer) PollFault)
     (d' : Driver) (new : Subsystem) : Type 0 where
   pub oldest : Option ℕ

@@ -1,4 +1,5 @@
--- A driver that is down waits for nothing: whatever it hands up as done later was placed, and executed, since it came up.
+-- A driver that is down waits for nothing: whatever it hands up as done later was placed, and executed, since it came
+-- up.
 use Rattle.std.specs.Prelude.{◌≡◌, ℕ, ◌+◌, Bool, false, List, length, Some, Ok, slice_get}
 use Rattle.nvme_wire.specs.declared.status.Status.{Status}
 use Rattle.nvme_spec.specs.declared.config.ControllerConfig.{ControllerConfig}

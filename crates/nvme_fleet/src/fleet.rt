@@ -179,7 +179,8 @@ impl<M: Medium> Fleet<M> {
         ensures medium { self.new.medium ≡ self.old.medium }
         ensures fits { data_len result ≤ length self.new.state.buffer }
     {
-        // Asked first, so that the compiler knows what a fetch may give, and carries no room for an execution's outcome.
+        // Asked first, so that the compiler knows what a fetch may give, and carries no room for an execution's
+        // outcome.
         let Some(_place) = self.place_of(cntlid) else {
             return FleetSeen::NoController;
         };
@@ -315,8 +316,8 @@ impl<M: Medium> Fleet<M> {
         driver_in(&self.drivers, cntlid)
     }
 
-    /// Reads blocks of a namespace as the medium has them. `None` where there is no such namespace, or the blocks do not
-    /// all lie in it; the medium is then not called.
+    /// Reads blocks of a namespace as the medium has them. `None` where there is no such namespace, or the blocks do
+    /// not all lie in it; the medium is then not called.
     pub fn read_blocks(
         &mut self,
         nsid: u32,

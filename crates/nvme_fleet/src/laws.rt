@@ -225,10 +225,10 @@ pub fn done_since_it_came_up()
 
 /// Hosts that may not read a namespace learn nothing of its bytes, with a driver or raw, until a reservation command on
 /// it is executed that all rules let pass, or power is lost that its reservation does not outlast: whatever they are
-/// answered and find, they can be answered and find as well where its bytes are others. Without a fault of the medium they are: replies and mailboxes are the same, and of both
-/// layers each driver, and each controller with the memory that it shares with its host. It is so of every fleet whose
-/// namespaces lie on its medium, whose raw hosts' controllers bear their numbers, and whose drivers took each request
-/// that waits: of every opening, and over every run.
+/// answered and find, they can be answered and find as well where its bytes are others. Without a fault of the medium
+/// they are: replies and mailboxes are the same, and of both layers each driver, and each controller with the memory
+/// that it shares with its host. It is so of every fleet whose namespaces lie on its medium, whose raw hosts' controllers
+/// bear their numbers, and whose drivers took each request that waits: of every opening, and over every run.
 pub fn fenced_hosts_learn_nothing()
     ensures opening { OpeningIsRegular }
     ensures stays { RegularityStays }

@@ -124,7 +124,8 @@ impl Namespace {
         self.protection
     }
 
-    /// The number of its write protection: 0 none, 1 write protected, 2 that until a power cycle (Write Protection State).
+    /// The number of its write protection (Write Protection State): 0 none, 1 write protected, 2 that until a power
+    /// cycle.
     pub fn protection_state(&self) -> u32
         ensures { result ≡ state_of self.now.protection }
     {

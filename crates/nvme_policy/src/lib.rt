@@ -1,4 +1,4 @@
-//! Which I/O commands a subsystem allows: the rules on access, one after the other.
+//! Which I/O commands a subsystem allows, in a crate apart from what they do: the rules on access, one after the other.
 #![tactic(auto)]
 
 mod access;

@@ -1,5 +1,6 @@
-//! The four ends of queues (NVM Express Base Specification 2.0, Submission Queue and Completion Queue): where a
-//! controller fetches commands and posts completions, and where a host puts commands and consumes completions.
+//! The four ends of queues, in a crate of their own since a controller has two of them and a host the others (NVM
+//! Express Base Specification 2.0, Submission Queue and Completion Queue): where a controller fetches commands and posts
+//! completions, and where a host puts commands and consumes completions.
 //!
 //! Each end counts entries, modulo the size of its queue where a slot is all that matters, modulo twice the size where
 //! the phase tag is needed too. Counts go on by a comparison and a wrap.

@@ -31,8 +31,8 @@ key_of registrants host = option_map (λ r. r.key) (find (λ r. r.host == host) 
 abbrev pub reported_controllers : Reservation → List ControllerHost → List ControllerHost
 reported_controllers r controllers = filter (λ c. is_registered r.registrants c.1) controllers
 
--- bytes 0 to 3 the generation, 4 the reservation type, 5 and 6 the number of entries, 9 Persist Through Power Loss State
--- (PTPLS)
+-- bytes 0 to 3 the generation, 4 the reservation type, 5 and 6 the number of entries, 9 Persist Through Power Loss
+-- State (PTPLS)
 unfoldable pub header : Reservation → List ControllerHost → List ℕ
 header r controllers =
     to_le_bytes w32 r.generation ++ type_of r.hold ∷ [] ++ to_le_bytes w16 (length (reported_controllers r controllers))

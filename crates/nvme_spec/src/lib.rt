@@ -1,5 +1,5 @@
-//! The vocabulary of the subsystem: plain types that several layers speak of, and, in `specs/`, what the
-//! NVM Express specifications say of them.
+//! The vocabulary of the subsystem, in a crate of its own since all layers speak it: plain types, and, in `specs/`, what
+//! the NVM Express specifications say of them.
 #![tactic(auto)]
 
 mod access;

@@ -99,8 +99,8 @@ impl<M: Medium> Subsystem<M> {
         &self.spaces
     }
 
-    /// Reads blocks of a namespace as the medium has them. `None` where there is no such namespace, or the blocks do not
-    /// all lie in it; the medium is then not called.
+    /// Reads blocks of a namespace as the medium has them. `None` where there is no such namespace, or the blocks do
+    /// not all lie in it; the medium is then not called.
     pub fn read_blocks(
         &mut self,
         nsid: u32,
@@ -110,7 +110,8 @@ impl<M: Medium> Subsystem<M> {
         requires whole { length buffer.old % 512 ≡ 0 }
         ensures look { Looks M.tells (place_in (namespace_of self.old.state.world nsid) slba (length buffer.old / 512))
             self.old.state buffer.new result self.new.state }
-        ensures calls { LooksBy M.step (place_in (namespace_of self.old.state.world nsid) slba (length buffer.old / 512))
+        ensures calls { LooksBy M.step
+            (place_in (namespace_of self.old.state.world nsid) slba (length buffer.old / 512))
             buffer.new (length buffer.old / 512) self.old.medium result self.new.medium }
     {
         let namespace = self.spaces.namespace(nsid)?;

@@ -49,4 +49,5 @@ BytesAreTaken = (bytes : List ℕ) (calls : List WriteCall) (outcome : Result (U
 
 -- and all bytes can be written
 abbrev pub BytesCanBeWritten : Type 0
-BytesCanBeWritten = (bytes : List ℕ) → (calls : List WriteCall) × WritesBytes {T = Unit {0}} {E = Error} bytes calls (Ok tt)
+BytesCanBeWritten =
+    (bytes : List ℕ) → (calls : List WriteCall) × WritesBytes {T = Unit {0}} {E = Error} bytes calls (Ok tt)

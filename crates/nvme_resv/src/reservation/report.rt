@@ -15,9 +15,9 @@ type Part = ArrayVec<u8, 64>;
 type Report = ArrayVec<u8, 1088>;
 
 impl Reservation {
-    /// Fills the buffer with the data of Reservation Report (Reservation Status Extended Data Structure): as much of the report
-    /// as it takes, and zeros behind a shorter one. All numbers are little-endian. There is an entry for each of the
-    /// controllers, given with their hosts, whose host is registered.
+    /// Fills the buffer with the data of Reservation Report (Reservation Status Extended Data Structure): as much of the
+    /// report as it takes, and zeros behind a shorter one. All numbers are little-endian. There is an entry for each of
+    /// the controllers, given with their hosts, whose host is registered.
     ///
     /// There are at most sixteen controllers, by rising identifier, each once.
     #[tactic(auto, unfolding(nvme_spec::specs::Report::report_data))]

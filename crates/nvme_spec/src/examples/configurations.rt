@@ -16,7 +16,14 @@ fn cluster_fits()
     ensures one_block_short { first_config_fault cluster 71 ≡ Some DoesNotFit }
     ensures empty { first_config_fault empty_configuration 0 ≡ None }
     ensures laid_out { (opening_world cluster).namespaces ≡
-        record { nsid = 1; first = 0; blocks = 64; shared = true; protection = Protection.Open; reservation = unreserved }
+        record {
+          nsid = 1;
+          first = 0;
+          blocks = 64;
+          shared = true;
+          protection = Protection.Open;
+          reservation = unreserved;
+        }
         ∷ record {
           nsid = 2;
           first = 64;

@@ -35,7 +35,8 @@ fn namespaces()
     ensures blocks_of_512_bytes { slice_range (identify_attached cluster_world 2 1) 96 132
         ≡ replicate 34 0 ++ 0x09 ∷ 0x00 ∷ [] }
     ensures nothing_more { slice_range (identify_attached cluster_world 2 1) 132 4096 ≡ replicate 3964 0 }
-    ensures protected { slice_range (identify_attached (with_protection cluster_world 1 Protection.Protected) 2 1) 96 100
+    ensures protected { slice_range
+        (identify_attached (with_protection cluster_world 1 Protection.Protected) 2 1) 96 100
         ≡ 0 ∷ 0 ∷ 0 ∷ 1 ∷ [] }
     ensures until_cycle { slice_range
         (identify_attached (with_protection cluster_world 1 Protection.UntilCycle) 2 1) 96 100
