@@ -1,3 +1,4 @@
+-- What a driver's doorbells tell its controller: both tails ring both lanes, and a head tells of one completion.
 use Rattle.std.proofs.Common.{◌≡◌, ℕ, ◌+◌, ◌%◌, ◌<◌, refl, ap, ◌∙◌, arith, true}
 use Rattle.std.proofs.lemmas.Bool.{lt-ltb}
 use Rattle.std.specs.Prelude.{◌&&◌}

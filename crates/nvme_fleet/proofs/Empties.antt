@@ -1,3 +1,4 @@
+-- A slot that no live request holds may be emptied: the lane holds as before, and its mailbox is the same.
 use Rattle.std.proofs.Common.{◌≡◌, ℕ, ◌+◌, ◌-◌, ◌%◌, List, [], ◌∷◌, refl, ap, sym, ◌∙◌, arith, zero, suc, inl, inr, slice_set}
 use Rattle.std.proofs.lemmas.List.{length-set}
 use Rattle.std.proofs.lemmas.Bool.{cases_Bool}

@@ -1,3 +1,4 @@
+-- An execution in one lane: a request goes from those that were fetched to the answers that were posted.
 use Rattle.std.proofs.Common.{◌≡◌, ℕ, ◌+◌, ◌-◌, ◌%◌, ◌<◌, ◌≤◌, List, [], ◌∷◌, ◌++◌, length, map, refl, ap, sym, ◌∙◌, arith, true, false, not, cond, eqb, Bool, Some, inl, inr, take, slice_get}
 use Rattle.std.proofs.lemmas.List.{take-take, length-set}
 use Rattle.std.proofs.lemmas.List.Edits.{length-remove}

@@ -1,3 +1,4 @@
+-- An execution over both lanes of a window: the lane of the command executes it, and the other lane stays.
 use Rattle.nvme_driver.specs.Polls.{answer_len}
 use Rattle.nvme_driver.specs.Polls.{waiting_at}
 use Rattle.nvme_fleet.specs.Mailboxes.{with_box}

@@ -1,3 +1,4 @@
+-- Ring and Fetch over both lanes: a fetch takes the first request that is rung in its lane, and the other lane stays.
 use Rattle.nvme_fleet.specs.Lanes.{new_taken}
 use Rattle.nvme_fleet.specs.Mailboxes.{with_box}
 use Rattle.nvme_fleet.specs.Views.{command_at}

@@ -1,3 +1,4 @@
+-- Two queue pages that differ in one submission entry and one completion entry at most, and what both then have.
 use Rattle.std.proofs.Common.{◌≡◌, ℕ, ◌+◌, ◌-◌, ◌*◌, ◌%◌, ◌<◌, ◌≤◌, List, length, refl, arith, zero, suc, false, eqb, take, drop, ◌⊎◌, inl, inr, subst, sym}
 use Rattle.std.proofs.lemmas.Bool.{cases_lt, eqb-false, ne_eqb}
 use Rattle.nvme_spec.specs.Bytes.{with_bytes}

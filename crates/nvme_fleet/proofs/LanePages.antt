@@ -1,3 +1,4 @@
+-- Stores among the queue pages of one lane, as that lane sees them and as the other does.
 use Rattle.std.proofs.Common.{◌≡◌, ℕ, ◌+◌, ◌-◌, ◌≤◌, List, ◌++◌, length, ap, sym, ◌∙◌, arith, take, drop, length-append}
 use Rattle.std.proofs.lemmas.List.{drop-drop, take-take, drop-take, drop-append-le, length-take-le}
 use Rattle.std.proofs.lemmas.Slice.{drop-append-drop}

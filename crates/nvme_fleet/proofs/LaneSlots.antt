@@ -1,3 +1,4 @@
+-- The slots of the window as each lane sees them: where one changes, all others stay in both lanes.
 use Rattle.nvme_driver.specs.Polls.{waiting_at}
 use Rattle.nvme_wire.specs.Submission.{cid}
 use Rattle.nvme_driver.specs.declared.slots.Waiting.{Waiting}

@@ -1,3 +1,4 @@
+-- Windows that differ in one slot or in the queue pages of one lane, and stores that leave such windows.
 use Rattle.nvme_driver.specs.Layout.{list_page}
 use Rattle.nvme_driver.specs.Layout.{data_area}
 use Rattle.std.proofs.Common.{◌≡◌, ℕ, ◌+◌, ◌*◌, ◌<◌, ◌≤◌, List, length, ap, ◌∙◌, arith, false, eqb, take, drop, ◌⊎◌, inl, inr}

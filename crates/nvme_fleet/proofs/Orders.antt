@@ -1,3 +1,4 @@
+-- The order of slots by their numbers: the oldest aborted request, slots that are freed, and tickets that rise.
 use Rattle.std.proofs.Common.{◌≡◌, ℕ, ◌+◌, ◌<◌, ◌≤◌, List, [], ◌∷◌, ◌++◌, map, refl, ap, sym, ◌∙◌, arith, zero, suc, true, false, cond, eqb, Bool, Option, Some, None, inl, inr, slice_set}
 use Rattle.std.proofs.lemmas.Bool.{cases_Bool, eqb-true}
 use Rattle.std.proofs.lemmas.Grind.{common_steps}

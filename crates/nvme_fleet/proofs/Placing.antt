@@ -1,3 +1,4 @@
+-- Placing over both lanes: the lane of the request takes it, and the other lane sees the next ticket alone.
 use Rattle.nvme_fleet.specs.Views.{suits}
 use Rattle.nvme_fleet.specs.Lanes.{whole}
 use Rattle.nvme_fleet.specs.Mailboxes.{Mailbox}

@@ -1,3 +1,4 @@
+-- That a poll of a driver is a step of its mailbox.
 use Rattle.nvme_driver.specs.declared.found.Found.{Found}
 use Rattle.nvme_driver.specs.declared.answer.Answer.TheVariants.{Done, Aborted}
 use Rattle.nvme_driver.specs.declared.faults.PollFault.TheVariants as poll_fault

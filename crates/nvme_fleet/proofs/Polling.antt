@@ -1,3 +1,4 @@
+-- Poll over both lanes: the first request that was aborted, or else the first answer of a lane, is handed up.
 use Rattle.nvme_fleet.specs.Mailboxes.{Mailbox}
 use Rattle.nvme_fleet.specs.Mailboxes.{with_box}
 use Rattle.nvme_fleet.specs.Mailboxes.{FetchedItem}

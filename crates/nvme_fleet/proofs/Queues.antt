@@ -1,3 +1,4 @@
+-- Stretches of entries in the queues of a lane: joined, counted, and with the requests that they bear.
 use Rattle.std.proofs.Common.{◌≡◌, ℕ, ◌+◌, ◌-◌, ◌%◌, ◌<◌, List, [], ◌∷◌, ◌++◌, length, map, refl, ap, ◌∙◌, arith, zero, suc, true, false, eqb, take, drop, ◌*◌}
 use Rattle.std.specs.Prelude.{nat_lt}
 use Rattle.std.proofs.lemmas.List.{length-map}

@@ -1,3 +1,4 @@
+-- That a reset of a driver and its controller is a step of the mailbox.
 use Rattle.std.proofs.Common.{◌≤◌, Option, None, Some}
 use Rattle.nvme_spec.specs.Limits.{most_bytes}
 use Rattle.nvme_driver.specs.declared.slots.Waiting.{Waiting}

@@ -1,3 +1,4 @@
+-- A reset over both lanes: all that is open is aborted, by rising tickets.
 use Rattle.nvme_fleet.specs.Views.{item_in}
 use Rattle.nvme_fleet.specs.Mailboxes.{rising}
 use Rattle.nvme_fleet.specs.Mailboxes.{PostedAnswer}

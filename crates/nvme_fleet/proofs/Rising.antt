@@ -1,3 +1,4 @@
+-- Bringing up over both lanes: both hold once the driver has come up, and the mailbox is up and counts anew.
 use Rattle.nvme_fleet.specs.Mailboxes.{LaneBox}
 use Rattle.nvme_wire.specs.Completion.{completion_of}
 use Rattle.nvme_fleet.specs.Lanes.{OwnCommand}

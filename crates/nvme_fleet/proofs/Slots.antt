@@ -1,3 +1,4 @@
+-- A slot that no command and no completion bears may change; at most 24 are borne.
 use Rattle.std.proofs.Common.{◌≡◌, ℕ, ◌+◌, ◌≤◌, List, [], ◌∷◌, length, map, refl, arith, true, false, cond, eqb, Bool, slice_set}
 use Rattle.nvme_wire.specs.Submission.{cid}
 use Rattle.nvme_wire.specs.Completion.{Completion}

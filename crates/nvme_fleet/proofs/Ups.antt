@@ -1,3 +1,4 @@
+-- Bringing up in one lane: nothing is on its way behind each of the driver's own commands, and it holds at the end.
 use Rattle.std.proofs.Common.{◌≡◌, ℕ, ◌+◌, ◌-◌, ◌*◌, ◌%◌, ◌<◌, ◌≤◌, List, [], ◌∷◌, ◌++◌, length, refl, ap, sym, ◌∙◌, arith, suc, true, false, not, cond, eqb, Bool, Some, None, inl, inr, take, drop, get_or, subst, length-drop}
 use Rattle.std.proofs.lemmas.List.{get_or-take, get_or-drop, get_or-append-add, get_or-replicate, length-replicate, length-take-le, length-append, same_lists}
 use Rattle.std.proofs.Math.ListN.{get_or-append}

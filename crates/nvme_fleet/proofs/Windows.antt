@@ -1,3 +1,4 @@
+-- What a store leaves of a list of bytes: in its place, and before and behind it.
 use Rattle.std.proofs.Common.{◌≡◌, ℕ, ◌+◌, ◌-◌, ◌≤◌, List, [], ◌++◌, length, refl, ap, sym, ◌∙◌, arith, take, drop, append_assoc, length-append, length-drop, ◌⊎◌, inl, inr}
 use Rattle.std.proofs.lemmas.List.{take_at, drop_at, drop-drop, drop-take, take-append-le, take-take, length-take-le, take-append-drop, append-nil, take_all, drop_all}
 use Rattle.std.proofs.lemmas.Bool.{cases_lt}
