@@ -144,7 +144,8 @@ def release(command: Command, data: Data) -> List[object]:
 
 
 def report(command: Command, data: Data) -> List[object]:
-    check(eds(command) == 0)
+    """A driver asks for the extended data structure."""
+    check(eds(command) == 1)
     dwords = command.double_word(10) + 1
     moved(data, 4 * dwords)
     return ["report", command.nsid, dwords]

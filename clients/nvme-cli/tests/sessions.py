@@ -13,12 +13,12 @@ STATUS = re.compile(r"NVMe status: ([^:(]*)")
 PROMPT = re.compile(r"^(a1|b2)\$ (.*)$")
 HOSTS = {"a1": "0xa1", "b2": "0xb2"}
 END = "end of what was typed"
-# Commands that no request of a driver says, by words of their lines, and what nvme-cli then says of them.
+# Commands that no request of a driver says, by their lines, and what nvme-cli then says of them.
 UNSAID = (
-    (("--feature-id=7", "--feature-id=0x81", "--save"), "NVMe status: Invalid Field in Command: A reserved coded value "
-     "or an unsupported value in a defined field(0x2)"),
-    (("admin-passthru",), "NVMe status: Invalid Command Opcode: A reserved coded value or an unsupported value in the "
-     "command opcode field(0x1)"),
+    (re.compile(r"--feature-id=(?:7|0x81)\b|--save|resv-report \S+$"), "NVMe status: Invalid Field in Command: A "
+     "reserved coded value or an unsupported value in a defined field(0x2)"),
+    (re.compile("admin-passthru"), "NVMe status: Invalid Command Opcode: A reserved coded value or an unsupported value "
+     "in the command opcode field(0x1)"),
 )
 
 
@@ -78,8 +78,8 @@ def statuses(lines: List[str]) -> List[str]:
 
 def of_drivers(line: str, wanted: List[str]) -> List[str]:
     """What comes back of a line where hosts have drivers."""
-    for words, said in UNSAID:
-        if any(it in line.split() for it in words):
+    for form, said in UNSAID:
+        if form.search(line):
             return [said]
     return wanted
 

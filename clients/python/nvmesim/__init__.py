@@ -22,6 +22,7 @@ from .errors import (ConfigurationRefused, ExpressionError, LineError, NotDone, 
                      ScriptError, SessionClosed, SessionError)
 from .history import Command, Event
 from .hosts import Host, Namespace
+from .reports import ReportedController, ReservationReport, parse_report
 from .session import Session
 from .subsystem import Subsystem
 
@@ -29,7 +30,8 @@ __all__ = [
     "AcquireAction", "AdminOpcode", "Answer", "Command", "ConfigurationRefused", "Controller", "Event",
     "ExecuteOutcome", "ExpressionError", "Host", "IoOpcode", "LineError", "Namespace", "NotDone", "NvmeError",
     "NvmesimError", "Persistence", "PollOutcome", "ProgramDied", "ProgramHangs", "ProgramNotFound", "Protection",
-    "ProtocolError", "RawHost", "Refusal", "RegisterAction", "ReleaseAction", "RequestAborted", "RequestRefused", "ReservationType", "Rule",
-    "ScriptError", "Session", "SessionClosed", "SessionError", "Status", "Subsystem", "UpOutcome", "parse_answer",
+    "ProtocolError", "RawHost", "Refusal", "RegisterAction", "ReleaseAction", "ReportedController", "RequestAborted",
+    "RequestRefused", "ReservationReport", "ReservationType", "Rule", "ScriptError", "Session", "SessionClosed",
+    "SessionError", "Status", "Subsystem", "UpOutcome", "parse_answer", "parse_report",
 ]
 __version__ = "0.1.0"

@@ -12,6 +12,7 @@ from .enums import (AcquireAction, ExecuteOutcome, Persistence, PollOutcome, Pro
 from .errors import NotDone, NvmeError, RequestAborted, RequestRefused
 from .history import Command
 from .lines import Bytes
+from .reports import ReservationReport, parse_report
 from .session import Session
 
 
@@ -131,7 +132,7 @@ class Host:
         return self.place(lines.release(self.number, nsid_of(namespace), action, rtype, key))
 
     def place_report(self, namespace: NamespaceLike, dwords: int = 1024) -> int:
-        """Places a Reservation Report of 1 to 32,768 double words of 4 bytes."""
+        """Places a Reservation Report of 1 to 32,768 double words of 4 bytes: 16 for its header and for each entry."""
         return self.place(lines.report(self.number, nsid_of(namespace), dwords))
 
     def place_identify(self, cns: int, namespace: NamespaceLike = 0) -> int:
@@ -190,9 +191,9 @@ class Host:
         """Releases the reservation, or clears all registrations."""
         self.finish(self.place_release(namespace, rtype, key, action))
 
-    def report(self, namespace: NamespaceLike, dwords: int = 1024) -> bytes:
-        """The bytes of a Reservation Report."""
-        return self.finish(self.place_report(namespace, dwords)).data or b""
+    def report(self, namespace: NamespaceLike, dwords: int = 1024) -> ReservationReport:
+        """A Reservation Report of at least 16 double words, taken apart."""
+        return parse_report(self.finish(self.place_report(namespace, dwords)).data or b"")
 
     def identify(self, cns: int, namespace: NamespaceLike = 0) -> bytes:
         """The 4,096 bytes of an Identify."""

@@ -14,7 +14,7 @@ Bytes = Union[bytes, bytearray, memoryview]
 
 
 def controller(number: int, host: int, raw: bool = False) -> str:
-    """Controller `number`, counted from 1, belongs to the host with this identifier."""
+    """Controller `number`, counted from 1, belongs to the host with this identifier, 1 to 2^128 - 1."""
     return f"controller {number} host {host:#x}" + (" raw" if raw else "")
 
 
@@ -107,7 +107,7 @@ def release(controller: int, nsid: int, action: ReleaseAction, rtype: Reservatio
 
 
 def report(controller: int, nsid: int, dwords: int) -> str:
-    """Reservation Report of 1 to 32,768 double words of 4 bytes."""
+    """Reservation Report of 1 to 32,768 double words of 4 bytes, with the extended data structure."""
     return f"report {controller} {nsid} {dwords}"
 
 

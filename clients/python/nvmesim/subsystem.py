@@ -51,7 +51,7 @@ class Subsystem:
         return self.session.transcript
 
     def controller(self, host: int) -> Host:
-        """The next controller, which belongs to the host with this identifier and has a driver there."""
+        """The next controller, which belongs to this host, 1 to 2^128 - 1, and has a driver there."""
         number = len(self.hosts) + 1
         self.session.configure(lines.controller(number, host))
         made = self.hosts[number] = Host(self.session, number, host)

@@ -9,6 +9,7 @@ from .enums import (AcquireAction, AdminOpcode, ExecuteOutcome, IoOpcode, Persis
                     RegisterAction, ReleaseAction, ReservationType, Rule, Status, UpOutcome)
 from .history import Command, Event
 from .raw import Entry
+from .reports import HEADER_BYTES, ReservationReport, parse_report
 from .script import Configuration, LineKind, ScriptLine, number_of
 
 _NAMES = {
@@ -294,8 +295,21 @@ def _poll_words(event: Event, answer: Polled) -> str:
     if answer.value:
         words += f"; double word 0 is {answer.value}"
     if answer.data is not None:
-        words += f"; {data_words(answer.data)}"
+        is_report = command.line is not None and command.line.verb == "report" and len(answer.data) >= HEADER_BYTES
+        words += f"; {report_words(parse_report(answer.data)) if is_report else data_words(answer.data)}"
     return words
+
+
+def report_words(report: ReservationReport) -> str:
+    """What a Reservation Report tells."""
+    held = "no reservation" if report.rtype is ReservationType.NONE else report.rtype.text
+    words = f"generation {report.generation}, {held}{', persists' if report.persists else ''}, "
+    words += f"{report.count} registered controller{'' if report.count == 1 else 's'}"
+    for it in report.controllers:
+        holds = ", a holder" if it.is_holder else ""
+        words += f"; controller {it.number} of {host_words(it.host)} with key {hexadecimal(it.key)}{holds}"
+    rest = report.count - len(report.controllers)
+    return words + (f"; and {rest} that the report has no room for" if rest else "")
 
 
 def data_words(data: bytes, most: int = 16) -> str:

@@ -364,10 +364,10 @@ class World:
     def report(self, space: Namespace) -> bytes:
         found = space.generation.to_bytes(4, "little") + bytes((space.rtype,))
         controllers = [(c, it.host) for c, it in self.sides.items() if it.host in space.keys]
-        found += len(controllers).to_bytes(2, "little") + bytes((0, 0, space.persists)) + bytes(14)
+        found += len(controllers).to_bytes(2, "little") + bytes((0, 0, space.persists)) + bytes(54)
         for c, host in controllers:
             found += c.to_bytes(2, "little") + bytes((space.holds(host),)) + bytes(5)
-            found += host.to_bytes(8, "little") + space.keys[host].to_bytes(8, "little")
+            found += space.keys[host].to_bytes(8, "little") + host.to_bytes(16, "little") + bytes(32)
         return found
 
     def look(self, word: str, numbers: List[int]) -> str:

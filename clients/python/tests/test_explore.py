@@ -133,7 +133,7 @@ powercycle
 poll 1
 poll 2
 up 1
-report 1 1 12
+report 1 1 32
 ring 1
 fetch 1 1
 execute 1 0
@@ -207,7 +207,7 @@ def random_script(seed: int) -> str:
         requests = (f"write {mine} 1 0 1 hex:{part}{part}", f"write {mine} 1 0 2 fill:{mine:02}", f"read {mine} 1 0 2",
                     f"compare {mine} 1 0 1 hex:{part}{part}", f"acquire {mine} 1 2 1 {key} {other}",
                     f"acquire {mine} 1 1 3 {key} {other}", f"release {mine} 1 0 1 {key}", f"release {mine} 1 1 0 {key}",
-                    f"register {mine} 1 1 0 0 {key} 0", f"report {mine} 1 12")
+                    f"register {mine} 1 1 0 0 {key} 0", f"report {mine} 1 32")
         events = [chance.choice(requests), f"ring {mine}", f"fetch {mine} 1", f"execute {mine} 0", f"poll {mine}"]
         for _ in range(chance.randrange(2)):
             change = (chance.choice(requests), f"reset {chance.choice((1, 2))}", f"execute {mine} 0", f"poll {3 - mine}")

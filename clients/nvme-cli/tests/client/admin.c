@@ -20,6 +20,8 @@ static void try_identify(int fd) {
     CHECK(memcmp(room + 4, "NVMESIM             Multi-Host Subsystem  ", 42) == 0);
     CHECK_IS(room[77], 5);
     CHECK_IS(number_at(room + 78, 2), 1);
+    // CTRATT: host identifiers of 128 bits.
+    CHECK_IS(number_at(room + 96, 4), 1);
     CHECK_IS(admin(fd, IDENTIFY, 1, 0, 0, room, PAGE), SUCCESS);
     CHECK_IS(number_at(room, 8), 2048);
     CHECK_IS(room[31], 0xff);
@@ -39,10 +41,13 @@ static void try_controller_features(int fd) {
     CHECK_IS(admin(fd, GET_FEATURES, 0, 7, 0, NULL, 0), of_raw(SUCCESS));
     CHECK_IS(result, has_driver ? 0 : 0x30003);
     CHECK_IS(admin(fd, SET_FEATURES, 0, 7, 0x30003, NULL, 0), of_raw(SEQUENCE));
-    CHECK_IS(admin(fd, GET_FEATURES, 0, 0x81, 0, room, PAGE), of_raw(SUCCESS));
+    // The identifier has 16 bytes, and that of 8 is not there.
+    CHECK_IS(admin(fd, GET_FEATURES, 0, 0x81, 0, room, PAGE), INVALID_FIELD);
+    CHECK_IS(admin(fd, GET_FEATURES, 0, 0x81, 1, room, PAGE), of_raw(SUCCESS));
     CHECK_IS(number_at(room, 8), has_driver ? 0xa5a5a5a5a5a5a5a5 : 0xa1);
-    CHECK_IS(room[8], 0xa5);
-    CHECK_IS(admin(fd, GET_FEATURES, 0, 0x81, 0, room, 8), of_raw(SUCCESS));
+    CHECK_IS(number_at(room + 8, 8), has_driver ? 0xa5a5a5a5a5a5a5a5 : 0);
+    CHECK_IS(room[16], 0xa5);
+    CHECK_IS(admin(fd, GET_FEATURES, 0, 0x81, 1, room, 16), of_raw(SUCCESS));
     CHECK_IS(admin(fd, GET_FEATURES, 0, 6, 0, NULL, 0), INVALID_FIELD);
     free(room);
 }

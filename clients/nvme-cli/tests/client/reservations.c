@@ -3,6 +3,8 @@
 
 #include <string.h>
 
+#define HEADER 64
+
 static uint64_t number_at(const uint8_t *at, int bytes) {
     uint64_t number = 0;
     for (int i = 0; i < bytes; i++) {
@@ -24,7 +26,7 @@ void try_reservations(void) {
     int a = open_device("/dev/nvme0n1"), b = open_device("/dev/nvme1n1");
     uint8_t block[BLOCK], seen[BLOCK], report[PAGE];
     memset(block, 0x5a, sizeof block);
-    CHECK_IS(io(a, REPORT, 1, PAGE / 4 - 1, 0, 0, report, PAGE), SUCCESS);
+    CHECK_IS(io(a, REPORT, 1, PAGE / 4 - 1, 1, 0, report, PAGE), SUCCESS);
     uint64_t generation = number_at(report, 4);
     CHECK_IS(number_at(report + 4, 3), 0);
     CHECK_IS(with_keys(a, ACQUIRE, 1 << 8, 0xa, 0), CONFLICT);
@@ -41,15 +43,17 @@ void try_reservations(void) {
     CHECK_IS(on_blocks(a, WRITE, 7, 1, block), CONFLICT);
     CHECK_IS(io(a, FLUSH, 1, 0, 0, 0, NULL, 0), CONFLICT);
     CHECK_IS(on_blocks(b, COMPARE, 7, 1, seen), SUCCESS);
-    CHECK_IS(io(a, REPORT, 1, PAGE / 4 - 1, 0, 0, report, PAGE), SUCCESS);
+    // The extended data structure: a header of 64 bytes, and an entry of 64 for the second host's controller.
+    CHECK_IS(io(a, REPORT, 1, PAGE / 4 - 1, 1, 0, report, PAGE), SUCCESS);
     CHECK_IS(number_at(report, 4), generation + 3);
     CHECK_IS(report[4], 1);
     CHECK_IS(number_at(report + 5, 2), 1);
-    CHECK_IS(number_at(report + 24, 2), 2);
-    CHECK_IS(report[26], 1);
-    CHECK_IS(number_at(report + 32, 8), 0xb2);
-    CHECK_IS(number_at(report + 40, 8), 0xb);
-    CHECK_IS(io(a, REPORT, 1, PAGE / 4 - 1, 1, 0, report, PAGE), of_raw(INCONSISTENT_FORMAT));
+    CHECK_IS(number_at(report + HEADER, 2), 2);
+    CHECK_IS(report[HEADER + 2], 1);
+    CHECK_IS(number_at(report + HEADER + 8, 8), 0xb);
+    CHECK_IS(number_at(report + HEADER + 16, 8), 0xb2);
+    CHECK_IS(number_at(report + HEADER + 24, 8), 0);
+    CHECK_IS(io(a, REPORT, 1, PAGE / 4 - 1, 0, 0, report, PAGE), of_raw(INCONSISTENT_FORMAT));
     CHECK_IS(with_keys(b, RELEASE, 2 << 8, 0xb, 0), INVALID_FIELD);
     CHECK_IS(with_keys(b, RELEASE, 1 << 8, 0xb, 0), SUCCESS);
     CHECK_IS(on_blocks(a, WRITE, 7, 1, block), SUCCESS);

@@ -36,8 +36,8 @@ static void other_fields(int fd, int namespace) {
     }
     CHECK_IS(io(namespace, ACQUIRE, 1, 1 << 8 | 1 << 3, 0, 0, room, 16), INVALID_FIELD);
     CHECK_IS(io(namespace, RELEASE, 1, 1 << 8 | 1 << 3, 0, 0, room, 8), INVALID_FIELD);
-    CHECK_IS(io(namespace, REPORT, 1, 1023, 1, 0, room, PAGE), INVALID_FIELD);
-    CHECK_IS(io(namespace, REPORT, 1, UINT32_MAX, 0, 0, room, PAGE), INVALID_FIELD);
+    CHECK_IS(io(namespace, REPORT, 1, 1023, 0, 0, room, PAGE), INVALID_FIELD);
+    CHECK_IS(io(namespace, REPORT, 1, UINT32_MAX, 1, 0, room, PAGE), INVALID_FIELD);
     CHECK_IS(admin(fd, ATTACHMENT, 1, 2, 0, room, PAGE), INVALID_FIELD);
     room[1] = 8;
     CHECK_IS(admin(fd, ATTACHMENT, 1, 0, 0, room, PAGE), INVALID_FIELD);
@@ -58,7 +58,7 @@ static void short_data(int fd, int namespace) {
     CHECK_IS(io(namespace, COMPARE, 1, 0, 0, 8, room, PAGE), DATA_TRANSFER);
     CHECK_IS(io(namespace, REGISTER, 1, 0, 0, 0, NULL, 0), DATA_TRANSFER);
     CHECK_IS(io(namespace, REGISTER, 1, 0, 0, 0, room + PAGE - 8, 8), DATA_TRANSFER);
-    CHECK_IS(io(namespace, REPORT, 1, 1024, 0, 0, room, PAGE), DATA_TRANSFER);
+    CHECK_IS(io(namespace, REPORT, 1, 1024, 1, 0, room, PAGE), DATA_TRANSFER);
     CHECK_IS(admin(fd, IDENTIFY, 0, 1, 0, room + 4, 512), DATA_TRANSFER);
     CHECK_IS(admin(fd, ATTACHMENT, 1, 0, 0, NULL, PAGE), DATA_TRANSFER);
     CHECK(is_filled(room, 2 * PAGE, 3));
@@ -73,11 +73,11 @@ static void short_data(int fd, int namespace) {
 void try_unsaid(void) {
     uint8_t before[PAGE], behind[PAGE];
     int fd = open_device("/dev/nvme0"), namespace = open_device("/dev/nvme0n1");
-    CHECK_IS(io(namespace, REPORT, 1, PAGE / 4 - 1, 0, 0, before, PAGE), SUCCESS);
+    CHECK_IS(io(namespace, REPORT, 1, PAGE / 4 - 1, 1, 0, before, PAGE), SUCCESS);
     other_opcodes(fd, namespace);
     other_fields(fd, namespace);
     short_data(fd, namespace);
-    CHECK_IS(io(namespace, REPORT, 1, PAGE / 4 - 1, 0, 0, behind, PAGE), SUCCESS);
+    CHECK_IS(io(namespace, REPORT, 1, PAGE / 4 - 1, 1, 0, behind, PAGE), SUCCESS);
     CHECK(memcmp(before, behind, PAGE) == 0);
     CHECK_IS(ioctl(fd, NVME_IOCTL_RESET), 0);
     CHECK_IS(io(namespace, FLUSH, 1, 0, 0, 0, NULL, 0), SUCCESS);
@@ -91,6 +91,6 @@ void try_unread(void) {
     CHECK_IS(admin(namespace, GET_FEATURES, 1, 0x0784, 0, NULL, 0), SUCCESS);
     CHECK_IS(io(namespace, READ, 1, 0, 0, 0xffff0000, room, BLOCK), SUCCESS);
     CHECK_IS(io(namespace, ZEROES, 1, 0, 0, 0x02000000, NULL, 0), SUCCESS);
-    CHECK_IS(io(namespace, REPORT, 1, 1023, 0xfffe, 0, room, PAGE), SUCCESS);
+    CHECK_IS(io(namespace, REPORT, 1, 1023, 0xffff, 0, room, PAGE), SUCCESS);
     free(room);
 }

@@ -65,7 +65,8 @@ class Part:
         for lane in self.layout.lanes:
             yield (f'<rect class="lane {lane.kind}" x="{lane.left}" y="2" width="{lane.width}" '
                    f'height="{self.height - 4}" rx="6"/>')
-            yield f'<text class="title" x="{lane.middle}" y="20">{escape(lane.title)}</text>'
+            yield (f'<text class="title" x="{lane.middle}" y="20"><title>{escape(lane.name)}</title>'
+                   f'{escape(lane.title)}</text>')
             yield f'<text class="subtitle" x="{lane.middle}" y="35">{escape(lane.subtitle)}</text>'
 
     def _rows(self) -> Iterator[str]:

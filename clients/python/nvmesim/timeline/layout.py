@@ -6,7 +6,7 @@ from typing import Dict, List, Optional, Sequence, Set, Tuple
 
 from ..history import Command, Event
 from ..script import Configuration
-from ..words import shortened
+from ..words import host_words
 
 ROW = 22
 """The height of an event, in pixels."""
@@ -22,13 +22,14 @@ _BAR = 12
 
 @dataclass(frozen=True)
 class Lane:
-    """A column: what it is, its name in two lines, where it begins, and how wide it is."""
+    """A column: what it is, its name in two lines, where it begins, how wide it is, and its name whole."""
 
     kind: str
     title: str
     subtitle: str
     left: int
     width: int
+    name: str
 
     @property
     def middle(self) -> float:
@@ -91,6 +92,14 @@ def begin_of(command: Command) -> int:
     return command.placed or command.fetched or 1
 
 
+def _host_title(host: int, columns: int) -> str:
+    """A host by its identifier; of a long one by its first and its last digits."""
+    if len(host_words(host)) <= columns:
+        return host_words(host)
+    digits, kept = f"{host:x}", (columns - 3) // 2
+    return f"{digits[:kept]}..{digits[-kept:]}h"
+
+
 def lay_out(events: Sequence[Event], configuration: Configuration, texts: Sequence[str]) -> Layout:
     """The layout of a picture whose events have these texts beside them."""
     last, commands = len(events), commands_of(events)
@@ -103,13 +112,14 @@ def lay_out(events: Sequence[Event], configuration: Configuration, texts: Sequen
     for number, host in configuration.hosts.items():
         subtitle = "raw" if number in configuration.raw else "driver"
         width = max(58 if is_narrow else 84, 12 + _BAR * _most(slots, number))
-        hosts[number] = Lane("host", shortened(f"host {host:x}h", 9 if is_narrow else 12), subtitle, left, width)
+        name = host_words(host)
+        hosts[number] = Lane("host", _host_title(host, 9 if is_narrow else 12), subtitle, left, width, name)
         left += width
         width = max(58 if is_narrow else 84, 40 + _BAR * _most(held, number))
         title = f"ctrl {number}" if is_narrow else f"controller {number}"
-        controllers[number] = Lane("controller", title, "", left, width)
+        controllers[number] = Lane("controller", title, "", left, width, f"controller {number} of {name}")
         left += width + 10
-    media = Lane("media", "media", "", left, 72)
+    media = Lane("media", "media", "", left, 72, "media")
     text_left = left + media.width + 14
     width = text_left + round(_LETTER * max((len(it) for it in texts), default=10)) + 12
     return Layout(hosts, controllers, media, slots, held, text_left, width, last)
