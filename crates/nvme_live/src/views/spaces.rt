@@ -7,6 +7,7 @@ ghost use Rattle.nvme_live.specs.Showing.{attached_text, attachment_text, hold_t
 use crate::names::bit_name;
 use nvme_ns::Namespace;
 use nvme_resv::{Hold, Registrant, Reservation};
+use nvme_spec::HostId;
 use std::fmt;
 
 /// All namespaces.
@@ -139,7 +140,7 @@ fn halves(number: u128) -> (u64, u64)
 
 /// The identifier of a host, in hexadecimal.
 #[derive(Clone, Copy)]
-struct HostText(u128);
+struct HostText(HostId);
 
 impl fmt::Display for HostText {
     ghost output = { λ h. Some (host_text h.0) };
@@ -165,9 +166,7 @@ impl fmt::Display for HoldText {
     fn fmt<W: fmt::Write>(&self, f: &mut fmt::Formatter<W>) -> fmt::Result {
         match self.0 {
             Hold::Free => write!(f, "type 0 holder none"),
-            Hold::One(rtype, host) => {
-                write!(f, "type {rtype} holder {}", HostText(u128::from(host)))
-            }
+            Hold::One(rtype, host) => { write!(f, "type {rtype} holder {}", HostText(host)) }
             Hold::All(rtype) => write!(f, "type {rtype} holder all"),
         }
     }
@@ -198,7 +197,7 @@ impl fmt::Display for RegistrantText {
     ghost output = { λ r. Some (registrant_text r.0) };
 
     fn fmt<W: fmt::Write>(&self, f: &mut fmt::Formatter<W>) -> fmt::Result {
-        let host = HostText(u128::from(self.0.host));
+        let host = HostText(self.0.host);
         let key = self.0.key;
         write!(f, " registrant {host} key 0x{key:x}")
     }
