@@ -2,7 +2,7 @@
 
 ghost use Rattle.std.specs.Prelude.{◌≡◌};
 
-use crate::{Denial, HostId};
+use crate::HostId;
 use arrayvec::ArrayVec;
 use nvme_wire::Status;
 
@@ -41,32 +41,4 @@ pub struct Outcome {
     pub rule: u8,
     /// What is to be marked: the hosts that a Preempt and Abort removed, or none.
     pub marks: Marks,
-}
-
-impl Outcome {
-    ghost use Rattle.nvme_spec.specs.Execution.{no_marks, denial_outcome};
-
-    /// A command that a rule denied.
-    pub fn denied(denial: Denial) -> Self
-        ensures { result ≡ denial_outcome denial.rule denial.status }
-    {
-        Outcome {
-            status: denial.status,
-            dw0: 0,
-            rule: denial.rule,
-            marks: Marks::none(),
-        }
-    }
-
-    /// A command that was carried out, and is answered with this status.
-    pub fn completed(status: Status) -> Self
-        ensures { result ≡ record { status = status; dw0 = 0; rule = 0; marks = no_marks } }
-    {
-        Outcome {
-            status,
-            dw0: 0,
-            rule: 0,
-            marks: Marks::none(),
-        }
-    }
 }
