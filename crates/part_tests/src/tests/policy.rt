@@ -42,10 +42,10 @@ fn the_first_rule_that_fails_decides(rt: HostRuntime) -> Result<(), Fail> {
         (entry(2, 1, 0xffff_ffff, 0xffff_ffff, 0), LBA_OUT_OF_RANGE),
         (entry(2, 2, 7, 0, 1), LBA_OUT_OF_RANGE),
         (
-            entry(0x0e, 1, 5, 1, 0),
+            entry(0x0e, 1, 5, 0, 0),
             Verdict::Denied(6, Status::HOST_IDENTIFIER_INCONSISTENT_FORMAT),
         ),
-        (entry(0x0e, 1, 0xffff_ffff, 0, 0), field),
+        (entry(0x0e, 1, 0xffff_ffff, 1, 0), field),
         (entry(0x0d, 1, 0x4000_0000, 0, 0), field),
         (entry(0x11, 1, 0x0103, 0, 0), field),
         (entry(0x11, 1, 0x0000, 0, 0), field),
@@ -84,8 +84,8 @@ fn a_plan_says_what_is_to_be_done(rt: HostRuntime) -> Result<(), Fail> {
         plan(Command::WriteZeroes, 0, 8, 0)
     );
     assert_eq!(rt;
-        judge(&spaces, 1, &entry(0x0e, 1, 11, 0, 0), false),
-        plan(Command::ReservationReport, 0, 0, 48)
+        judge(&spaces, 1, &entry(0x0e, 1, 31, 1, 0), false),
+        plan(Command::ReservationReport, 0, 0, 128)
     );
     assert_eq!(rt;
         judge(&spaces, 1, &entry(0x15, 1, 0x0100, 0, 0), false),
