@@ -116,8 +116,11 @@ def try_head(bench: Bench, case: Case) -> None:
     started.stderr.close()
     if head.stdout != b"up 1 ok\n" or status != 2 or not tells(errors, FAULT):
         raise Wrong(f"head -n 1 has {head.stdout!r}, and the program ended with status {status} and {errors!r}")
-    if (room / "image").read_bytes() not in [case.image_at(at) for at in range(1, len(case.flushes) + 1)]:
-        raise Wrong("head -n 1: the image is not what the events up to a write of the transcript leave")
+    # A write of a long line that the reader leaves in its midst is made in part, and its rest goes through the buffer: so
+    # the write that fails may come behind any event from the first write on.
+    images = {case.told.image_behind(event) for event in range(case.flushes[0].event, len(case.told.lines) + 1)}
+    if (room / "image").read_bytes() not in images:
+        raise Wrong("head -n 1: the image is not what the events up to one behind a write of the transcript leave")
 
 
 def try_transcript(bench: Bench, top: Path) -> str:
