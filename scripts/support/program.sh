@@ -22,7 +22,7 @@ not_built() {
     give_up "could not be built: $1"
 }
 
-# The newest heading of CHANGELOG.md: nothing else in the repository says the version.
+# The newest heading of CHANGELOG.md says the version; that of clients/python is tested to be the same.
 show_version() {
     local line
     while IFS= read -r line; do

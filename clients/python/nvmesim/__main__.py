@@ -8,6 +8,7 @@ import time
 from pathlib import Path
 from typing import Callable, List, Optional, Sequence
 
+from . import __version__
 from .errors import NvmesimError
 from .explain import explain
 from .explore import Medium, Plan, Shard, Statistics, explore
@@ -44,6 +45,7 @@ def _parser() -> argparse.ArgumentParser:
     """What the command line may have."""
     parser = argparse.ArgumentParser(prog="python3 -m nvmesim", description="Scripts of the proved NVMe subsystem: "
                                      "what their lines mean, pictures of them, and every order of their events.")
+    parser.add_argument("--version", action="version", version=f"nvmesim {__version__}")
     commands = parser.add_subparsers(required=True, metavar="COMMAND")
     told = commands.add_parser("explain", help="a script and its transcript side by side, with what each line means")
     _add_texts(told)
