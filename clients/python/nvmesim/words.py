@@ -238,6 +238,22 @@ def meaning(event: Event, configuration: Configuration) -> str:
     return f"{who} {_driver_words(event, answer)}"
 
 
+def short_meaning(event: Event) -> str:
+    """What an event means, without who does it: for a text beside its line."""
+    answer = event.answer
+    if isinstance(answer, NotThere):
+        return _MISSES[answer.why]
+    if isinstance(answer, PowerCycled):
+        return "all drivers and controllers are down"
+    if isinstance(answer, Refused):
+        return f"refused: {answer.refusal.words}"
+    if isinstance(answer, (Fetched, Executed)):
+        return _controller_words(event, answer)
+    if isinstance(answer, (Stored, Wrote32)):
+        return _raw_words(event, answer)
+    return _driver_words(event, answer)
+
+
 def _driver_words(event: Event, answer: Answer) -> str:
     number = event.line.controller
     if isinstance(answer, Up):
@@ -287,7 +303,7 @@ def _poll_words(event: Event, answer: Polled) -> str:
             PollOutcome.NOT_UP: "is not up, and has nothing to hand up",
             PollOutcome.UNKNOWN_COMMAND: "meets a completion that answers no request",
         }
-        aborted = f"hands {command_label(command)} up as aborted by the reset" if command is not None else ""
+        aborted = f"hands {command_label(command)} up as aborted, event {command.reset} ended it" if command is not None else ""
         return texts.get(answer.outcome, aborted)
     words = f"hands up the answer of {command_label(command)}: {status_words(answer.status)}"
     if command.is_denied:

@@ -44,6 +44,8 @@ class TimelineTest(unittest.TestCase):
             with self.subTest(name):
                 rows = with_class(parts, "event")
                 self.assertEqual([it.get("tabindex") for it in rows], ["0"] * len(events))
+                lists = [it for part in parts for it in part.iter() if it.get("role") == "list"]
+                self.assertEqual([it for row in lists for it in row], rows)
                 self.assertTrue(all(it.get("aria-label") and it.find(f"{SPACE}title") is not None for it in rows))
                 self.assertEqual(len(with_class(parts, "cross")), denied)
                 self.assertEqual(page.count("<tr><td>"), denied)
@@ -75,6 +77,24 @@ class TimelineTest(unittest.TestCase):
         self.assertEqual(len(with_class(parts, "event")), 505)
         self.assertEqual(len(parts), -(-505 // ROWS_OF_A_PART))
         self.assertEqual(len(with_class(parts, "cross")), 36)
+
+    def test_no_text_lies_over_another_or_over_a_span(self) -> None:
+        """By letters of 7.3 pixels in the heads, and of 6 in the numbers of rules."""
+        hosts = range(1, 17)
+        head = "".join(f"controller {it} host 0x{it:x}{'f' * 30}\n" for it in hosts) + "namespace 1 blocks 8 shared\n"
+        head += "".join(f"attached {it} 1\n" for it in hosts) + "start\nup 16\n"
+        for begin, number in ((HEAD, 1), (head, 16)):
+            script = begin + "read N 1 8 1\n".replace("N", str(number)) * 7 + f"ring {number}\n"
+            script += f"fetch {number} 1\n" * 7 + f"execute {number} 0\n" * 7
+            layout = lay_out(follow(list(read_lines(script)), transcript_of(script)),
+                             configuration_of(list(read_lines(script))), ["text"])
+            self.assertEqual([it.title for it in layout.lanes if 7.3 * len(it.title) > it.width], [])
+            parts = pictures(timeline(script, transcript_of(script)))
+            held = max(float(it.get("x", 0)) + 9 for it in with_class(parts, "held"))
+            rules = with_class(parts, "rule")
+            self.assertEqual(len(rules), 7)
+            for it in rules:
+                self.assertGreater(float(it.get("x", 0)) - 6 * len(it.text or ""), held)
 
     def test_requests_that_wait_together_have_slots_of_their_own(self) -> None:
         script = HEAD + "flush 1 1\nflush 1 1\nring 1\nfetch 1 1\nexecute 1 0\npoll 1\nflush 1 1\n"

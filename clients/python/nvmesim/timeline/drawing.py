@@ -7,12 +7,13 @@ from typing import Iterator, List, Sequence, Tuple
 from ..answers import Executed, Fetched, Polled, PowerCycled, Reset, Rung, Up
 from ..enums import ExecuteOutcome, UpOutcome
 from ..history import Command, Event
-from ..words import (command_label, command_words, rule_words, shortened, status_words, tickets_words,
+from ..words import (command_label, command_words, rule_words, short_meaning, shortened, status_words, tickets_words,
                      verdict_words)
 from .layout import HEAD, ROW, Layout, begin_of, commands_of
 
 _ALTERING = ("write", "zeroes")
 _READING = ("read", "compare")
+_MOST_WORDS = 112
 
 
 def state_of(command: Command) -> str:
@@ -54,7 +55,8 @@ class Part:
         label = f"Events {self.first} to {self.last}"
         head = (f'<svg class="part" role="group" aria-label="{label}" viewBox="0 0 {width} {self.height}" '
                 f'width="{width}" height="{self.height}" xmlns="http://www.w3.org/2000/svg">')
-        body = [*self._lanes(), *self._rows(), *self._spans(), *self._marks()]
+        body = [*self._lanes(), '<g role="list" aria-label="Events">', *self._rows(), "</g>", *self._spans(),
+                *self._marks()]
         return "\n".join([head, *body, "</svg>"])
 
     def y(self, number: int) -> float:
@@ -146,9 +148,9 @@ class Part:
         """An execution reaches the media, or is stopped at its controller by a rule."""
         x, media = self.layout.held_left(command) + 4.5, self.layout.media
         if command.is_denied:
-            number = command.rule.value
+            number, lane = command.rule.value, self.layout.controllers[command.controller]
             return [f'<path class="cross" d="M{x - 7} {y - 7}l14 14M{x - 7} {y + 7}l14 -14"/>',
-                    f'<text class="rule" x="{x + 12}" y="{y + 4}">rule {number}</text>']
+                    f'<text class="rule" x="{lane.left + lane.width - 6}" y="{y + 4}">rule {number}</text>']
         verb = command.line.verb if command.line is not None else ""
         shape = "changes" if verb in _ALTERING else "looks" if verb in _READING else "other"
         end = media.middle
@@ -188,8 +190,8 @@ def event_texts(event: Event) -> Tuple[str, str]:
     if isinstance(answer, Fetched) and command is not None:
         return line, f"takes {command_label(command)}"
     if event.line.is_request and command is not None:
-        return line, shortened(f"ticket {command.ticket}: {command_words(command)}", 96)
-    return line, event.text
+        return line, shortened(f"ticket {command.ticket}: {command_words(command)}", _MOST_WORDS)
+    return line, shortened(short_meaning(event), _MOST_WORDS)
 
 
 def _short_verdict(command: Command) -> str:

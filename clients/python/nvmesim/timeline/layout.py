@@ -16,8 +16,9 @@ GUTTER = 44
 """The width of the events' numbers."""
 ROWS_OF_A_PART = 36
 """The most events of one part: a part is not broken over pages."""
-_LETTER = 7.2
+_LETTER = 7.0
 _BAR = 12
+_RULE = 42
 
 
 @dataclass(frozen=True)
@@ -111,11 +112,11 @@ def lay_out(events: Sequence[Event], configuration: Configuration, texts: Sequen
     controllers: Dict[int, Lane] = {}
     for number, host in configuration.hosts.items():
         subtitle = "raw" if number in configuration.raw else "driver"
-        width = max(58 if is_narrow else 84, 12 + _BAR * _most(slots, number))
+        width = max(72 if is_narrow else 84, 12 + _BAR * _most(slots, number))
         name = host_words(host)
         hosts[number] = Lane("host", _host_title(host, 9 if is_narrow else 12), subtitle, left, width, name)
         left += width
-        width = max(58 if is_narrow else 84, 40 + _BAR * _most(held, number))
+        width = max(72 if is_narrow else 92, 18 + _BAR * _most(held, number) + _RULE)
         title = f"ctrl {number}" if is_narrow else f"controller {number}"
         controllers[number] = Lane("controller", title, "", left, width, f"controller {number} of {name}")
         left += width + 10

@@ -12,7 +12,7 @@ from .layout import ROWS_OF_A_PART, commands_of, lay_out
 from .style import SCRIPT, STYLE
 
 _STATES = {
-    "done": "carried out", "denied": "denied by a rule", "failed": "failed", "aborted": "aborted by a reset",
+    "done": "carried out", "denied": "denied by a rule", "failed": "failed", "aborted": "aborted",
     "waiting": "without an answer",
 }
 
@@ -86,7 +86,7 @@ _LEGEND = """<ul class="legend" aria-label="Legend">
 <li><svg width="14" height="20"><g class="command failed"><rect class="span" x="2" y="1" width="9" height="18" rx="4"/></g>
 </svg> failed</li>
 <li><svg width="14" height="20"><g class="command aborted"><rect class="span" x="2" y="1" width="9" height="18" rx="4"/>
-</g></svg> aborted by a reset</li>
+</g></svg> aborted by a reset or a loss of power</li>
 <li><svg width="14" height="20"><g class="command waiting"><rect class="span" x="2" y="1" width="9" height="18" rx="4"/>
 </g></svg> without an answer</li>
 <li><svg width="16" height="20"><rect class="changes" x="2" y="4" width="12" height="12"/></svg> changes blocks</li>

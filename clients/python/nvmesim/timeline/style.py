@@ -44,7 +44,7 @@ svg .words { fill: var(--faint); }
 .arrow { fill: none; stroke: var(--faint); stroke-width: 1.3; } .arrow.poll { stroke-dasharray: 5 2; }
 .reach { fill: none; stroke: var(--done); stroke-width: 1.3; }
 .changes { fill: var(--done); } .looks, .other { fill: var(--ground); stroke: var(--done); stroke-width: 2; }
-svg .rule { fill: var(--denied); font-size: 10.5px; font-weight: 600; }
+svg .rule { fill: var(--denied); font-size: 10.5px; font-weight: 600; text-anchor: end; }
 .band { fill: none; stroke: var(--up); stroke-width: 1.5; } .band.reset,
 .band.power { fill: var(--aborted); stroke: none; }
 svg .band-text { text-anchor: middle; fill: var(--up); font-size: 11px; font-weight: 600; }
@@ -74,6 +74,7 @@ SCRIPT = """
     it.addEventListener('mouseenter', function () { show(it); });
   });
   document.addEventListener('keydown', function (key) {
+    if (key.key === 'Escape') { panel.hidden = true; return; }
     var step = { ArrowDown: 1, ArrowUp: -1 }[key.key];
     var at = rows.indexOf(document.activeElement);
     if (!step || at < 0 || !rows[at + step]) { return; }
