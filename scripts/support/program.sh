@@ -81,13 +81,30 @@ build() {
     trap - EXIT
 }
 
-# Makes the program ready to be run by `run_program`.
+bad_words() {
+    tell 'bad command line'
+    tell "$1; usage: $name [IMAGE [SCRIPT]]"
+    exit 3
+}
+
+# Refuses words that the program would refuse, as it does, so that nobody waits for a build to hear that.
+refuse_bad_words() {
+    local word number=0
+    for word; do
+        number=$((number + 1))
+        [[ $word != -?* ]] || bad_words "word $number, '$word', begins as an option does, and there is none"
+        [ "$number" -le 2 ] || bad_words "word $number, '$word', is one too many"
+    done
+}
+
+# Makes the program ready to be run by `run_program` on these words.
 prepare() {
     if [ "${NVMESIM_UNPROVED:-}" = 1 ]; then
         command -v rt >/dev/null || not_built 'there is no rt, the command of the toolchain'
         tell 'NVMESIM_UNPROVED is set: nothing is proved, and the program is slow; it starts in about a minute'
-    else
-        is_current || build
+    elif ! is_current; then
+        refuse_bad_words "$@"
+        build
     fi
 }
 
