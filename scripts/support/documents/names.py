@@ -1,5 +1,5 @@
 """What documents name stands in the repository: paths, crates, definitions, links; the picture has the crates, and the
-manual page the lines of scripts."""
+manual pages the lines of scripts and of sessions."""
 import re
 import xml.etree.ElementTree as xml
 from pathlib import Path
@@ -22,7 +22,9 @@ CITING = ("README.md", "docs/CRATES.md", "docs/THEOREMS.md", "docs/ARCHITECTURE.
           "docs/DECISIONS.md")
 PICTURE = "docs/pictures/layers.svg"
 CONTRACTS = "docs/CRATES.md"
-MANUAL = "man/nvmesim.1"
+# Each manual page, and the part of a document whose tables have the forms of its lines.
+MANUALS = (("man/nvmesim.1", "docs/SCRIPTS.md", "Lines after `start`", re.compile(r"\| `([a-z0-9]+ C[^`]*)` \|")),
+           ("man/nvmelive.1", "docs/LIVE.md", "Lines", re.compile(r"\| `(\?[^`]*)` \|")))
 
 
 def globs(text: str) -> List[str]:
@@ -163,14 +165,15 @@ def check_links(top: Path, document: Document, others: List[Document]) -> Iterat
 
 
 def check_manual(top: Path, found: List[Document]) -> Iterator[Finding]:
-    """The manual page has the line of each event that docs/SCRIPTS.md has."""
-    lines = (top / MANUAL).read_text(encoding="utf-8").split("\n")
-    document = next(it for it in found if it.path == "docs/SCRIPTS.md")
-    first, end = next((first, end) for heading, first, end in document.sections() if heading == "Lines after `start`")
-    for n, line in document.prose:
-        cell = re.match(r"\| `([a-z0-9]+ C[^`]*)` \|", line)
-        if cell and first < n < end and cell[1] not in lines:
-            yield Finding(MANUAL, 1, f"no line {cell[1]}")
+    """Each manual page has the form of each line that its document has."""
+    for manual, path, wanted, row in MANUALS:
+        lines = (top / manual).read_text(encoding="utf-8").split("\n")
+        document = next(it for it in found if it.path == path)
+        first, end = next((first, end) for heading, first, end in document.sections() if heading == wanted)
+        for n, line in document.prose:
+            cell = row.match(line)
+            if cell and first < n < end and cell[1] not in lines:
+                yield Finding(manual, 1, f"no line {cell[1]}")
 
 
 def check_picture(top: Path) -> Iterator[Finding]:

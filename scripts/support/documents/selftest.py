@@ -50,6 +50,7 @@ CHANGED = (
      "kept takes memory, and no row"),
     (PICTURE, ">nvme_ring<", ">nvme_rings<", "nvme_rings stands there twice, or is no crate"),
     ("man/nvmesim.1", "\nfetch C Q\n", "\nfetch C\n", "no line fetch C Q"),
+    ("man/nvmelive.1", "\n?queues C\n", "\n?queue C\n", "no line ?queues C"),
     ("docs/READING.md", "# Reading lists", "# Lists", "not what the definitions give"),
 )
 # What else is told of these.
