@@ -6,7 +6,7 @@ import os
 import sys
 import time
 from pathlib import Path
-from typing import Callable, List, Optional, Sequence
+from typing import Callable, List, NoReturn, Optional, Sequence
 
 from . import __version__
 from .errors import NvmesimError
@@ -36,14 +36,28 @@ def main(given: Optional[Sequence[str]] = None) -> int:
     except BrokenPipeError:
         os.dup2(os.open(os.devnull, os.O_WRONLY), sys.stdout.fileno())
         return _FAULT
-    except (NvmesimError, OSError, UnicodeDecodeError) as fault:
-        print(f"nvmesim: {fault}", file=sys.stderr)
+    except (NvmesimError, OSError) as fault:
+        print(f"nvmesim: {_sentence(fault)}", file=sys.stderr)
         return _FAULT
+
+
+def _sentence(fault: Exception) -> str:
+    """What went wrong; of a call of the system, the file and the reason."""
+    if isinstance(fault, OSError) and fault.filename is not None and fault.strerror is not None:
+        return f"{os.fsdecode(fault.filename)}: {fault.strerror}"
+    return str(fault)
+
+
+class _Parser(argparse.ArgumentParser):
+    """A parser that says in one line what is wrong."""
+
+    def error(self, message: str) -> NoReturn:
+        self.exit(_FAULT, f"nvmesim: {message}; --help says what there is\n")
 
 
 def _parser() -> argparse.ArgumentParser:
     """What the command line may have."""
-    parser = argparse.ArgumentParser(prog="python3 -m nvmesim", description="Scripts of the proved NVMe subsystem: "
+    parser = _Parser(prog="python3 -m nvmesim", description="Scripts of the proved NVMe subsystem: "
                                      "what their lines mean, pictures of them, and every order of their events.")
     parser.add_argument("--version", action="version", version=f"nvmesim {__version__}")
     commands = parser.add_subparsers(required=True, metavar="COMMAND")
@@ -95,7 +109,12 @@ def _add_explore(parser: argparse.ArgumentParser) -> None:
 
 
 def _text_of(name: str) -> str:
-    return sys.stdin.read() if name == "-" else Path(name).read_text(encoding="utf-8")
+    """The text of a file, or of standard input."""
+    data = sys.stdin.buffer.read() if name == "-" else Path(name).read_bytes()
+    try:
+        return data.decode("utf-8").replace("\r\n", "\n")
+    except UnicodeDecodeError as fault:
+        raise NvmesimError(f"{name} is no text: its byte {fault.start} is no UTF-8") from None
 
 
 def _transcript(words: argparse.Namespace, script: str) -> str:
@@ -141,7 +160,7 @@ def _explore(words: argparse.Namespace) -> int:
     if words.merge is not None and words.image is not None:
         raise NvmesimError("--image stands where parts are explored, and not at their --merge")
     if words.merge is not None:
-        plan, found = merge([Path(it).read_text(encoding="utf-8").splitlines() for it in words.merge])
+        plan, found = merge([_text_of(it).splitlines() for it in words.merge])
         return _report(words, plan, _checks(words, plan), found)
     plan = Plan(_text_of(words.script))
     checks = _checks(words, plan)
@@ -197,8 +216,7 @@ def _told(statistics: Statistics) -> str:
 def _report(words: argparse.Namespace, plan: Plan, checks: Sequence[Check], found: Findings) -> int:
     """Prints what was found; 1 where something is not as it must be."""
     report = Report(plan, found, checks)
-    for line in report.lines():
-        print(line)
+    print("\n".join(report.lines()))
     if words.counterexample and not report.is_good:
         Path(words.counterexample).write_text(report.counterexample(), encoding="utf-8")
     return 0 if report.is_good else 1

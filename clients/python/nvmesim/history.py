@@ -4,7 +4,7 @@ from __future__ import annotations
 from dataclasses import dataclass, field
 from typing import Dict, Iterable, List, Optional, Sequence
 
-from .answers import (Answer, Executed, Fetched, Placed, Polled, PowerCycled, Refused, Reset, Rung, Stored, Up, Wrote32,
+from .answers import (Answer, Executed, Fetched, Placed, Polled, PowerCycled, Reset, Rung, Stored, Up, Wrote32,
                       parse_answer)
 from .enums import ExecuteOutcome, PollOutcome, Rule, Status, UpOutcome
 from .errors import ProtocolError, ScriptError

@@ -11,7 +11,7 @@ import unittest
 from pathlib import Path
 from typing import Dict, List, Sequence, Tuple
 
-from nvmesim import ConfigurationRefused, ExpressionError, ProgramDied, ScriptError
+from nvmesim import ConfigurationRefused, ProgramDied, ScriptError
 from nvmesim.__main__ import main
 from nvmesim.explore import Plan, Shard, explore, explore_shard
 from nvmesim.explore.dask import explore_on_dask
@@ -248,6 +248,10 @@ class PlanTest(unittest.TestCase):
             with self.subTest(comment), self.assertRaises(ScriptError):
                 Plan(HEAD + comment + "\nring 1\n")
 
+    def test_a_script_without_marks_names_what_looks_like_one(self) -> None:
+        with self.assertRaisesRegex(ScriptError, "^the script has no mark: .*, line 10, has more words$"):
+            Plan(HEAD + "# a comment\n# host a 1\n# then\nring 1\n")
+
     def test_what_is_refused(self) -> None:
         for text in ("# host a\n" + HEAD, HEAD + "# host then\n", HEAD + "# host before\n"):
             with self.subTest(text), self.assertRaises(ScriptError):
@@ -387,69 +391,36 @@ class ProgramTest(FolderCase):
         self.assertIn("posted 0:83 7", done.stdout)
 
 
-class ExpressionTest(unittest.TestCase):
-    def setUp(self) -> None:
-        self.plan = Plan(RACE_TEXT)
-        self.report = Report(self.plan, walk_of(self.plan).explore())
-        self.blocks = Looks(self.plan).blocks
-
-    def truths(self, text: str) -> List[bool]:
-        """Whether an expression holds of each outcome: it lands, it is refused, it is aborted."""
-        expression = Expression(text, self.plan, self.blocks)
-        return [expression.holds(it) for it in self.report.values]
-
-    def test_what_they_say(self) -> None:
-        for text, wanted in (
-                ("a.write1 == 'Successful Completion'", [True, False, False]),
-                ("a.write1 != 'Successful Completion'", [False, True, True]),
-                ("a.write1.rule == 7", [False, True, False]),
-                ("a.write1.rule in (1, 7)", [False, True, True]),
-                ("0 < a.write1.rule < 7", [False, False, True]),
-                ("a.write1.status == '0:1b'", [False, False, True]),
-                ("a.write1.executed == 'Reservation Conflict'", [False, True, False]),
-                ("a.execute1.request == 'a.write1'", [True, True, True]),
-                ("a.fetch1 == 'took' and not a.poll1 == 'nothing'", [True, True, True]),
-                ("block(1, 0) == 'a1'", [True, False, False]),
-                ("then.read1.data in ('a1', '')", [True, True, True]),
-                ("reservation(1).holder == 0xb2 and reservation(1).type == 1", [True, True, True]),
-                ("0xa1 in reservation(1).registrants", [False, False, False]),
-                ("reservation(1).name == 'Write Exclusive'", [True, True, True]),
-                ("implies(a.write1.rule == 0, block(1, 0) == 'a1')", [True, True, True]),
-                ("a.write1 == 'Reservation Conflict' or b.acquire1 == 'aborted'", [False, True, False]),
-                ("True", [True, True, True])):
-            with self.subTest(text):
-                self.assertEqual(self.truths(text), wanted)
-
-    def test_what_they_can_not_say(self) -> None:
-        for text in ("", "a.", "a.write2 == 'aborted'", "c.write1", "a.write1 == 'Reservation Conflct'", "write1",
-                     "a.fetch1 == 'Successful Completion'", "a.write1 in ('aborted', 'abortd')", "a.write1.rules == 1",
-                     "__import__('os').system('true')", "a.write1.__class__", "(lambda: 1)()", "[x for x in (1,)]",
-                     "a.write1 is None", "1 + 1", "f'{a}'", "open('x')", "reservation(2).holder", "block(1, 1)",
-                     "block(1)", "implies(True)", "reservation(1).keys", "'a'.upper()", "(1).real", "a.write1[0]",
-                     "x := 1", "exit()", "a.write1; b.poll1", "1.5 == 1", "b'x' == 1", "...", "-1 == 1"):
-            with self.subTest(text), self.assertRaises(ExpressionError):
-                Expression(text, self.plan, self.blocks)
-
-    def test_comparisons_that_fail(self) -> None:
-        with self.assertRaises(ExpressionError):
-            self.truths("a.write1.rule < 'x'")
-
-    def test_near_names_are_offered(self) -> None:
-        with self.assertRaisesRegex(ExpressionError, "did you mean a.write1"):
-            Expression("a.wirte1 == 'aborted'", self.plan)
-        with self.assertRaisesRegex(ExpressionError, "did you mean 'Reservation Conflict'"):
-            Expression("a.write1 == 'Reservation Conflct'", self.plan)
-
-
 class CommandTest(FolderCase):
     def run_command(self, *words: str) -> Tuple[int, str, str]:
         told, wrong = io.StringIO(), io.StringIO()
         with contextlib.redirect_stdout(told), contextlib.redirect_stderr(wrong):
-            status = main(words)
+            try:
+                status = main(words)
+            except SystemExit as end:
+                status = int(end.code or 0)
         return status, told.getvalue(), wrong.getvalue()
 
     def explored(self, *words: str) -> Tuple[int, str, str]:
         return self.run_command("explore", "--program", str(PROGRAM), *words)
+
+    def test_each_fault_is_one_sentence(self) -> None:
+        text = self.folder / "text"
+        text.write_bytes(b"\xff")
+        parrot = self.program("for line in sys.stdin: print(line, end='', flush=True)")
+        for words, said in (
+                (["explore", str(RACE), "--bogus"], "unrecognized arguments: --bogus"),
+                (["explore", str(RACE), "--jobs", "x"], "invalid int value: 'x'"),
+                (["explore", str(self.folder / "absent")], "/absent: No such file or directory"),
+                (["explain", str(text)], "is no text: its byte 0 is no UTF-8"),
+                (["timeline", str(RACE), "-o", "/absent/page"], "/absent/page: No such file or directory"),
+                (["explore", str(RACE), "--program", str(parrot)], "and neither ok nor started"),
+                (["explore", str(RACE), "--always", "a.write1 =="], "'a.write1 ==' is no expression: invalid syntax")):
+            given = [*words[:1], "--program", str(PROGRAM), *words[1:]] if "--program" not in words else words
+            status, told, wrong = self.run_command(*given)
+            with self.subTest(words):
+                self.assertEqual((status, told, wrong.count("\n")), (2, "", 1))
+                self.assertIn(said, wrong)
 
     def test_a_report_and_its_status(self) -> None:
         status, told, _ = self.explored(str(RACE), "--never", "a.write1 == 'unanswered'")

@@ -14,6 +14,7 @@ import operator
 from typing import Any, Callable, Dict, Iterable, List, Set, Type, Union
 
 from ..errors import ExpressionError
+from .kinds import fault_of
 from .plan import Plan
 from .values import FIELDS, Value, Values, texts_of
 
@@ -47,7 +48,9 @@ class Expression:
         self._watched = _watched(watched)
         try:
             self._tree = ast.parse(text.strip(), mode="eval").body
-        except (SyntaxError, ValueError) as fault:
+        except SyntaxError as fault:
+            raise ExpressionError(f"{text!r} is no expression: {fault.msg}") from None
+        except ValueError as fault:
             raise ExpressionError(f"{text!r} is no expression: {fault}") from None
         self._check(self._tree)
 
@@ -56,7 +59,7 @@ class Expression:
         try:
             return bool(self._plain(self._evaluate(self._tree, values)))
         except TypeError as fault:
-            raise ExpressionError(f"{self.text!r}: {fault}") from None
+            raise ExpressionError(f"{self.text!r} compares what can't be compared: {fault}") from None
 
     def _fault(self, why: str) -> ExpressionError:
         return ExpressionError(f"{self.text!r}: {why}")
@@ -69,6 +72,8 @@ class Expression:
             self._check(node.operand)
         elif isinstance(node, ast.Compare) and all(type(it) in _OPERATORS for it in node.ops):
             self._check_all([node.left, *node.comparators])
+            if why := fault_of(node):
+                raise self._fault(why)
             self._check_texts(node)
         elif isinstance(node, ast.Attribute):
             self._check_attribute(node)

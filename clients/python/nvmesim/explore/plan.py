@@ -167,6 +167,15 @@ def _mark_of(line: ScriptLine) -> Optional[str]:
     return THEN if found[2] else found[1]
 
 
+def _near_mark(lines: List[ScriptLine]) -> str:
+    """Says of the first comment that begins like a mark that it is none."""
+    for line in lines:
+        words = line.text.split()
+        if line.kind is LineKind.COMMENT and words[1:2] == ["host"] and len(words) != 3:
+            return f", and {line.text!r}, line {line.number}, has {'more' if len(words) > 3 else 'fewer'} words"
+    return ""
+
+
 def _phases(lines: List[ScriptLine]) -> Iterator[Phase]:
     """The phases of a script."""
     phases: List[Dict[str, List[Step]]] = [{BEFORE: []}]
@@ -186,7 +195,8 @@ def _phases(lines: List[ScriptLine]) -> Iterator[Phase]:
             number = counts[part, line.verb] = counts.get((part, line.verb), 0) + 1
             phases[-1][part].append(Step(f"{part}.{line.verb}{number}", part, line))
         is_started = is_started or line.kind is LineKind.START
-    if len(phases) == 1:
-        raise ScriptError(0, "the script has no mark: a comment '# host NAME' begins the events of a host")
+    if all(part in (BEFORE, THEN) for parts in phases for part in parts):
+        raise ScriptError(0, "the script has no mark: a comment '# host NAME' begins the events of a host"
+                          + _near_mark(lines))
     for parts in phases:
         yield Phase(tuple(tuple(it) for it in parts.values()))

@@ -83,8 +83,9 @@ class Runner:
             try:
                 first = process.exchange(setup)
                 self._check(setup, first)
-                if any(it not in _HEADS for it in first):
-                    raise ProtocolError(f"the description was answered {first!r}")
+                for line, answer in zip(setup, first):
+                    if answer not in _HEADS:
+                        raise ProtocolError(f"{line!r} was answered {answer!r}, and neither ok nor started")
                 answers = process.exchange(lines)
             finally:
                 process.abandon()

@@ -1,0 +1,46 @@
+"""What kind of value a part of an expression has: a comparison of two kinds says nothing, and is refused beforehand."""
+from __future__ import annotations
+
+import ast
+from typing import Iterable, Optional
+
+TEXT, NUMBER, TRUTH = "a text", "a number", "true or false"
+
+_FIELDS = {"type": NUMBER, "generation": NUMBER, "protection": NUMBER, "rule": NUMBER, "value": NUMBER,
+           "persists": TRUTH, "is_protected": TRUTH, "holder": None, "registrants": None}
+_ORDERING = (ast.Lt, ast.LtE, ast.Gt, ast.GtE)
+
+
+def kind_of(node: ast.expr) -> Optional[str]:
+    """The kind of a value, as far as the expression alone tells it."""
+    if isinstance(node, ast.Constant):
+        kinds = {bool: TRUTH, int: NUMBER, str: TEXT}
+        return kinds.get(type(node.value))
+    if isinstance(node, ast.Attribute):
+        return TEXT if isinstance(node.value, ast.Name) else _FIELDS.get(node.attr, TEXT)
+    if isinstance(node, ast.Call):
+        return {"block": TEXT, "implies": TRUTH}.get(ast.unparse(node.func))
+    return TRUTH if isinstance(node, (ast.BoolOp, ast.Compare, ast.UnaryOp)) else None
+
+
+def fault_of(node: ast.Compare) -> str:
+    """Why a comparison says nothing, or an empty text."""
+    sides = [node.left, *node.comparators]
+    for left, how, right in zip(sides, node.ops, sides[1:]):
+        if isinstance(how, (ast.In, ast.NotIn)):
+            if kind_of(right) in (NUMBER, TRUTH):
+                return f"nothing is in {ast.unparse(right)}, which is {kind_of(right)}"
+            others: Iterable[ast.expr] = right.elts if isinstance(right, (ast.Tuple, ast.List, ast.Set)) else (right,)
+        else:
+            others = (right,)
+        for other in others:
+            if not _are_alike(kind_of(left), kind_of(other), isinstance(how, _ORDERING)):
+                return f"{ast.unparse(left)} is {kind_of(left)}, and {ast.unparse(other)} {kind_of(other)}"
+    return ""
+
+
+def _are_alike(left: Optional[str], right: Optional[str], is_ordering: bool) -> bool:
+    """Whether values of two kinds can be compared; a truth counts as a number, unless it is asked which is greater."""
+    if left is None or right is None or left == right:
+        return True
+    return not is_ordering and {left, right} == {NUMBER, TRUTH}
