@@ -18,7 +18,7 @@
 #include <unistd.h>
 
 // The function of the same name that comes after this one, found once. A C library may lack it; then nothing calls it.
-#define NEXT(name) ((__typeof__(&name))next_of(#name, &next_##name))
+#define NEXT(name) (__extension__(__typeof__(&name))next_of(#name, &next_##name))
 #define FOUND_ONCE(name) static void *next_##name
 
 static void *next_of(const char *name, void **found) {

@@ -32,10 +32,10 @@ static int (*next_closedir)(DIR *);
 static void (*next_rewinddir)(DIR *);
 
 __attribute__((constructor)) static void find_next(void) {
-    next_opendir = (DIR *(*)(const char *))dlsym(RTLD_NEXT, "opendir");
-    next_readdir = (struct dirent64 * (*)(DIR *)) dlsym(RTLD_NEXT, "readdir64");
-    next_closedir = (int (*)(DIR *))dlsym(RTLD_NEXT, "closedir");
-    next_rewinddir = (void (*)(DIR *))dlsym(RTLD_NEXT, "rewinddir");
+    next_opendir = __extension__(DIR *(*)(const char *))dlsym(RTLD_NEXT, "opendir");
+    next_readdir = __extension__(struct dirent64 * (*)(DIR *))dlsym(RTLD_NEXT, "readdir64");
+    next_closedir = __extension__(int (*)(DIR *))dlsym(RTLD_NEXT, "closedir");
+    next_rewinddir = __extension__(void (*)(DIR *))dlsym(RTLD_NEXT, "rewinddir");
 }
 
 // The folder that a path names, if it is one of the shared ones.

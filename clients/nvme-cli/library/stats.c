@@ -49,7 +49,7 @@ static bool may_be_device(mode_t mode, long long size) {
 // The function of the same name that comes after this one. A C library may lack it; then nothing calls it.
 #define FIND_NEXT(type, name)                                                                                          \
     static type *next;                                                                                                 \
-    if (!next && !(next = (type *)dlsym(RTLD_NEXT, name))) {                                                           \
+    if (!next && !(next = __extension__(type *)dlsym(RTLD_NEXT, name))) {                                              \
         errno = ENOSYS;                                                                                                \
         return -1;                                                                                                     \
     }

@@ -9,7 +9,7 @@ from pathlib import Path
 from nvmelab.faults import LabFault
 
 SOURCES = Path(__file__).resolve().parent.parent / "library"
-FLAGS = ["-std=c11", "-O2", "-Wall", "-Wextra", "-fPIC", "-shared", "-U_FORTIFY_SOURCE"]
+FLAGS = ["-std=c11", "-O2", "-Wall", "-Wextra", "-Wpedantic", "-fPIC", "-shared", "-U_FORTIFY_SOURCE"]
 
 
 def sources() -> "list[Path]":

@@ -89,10 +89,13 @@ class Bench:
         self.wait_over()
 
     def compile_client(self) -> None:
-        words = [os.environ.get("CC", "cc"), "-std=gnu11", "-O1", "-Wall", "-Wextra", "-o", self.client,
-                 *map(str, sorted((HERE / "client").glob("*.c")))]
-        done = self.run_words(words)
-        check_is(f"the compilation of the client, which says {done.errors!r},", done.status, 0)
+        """Compiles the client, and the library too: neither may give a warning."""
+        strict = ["-O1", "-Wall", "-Wextra", "-Wpedantic", "-Werror"]
+        for words, sources in ((["-std=gnu11", "-o", self.client], HERE / "client"),
+                               (["-std=c11", "-fPIC", "-shared", "-o", str(self.place / "library")],
+                                PACKAGE / "library")):
+            done = self.run_words([os.environ.get("CC", "cc"), *strict, *words, *map(str, sorted(sources.glob("*.c")))])
+            check_is(f"the compilation of {sources}, which says {done.errors!r},", done.status, 0)
 
     def is_over(self) -> bool:
         """Whether no lab is left: each folder is gone, and its lock is free."""
