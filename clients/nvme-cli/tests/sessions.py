@@ -1,4 +1,5 @@
 """Sessions of nvme-cli, as the documents have them: typed in the shells of two hosts, and answered as written."""
+import os
 import re
 import shutil
 import subprocess
@@ -84,13 +85,15 @@ def of_drivers(line: str, wanted: List[str]) -> List[str]:
     return wanted
 
 
-def run_session(bench: Bench, name: str, has_drivers: bool = False) -> None:
+def run_session(bench: Bench, name: str, has_drivers: bool = False, is_whole: Optional[bool] = None) -> None:
+    """Types a session, and compares what comes back: word for word, or its statuses alone."""
+    is_whole = version_of_tool() == LEAST_VERSION if is_whole is None else is_whole
     shells = Shells(bench, ["--drivers"] if has_drivers else [])
     try:
         for who, line, wanted in read_session((HERE / name).read_text()):
             found = shells.type(who, line)
             wanted = of_drivers(line, wanted) if has_drivers else wanted
-            if version_of_tool() != LEAST_VERSION:
+            if not is_whole:
                 found, wanted = statuses(found), statuses(wanted)
             check_is(f"{name}: `{line}` in the shell of {who}", found, wanted)
     finally:
@@ -102,6 +105,16 @@ def fencing(bench: Bench) -> None:
     """A preempted host's write is refused, by nvme-cli alone: of raw hosts, and of hosts with drivers."""
     run_session(bench, "fencing.session")
     run_session(bench, "fencing.session", has_drivers=True)
+
+
+def fencing_by_stand_in(bench: Bench) -> None:
+    """The same where nvme-cli is not installed, by a program that makes the same control calls, word for word."""
+    bench.others["PATH"] = f"{HERE / 'standin'}{os.pathsep}{os.environ['PATH']}"
+    try:
+        run_session(bench, "fencing.session", is_whole=True)
+        run_session(bench, "fencing.session", has_drivers=True, is_whole=True)
+    finally:
+        del bench.others["PATH"]
 
 
 def tour(bench: Bench) -> None:

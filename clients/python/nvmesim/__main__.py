@@ -160,7 +160,7 @@ def _explore(words: argparse.Namespace) -> int:
     if words.merge is not None and words.image is not None:
         raise NvmesimError("--image stands where parts are explored, and not at their --merge")
     if words.merge is not None:
-        plan, found = merge([_text_of(it).splitlines() for it in words.merge])
+        plan, found = merge([_text_of(it).splitlines() for it in words.merge], words.merge)
         return _report(words, plan, _checks(words, plan), found)
     plan = Plan(_text_of(words.script))
     checks = _checks(words, plan)

@@ -1,4 +1,4 @@
-"""Hands the parts of an exploration to a Dask cluster. The optional extra `nvmesim[dask]` brings what this needs."""
+"""Hands the parts of an exploration to a Dask cluster. The package's extra `dask` brings what this needs."""
 from __future__ import annotations
 
 from typing import Any, Callable, List, Optional
@@ -18,7 +18,7 @@ def _connect(address: str) -> Any:
     try:
         from distributed import Client
     except ImportError:
-        raise DaskMissing("--dask needs the extra: pip install 'nvmesim[dask]'") from None
+        raise DaskMissing("--dask needs Dask: pip install './clients/python[dask]'") from None
     connect: Callable[[str], Any] = Client
     return connect(address)
 

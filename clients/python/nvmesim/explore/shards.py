@@ -77,24 +77,29 @@ def _finding(line: str) -> Tuple[Outcome, Ways]:
             Ways(told["orders"], told["changes"], tuple(told["order"])))
 
 
-def merge(parts: Sequence[Iterable[str]]) -> Tuple[Plan, Findings]:
+def merge(parts: Sequence[Iterable[str]], names: Sequence[str] = ()) -> Tuple[Plan, Findings]:
     """Joins the JSON lines of all parts.
+
+    Args:
+        parts: the lines of each.
+        names: what each is called in a fault, such as the names of files.
 
     Raises:
         ShardError: they are not all parts of one exploration, each once and whole.
     """
     heads: List[Dict[str, Any]] = []
     found: List[Findings] = []
-    for lines in parts:
+    for number, lines in enumerate(parts):
+        name = names[number] if names else f"text {number + 1}"
         try:
             head, *rest = [it for it in lines if it.strip()]
             heads.append(json.loads(head))
             found.append(dict(map(_finding, rest)))
             told = sum(it.count for it in found[-1].values())
             if heads[-1]["explore"] != VERSION or heads[-1]["orders"] != told or "image" not in heads[-1]:
-                raise ShardError("a part is not whole, or of another version of this program")
+                raise ShardError(f"{name} is a part that is cut, or of another version of this program")
         except (ValueError, KeyError, TypeError, AttributeError):
-            raise ShardError("a file is not what explore --shard writes") from None
+            raise ShardError(f"{name} is not what explore --shard writes") from None
     _check(heads)
     plan = Plan(heads[0]["script"])
     whole = joined(found)
