@@ -188,7 +188,10 @@ def check_picture(top: Path) -> Iterator[Finding]:
             name = text.text or ""
             if name in places or name not in crates(top):
                 yield Finding(PICTURE, 1, f"{name} stands there twice, or is no crate")
-            places[name] = (int(text.get("y", 0)), int(text.get("x", 0)))
+            place = (int(text.get("y", 0)), int(text.get("x", 0)))
+            if place in places.values():
+                yield Finding(PICTURE, 1, f"{name} lies over another crate")
+            places[name] = place
     for name, below in uses(top):
         if name not in places:
             yield Finding(PICTURE, 1, f"{name} is not there")

@@ -49,6 +49,7 @@ CHANGED = (
     ("crates/nvme_ring/src/sq_head.rt", "    pub fn ", "    pub fn kept(alloc: Global) {}\n    pub fn ",
      "kept takes memory, and no row"),
     (PICTURE, ">nvme_ring<", ">nvme_rings<", "nvme_rings stands there twice, or is no crate"),
+    (PICTURE, 'x="428" y="120">fleet_tests', 'x="320" y="120">fleet_tests', "fleet_tests lies over another crate"),
     ("man/nvmesim.1", "\nfetch C Q\n", "\nfetch C\n", "no line fetch C Q"),
     ("man/nvmelive.1", "\n?queues C\n", "\n?queue C\n", "no line ?queues C"),
     ("docs/READING.md", "# Reading lists", "# Lists", "not what the definitions give"),
