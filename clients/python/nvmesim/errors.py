@@ -132,7 +132,7 @@ class RequestAborted(NvmesimError):
     """
 
     def __init__(self, line: str) -> None:
-        super().__init__(f"{line!r} was aborted by a reset or a power cycle, which does not tell whether it was executed")
+        super().__init__(f"{line!r} was aborted by a reset or a power cycle, which doesn't tell if it was executed")
         self.line = line
 
 

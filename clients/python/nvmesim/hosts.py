@@ -178,7 +178,7 @@ class Host:
     def register(self, namespace: NamespaceLike, new_key: int = 0, current_key: int = 0,
                  action: RegisterAction = RegisterAction.REGISTER, ignore_existing_key: bool = False,
                  persist: Persistence = Persistence.KEEP) -> None:
-        """Registers, unregisters or replaces this host's key; `persist` says what outlasts a loss of power from now on."""
+        """Registers, unregisters or replaces this host's key; `persist` says what outlasts a loss of power."""
         self.finish(self.place_register(namespace, new_key, current_key, action, ignore_existing_key, persist))
 
     def acquire(self, namespace: NamespaceLike, rtype: ReservationType, key: int, preempted_key: int = 0,
@@ -200,7 +200,7 @@ class Host:
         return self.finish(self.place_identify(cns, namespace)).data or b""
 
     def protect(self, namespace: NamespaceLike, state: Union[Protection, bool] = Protection.PROTECTED) -> None:
-        """Protects a namespace from being written, or ends that. Nothing but a power cycle ends one that lasts so long."""
+        """Protects a namespace from being written, or ends that. A power cycle alone ends one that lasts so long."""
         self.finish(self.place_protect(namespace, state))
 
     def protection(self, namespace: NamespaceLike) -> Protection:

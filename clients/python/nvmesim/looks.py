@@ -75,7 +75,7 @@ class Queue:
 
 @dataclass(frozen=True)
 class NamespaceState:
-    """A namespace: its first block on the medium, its blocks of 512 bytes, whether it is shared, how it is protected."""
+    """A namespace: its first block on the medium, its blocks of 512 bytes, whether it is shared, its protection."""
 
     number: int
     first: int

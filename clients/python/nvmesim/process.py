@@ -1,4 +1,4 @@
-"""The program `nvmelive` as a process: where it is found, and lines and answers over its pipes, each within its time."""
+"""The program `nvmelive` as a process: where it is found, and lines and answers over its pipes, within their time."""
 from __future__ import annotations
 
 import os
@@ -42,8 +42,8 @@ def find_program(given: Optional[PathLike] = None, name: str = "nvmelive", varia
         return built
     found = shutil.which(name)
     if found is None:
-        raise ProgramNotFound(f"there is no program {name}: ./{name} at the top of the repository proves and builds it; "
-                              f"the variable {variable} names another")
+        raise ProgramNotFound(f"there is no program {name}: ./{name} at the top of the repository proves and builds "
+                              f"it; the variable {variable} names another")
     return Path(found)
 
 

@@ -297,14 +297,15 @@ def _forgotten_words(count: int) -> str:
 
 def _poll_words(event: Event, answer: Polled) -> str:
     command = event.command
-    if command is None or answer.status is None:
+    if command is None:
         texts = {
             PollOutcome.NOTHING: "has no answer to hand up",
             PollOutcome.NOT_UP: "is not up, and has nothing to hand up",
             PollOutcome.UNKNOWN_COMMAND: "meets a completion that answers no request",
         }
-        aborted = f"hands {command_label(command)} up as aborted, event {command.reset} ended it" if command is not None else ""
-        return texts.get(answer.outcome, aborted)
+        return texts.get(answer.outcome, event.text)
+    if answer.status is None:
+        return f"hands {command_label(command)} up as aborted by event {command.reset}"
     words = f"hands up the answer of {command_label(command)}: {status_words(answer.status)}"
     if command.is_denied:
         words += f", by rule {command.rule.value}"

@@ -22,7 +22,8 @@ Settings = Optional[Mapping[str, Any]]
 Table = Dict[str, Any]
 
 
-def build_wheel(wheel_directory: str, config_settings: Settings = None, metadata_directory: Optional[str] = None) -> str:
+def build_wheel(wheel_directory: str, config_settings: Settings = None,
+                metadata_directory: Optional[str] = None) -> str:
     """Writes the wheel of the package into a folder; its name."""
     return _write_wheel(Path(wheel_directory), {str(it.relative_to(TOP)): it.read_bytes() for it in _modules()})
 

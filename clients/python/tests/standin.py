@@ -82,7 +82,8 @@ class Side:
     lanes: Tuple[List[Command], List[Command]] = field(default_factory=lambda: ([], []))
     room: List[int] = field(default_factory=lambda: [RING, RING])
     fetched: List[Command] = field(default_factory=list)
-    posted: Tuple[List[Tuple[Command, str, int]], List[Tuple[Command, str, int]]] = field(default_factory=lambda: ([], []))
+    posted: Tuple[List[Tuple[Command, str, int]], List[Tuple[Command, str, int]]] = field(
+        default_factory=lambda: ([], []))
     live: Dict[int, Command] = field(default_factory=dict)
     aborted: List[int] = field(default_factory=list)
     counts: Dict[str, int] = field(default_factory=dict)

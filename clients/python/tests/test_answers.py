@@ -17,7 +17,8 @@ WRONG = (
     "poll 1 answered", "poll 1 aborted", "poll 1 2 0:00", "poll 1 2 0:00 0", "poll 1 2 0:00 0000000G", "ok", "started",
     "poll 1 2 0:00 00000000 512", "poll 1 2 0:00 00000000 1 0000", "poll 1 2 0:00 00000000 512 zz", "wirte 1",
     "poll 1 2 0:00 00000000 512 - -", "up 1", "up 1 Refused", "up 1 ok ok", "reset", "reset 1 2", "! line 1 word 1: no",
-    "PLACED 1 1", "placed 1 1 ", "placed 1 ١", "nocontroller", "stored x", "powercycle 1", "powercycle 0", "powercycle ",
+    "PLACED 1 1", "placed 1 1 ", "placed 1 ١", "nocontroller", "stored x", "powercycle 1", "powercycle 0",
+    "powercycle ",
     "power cycle", "powercycled",
 )
 

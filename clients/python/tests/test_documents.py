@@ -29,7 +29,8 @@ class DocumentsTest(unittest.TestCase):
         code = next(it for it in blocks_of("clients/README.md") if it.startswith("from nvmesim"))
         for program in PROGRAMS:
             environment = {**os.environ, "NVMELIVE": str(program), "PYTHONPATH": str(PACKAGE)}
-            done = subprocess.run([sys.executable, "-c", code], capture_output=True, text=True, env=environment, timeout=60)
+            done = subprocess.run([sys.executable, "-c", code], capture_output=True, text=True, env=environment,
+                                  timeout=60)
             with self.subTest(program):
                 self.assertEqual(done.stderr, "")
                 self.assertEqual(done.stdout.split("\n")[:2], ["b'Hello'", "controller 1 host 0xa1"])

@@ -202,7 +202,8 @@ def random_script(seed: int) -> str:
     """A small script of two hosts that chance has made, most of whose events do something."""
     chance = random.Random(seed)
     lines = [HEAD, "register 1 1 0 0 0 0 0x11\nregister 2 1 0 0 0 0 0x22\nring 1\nring 2\nfetch 1 1\nfetch 2 1\n"
-             "execute 1 0\nexecute 2 0\npoll 1\npoll 2\nacquire 1 1 0 1 0x11 0\nring 1\nfetch 1 1\nexecute 1 0\npoll 1\n"]
+             "execute 1 0\nexecute 2 0\npoll 1\npoll 2\nacquire 1 1 0 1 0x11 0\nring 1\nfetch 1 1\n"
+              "execute 1 0\npoll 1\n"]
     for part, mine, key, other in (("a", 1, "0x11", "0x22"), ("b", 2, "0x22", "0x11")):
         requests = (f"write {mine} 1 0 1 hex:{part}{part}", f"write {mine} 1 0 2 fill:{mine:02}", f"read {mine} 1 0 2",
                     f"compare {mine} 1 0 1 hex:{part}{part}", f"acquire {mine} 1 2 1 {key} {other}",
@@ -210,7 +211,8 @@ def random_script(seed: int) -> str:
                     f"register {mine} 1 1 0 0 {key} 0", f"report {mine} 1 32")
         events = [chance.choice(requests), f"ring {mine}", f"fetch {mine} 1", f"execute {mine} 0", f"poll {mine}"]
         for _ in range(chance.randrange(2)):
-            change = (chance.choice(requests), f"reset {chance.choice((1, 2))}", f"execute {mine} 0", f"poll {3 - mine}")
+            change = (chance.choice(requests), f"reset {chance.choice((1, 2))}", f"execute {mine} 0",
+                      f"poll {3 - mine}")
             events[chance.randrange(1, 5)] = chance.choice(change)
         lines += [f"# host {part}\n", *(f"{it}\n" for it in events)]
     return "".join(lines)
@@ -233,8 +235,8 @@ class PlanTest(unittest.TestCase):
         plan = Plan(SHARED)
         self.assertEqual((plan.parts, plan.length, plan.orders), ({"a": 3, "b": 3, "c": 2}, 16, 560))
         self.assertEqual(len(orders_of(plan)), 560)
-        self.assertEqual([it.name for it in plan.steps][:6], ["before.up1", "before.up2", "a.write1", "a.ring1", "a.read1",
-                                                             "b.write1"])
+        self.assertEqual([it.name for it in plan.steps][:6],
+                         ["before.up1", "before.up2", "a.write1", "a.ring1", "a.read1", "b.write1"])
 
     def test_parts_may_go_on_and_phases_follow(self) -> None:
         plan = Plan(HEAD + "# host a\nring 1\n# host b\nring 2\n# host a\npoll 1\n# then\npoll 2\n# host a\nring 1\n"
@@ -244,7 +246,8 @@ class PlanTest(unittest.TestCase):
                                                              "c.ring1", "then.poll2"])
 
     def test_what_is_no_mark(self) -> None:
-        for comment in ("# host a1h never noticed", "# hosts", "#  a", "# host", "# then we read", "# host 1a", "# Host a"):
+        for comment in ("# host a1h never noticed", "# hosts", "#  a", "# host", "# then we read", "# host 1a",
+                        "# Host a"):
             with self.subTest(comment), self.assertRaises(ScriptError):
                 Plan(HEAD + comment + "\nring 1\n")
 
@@ -292,7 +295,8 @@ class WalkTest(unittest.TestCase):
     def test_the_order_of_registrants_tells_no_outcomes_apart(self) -> None:
         text = HEAD
         for part, mine in (("a", 1), ("b", 2)):
-            text += f"# host {part}\nregister {mine} 1 0 0 0 0 0x{mine}\nring {mine}\nfetch {mine} 1\nexecute {mine} 0\n"
+            text += f"# host {part}\nregister {mine} 1 0 0 0 0 0x{mine}\nring {mine}\n"
+            text += f"fetch {mine} 1\nexecute {mine} 0\n"
         self.assertEqual([it.count for it in walk_of(Plan(text)).explore().values()], [70])
         self.assertEqual(in_one_form("attached controller 10 namespace 1 controller 9 namespace 2"),
                          "attached controller 9 namespace 2 controller 10 namespace 1")
@@ -371,7 +375,8 @@ class ProgramTest(FolderCase):
     def test_924_orders_take_few_runs(self) -> None:
         """How long they take is told, and not judged: other work of the machine has a part in it."""
         assert LIVE is not None
-        text = RACE_TEXT.replace("poll 1\n# host b", "poll 1\npoll 1\n# host b").replace("poll 2\n# then", "poll 2\npoll 2\n# then")
+        text = RACE_TEXT.replace("poll 1\n# host b", "poll 1\npoll 1\n# host b")
+        text = text.replace("poll 2\n# then", "poll 2\npoll 2\n# then")
         plan = Plan(text)
         self.assertEqual((plan.orders, plan.parts), (924, {"a": 6, "b": 6}))
         begun, walk = time.monotonic(), Walk(Runner(plan, Looks(plan), LIVE, 10.0), jobs=4)

@@ -55,10 +55,10 @@ class FollowTest(unittest.TestCase):
                                     "Write, CID 8, namespace 1, block 4"])
 
     def test_a_power_cycle_meets_the_requests_of_all_hosts(self) -> None:
-        script = (HEAD.replace("start", "controller 2 host 0xb2\nattached 2 1\nstart") + "up 1\nup 2\nflush 2 1\nflush 1 1\n"
-                  "ring 1\nfetch 1 1\npowercycle\npowercycle\npoll 1\n")
-        told = ["up 1 ok", "up 2 ok", "placed 2 1", "placed 1 1", "rung 1", "fetch 1 1 took", "powercycle", "powercycle",
-                "poll 1 1 aborted"]
+        script = (HEAD.replace("start", "controller 2 host 0xb2\nattached 2 1\nstart") + "up 1\nup 2\nflush 2 1\n"
+                  "flush 1 1\nring 1\nfetch 1 1\npowercycle\npowercycle\npoll 1\n")
+        told = ["up 1 ok", "up 2 ok", "placed 2 1", "placed 1 1", "rung 1", "fetch 1 1 took", "powercycle",
+                "powercycle", "poll 1 1 aborted"]
         lines = list(read_lines(script))
         events = follow(lines, "\n".join(told))
         self.assertEqual([(it.controller, it.reset) for it in events[6].commands], [(1, 7), (2, 7)])
@@ -105,10 +105,11 @@ class ExplainTest(unittest.TestCase):
     def test_what_a_power_cycle_says(self) -> None:
         script, transcript = next((one, two) for name, one, two in examples() if name == "power-cycle")
         told = " ".join(" ".join(explain(script, transcript, 400)).split())
-        for words in ("powercycle powercycle power is lost in the whole subsystem, and comes back; all drivers and controllers "
-                      "are down; controller 1's ticket 9 will be handed up as aborted",
-                      "host a1h's driver hands ticket 9 (Read) up as aborted",
-                      "Reservation Register, namespace 1, registers key 11h; all persists through a loss of power from now on",
+        for words in ("powercycle powercycle power is lost in the whole subsystem, and comes back; all drivers and "
+                      "controllers are down; controller 1's ticket 9 will be handed up as aborted",
+                      "host a1h's driver hands ticket 9 (Read) up as aborted by event ",
+                      "Reservation Register, namespace 1, registers key 11h; all persists through a loss of power from "
+                      "now on",
                       "Reservation Register, namespace 2, registers key 11h ",
                       "Set Features, write protection, namespace 1, set until a power cycle",
                       "denied with Feature Not Changeable (1:0e) by rule 6"):
@@ -117,11 +118,12 @@ class ExplainTest(unittest.TestCase):
     def test_what_a_denied_command_says(self) -> None:
         script, transcript = next((one, two) for name, one, two in examples() if name == "preempt-and-abort")
         told = " ".join(" ".join(explain(script, transcript, 400)).split())
-        for words in ("controller 2 executes ticket 2 (Read): denied with Command Aborted due to Preempt and Abort (0:1b) "
-                      "by rule 1: a Preempt and Abort met it, and its host lost its registration",
-                      "host b2h's driver hands up the answer of ticket 4 (Read): Reservation Conflict (0:83), by rule 7",
-                      "host a1h's driver places ticket 3: Reservation Acquire, namespace 1, preempts key 22h and aborts, "
-                      "with key 11h, Exclusive Access",
+        for words in ("controller 2 executes ticket 2 (Read): denied with Command Aborted due to Preempt and Abort "
+                      "(0:1b) by rule 1: a Preempt and Abort met it, and its host lost its registration",
+                      "host b2h's driver hands up the answer of ticket 4 (Read): Reservation Conflict (0:83), by rule "
+                      "7",
+                      "host a1h's driver places ticket 3: Reservation Acquire, namespace 1, preempts key 22h and "
+                      "aborts, with key 11h, Exclusive Access",
                       "host b2h's driver tells controller 2 of tickets 2, 3 and 4"):
             self.assertIn(words, told)
 

@@ -33,7 +33,8 @@ class LooksTest(unittest.TestCase):
         told = looks.reservation(RESERVATION, 1)
         self.assertEqual((told.rtype, told.holder, told.is_held_by_all, told.generation, told.registrants),
                          (ReservationType.WRITE_EXCLUSIVE, 0xA1, False, 3, {0xA1: 0x11, 0xB2: 0x22}))
-        self.assertEqual((told.persists, told.protection, told.is_protected), (True, Protection.UNTIL_POWER_CYCLE, True))
+        self.assertEqual((told.persists, told.protection, told.is_protected),
+                         (True, Protection.UNTIL_POWER_CYCLE, True))
         told = looks.reservation("reservation 1 type 6 holder all generation 0 persists 0 protected 1", 1)
         self.assertEqual((told.is_held_by_all, told.persists, told.protection), (True, False, Protection.PROTECTED))
         self.assertEqual([it.is_protected for it in looks.namespaces(NAMESPACES)], [False, True, True])
@@ -48,7 +49,8 @@ class LooksTest(unittest.TestCase):
             (REGISTERS, lambda it: looks.registers(it, 1)), (QUEUES, lambda it: looks.queues(it, 1)),
             (FETCHED, lambda it: looks.fetched(it, 1)), (DRIVER, lambda it: looks.driver(it, 1)),
             (RESERVATION, lambda it: looks.reservation(it, 1)), (NAMESPACES, looks.namespaces),
-            ("attached controller 1 namespace 2", looks.attached), ("window 1 0 4 ff", lambda it: looks.window(it, 1, 0, 4)),
+            ("attached controller 1 namespace 2", looks.attached),
+            ("window 1 0 4 ff", lambda it: looks.window(it, 1, 0, 4)),
             ("blocks 1 3 2 aa", lambda it: looks.blocks(it, 1, 3, 2)),
             ("register 1 20 0x01", lambda it: looks.register(it, 1, 20)))
         for right, parse in forms:

@@ -67,8 +67,8 @@ class ReportTest(unittest.TestCase):
 
     def test_a_report_in_words(self) -> None:
         script = (f"controller 1 host {LOW:#x}\ncontroller 2 host {HIGH:#x}\nnamespace 1 blocks 8 shared\n"
-                  "attached 1 1\nattached 2 1\nstart\nup 1\nregister 1 1 0 0 3 0 0x11\nacquire 1 1 0 1 0x11 0\nreport 1 1 32\n"
-                  "report 1 1 16\nreport 1 1 12\nring 1\n" + "fetch 1 1\nexecute 1 0\npoll 1\n" * 5)
+                  "attached 1 1\nattached 2 1\nstart\nup 1\nregister 1 1 0 0 3 0 0x11\nacquire 1 1 0 1 0x11 0\n"
+                  "report 1 1 32\nreport 1 1 16\nreport 1 1 12\nring 1\n" + "fetch 1 1\nexecute 1 0\npoll 1\n" * 5)
         with Session(program=PROGRAMS[-1]) as session:
             session.run(script)
             told = " ".join(" ".join(explain(script, session.transcript, 500, True)).split())

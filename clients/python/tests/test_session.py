@@ -34,7 +34,8 @@ class UserTest(unittest.TestCase):
                 self.assertEqual((caught.exception.status, caught.exception.rule), (Status.COMPARE_FAILURE, Rule.NONE))
                 with self.assertRaises(NvmeError) as caught:
                     host.read(disk, 64)
-                self.assertEqual((caught.exception.status, caught.exception.rule), (Status.LBA_OUT_OF_RANGE, Rule.RANGE))
+                self.assertEqual((caught.exception.status, caught.exception.rule),
+                                 (Status.LBA_OUT_OF_RANGE, Rule.RANGE))
                 self.assertIn("LBA Out of Range (0:80) by rule 9", str(caught.exception))
                 host.zeroes(disk, 3, 1)
                 host.flush(disk)
@@ -200,7 +201,8 @@ class UserTest(unittest.TestCase):
 
 class BadProgramTest(FolderCase):
     def test_one_that_hangs(self) -> None:
-        program = self.program("print('ok', flush=True)\nprint('it thinks', file=sys.stderr, flush=True)\ntime.sleep(60)\n")
+        program = self.program("print('ok', flush=True)\nprint('it thinks', file=sys.stderr, flush=True)\n"
+                               "time.sleep(60)\n")
         begun = time.monotonic()
         with Session(program=program, seconds=0.5) as session:
             session.configure("controller 1 host 1")
@@ -231,7 +233,8 @@ class BadProgramTest(FolderCase):
         self.assertEqual(caught.exception.status, 3)
 
     def test_one_that_fills_standard_error(self) -> None:
-        program = self.program("for line in sys.stdin:\n    sys.stderr.write('x' * 300000)\n    print('ok', flush=True)\n")
+        program = self.program("for line in sys.stdin:\n    sys.stderr.write('x' * 300000)\n"
+                               "    print('ok', flush=True)\n")
         with Session(program=program) as session:
             self.assertEqual(session.ask_all(["#"] * 5), ["ok"] * 5)
 

@@ -1,8 +1,8 @@
 """The marked parts of a script, and the orders in which their events can come.
 
 A comment `# host NAME` begins a part: its events keep their order, and come in any order with those of other parts. A
-comment `# then` ends the parts before it: what follows comes behind them, in its own order. Events before the first mark
-come first, in their order.
+comment `# then` ends the parts before it: what follows comes behind them, in its own order. Events before the first
+mark come first, in their order.
 """
 from __future__ import annotations
 

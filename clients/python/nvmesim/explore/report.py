@@ -57,7 +57,8 @@ class Report:
         total = sum(ways.count for _, ways in self.found)
         yield f"{_count(total, 'order')} of {told}: {_count(len(self.found), 'outcome')}"
         rows = [self._rows(it) for it in self.values]
-        same = {name: text for name, text in (rows[0] if rows else {}).items() if all(it.get(name) == text for it in rows)}
+        first = rows[0] if rows else {}
+        same = {name: text for name, text in first.items() if all(it.get(name) == text for it in rows)}
         for number, ((_, ways), row) in enumerate(zip(self.found, rows), 1):
             yield ""
             yield f"{number}. {_count(ways.count, 'order')}, such as"

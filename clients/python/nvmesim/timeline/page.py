@@ -73,18 +73,19 @@ def _denied(commands: Sequence[Command]) -> str:
 
 def _list_of(events: Sequence[Event], told: Sequence[str]) -> str:
     """All events in words, for who does not look at pictures."""
-    items = "\n".join(f"<li><code>{escape(it.line.text)}</code> {escape(words)}.</li>" for it, words in zip(events, told))
+    items = "\n".join(f"<li><code>{escape(it.line.text)}</code> {escape(words)}.</li>"
+                      for it, words in zip(events, told))
     return f"<details><summary>All events in words</summary>\n<ol>\n{items}\n</ol>\n</details>"
 
 
 _LEGEND = """<ul class="legend" aria-label="Legend">
-<li><svg width="14" height="20"><g class="command done"><rect class="span" x="2" y="1" width="9" height="18" rx="4"/></g>
-</svg> carried out</li>
+<li><svg width="14" height="20"><g class="command done"><rect class="span" x="2" y="1" width="9" height="18" rx="4"/>
+</g></svg> carried out</li>
 <li><svg width="18" height="20"><g class="command denied"><rect class="span" x="4" y="1" width="9" height="16"/>
 <path class="stop" d="M1 17h15"/></g></svg> denied: square, striped, with a bar</li>
 <li><svg width="18" height="20"><path class="cross" d="M2 3l14 14M2 17l14 -14"/></svg> stopped by a rule</li>
-<li><svg width="14" height="20"><g class="command failed"><rect class="span" x="2" y="1" width="9" height="18" rx="4"/></g>
-</svg> failed</li>
+<li><svg width="14" height="20"><g class="command failed"><rect class="span" x="2" y="1" width="9" height="18" rx="4"/>
+</g></svg> failed</li>
 <li><svg width="14" height="20"><g class="command aborted"><rect class="span" x="2" y="1" width="9" height="18" rx="4"/>
 </g></svg> aborted by a reset or a loss of power</li>
 <li><svg width="14" height="20"><g class="command waiting"><rect class="span" x="2" y="1" width="9" height="18" rx="4"/>

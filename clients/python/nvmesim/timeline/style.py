@@ -2,8 +2,8 @@
 
 STYLE = """
 :root { --ground: #ffffff; --text: #1d2329; --faint: #5d6872; --lane: #f1f4f7; --lane-dark: #e6ebf0; --line: #c8d0d8;
-  --done: #2b6cb0; --denied: #c0341d; --denied-light: #f6c9c0; --failed: #a86400; --aborted: #7a4fa3; --waiting: #5d6872;
-  --up: #22794c; --focus: #1a56db; --hover: #fff3c4; }
+  --done: #2b6cb0; --denied: #c0341d; --denied-light: #f6c9c0; --failed: #a86400; --aborted: #7a4fa3;
+  --waiting: #5d6872; --up: #22794c; --focus: #1a56db; --hover: #fff3c4; }
 @media (prefers-color-scheme: dark) { :root { --ground: #14181c; --text: #e6eaee; --faint: #9aa6b1; --lane: #1d2329;
   --lane-dark: #262d35; --line: #3c4650; --done: #63a7ee; --denied: #ff7a63; --denied-light: #5b241b; --failed: #f0ae4a;
   --aborted: #c199ec; --waiting: #9aa6b1; --up: #5cc48e; --focus: #8ab4ff; --hover: #3a3413; } }
