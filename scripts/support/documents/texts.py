@@ -6,7 +6,7 @@ from pathlib import Path
 from typing import Iterator, List, Optional, Tuple
 
 # Texts that people read: these at the top, and all files with these endings in these folders.
-TOP_TEXTS = ("README.md", "CONTRIBUTING.md", "CHANGELOG.md", "nvmesim", "crates.txt")
+TOP_TEXTS = ("README.md", "CONTRIBUTING.md", "CHANGELOG.md", "nvmesim", "nvmelive", "crates.txt")
 FOLDERS = ("docs", "man", "scripts", "bench", ".ci", "clients")
 CRATE_PARTS = ("src", "specs", "proofs")
 
@@ -117,7 +117,7 @@ def anchor_of(heading: str) -> str:
 
 def documents(top: Path) -> List[Document]:
     """All documents of the repository, in order."""
-    found = (top.glob("*.md"), (top / "docs").glob("**/*.md"), top.glob("clients/*.md"), top.glob("crates/*/*.md"))
+    found = (top.glob("*.md"), (top / "docs").glob("**/*.md"), top.glob("clients/**/*.md"), top.glob("crates/*/*.md"))
     paths = [it for some in found for it in sorted(some)]
     return [Document(str(it.relative_to(top)), it.read_text(encoding="utf-8")) for it in paths]
 
