@@ -420,7 +420,7 @@ class CommandTest(FolderCase):
                 (["explain", str(text)], "is no text: its byte 0 is no UTF-8"),
                 (["timeline", str(RACE), "-o", "/absent/page"], "/absent/page: No such file or directory"),
                 (["explore", str(RACE), "--program", str(parrot)], "and neither ok nor started"),
-                (["explore", str(RACE), "--always", "a.write1 =="], "'a.write1 ==' is no expression: invalid syntax")):
+                (["explore", str(RACE), "--always", "a.write1 =="], "'a.write1 ==' is no expression: ")):
             given = [*words[:1], "--program", str(PROGRAM), *words[1:]] if "--program" not in words else words
             status, told, wrong = self.run_command(*given)
             with self.subTest(words):
