@@ -2,6 +2,7 @@
 use Rattle.nvme_spec.specs.declared.queues.QueueChange.{QueueChange}
 use Rattle.nvme_spec.specs.declared.queues.QueueChange.TheVariants.{Keep, MakeCq, MakeSq, DropCq, DropSq}
 use Rattle.nvme_spec.specs.RegisterLaws.{IsQueuePlace}
+use Rattle.nvme_spec.specs.declared.outcome.Marks.{Marks}
 use Rattle.nvme_spec.specs.Execution.{Scene}
 use Rattle.nvme_machine.specs.Answers.{Answer}
 use Rattle.nvme_ctrl.specs.declared.execution.Answered.{Answered}
@@ -14,6 +15,10 @@ IsPlaced (MakeSq qid size base cqid) = IsQueuePlace base size 64
 IsPlaced (DropCq qid) = Unit {0}
 IsPlaced (DropSq qid) = Unit {0}
 
--- what was answered, and what is left
-abbrev pub answer_of : Answered → Scene → Answer
-answer_of a left = record { outcome = a.outcome; change = a.change; left = left }
+-- what was answered, what it marks, and what is left
+abbrev pub answer_of : Answered → Marks → Scene → Answer
+answer_of a removed left = record {
+  outcome = record { status = a.status; dw0 = a.dw0; rule = a.rule; marks = removed };
+  change = a.change;
+  left = left;
+}

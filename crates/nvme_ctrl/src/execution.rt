@@ -13,16 +13,19 @@ ghost use Rattle.nvme_ctrl.specs.Executions.{IsPlaced, answer_of};
 
 use crate::controller::Controller;
 use nvme_admin::execute_admin;
-use nvme_exec::execute;
+use nvme_exec::execute_marking;
 use nvme_machine::{Executed, FetchedCommand};
 use nvme_medium::Medium;
 use nvme_ns::Spaces;
 use nvme_spec::{Marks, Outcome, QueueChange};
+use nvme_wire::Status;
 
-/// What an executed command is answered, and what is to become of the queues.
-#[derive(Drop)]
+/// What an executed command is answered, besides what it marks, and what is to become of the queues.
+#[derive(Clone, Copy, Debug)]
 pub struct Answered {
-    outcome: Outcome,
+    status: Status,
+    dw0: u32,
+    rule: u8,
     change: QueueChange,
 }
 
@@ -40,6 +43,9 @@ impl Controller {
     ///
     /// That the controller is configured, that all namespaces lie within the medium, and that every registrant is a
     /// controller's host are the caller's conditions; they hold again afterwards.
+    // Inlined, as what it calls to wrap its answer is: the outcome, which has room for sixteen hosts, is made where its
+    // caller wants it, and never moved.
+    #[inline(always)]
     pub fn execute<M: Medium>(&mut self, i: usize, spaces: &mut Spaces, medium: &mut M) -> Executed
         requires ready { CanExecute spaces.old (M.size medium.old) self.old.cntlid }
         ensures executed { ExecutesNth M.tells i
@@ -59,28 +65,39 @@ impl Controller {
         let Some(pair) = self.open_pair(&command) else {
             return Executed::CqFull;
         };
-        let Answered { outcome, change } = self.perform(&command, spaces, medium);
-        self.post(i, &command, pair, outcome.status, outcome.dw0);
-        self.change_queues(change);
-        Executed::Posted(outcome)
+        let mut marks = Marks::none();
+        let answered = self.perform(&command, spaces, medium, &mut marks);
+        self.post(i, &command, pair, answered.status, answered.dw0);
+        self.change_queues(answered.change);
+        Executed::Posted(Outcome {
+            status: answered.status,
+            dw0: answered.dw0,
+            rule: answered.rule,
+            marks,
+        })
     }
 
-    /// Executes a command by the queue that it came from.
+    /// Executes a command by the queue that it came from. What it marks comes to stand in `marks`, which is empty
+    /// before.
+    #[inline(always)]
     fn perform<M: Medium>(
         &mut self,
         command: &FetchedCommand,
         spaces: &mut Spaces,
         medium: &mut M,
+        marks: &mut Marks,
     ) -> Answered
+        requires unmarked { marks.old ≡ no_marks }
         requires ready { CanExecute spaces.old (M.size medium.old) self.old.cntlid }
         ensures answers { Answers M.tells (queues_of self.old) self.old.cntlid command.now
             (scene spaces.old self.old.window (M.device medium.old))
-            (answer_of result (scene spaces.new self.new.window (M.device medium.new))) }
+            (answer_of result marks.new (scene spaces.new self.new.window (M.device medium.new))) }
         ensures calls { MakesCalls M.step (AreCallsOfAnswer self.old.cntlid command.now
             (scene spaces.old self.old.window (M.device medium.old))
-            (answer_of result (scene spaces.new self.new.window (M.device medium.new)))) medium.old medium.new }
+            (answer_of result marks.new (scene spaces.new self.new.window (M.device medium.new))))
+            medium.old medium.new }
         ensures rest { self.new ≡ record self.old { window = self.new.window } }
-        ensures fits { result.outcome.status.sct < 8 }
+        ensures fits { result.status.sct < 8 }
         ensures placed { IsPlaced result.change }
         ensures ready { CanExecute spaces.new (M.size medium.new) self.new.cntlid }
         ensures controllers { spaces.new.controllers ≡ spaces.old.controllers }
@@ -89,33 +106,37 @@ impl Controller {
         if command.queue == 0 {
             return self.perform_admin(command, spaces);
         }
-        let outcome = execute(
+        let completed = execute_marking(
             spaces,
             medium,
             &mut self.window,
             self.cntlid,
             &command.entry,
             command.marked,
+            marks,
         );
         Answered {
-            outcome,
+            status: completed.status,
+            dw0: 0,
+            rule: completed.rule,
             change: QueueChange::Keep,
         }
     }
 
-    /// Executes an admin command.
+    /// Executes an admin command, which marks nothing.
+    // Not inlined, so that I/O commands do not pay for the room of its locals.
+    #[inline(never)]
     fn perform_admin(&mut self, command: &FetchedCommand, spaces: &mut Spaces) -> Answered
         ensures executed { admin.admin_execution spaces.old (queues_of self.old) self.old.cntlid command.now.entry
             self.old.window
             ≡ record {
-              status = result.outcome.status;
-              dw0 = result.outcome.dw0;
-              rule = result.outcome.rule;
+              status = result.status;
+              dw0 = result.dw0;
+              rule = result.rule;
               change = result.change;
               world = spaces.new;
               window = self.new.window;
             } }
-        ensures marks { result.outcome.marks ≡ no_marks }
         ensures rest { self.new ≡ record self.old { window = self.new.window } }
     {
         let answer = execute_admin(
@@ -126,12 +147,9 @@ impl Controller {
             &command.entry,
         );
         Answered {
-            outcome: Outcome {
-                status: answer.status,
-                dw0: answer.dw0,
-                rule: answer.rule,
-                marks: Marks::none(),
-            },
+            status: answer.status,
+            dw0: answer.dw0,
+            rule: answer.rule,
             change: answer.change,
         }
     }

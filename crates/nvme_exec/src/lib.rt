@@ -13,6 +13,6 @@ mod on_reservation;
 mod report;
 mod transfer;
 
-pub use execution::execute;
+pub use execution::{Completed, execute, execute_marking};
 pub use lanes::lanes_equal;
 pub use nvme_spec::{Marks, Outcome};

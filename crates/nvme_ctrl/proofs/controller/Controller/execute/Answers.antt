@@ -13,7 +13,7 @@ post-requires-clause-there g c =
     let at : slice_get s.fetched.items c.args.i ≡ Some c.in-Some.command = rw (← c.deref.ensures.0) (sym c.command_at.ensures ∙ c.in-Some.is) in
     let found : slice_get c.args.self.now.fetched c.args.i ≡ Some c.in-Some.command = ap (λ (x : Controller). slice_get x.fetched c.args.i) (sym c.self.view_is) ∙ at in
     let there : c.args.i < length c.args.self.now.fetched = is-there c.args.self.now.fetched c.args.i c.in-Some.command found in
-    subst (λ (x : Controller). c.args.i < length x.fetched) (sym c.perform-outcome.ensures.rest) there
+    subst (λ (x : Controller). c.args.i < length x.fetched) (sym c.perform-answered.ensures.rest) there
 
 pub returns-clause-executed : goal.returns-clause-executed
 returns-clause-executed g c =
@@ -23,11 +23,11 @@ returns-clause-executed g c =
     let pair : open_pair c.args.self.now c.in-Some.command ≡ Some c.in-Some-open_pair.pair = sym c.open_pair.ensures.pair ∙ c.in-Some-open_pair.is in
     executes-nth g.M.Medium.tells c.args.i
     (setting c.args.self.now c.args.spaces.now (g.M.Medium.device c.args.medium.now))
-    (setting c.change_queues.new.self c.perform-outcome.new.spaces (g.M.Medium.device c.perform-outcome.new.medium))
+    (setting c.change_queues.new.self c.perform-answered.new.spaces (g.M.Medium.device c.perform-answered.new.medium))
     c.in-Some.command c.in-Some-open_pair.pair
-    (answer_of c.perform-outcome.result (scene c.perform-outcome.new.spaces c.perform-outcome.new.self.window (g.M.Medium.device c.perform-outcome.new.medium)))
-    c.perform-outcome.new.self c.post.new.self
-    found pair c.perform-outcome.ensures.answers c.perform-outcome.ensures.rest c.post.ensures c.change_queues.ensures refl refl
+    (answer_of c.perform-answered.result c.perform-answered.new.marks (scene c.perform-answered.new.spaces c.perform-answered.new.self.window (g.M.Medium.device c.perform-answered.new.medium)))
+    c.perform-answered.new.self c.post.new.self
+    found pair c.perform-answered.ensures.answers c.perform-answered.ensures.rest c.post.ensures c.change_queues.ensures refl refl
 
 pub returns-clause-calls : goal.returns-clause-calls
 returns-clause-calls g c =
@@ -35,23 +35,23 @@ returns-clause-calls g c =
     let at : slice_get s.fetched.items c.args.i ≡ Some c.in-Some.command = rw (← c.deref.ensures.0) (sym c.command_at.ensures ∙ c.in-Some.is) in
     let found : slice_get c.args.self.now.fetched c.args.i ≡ Some c.in-Some.command = ap (λ (x : Controller). slice_get x.fetched c.args.i) (sym c.self.view_is) ∙ at in
     let pair : open_pair c.args.self.now c.in-Some.command ≡ Some c.in-Some-open_pair.pair = sym c.open_pair.ensures.pair ∙ c.in-Some-open_pair.is in
-    calls-nth g.M.Medium.step c.args.medium.now c.perform-outcome.new.medium g.M.Medium.tells c.args.i
+    calls-nth g.M.Medium.step c.args.medium.now c.perform-answered.new.medium g.M.Medium.tells c.args.i
     (setting c.args.self.now c.args.spaces.now (g.M.Medium.device c.args.medium.now))
-    (setting c.change_queues.new.self c.perform-outcome.new.spaces (g.M.Medium.device c.perform-outcome.new.medium))
+    (setting c.change_queues.new.self c.perform-answered.new.spaces (g.M.Medium.device c.perform-answered.new.medium))
     c.in-Some.command c.in-Some-open_pair.pair
-    (answer_of c.perform-outcome.result (scene c.perform-outcome.new.spaces c.perform-outcome.new.self.window (g.M.Medium.device c.perform-outcome.new.medium)))
-    c.perform-outcome.new.self c.post.new.self
-    found pair c.perform-outcome.ensures.answers c.perform-outcome.ensures.rest c.post.ensures c.change_queues.ensures refl refl
-    c.perform-outcome.ensures.calls
+    (answer_of c.perform-answered.result c.perform-answered.new.marks (scene c.perform-answered.new.spaces c.perform-answered.new.self.window (g.M.Medium.device c.perform-answered.new.medium)))
+    c.perform-answered.new.self c.post.new.self
+    found pair c.perform-answered.ensures.answers c.perform-answered.ensures.rest c.post.ensures c.change_queues.ensures refl refl
+    c.perform-answered.ensures.calls
 
 pub returns-clause-cntlid : goal.returns-clause-cntlid
 returns-clause-cntlid g c =
-    posting-cntlid c.perform-outcome.result.change c.args.i c.in-Some.command c.in-Some-open_pair.pair c.perform-outcome.result.outcome.status c.perform-outcome.result.outcome.dw0
-    c.perform-outcome.new.self c.post.new.self c.change_queues.new.self c.post.ensures c.change_queues.ensures
-    ∙ ap (λ (x : Controller). x.cntlid) c.perform-outcome.ensures.rest
+    posting-cntlid c.perform-answered.result.change c.args.i c.in-Some.command c.in-Some-open_pair.pair c.perform-answered.result.status c.perform-answered.result.dw0
+    c.perform-answered.new.self c.post.new.self c.change_queues.new.self c.post.ensures c.change_queues.ensures
+    ∙ ap (λ (x : Controller). x.cntlid) c.perform-answered.ensures.rest
 
 pub returns-clause-ready : goal.returns-clause-ready
 returns-clause-ready g c =
-    rw (posting-cntlid c.perform-outcome.result.change c.args.i c.in-Some.command c.in-Some-open_pair.pair c.perform-outcome.result.outcome.status c.perform-outcome.result.outcome.dw0
-    c.perform-outcome.new.self c.post.new.self c.change_queues.new.self c.post.ensures c.change_queues.ensures)
-    c.perform-outcome.ensures.ready
+    rw (posting-cntlid c.perform-answered.result.change c.args.i c.in-Some.command c.in-Some-open_pair.pair c.perform-answered.result.status c.perform-answered.result.dw0
+    c.perform-answered.new.self c.post.new.self c.change_queues.new.self c.post.ensures c.change_queues.ensures)
+    c.perform-answered.ensures.ready

@@ -1,7 +1,7 @@
 use Rattle.nvme_spec.specs.declared.verdict.Verdict.TheVariants.{Allowed}
 use Rattle.nvme_spec.proofs.Fencing.{by-rest}
 use Rattle.nvme_exec.proofs.Judging.{stays}
-use Rattle.nvme_exec.proofs.execution.execute.Goals as goal
+use Rattle.nvme_exec.proofs.execution.execute_marking.Goals as goal
 
 pub returns-in-Ok-clause-ready : goal.returns-in-Ok-clause-ready
 returns-in-Ok-clause-ready g c =
