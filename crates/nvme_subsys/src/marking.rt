@@ -37,6 +37,8 @@ fn mark_one(controller: &mut Controller, cntlid: u16, spaces: &Spaces, marks: &M
 }
 
 /// Marks the controllers of the removed hosts. Controller k stands at place k - 1.
+// Not inlined, since few commands remove a host.
+#[inline(never)]
 fn mark_all(controllers: &mut [Controller], spaces: &Spaces, marks: &Marks)
     requires { length controllers.old ≤ 16 }
     ensures { controllers.new ≡ marked_from spaces.now marks.now 1 controllers.old }
@@ -49,6 +51,7 @@ fn mark_all(controllers: &mut [Controller], spaces: &Spaces, marks: &Marks)
 /// Marks the controllers of the removed hosts, where there are any, so that a command that removes none costs the same
 /// however many controllers there are.
 #[tactic(auto, using(crate::proofs::Unmarked::nobody_is_marked))]
+#[inline(always)]
 fn mark_removed(controllers: &mut [Controller], spaces: &Spaces, marks: &Marks)
     requires { length controllers.old ≤ 16 }
     ensures { controllers.new ≡ marked_from spaces.now marks.now 1 controllers.old }
@@ -59,6 +62,7 @@ fn mark_removed(controllers: &mut [Controller], spaces: &Spaces, marks: &Marks)
 }
 
 /// Marks what an execution says.
+#[inline(always)]
 pub fn mark_after(controllers: &mut [Controller], spaces: &Spaces, executed: &Executed)
     requires { length controllers.old ≤ 16 }
     ensures { controllers.new ≡ marks_after spaces.now executed.now controllers.old }

@@ -246,8 +246,7 @@ impl<M: Medium> Subsystem<M> {
     }
 
     /// The controller at a place executes a command, and the controllers of the hosts that this removes are marked.
-    // Not inlined, so that the other events do not pay for the room of its locals.
-    #[inline(never)]
+    #[inline(always)]
     fn execute_at(&mut self, place: usize, i: usize) -> Executed
         requires { place < length self.old.state.controllers }
         ensures executes { ExecutesAt (controller_at self.old.state (place + 1)) M.tells self.old.state (place + 1) i
