@@ -148,7 +148,7 @@ impl<M: Medium> Fleet<M> {
     }
 
     /// A call of a host's driver.
-    #[inline(never)]
+    #[inline(always)]
     fn deliver(&mut self, cntlid: u16, call: DriverCall<'_>) -> FleetSeen
         ensures step { Is (called (fleet_of self.old.state) cntlid (reaction_to call.entry))
             (reply_in result self.new.state.buffer) (fleet_of self.new.state) }
@@ -170,6 +170,8 @@ impl<M: Medium> Fleet<M> {
     }
 
     /// A fetch of a controller.
+    // Not inlined, nor are raw events: the compiler drops the hint from a function that would grow very large, and
+    // `happen`, which calls them, would.
     #[inline(never)]
     fn fetch(&mut self, cntlid: u16, qid: u16) -> FleetSeen
         ensures step { Is (fetched_at (host_at (fleet_of self.old.state) cntlid) (fleet_of self.old.state) cntlid qid)
@@ -188,7 +190,7 @@ impl<M: Medium> Fleet<M> {
     }
 
     /// An execution of a controller, and what it marks.
-    #[inline(never)]
+    #[inline(always)]
     fn execute(&mut self, cntlid: u16, i: usize) -> FleetSeen
         ensures step { ExecutesAt (host_at (fleet_of self.old.state) cntlid) M.tells (fleet_of self.old.state) cntlid i
             (reply_in result self.new.state.buffer) (fleet_of self.new.state) }

@@ -37,6 +37,7 @@ pub fn bring_up<M: Medium>(driver: &mut Driver, link: &mut Link<'_, M>) -> Resul
 ///
 /// # Errors
 /// `NotUp` where the driver is not up; nothing changes then.
+#[inline(never)]
 pub fn ring<M: Medium>(driver: &mut Driver, link: &mut Link<'_, M>) -> Result<(), NotUp>
     requires there { Reaches link.old.state }
     requires sound { Sound driver.old (linked_controller link.old.state) }
@@ -51,6 +52,7 @@ pub fn ring<M: Medium>(driver: &mut Driver, link: &mut Link<'_, M>) -> Result<()
 }
 
 /// Resets the controller. All requests that were not handed up are aborted.
+#[inline(never)]
 pub fn reset<M: Medium>(driver: &mut Driver, link: &mut Link<'_, M>)
     requires there { Reaches link.old.state }
     requires sound { Sound driver.old (linked_controller link.old.state) }

@@ -20,6 +20,7 @@ use nvme_medium::Medium;
 /// # Errors
 /// `NotUp` where no aborted request is left to hand up and the driver is not up. No other fault comes: each
 /// completion of its controller answers a request.
+#[inline(never)]
 pub fn poll<M: Medium>(
     driver: &mut Driver,
     link: &mut Link<'_, M>,
