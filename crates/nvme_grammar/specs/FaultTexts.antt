@@ -7,7 +7,6 @@ use Rattle.nvme_grammar.specs.Places.{wanted_text}
 use Rattle.nvme_grammar.specs.Keywords.{keyword_text, form_text, places_of, behind_of}
 use Rattle.nvme_grammar.specs.declared.keyword.Keyword.{Keyword}
 use Rattle.nvme_grammar.specs.declared.keyword.Keyword.TheVariants.{Start}
-use Rattle.nvme_grammar.specs.declared.place.Place.{Place}
 use Rattle.nvme_grammar.specs.declared.place.Behind.{Behind}
 use Rattle.nvme_grammar.specs.declared.place.Behind.TheVariants as behind
 use Rattle.nvme_grammar.specs.declared.fault.LineFault.{LineFault}
@@ -46,21 +45,22 @@ abbrev pub too_late_text : Keyword → List ℕ
 too_late_text Start = codes "start stands in a script once"
 too_late_text k = keyword_text k ++ codes " stands before 'start', which was said already"
 
--- what a place wants, and the word that stands there
-abbrev pub misfit_text : Place → List ℕ → List ℕ
-misfit_text wanted word = wanted_text wanted ++ codes ", and not '" ++ shown_word word ++ codes "'"
-
 abbrev pub why_text : Why → List ℕ
 why_text (Byte b) =
     codes "the byte \\x" ++ byte_text b ++ codes " is neither a visible character nor a space, a tab or a carriage return"
 why_text (Unknown word nearest) = codes "there is no line '" ++ shown_word word.now ++ codes "'" ++ nearest_text nearest
 why_text (Count k) =
     keyword_text k ++ codes " takes " ++ count_text (length (places_of k) + 1) (behind_of k) ++ codes ": " ++ form_text k
-why_text (Misfit number wanted word) =
-    codes "word " ++ decimal number ++ codes ": " ++ misfit_text wanted word.now
+why_text (Misfit number wanted word) = wanted_text wanted ++ codes ", and not '" ++ shown_word word.now ++ codes "'"
 why_text (TooEarly k) = keyword_text k ++ codes " stands behind 'start', and nothing is started yet"
 why_text (TooLate k) = too_late_text k
 
+-- the word that is at fault, where it is one in particular
+abbrev pub word_text : Why → List ℕ
+word_text (Misfit number wanted word) = codes "word " ++ decimal number ++ codes ": "
+word_text why = codes ""
+
 -- a fault with its column
 abbrev pub fault_text : LineFault → List ℕ
-fault_text fault = codes "column " ++ decimal fault.column ++ codes ": " ++ why_text fault.why
+fault_text fault =
+    codes "column " ++ decimal fault.column ++ codes ": " ++ word_text fault.why ++ why_text fault.why

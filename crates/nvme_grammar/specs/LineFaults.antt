@@ -23,6 +23,11 @@ why_by_value why = why
 abbrev pub fault_by_value : LineFault → LineFault
 fault_by_value fault = record { column = fault.column; why = why_by_value fault.why }
 
+-- the word that is at fault, counted from 1; the first where it is the line as a whole
+abbrev pub word_number : Why → ℕ
+word_number (Misfit number wanted word) = number
+word_number why = 1
+
 -- the first byte that may not
 abbrev pub foreign_fault : List ℕ → LineFault
 foreign_fault line = record {

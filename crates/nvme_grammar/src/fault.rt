@@ -5,14 +5,14 @@ ghost use Rattle.script_text.specs.Words.{line_words, is_line_text, starts_apart
 ghost use Rattle.script_text.specs.Lines.{text_lines};
 ghost use Rattle.nvme_grammar.specs.Line.{line_at};
 ghost use Rattle.nvme_grammar.specs.Room.{HasBytesRoom};
-ghost use Rattle.nvme_grammar.specs.LineFaults.{IsAllowed, fault_of, fault_by_value, foreign_fault, misfit, misplaced, keyword_fault, fault_in, is_start_line};
+ghost use Rattle.nvme_grammar.specs.LineFaults.{IsAllowed, fault_of, fault_by_value, foreign_fault, misfit, misplaced, keyword_fault, fault_in, is_start_line, word_number};
 
 use super::keyword::Keyword;
 use super::line::{Line, is_comment_line, parse_line};
 use super::place::Place;
 use script_text::{FirstWord, behind_separators, first_word, front_line, text_len};
 
-/// Why a line is refused, and where. Its text is `column C: ` and that of the reason.
+/// Why a line is refused, and where. Its text is `column C: `, the word where it is one in particular, and the reason.
 #[derive(Clone, Copy)]
 pub struct LineFault<'a> {
     /// Where it stands in the line, in bytes from 1: the byte or the word that is at fault, or the first word where it is
@@ -46,8 +46,24 @@ pub enum Why<'a> {
     TooLate(Keyword),
 }
 
-/// The first byte of a line that may not stand in it.
-fn foreign_byte(line: &[u8]) -> Option<LineFault<'_>>
+impl Why<'_> {
+    /// The number of the word that is at fault, from 1; 1 too where it is a byte, or the line as a whole.
+    pub fn word(&self) -> usize
+        ensures { result ≡ word_number self.now }
+    {
+        match self {
+            Why::Misfit { number, .. } => *number,
+            Why::Byte(_)
+            | Why::Unknown { .. }
+            | Why::Count(_)
+            | Why::TooEarly(_)
+            | Why::TooLate(_) => 1,
+        }
+    }
+}
+
+/// The first byte of a line that neither stands between words nor may stand in one, if there is one.
+pub fn foreign_byte(line: &[u8]) -> Option<LineFault<'_>>
     ensures none { IsNone result → is_line_text line.now ≡ true }
     ensures some { IfSome result
         (λ fault. (is_line_text line.now ≡ false) × (fault_by_value fault ≡ foreign_fault line.now)) }

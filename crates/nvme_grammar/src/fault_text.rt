@@ -2,12 +2,12 @@
 
 ghost use Rattle.std.specs.Prelude.{◌≡◌, ◌≤◌, ◌+◌, Some, length, take};
 ghost use Rattle.std.specs.List.{flat_map};
-ghost use Rattle.nvme_grammar.specs.FaultTexts.{fault_text, why_text, shown_byte, shown_word, count_text, nearest_text, misfit_text, most_shown};
+ghost use Rattle.nvme_grammar.specs.FaultTexts.{fault_text, why_text, shown_byte, shown_word, count_text, nearest_text, most_shown};
 ghost use Rattle.nvme_grammar.specs.Keywords.{places_of, behind_of};
 
 use super::fault::{LineFault, Why};
 use super::keyword::Keyword;
-use super::place::{Behind, Place};
+use super::place::Behind;
 use std::fmt;
 
 /// How many bytes of a word are shown.
@@ -17,7 +17,16 @@ impl fmt::Display for LineFault<'_> {
     ghost output = { λ fault. Some (fault_text fault) };
 
     fn fmt<W: fmt::Write>(&self, f: &mut fmt::Formatter<W>) -> fmt::Result {
-        write!(f, "column {}: {}", self.column, self.why)
+        match self.why {
+            Why::Misfit { number, .. } => {
+                write!(f, "column {}: word {}: {}", self.column, number, self.why)
+            }
+            Why::Byte(_)
+            | Why::Unknown { .. }
+            | Why::Count(_)
+            | Why::TooEarly(_)
+            | Why::TooLate(_) => write!(f, "column {}: {}", self.column, self.why),
+        }
     }
 }
 
@@ -43,18 +52,11 @@ impl fmt::Display for Why<'_> {
                 CountText(*keyword),
                 keyword.form()
             ),
-            Why::Misfit {
-                number,
-                wanted,
-                word,
-            } => write!(
+            Why::Misfit { wanted, word, .. } => write!(
                 f,
-                "word {}: {}",
-                *number,
-                MisfitText {
-                    wanted: *wanted,
-                    word
-                }
+                "{}, and not '{}'",
+                *wanted,
+                ShownWord(word)
             ),
             Why::TooEarly(keyword) => write!(
                 f,
@@ -104,21 +106,6 @@ impl fmt::Display for NearestText {
     }
 }
 
-/// What a place wants, and the word that stands there.
-#[derive(Clone, Copy)]
-struct MisfitText<'a> {
-    wanted: Place,
-    word: &'a [u8],
-}
-
-impl fmt::Display for MisfitText<'_> {
-    ghost output = { λ text. Some (misfit_text text.wanted text.word.now) };
-
-    fn fmt<W: fmt::Write>(&self, f: &mut fmt::Formatter<W>) -> fmt::Result {
-        write!(f, "{}, and not '{}'", self.wanted, ShownWord(self.word))
-    }
-}
-
 /// A byte of a word, as it is or escaped.
 #[derive(Clone, Copy)]
 struct ShownByte(u8);
@@ -160,9 +147,10 @@ fn front_of(word: &[u8]) -> &[u8]
     &word[..MOST_SHOWN]
 }
 
-/// The first bytes of a word, and two dots where there are more.
+/// A word as reasons show it: its first 32 bytes, each escaped where it is no visible character, and two dots where there
+/// are more.
 #[derive(Clone, Copy)]
-struct ShownWord<'a>(&'a [u8]);
+pub struct ShownWord<'a>(pub &'a [u8]);
 
 impl fmt::Display for ShownWord<'_> {
     ghost output = { λ text. Some (shown_word text.0.now) };

@@ -20,8 +20,10 @@ mod request;
 mod script;
 
 pub use buffers::Buffers;
-pub use fault::{LineFault, Why, fault_at, line_fault};
+pub use fault::{LineFault, Why, fault_at, foreign_byte, line_fault};
+pub use fault_text::ShownWord;
 pub use keyword::Keyword;
 pub use line::{Line, parse_line};
+pub use near::is_near;
 pub use place::{Behind, Operand, Place};
 pub use script::{ParseFault, Script, parse};
