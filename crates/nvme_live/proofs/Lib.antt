@@ -6,3 +6,4 @@ pub mod Starting
 pub mod Living
 pub mod Kept
 pub mod Lines
+pub mod SessionScripts

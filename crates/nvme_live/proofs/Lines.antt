@@ -8,7 +8,7 @@ use Rattle.std.proofs.lemmas.List.Elements.{All-head, All-tail}
 use Rattle.script_text.specs.Lines.{text_lines}
 use Rattle.nvme_live.specs.Taking.{IsOfLine, LinesAreKnown, TakesLines, session_lines, without_empty_last}
 
-behind-feed : (line rest : List ℕ) → IsOfLine line → text_lines (line ++ 10 ∷ rest) ≡ line ∷ text_lines rest
+pub behind-feed : (line rest : List ℕ) → IsOfLine line → text_lines (line ++ 10 ∷ rest) ≡ line ∷ text_lines rest
 behind-feed [] rest of_line = refl
 behind-feed (b ∷ line) rest of_line =
     let other : (b == 10) ≡ false = ne_eqb b 10 (All-head (λ x. x ≢ 10) b line of_line) in
@@ -27,7 +27,7 @@ not-last [] next lines = refl
 not-last (b ∷ line) next lines = refl
 
 -- each text has a first line
-some-line : (text : List ℕ) → (next : List ℕ) × (lines : List (List ℕ)) × (text_lines text ≡ next ∷ lines)
+pub some-line : (text : List ℕ) → (next : List ℕ) × (lines : List (List ℕ)) × (text_lines text ≡ next ∷ lines)
 some-line [] = ([], [], refl)
 some-line (x ∷ xs) = by (x == 10) refl (some-line xs)
   where

@@ -1,22 +1,24 @@
 -- A session that is kept as a script: its lines without those that look and those that were answered `!`.
-use Rattle.std.specs.Prelude.{◌≡◌, ◌==◌, ◌&&◌, ℕ, Bool, true, false, not, List, [], ◌∷◌, ◌++◌, Option, None, Some}
-use Rattle.std.specs.List.{list_any}
-use Rattle.nvme_spec.specs.Blocks.{Device}
+use Rattle.std.specs.Prelude.{◌≡◌, ◌≢◌, ◌≤◌, ◌+◌, ◌==◌, ◌&&◌, ℕ, Bool, IsTrue, true, false, not, List, [], ◌∷◌, ◌++◌, Option, None, Some}
+use Rattle.nvme_spec.specs.Blocks.{Device, Told}
+use Rattle.nvme_event.specs.declared.event.FleetEvent.{FleetEvent}
 use Rattle.nvme_event.specs.Replies.{Reply}
 use Rattle.nvme_fleet.specs.FleetStates.{Layers, fleet_in}
 use Rattle.nvme_fleet.specs.Fleets as mailboxes
-use Rattle.nvme_fleet.specs.Layers.{Run}
-use Rattle.nvme_transcript.specs.Transcript.{transcript}
+use Rattle.nvme_fleet.specs.Layers.{Run, Step}
 use Rattle.nvme_grammar.specs.Line.{line_at}
 use Rattle.nvme_grammar.specs.Script.{events_of}
 use Rattle.nvme_grammar.specs.declared.line.Line.{Line}
 use Rattle.nvme_grammar.specs.declared.line.Line.TheVariants.{Blank, Controller, Namespace, Attached, Start, Event}
 use Rattle.nvme_script.specs.Faults.{Transcribes}
+use Rattle.live_text.specs.Faults.{refusal}
 use Rattle.live_text.specs.Looking.{is_looking}
+use Rattle.live_text.specs.declared.fault.Why.TheVariants.{MediumFailed}
 use Rattle.live_text.specs.declared.looking.Looking.TheVariants as look
 use Rattle.nvme_live.specs.declared.asking.Asked.{Asked}
 use Rattle.nvme_live.specs.declared.asking.Asked.TheVariants.{Looks}
 use Rattle.nvme_live.specs.Asking.{asked}
+use Rattle.nvme_live.specs.Saying.{with_feed}
 use Rattle.nvme_live.specs.Standings.{Standing, Running, Session}
 
 -- an answer whose first byte is `!`
@@ -62,31 +64,64 @@ abbrev pub is_block_look : Asked → Bool
 is_block_look (Looks (look.Blocks m slba count)) = true
 is_block_look asks = false
 
-abbrev pub looks_at_blocks : List (List ℕ) → Bool
-looks_at_blocks lines = list_any (λ line. is_block_look (asked line)) lines
+-- The n-th line leaves the medium as it was, if it looks at blocks: the medium tells its content, and did not fail.
+abbrev pub LooksWell : Bool → ℕ → List ℕ → List ℕ → Type 0
+LooksWell tells n line answer =
+    is_block_look (asked line) ≡ true → IsTrue tells × (answer ≢ with_feed (refusal n MediumFailed))
 
--- Lines of a fleet that is there and their answers are those of a script: its events ran, and their transcript is what
--- the events among the lines were answered.
-pub record IsRunOf (tells : Bool) (old : Layers) (lines answers : List (List ℕ)) (new : Standing) : Type 0 where
+-- each line does, from the n-th on
+abbrev pub LookWell : Bool → ℕ → List (List ℕ) → List (List ℕ) → Type 0
+LookWell tells n [] answers = Unit {0}
+LookWell tells n (line ∷ lines) [] = Unit {0}
+LookWell tells n (line ∷ lines) (answer ∷ answers) =
+    LooksWell tells n line answer × LookWell tells (n + 1) lines answers
+
+-- Blocks were looked at, or not. All else is as it was; so is the medium's content, where it tells that, and its count
+-- of failures has not fallen.
+pub record Looked (tells : Bool) (old new : Layers) : Type 0 where
+  pub content : Told tells (new.subsystem.device.content ≡ old.subsystem.device.content)
+  pub count : old.subsystem.device.failures ≤ new.subsystem.device.failures
+  pub world : new.subsystem.world ≡ old.subsystem.world
+  pub controllers : new.subsystem.controllers ≡ old.subsystem.controllers
+  pub drivers : new.drivers ≡ old.drivers
+
+-- Events, one after the other, and what each gave; before each and behind the last, blocks may be looked at.
+abbrev pub RunAmidLooks : Bool → Layers → List FleetEvent → List Reply → Layers → Type 0
+RunAmidLooks tells old [] [] new = Looked tells old new
+RunAmidLooks tells old (event ∷ events) (reply ∷ later) new =
+    (seen : Layers) × (mid : Layers) × Looked tells old seen × Step tells seen event reply mid
+    × RunAmidLooks tells mid events later new
+RunAmidLooks tells old [] (reply ∷ later) new = ⊥
+RunAmidLooks tells old (event ∷ events) [] new = ⊥
+
+-- Lines of a fleet that is there, and what they were answered: what is kept of them ran so, in some sense of a run, and
+-- what the events were answered is the transcript of that run, behind whatever was written before.
+pub record RunsOn (Ran : Layers → List FleetEvent → List Reply → Layers → Type 0) (old : Layers)
+    (lines answers : List (List ℕ)) (new : Standing) : Type 0 where
   pub last : Layers
   pub is : new ≡ Running last
-  pub replies : List Reply
-  pub ran : Run tells old (events_of (kept_lines lines answers)) replies last
-  pub says : event_answers lines answers ≡ transcript (events_of (kept_lines lines answers)) replies
+  pub ran : (before : List ℕ) → Transcribes Ran old (events_of (kept_lines lines answers)) last (Some before)
+      (Some (before ++ event_answers lines answers))
 
--- It is so of each session behind `start` none of whose lines looks at blocks.
+-- Behind `start`, where each look at blocks left the medium as it was, what is kept is a run of both layers.
 abbrev pub KeptLinesAreARun : Type 0
 KeptLinesAreARun =
     (tells : Bool) (blocks : ℕ) (d : Device) (n : ℕ) (old : Layers) (lines answers : List (List ℕ)) (new : Standing)
-    → Session tells blocks d n (Running old) lines answers new → looks_at_blocks lines ≡ false
-    → IsRunOf tells old lines answers new
+    → Session tells blocks d n (Running old) lines answers new → LookWell tells n lines answers
+    → RunsOn (Run tells) old lines answers new
+
+-- In any session behind `start` it is one amid looks at blocks.
+abbrev pub KeptLinesRunAmidLooks : Type 0
+KeptLinesRunAmidLooks =
+    (tells : Bool) (blocks : ℕ) (d : Device) (n : ℕ) (old : Layers) (lines answers : List (List ℕ)) (new : Standing)
+    → Session tells blocks d n (Running old) lines answers new → RunsOn (RunAmidLooks tells) old lines answers new
 
 -- So what the events among them were answered is exactly the transcript that a run of these events has, in the sense of
 -- a script's run.
 abbrev pub KeptLinesTranscribe : Type 0
 KeptLinesTranscribe =
     (tells : Bool) (blocks : ℕ) (d : Device) (n : ℕ) (old last : Layers) (lines answers : List (List ℕ))
-    → Session tells blocks d n (Running old) lines answers (Running last) → looks_at_blocks lines ≡ false
+    → Session tells blocks d n (Running old) lines answers (Running last) → LookWell tells n lines answers
     → (before : List ℕ)
     → Transcribes (mailboxes.Run tells) (fleet_in old) (events_of (kept_lines lines answers)) (fleet_in last) (Some before)
     (Some (before ++ event_answers lines answers))

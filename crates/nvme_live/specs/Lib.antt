@@ -19,3 +19,4 @@ pub mod Lives
 pub use Rattle.nvme_script.specs.Faults as ScriptFaults
 pub use Rattle.nvme_script.specs.ScriptCalls
 pub mod Keeping
+pub mod SessionScripts

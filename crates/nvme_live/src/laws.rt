@@ -1,17 +1,32 @@
 //! What follows from the definition of a session.
 
-ghost use Rattle.nvme_live.specs.Keeping.{KeptLinesAreARun, KeptLinesTranscribe};
+ghost use Rattle.nvme_live.specs.Keeping.{KeptLinesAreARun, KeptLinesRunAmidLooks, KeptLinesTranscribe};
+ghost use Rattle.nvme_live.specs.SessionScripts.{PlayedIsARun, RefusedIsAFault, ReplaysAlike, SessionIsAScript, SessionIsAScriptAmidLooks};
 ghost use Rattle.nvme_live.specs.Taking.{LinesAreKnown};
+
+use nvme_medium::Medium;
 
 /// Of known bytes that are taken to their end the lines are those between the line feeds, and no others.
 pub fn lines_are_known()
     ensures { LinesAreKnown }
 {}
 
-/// Behind `start`, where no line looks at blocks, the lines of a session without those that look and those that were
-/// answered `!` are a run of the fleet, and the answers of the events among them are exactly the transcript that a script
-/// of these lines has.
+/// Behind `start` the lines of a session without those that look and those that were answered `!` are a run of the fleet,
+/// and the answers of the events among them are exactly the transcript that a script of these lines has: where each look
+/// at blocks left the medium as it was a run of both layers, and in any session one amid looks at blocks.
 pub fn kept_lines_are_a_run()
     ensures layers { KeptLinesAreARun }
     ensures transcript { KeptLinesTranscribe }
+    ensures amid_looks { KeptLinesRunAmidLooks }
+{}
+
+/// The lines of a session, from the first on, without those that look and those that were answered `!`, are a script,
+/// behind the one that was run first, where that has a `start`. It sets up what the session set up, its events are the
+/// session's, and its transcript is what that script wrote and what the session's events were answered.
+pub fn session_is_a_script<M: Medium>()
+    ensures script { SessionIsAScript M.step M.tells M.device }
+    ensures amid_looks { SessionIsAScriptAmidLooks M.step M.tells M.device }
+    ensures run { PlayedIsARun }
+    ensures refused { RefusedIsAFault }
+    ensures alike { ReplaysAlike }
 {}
