@@ -345,7 +345,7 @@ run-long tells (e ∷ es) (r ∷ rs) a b (mid, step, rest) = ap suc (run-long te
 pub is_run : (tells : Bool) → IsRun (Run tells)
 is_run tells = record { nothing = λ s. refl; behind = run-behind tells; long = run-long tells }
 
-same-layers : (tells : Bool) (first : ℕ) (old new : Layers) (bytes : List ℕ) (done : Unit {0}) → IsTrue tells → Reads tells first old.subsystem bytes (Ok done) new.subsystem → new.drivers ≡ old.drivers → new ≡ old
+pub same-layers : (tells : Bool) (first : ℕ) (old new : Layers) (bytes : List ℕ) (done : Unit {0}) → IsTrue tells → Reads tells first old.subsystem bytes (Ok done) new.subsystem → new.drivers ≡ old.drivers → new ≡ old
 same-layers tells first old new bytes done told h drivers = λ i. record {
   subsystem = record {
     world = h.world i;
@@ -417,7 +417,7 @@ amid-long tells (e ∷ es) (r ∷ rs) a b (seen, mid, looked, step, rest) = ap s
 pub amid_is_run : (tells : Bool) → IsRun (RunAmidLooks tells)
 amid_is_run tells = record { nothing = looked-none tells; behind = amid-behind tells; long = amid-long tells }
 
-looked-at : (tells : Bool) (n m slba count : ℕ) (old new : Layers) (answer : List ℕ) (o : Option ℕ) → ShowsBlocks o tells n m slba count old answer new → Looked tells old new
+pub looked-at : (tells : Bool) (n m slba count : ℕ) (old new : Layers) (answer : List ℕ) (o : Option ℕ) → ShowsBlocks o tells n m slba count old answer new → Looked tells old new
 looked-at tells n m slba count old new answer None h = subst (λ (l : Layers). Looked tells old l) (sym h.1) (looked-none tells old)
 looked-at tells n m slba count old new answer (Some first) h = record {
   content = h.reads.content;

@@ -7,3 +7,4 @@ pub mod Living
 pub mod Kept
 pub mod Lines
 pub mod SessionScripts
+pub mod SessionLaws

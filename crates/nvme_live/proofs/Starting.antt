@@ -55,7 +55,7 @@ opened-device : (c : Configuration) (d : Device) → (opening_layers c d).subsys
 unfolding machine.opening
 opened-device c d = refl
 
-starts-device : (o : Option ConfigFault) (d : Device) (n : ℕ) (c : Configuration) (answer : List ℕ) (new : Standing) → Starts o d n c answer new → device_in d new ≡ d
+pub starts-device : (o : Option ConfigFault) (d : Device) (n : ℕ) (c : Configuration) (answer : List ℕ) (new : Standing) → Starts o d n c answer new → device_in d new ≡ d
 starts-device None d n c answer new (says, is) = ap (device_in d) is ∙ opened-device c d
 starts-device (Some fault) d n c answer new (says, is) = ap (device_in d) is
 

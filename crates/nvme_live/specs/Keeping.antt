@@ -123,5 +123,5 @@ KeptLinesTranscribe =
     (tells : Bool) (blocks : ℕ) (d : Device) (n : ℕ) (old last : Layers) (lines answers : List (List ℕ))
     → Session tells blocks d n (Running old) lines answers (Running last) → LookWell tells n lines answers
     → (before : List ℕ)
-    → Transcribes (mailboxes.Run tells) (fleet_in old) (events_of (kept_lines lines answers)) (fleet_in last) (Some before)
-    (Some (before ++ event_answers lines answers))
+    → Transcribes (mailboxes.Run tells) (fleet_in old) (events_of (kept_lines lines answers)) (fleet_in last)
+    (Some before) (Some (before ++ event_answers lines answers))

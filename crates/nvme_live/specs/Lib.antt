@@ -20,3 +20,4 @@ pub use Rattle.nvme_script.specs.Faults as ScriptFaults
 pub use Rattle.nvme_script.specs.ScriptCalls
 pub mod Keeping
 pub mod SessionScripts
+pub mod SessionLaws

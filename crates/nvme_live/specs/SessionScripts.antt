@@ -33,8 +33,8 @@ behind (Some n) first text = first ++ 10 ∷ text
 abbrev pub session_text : List ℕ → List (List ℕ) → List (List ℕ) → List ℕ
 session_text first lines answers = behind (start_of (text_lines first)) first (text_of (kept_lines lines answers))
 
--- A text is a script but for its length; its configuration is accepted, and its events ran from where that opens to here,
--- with this transcript behind whatever was written before.
+-- A text is a script but for its length; its configuration is accepted, and its events ran from where that opens to
+-- here, with this transcript behind whatever was written before.
 pub record IsPlayed (Ran : Layers → List FleetEvent → List Reply → Layers → Type 0) (blocks : ℕ) (d : Device)
     (text said : List ℕ) (last : Layers) : Type 0 where
   pub grammar : Begins (text_lines text)

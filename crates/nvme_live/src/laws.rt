@@ -1,6 +1,7 @@
 //! What follows from the definition of a session.
 
 ghost use Rattle.nvme_live.specs.Keeping.{KeptLinesAreARun, KeptLinesRunAmidLooks, KeptLinesTranscribe};
+ghost use Rattle.nvme_live.specs.SessionLaws.{EndIsUnique, LinesBeforeStartAreAnswered, LinesOfARunAreAnswered, SessionIsUnique, StartIsAnswered};
 ghost use Rattle.nvme_live.specs.SessionScripts.{PlayedIsARun, RefusedIsAFault, ReplaysAlike, SessionIsAScript, SessionIsAScriptAmidLooks};
 ghost use Rattle.nvme_live.specs.Taking.{LinesAreKnown};
 
@@ -29,4 +30,19 @@ pub fn session_is_a_script<M: Medium>()
     ensures run { PlayedIsARun }
     ensures refused { RefusedIsAFault }
     ensures alike { ReplaysAlike }
+{}
+
+/// Over a medium that tells its content, and none of whose calls fails, a session is determined: its lines have one list
+/// of answers, and it has one end; and of known input, read to its end, it writes one list of bytes.
+pub fn session_is_determined()
+    ensures lines { SessionIsUnique }
+    ensures end { EndIsUnique }
+{}
+
+/// There is a session: before `start` each list of lines is answered, and `start` is; behind it each list of lines none of
+/// which looks at blocks is, over each run of the events that they ask for.
+pub fn lines_are_answered()
+    ensures before { LinesBeforeStartAreAnswered }
+    ensures start { StartIsAnswered }
+    ensures behind { LinesOfARunAreAnswered }
 {}

@@ -1,0 +1,91 @@
+-- What a session is answered is determined, but for faults of the medium; and there is one.
+use Rattle.std.specs.Prelude.{◌≡◌, ◌<◌, ◌-◌, ◌^◌, ℕ, Bool, true, false, List, [], ◌∷◌, Option, Some}
+use Rattle.std.specs.List.{list_any}
+use Rattle.nvme_spec.specs.Blocks.{Device}
+use Rattle.nvme_spec.specs.Configuration.{Configuration}
+use Rattle.nvme_event.specs.declared.event.FleetEvent.{FleetEvent}
+use Rattle.nvme_event.specs.Replies.{Reply}
+use Rattle.nvme_fleet.specs.FleetStates.{Layers}
+use Rattle.nvme_fleet.specs.Layers.{Run}
+use Rattle.nvme_fleet.specs.Unique.{HaveTicketsOnce}
+use Rattle.nvme_grammar.specs.Script.{is_start}
+use Rattle.nvme_live.specs.declared.asking.Asked.{Asked}
+use Rattle.nvme_live.specs.declared.asking.Asked.TheVariants.{Fails, Nothing, Looks, Sets, Does}
+use Rattle.nvme_live.specs.Asking.{asked}
+use Rattle.nvme_live.specs.Conversations.{Ends}
+use Rattle.nvme_live.specs.Keeping.{is_block_look}
+use Rattle.nvme_live.specs.Lives.{device_in}
+use Rattle.nvme_live.specs.Standings.{Standing, Setting, Running, Over, Session}
+
+-- how often a call of the medium has failed, where a session stands so
+abbrev pub failures_at : Device → Standing → ℕ
+failures_at d standing = (device_in d standing).failures
+
+-- a ticket stands in one slot of a driver at most, as it does from each opening on
+abbrev pub HasTicketsOnce : Standing → Type 0
+HasTicketsOnce (Setting c) = Unit {0}
+HasTicketsOnce (Running l) = HaveTicketsOnce l
+HasTicketsOnce (Over k fault) = Unit {0}
+
+-- Over a medium that tells its content and none of whose calls fails, lines have one list of answers, and one end.
+abbrev pub SessionIsUnique : Type 0
+SessionIsUnique =
+    (blocks : ℕ) (d : Device) (n : ℕ) (old new other : Standing) (lines answers others : List (List ℕ))
+    → HasTicketsOnce old → Session true blocks d n old lines answers new
+    → Session true blocks d n old lines others other
+    → failures_at d new ≡ failures_at d old → failures_at d other ≡ failures_at d old
+    → failures_at d old < 2 ^ 64 - 1 → (others ≡ answers) × (other ≡ new)
+
+-- So of known bytes of input, read to their end, there is one end, and one list of bytes that is written.
+abbrev pub EndIsUnique : Type 0
+EndIsUnique =
+    (blocks : ℕ) (d : Device) (n : ℕ) (old new other : Standing) (text before : List ℕ)
+    (left right after another : Option (List ℕ)) → HasTicketsOnce old
+    → Ends true blocks d n old new (Some text) left (Some before) after
+    → Ends true blocks d n old other (Some text) right (Some before) another
+    → failures_at d new ≡ failures_at d old → failures_at d other ≡ failures_at d old
+    → failures_at d old < 2 ^ 64 - 1 → (other ≡ new) × (another ≡ after)
+
+-- some answers of lines, from one standing to another
+abbrev pub IsAnswered : Bool → ℕ → Device → ℕ → Standing → List (List ℕ) → Standing → Type 0
+IsAnswered tells blocks d n old lines new = (answers : List (List ℕ)) × Session tells blocks d n old lines answers new
+
+abbrev pub asks_start : Asked → Bool
+asks_start (Sets line) = is_start line
+asks_start (Fails why) = false
+asks_start Nothing = false
+asks_start (Looks looking) = false
+asks_start (Does event) = false
+
+-- Before `start` each list of lines has answers, and `start` has one, whatever the medium.
+abbrev pub LinesBeforeStartAreAnswered : Type 0
+LinesBeforeStartAreAnswered =
+    (tells : Bool) (blocks : ℕ) (d : Device) (n : ℕ) (c : Configuration) (lines : List (List ℕ))
+    → list_any (λ line. asks_start (asked line)) lines ≡ false
+    → (later : Configuration) × IsAnswered tells blocks d n (Setting c) lines (Setting later)
+
+abbrev pub StartIsAnswered : Type 0
+StartIsAnswered =
+    (tells : Bool) (blocks : ℕ) (d : Device) (n : ℕ) (c : Configuration) (line : List ℕ)
+    → asks_start (asked line) ≡ true
+    → (new : Standing) × IsAnswered tells blocks d n (Setting c) (line ∷ []) new
+
+-- the events that lines ask for
+abbrev pub with_asked : Asked → List FleetEvent → List FleetEvent
+with_asked (Does event) events = event ∷ events
+with_asked (Fails why) events = events
+with_asked Nothing events = events
+with_asked (Looks looking) events = events
+with_asked (Sets line) events = events
+
+abbrev pub events_asked : List (List ℕ) → List FleetEvent
+events_asked [] = []
+events_asked (line ∷ lines) = with_asked (asked line) (events_asked lines)
+
+-- Behind it each list of lines none of which looks at blocks is answered, over each run of their events.
+abbrev pub LinesOfARunAreAnswered : Type 0
+LinesOfARunAreAnswered =
+    (tells : Bool) (blocks : ℕ) (d : Device) (n : ℕ) (old last : Layers) (lines : List (List ℕ))
+    (replies : List Reply) → list_any (λ line. is_block_look (asked line)) lines ≡ false
+    → Run tells old (events_asked lines) replies last
+    → IsAnswered tells blocks d n (Running old) lines (Running last)
