@@ -1,18 +1,28 @@
 -- What a line that is not carried out is answered.
-use Rattle.std.specs.Prelude.{ℕ, List, [], ◌∷◌, ◌++◌, codes, Option, Some, None, if◌then◌else◌}
+use Rattle.std.specs.Prelude.{ℕ, false, List, [], ◌∷◌, ◌++◌, codes, Option, Some, None, if◌then◌else◌}
 use Rattle.std.specs.Fmt.{decimal}
 use Rattle.script_text.specs.Words.{line_words, is_line_text}
-use Rattle.live_text.specs.Forms.{form_at, form_text}
-use Rattle.live_text.specs.declared.form.Form.{Form}
+use Rattle.nvme_grammar.specs.Lent.{lent}
+use Rattle.nvme_grammar.specs.LineFaults as line
+use Rattle.nvme_grammar.specs.FaultTexts as line_text
+use Rattle.nvme_grammar.specs.declared.fault.LineFault.{LineFault}
+use Rattle.live_text.specs.LookingWords.{word_text, form_text, looking_word_of, nearest_to}
+use Rattle.live_text.specs.declared.looking_word.LookingWord.{LookingWord}
 use Rattle.live_text.specs.declared.fault.Why.{Why}
 use Rattle.live_text.specs.declared.fault.Why.TheVariants as why
+
+-- a reason whose words lie at no place in particular
+abbrev pub why_by_value : Why → Why
+why_by_value (why.Line reason) = why.Line (line.why_by_value reason)
+why_by_value (why.NoLine word nearest) = why.NoLine (lent word.now) nearest
+why_by_value reason = reason
 
 -- the word that is at fault, counted from 1
 abbrev pub word_of : Why → ℕ
 word_of why.TooLong = 1
-word_of why.NoText = 1
-word_of why.NoSuchLine = 1
-word_of (why.Written form) = 1
+word_of (why.Line reason) = line.word_number reason
+word_of (why.Looking word) = 1
+word_of (why.NoLine word nearest) = 1
 word_of why.BeforeStart = 1
 word_of why.BehindStart = 1
 word_of why.NoController = 2
@@ -22,13 +32,19 @@ word_of why.OutsideWindow = 3
 word_of why.OutsideNamespace = 3
 word_of why.MediumFailed = 1
 
+-- the first word of a looking line that this one is near to, else where all stand
+abbrev pub nearest_text : Option LookingWord → List ℕ
+nearest_text None = codes "; ?help names all"
+nearest_text (Some k) = codes "; did you mean '" ++ word_text k ++ codes "'?"
+
 abbrev pub why_text : Why → List ℕ
 why_text why.TooLong = codes "a line has at most 1048576 bytes"
-why_text why.NoText = codes "a line has visible characters, spaces and tabs alone"
-why_text why.NoSuchLine = codes "there is no such line; ?help names all"
-why_text (why.Written form) = codes "the line is " ++ form_text form
-why_text why.BeforeStart = codes "this line stands before start alone"
-why_text why.BehindStart = codes "this line stands behind start alone"
+why_text (why.Line reason) = line_text.why_text reason
+why_text (why.Looking word) = codes "the line is " ++ form_text word
+why_text (why.NoLine word nearest) =
+    codes "there is no line '" ++ line_text.shown_word word.now ++ codes "'" ++ nearest_text nearest
+why_text why.BeforeStart = codes "this line stands before 'start', which was said already"
+why_text why.BehindStart = codes "this line stands behind 'start', and nothing is started yet"
 why_text why.NoController = codes "there is no such controller"
 why_text why.NoDriver = codes "there is no such controller with a driver"
 why_text why.NoNamespace = codes "there is no such namespace"
@@ -36,20 +52,31 @@ why_text why.OutsideWindow = codes "at most 131072 bytes of the window are shown
 why_text why.OutsideNamespace = codes "1 to 256 blocks of the namespace are shown, and these are not all in it"
 why_text why.MediumFailed = codes "the medium failed"
 
--- the answer to line n
+-- the answer to line n, whose word i is at fault
+abbrev pub refusal_at : ℕ → ℕ → List ℕ → List ℕ
+refusal_at n i text = codes "! line " ++ decimal n ++ codes " word " ++ decimal i ++ codes ": " ++ text
+
 abbrev pub refusal : ℕ → Why → List ℕ
-refusal n w =
-    codes "! line " ++ decimal n ++ codes " word " ++ decimal (word_of w) ++ codes ": " ++ why_text w
+refusal n w = refusal_at n (word_of w) (why_text w)
 
--- the form that a line's first word names
-abbrev pub form_of_words : List (List ℕ) → Option Form
-form_of_words [] = None
-form_of_words (word ∷ words) = form_at word
+-- why a line that begins with `?` and asks nothing is refused: by its first word
+abbrev pub named_fault : List ℕ → Option LookingWord → Why
+named_fault word None = why.NoLine (lent word) (nearest_to word)
+named_fault word (Some k) = why.Looking k
 
-abbrev pub wrong_words : Option Form → Why
-wrong_words None = why.NoSuchLine
-wrong_words (Some form) = why.Written form
+abbrev pub words_fault : List (List ℕ) → Why
+words_fault [] = why.NoLine (lent []) None
+words_fault (word ∷ words) = named_fault word (looking_word_of word)
 
--- what is wrong with a line that is outside the grammar
-unfoldable pub outside : List ℕ → Why
-outside line = if is_line_text line then wrong_words (form_of_words (line_words line)) else why.NoText
+unfoldable pub looking_fault : List ℕ → Why
+looking_fault raw =
+    if is_line_text raw then words_fault (line_words raw)
+    else why.Line (line.foreign_fault raw).why
+
+-- why a line that is outside the grammar of scripts is refused: it has a fault wherever it stands
+abbrev pub line_fault : Option LineFault → Why
+line_fault None = why.NoLine (lent []) None
+line_fault (Some fault) = why.Line fault.why
+
+abbrev pub outside : List ℕ → Why
+outside raw = line_fault (line.fault_of false raw)

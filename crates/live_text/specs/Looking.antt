@@ -1,9 +1,11 @@
 -- The lines that look at a session.
-use Rattle.std.specs.Prelude.{ℕ, nat_le, ◌==◌, Bool, true, false, ◌&&◌, List, [], ◌∷◌, length, codes, Option, Some, None, option_map, option_and_then, if◌then◌else◌}
-use Rattle.std.specs.Str.{bytes_eq}
+use Rattle.std.specs.Prelude.{ℕ, nat_le, ◌==◌, Bool, true, false, ◌&&◌, List, [], ◌∷◌, length, Option, Some, None, option_map, option_and_then, if◌then◌else◌}
 use Rattle.script_text.specs.Numbers.{number_at}
 use Rattle.script_text.specs.Words.{line_words, is_line_text}
 use Rattle.live_text.specs.Forms.{form_at}
+use Rattle.live_text.specs.LookingWords.{looking_word_of}
+use Rattle.live_text.specs.declared.looking_word.LookingWord.{LookingWord}
+use Rattle.live_text.specs.declared.looking_word.LookingWord.TheVariants as word
 use Rattle.live_text.specs.declared.looking.Looking.{Looking}
 use Rattle.live_text.specs.declared.looking.Looking.TheVariants as look
 
@@ -50,26 +52,25 @@ abbrev pub help : List (List ℕ) → Option Looking
 help [] = Some look.Help
 help (word ∷ words) = alone words (option_map look.HelpOn (form_at word))
 
--- what words ask for, by the first of them
-unfoldable pub looking_in : List ℕ → List (List ℕ) → Option Looking
-looking_in keyword words =
-    if bytes_eq keyword (codes "?window") then window words
-    else if bytes_eq keyword (codes "?register") then register words
-    else if bytes_eq keyword (codes "?registers") then option_map look.Registers (number_alone 16 words)
-    else if bytes_eq keyword (codes "?queues") then option_map look.Queues (number_alone 16 words)
-    else if bytes_eq keyword (codes "?fetched") then option_map look.Fetched (number_alone 16 words)
-    else if bytes_eq keyword (codes "?driver") then option_map look.Driver (number_alone 16 words)
-    else if bytes_eq keyword (codes "?namespaces") then alone words (Some look.Namespaces)
-    else if bytes_eq keyword (codes "?reservation") then option_map look.Reservation (number_alone 32 words)
-    else if bytes_eq keyword (codes "?attached") then alone words (Some look.Attached)
-    else if bytes_eq keyword (codes "?blocks") then blocks words
-    else if bytes_eq keyword (codes "?help") then help words
-    else None
+-- what the words behind the first one ask for
+abbrev pub looking_in : LookingWord → List (List ℕ) → Option Looking
+looking_in word.Window words = window words
+looking_in word.Register words = register words
+looking_in word.Registers words = option_map look.Registers (number_alone 16 words)
+looking_in word.Queues words = option_map look.Queues (number_alone 16 words)
+looking_in word.Fetched words = option_map look.Fetched (number_alone 16 words)
+looking_in word.Driver words = option_map look.Driver (number_alone 16 words)
+looking_in word.Namespaces words = alone words (Some look.Namespaces)
+looking_in word.Reservation words = option_map look.Reservation (number_alone 32 words)
+looking_in word.Attached words = alone words (Some look.Attached)
+looking_in word.Blocks words = blocks words
+looking_in word.Help words = help words
 
 -- no looking line has more than four words
 abbrev pub looking_by : List (List ℕ) → Option Looking
 looking_by [] = None
-looking_by (keyword ∷ words) = if nat_le (length words) 3 then looking_in keyword words else None
+looking_by (first ∷ words) =
+    if nat_le (length words) 3 then option_and_then (λ k. looking_in k words) (looking_word_of first) else None
 
 -- what a line that begins with `?` asks for, or nothing where it is outside the grammar
 unfoldable pub looking_at : List ℕ → Option Looking

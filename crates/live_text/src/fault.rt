@@ -1,24 +1,28 @@
 //! Why a line is not carried out, and what it is answered.
 
-ghost use Rattle.std.specs.Prelude.{◌≡◌, ◌||◌, Some, map};
-ghost use Rattle.script_text.specs.Words.{is_line_text, is_separator, is_visible};
+ghost use Rattle.std.specs.Prelude.{◌≡◌, Some, map};
+ghost use Rattle.nvme_grammar.specs.Room.{HasBytesRoom};
 ghost use Rattle.live_text.specs.Faults as spec;
 
-use crate::form::{Form, form_of};
+use crate::looking_word::LookingWord;
+use nvme_grammar::{ShownWord, Why as LineWhy, foreign_byte, line_fault};
 use script_text::words_of;
 use std::fmt;
 
 /// Why a line is not carried out. Its text is a sentence for a person.
-#[derive(Clone, Copy, Debug)]
-pub enum Why {
+#[derive(Clone, Copy)]
+pub enum Why<'a> {
     /// It has more bytes than a line may have.
     TooLong,
-    /// A byte is neither a visible character nor stands between words.
-    NoText,
-    /// Its first word is that of no line.
-    NoSuchLine,
-    /// Its words are not those that its first word asks for.
-    Written(Form),
+    /// It is no line of a script, or has a byte that may stand in no line.
+    Line(LineWhy<'a>),
+    /// It looks, and its words are not those that its first word asks for.
+    Looking(LookingWord),
+    /// No line begins with its first word; that of a looking line that it is near to, if there is one.
+    NoLine {
+        word: &'a [u8],
+        nearest: Option<LookingWord>,
+    },
     /// It stands behind `start`, and may not.
     BeforeStart,
     /// It stands before `start`, and may not.
@@ -37,16 +41,16 @@ pub enum Why {
     MediumFailed,
 }
 
-impl Why {
+impl Why<'_> {
     /// The word that is at fault, counted from 1.
-    fn word(self) -> u8
-        ensures { result ≡ spec.word_of self }
+    fn word(self) -> usize
+        ensures { result ≡ spec.word_of self.entry }
     {
         match self {
+            Why::Line(why) => why.word(),
             Why::TooLong
-            | Why::NoText
-            | Why::NoSuchLine
-            | Why::Written(_)
+            | Why::Looking(_)
+            | Why::NoLine { .. }
             | Why::BeforeStart
             | Why::BehindStart
             | Why::MediumFailed => 1,
@@ -56,17 +60,43 @@ impl Why {
     }
 }
 
-impl fmt::Display for Why {
+/// The looking line that a word is near to, as a question, else where all stand.
+#[derive(Clone, Copy)]
+struct NearestText(Option<LookingWord>);
+
+impl fmt::Display for NearestText {
+    ghost output = { λ text. Some (spec.nearest_text text.0) };
+
+    fn fmt<W: fmt::Write>(&self, f: &mut fmt::Formatter<W>) -> fmt::Result {
+        match self.0 {
+            Some(word) => write!(f, "; did you mean '{}'?", word.text()),
+            None => write!(f, "; ?help names all"),
+        }
+    }
+}
+
+impl fmt::Display for Why<'_> {
     ghost output = { λ why. Some (spec.why_text why) };
 
     fn fmt<W: fmt::Write>(&self, f: &mut fmt::Formatter<W>) -> fmt::Result {
         match self {
             Why::TooLong => write!(f, "a line has at most 1048576 bytes"),
-            Why::NoText => write!(f, "a line has visible characters, spaces and tabs alone"),
-            Why::NoSuchLine => write!(f, "there is no such line; ?help names all"),
-            Why::Written(form) => write!(f, "the line is {form}"),
-            Why::BeforeStart => write!(f, "this line stands before start alone"),
-            Why::BehindStart => write!(f, "this line stands behind start alone"),
+            Why::Line(why) => write!(f, "{why}"),
+            Why::Looking(word) => write!(f, "the line is {}", word.form()),
+            Why::NoLine { word, nearest } => write!(
+                f,
+                "there is no line '{}'{}",
+                ShownWord(word),
+                NearestText(*nearest)
+            ),
+            Why::BeforeStart => write!(
+                f,
+                "this line stands before 'start', which was said already"
+            ),
+            Why::BehindStart => write!(
+                f,
+                "this line stands behind 'start', and nothing is started yet"
+            ),
             Why::NoController => write!(f, "there is no such controller"),
             Why::NoDriver => write!(f, "there is no such controller with a driver"),
             Why::NoNamespace => write!(f, "there is no such namespace"),
@@ -89,12 +119,12 @@ impl fmt::Display for Why {
 
 /// The answer to a line that is not carried out.
 #[derive(Clone, Copy)]
-pub struct Refusal {
+pub struct Refusal<'a> {
     pub number: u64,
-    pub why: Why,
+    pub why: Why<'a>,
 }
 
-impl fmt::Display for Refusal {
+impl fmt::Display for Refusal<'_> {
     ghost output = { λ r. Some (spec.refusal r.number r.why) };
 
     fn fmt<W: fmt::Write>(&self, f: &mut fmt::Formatter<W>) -> fmt::Result {
@@ -108,48 +138,49 @@ impl fmt::Display for Refusal {
     }
 }
 
-/// The form that a line's first word names.
-fn form_of_words(words: &[&[u8]]) -> Option<Form>
-    ensures { result ≡ spec.form_of_words (map (λ word. word.now) words.now) }
+/// What is wrong with a looking line that asks nothing, by its words.
+fn words_fault<'a>(words: &[&'a [u8]]) -> Why<'a>
+    ensures { spec.why_by_value result ≡ spec.words_fault (map (λ word. word.now) words.now) }
 {
-    let (word, _) = words.split_first()?;
-    form_of(word)
-}
-
-/// What is wrong with the words of a line that is outside the grammar.
-fn wrong_words(form: Option<Form>) -> Why
-    ensures { result ≡ spec.wrong_words form }
-{
-    match form {
-        None => Why::NoSuchLine,
-        Some(form) => Why::Written(form),
+    let Some((word, _)) = words.split_first() else {
+        return Why::NoLine {
+            word: &[],
+            nearest: None,
+        };
+    };
+    match LookingWord::of(word) {
+        Some(named) => Why::Looking(named),
+        None => Why::NoLine {
+            word,
+            nearest: LookingWord::nearest(word),
+        },
     }
 }
 
-/// Whether each byte is visible or stands between words.
-fn is_text(line: &[u8]) -> bool
-    ensures { result ≡ is_line_text line.now }
+/// What is wrong with a looking line that asks nothing.
+#[tactic(auto, unfolding(crate::specs::Faults::looking_fault))]
+pub fn looking_fault(line: &[u8]) -> Why<'_>
+    ensures { spec.why_by_value result ≡ spec.looking_fault line.now }
 {
-    line.iter().all(|byte| is_text_byte(*byte))
-}
-
-/// Whether a byte is visible or stands between words.
-fn is_text_byte(byte: u8) -> bool
-    ensures { result ≡ is_separator byte || is_visible byte }
-{
-    matches!(byte, b' ' | b'\t' | b'\r') || (33 <= byte && byte <= 126)
-}
-
-/// What is wrong with a line that is outside the grammar.
-#[tactic(auto, unfolding(crate::specs::Faults::outside))]
-pub fn outside(line: &[u8]) -> Why
-    ensures { result ≡ spec.outside line.now }
-{
-    if !is_text(line) {
-        return Why::NoText;
+    if let Some(fault) = foreign_byte(line) {
+        return Why::Line(fault.why);
     }
     match words_of(line) {
-        Some(front) => wrong_words(form_of_words(front.words.as_slice())),
-        None => Why::NoText,
+        Some(front) => words_fault(front.words.as_slice()),
+        None => words_fault(&[]),
+    }
+}
+
+/// What is wrong with a line that is outside the grammar of scripts. The buffer is overwritten.
+pub fn outside<'a>(line: &'a [u8], bytes: &mut [u8]) -> Why<'a>
+    requires bytes_room { HasBytesRoom line.now bytes.old }
+    ensures { spec.why_by_value result ≡ spec.outside line.now }
+{
+    match line_fault(line, false, bytes) {
+        Some(fault) => Why::Line(fault.why),
+        None => Why::NoLine {
+            word: &[],
+            nearest: None,
+        },
     }
 }

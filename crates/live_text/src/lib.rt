@@ -5,7 +5,9 @@
 mod fault;
 mod form;
 mod looking;
+mod looking_word;
 
-pub use fault::{Refusal, Why, outside};
+pub use fault::{Refusal, Why, looking_fault, outside};
 pub use form::{Form, form_of};
 pub use looking::{Looking, is_looking, looking_of};
+pub use looking_word::LookingWord;

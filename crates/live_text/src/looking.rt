@@ -4,6 +4,7 @@ ghost use Rattle.std.specs.Prelude.{◌≡◌, map, Some};
 ghost use Rattle.live_text.specs.Looking as spec;
 
 use crate::form::{Form, form_of};
+use crate::looking_word::LookingWord;
 use script_text::{number_u16, number_u32, number_u64, words_of};
 
 /// What a looking line asks for.
@@ -145,35 +146,22 @@ fn alone(looking: Looking, words: &[&[u8]]) -> Option<Looking>
     }
 }
 
-/// What words ask for, by the first of them.
-#[tactic(auto, unfolding(crate::specs::Looking::looking_in))]
-fn looking_in(keyword: &[u8], words: &[&[u8]]) -> Option<Looking>
-    ensures { result ≡ spec.looking_in keyword.now (map (λ word. word.now) words.now) }
+/// What the words behind the first one ask for.
+fn looking_in(first: LookingWord, words: &[&[u8]]) -> Option<Looking>
+    ensures { result ≡ spec.looking_in first (map (λ word. word.now) words.now) }
 {
-    if keyword == b"?window".as_slice() {
-        window_of(words)
-    } else if keyword == b"?register".as_slice() {
-        register_of(words)
-    } else if keyword == b"?registers".as_slice() {
-        controller_in(words).map(Looking::Registers)
-    } else if keyword == b"?queues".as_slice() {
-        controller_in(words).map(Looking::Queues)
-    } else if keyword == b"?fetched".as_slice() {
-        controller_in(words).map(Looking::Fetched)
-    } else if keyword == b"?driver".as_slice() {
-        controller_in(words).map(Looking::Driver)
-    } else if keyword == b"?namespaces".as_slice() {
-        alone(Looking::Namespaces, words)
-    } else if keyword == b"?reservation".as_slice() {
-        namespace_in(words).map(Looking::Reservation)
-    } else if keyword == b"?attached".as_slice() {
-        alone(Looking::Attached, words)
-    } else if keyword == b"?blocks".as_slice() {
-        blocks_of(words)
-    } else if keyword == b"?help".as_slice() {
-        help_of(words)
-    } else {
-        None
+    match first {
+        LookingWord::Window => window_of(words),
+        LookingWord::Register => register_of(words),
+        LookingWord::Registers => controller_in(words).map(Looking::Registers),
+        LookingWord::Queues => controller_in(words).map(Looking::Queues),
+        LookingWord::Fetched => controller_in(words).map(Looking::Fetched),
+        LookingWord::Driver => controller_in(words).map(Looking::Driver),
+        LookingWord::Namespaces => alone(Looking::Namespaces, words),
+        LookingWord::Reservation => namespace_in(words).map(Looking::Reservation),
+        LookingWord::Attached => alone(Looking::Attached, words),
+        LookingWord::Blocks => blocks_of(words),
+        LookingWord::Help => help_of(words),
     }
 }
 
@@ -181,9 +169,9 @@ fn looking_in(keyword: &[u8], words: &[&[u8]]) -> Option<Looking>
 fn looking_by(words: &[&[u8]]) -> Option<Looking>
     ensures { result ≡ spec.looking_by (map (λ word. word.now) words.now) }
 {
-    let (keyword, behind) = words.split_first()?;
+    let (first, behind) = words.split_first()?;
     if behind.len() <= 3 {
-        looking_in(keyword, behind)
+        looking_in(LookingWord::of(first)?, behind)
     } else {
         None
     }

@@ -4,7 +4,7 @@ use Rattle.nvme_grammar.specs.Line.{line_at}
 use Rattle.nvme_grammar.specs.Lent.{line_by_value, event_by_value}
 use Rattle.nvme_grammar.specs.declared.line.Line.{Line}
 use Rattle.nvme_grammar.specs.declared.line.Line.TheVariants.{Blank, Controller, Namespace, Attached, Start, Event}
-use Rattle.live_text.specs.Faults.{outside}
+use Rattle.live_text.specs.Faults.{looking_fault, outside, why_by_value}
 use Rattle.live_text.specs.Looking.{is_looking, looking_at}
 use Rattle.live_text.specs.declared.fault.Why.TheVariants.{TooLong}
 use Rattle.live_text.specs.declared.looking.Looking.{Looking}
@@ -17,7 +17,7 @@ longest_line = 1048576
 
 -- a line that begins with `?`
 abbrev pub look_asked : List ℕ → Option Looking → Asked
-look_asked line None = Fails (outside line)
+look_asked line None = Fails (looking_fault line)
 look_asked line (Some looking) = Looks looking
 
 -- a line of the grammar of scripts
@@ -38,7 +38,7 @@ asked line =
 
 -- the same, whose bytes lie at no place in particular
 abbrev pub asked_by_value : Asked → Asked
-asked_by_value (Fails why) = Fails why
+asked_by_value (Fails why) = Fails (why_by_value why)
 asked_by_value Nothing = Nothing
 asked_by_value (Looks looking) = Looks looking
 asked_by_value (Sets line) = Sets (line_by_value line)

@@ -26,12 +26,14 @@ pub fn set_up<R: BufRead, W: Write>(
     line: &mut Vec<u8>,
     bytes: &mut [u8],
     identifiers: &mut [u16],
+    blocks: &mut [u8],
     text: &mut String,
     reader: &mut R,
     writer: &mut W,
 ) -> Result<Option<u64>, ScriptFault>
     requires bytes_room { length bytes.old ≡ 2097153 }
     requires identifiers_room { length identifiers.old ≡ 2097153 }
+    requires blocks_room { length blocks.old ≡ 2097153 }
     ensures { SetsUp result (configuration config.old) (configuration config.new)
         (R.remaining reader.old) (R.remaining reader.new) (W.contents writer.old) (W.contents writer.new) }
 {
@@ -41,7 +43,7 @@ pub fn set_up<R: BufRead, W: Write>(
             Ok(false) => return Ok(None),
             Err(fault) => return Err(fault),
         }
-        let asked = asked_of(line.as_slice(), bytes, identifiers);
+        let asked = asked_of(line.as_slice(), bytes, identifiers, blocks);
         match settle(number, asked, config, text, writer) {
             Ok(Settled::Answered) => {}
             Ok(Settled::Started) => return Ok(Some(number)),
@@ -65,7 +67,7 @@ fn converse<R: BufRead, W: Write, M: Medium>(
 ) -> Result<(), ScriptFault>
     requires bytes_room { length bytes.old ≡ 2097153 }
     requires identifiers_room { length identifiers.old ≡ 2097153 }
-    requires blocks_room { length blocks.old ≡ 131072 }
+    requires blocks_room { length blocks.old ≡ 2097153 }
     ensures ok { IfOk result (λ _. (size : ℕ) (d : Device) → Ends M.tells size d first
         (Running (layers_of fleet.old.state)) (Running (layers_of fleet.new.state))
         (R.remaining reader.old) (R.remaining reader.new) (W.contents writer.old) (W.contents writer.new)) }
@@ -79,7 +81,7 @@ fn converse<R: BufRead, W: Write, M: Medium>(
             Ok(false) => return Ok(()),
             Err(fault) => return Err(fault),
         }
-        let asked = asked_of(line.as_slice(), bytes, identifiers);
+        let asked = asked_of(line.as_slice(), bytes, identifiers, blocks);
         if answer(number, asked, fleet, blocks, text, writer).is_err() {
             return Err(ScriptFault::Write);
         }
@@ -97,7 +99,7 @@ pub fn run_on<R: BufRead, W: Write, M: Medium>(
 ) -> Result<M, (ScriptFault, M)>
     requires bytes_room { length rooms.old.bytes.items ≡ 2097153 }
     requires identifiers_room { length rooms.old.identifiers.items ≡ 2097153 }
-    requires blocks_room { length rooms.old.blocks.items ≡ 131072 }
+    requires blocks_room { length rooms.old.blocks.items ≡ 2097153 }
     ensures ok { IfOk result (λ after. (size : ℕ) (d : Device) → Rests (λ last. Ends M.tells size d first
         (Running (layers_of fleet.state)) last (R.remaining reader.old) (R.remaining reader.new)
         (W.contents writer.old) (W.contents writer.new)) d (M.device after)) }

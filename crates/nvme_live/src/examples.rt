@@ -20,7 +20,7 @@ pub fn lines_of_bytes()
 pub fn kept_lines()
     ensures event { is_kept (codes "up 1") (codes "up 1 ok") ≡ true }
     ensures looks { is_kept (codes "?attached") (codes "attached") ≡ false }
-    ensures refused { is_kept (codes "pu 1") (codes "! line 1 word 1: there is no such line") ≡ false }
+    ensures refused { is_kept (codes "pu 1") (codes "! line 1 word 1: there is no line 'pu'; did you mean 'up'?") ≡ false }
 {}
 
 /// What a line adds to a configuration.

@@ -24,7 +24,7 @@ pub(crate) fn prepare<S: Source>(alloc: Global, script: &mut S) -> Result<Openin
     ensures script { IfOk result (λ opening. IsReady opening.text.items opening.script) }
     ensures bytes { IfOk result (λ opening. length opening.rooms.bytes.items ≡ 2097153) }
     ensures identifiers { IfOk result (λ opening. length opening.rooms.identifiers.items ≡ 2097153) }
-    ensures blocks { IfOk result (λ opening. length opening.rooms.blocks.items ≡ 131072) }
+    ensures blocks { IfOk result (λ opening. length opening.rooms.blocks.items ≡ 2097153) }
     ensures fault { IfErr result (λ fault. ReadsThen S.step S.remaining script.old script.new fault
         (λ text. (size : ℕ) → IsEarlyFault fault text size)) }
     ensures early { IfErr result (λ fault. ¬ IsWrite fault) }

@@ -10,9 +10,6 @@ use std::alloc::{AllocError, Global};
 /// Half of the bytes of the longest script, and one more: what one of its lines can spell.
 const MOST_SPELLED: usize = 2_097_153;
 
-/// The most bytes of blocks that a line shows.
-const MOST_BYTES: usize = 131_072;
-
 /// The room that the lines of a session work in.
 #[derive(Drop)]
 pub struct Rooms {
@@ -20,7 +17,7 @@ pub struct Rooms {
     pub bytes: Vec<u8>,
     /// A list of controller identifiers.
     pub identifiers: Vec<u16>,
-    /// Blocks that are looked at.
+    /// Blocks that are looked at, and what a line spells whose fault is looked for.
     pub blocks: Vec<u8>,
     /// One answer.
     pub text: String,
@@ -28,17 +25,24 @@ pub struct Rooms {
     pub line: Vec<u8>,
 }
 
+/// Room for the bytes that a line can spell.
+fn room_for_bytes(alloc: Global) -> Result<Vec<u8>, AllocError>
+    ensures { IfOk result (λ room. length room.items ≡ 2097153) }
+{
+    vec![in alloc; 0; MOST_SPELLED]
+}
+
 impl Rooms {
     /// Room for every line.
     pub fn new(alloc: Global) -> Result<Rooms, AllocError>
         ensures bytes { IfOk result (λ rooms. length rooms.bytes.items ≡ 2097153) }
         ensures identifiers { IfOk result (λ rooms. length rooms.identifiers.items ≡ 2097153) }
-        ensures blocks { IfOk result (λ rooms. length rooms.blocks.items ≡ 131072) }
+        ensures blocks { IfOk result (λ rooms. length rooms.blocks.items ≡ 2097153) }
     {
         Ok(Rooms {
-            bytes: vec![in alloc; 0; MOST_SPELLED]?,
+            bytes: room_for_bytes(alloc)?,
             identifiers: vec![in alloc; 0; MOST_SPELLED]?,
-            blocks: vec![in alloc; 0; MOST_BYTES]?,
+            blocks: room_for_bytes(alloc)?,
             text: String::with_capacity(alloc, LONGEST_ANSWER)?,
             line: Vec::with_capacity(alloc, LONGEST_LINE + 1)?,
         })

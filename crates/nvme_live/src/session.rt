@@ -109,7 +109,7 @@ fn run_from_start<R: BufRead, W: Write, M: Medium>(
     requires countable { number < 2 ^ 64 - 1 }
     requires bytes_room { length rooms.old.bytes.items ≡ 2097153 }
     requires identifiers_room { length rooms.old.identifiers.items ≡ 2097153 }
-    requires blocks_room { length rooms.old.blocks.items ≡ 131072 }
+    requires blocks_room { length rooms.old.blocks.items ≡ 2097153 }
     ensures ok { IfOk result (λ after. (line : List ℕ) (between : Option (List ℕ))
         → TakesLine between line (R.remaining reader.old) → asked line ≡ Sets Start
         → Rests (λ last. Ends M.tells (M.size medium) (M.device medium) number (Setting (configuration config.now)) last
@@ -137,7 +137,7 @@ fn run_from_setting<R: BufRead, W: Write, M: Medium>(
 ) -> Result<M, (ScriptFault, M)>
     requires bytes_room { length opening.old.rooms.bytes.items ≡ 2097153 }
     requires identifiers_room { length opening.old.rooms.identifiers.items ≡ 2097153 }
-    requires blocks_room { length opening.old.rooms.blocks.items ≡ 131072 }
+    requires blocks_room { length opening.old.rooms.blocks.items ≡ 2097153 }
     ensures ok { IfOk result (λ after. Rests (λ last. Ends M.tells (M.size medium) (M.device medium) 1
         (Setting (configuration opening.old.script.config)) last (R.remaining reader.old) (R.remaining reader.new)
         (W.contents writer.old) (W.contents writer.new)) (M.device medium) (M.device after)) }
@@ -150,6 +150,7 @@ fn run_from_setting<R: BufRead, W: Write, M: Medium>(
         &mut opening.rooms.line,
         &mut opening.rooms.bytes,
         &mut opening.rooms.identifiers,
+        &mut opening.rooms.blocks,
         &mut opening.rooms.text,
         reader,
         writer,

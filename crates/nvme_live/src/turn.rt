@@ -2,7 +2,7 @@
 
 ghost use Rattle.std.specs.Prelude.{◌≡◌, OnErr, OnOk, length};
 ghost use Rattle.std.specs.Io.KnownBytes.{Appends};
-ghost use Rattle.live_text.specs.Faults.{refusal};
+ghost use Rattle.live_text.specs.Faults.{refusal, why_by_value};
 ghost use Rattle.nvme_grammar.specs.Lent.{event_by_value};
 ghost use Rattle.nvme_fleet.specs.FleetStates.{layers_of};
 ghost use Rattle.nvme_live.specs.Asking.{asked_by_value};
@@ -20,9 +20,15 @@ use std::io;
 use std::io::Write;
 
 /// Answers a line that is not carried out.
-pub fn refuse<W: Write>(number: u64, why: Why, text: &mut String, writer: &mut W) -> io::Result<()>
-    ensures ok { OnOk result (Appends (W.contents writer.old) (W.contents writer.new) (with_feed (refusal number why))) }
-    ensures err { OnErr result (Breaks (W.contents writer.old) (W.contents writer.new) (with_feed (refusal number why))) }
+#[tactic(auto, using(live_text::proofs::ByValue::refusal_by_value))]
+pub fn refuse<W: Write>(
+    number: u64,
+    why: Why<'_>,
+    text: &mut String,
+    writer: &mut W,
+) -> io::Result<()>
+    ensures ok { OnOk result (Appends (W.contents writer.old) (W.contents writer.new) (with_feed (refusal number (why_by_value why.entry)))) }
+    ensures err { OnErr result (Breaks (W.contents writer.old) (W.contents writer.new) (with_feed (refusal number (why_by_value why.entry)))) }
 {
     say(writer, text, Refusal { number, why })
 }
@@ -56,7 +62,7 @@ fn look_at_blocks<W: Write, M: Medium>(
     text: &mut String,
     writer: &mut W,
 ) -> io::Result<()>
-    requires { length blocks.old ≡ 131072 }
+    requires { length blocks.old ≡ 2097153 }
     ensures { Answers result (λ answer.
         ShowsBlocks (place_of place.0 place.1 place.2 (layers_of fleet.old.state)) M.tells number place.0 place.1
         place.2 (layers_of fleet.old.state) answer (layers_of fleet.new.state))
@@ -92,7 +98,7 @@ fn look<W: Write, M: Medium>(
     text: &mut String,
     writer: &mut W,
 ) -> io::Result<()>
-    requires { length blocks.old ≡ 131072 }
+    requires { length blocks.old ≡ 2097153 }
     ensures { Answers result (λ answer. Shows M.tells number looking (layers_of fleet.old.state) answer
         (layers_of fleet.new.state)) (W.contents writer.old) (W.contents writer.new) }
 {
@@ -113,7 +119,7 @@ pub fn answer<W: Write, M: Medium>(
     text: &mut String,
     writer: &mut W,
 ) -> io::Result<()>
-    requires { length blocks.old ≡ 131072 }
+    requires { length blocks.old ≡ 2097153 }
     ensures { Answers result (λ answer. Answered M.tells number (asked_by_value asked.entry)
         (layers_of fleet.old.state) answer (layers_of fleet.new.state)) (W.contents writer.old) (W.contents writer.new) }
 {

@@ -31,7 +31,7 @@ powercycle ?window ?register ?registers ?queues ?fetched ?driver ?namespaces ?re
 #[derive(Clone, Copy)]
 pub enum Shown<'a> {
     /// Nothing, for this reason.
-    Nothing(Refusal),
+    Nothing(Refusal<'a>),
     /// The first words of all lines.
     Help,
     /// How lines are written.
@@ -69,8 +69,8 @@ impl fmt::Display for Shown<'_> {
 }
 
 /// Nothing, for this reason, at the line with this number.
-fn nothing<'a>(number: u64, why: Why) -> Shown<'a>
-    ensures { shown_by result ≡ refusal number why }
+fn nothing(number: u64, why: Why<'_>) -> Shown<'_>
+    ensures { shown_by result ≡ refusal number why.entry }
 {
     Shown::Nothing(Refusal { number, why })
 }

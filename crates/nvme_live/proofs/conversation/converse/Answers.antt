@@ -47,6 +47,13 @@ asked_of-asked-requires-clause-identifiers_room g c =
     let same = ap length c.as_slice.ensures.value in
     omega (arith, c.loop-number.invariant.identifiers, short, same)
 
+pub asked_of-asked-requires-clause-spare_room : goal.asked_of-asked-requires-clause-spare_room
+asked_of-asked-requires-clause-spare_room g c =
+    let reads = subst (λ t. ReadsLine t (g.R.Read.remaining c.loop-number.reader) (g.R.Read.remaining c.read_line.new.reader) c.read_line.new.line.items) c.in-Ok-true.field-0-test c.in-Ok-true.ensures.line in
+    let short = short-read (g.R.Read.remaining c.loop-number.reader) (g.R.Read.remaining c.read_line.new.reader) c.read_line.new.line.items reads in
+    let same = ap length c.as_slice.ensures.value in
+    (omega (arith, c.loop-number.invariant.blocks), omega (arith, c.loop-number.invariant.blocks, short, same))
+
 pub returns-then-is_err-clause-fault : goal.returns-then-is_err-clause-fault
 returns-then-is_err-clause-fault g c = λ size d.
     let reads = subst (λ t. ReadsLine t (g.R.Read.remaining c.loop-number.reader) (g.R.Read.remaining c.read_line.new.reader) c.read_line.new.line.items) c.in-Ok-true.field-0-test c.in-Ok-true.ensures.line in

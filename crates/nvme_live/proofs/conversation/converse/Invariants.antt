@@ -9,7 +9,7 @@ abbrev pub invariant-loop-number : goal.invariant-loop-number
 invariant-loop-number g l = record {
   bytes : length l.bytes ≡ 2097153;
   identifiers : length l.identifiers ≡ 2097153;
-  blocks : length l.blocks ≡ 131072;
+  blocks : length l.blocks ≡ 2097153;
   conversed : (size : ℕ) (d : Device) → Converses g.M.Medium.tells size d l.first (Running (layers_of l.fn.fleet.state)) l.number (Running (layers_of l.fleet.state))
       (g.R.Read.remaining l.fn.reader) (g.R.Read.remaining l.reader) (g.W.Write.contents l.fn.writer) (g.W.Write.contents l.writer);
 }

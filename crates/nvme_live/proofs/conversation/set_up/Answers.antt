@@ -12,6 +12,7 @@ pub loop-number-init : goal.loop-number-init
 loop-number-init g c = record {
   bytes = c.requires.bytes_room;
   identifiers = c.requires.identifiers_room;
+  blocks = c.requires.blocks_room;
   conversed = λ tells blocks d. conversed-none tells blocks d 1 (Setting (configuration c.args.config.now)) (g.R.Read.remaining c.args.reader.now) (g.W.Write.contents c.args.writer.now);
 }
 
@@ -47,6 +48,13 @@ asked_of-asked-requires-clause-identifiers_room g c =
     let same = ap length c.as_slice.ensures.value in
     omega (arith, c.loop-number.invariant.identifiers, short, same)
 
+pub asked_of-asked-requires-clause-spare_room : goal.asked_of-asked-requires-clause-spare_room
+asked_of-asked-requires-clause-spare_room g c =
+    let reads = subst (λ t. ReadsLine t (g.R.Read.remaining c.loop-number.reader) (g.R.Read.remaining c.read_line.new.reader) c.read_line.new.line.items) c.in-Ok-true.field-0-test c.in-Ok-true.ensures.line in
+    let short = short-read (g.R.Read.remaining c.loop-number.reader) (g.R.Read.remaining c.read_line.new.reader) c.read_line.new.line.items reads in
+    let same = ap length c.as_slice.ensures.value in
+    (omega (arith, c.loop-number.invariant.blocks), omega (arith, c.loop-number.invariant.blocks, short, same))
+
 pub returns-in-Ok-Started : goal.returns-in-Ok-Started
 returns-in-Ok-Started g c = λ tells blocks d.
     let reads = subst (λ t. ReadsLine t (g.R.Read.remaining c.loop-number.reader) (g.R.Read.remaining c.read_line.new.reader) c.read_line.new.line.items) c.in-Ok-true.field-0-test c.in-Ok-true.ensures.line in
@@ -73,6 +81,7 @@ loop-number-preserved g c =
     record {
       bytes = search rules;
       identifiers = search rules;
+      blocks = search rules;
       conversed = λ tells blocks d.
           came-answered tells blocks d c.loop-number.number (configuration c.args.config.now) (configuration c.loop-number.config) (configuration c.settle.new.config) (g.R.Read.remaining c.args.reader.now) (g.R.Read.remaining c.loop-number.reader)
           (g.W.Write.contents c.args.writer.now) (g.W.Write.contents c.loop-number.writer) (c.loop-number.invariant.conversed tells blocks d) (g.R.Read.remaining c.read_line.new.reader) (g.W.Write.contents c.settle.new.writer)

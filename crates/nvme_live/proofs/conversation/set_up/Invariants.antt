@@ -9,6 +9,7 @@ abbrev pub invariant-loop-number : goal.invariant-loop-number
 invariant-loop-number g l = record {
   bytes : length l.bytes ≡ 2097153;
   identifiers : length l.identifiers ≡ 2097153;
+  blocks : length l.blocks ≡ 2097153;
   conversed : (tells : Bool) (blocks : ℕ) (d : Device) → Converses tells blocks d 1 (Setting (configuration l.fn.config)) l.number (Setting (configuration l.config))
       (g.R.Read.remaining l.fn.reader) (g.R.Read.remaining l.reader) (g.W.Write.contents l.fn.writer) (g.W.Write.contents l.writer);
 }

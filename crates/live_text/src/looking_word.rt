@@ -1,0 +1,107 @@
+//! The words that looking lines begin with.
+
+ghost use Rattle.std.specs.Prelude.{◌≡◌};
+ghost use Rattle.live_text.specs.LookingWords as spec;
+
+use nvme_grammar::is_near;
+
+/// The word that a looking line begins with.
+#[derive(Clone, Copy, Debug, PartialEq, Eq)]
+pub enum LookingWord {
+    Window,
+    Register,
+    Registers,
+    Queues,
+    Fetched,
+    Driver,
+    Namespaces,
+    Reservation,
+    Attached,
+    Blocks,
+    Help,
+}
+
+/// All of them.
+const LOOKING_WORDS: [LookingWord; 11] = [
+    LookingWord::Window,
+    LookingWord::Register,
+    LookingWord::Registers,
+    LookingWord::Queues,
+    LookingWord::Fetched,
+    LookingWord::Driver,
+    LookingWord::Namespaces,
+    LookingWord::Reservation,
+    LookingWord::Attached,
+    LookingWord::Blocks,
+    LookingWord::Help,
+];
+
+impl LookingWord {
+    /// The word as sessions have it.
+    pub fn text(self) -> &'static str
+        ensures { result.now ≡ spec.word_text self }
+    {
+        match self {
+            LookingWord::Window => "?window",
+            LookingWord::Register => "?register",
+            LookingWord::Registers => "?registers",
+            LookingWord::Queues => "?queues",
+            LookingWord::Fetched => "?fetched",
+            LookingWord::Driver => "?driver",
+            LookingWord::Namespaces => "?namespaces",
+            LookingWord::Reservation => "?reservation",
+            LookingWord::Attached => "?attached",
+            LookingWord::Blocks => "?blocks",
+            LookingWord::Help => "?help",
+        }
+    }
+
+    /// A line that begins with it, with the names of its places: what is in brackets may be left out.
+    pub fn form(self) -> &'static str
+        ensures { result.now ≡ spec.form_text self }
+    {
+        match self {
+            LookingWord::Window => "?window C ADDR LEN",
+            LookingWord::Register => "?register C OFF",
+            LookingWord::Registers => "?registers C",
+            LookingWord::Queues => "?queues C",
+            LookingWord::Fetched => "?fetched C",
+            LookingWord::Driver => "?driver C",
+            LookingWord::Namespaces => "?namespaces",
+            LookingWord::Reservation => "?reservation N",
+            LookingWord::Attached => "?attached",
+            LookingWord::Blocks => "?blocks N SLBA COUNT",
+            LookingWord::Help => "?help [WORD]",
+        }
+    }
+
+    /// The one that a word is, if it is one.
+    #[tactic(auto, unfolding(crate::specs::LookingWords::looking_word_of))]
+    pub fn of(word: &[u8]) -> Option<LookingWord>
+        ensures { result ≡ spec.looking_word_of word.now }
+    {
+        let mut words = LOOKING_WORDS.as_slice();
+        while let Some((first, behind)) = words.split_first() {
+            if word == first.text().as_bytes() {
+                return Some(*first);
+            }
+            words = behind;
+        }
+        None
+    }
+
+    /// The first that a word is near to: one letter is wrong, missing or too many, or two are exchanged.
+    #[tactic(auto, unfolding(crate::specs::LookingWords::nearest_to))]
+    pub(crate) fn nearest(word: &[u8]) -> Option<LookingWord>
+        ensures { result ≡ spec.nearest_to word.now }
+    {
+        let mut words = LOOKING_WORDS.as_slice();
+        while let Some((first, behind)) = words.split_first() {
+            if is_near(word, first.text().as_bytes()) {
+                return Some(*first);
+            }
+            words = behind;
+        }
+        None
+    }
+}
