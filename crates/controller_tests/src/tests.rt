@@ -2,6 +2,7 @@
 
 mod admin;
 mod answers;
+mod asserting;
 mod configuration;
 mod ctrl;
 mod entries;

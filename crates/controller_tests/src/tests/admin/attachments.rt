@@ -1,6 +1,7 @@
 //! Namespaces are attached and detached by lists in host memory.
 
 use crate::tests::admin::bench::{Bench, denied, done, open_bench, run};
+use crate::tests::asserting::{expect_eq, expect_that};
 use crate::tests::entries::{NAMESPACE_ATTACHMENT, entry};
 use nvme_admin::AdminOutcome;
 use nvme_wire::Status;
@@ -26,33 +27,40 @@ fn send(
 #[test]
 fn lists_are_refused(rt: HostRuntime) -> Result<(), Fail> {
     let mut bench = open_bench(rt.alloc())?;
-    assert_eq!(rt;
+    expect_eq(
+        &rt,
         send(&mut bench, 1, ATTACH, 2, &[1, 0, 2, 0])?,
-        denied(11, Status::NAMESPACE_IS_PRIVATE)
+        denied(11, Status::NAMESPACE_IS_PRIVATE),
     );
-    assert_eq!(rt;
+    expect_eq(
+        &rt,
         send(&mut bench, 1, ATTACH, 1, &[1, 0, 1, 0])?,
-        denied(11, Status::NAMESPACE_ALREADY_ATTACHED)
+        denied(11, Status::NAMESPACE_ALREADY_ATTACHED),
     );
-    assert_eq!(rt;
+    expect_eq(
+        &rt,
         send(&mut bench, 1, ATTACH, 1, &[2, 0, 3, 0, 2, 0])?,
-        denied(11, Status::CONTROLLER_LIST_INVALID)
+        denied(11, Status::CONTROLLER_LIST_INVALID),
     );
-    assert_eq!(rt;
+    expect_eq(
+        &rt,
         send(&mut bench, 1, ATTACH, 1, &[0, 0])?,
-        denied(11, Status::CONTROLLER_LIST_INVALID)
+        denied(11, Status::CONTROLLER_LIST_INVALID),
     );
-    assert_eq!(rt;
+    expect_eq(
+        &rt,
         send(&mut bench, 1, ATTACH, 3, &[1, 0, 1, 0])?,
-        denied(6, Status::INVALID_FIELD_IN_COMMAND)
+        denied(6, Status::INVALID_FIELD_IN_COMMAND),
     );
-    assert_eq!(rt;
+    expect_eq(
+        &rt,
         send(&mut bench, 1, 2, 1, &[1, 0, 1, 0])?,
-        denied(6, Status::INVALID_FIELD_IN_COMMAND)
+        denied(6, Status::INVALID_FIELD_IN_COMMAND),
     );
-    assert_eq!(rt;
+    expect_eq(
+        &rt,
         send(&mut bench, 1, ATTACH, 9, &[1, 0, 1, 0])?,
-        denied(4, Status::INVALID_NAMESPACE_OR_FORMAT)
+        denied(4, Status::INVALID_NAMESPACE_OR_FORMAT),
     );
     Ok(())
 }
@@ -60,19 +68,21 @@ fn lists_are_refused(rt: HostRuntime) -> Result<(), Fail> {
 #[test]
 fn a_controller_is_detached_and_attached(rt: HostRuntime) -> Result<(), Fail> {
     let mut bench = open_bench(rt.alloc())?;
-    assert_eq!(rt; send(&mut bench, 2, DETACH, 1, &[1, 0, 2, 0])?, done(0));
-    assert!(rt; !bench.spaces.is_attached(2, 1));
-    assert_eq!(rt;
+    expect_eq(&rt, send(&mut bench, 2, DETACH, 1, &[1, 0, 2, 0])?, done(0));
+    expect_that(&rt, !bench.spaces.is_attached(2, 1));
+    expect_eq(
+        &rt,
         send(&mut bench, 2, DETACH, 1, &[1, 0, 2, 0])?,
-        denied(11, Status::NAMESPACE_NOT_ATTACHED)
+        denied(11, Status::NAMESPACE_NOT_ATTACHED),
     );
-    assert_eq!(rt;
+    expect_eq(
+        &rt,
         send(&mut bench, 2, ATTACH, 1, &[2, 0, 2, 0, 3, 0])?,
-        denied(11, Status::NAMESPACE_ALREADY_ATTACHED)
+        denied(11, Status::NAMESPACE_ALREADY_ATTACHED),
     );
-    assert!(rt; !bench.spaces.is_attached(2, 1));
-    assert_eq!(rt; send(&mut bench, 1, ATTACH, 1, &[1, 0, 2, 0])?, done(0));
-    assert!(rt; bench.spaces.is_attached(2, 1));
+    expect_that(&rt, !bench.spaces.is_attached(2, 1));
+    expect_eq(&rt, send(&mut bench, 1, ATTACH, 1, &[1, 0, 2, 0])?, done(0));
+    expect_that(&rt, bench.spaces.is_attached(2, 1));
     Ok(())
 }
 
@@ -81,14 +91,16 @@ fn a_list_of_too_many_is_refused(rt: HostRuntime) -> Result<(), Fail> {
     let mut bench = open_bench(rt.alloc())?;
     bench.window.store(0x5000, &[0xff, 0xff, 1, 0])?;
     let command = entry(NAMESPACE_ATTACHMENT, 1, 0x5000, [DETACH, 0]);
-    assert_eq!(rt;
+    expect_eq(
+        &rt,
         run(&mut bench, 1, &command),
-        denied(11, Status::CONTROLLER_LIST_INVALID)
+        denied(11, Status::CONTROLLER_LIST_INVALID),
     );
     let outside = entry(NAMESPACE_ATTACHMENT, 1, 0x40_0000, [DETACH, 0]);
-    assert_eq!(rt;
+    expect_eq(
+        &rt,
         run(&mut bench, 1, &outside),
-        denied(10, Status::DATA_TRANSFER_ERROR)
+        denied(10, Status::DATA_TRANSFER_ERROR),
     );
     Ok(())
 }
@@ -96,23 +108,26 @@ fn a_list_of_too_many_is_refused(rt: HostRuntime) -> Result<(), Fail> {
 #[test]
 fn the_issuing_host_is_judged(rt: HostRuntime) -> Result<(), Fail> {
     let mut bench = open_bench(rt.alloc())?;
-    assert!(rt;
+    expect_that(
+        &rt,
         bench
             .spaces
             .reservation(1)
-            .is_some_and(|r| r.has_room_for(0xa1))
+            .is_some_and(|r| r.has_room_for(0xa1)),
     );
     let reservation = bench.spaces.reservation_mut(1);
-    assert!(rt; reservation.register(0xa1, 0x11).is_ok());
-    assert!(rt; reservation.acquire(0xa1, 1, 0x11).is_ok());
-    assert_eq!(rt;
+    expect_that(&rt, reservation.register(0xa1, 0x11).is_ok());
+    expect_that(&rt, reservation.acquire(0xa1, 1, 0x11).is_ok());
+    expect_eq(
+        &rt,
         send(&mut bench, 2, ATTACH, 1, &[1, 0, 2, 0])?,
-        denied(7, Status::RESERVATION_CONFLICT)
+        denied(7, Status::RESERVATION_CONFLICT),
     );
-    assert_eq!(rt;
+    expect_eq(
+        &rt,
         send(&mut bench, 2, DETACH, 1, &[1, 0, 1, 0])?,
-        denied(7, Status::RESERVATION_CONFLICT)
+        denied(7, Status::RESERVATION_CONFLICT),
     );
-    assert_eq!(rt; send(&mut bench, 3, DETACH, 1, &[1, 0, 2, 0])?, done(0));
+    expect_eq(&rt, send(&mut bench, 3, DETACH, 1, &[1, 0, 2, 0])?, done(0));
     Ok(())
 }

@@ -1,6 +1,7 @@
 //! Queues are created and deleted.
 
 use crate::tests::admin::bench::{Bench, denied, open_bench, run, run_with};
+use crate::tests::asserting::expect_eq;
 use crate::tests::entries::{
     CREATE_COMPLETION_QUEUE, CREATE_SUBMISSION_QUEUE, DELETE_COMPLETION_QUEUE,
     DELETE_SUBMISSION_QUEUE, entry,
@@ -56,26 +57,31 @@ fn completion_queues_are_created(rt: HostRuntime) -> Result<(), Fail> {
         size: 32,
         base: 0x3000,
     };
-    assert_eq!(rt; run(&mut bench, 1, &first), changed(made));
-    assert_eq!(rt;
+    expect_eq(&rt, run(&mut bench, 1, &first), changed(made));
+    expect_eq(
+        &rt,
         create(&mut bench, 1, 31, 0x3000, 1),
-        denied(6, Status::INVALID_QUEUE_IDENTIFIER)
+        denied(6, Status::INVALID_QUEUE_IDENTIFIER),
     );
-    assert_eq!(rt;
+    expect_eq(
+        &rt,
         create(&mut bench, 5, 31, 0x3000, 1),
-        denied(6, Status::INVALID_QUEUE_IDENTIFIER)
+        denied(6, Status::INVALID_QUEUE_IDENTIFIER),
     );
-    assert_eq!(rt;
+    expect_eq(
+        &rt,
         create(&mut bench, 5, 31, 0x3004, 1),
-        denied(6, Status::INVALID_QUEUE_IDENTIFIER)
+        denied(6, Status::INVALID_QUEUE_IDENTIFIER),
     );
-    assert_eq!(rt;
+    expect_eq(
+        &rt,
         create(&mut bench, 2, 64, 0x3000, 1),
-        denied(6, Status::INVALID_QUEUE_SIZE)
+        denied(6, Status::INVALID_QUEUE_SIZE),
     );
-    assert_eq!(rt;
+    expect_eq(
+        &rt,
         create(&mut bench, 2, 0, 0x3000, 1),
-        denied(6, Status::INVALID_QUEUE_SIZE)
+        denied(6, Status::INVALID_QUEUE_SIZE),
     );
     Ok(())
 }
@@ -83,37 +89,42 @@ fn completion_queues_are_created(rt: HostRuntime) -> Result<(), Fail> {
 #[test]
 fn a_queue_lies_in_the_window(rt: HostRuntime) -> Result<(), Fail> {
     let mut bench = open_bench(rt.alloc())?;
-    assert_eq!(rt;
+    expect_eq(
+        &rt,
         create(&mut bench, 2, 31, 0x3004, 1),
-        denied(6, Status::PRP_OFFSET_INVALID)
+        denied(6, Status::PRP_OFFSET_INVALID),
     );
-    assert_eq!(rt;
+    expect_eq(
+        &rt,
         create(&mut bench, 2, 31, 0x40_0000, 1),
-        denied(6, Status::INVALID_FIELD_IN_COMMAND)
+        denied(6, Status::INVALID_FIELD_IN_COMMAND),
     );
-    assert_eq!(rt;
+    expect_eq(
+        &rt,
         create(&mut bench, 2, 31, 0x3000, 0),
-        denied(6, Status::INVALID_FIELD_IN_COMMAND)
+        denied(6, Status::INVALID_FIELD_IN_COMMAND),
     );
     let last = QueueChange::MakeCq {
         qid: 2,
         size: 64,
         base: 0x3f_f000,
     };
-    assert_eq!(rt; create(&mut bench, 2, 63, 0x3f_f000, 1), changed(last));
+    expect_eq(&rt, create(&mut bench, 2, 63, 0x3f_f000, 1), changed(last));
     Ok(())
 }
 
 #[test]
 fn submission_queues_name_their_completion_queue(rt: HostRuntime) -> Result<(), Fail> {
     let mut bench = open_bench(rt.alloc())?;
-    assert_eq!(rt;
+    expect_eq(
+        &rt,
         create_submission(&mut bench, 2),
-        denied(6, Status::COMPLETION_QUEUE_INVALID)
+        denied(6, Status::COMPLETION_QUEUE_INVALID),
     );
-    assert_eq!(rt;
+    expect_eq(
+        &rt,
         create_submission(&mut bench, 5),
-        denied(6, Status::INVALID_QUEUE_IDENTIFIER)
+        denied(6, Status::INVALID_QUEUE_IDENTIFIER),
     );
     let made = QueueChange::MakeSq {
         qid: 1,
@@ -121,7 +132,7 @@ fn submission_queues_name_their_completion_queue(rt: HostRuntime) -> Result<(), 
         base: 0x2000,
         cqid: 1,
     };
-    assert_eq!(rt; create_submission(&mut bench, 1), changed(made));
+    expect_eq(&rt, create_submission(&mut bench, 1), changed(made));
     Ok(())
 }
 
@@ -130,21 +141,25 @@ fn queues_are_deleted(rt: HostRuntime) -> Result<(), Fail> {
     let mut bench = open_bench(rt.alloc())?;
     let completion = entry(DELETE_COMPLETION_QUEUE, 0, 0, [1, 0]);
     let submission = entry(DELETE_SUBMISSION_QUEUE, 0, 0, [1, 0]);
-    assert_eq!(rt;
+    expect_eq(
+        &rt,
         run_with(&mut bench, &ONE_PAIR, 1, &completion),
-        denied(6, Status::INVALID_QUEUE_DELETION)
+        denied(6, Status::INVALID_QUEUE_DELETION),
     );
-    assert_eq!(rt;
+    expect_eq(
+        &rt,
         run_with(&mut bench, &ONE_PAIR, 1, &submission),
-        changed(QueueChange::DropSq(1))
+        changed(QueueChange::DropSq(1)),
     );
-    assert_eq!(rt;
+    expect_eq(
+        &rt,
         run_with(&mut bench, &ONE_COMPLETION_QUEUE, 1, &submission),
-        denied(6, Status::INVALID_QUEUE_IDENTIFIER)
+        denied(6, Status::INVALID_QUEUE_IDENTIFIER),
     );
-    assert_eq!(rt;
+    expect_eq(
+        &rt,
         run_with(&mut bench, &ONE_COMPLETION_QUEUE, 1, &completion),
-        changed(QueueChange::DropCq(1))
+        changed(QueueChange::DropCq(1)),
     );
     Ok(())
 }

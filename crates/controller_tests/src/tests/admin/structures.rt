@@ -1,6 +1,7 @@
 //! The data structures of Identify, byte by byte, beside listings of their fields by the offsets of the standard.
 
 use crate::tests::admin::bench::{Bench, denied, done, open_bench, run};
+use crate::tests::asserting::{expect_eq, expect_that};
 use crate::tests::entries::{IDENTIFY, SET_FEATURES, entry, wide_entry};
 use crate::tests::memory::holds;
 use nvme_wire::Status;
@@ -83,12 +84,12 @@ fn is_listed(
 #[test]
 fn a_namespace_is_told(rt: HostRuntime) -> Result<(), Fail> {
     let mut bench = open_bench(rt.alloc())?;
-    assert!(rt; is_listed(&mut bench, 2, 1, 0, &SHARED)?);
-    assert!(rt; is_listed(&mut bench, 2, 2, 0, &[])?);
-    assert!(rt; is_listed(&mut bench, 1, 3, 0, &[])?);
+    expect_that(&rt, is_listed(&mut bench, 2, 1, 0, &SHARED)?);
+    expect_that(&rt, is_listed(&mut bench, 2, 2, 0, &[])?);
+    expect_that(&rt, is_listed(&mut bench, 1, 3, 0, &[])?);
     let protect = entry(SET_FEATURES, 2, 0, [0x84, 1]);
-    assert_eq!(rt; run(&mut bench, 1, &protect), done(0));
-    assert!(rt; is_listed(&mut bench, 1, 2, 0, &PRIVATE)?);
+    expect_eq(&rt, run(&mut bench, 1, &protect), done(0));
+    expect_that(&rt, is_listed(&mut bench, 1, 2, 0, &PRIVATE)?);
     Ok(())
 }
 
@@ -102,10 +103,10 @@ fn a_controller_is_told(rt: HostRuntime) -> Result<(), Fail> {
 #[test]
 fn attached_namespaces_are_listed(rt: HostRuntime) -> Result<(), Fail> {
     let mut bench = open_bench(rt.alloc())?;
-    assert!(rt; is_listed(&mut bench, 1, 0, 2, &BOTH)?);
-    assert!(rt; is_listed(&mut bench, 1, 1, 2, &SECOND)?);
-    assert!(rt; is_listed(&mut bench, 1, 2, 2, &[])?);
-    assert!(rt; is_listed(&mut bench, 1, 0xffff_fffd, 2, &[])?);
+    expect_that(&rt, is_listed(&mut bench, 1, 0, 2, &BOTH)?);
+    expect_that(&rt, is_listed(&mut bench, 1, 1, 2, &SECOND)?);
+    expect_that(&rt, is_listed(&mut bench, 1, 2, 2, &[])?);
+    expect_that(&rt, is_listed(&mut bench, 1, 0xffff_fffd, 2, &[])?);
     Ok(())
 }
 
@@ -114,12 +115,16 @@ fn a_structure_may_lie_in_two_pages(rt: HostRuntime) -> Result<(), Fail> {
     let mut bench = open_bench(rt.alloc())?;
     store_listing(&mut bench, 0x9000, &CONTROLLER)?;
     let identify = wide_entry(IDENTIFY, 0, [0x5ffc, 0x7000], [1, 0, 0]);
-    assert_eq!(rt; run(&mut bench, 3, &identify), done(0));
-    assert!(rt; bench.window.piece(0x7000, 4092) == bench.window.piece(0x9004, 4092));
+    expect_eq(&rt, run(&mut bench, 3, &identify), done(0));
+    expect_that(
+        &rt,
+        bench.window.piece(0x7000, 4092) == bench.window.piece(0x9004, 4092),
+    );
     let odd = wide_entry(IDENTIFY, 0, [0x5ffc, 0x7008], [1, 0, 0]);
-    assert_eq!(rt;
+    expect_eq(
+        &rt,
         run(&mut bench, 3, &odd),
-        denied(10, Status::PRP_OFFSET_INVALID)
+        denied(10, Status::PRP_OFFSET_INVALID),
     );
     Ok(())
 }
@@ -128,24 +133,28 @@ fn a_structure_may_lie_in_two_pages(rt: HostRuntime) -> Result<(), Fail> {
 fn unknown_structures_are_refused(rt: HostRuntime) -> Result<(), Fail> {
     let mut bench = open_bench(rt.alloc())?;
     let unknown = entry(IDENTIFY, 0, 0x5000, [9, 0]);
-    assert_eq!(rt;
+    expect_eq(
+        &rt,
         run(&mut bench, 1, &unknown),
-        denied(6, Status::INVALID_FIELD_IN_COMMAND)
+        denied(6, Status::INVALID_FIELD_IN_COMMAND),
     );
     let foreign = entry(IDENTIFY, 9, 0x5000, [0, 0]);
-    assert_eq!(rt;
+    expect_eq(
+        &rt,
         run(&mut bench, 1, &foreign),
-        denied(4, Status::INVALID_NAMESPACE_OR_FORMAT)
+        denied(4, Status::INVALID_NAMESPACE_OR_FORMAT),
     );
     let behind = entry(IDENTIFY, 0xffff_fffe, 0x5000, [2, 0]);
-    assert_eq!(rt;
+    expect_eq(
+        &rt,
         run(&mut bench, 1, &behind),
-        denied(4, Status::INVALID_NAMESPACE_OR_FORMAT)
+        denied(4, Status::INVALID_NAMESPACE_OR_FORMAT),
     );
     let unspecified = entry(0x7f, 0, 0x5000, [0, 0]);
-    assert_eq!(rt;
+    expect_eq(
+        &rt,
         run(&mut bench, 1, &unspecified),
-        denied(2, Status::INVALID_COMMAND_OPCODE)
+        denied(2, Status::INVALID_COMMAND_OPCODE),
     );
     Ok(())
 }

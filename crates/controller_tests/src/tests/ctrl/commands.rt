@@ -4,6 +4,7 @@ ghost use Rattle.nvme_spec.specs.World.{LiesWithin};
 ghost use Rattle.nvme_spec.specs.Execution.{HasKnownRegistrants};
 
 use crate::tests::answers::{CONFLICT, CONFLICT_COMPLETION, DONE, DONE_COMPLETION};
+use crate::tests::asserting::{expect_eq, expect_that};
 use crate::tests::ctrl::bench::{Bench, Host, execute, open, run, send, start, store};
 use crate::tests::entries::{
     ACQUIRE, DELETE_SUBMISSION_QUEUE, NAMESPACE_ATTACHMENT, REGISTER, WRITE, entry,
@@ -32,16 +33,20 @@ fn reserve(bench: &mut Bench, host: &mut Host) -> Result<(), Fail>
 fn a_write_and_its_completion(rt: HostRuntime) -> Result<(), Fail> {
     let mut bench = open(rt.alloc())?;
     let mut host = start(rt.alloc(), &mut bench, 1)?;
-    assert_eq!(rt;
+    expect_eq(
+        &rt,
         run(
             &mut bench,
             &mut host,
             &entry(WRITE, 1, 0x5000, [0, 0]),
-            true
+            true,
         ),
-        DONE
+        DONE,
     );
-    assert!(rt; holds(host.controller.window(), 0x3000, &DONE_COMPLETION));
+    expect_that(
+        &rt,
+        holds(host.controller.window(), 0x3000, &DONE_COMPLETION),
+    );
     Ok(())
 }
 
@@ -51,16 +56,20 @@ fn a_denied_write_and_its_completion(rt: HostRuntime) -> Result<(), Fail> {
     let mut holder = start(rt.alloc(), &mut bench, 2)?;
     reserve(&mut bench, &mut holder)?;
     let mut host = start(rt.alloc(), &mut bench, 1)?;
-    assert_eq!(rt;
+    expect_eq(
+        &rt,
         run(
             &mut bench,
             &mut host,
             &entry(WRITE, 1, 0x5000, [0, 0]),
-            true
+            true,
         ),
-        CONFLICT
+        CONFLICT,
     );
-    assert!(rt; holds(host.controller.window(), 0x3000, &CONFLICT_COMPLETION));
+    expect_that(
+        &rt,
+        holds(host.controller.window(), 0x3000, &CONFLICT_COMPLETION),
+    );
     Ok(())
 }
 
@@ -69,13 +78,14 @@ fn a_deleted_queue_takes_its_commands(rt: HostRuntime) -> Result<(), Fail> {
     let mut bench = open(rt.alloc())?;
     let mut host = start(rt.alloc(), &mut bench, 1)?;
     let deletion = entry(DELETE_SUBMISSION_QUEUE, 0, 0, [1, 0]);
-    assert_eq!(rt;
+    expect_eq(
+        &rt,
         send(&mut host, &entry(WRITE, 1, 0x5000, [0, 0]), true),
-        Fetched::Took
+        Fetched::Took,
     );
-    assert_eq!(rt; send(&mut host, &deletion, false), Fetched::Took);
-    assert_eq!(rt; execute(&mut bench, &mut host, 1), DONE);
-    assert_eq!(rt; execute(&mut bench, &mut host, 0), None);
+    expect_eq(&rt, send(&mut host, &deletion, false), Fetched::Took);
+    expect_eq(&rt, execute(&mut bench, &mut host, 1), DONE);
+    expect_eq(&rt, execute(&mut bench, &mut host, 0), None);
     Ok(())
 }
 

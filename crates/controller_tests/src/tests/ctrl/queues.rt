@@ -1,6 +1,7 @@
 //! I/O queues are created and deleted through the admin queue of a controller, which keeps them.
 
 use crate::tests::answers::DONE;
+use crate::tests::asserting::expect_eq;
 use crate::tests::ctrl::bench::{open, run, start_bare};
 use crate::tests::entries::{
     CREATE_COMPLETION_QUEUE, CREATE_SUBMISSION_QUEUE, DELETE_COMPLETION_QUEUE, entry,
@@ -33,35 +34,41 @@ fn completion_queues_through_the_admin_queue(rt: HostRuntime) -> Result<(), Fail
     let mut bench = open(rt.alloc())?;
     let mut host = start_bare(rt.alloc(), 1)?;
     let first = completions(1, 31, 0x3000, 1);
-    assert_eq!(rt; run(&mut bench, &mut host, &first, false), DONE);
-    assert_eq!(rt;
+    expect_eq(&rt, run(&mut bench, &mut host, &first, false), DONE);
+    expect_eq(
+        &rt,
         run(&mut bench, &mut host, &first, false),
-        refused(Status::INVALID_QUEUE_IDENTIFIER)
+        refused(Status::INVALID_QUEUE_IDENTIFIER),
     );
-    assert_eq!(rt;
+    expect_eq(
+        &rt,
         run(&mut bench, &mut host, &completions(5, 31, 0x3000, 1), false),
-        refused(Status::INVALID_QUEUE_IDENTIFIER)
+        refused(Status::INVALID_QUEUE_IDENTIFIER),
     );
-    assert_eq!(rt;
+    expect_eq(
+        &rt,
         run(&mut bench, &mut host, &completions(2, 64, 0x3000, 1), false),
-        refused(Status::INVALID_QUEUE_SIZE)
+        refused(Status::INVALID_QUEUE_SIZE),
     );
-    assert_eq!(rt;
+    expect_eq(
+        &rt,
         run(&mut bench, &mut host, &completions(2, 31, 0x3004, 1), false),
-        refused(Status::PRP_OFFSET_INVALID)
+        refused(Status::PRP_OFFSET_INVALID),
     );
-    assert_eq!(rt;
+    expect_eq(
+        &rt,
         run(
             &mut bench,
             &mut host,
             &completions(2, 31, 0x40_0000, 1),
-            false
+            false,
         ),
-        refused(Status::INVALID_FIELD_IN_COMMAND)
+        refused(Status::INVALID_FIELD_IN_COMMAND),
     );
-    assert_eq!(rt;
+    expect_eq(
+        &rt,
         run(&mut bench, &mut host, &completions(2, 31, 0x3000, 0), false),
-        refused(Status::INVALID_FIELD_IN_COMMAND)
+        refused(Status::INVALID_FIELD_IN_COMMAND),
     );
     Ok(())
 }
@@ -71,24 +78,31 @@ fn submission_queues_through_the_admin_queue(rt: HostRuntime) -> Result<(), Fail
     let mut bench = open(rt.alloc())?;
     let mut host = start_bare(rt.alloc(), 1)?;
     let first = completions(1, 31, 0x3000, 1);
-    assert_eq!(rt; run(&mut bench, &mut host, &first, false), DONE);
-    assert_eq!(rt;
+    expect_eq(&rt, run(&mut bench, &mut host, &first, false), DONE);
+    expect_eq(
+        &rt,
         run(&mut bench, &mut host, &submissions(2), false),
-        refused(Status::COMPLETION_QUEUE_INVALID)
+        refused(Status::COMPLETION_QUEUE_INVALID),
     );
-    assert_eq!(rt;
+    expect_eq(
+        &rt,
         run(&mut bench, &mut host, &submissions(5), false),
-        refused(Status::INVALID_QUEUE_IDENTIFIER)
+        refused(Status::INVALID_QUEUE_IDENTIFIER),
     );
-    assert_eq!(rt; run(&mut bench, &mut host, &submissions(1), false), DONE);
-    assert_eq!(rt;
+    expect_eq(
+        &rt,
+        run(&mut bench, &mut host, &submissions(1), false),
+        DONE,
+    );
+    expect_eq(
+        &rt,
         run(
             &mut bench,
             &mut host,
             &entry(DELETE_COMPLETION_QUEUE, 0, 0, [1, 0]),
-            false
+            false,
         ),
-        refused(Status::INVALID_QUEUE_DELETION)
+        refused(Status::INVALID_QUEUE_DELETION),
     );
     Ok(())
 }

@@ -1,5 +1,6 @@
 //! The registers, and what they make of the queues.
 
+use crate::tests::asserting::expect_eq;
 use crate::tests::ctrl::bench::enable;
 use nvme_ctrl::{Controller, Fetched};
 use std::test::Fail;
@@ -8,13 +9,13 @@ use std::test::Fail;
 fn status_follows_the_configuration(rt: HostRuntime) -> Result<(), Fail> {
     let mut controller = Controller::new(rt.alloc(), 1)?;
     enable(&mut controller);
-    assert_eq!(rt; controller.read32(0x1c), 1);
+    expect_eq(&rt, controller.read32(0x1c), 1);
     controller.write32(0x14, 0x0046_4001);
-    assert_eq!(rt; controller.read32(0x1c), 9);
+    expect_eq(&rt, controller.read32(0x1c), 9);
     controller.write32(0x14, 0);
-    assert_eq!(rt; controller.read32(0x1c), 0);
+    expect_eq(&rt, controller.read32(0x1c), 0);
     controller.write32(0x14, 1);
-    assert_eq!(rt; controller.read32(0x1c), 2);
+    expect_eq(&rt, controller.read32(0x1c), 2);
     Ok(())
 }
 
@@ -31,12 +32,12 @@ fn a_tail_may_move_back(rt: HostRuntime) -> Result<(), Fail> {
         let mut controller = Controller::new(rt.alloc(), 1)?;
         enable(&mut controller);
         controller.write32(0x1000, 3);
-        assert_eq!(rt; fetchable(&mut controller), 3);
+        expect_eq(&rt, fetchable(&mut controller), 3);
         controller.write32(0x1000, 5);
         controller.write32(0x1000, tail);
         controller.write32(0x1000, 8);
-        assert_eq!(rt; fetchable(&mut controller), waiting);
-        assert_eq!(rt; controller.fetch(1), Fetched::Idle);
+        expect_eq(&rt, fetchable(&mut controller), waiting);
+        expect_eq(&rt, controller.fetch(1), Fetched::Idle);
     }
     Ok(())
 }

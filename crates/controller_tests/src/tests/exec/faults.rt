@@ -5,6 +5,7 @@ ghost use Rattle.nvme_spec.specs.World.{LiesWithin};
 ghost use Rattle.nvme_spec.specs.Execution.{HasKnownRegistrants};
 
 use crate::tests::answers::DONE;
+use crate::tests::asserting::{expect_eq, expect_that};
 use crate::tests::entries::{COMPARE, FLUSH, READ, WRITE, WRITE_ZEROES, transfer};
 use crate::tests::exec::bench::{Bench, bench_over, run};
 use crate::tests::memory::holds;
@@ -41,12 +42,12 @@ fn a_write_stops_at_its_fault(rt: HostRuntime) -> Result<(), Fail> {
     for k in 0..4 {
         let mut bench = failing_after(rt.alloc(), k)?;
         let expected = if k < 3 { WRITE_FAULT } else { DONE };
-        assert_eq!(rt; run(&mut bench, 1, &write), expected);
+        expect_eq(&rt, run(&mut bench, 1, &write), expected);
         let is_told = k < 3 || bench.medium.flush().is_err();
-        assert!(rt; is_told);
+        expect_that(&rt, is_told);
         for i in 0..3 {
             let byte = if i < k { 0x5a } else { 0x33 };
-            assert!(rt; is_filled(&mut bench.medium, i, byte));
+            expect_that(&rt, is_filled(&mut bench.medium, i, byte));
         }
     }
     Ok(())
@@ -58,12 +59,12 @@ fn write_zeroes_stops_at_its_fault(rt: HostRuntime) -> Result<(), Fail> {
     for k in 0..4 {
         let mut bench = failing_after(rt.alloc(), k)?;
         let expected = if k < 3 { WRITE_FAULT } else { DONE };
-        assert_eq!(rt; run(&mut bench, 1, &zeroes), expected);
+        expect_eq(&rt, run(&mut bench, 1, &zeroes), expected);
         let is_told = k < 3 || bench.medium.flush().is_err();
-        assert!(rt; is_told);
+        expect_that(&rt, is_told);
         for i in 0..3 {
             let byte = if i < k { 0 } else { 0x33 };
-            assert!(rt; is_filled(&mut bench.medium, i, byte));
+            expect_that(&rt, is_filled(&mut bench.medium, i, byte));
         }
     }
     Ok(())
@@ -75,10 +76,10 @@ fn a_read_stops_at_its_fault(rt: HostRuntime) -> Result<(), Fail> {
     for k in 0..4 {
         let mut bench = failing_after(rt.alloc(), k)?;
         let expected = if k < 3 { READ_ERROR } else { DONE };
-        assert_eq!(rt; run(&mut bench, 1, &read), expected);
+        expect_eq(&rt, run(&mut bench, 1, &read), expected);
         for j in 0..3 {
             let byte = if j < k { 0x33 } else { 0x5a };
-            assert!(rt; holds(&bench.window, 0x5000 + 512 * j, &[byte; 512]));
+            expect_that(&rt, holds(&bench.window, 0x5000 + 512 * j, &[byte; 512]));
         }
     }
     Ok(())
@@ -112,7 +113,7 @@ fn a_compare_stops_at_its_first_difference(rt: HostRuntime) -> Result<(), Fail> 
 fn a_flush_fails_once(rt: HostRuntime) -> Result<(), Fail> {
     let flush = transfer(FLUSH, 1, 0, 1, 0);
     let mut bench = failing_after(rt.alloc(), 0)?;
-    assert_eq!(rt; run(&mut bench, 1, &flush), WRITE_FAULT);
-    assert_eq!(rt; run(&mut bench, 1, &flush), DONE);
+    expect_eq(&rt, run(&mut bench, 1, &flush), WRITE_FAULT);
+    expect_eq(&rt, run(&mut bench, 1, &flush), DONE);
     Ok(())
 }

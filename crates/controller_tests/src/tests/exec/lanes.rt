@@ -1,5 +1,6 @@
 //! Bytes compared by lanes.
 
+use crate::tests::asserting::expect_that;
 use nvme_exec::lanes_equal;
 use std::test::Fail;
 
@@ -17,12 +18,12 @@ fn every_kind_of_length(rt: HostRuntime) -> Result<(), Fail> {
     let bytes = [7; 512];
     for len in [0usize, 1, 31, 32, 33, 512] {
         let a = &bytes[..len];
-        assert!(rt; lanes_equal(a, a));
+        expect_that(&rt, lanes_equal(a, a));
         if len > 0 {
-            assert!(rt; differs_at(a, 0));
-            assert!(rt; differs_at(a, len - 1));
+            expect_that(&rt, differs_at(a, 0));
+            expect_that(&rt, differs_at(a, len - 1));
         }
     }
-    assert!(rt; !lanes_equal(&bytes[..32], &bytes[..33]));
+    expect_that(&rt, !lanes_equal(&bytes[..32], &bytes[..33]));
     Ok(())
 }

@@ -1,6 +1,7 @@
 //! The reservation commands, by their entries.
 
 use crate::tests::answers::{CONFLICT, DONE};
+use crate::tests::asserting::{expect_eq, expect_that};
 use crate::tests::entries::{ACQUIRE, READ, REGISTER, RELEASE, REPORT, WRITE, entry, transfer};
 use crate::tests::exec::bench::{open_bench, run};
 use crate::tests::memory::holds;
@@ -11,19 +12,22 @@ use std::test::Fail;
 fn a_pointer_is_judged_before_the_action(rt: HostRuntime) -> Result<(), Fail> {
     let mut bench = open_bench(rt.alloc())?;
     let outside = entry(ACQUIRE, 1, 0x40_0000, [0x100, 0]);
-    assert_eq!(rt;
+    expect_eq(
+        &rt,
         run(&mut bench, 1, &outside),
-        Some((Status::DATA_TRANSFER_ERROR, 10))
+        Some((Status::DATA_TRANSFER_ERROR, 10)),
     );
     let odd = entry(ACQUIRE, 1, 0x5002, [0x100, 0]);
-    assert_eq!(rt;
+    expect_eq(
+        &rt,
         run(&mut bench, 1, &odd),
-        Some((Status::PRP_OFFSET_INVALID, 10))
+        Some((Status::PRP_OFFSET_INVALID, 10)),
     );
     let good = entry(ACQUIRE, 1, 0x5000, [0x100, 0]);
-    assert_eq!(rt;
+    expect_eq(
+        &rt,
         run(&mut bench, 1, &good),
-        Some((Status::RESERVATION_CONFLICT, 11))
+        Some((Status::RESERVATION_CONFLICT, 11)),
     );
     Ok(())
 }
@@ -32,28 +36,36 @@ fn a_pointer_is_judged_before_the_action(rt: HostRuntime) -> Result<(), Fail> {
 fn a_holder_writes_alone(rt: HostRuntime) -> Result<(), Fail> {
     let mut bench = open_bench(rt.alloc())?;
     bench.window.store(0x5008, &0x11_u64.to_le_bytes())?;
-    assert_eq!(rt;
+    expect_eq(
+        &rt,
         run(&mut bench, 1, &entry(REGISTER, 1, 0x5000, [0, 0])),
-        DONE
+        DONE,
     );
     bench.window.store(0x5000, &0x11_u64.to_le_bytes())?;
-    assert_eq!(rt;
+    expect_eq(
+        &rt,
         run(&mut bench, 1, &entry(ACQUIRE, 1, 0x5000, [0x100, 0])),
-        DONE
+        DONE,
     );
     let write = transfer(WRITE, 1, 0, 1, 0x6000);
-    assert_eq!(rt; run(&mut bench, 2, &write), CONFLICT);
-    assert_eq!(rt; run(&mut bench, 2, &transfer(READ, 1, 0, 1, 0x6000)), DONE);
+    expect_eq(&rt, run(&mut bench, 2, &write), CONFLICT);
+    expect_eq(
+        &rt,
+        run(&mut bench, 2, &transfer(READ, 1, 0, 1, 0x6000)),
+        DONE,
+    );
     let other = entry(RELEASE, 1, 0x5000, [0x300, 0]);
-    assert_eq!(rt;
+    expect_eq(
+        &rt,
         run(&mut bench, 1, &other),
-        Some((Status::INVALID_FIELD_IN_COMMAND, 11))
+        Some((Status::INVALID_FIELD_IN_COMMAND, 11)),
     );
-    assert_eq!(rt;
+    expect_eq(
+        &rt,
         run(&mut bench, 1, &entry(RELEASE, 1, 0x5000, [0x100, 0])),
-        DONE
+        DONE,
     );
-    assert_eq!(rt; run(&mut bench, 2, &write), DONE);
+    expect_eq(&rt, run(&mut bench, 2, &write), DONE);
     Ok(())
 }
 
@@ -61,18 +73,21 @@ fn a_holder_writes_alone(rt: HostRuntime) -> Result<(), Fail> {
 fn a_report_lists_the_controllers_of_registered_hosts(rt: HostRuntime) -> Result<(), Fail> {
     let mut bench = open_bench(rt.alloc())?;
     bench.window.store(0x5008, &0x22_u64.to_le_bytes())?;
-    assert_eq!(rt;
+    expect_eq(
+        &rt,
         run(&mut bench, 2, &entry(REGISTER, 1, 0x5000, [0, 0])),
-        DONE
+        DONE,
     );
     bench.window.store(0x6000, &[0xee; 144])?;
-    assert_eq!(rt;
+    expect_eq(
+        &rt,
         run(&mut bench, 2, &entry(REPORT, 1, 0x6000, [31, 0])),
-        Some((Status::HOST_IDENTIFIER_INCONSISTENT_FORMAT, 6))
+        Some((Status::HOST_IDENTIFIER_INCONSISTENT_FORMAT, 6)),
     );
-    assert_eq!(rt;
+    expect_eq(
+        &rt,
         run(&mut bench, 2, &entry(REPORT, 1, 0x6000, [31, 1])),
-        DONE
+        DONE,
     );
     let mut report = [0; 128];
     report[0] = 1;
@@ -80,7 +95,7 @@ fn a_report_lists_the_controllers_of_registered_hosts(rt: HostRuntime) -> Result
     report[64] = 2;
     report[72] = 0x22;
     report[80] = 0xb2;
-    assert!(rt; holds(&bench.window, 0x6000, &report));
-    assert!(rt; holds(&bench.window, 0x6080, &[0xee; 16]));
+    expect_that(&rt, holds(&bench.window, 0x6000, &report));
+    expect_that(&rt, holds(&bench.window, 0x6080, &[0xee; 16]));
     Ok(())
 }

@@ -1,6 +1,7 @@
 //! Commands, and the completions that stand in host memory.
 
 use crate::tests::answers::{DONE, DONE_COMPLETION};
+use crate::tests::asserting::{expect_eq, expect_that};
 use crate::tests::entries::{
     NAMESPACE_ATTACHMENT, READ, WRITE, completion_queue, entry, submission_queue,
 };
@@ -35,14 +36,14 @@ fn a_write_and_its_completion(rt: HostRuntime) -> Result<(), Fail> {
             Event::Execute(3, 0),
         ],
     )?;
-    assert_eq!(rt; seen.len(), 14);
-    assert_eq!(rt; answer(&seen[5]), DONE);
-    assert_eq!(rt; answer(&seen[6]), DONE);
-    assert_eq!(rt; answer(&seen[11]), DONE);
-    assert_eq!(rt; answer(&seen[12]), None);
-    assert!(rt; holds(&bench, 1, 0x3000, &DONE_COMPLETION));
+    expect_eq(&rt, seen.len(), 14);
+    expect_eq(&rt, answer(&seen[5]), DONE);
+    expect_eq(&rt, answer(&seen[6]), DONE);
+    expect_eq(&rt, answer(&seen[11]), DONE);
+    expect_eq(&rt, answer(&seen[12]), None);
+    expect_that(&rt, holds(&bench, 1, 0x3000, &DONE_COMPLETION));
     let medium = bench.subsystem.into_medium();
-    assert!(rt; medium.as_bytes().starts_with(b"Hello"));
+    expect_that(&rt, medium.as_bytes().starts_with(b"Hello"));
     Ok(())
 }
 
@@ -50,10 +51,14 @@ fn a_write_and_its_completion(rt: HostRuntime) -> Result<(), Fail> {
 fn a_completion_wins_over_data(rt: HostRuntime) -> Result<(), Fail> {
     let mut bench = open(rt.alloc(), 0x5a)?;
     start(&mut bench, 1);
-    assert_eq!(rt; run(&mut bench, 1, &entry(READ, 1, 0x3000, [0, 0])), DONE);
-    assert!(rt; holds(&bench, 1, 0x3000, &DONE_COMPLETION));
-    assert!(rt; holds(&bench, 1, 0x3010, &[0x5a; 496]));
-    assert!(rt; holds(&bench, 1, 0x3200, &[0]));
+    expect_eq(
+        &rt,
+        run(&mut bench, 1, &entry(READ, 1, 0x3000, [0, 0])),
+        DONE,
+    );
+    expect_that(&rt, holds(&bench, 1, 0x3000, &DONE_COMPLETION));
+    expect_that(&rt, holds(&bench, 1, 0x3010, &[0x5a; 496]));
+    expect_that(&rt, holds(&bench, 1, 0x3200, &[0]));
     Ok(())
 }
 
@@ -71,10 +76,11 @@ fn a_command_is_judged_when_it_is_executed(rt: HostRuntime) -> Result<(), Fail> 
         1,
         &entry(NAMESPACE_ATTACHMENT, 1, 0x6000, [1, 0]),
     );
-    assert_eq!(rt; execute(&mut bench, 1, 0), DONE);
-    assert_eq!(rt;
+    expect_eq(&rt, execute(&mut bench, 1, 0), DONE);
+    expect_eq(
+        &rt,
         execute(&mut bench, 2, 0),
-        Some((Status::INVALID_FIELD_IN_COMMAND, 5))
+        Some((Status::INVALID_FIELD_IN_COMMAND, 5)),
     );
     Ok(())
 }

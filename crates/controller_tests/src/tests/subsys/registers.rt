@@ -1,5 +1,6 @@
 //! Registers through events, controllers that do not exist, and configurations that are refused.
 
+use crate::tests::asserting::{expect_eq, expect_that};
 use crate::tests::configuration::shared_configuration;
 use crate::tests::subsys::bench::{enabling, open};
 use nvme_medium::MemMedium;
@@ -31,12 +32,12 @@ fn status_follows_the_configuration(rt: HostRuntime) -> Result<(), Fail> {
             Event::Read32(2, 0x1c),
         ],
     )?;
-    assert_eq!(rt; seen.len(), 8);
-    assert_eq!(rt; value(&seen[0]), 1);
-    assert_eq!(rt; value(&seen[2]), 9);
-    assert_eq!(rt; value(&seen[4]), 0);
-    assert_eq!(rt; value(&seen[6]), 2);
-    assert_eq!(rt; value(&seen[7]), 0);
+    expect_eq(&rt, seen.len(), 8);
+    expect_eq(&rt, value(&seen[0]), 1);
+    expect_eq(&rt, value(&seen[2]), 9);
+    expect_eq(&rt, value(&seen[4]), 0);
+    expect_eq(&rt, value(&seen[6]), 2);
+    expect_eq(&rt, value(&seen[7]), 0);
     Ok(())
 }
 
@@ -51,10 +52,10 @@ fn events_that_reach_nothing(rt: HostRuntime) -> Result<(), Fail> {
             Event::Store(1, 4_194_303, &[1, 2]),
         ],
     )?;
-    assert_eq!(rt; seen.len(), 3);
-    assert!(rt; matches!(&seen[0], Seen::NoController));
-    assert!(rt; matches!(&seen[1], Seen::NoController));
-    assert!(rt; matches!(&seen[2], Seen::Outside));
+    expect_eq(&rt, seen.len(), 3);
+    expect_that(&rt, matches!(&seen[0], Seen::NoController));
+    expect_that(&rt, matches!(&seen[1], Seen::NoController));
+    expect_that(&rt, matches!(&seen[2], Seen::Outside));
     Ok(())
 }
 
@@ -69,8 +70,8 @@ fn a_refused_medium_comes_back(rt: HostRuntime) -> Result<(), Fail> {
         match Subsystem::new(rt.alloc(), &config, medium) {
             Ok(_) => return Err(Fail::from("a faulty configuration is accepted")),
             Err(refused) => {
-                assert_eq!(rt; refused.fault, expected);
-                assert!(rt; refused.medium.as_bytes().starts_with(&[7, 7]));
+                expect_eq(&rt, refused.fault, expected);
+                expect_that(&rt, refused.medium.as_bytes().starts_with(&[7, 7]));
             }
         }
     }

@@ -1,6 +1,7 @@
 //! Reservations of two hosts: denied commands, and what a preempted host has fetched.
 
 use crate::tests::answers::{CONFLICT, CONFLICT_COMPLETION, DONE};
+use crate::tests::asserting::{expect_eq, expect_that};
 use crate::tests::entries::{ACQUIRE, READ, REGISTER, WRITE, entry};
 use crate::tests::subsys::bench::{Bench, execute, holds, open, run, send, start};
 use nvme_subsys::Event;
@@ -29,13 +30,14 @@ fn a_denied_write_and_its_completion(rt: HostRuntime) -> Result<(), Fail> {
     let mut bench = open(rt.alloc(), 0)?;
     start(&mut bench, 1);
     start(&mut bench, 2);
-    assert_eq!(rt; reserve(&mut bench, 2, REGISTER, 0, [0, 0x22]), DONE);
-    assert_eq!(rt; reserve(&mut bench, 2, ACQUIRE, 0x100, [0x22, 0]), DONE);
-    assert_eq!(rt;
+    expect_eq(&rt, reserve(&mut bench, 2, REGISTER, 0, [0, 0x22]), DONE);
+    expect_eq(&rt, reserve(&mut bench, 2, ACQUIRE, 0x100, [0x22, 0]), DONE);
+    expect_eq(
+        &rt,
         run(&mut bench, 1, &entry(WRITE, 1, 0x5000, [0, 0])),
-        CONFLICT
+        CONFLICT,
     );
-    assert!(rt; holds(&bench, 1, 0x3000, &CONFLICT_COMPLETION));
+    expect_that(&rt, holds(&bench, 1, 0x3000, &CONFLICT_COMPLETION));
     Ok(())
 }
 
@@ -56,11 +58,12 @@ fn preempted(bench: &mut Bench) -> [Option<(Status, u8)>; 4] {
 #[test]
 fn what_was_fetched_is_aborted(rt: HostRuntime) -> Result<(), Fail> {
     let mut bench = open(rt.alloc(), 0)?;
-    assert_eq!(rt; preempted(&mut bench), [DONE; 4]);
-    assert_eq!(rt; execute(&mut bench, 2, 1), DONE);
-    assert_eq!(rt;
+    expect_eq(&rt, preempted(&mut bench), [DONE; 4]);
+    expect_eq(&rt, execute(&mut bench, 2, 1), DONE);
+    expect_eq(
+        &rt,
         execute(&mut bench, 2, 0),
-        Some((Status::COMMAND_ABORTED_DUE_TO_PREEMPT_AND_ABORT, 1))
+        Some((Status::COMMAND_ABORTED_DUE_TO_PREEMPT_AND_ABORT, 1)),
     );
     Ok(())
 }
@@ -68,9 +71,13 @@ fn what_was_fetched_is_aborted(rt: HostRuntime) -> Result<(), Fail> {
 #[test]
 fn what_is_fetched_later_is_refused(rt: HostRuntime) -> Result<(), Fail> {
     let mut bench = open(rt.alloc(), 0)?;
-    assert_eq!(rt; preempted(&mut bench), [DONE; 4]);
+    expect_eq(&rt, preempted(&mut bench), [DONE; 4]);
     send(&mut bench, 2, &entry(READ, 1, 0x6000, [0, 0]));
-    assert_eq!(rt; execute(&mut bench, 2, 2), CONFLICT);
-    assert_eq!(rt; run(&mut bench, 1, &entry(READ, 1, 0x6000, [0, 0])), DONE);
+    expect_eq(&rt, execute(&mut bench, 2, 2), CONFLICT);
+    expect_eq(
+        &rt,
+        run(&mut bench, 1, &entry(READ, 1, 0x6000, [0, 0])),
+        DONE,
+    );
     Ok(())
 }
