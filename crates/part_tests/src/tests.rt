@@ -1,5 +1,6 @@
 //! Each module tests the library of its name, and `configuration` has what several begin with.
 
+mod asserting;
 mod configuration;
 mod driver;
 mod medium;

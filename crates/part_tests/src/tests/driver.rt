@@ -1,5 +1,6 @@
 //! Drivers over a controller of the tests' choice: how they come up, what they refuse, and how they fail.
 
+use crate::tests::asserting::expect_eq;
 use nvme_driver::{Answer, Driver, NotUp, PlaceRefusal, PollFault, Port, Request, Ticket, UpFault};
 use nvme_wire::{Cqe, Status};
 use std::alloc::Global;
@@ -40,25 +41,36 @@ fn an_unknown_completion_fails_the_driver(rt: HostRuntime) -> Result<(), Fail> {
     for entry in unknown {
         let (mut driver, mut port) = up(rt.alloc())?;
         let mut buffer = [0; 131_072];
-        assert_eq!(rt; driver.place(&mut port, &READ), Ok(Ticket(1)));
+        expect_eq(&rt, driver.place(&mut port, &READ), Ok(Ticket(1)));
         port.window.store(0x3000, &entry)?;
-        assert_eq!(rt;
+        expect_eq(
+            &rt,
             driver.poll_into(&mut port, &mut buffer),
-            Err(PollFault::UnknownCommand)
+            Err(PollFault::UnknownCommand),
         );
-        assert_eq!(rt;
+        expect_eq(
+            &rt,
             driver.poll_into(&mut port, &mut buffer),
-            Err(PollFault::NotUp)
+            Err(PollFault::NotUp),
         );
-        assert_eq!(rt; driver.place(&mut port, &READ), Err(PlaceRefusal::NotReady));
-        assert_eq!(rt; driver.ring(&mut port), Err(NotUp));
-        assert_eq!(rt; driver.bring_up(&mut port), Err(UpFault::AlreadyUp));
+        expect_eq(
+            &rt,
+            driver.place(&mut port, &READ),
+            Err(PlaceRefusal::NotReady),
+        );
+        expect_eq(&rt, driver.ring(&mut port), Err(NotUp));
+        expect_eq(&rt, driver.bring_up(&mut port), Err(UpFault::AlreadyUp));
         driver.reset(&mut port);
         let aborted = Answer::Aborted { ticket: Ticket(1) };
-        assert_eq!(rt; driver.poll_into(&mut port, &mut buffer), Ok(Some(aborted)));
-        assert_eq!(rt;
+        expect_eq(
+            &rt,
             driver.poll_into(&mut port, &mut buffer),
-            Err(PollFault::NotUp)
+            Ok(Some(aborted)),
+        );
+        expect_eq(
+            &rt,
+            driver.poll_into(&mut port, &mut buffer),
+            Err(PollFault::NotUp),
         );
     }
     Ok(())
@@ -82,13 +94,18 @@ fn each_fault_of_bring_up_leaves_the_driver_down(rt: HostRuntime) -> Result<(), 
         port.cid = cid;
         port.status = status;
         let mut driver = Driver::new();
-        assert_eq!(rt;
+        expect_eq(
+            &rt,
             (driver.bring_up(&mut port), port.turns),
-            (Err(fault), turns)
+            (Err(fault), turns),
         );
-        assert_eq!(rt; driver.place(&mut port, &READ), Err(PlaceRefusal::NotReady));
+        expect_eq(
+            &rt,
+            driver.place(&mut port, &READ),
+            Err(PlaceRefusal::NotReady),
+        );
         let mut port = TestPort::honest(rt.alloc())?;
-        assert_eq!(rt; driver.bring_up(&mut port), Ok(()));
+        expect_eq(&rt, driver.bring_up(&mut port), Ok(()));
     }
     Ok(())
 }
@@ -99,11 +116,11 @@ fn a_late_controller_comes_up_over_a_full_window(rt: HostRuntime) -> Result<(), 
     port.window.store(0, &[0xff; 0x4000])?;
     port.delay = 3;
     let mut driver = Driver::new();
-    assert_eq!(rt; driver.bring_up(&mut port), Ok(()));
-    assert_eq!(rt; port.turns, 8);
-    assert_eq!(rt; port.doorbells, [2, 2, 0, 0]);
+    expect_eq(&rt, driver.bring_up(&mut port), Ok(()));
+    expect_eq(&rt, port.turns, 8);
+    expect_eq(&rt, port.doorbells, [2, 2, 0, 0]);
     let mut buffer = [0; 131_072];
-    assert_eq!(rt; driver.poll_into(&mut port, &mut buffer), Ok(None));
+    expect_eq(&rt, driver.poll_into(&mut port, &mut buffer), Ok(None));
     Ok(())
 }
 
@@ -136,12 +153,13 @@ fn bad_requests_are_refused(rt: HostRuntime) -> Result<(), Fail> {
         register(8),
     ];
     for request in bad {
-        assert_eq!(rt;
+        expect_eq(
+            &rt,
             driver.place(&mut port, &request),
-            Err(PlaceRefusal::BadRequest)
+            Err(PlaceRefusal::BadRequest),
         );
     }
-    assert_eq!(rt; driver.place(&mut port, &register(7)), Ok(Ticket(1)));
+    expect_eq(&rt, driver.place(&mut port, &register(7)), Ok(Ticket(1)));
     Ok(())
 }
 
@@ -149,12 +167,13 @@ fn bad_requests_are_refused(rt: HostRuntime) -> Result<(), Fail> {
 fn the_last_ticket_is_given_once(rt: HostRuntime) -> Result<(), Fail> {
     let mut port = TestPort::honest(rt.alloc())?;
     let mut driver = Driver::starting_at(18_446_744_073_709_551_615);
-    assert_eq!(rt; driver.bring_up(&mut port), Ok(()));
+    expect_eq(&rt, driver.bring_up(&mut port), Ok(()));
     let last = Ticket(18_446_744_073_709_551_615);
-    assert_eq!(rt; driver.place(&mut port, &READ), Ok(last));
-    assert_eq!(rt;
+    expect_eq(&rt, driver.place(&mut port, &READ), Ok(last));
+    expect_eq(
+        &rt,
         driver.place(&mut port, &READ),
-        Err(PlaceRefusal::TicketsExhausted)
+        Err(PlaceRefusal::TicketsExhausted),
     );
     Ok(())
 }
@@ -164,12 +183,17 @@ fn completions_are_matched_by_identifier(rt: HostRuntime) -> Result<(), Fail> {
     let (mut driver, mut port) = up(rt.alloc())?;
     let mut buffer = [0; 131_072];
     for ticket in 1..8 {
-        assert_eq!(rt; driver.place(&mut port, &READ), Ok(Ticket(ticket)));
+        expect_eq(&rt, driver.place(&mut port, &READ), Ok(Ticket(ticket)));
     }
-    assert_eq!(rt; driver.place(&mut port, &READ), Err(PlaceRefusal::RingFull));
-    assert_eq!(rt;
+    expect_eq(
+        &rt,
+        driver.place(&mut port, &READ),
+        Err(PlaceRefusal::RingFull),
+    );
+    expect_eq(
+        &rt,
         (driver.ring(&mut port), port.doorbells),
-        (Ok(()), [2, 2, 7, 0])
+        (Ok(()), [2, 2, 7, 0]),
     );
     port.window.store(0x12_0000, &[7; 512])?;
     for (address, cid) in [(0x3000, 1), (0x3010, 0)] {
@@ -182,13 +206,14 @@ fn completions_are_matched_by_identifier(rt: HostRuntime) -> Result<(), Fail> {
             dw0: 0,
             len: 512,
         };
-        assert_eq!(rt;
+        expect_eq(
+            &rt,
             (driver.poll_into(&mut port, &mut buffer), port.doorbells),
-            (Ok(Some(answer)), [2, 2, 7, head])
+            (Ok(Some(answer)), [2, 2, 7, head]),
         );
-        assert_eq!(rt; buffer[511], if ticket == 2 { 7 } else { 0 });
+        expect_eq(&rt, buffer[511], if ticket == 2 { 7 } else { 0 });
     }
-    assert_eq!(rt; driver.poll_into(&mut port, &mut buffer), Ok(None));
-    assert_eq!(rt; driver.place(&mut port, &READ), Ok(Ticket(8)));
+    expect_eq(&rt, driver.poll_into(&mut port, &mut buffer), Ok(None));
+    expect_eq(&rt, driver.place(&mut port, &READ), Ok(Ticket(8)));
     Ok(())
 }

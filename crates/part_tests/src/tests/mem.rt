@@ -1,5 +1,6 @@
 //! Windows of host memory: where they end, and what is stored in them.
 
+use crate::tests::asserting::{expect_eq, expect_that};
 use nvme_mem::{OutsideWindow, Window};
 use nvme_spec::Piece;
 use std::test::Fail;
@@ -18,15 +19,18 @@ fn pieces_end_where_the_window_ends(rt: HostRuntime) -> Result<(), Fail> {
     let empty = window
         .piece(4_194_304, 0)
         .ok_or("an empty part is refused")?;
-    assert!(rt; empty.is_empty());
-    assert!(rt; window.piece(4_194_304, 1).is_none());
-    assert!(rt; window.piece(18_446_744_073_709_551_615, 2).is_none());
-    assert!(rt; window.piece_mut(18_446_744_073_709_551_615, 2).is_none());
-    assert_eq!(rt; window.store(4_194_303, &[1, 2]), Err(OutsideWindow));
+    expect_that(&rt, empty.is_empty());
+    expect_that(&rt, window.piece(4_194_304, 1).is_none());
+    expect_that(&rt, window.piece(18_446_744_073_709_551_615, 2).is_none());
+    expect_that(
+        &rt,
+        window.piece_mut(18_446_744_073_709_551_615, 2).is_none(),
+    );
+    expect_eq(&rt, window.store(4_194_303, &[1, 2]), Err(OutsideWindow));
     let last = window
         .piece(4_194_303, 1)
         .ok_or("the last byte is refused")?;
-    assert_eq!(rt; last, [0].as_slice());
+    expect_eq(&rt, last, [0].as_slice());
     Ok(())
 }
 
@@ -34,19 +38,19 @@ fn pieces_end_where_the_window_ends(rt: HostRuntime) -> Result<(), Fail> {
 fn what_is_stored_is_read(rt: HostRuntime) -> Result<(), Fail> {
     let mut window = Window::new(rt.alloc())?;
     window.store(0x3000, &[0x00, 0x60, 0, 0, 0, 0, 0, 0x01])?;
-    assert_eq!(rt; window.u64_at(0x3000), 0x0100_0000_0000_6000);
+    expect_eq(&rt, window.u64_at(0x3000), 0x0100_0000_0000_6000);
     let piece = window.piece_mut(0x3001, 2).ok_or("a part is refused")?;
     piece.copy_from_slice(&[7, 8]);
     let piece = Piece {
         address: 0x3000,
         len: 4,
     };
-    assert_eq!(rt; window.bytes(piece), [0x00, 7, 8, 0].as_slice());
+    expect_eq(&rt, window.bytes(piece), [0x00, 7, 8, 0].as_slice());
     let front = Piece {
         address: 0x3000,
         len: 1,
     };
     window.bytes_mut(front).fill(9);
-    assert_eq!(rt; window.bytes(piece), [9, 7, 8, 0].as_slice());
+    expect_eq(&rt, window.bytes(piece), [9, 7, 8, 0].as_slice());
     Ok(())
 }

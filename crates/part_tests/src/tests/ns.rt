@@ -1,5 +1,6 @@
 //! The access state of a subsystem: how it opens, and what attaching, protecting and registering leave.
 
+use crate::tests::asserting::{expect_eq, expect_that};
 use crate::tests::configuration::{cluster, opened};
 use nvme_ns::{ConfigFault, ControllerConfig, NsConfig, Spaces};
 use nvme_resv::Role;
@@ -10,22 +11,29 @@ use std::test::Fail;
 #[test]
 fn a_cluster_opens(rt: HostRuntime) -> Result<(), Fail> {
     let config = cluster(rt.alloc())?;
-    assert_eq!(rt;
+    expect_eq(
+        &rt,
         Spaces::new(&config, 71).err(),
-        Some(ConfigFault::DoesNotFit)
+        Some(ConfigFault::DoesNotFit),
     );
     let spaces = Spaces::new(&config, 72)?;
-    assert_eq!(rt; [spaces.host_of(3), spaces.host_of(5)], [Some(0xa1), None]);
-    for (cntlid, nsid, is_attached) in [(4, 1, true), (4, 2, false), (5, 1, false)] {
-        assert_eq!(rt; spaces.is_attached(cntlid, nsid), is_attached);
-    }
-    assert_eq!(rt;
-        (spaces.first_block(2), spaces.blocks(2)),
-        (Some(64), Some(8))
+    expect_eq(
+        &rt,
+        [spaces.host_of(3), spaces.host_of(5)],
+        [Some(0xa1), None],
     );
-    assert_eq!(rt;
+    for (cntlid, nsid, is_attached) in [(4, 1, true), (4, 2, false), (5, 1, false)] {
+        expect_eq(&rt, spaces.is_attached(cntlid, nsid), is_attached);
+    }
+    expect_eq(
+        &rt,
+        (spaces.first_block(2), spaces.blocks(2)),
+        (Some(64), Some(8)),
+    );
+    expect_eq(
+        &rt,
         (spaces.blocks(3), spaces.protection(1)),
-        (None, Some(Protection::Open))
+        (None, Some(Protection::Open)),
     );
     Ok(())
 }
@@ -38,14 +46,22 @@ fn faults_are_named(rt: HostRuntime) -> Result<(), Fail> {
         blocks: 0,
         shared: true,
     })?;
-    assert_eq!(rt; Spaces::new(&config, 72).err(), Some(ConfigFault::BadSize));
+    expect_eq(
+        &rt,
+        Spaces::new(&config, 72).err(),
+        Some(ConfigFault::BadSize),
+    );
     let mut config = cluster(rt.alloc())?;
     config.controllers.push(ControllerConfig {
         cntlid: 6,
         host: 1,
         raw: false,
     })?;
-    assert_eq!(rt; Spaces::new(&config, 72).err(), Some(ConfigFault::BadId));
+    expect_eq(
+        &rt,
+        Spaces::new(&config, 72).err(),
+        Some(ConfigFault::BadId),
+    );
     let mut config = cluster(rt.alloc())?;
     for nsid in 3..10 {
         config.namespaces.push(NsConfig {
@@ -54,10 +70,15 @@ fn faults_are_named(rt: HostRuntime) -> Result<(), Fail> {
             shared: true,
         })?;
     }
-    assert_eq!(rt; Spaces::new(&config, 100).err(), Some(ConfigFault::TooMany));
-    assert_eq!(rt;
+    expect_eq(
+        &rt,
+        Spaces::new(&config, 100).err(),
+        Some(ConfigFault::TooMany),
+    );
+    expect_eq(
+        &rt,
         format!(in rt.alloc(); "{}", ConfigFault::DoesNotFit)?.as_str(),
-        "DoesNotFit"
+        "DoesNotFit",
     );
     Ok(())
 }
@@ -68,26 +89,26 @@ fn a_lent_reservation_keeps_what_is_registered(rt: HostRuntime) -> Result<(), Fa
     let before = spaces
         .reservation(2)
         .expect(&rt, "namespace 2 is configured");
-    assert!(rt; before.has_room_for(0xa1));
-    assert!(rt; spaces.reservation_mut(2).register(0xa1, 0x11).is_ok());
+    expect_that(&rt, before.has_room_for(0xa1));
+    expect_that(&rt, spaces.reservation_mut(2).register(0xa1, 0x11).is_ok());
     let after = spaces
         .reservation(2)
         .expect(&rt, "namespace 2 is configured");
-    assert_eq!(rt; after.role(0xa1), Role::Registrant);
+    expect_eq(&rt, after.role(0xa1), Role::Registrant);
     let other = spaces
         .reservation(1)
         .expect(&rt, "namespace 1 is configured");
-    assert_eq!(rt; other.role(0xa1), Role::Outsider);
+    expect_eq(&rt, other.role(0xa1), Role::Outsider);
     Ok(())
 }
 
 #[test]
 fn a_namespace_is_protected_alone(rt: HostRuntime) -> Result<(), Fail> {
     let mut spaces = opened(rt.alloc())?;
-    assert!(rt; spaces.protection(2).is_some());
+    expect_that(&rt, spaces.protection(2).is_some());
     spaces.set_protection(2, Protection::Protected);
-    assert_eq!(rt; spaces.protection(2), Some(Protection::Protected));
-    assert_eq!(rt; spaces.protection(1), Some(Protection::Open));
+    expect_eq(&rt, spaces.protection(2), Some(Protection::Protected));
+    expect_eq(&rt, spaces.protection(1), Some(Protection::Open));
     Ok(())
 }
 
@@ -98,14 +119,17 @@ fn a_power_cycle_takes_what_does_not_persist(rt: HostRuntime) -> Result<(), Fail
         let before = spaces
             .reservation(nsid)
             .expect(&rt, "the namespace is configured");
-        assert!(rt; before.has_room_for(0xa1));
-        assert!(rt; spaces.reservation_mut(nsid).register(0xa1, 0x11).is_ok());
+        expect_that(&rt, before.has_room_for(0xa1));
+        expect_that(
+            &rt,
+            spaces.reservation_mut(nsid).register(0xa1, 0x11).is_ok(),
+        );
     }
-    assert!(rt; spaces.reservation(2).is_some());
+    expect_that(&rt, spaces.reservation(2).is_some());
     spaces.reservation_mut(2).set_ptpl(true);
-    assert!(rt; spaces.protection(1).is_some());
+    expect_that(&rt, spaces.protection(1).is_some());
     spaces.set_protection(1, Protection::UntilCycle);
-    assert!(rt; spaces.protection(2).is_some());
+    expect_that(&rt, spaces.protection(2).is_some());
     spaces.set_protection(2, Protection::Protected);
 
     spaces.power_cycle();
@@ -116,8 +140,8 @@ fn a_power_cycle_takes_what_does_not_persist(rt: HostRuntime) -> Result<(), Fail
         let after = spaces
             .reservation(nsid)
             .expect(&rt, "the namespace is configured");
-        assert_eq!(rt; after.role(0xa1), role);
-        assert_eq!(rt; spaces.protection(nsid), Some(protection));
+        expect_eq(&rt, after.role(0xa1), role);
+        expect_eq(&rt, spaces.protection(nsid), Some(protection));
     }
     Ok(())
 }
@@ -125,29 +149,33 @@ fn a_power_cycle_takes_what_does_not_persist(rt: HostRuntime) -> Result<(), Fail
 #[test]
 fn a_list_is_taken_whole_or_refused(rt: HostRuntime) -> Result<(), Fail> {
     let mut spaces = opened(rt.alloc())?;
-    assert_eq!(rt;
+    expect_eq(
+        &rt,
         [spaces.shared(1), spaces.shared(2), spaces.shared(3)],
-        [Some(true), Some(false), None]
+        [Some(true), Some(false), None],
     );
-    assert_eq!(rt; spaces.detach(1, &[2, 4]), Ok(()));
-    assert_eq!(rt;
+    expect_eq(&rt, spaces.detach(1, &[2, 4]), Ok(()));
+    expect_eq(
+        &rt,
         [spaces.is_attached(2, 1), spaces.is_attached(3, 1)],
-        [false, true]
+        [false, true],
     );
-    assert_eq!(rt;
+    expect_eq(
+        &rt,
         spaces.detach(1, &[1, 2]),
-        Err(Status::NAMESPACE_NOT_ATTACHED)
+        Err(Status::NAMESPACE_NOT_ATTACHED),
     );
-    assert!(rt; spaces.is_attached(1, 1));
-    assert!(rt; spaces.namespace(1).is_some());
-    assert_eq!(rt;
+    expect_that(&rt, spaces.is_attached(1, 1));
+    expect_that(&rt, spaces.namespace(1).is_some());
+    expect_eq(
+        &rt,
         spaces.attach(1, &[2, 3]),
-        Err(Status::NAMESPACE_ALREADY_ATTACHED)
+        Err(Status::NAMESPACE_ALREADY_ATTACHED),
     );
-    assert!(rt; !spaces.is_attached(2, 1));
-    assert!(rt; spaces.namespace(1).is_some());
-    assert_eq!(rt; spaces.attach(1, &[2, 4]), Ok(()));
-    assert!(rt; spaces.is_attached(4, 1));
+    expect_that(&rt, !spaces.is_attached(2, 1));
+    expect_that(&rt, spaces.namespace(1).is_some());
+    expect_eq(&rt, spaces.attach(1, &[2, 4]), Ok(()));
+    expect_that(&rt, spaces.is_attached(4, 1));
     Ok(())
 }
 
@@ -155,14 +183,16 @@ fn a_list_is_taken_whole_or_refused(rt: HostRuntime) -> Result<(), Fail> {
 fn lists_of_controllers_rise(rt: HostRuntime) -> Result<(), Fail> {
     let mut spaces = opened(rt.alloc())?;
     for list in [&[2, 1][..], &[2, 2][..], &[0][..], &[5][..], &[][..]] {
-        assert_eq!(rt;
+        expect_eq(
+            &rt,
             spaces.detach(1, list),
-            Err(Status::CONTROLLER_LIST_INVALID)
+            Err(Status::CONTROLLER_LIST_INVALID),
         );
     }
-    assert_eq!(rt;
+    expect_eq(
+        &rt,
         spaces.detach(1, &[1; 2048]),
-        Err(Status::CONTROLLER_LIST_INVALID)
+        Err(Status::CONTROLLER_LIST_INVALID),
     );
     Ok(())
 }
@@ -170,17 +200,22 @@ fn lists_of_controllers_rise(rt: HostRuntime) -> Result<(), Fail> {
 #[test]
 fn a_private_namespace_has_one_controller(rt: HostRuntime) -> Result<(), Fail> {
     let mut spaces = opened(rt.alloc())?;
-    assert!(rt; spaces.namespace(2).is_some());
-    assert_eq!(rt; spaces.attach(2, &[2]), Err(Status::NAMESPACE_IS_PRIVATE));
-    assert_eq!(rt; spaces.detach(2, &[1]), Ok(()));
-    assert!(rt; spaces.namespace(2).is_some());
-    assert_eq!(rt;
-        spaces.attach(2, &[2, 3]),
-        Err(Status::NAMESPACE_IS_PRIVATE)
+    expect_that(&rt, spaces.namespace(2).is_some());
+    expect_eq(
+        &rt,
+        spaces.attach(2, &[2]),
+        Err(Status::NAMESPACE_IS_PRIVATE),
     );
-    assert!(rt; !spaces.is_attached(2, 2));
-    assert!(rt; spaces.namespace(2).is_some());
-    assert_eq!(rt; spaces.attach(2, &[3]), Ok(()));
-    assert!(rt; spaces.is_attached(3, 2));
+    expect_eq(&rt, spaces.detach(2, &[1]), Ok(()));
+    expect_that(&rt, spaces.namespace(2).is_some());
+    expect_eq(
+        &rt,
+        spaces.attach(2, &[2, 3]),
+        Err(Status::NAMESPACE_IS_PRIVATE),
+    );
+    expect_that(&rt, !spaces.is_attached(2, 2));
+    expect_that(&rt, spaces.namespace(2).is_some());
+    expect_eq(&rt, spaces.attach(2, &[3]), Ok(()));
+    expect_that(&rt, spaces.is_attached(3, 2));
     Ok(())
 }

@@ -1,5 +1,6 @@
 //! The rules on access: which of them denies a command, and what an allowed one is to do.
 
+use crate::tests::asserting::{expect_eq, expect_that};
 use crate::tests::configuration::opened;
 use nvme_policy::{Command, Plan, Verdict, judge};
 use nvme_spec::Protection;
@@ -51,15 +52,17 @@ fn the_first_rule_that_fails_decides(rt: HostRuntime) -> Result<(), Fail> {
         (entry(0x11, 1, 0x0000, 0, 0), field),
     ];
     for (sqe, verdict) in verdicts {
-        assert_eq!(rt; judge(&spaces, 1, &sqe, false), verdict);
+        expect_eq(&rt, judge(&spaces, 1, &sqe, false), verdict);
     }
-    assert_eq!(rt;
+    expect_eq(
+        &rt,
         judge(&spaces, 1, &entry(2, 1, 0, 0, 0), true),
-        Verdict::Denied(1, Status::COMMAND_ABORTED_DUE_TO_PREEMPT_AND_ABORT)
+        Verdict::Denied(1, Status::COMMAND_ABORTED_DUE_TO_PREEMPT_AND_ABORT),
     );
-    assert_eq!(rt;
+    expect_eq(
+        &rt,
         judge(&spaces, 2, &entry(2, 2, 0, 0, 0), false),
-        Verdict::Denied(5, Status::INVALID_FIELD_IN_COMMAND)
+        Verdict::Denied(5, Status::INVALID_FIELD_IN_COMMAND),
     );
     Ok(())
 }
@@ -75,25 +78,30 @@ fn a_plan_says_what_is_to_be_done(rt: HostRuntime) -> Result<(), Fail> {
             bytes,
         })
     };
-    assert_eq!(rt;
+    expect_eq(
+        &rt,
         judge(&spaces, 1, &entry(2, 2, 7, 0, 0), false),
-        plan(Command::Read, 7, 1, 512)
+        plan(Command::Read, 7, 1, 512),
     );
-    assert_eq!(rt;
+    expect_eq(
+        &rt,
         judge(&spaces, 1, &entry(8, 2, 0, 0, 7), false),
-        plan(Command::WriteZeroes, 0, 8, 0)
+        plan(Command::WriteZeroes, 0, 8, 0),
     );
-    assert_eq!(rt;
+    expect_eq(
+        &rt,
         judge(&spaces, 1, &entry(0x0e, 1, 31, 1, 0), false),
-        plan(Command::ReservationReport, 0, 0, 128)
+        plan(Command::ReservationReport, 0, 0, 128),
     );
-    assert_eq!(rt;
+    expect_eq(
+        &rt,
         judge(&spaces, 1, &entry(0x15, 1, 0x0100, 0, 0), false),
-        plan(Command::ReservationRelease, 0, 0, 8)
+        plan(Command::ReservationRelease, 0, 0, 8),
     );
-    assert_eq!(rt;
+    expect_eq(
+        &rt,
         judge(&spaces, 1, &entry(0, 1, 0, 0, 0), false),
-        plan(Command::Flush, 0, 0, 0)
+        plan(Command::Flush, 0, 0, 0),
     );
     Ok(())
 }
@@ -104,27 +112,29 @@ fn a_reservation_fences_by_host(rt: HostRuntime) -> Result<(), Fail> {
     let write_past_the_end = entry(1, 1, 64, 0, 0);
     let read = entry(2, 1, 0, 0, 0);
     for (rtype, reads) in [(1, true), (4, false)] {
-        assert!(rt; spaces.blocks(1).is_some());
+        expect_that(&rt, spaces.blocks(1).is_some());
         let reservation = spaces.reservation_mut(1);
-        assert!(rt; reservation.has_room_for(0xa1));
-        assert!(rt; reservation.register(0xa1, 0x11).is_ok());
-        assert!(rt; reservation.acquire(0xa1, rtype, 0x11).is_ok());
+        expect_that(&rt, reservation.has_room_for(0xa1));
+        expect_that(&rt, reservation.register(0xa1, 0x11).is_ok());
+        expect_that(&rt, reservation.acquire(0xa1, rtype, 0x11).is_ok());
         for (cntlid, write, is_read) in [(2, CONFLICT, reads), (3, LBA_OUT_OF_RANGE, true)] {
             let verdict = judge(&spaces, cntlid, &read, false);
-            assert_eq!(rt;
+            expect_eq(
+                &rt,
                 (
                     judge(&spaces, cntlid, &write_past_the_end, false),
-                    matches!(verdict, Verdict::Allowed(_))
+                    matches!(verdict, Verdict::Allowed(_)),
                 ),
-                (write, is_read)
+                (write, is_read),
             );
         }
-        assert!(rt; spaces.blocks(1).is_some());
-        assert!(rt; spaces.reservation_mut(1).clear(0xa1, 0x11).is_ok());
+        expect_that(&rt, spaces.blocks(1).is_some());
+        expect_that(&rt, spaces.reservation_mut(1).clear(0xa1, 0x11).is_ok());
     }
-    assert_eq!(rt;
+    expect_eq(
+        &rt,
         judge(&spaces, 2, &write_past_the_end, false),
-        LBA_OUT_OF_RANGE
+        LBA_OUT_OF_RANGE,
     );
     Ok(())
 }
@@ -132,21 +142,27 @@ fn a_reservation_fences_by_host(rt: HostRuntime) -> Result<(), Fail> {
 #[test]
 fn write_protection_comes_behind_reservations(rt: HostRuntime) -> Result<(), Fail> {
     let mut spaces = opened(rt.alloc())?;
-    assert!(rt; spaces.protection(1).is_some());
+    expect_that(&rt, spaces.protection(1).is_some());
     spaces.set_protection(1, Protection::Protected);
     let protected = Verdict::Denied(8, Status::NAMESPACE_IS_WRITE_PROTECTED);
-    assert_eq!(rt; judge(&spaces, 2, &entry(8, 1, 64, 0, 0), false), protected);
-    assert!(rt;
+    expect_eq(
+        &rt,
+        judge(&spaces, 2, &entry(8, 1, 64, 0, 0), false),
+        protected,
+    );
+    expect_that(
+        &rt,
         matches!(
             judge(&spaces, 2, &entry(2, 1, 0, 0, 0), false),
             Verdict::Allowed(_)
-        )
+        ),
     );
-    assert!(rt;
+    expect_that(
+        &rt,
         matches!(
             judge(&spaces, 2, &entry(0, 1, 0, 0, 0), false),
             Verdict::Allowed(_)
-        )
+        ),
     );
     Ok(())
 }

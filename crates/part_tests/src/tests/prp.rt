@@ -1,5 +1,6 @@
 //! Data pointers: which pieces they name, and how data move through these.
 
+use crate::tests::asserting::{expect_eq, expect_that};
 use nvme_mem::Window;
 use nvme_prp::{
     BlockPlace, DataFault, Piece, gather, gather_block, lend_block, scatter, scatter_block, walk,
@@ -23,18 +24,26 @@ fn the_last_slot_links_to_the_next_page(rt: HostRuntime) -> Result<(), Fail> {
     put(&mut window, 0x3000, 0x6000)?;
     put(&mut window, 0x3008, 0x7000)?;
     let pieces = walk(&window, 0x5000, 0x2ff8, 12288)?;
-    assert_eq!(rt;
+    expect_eq(
+        &rt,
         pieces.parts.as_slice(),
-        [whole(0x5000), whole(0x6000), whole(0x7000)].as_slice()
+        [whole(0x5000), whole(0x6000), whole(0x7000)].as_slice(),
     );
     put(&mut window, 0x2ff8, 0x3008)?;
-    assert!(rt; matches!(walk(&window, 0x5000, 0x2ff8, 12288), Err(DataFault::Offset)));
-    assert!(rt; matches!(walk(&window, 0x5002, 0x2ff8, 12288), Err(DataFault::Offset)));
-    assert!(rt;
+    expect_that(
+        &rt,
+        matches!(walk(&window, 0x5000, 0x2ff8, 12288), Err(DataFault::Offset)),
+    );
+    expect_that(
+        &rt,
+        matches!(walk(&window, 0x5002, 0x2ff8, 12288), Err(DataFault::Offset)),
+    );
+    expect_that(
+        &rt,
         matches!(
             walk(&window, 0x40_0000, 0x2ff8, 12288),
             Err(DataFault::Outside)
-        )
+        ),
     );
     Ok(())
 }
@@ -85,12 +94,12 @@ fn a_block_in_two_pages(rt: HostRuntime) -> Result<(), Fail> {
         address: 0x9000,
         len: 508,
     };
-    assert_eq!(rt; pieces.parts.as_slice(), [front, back].as_slice());
+    expect_eq(&rt, pieces.parts.as_slice(), [front, back].as_slice());
     window.store(0x5ffc, &[1, 2, 3, 4])?;
     window.store(0x9000, &[5, 6])?;
     let mut block = [0; 512];
     gather_block(&window, &pieces, 0, &mut block);
-    assert!(rt; block.starts_with(&[1, 2, 3, 4, 5, 6, 0]));
+    expect_that(&rt, block.starts_with(&[1, 2, 3, 4, 5, 6, 0]));
     Ok(())
 }
 
@@ -112,14 +121,15 @@ fn thirty_three_pages(rt: HostRuntime) -> Result<(), Fail> {
         address: 0x2_f000,
         len: 3588,
     };
-    assert_eq!(rt;
+    expect_eq(
+        &rt,
         [parts[0], parts[31], parts[32]],
-        [first, whole(0x2_e000), last]
+        [first, whole(0x2_e000), last],
     );
     window.store(0x2_f000 + 3076, &[9; 512])?;
     let mut block = [0; 512];
     gather_block(&window, &pieces, 255, &mut block);
-    assert!(rt; block == [9; 512]);
+    expect_that(&rt, block == [9; 512]);
     Ok(())
 }
 
@@ -131,15 +141,16 @@ fn a_record_in_two_pages(rt: HostRuntime) -> Result<(), Fail> {
     let record = [1, 2, 3, 4, 5, 6, 7, 8, 9, 10, 11, 12, 13, 14, 15, 16];
     scatter(&mut window, &pieces, &record);
     let front = window.piece(0x5ffc, 5).ok_or("outside")?;
-    assert_eq!(rt; front, [1, 2, 3, 4, 0].as_slice());
+    expect_eq(&rt, front, [1, 2, 3, 4, 0].as_slice());
     let back = window.piece(0x9000, 13).ok_or("outside")?;
-    assert_eq!(rt;
+    expect_eq(
+        &rt,
         back,
-        [5, 6, 7, 8, 9, 10, 11, 12, 13, 14, 15, 16, 0].as_slice()
+        [5, 6, 7, 8, 9, 10, 11, 12, 13, 14, 15, 16, 0].as_slice(),
     );
     let mut bytes = [0; 16];
     gather(&window, &pieces, &mut bytes);
-    assert_eq!(rt; bytes, record);
+    expect_eq(&rt, bytes, record);
     Ok(())
 }
 
@@ -148,13 +159,13 @@ fn a_record_in_two_pages(rt: HostRuntime) -> Result<(), Fail> {
 fn places_of_blocks(rt: HostRuntime) -> Result<(), Fail> {
     let mut window = Window::new(rt.alloc())?;
     let two = walk(&window, 0x5e04, 0x6000, 512)?;
-    assert_eq!(rt; two.block(0), BlockPlace::Two(0x5e04, 508, 0x6000));
+    expect_eq(&rt, two.block(0), BlockPlace::Two(0x5e04, 508, 0x6000));
     let one = walk(&window, 0x5000, 0, 1024)?;
-    assert_eq!(rt; one.block(1), BlockPlace::One(0x5200));
+    expect_eq(&rt, one.block(1), BlockPlace::One(0x5200));
     window.store(0x5fff, &[1, 2])?;
     let mut buffer = [0; 512];
     let block = lend_block(&window, &two, 0, &mut buffer);
-    assert_eq!(rt; block[507], 1);
-    assert_eq!(rt; block[508], 2);
+    expect_eq(&rt, block[507], 1);
+    expect_eq(&rt, block[508], 2);
     Ok(())
 }

@@ -1,5 +1,6 @@
 //! The registers of a controller: what reads give, and what writes leave and ask.
 
+use crate::tests::asserting::expect_eq;
 use nvme_regs::ControllerState::{Failed, Off, Ready, ShutDown};
 use nvme_regs::{AdminQueues, RegEffect, Registers};
 
@@ -21,16 +22,16 @@ fn prepared(aqa: u32, asq: u64, acq: u64) -> Registers {
 #[test]
 fn from_enabled_to_shut_down_off_and_failed(rt: HostRuntime) {
     let mut registers = prepared(0x001f_0007, 0, 0x1000);
-    assert_eq!(rt; registers.admin_queues(), None);
-    assert_eq!(rt; registers.write32(CC, 0x0046_0001), RegEffect::Enable);
-    assert_eq!(rt; registers.read32(CSTS), 0x0000_0001);
+    expect_eq(&rt, registers.admin_queues(), None);
+    expect_eq(&rt, registers.write32(CC, 0x0046_0001), RegEffect::Enable);
+    expect_eq(&rt, registers.read32(CSTS), 0x0000_0001);
     let queues = AdminQueues {
         sq_base: 0,
         sq_size: 8,
         cq_base: 0x1000,
         cq_size: 32,
     };
-    assert_eq!(rt; registers.admin_queues(), Some(queues));
+    expect_eq(&rt, registers.admin_queues(), Some(queues));
     let steps = [
         (0x0046_4001, RegEffect::Shutdown, ShutDown, 9),
         (0x0046_8001, RegEffect::Shutdown, ShutDown, 9),
@@ -41,8 +42,12 @@ fn from_enabled_to_shut_down_off_and_failed(rt: HostRuntime) {
         (0x0046_0001, RegEffect::Enable, Ready, 1),
     ];
     for (cc, effect, state, csts) in steps {
-        assert_eq!(rt; registers.write32(CC, cc), effect);
-        assert_eq!(rt; (registers.state(), registers.read32(CSTS)), (state, csts));
+        expect_eq(&rt, registers.write32(CC, cc), effect);
+        expect_eq(
+            &rt,
+            (registers.state(), registers.read32(CSTS)),
+            (state, csts),
+        );
     }
 }
 
@@ -102,10 +107,10 @@ fn enablings_are_taken_whole_or_fail(rt: HostRuntime) {
         let mut registers = prepared(aqa, asq, acq);
         let effect = registers.write32(CC, cc);
         let is_ready = csts != 2;
-        assert_eq!(rt; registers.read32(CSTS), csts);
-        assert_eq!(rt; effect == RegEffect::Enable, is_ready);
-        assert_eq!(rt; registers.admin_queues().is_some(), is_ready);
-        assert_eq!(rt; registers.read32(CC), cc);
+        expect_eq(&rt, registers.read32(CSTS), csts);
+        expect_eq(&rt, effect == RegEffect::Enable, is_ready);
+        expect_eq(&rt, registers.admin_queues().is_some(), is_ready);
+        expect_eq(&rt, registers.read32(CC), cc);
     }
 }
 
@@ -117,7 +122,11 @@ fn an_enabled_controller_takes_a_notification_alone(rt: HostRuntime) {
     }
     let _ = registers.write32(CC, 0x0046_0001);
     for offset in [0x24, 0x28, 0x2c, 0x30, 0x34, 0x08, CSTS, 0x38, 0x15] {
-        assert_eq!(rt; registers.write32(offset, 0xffff_ffff), RegEffect::Nothing);
+        expect_eq(
+            &rt,
+            registers.write32(offset, 0xffff_ffff),
+            RegEffect::Nothing,
+        );
     }
     let kept = [
         (0x24, 0x001f_0007),
@@ -128,10 +137,10 @@ fn an_enabled_controller_takes_a_notification_alone(rt: HostRuntime) {
         (CSTS, 1),
     ];
     for (offset, value) in kept {
-        assert_eq!(rt; registers.read32(offset), value);
+        expect_eq(&rt, registers.read32(offset), value);
     }
-    assert_eq!(rt; registers.write32(CC, 0xffff_ffff), RegEffect::Nothing);
-    assert_eq!(rt; registers.read32(CC), 0x0046_c001);
+    expect_eq(&rt, registers.write32(CC, 0xffff_ffff), RegEffect::Nothing);
+    expect_eq(&rt, registers.read32(CC), 0x0046_c001);
 }
 
 #[test]
@@ -164,7 +173,7 @@ fn reads_where_registers_are(rt: HostRuntime) {
 #[test]
 fn doorbells_ring_while_the_controller_is_ready(rt: HostRuntime) {
     let mut registers = prepared(0x001f_0007, 0, 0x1000);
-    assert_eq!(rt; registers.write32(0x1000, 5), RegEffect::Nothing);
+    expect_eq(&rt, registers.write32(0x1000, 5), RegEffect::Nothing);
     let _ = registers.write32(CC, 0x0046_0001);
     let rings = [
         (0x1000, 0x0001_0005, RegEffect::SqTail(0, 5)),
@@ -177,9 +186,9 @@ fn doorbells_ring_while_the_controller_is_ready(rt: HostRuntime) {
         (0xffff_ffff_ffff_fff8, 7, RegEffect::Nothing),
     ];
     for (offset, v, effect) in rings {
-        assert_eq!(rt; registers.write32(offset, v), effect);
-        assert_eq!(rt; registers.read32(offset), 0);
+        expect_eq(&rt, registers.write32(offset, v), effect);
+        expect_eq(&rt, registers.read32(offset), 0);
     }
     let _ = registers.write32(CC, 0x0046_4001);
-    assert_eq!(rt; registers.write32(0x1000, 5), RegEffect::SqTail(0, 5));
+    expect_eq(&rt, registers.write32(0x1000, 5), RegEffect::SqTail(0, 5));
 }

@@ -1,5 +1,6 @@
 //! Queue entries as bytes and as fields, and the texts of statuses.
 
+use crate::tests::asserting::expect_eq;
 use nvme_wire::{Cqe, Sqe, SqeFields, Status, u16_at, u32_at, u64_at};
 use std::test::Fail;
 
@@ -14,13 +15,13 @@ const WRITE: [u8; 64] = [
 #[test]
 fn reads_the_fields_of_a_write(rt: HostRuntime) {
     let sqe = Sqe::from_bytes(&WRITE);
-    assert_eq!(rt; sqe.opcode(), 0x01);
-    assert_eq!(rt; sqe.fuse(), 0);
-    assert_eq!(rt; sqe.psdt(), 0);
-    assert_eq!(rt; sqe.cid(), 7);
-    assert_eq!(rt; sqe.nsid(), 1);
-    assert_eq!(rt; sqe.prp1(), 0x5000);
-    assert_eq!(rt; sqe.prp2(), 0);
+    expect_eq(&rt, sqe.opcode(), 0x01);
+    expect_eq(&rt, sqe.fuse(), 0);
+    expect_eq(&rt, sqe.psdt(), 0);
+    expect_eq(&rt, sqe.cid(), 7);
+    expect_eq(&rt, sqe.nsid(), 1);
+    expect_eq(&rt, sqe.prp1(), 0x5000);
+    expect_eq(&rt, sqe.prp2(), 0);
 }
 
 #[test]
@@ -30,11 +31,16 @@ fn reads_each_double_word(rt: HostRuntime) {
         bytes[i] = i as u8;
     }
     let sqe = Sqe::from_bytes(&bytes);
-    assert_eq!(rt; [sqe.opcode(), sqe.fuse(), sqe.psdt()], [0x00, 0b01, 0b00]);
-    assert_eq!(rt; sqe.cid(), 0x0302);
-    assert_eq!(rt;
+    expect_eq(
+        &rt,
+        [sqe.opcode(), sqe.fuse(), sqe.psdt()],
+        [0x00, 0b01, 0b00],
+    );
+    expect_eq(&rt, sqe.cid(), 0x0302);
+    expect_eq(
+        &rt,
         [sqe.prp1(), sqe.prp2()],
-        [0x1f1e_1d1c_1b1a_1918, 0x2726_2524_2322_2120]
+        [0x1f1e_1d1c_1b1a_1918, 0x2726_2524_2322_2120],
     );
     let double_words = [
         (sqe.nsid(), 0x0706_0504),
@@ -46,9 +52,9 @@ fn reads_each_double_word(rt: HostRuntime) {
         (sqe.cdw15(), 0x3f3e_3d3c),
     ];
     for (double_word, expected) in double_words {
-        assert_eq!(rt; double_word, expected);
+        expect_eq(&rt, double_word, expected);
     }
-    assert_eq!(rt; sqe.to_bytes().as_slice(), bytes.as_slice());
+    expect_eq(&rt, sqe.to_bytes().as_slice(), bytes.as_slice());
 }
 
 #[test]
@@ -102,12 +108,12 @@ fn makes_a_completion(rt: HostRuntime) {
 #[test]
 fn reads_the_fields_of_a_completion(rt: HostRuntime) {
     let cqe = Cqe::from_bytes(&DENIED);
-    assert_eq!(rt; cqe.dw0(), 0);
-    assert_eq!(rt; cqe.sq_head(), 1);
-    assert_eq!(rt; cqe.sq_id(), 1);
-    assert_eq!(rt; cqe.cid(), 7);
-    assert_eq!(rt; cqe.phase(), true);
-    assert_eq!(rt; cqe.status(), Status::RESERVATION_CONFLICT);
+    expect_eq(&rt, cqe.dw0(), 0);
+    expect_eq(&rt, cqe.sq_head(), 1);
+    expect_eq(&rt, cqe.sq_id(), 1);
+    expect_eq(&rt, cqe.cid(), 7);
+    expect_eq(&rt, cqe.phase(), true);
+    expect_eq(&rt, cqe.status(), Status::RESERVATION_CONFLICT);
 }
 
 // All bits of the last double word but the phase tag are 1, as are the reserved ones of double word 1.
@@ -118,21 +124,21 @@ fn keeps_the_bits_that_no_field_names(rt: HostRuntime) {
         0x18, 0x19, 0x1a, 0x1b, 0x1c, 0x1d, 0xfe, 0xff,
     ];
     let cqe = Cqe::from_bytes(&bytes);
-    assert_eq!(rt; cqe.dw0(), 0x1312_1110);
-    assert_eq!(rt; cqe.sq_head(), 0x1918);
-    assert_eq!(rt; cqe.sq_id(), 0x1b1a);
-    assert_eq!(rt; cqe.cid(), 0x1d1c);
-    assert_eq!(rt; cqe.phase(), false);
-    assert_eq!(rt; cqe.status(), Status { sct: 7, sc: 0xff });
-    assert_eq!(rt; cqe.to_bytes().as_slice(), bytes.as_slice());
+    expect_eq(&rt, cqe.dw0(), 0x1312_1110);
+    expect_eq(&rt, cqe.sq_head(), 0x1918);
+    expect_eq(&rt, cqe.sq_id(), 0x1b1a);
+    expect_eq(&rt, cqe.cid(), 0x1d1c);
+    expect_eq(&rt, cqe.phase(), false);
+    expect_eq(&rt, cqe.status(), Status { sct: 7, sc: 0xff });
+    expect_eq(&rt, cqe.to_bytes().as_slice(), bytes.as_slice());
 }
 
 #[test]
 fn reads_numbers_within_bytes(rt: HostRuntime) {
     let bytes = [0x01, 0x02, 0x03, 0x04, 0x05, 0x06, 0x07, 0x08, 0x09];
-    assert_eq!(rt; u16_at(&bytes, 1), 0x0302);
-    assert_eq!(rt; u32_at(&bytes, 1), 0x0504_0302);
-    assert_eq!(rt; u64_at(&bytes, 1), 0x0908_0706_0504_0302);
+    expect_eq(&rt, u16_at(&bytes, 1), 0x0302);
+    expect_eq(&rt, u32_at(&bytes, 1), 0x0504_0302);
+    expect_eq(&rt, u64_at(&bytes, 1), 0x0908_0706_0504_0302);
 }
 
 #[test]
@@ -154,8 +160,8 @@ fn names_and_prints_statuses(rt: HostRuntime) -> Result<(), Fail> {
         (Status { sct: 3, sc: 0x00 }, "3:00", "Unlisted"),
     ];
     for (status, text, name) in statuses {
-        assert_eq!(rt; status.name(), name);
-        assert_eq!(rt; format!(in rt.alloc(); "{status}")?.as_str(), text);
+        expect_eq(&rt, status.name(), name);
+        expect_eq(&rt, format!(in rt.alloc(); "{status}")?.as_str(), text);
     }
     Ok(())
 }

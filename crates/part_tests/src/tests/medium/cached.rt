@@ -1,6 +1,7 @@
 //! Caches: what they keep, and what they forget.
 
 use super::files::{Slow, read, write};
+use crate::tests::asserting::{expect_eq, expect_that};
 use nvme_medium::{Cached, Failing, FileMedium, HostFile, Medium, MemMedium};
 use std::alloc::Global;
 use std::fs;
@@ -23,9 +24,9 @@ fn failing_once(alloc: Global, calls: u64) -> Result<Failing<MemMedium>, Fail> {
 #[test]
 fn a_block_whose_write_failed_is_read_anew(rt: HostRuntime) -> Result<(), Fail> {
     let mut cached = cached_twice(rt.alloc(), failing_once(rt.alloc(), 1)?)?;
-    assert_eq!(rt; write(&mut cached, 0, 0x5a), Ok(()));
-    assert_eq!(rt; write(&mut cached, 0, 0x33), Err("fault"));
-    assert_eq!(rt; read(&mut cached, 0), Ok(0x5a));
+    expect_eq(&rt, write(&mut cached, 0, 0x5a), Ok(()));
+    expect_eq(&rt, write(&mut cached, 0, 0x33), Err("fault"));
+    expect_eq(&rt, read(&mut cached, 0), Ok(0x5a));
     Ok(())
 }
 
@@ -41,7 +42,7 @@ fn kept_blocks_are_read_without_a_call(rt: HostRuntime) -> Result<(), Fail> {
                 "block {i} behind {calls} calls"
             );
         }
-        assert_eq!(rt; read(&mut cached, forgotten), Err("fault"));
+        expect_eq(&rt, read(&mut cached, forgotten), Err("fault"));
     }
     Ok(())
 }
@@ -67,8 +68,8 @@ fn writes_reach_the_medium(rt: HostRuntime) -> Result<(), Fail> {
     let _ = write_three(rt.alloc(), opened)?;
     let mut file: FileMedium<HostFile> = FileMedium::open(&rt, path).ok().ok_or("no file")?;
     for (i, byte) in [(0, 1), (1, 2), (2, 3), (3, 0)] {
-        assert_eq!(rt; read(&mut medium, i), Ok(byte));
-        assert_eq!(rt; read(&mut file, i), Ok(byte));
+        expect_eq(&rt, read(&mut medium, i), Ok(byte));
+        expect_eq(&rt, read(&mut file, i), Ok(byte));
     }
     fs::remove_file(&rt, path)?;
     Ok(())
@@ -77,9 +78,9 @@ fn writes_reach_the_medium(rt: HostRuntime) -> Result<(), Fail> {
 #[test]
 fn a_flush_reaches_the_medium(rt: HostRuntime) -> Result<(), Fail> {
     let mut cached = cached_twice(rt.alloc(), FileMedium::over(Slow::new()))?;
-    assert!(rt; cached.flush().is_err());
+    expect_that(&rt, cached.flush().is_err());
     let file = cached.into_inner().into_file();
-    assert_eq!(rt; file.syncs, 1);
+    expect_eq(&rt, file.syncs, 1);
     Ok(())
 }
 

@@ -2,6 +2,7 @@
 
 ghost use Rattle.std.specs.Prelude.{◌≡◌, length};
 
+use crate::tests::asserting::{expect_eq, expect_that};
 use nvme_medium::{FileFault, FileMedium, HostFile, Medium, MediumFault, RawFile};
 use std::fs;
 use std::test::Fail;
@@ -92,26 +93,27 @@ pub(crate) fn write<M: Medium>(medium: &mut M, i: u64, byte: u8) -> Result<(), &
 #[test]
 fn moves_a_block_in_parts(rt: HostRuntime) -> Result<(), Fail> {
     let mut medium = FileMedium::over(Slow::new());
-    assert_eq!(rt; medium.blocks(), 2);
-    assert_eq!(rt; write(&mut medium, 1, 0x5a), Ok(()));
-    assert_eq!(rt;
+    expect_eq(&rt, medium.blocks(), 2);
+    expect_eq(&rt, write(&mut medium, 1, 0x5a), Ok(()));
+    expect_eq(
+        &rt,
         [read(&mut medium, 1), read(&mut medium, 0)],
-        [Ok(0x5a), Ok(0)]
+        [Ok(0x5a), Ok(0)],
     );
     let file = medium.into_file();
     let mut bytes = [0; 1100];
     bytes[512..1024].fill(0x5a);
-    assert_eq!(rt; file.bytes, bytes);
+    expect_eq(&rt, file.bytes, bytes);
     Ok(())
 }
 
 #[test]
 fn a_flush_syncs_the_file(rt: HostRuntime) -> Result<(), Fail> {
     let mut medium = FileMedium::over(Slow::new());
-    assert!(rt; medium.flush().is_err());
+    expect_that(&rt, medium.flush().is_err());
     let file = medium.into_file();
-    assert_eq!(rt; file.syncs, 1);
-    assert_eq!(rt; file.failures, 1);
+    expect_eq(&rt, file.syncs, 1);
+    expect_eq(&rt, file.failures, 1);
     Ok(())
 }
 
@@ -121,13 +123,13 @@ fn a_file_is_written_in_place(rt: HostRuntime) -> Result<(), Fail> {
     let mut bytes = [7; 1100];
     fs::write(&rt, path, bytes.as_slice())?;
     let mut medium: FileMedium<HostFile> = FileMedium::open(&rt, path).ok().ok_or("no file")?;
-    assert_eq!(rt; (medium.blocks(), read(&mut medium, 1)), (2, Ok(7)));
-    assert_eq!(rt; write(&mut medium, 1, 0x5a), Ok(()));
-    assert!(rt; medium.flush().is_ok());
+    expect_eq(&rt, (medium.blocks(), read(&mut medium, 1)), (2, Ok(7)));
+    expect_eq(&rt, write(&mut medium, 1, 0x5a), Ok(()));
+    expect_that(&rt, medium.flush().is_ok());
     bytes[512..1024].fill(0x5a);
-    assert_eq!(rt; fs::read(&rt, path)?.as_slice(), bytes.as_slice());
+    expect_eq(&rt, fs::read(&rt, path)?.as_slice(), bytes.as_slice());
     fs::write(&rt, path, [].as_slice())?;
-    assert_eq!(rt; read(&mut medium, 1), Err("fault"));
+    expect_eq(&rt, read(&mut medium, 1), Err("fault"));
     fs::remove_file(&rt, path)?;
     Ok(())
 }
@@ -137,7 +139,7 @@ fn a_flush_reaches_the_system(rt: HostRuntime) -> Result<(), Fail> {
     let mut nothing: FileMedium<HostFile> = FileMedium::open(&rt, "/dev/null")
         .ok()
         .ok_or("no file")?;
-    assert_eq!(rt; nothing.blocks(), 0);
+    expect_eq(&rt, nothing.blocks(), 0);
     assert!(rt;
         nothing.flush().is_err(),
         "a device without a disk can't be synced"
