@@ -1,5 +1,6 @@
 //! Hosts that use a fleet by events alone.
 
+mod asserting;
 mod bench;
 mod configurations;
 mod faults;

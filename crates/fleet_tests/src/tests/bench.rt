@@ -1,5 +1,6 @@
 //! Four controllers of three hosts over a medium in memory, and requests that are carried through.
 
+use crate::tests::asserting::expect_eq;
 use nvme_fleet::{
     Answer, Executed, Fetched, Fleet, FleetEvent, FleetSeen, NotUp, PlaceRefusal, PollFault,
     Request, Ticket, UpFault,
@@ -89,8 +90,8 @@ pub(crate) fn expect_data(
     seen: Shown,
     data: &[u8],
 ) {
-    assert_eq!(rt; happen(fleet, event), seen);
-    assert_eq!(rt; fleet.data(), data);
+    expect_eq(rt, happen(fleet, event), seen);
+    expect_eq(rt, fleet.data(), data);
 }
 
 fn driven(cntlid: u16, host: HostId) -> ControllerConfig {
@@ -231,8 +232,8 @@ pub(crate) fn expect_done(
     request: Request<'_>,
     data: &[u8],
 ) -> Result<(), Fail> {
-    assert_eq!(rt; carry(fleet, cntlid, request)?, done(data.len()));
-    assert_eq!(rt; fleet.data(), data);
+    expect_eq(rt, carry(fleet, cntlid, request)?, done(data.len()));
+    expect_eq(rt, fleet.data(), data);
     Ok(())
 }
 

@@ -1,5 +1,6 @@
 //! Configurations that are refused, the smallest one, and want of memory.
 
+use crate::tests::asserting::{expect_eq, expect_that};
 use crate::tests::bench::{Shown, accepted, configuration, happen};
 use nvme_fleet::{Fleet, FleetEvent};
 use nvme_medium::MemMedium;
@@ -35,12 +36,13 @@ fn a_fleet_without_controllers(rt: HostRuntime) -> Result<(), Fail> {
         attached: Vec::new(rt.alloc()),
     };
     let mut fleet = accepted(rt.alloc(), &config, marked_medium(rt.alloc())?)?;
-    assert_eq!(rt;
+    expect_eq(
+        &rt,
         happen(&mut fleet, FleetEvent::BringUp(1)),
-        Shown::NoController
+        Shown::NoController,
     );
-    assert_eq!(rt; fleet.data(), [].as_slice());
-    assert!(rt; is_unchanged(&fleet.into_medium()));
+    expect_eq(&rt, fleet.data(), [].as_slice());
+    expect_that(&rt, is_unchanged(&fleet.into_medium()));
     Ok(())
 }
 
@@ -55,8 +57,8 @@ fn a_refused_configuration_hands_the_medium_back(rt: HostRuntime) -> Result<(), 
         let Err(refused) = Fleet::new(rt.alloc(), &config, marked_medium(rt.alloc())?) else {
             return Err(Fail::from("a faulty configuration is accepted"));
         };
-        assert_eq!(rt; refused.fault, expected);
-        assert!(rt; is_unchanged(&refused.medium));
+        expect_eq(&rt, refused.fault, expected);
+        expect_that(&rt, is_unchanged(&refused.medium));
     }
     Ok(())
 }
@@ -66,10 +68,10 @@ fn a_refused_configuration_hands_the_medium_back(rt: HostRuntime) -> Result<(), 
 fn want_of_memory_hands_the_medium_back(rt: HostRuntime) -> Result<(), Fail> {
     let config = configuration(rt.alloc(), 8)?;
     match Fleet::new(rt.alloc(), &config, marked_medium(rt.alloc())?) {
-        Ok(fleet) => assert!(rt; is_unchanged(&fleet.into_medium())),
+        Ok(fleet) => expect_that(&rt, is_unchanged(&fleet.into_medium())),
         Err(refused) => {
-            assert_eq!(rt; refused.fault, ConfigFault::NoMemory);
-            assert!(rt; is_unchanged(&refused.medium));
+            expect_eq(&rt, refused.fault, ConfigFault::NoMemory);
+            expect_that(&rt, is_unchanged(&refused.medium));
         }
     }
     Ok(())

@@ -1,5 +1,6 @@
 //! Requests over a medium one of whose calls fails, each call in turn, until a run meets no failure.
 
+use crate::tests::asserting::expect_eq;
 use crate::tests::bench::{accepted, carry, configuration, read, write};
 use nvme_fleet::{Fleet, FleetEvent, FleetSeen, Request};
 use nvme_medium::{Failing, MemMedium};
@@ -90,10 +91,10 @@ fn three_blocks_are_written(rt: HostRuntime) -> Result<(), Fail> {
         }
     }
     let mut fleet = open_failing(rt.alloc(), 3)?;
-    assert_eq!(rt; outcome(&mut fleet, write(1, 0, &[0x5a; 1536]))?, DONE);
-    assert_eq!(rt; outcome(&mut fleet, read(1, 0, 3))?, READ_ERROR);
-    assert_eq!(rt; outcome(&mut fleet, read(1, 0, 3))?, DONE);
-    assert_eq!(rt; fleet.data(), [0x5a; 1536].as_slice());
+    expect_eq(&rt, outcome(&mut fleet, write(1, 0, &[0x5a; 1536]))?, DONE);
+    expect_eq(&rt, outcome(&mut fleet, read(1, 0, 3))?, READ_ERROR);
+    expect_eq(&rt, outcome(&mut fleet, read(1, 0, 3))?, DONE);
+    expect_eq(&rt, fleet.data(), [0x5a; 1536].as_slice());
     Ok(())
 }
 

@@ -1,5 +1,6 @@
 //! What hosts' drivers hand up, and what they take.
 
+use crate::tests::asserting::{expect_eq, expect_that};
 use crate::tests::bench::{
     Shown, answered, expect_data, expect_done, happen, open_up, posted, read, send, write,
 };
@@ -27,7 +28,7 @@ fn a_written_block_is_read_back(rt: HostRuntime) -> Result<(), Fail> {
 fn a_controller_that_is_not_there(rt: HostRuntime) -> Result<(), Fail> {
     let mut fleet = open_up(rt.alloc())?;
     for cntlid in [0, 5, 9, u16::MAX] {
-        assert!(rt; fleet.controller(cntlid).is_none());
+        expect_that(&rt, fleet.controller(cntlid).is_none());
         for event in [
             FleetEvent::BringUp(cntlid),
             FleetEvent::Place(cntlid, read(1, 0, 1)),
@@ -39,11 +40,11 @@ fn a_controller_that_is_not_there(rt: HostRuntime) -> Result<(), Fail> {
             FleetEvent::RawStore(cntlid, 0, &[1]),
             FleetEvent::RawWrite32(cntlid, 0x14, 0),
         ] {
-            assert_eq!(rt; happen(&mut fleet, event), Shown::NoController);
+            expect_eq(&rt, happen(&mut fleet, event), Shown::NoController);
         }
     }
     for cntlid in 1..5 {
-        assert!(rt; fleet.controller(cntlid).is_some());
+        expect_that(&rt, fleet.controller(cntlid).is_some());
     }
     Ok(())
 }

@@ -1,5 +1,6 @@
 //! Power is lost under requests of several hosts.
 
+use crate::tests::asserting::expect_eq;
 use crate::tests::bench::{Shown, aborted, expect, open_up, posted, read, send};
 use nvme_fleet::{FleetEvent, PollFault, Ticket};
 use std::test::Fail;
@@ -8,9 +9,9 @@ use std::test::Fail;
 fn every_host_has_its_requests_aborted(rt: HostRuntime) -> Result<(), Fail> {
     let mut fleet = open_up(rt.alloc())?;
     for ticket in 1..3 {
-        assert_eq!(rt; send(&mut fleet, 1, read(1, 0, 1))?, Ticket(ticket));
+        expect_eq(&rt, send(&mut fleet, 1, read(1, 0, 1))?, Ticket(ticket));
     }
-    assert_eq!(rt; send(&mut fleet, 2, read(1, 0, 1))?, Ticket(1));
+    expect_eq(&rt, send(&mut fleet, 2, read(1, 0, 1))?, Ticket(1));
     let not_up = Shown::Polled(Err(PollFault::NotUp));
     let events = [
         // One of them is answered, and its answer not handed up.
@@ -29,6 +30,6 @@ fn every_host_has_its_requests_aborted(rt: HostRuntime) -> Result<(), Fail> {
     ];
     expect(&rt, &mut fleet, &events);
     // Tickets go on.
-    assert_eq!(rt; send(&mut fleet, 1, read(1, 0, 1))?, Ticket(3));
+    expect_eq(&rt, send(&mut fleet, 1, read(1, 0, 1))?, Ticket(3));
     Ok(())
 }

@@ -1,5 +1,6 @@
 //! A list of events, and want of memory in it.
 
+use crate::tests::asserting::expect_eq;
 use crate::tests::bench::{
     Bench, Shown, aborted, answered, happen, open, open_up, posted, read, show, write,
 };
@@ -61,13 +62,13 @@ fn want_of_memory_leaves_the_events_behind_it(rt: HostRuntime) -> Result<(), Fai
     let mut replies = Vec::new(rt.alloc());
     let ran = fleet.run(rt.alloc(), &events(&block), &mut replies);
     let count = replies.len();
-    assert_eq!(rt; ran.is_ok(), count == expected().len());
+    expect_eq(&rt, ran.is_ok(), count == expected().len());
     expect_replies(&rt, replies, &expected());
     let (events, expected) = (events(&block), expected());
     for at in count..events.len() {
-        assert_eq!(rt; happen(&mut fleet, events[at]), expected[at]);
+        expect_eq(&rt, happen(&mut fleet, events[at]), expected[at]);
     }
-    assert_eq!(rt; fleet.data(), block.as_slice());
+    expect_eq(&rt, fleet.data(), block.as_slice());
     Ok(())
 }
 
@@ -96,15 +97,16 @@ fn a_completion_queue_goes_round(rt: HostRuntime) -> Result<(), Fail> {
         fleet.run(rt.alloc(), &round(), &mut replies)?;
     }
     let last = replies.pop().ok_or("there is no reply")?;
-    assert_eq!(rt; show(last.seen), answered(33, 512));
+    expect_eq(&rt, show(last.seen), answered(33, 512));
     // The first is the last one of the second round, whose phase tag is 0.
-    assert_eq!(rt;
+    expect_eq(
+        &rt,
         completions(&fleet),
         Some([
             0, 0, 0, 0, 0, 0, 0, 0, 1, 0, 1, 0, 0, 0, 0, 0, 0, 0, 0, 0, 0, 0, 0, 0, 2, 0, 1, 0, 0,
             0, 1, 0,
         ]
-        .as_slice())
+        .as_slice()),
     );
     Ok(())
 }
