@@ -1,5 +1,6 @@
 //! What no clause says: that a script is read while memory lasts, and its lines are.
 
+use crate::tests::asserting::{expect_eq, expect_that};
 use nvme_fleet::{FleetEvent, Request};
 use nvme_grammar::{Buffers, Line, ParseFault, Script, line_fault, parse, parse_line};
 use std::alloc::Global;
@@ -52,11 +53,11 @@ fn script_of(alloc: Global, text: &[u8]) -> Result<Script, ParseFault> {
 fn reads_a_script(rt: HostRuntime) -> Result<(), Fail> {
     let script = script_of(rt.alloc(), SCRIPT)?;
     assert_eq!(rt; script.config.controllers.len(), 2);
-    assert!(rt; !script.config.controllers[0].raw);
-    assert!(rt; script.config.controllers[1].raw);
-    assert_eq!(rt; script.config.namespaces.len(), 1);
-    assert_eq!(rt; script.config.attached.as_slice(), [(1, 1)].as_slice());
-    assert_eq!(rt; script.start, Some(7));
+    expect_that(&rt, !script.config.controllers[0].raw);
+    expect_that(&rt, script.config.controllers[1].raw);
+    expect_eq(&rt, script.config.namespaces.len(), 1);
+    expect_eq(&rt, script.config.attached.as_slice(), [(1, 1)].as_slice());
+    expect_eq(&rt, script.start, Some(7));
     Ok(())
 }
 
@@ -71,9 +72,9 @@ fn reads_long_lists(rt: HostRuntime) {
     );
     match line {
         Some(Line::Event(FleetEvent::Place(1, Request::Detach { nsid: 2, list }))) => {
-            assert_eq!(rt; list, [1, 2, 3, 4, 5, 6, 7, 8, 9].as_slice());
+            expect_eq(&rt, list, [1, 2, 3, 4, 5, 6, 7, 8, 9].as_slice());
         }
-        _ => assert!(rt; false),
+        _ => expect_that(&rt, false),
     }
 }
 
@@ -83,9 +84,12 @@ fn reads_a_power_cycle(rt: HostRuntime) {
     let mut bytes = [0; 131_072];
     let mut identifiers = [0; 16];
     let line = parse_line(b" powercycle\r", &mut bytes, &mut identifiers);
-    assert!(rt; matches!(&line, Some(Line::Event(FleetEvent::PowerCycle))));
+    expect_that(
+        &rt,
+        matches!(&line, Some(Line::Event(FleetEvent::PowerCycle))),
+    );
     let line = parse_line(b"powercycle 1", &mut bytes, &mut identifiers);
-    assert!(rt; line.is_none());
+    expect_that(&rt, line.is_none());
 }
 
 #[test]

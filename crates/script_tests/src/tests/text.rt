@@ -1,5 +1,6 @@
 //! What no clause says: that the calls succeed while memory lasts, and what a transcript shows.
 
+use crate::tests::asserting::{expect_eq, expect_that};
 use script_text::{
     HexText, MOST_WORDS, bytes_in, data_in, first_word, number_u8, number_u16, words_of,
 };
@@ -10,11 +11,11 @@ use std::test::Fail;
 fn words_of_a_line(rt: HostRuntime) -> Result<(), Fail> {
     let front = words_of(b" write\t1 0x1F \r").ok_or("words")?;
     let words = front.words;
-    assert!(rt; front.rest.is_empty());
+    expect_that(&rt, front.rest.is_empty());
     assert_eq!(rt; words.len(), 3);
-    assert_eq!(rt; words[0], b"write".as_slice());
-    assert_eq!(rt; number_u8(words[1]), Some(1));
-    assert_eq!(rt; number_u16(words[2]), Some(31));
+    expect_eq(&rt, words[0], b"write".as_slice());
+    expect_eq(&rt, number_u8(words[1]), Some(1));
+    expect_eq(&rt, number_u16(words[2]), Some(31));
     Ok(())
 }
 
@@ -48,22 +49,23 @@ fn data_of_a_write(rt: HostRuntime) -> Result<(), Fail> {
 #[test]
 fn words_behind_the_first(rt: HostRuntime) -> Result<(), Fail> {
     let front = words_of(b"1 2 3 4 5 6 7 8\t 9 10 ").ok_or("words")?;
-    assert_eq!(rt; front.words.len(), MOST_WORDS);
+    expect_eq(&rt, front.words.len(), MOST_WORDS);
     assert_eq!(rt; front.rest, b"9 10 ".as_slice());
     let ninth = first_word(front.rest).ok_or("word")?;
-    assert_eq!(rt; ninth.word, b"9".as_slice());
-    assert_eq!(rt; ninth.behind, b"10 ".as_slice());
-    assert!(rt; words_of(b"1 2 3 4 5 6 7 8\x01").is_none());
+    expect_eq(&rt, ninth.word, b"9".as_slice());
+    expect_eq(&rt, ninth.behind, b"10 ".as_slice());
+    expect_that(&rt, words_of(b"1 2 3 4 5 6 7 8\x01").is_none());
     Ok(())
 }
 
 #[test]
 fn bytes_of_a_store(rt: HostRuntime) {
     let mut buffer = [0xff; 8];
-    assert_eq!(rt;
+    expect_eq(
+        &rt,
         bytes_in(b"hex:0aF0", &mut buffer),
-        Some([10, 0xf0].as_slice())
+        Some([10, 0xf0].as_slice()),
     );
-    assert_eq!(rt; bytes_in(b"hex:0aF", &mut buffer), None);
-    assert_eq!(rt; bytes_in(b"fill:0a", &mut buffer), None);
+    expect_eq(&rt, bytes_in(b"hex:0aF", &mut buffer), None);
+    expect_eq(&rt, bytes_in(b"fill:0a", &mut buffer), None);
 }

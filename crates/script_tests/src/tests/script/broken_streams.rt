@@ -3,6 +3,7 @@
 use super::lines::{HELLO, SETUP, carried};
 use super::program::run_to;
 use super::streams::{FailingReader, FailingWriter};
+use crate::tests::asserting::{expect_eq, expect_that};
 use nvme_medium::MemMedium;
 use nvme_script::{ScriptFault, run_script};
 use std::test::Fail;
@@ -62,10 +63,10 @@ fn streams_are_called_no_more_than_once(rt: HostRuntime) -> Result<(), Fail> {
     let mut writer = FailingWriter::at_write(rt.alloc(), usize::MAX);
     let medium = MemMedium::new(rt.alloc(), &[0; 32768])?;
     let ran = run_script(rt.alloc(), &mut reader, &mut writer, medium);
-    assert!(rt; ran.is_ok());
+    expect_that(&rt, ran.is_ok());
     // Seven bytes come with each read but the last of them, and none with the one behind it.
-    assert_eq!(rt; reader.calls, text.len().div_ceil(7).saturating_add(1));
-    assert_eq!(rt; writer.writes, 16);
+    expect_eq(&rt, reader.calls, text.len().div_ceil(7).saturating_add(1));
+    expect_eq(&rt, writer.writes, 16);
     Ok(())
 }
 
@@ -78,8 +79,8 @@ fn a_writer_that_fails_stops_behind_its_command(rt: HostRuntime) -> Result<(), F
         let medium = MemMedium::new(rt.alloc(), &[0; 32768])?;
         match run_script(rt.alloc(), &mut text.as_slice(), &mut writer, medium) {
             Ok(medium) => {
-                assert_eq!(rt; commands_done(&medium), Some(3));
-                assert_eq!(rt; lines_in(writer.kept.as_slice()), 16);
+                expect_eq(&rt, commands_done(&medium), Some(3));
+                expect_eq(&rt, lines_in(writer.kept.as_slice()), 16);
             }
             Err((fault, medium)) => {
                 refused = failing.saturating_add(1);
@@ -116,11 +117,12 @@ fn the_program_says_that_the_transcript_is_not_written(rt: HostRuntime) -> Resul
     ];
     for (text, mut writer) in cases {
         let (status, errors) = run_to(&rt, &[], &mut &text[..], &mut writer)?;
-        assert_eq!(rt;
+        expect_eq(
+            &rt,
             errors.as_slice(),
-            b"nvmesim: file fault\nnvmesim: standard output can't be written\n".as_slice()
+            b"nvmesim: file fault\nnvmesim: standard output can't be written\n".as_slice(),
         );
-        assert_eq!(rt; status, 2);
+        expect_eq(&rt, status, 2);
     }
     Ok(())
 }
@@ -130,11 +132,12 @@ fn the_program_says_that_the_script_is_not_read(rt: HostRuntime) -> Result<(), F
     let mut reader = FailingReader::new(SETUP, 3);
     let mut written: Vec<u8> = Vec::new(rt.alloc());
     let (status, errors) = run_to(&rt, &[], &mut reader, &mut written)?;
-    assert_eq!(rt;
+    expect_eq(
+        &rt,
         errors.as_slice(),
-        b"nvmesim: file fault\nnvmesim: standard input can't be read\n".as_slice()
+        b"nvmesim: file fault\nnvmesim: standard input can't be read\n".as_slice(),
     );
-    assert_eq!(rt; status, 2);
-    assert!(rt; written.is_empty());
+    expect_eq(&rt, status, 2);
+    expect_that(&rt, written.is_empty());
     Ok(())
 }

@@ -3,6 +3,7 @@
 use super::lines::{HELLO, HELLO_SHOWN, SETUP, carried, lines_with, with_setup};
 use super::program::{run, run_to};
 use super::streams::{FailingReader, FailingWriter};
+use crate::tests::asserting::{expect_eq, expect_that};
 use std::fs::File;
 use std::io::{Read, Write};
 use std::os::unix::fs::MetadataExt;
@@ -37,9 +38,9 @@ fn keeps_the_image_without_commands(rt: HostRuntime) -> Result<(), Fail> {
     for (text, wanted) in cases {
         let mut output: Vec<u8> = Vec::new(rt.alloc());
         let (status, left) = run_over_image(&rt, "kept.img", &image, &mut &text[..], &mut output)?;
-        assert_eq!(rt; status, wanted);
-        assert!(rt; output.is_empty());
-        assert_eq!(rt; left.as_slice(), image.as_slice());
+        expect_eq(&rt, status, wanted);
+        expect_that(&rt, output.is_empty());
+        expect_eq(&rt, left.as_slice(), image.as_slice());
     }
     Ok(())
 }
@@ -75,10 +76,10 @@ fn keeps_what_stands_behind_the_last_block(rt: HostRuntime) -> Result<(), Fail> 
     for (text, wanted, last) in cases {
         let mut output: Vec<u8> = Vec::new(rt.alloc());
         let (status, left) = run_over_image(&rt, "tail.img", &image, &mut &text[..], &mut output)?;
-        assert_eq!(rt; status, wanted);
+        expect_eq(&rt, status, wanted);
         let mut expected = [7; 5000];
         expected[4096..4608].fill(last);
-        assert_eq!(rt; left.as_slice(), expected.as_slice());
+        expect_eq(&rt, left.as_slice(), expected.as_slice());
     }
     Ok(())
 }
@@ -94,11 +95,11 @@ fn is_written_in_place(rt: HostRuntime) -> Result<(), Fail> {
         &mut text.as_slice(),
         &mut output,
     )?;
-    assert_eq!(rt; status, 0);
-    assert_eq!(rt; output.as_slice(), HELLO_SHOWN);
+    expect_eq(&rt, status, 0);
+    expect_eq(&rt, output.as_slice(), HELLO_SHOWN);
     let mut wanted = [0; 32768];
     wanted[..5].copy_from_slice(b"Hello");
-    assert_eq!(rt; left.as_slice(), wanted.as_slice());
+    expect_eq(&rt, left.as_slice(), wanted.as_slice());
     Ok(())
 }
 
@@ -117,8 +118,8 @@ fn has_what_was_written_where_the_transcript_fails(rt: HostRuntime) -> Result<()
             &mut text.as_slice(),
             &mut writer,
         )?;
-        assert_eq!(rt; status, 2);
-        assert!(rt; left.starts_with(b"Hello\x00"));
+        expect_eq(&rt, status, 2);
+        expect_that(&rt, left.starts_with(b"Hello\x00"));
     }
     Ok(())
 }
@@ -180,11 +181,12 @@ fn a_fault_of_the_image_is_an_answer(rt: HostRuntime) -> Result<(), Fail> {
     };
     let shown = run(&rt, &[path], &mut reader)?;
     fs::remove_file(&rt, path)?;
-    assert_eq!(rt;
+    expect_eq(
+        &rt,
         lines_with(rt.alloc(), shown.output.as_slice(), b"execute")?.as_slice(),
-        b"execute 1 0 posted 2:81 0\nexecute 1 0 posted 0:80 9\n".as_slice()
+        b"execute 1 0 posted 2:81 0\nexecute 1 0 posted 0:80 9\n".as_slice(),
     );
-    assert_eq!(rt; shown.status, 0);
+    expect_eq(&rt, shown.status, 0);
     Ok(())
 }
 
@@ -194,9 +196,9 @@ fn leaves_the_image_where_the_script_cannot_be_read(rt: HostRuntime) -> Result<(
     let mut reader = FailingReader::new(text.as_slice(), 12);
     let mut output: Vec<u8> = Vec::new(rt.alloc());
     let (status, left) = run_over_image(&rt, "unread.img", &[0; 32768], &mut reader, &mut output)?;
-    assert_eq!(rt; status, 2);
-    assert!(rt; output.is_empty());
-    assert_eq!(rt; left.as_slice(), [0; 32768].as_slice());
+    expect_eq(&rt, status, 2);
+    expect_that(&rt, output.is_empty());
+    expect_eq(&rt, left.as_slice(), [0; 32768].as_slice());
     Ok(())
 }
 
@@ -222,9 +224,9 @@ fn faults_of_files_come_first(rt: HostRuntime) -> Result<(), Fail> {
     for (arguments, reason) in faults {
         let shown = run(&rt, arguments, &mut &b"not a script"[..])?;
         let told = format!(in rt.alloc(); "nvmesim: file fault\nnvmesim: {reason}")?;
-        assert!(rt; shown.errors.starts_with(told.as_bytes()));
-        assert_eq!(rt; shown.status, 2);
-        assert!(rt; shown.output.is_empty());
+        expect_that(&rt, shown.errors.starts_with(told.as_bytes()));
+        expect_eq(&rt, shown.status, 2);
+        expect_that(&rt, shown.output.is_empty());
     }
     Ok(())
 }
@@ -245,19 +247,21 @@ fn tells_an_image_from_a_script(rt: HostRuntime) -> Result<(), Fail> {
     fs::write(&rt, "taken-for-script", [0; 1024].as_slice())?;
     let image = run(&rt, &["-", "taken-for-script"], &mut &b""[..])?;
     fs::remove_file(&rt, "taken-for-script")?;
-    assert_eq!(rt;
+    expect_eq(
+        &rt,
         script.errors.as_slice(),
         b"nvmesim: line 2: DoesNotFit
 nvmesim: 'taken-for-image' has no whole block; to run a script over zeros in memory: ./nvmesim - taken-for-image
 "
-            .as_slice()
+            .as_slice(),
     );
-    assert_eq!(rt;
+    expect_eq(
+        &rt,
         image.errors.as_slice(),
         b"nvmesim: line 1: not understood
 nvmesim: 'taken-for-script' begins with a byte 00h, as images do and scripts don't; usage: nvmesim [IMAGE [SCRIPT]]
 "
-            .as_slice()
+            .as_slice(),
     );
     Ok(())
 }
@@ -265,13 +269,13 @@ nvmesim: 'taken-for-script' begins with a byte 00h, as images do and scripts don
 #[test]
 fn a_script_is_a_path_as_it_stands(rt: HostRuntime) -> Result<(), Fail> {
     let missing = run(&rt, &["-", "-"], &mut SETUP)?;
-    assert_eq!(rt; missing.status, 2);
+    expect_eq(&rt, missing.status, 2);
     let text = carried(rt.alloc(), HELLO)?;
     fs::write(&rt, "-", text.as_slice())?;
     let shown = run(&rt, &["-", "-"], &mut &b"not a script"[..])?;
     fs::remove_file(&rt, "-")?;
-    assert_eq!(rt; shown.status, 0);
-    assert_eq!(rt; shown.output.as_slice(), HELLO_SHOWN);
+    expect_eq(&rt, shown.status, 0);
+    expect_eq(&rt, shown.output.as_slice(), HELLO_SHOWN);
     Ok(())
 }
 
@@ -281,14 +285,15 @@ fn a_script_that_is_too_long_is_named(rt: HostRuntime) -> Result<(), Fail> {
     fs::write(&rt, "too-long", text.as_slice())?;
     let shown = run(&rt, &["-", "too-long"], &mut &b""[..])?;
     fs::remove_file(&rt, "too-long")?;
-    assert_eq!(rt;
+    expect_eq(
+        &rt,
         shown.errors.as_slice(),
         b"nvmesim: script too long
 nvmesim: too-long has more than 4194304 bytes; an image is the first word: nvmesim [IMAGE [SCRIPT]]
 "
-            .as_slice()
+            .as_slice(),
     );
-    assert_eq!(rt; shown.status, 1);
-    assert!(rt; shown.output.is_empty());
+    expect_eq(&rt, shown.status, 1);
+    expect_that(&rt, shown.output.is_empty());
     Ok(())
 }

@@ -1,6 +1,7 @@
 //! The program over streams and files: its words, texts and statuses.
 
 use super::lines::{HELLO, HELLO_SHOWN, SETUP, carried, with_setup};
+use crate::tests::asserting::{expect_eq, expect_that};
 use nvme_script::run_program;
 use std::alloc::{AllocError, Global};
 use std::fs::File;
@@ -68,9 +69,9 @@ fn answers_each_event(rt: HostRuntime) -> Result<(), Fail> {
     ];
     for (text, transcript) in cases {
         let shown = run(&rt, &[], &mut &text[..])?;
-        assert_eq!(rt; shown.output.as_slice(), transcript);
-        assert_eq!(rt; shown.status, 0);
-        assert!(rt; shown.errors.is_empty());
+        expect_eq(&rt, shown.output.as_slice(), transcript);
+        expect_eq(&rt, shown.status, 0);
+        expect_that(&rt, shown.errors.is_empty());
     }
     Ok(())
 }
@@ -105,8 +106,8 @@ placed 1 2
 fn power_is_lost_under_a_request(rt: HostRuntime) -> Result<(), Fail> {
     let text = with_setup(rt.alloc(), POWER)?;
     let shown = run(&rt, &[], &mut text.as_slice())?;
-    assert_eq!(rt; shown.output.as_slice(), POWER_SHOWN);
-    assert_eq!(rt; shown.status, 0);
+    expect_eq(&rt, shown.output.as_slice(), POWER_SHOWN);
+    expect_eq(&rt, shown.status, 0);
     Ok(())
 }
 
@@ -203,9 +204,9 @@ nvmesim: line 1: namespace 1 ends behind the 1024 blocks of the medium, where th
     ];
     for (text, told) in cases {
         let shown = run(&rt, &[], &mut &text[..])?;
-        assert_eq!(rt; shown.errors.as_slice(), told);
-        assert_eq!(rt; shown.status, 1);
-        assert!(rt; shown.output.is_empty());
+        expect_eq(&rt, shown.errors.as_slice(), told);
+        expect_eq(&rt, shown.status, 1);
+        expect_that(&rt, shown.output.is_empty());
     }
     Ok(())
 }
@@ -257,8 +258,8 @@ nvmesim: line 1: controller 1 is not configured
         let text = repeated(rt.alloc(), line, count)?;
         let shown = run(&rt, &[], &mut text.as_slice())?;
         assert_eq!(rt; shown.errors.as_slice(), told, "{count} lines");
-        assert_eq!(rt; shown.status, 1);
-        assert!(rt; shown.output.is_empty());
+        expect_eq(&rt, shown.status, 1);
+        expect_that(&rt, shown.output.is_empty());
     }
     Ok(())
 }
@@ -326,18 +327,20 @@ fn refuses_command_lines(rt: HostRuntime) -> Result<(), Fail> {
     ];
     for arguments in bad {
         let shown = run(&rt, arguments, &mut SETUP)?;
-        assert!(rt;
+        expect_that(
+            &rt,
             shown
                 .errors
-                .starts_with(b"nvmesim: bad command line\nnvmesim: word ")
+                .starts_with(b"nvmesim: bad command line\nnvmesim: word "),
         );
-        assert!(rt;
+        expect_that(
+            &rt,
             shown
                 .errors
-                .ends_with(b"; usage: nvmesim [IMAGE [SCRIPT]]\n")
+                .ends_with(b"; usage: nvmesim [IMAGE [SCRIPT]]\n"),
         );
-        assert_eq!(rt; shown.status, 3);
-        assert!(rt; shown.output.is_empty());
+        expect_eq(&rt, shown.status, 3);
+        expect_that(&rt, shown.output.is_empty());
     }
     Ok(())
 }
@@ -346,15 +349,16 @@ fn refuses_command_lines(rt: HostRuntime) -> Result<(), Fail> {
 fn scripts_have_a_longest_length(rt: HostRuntime) -> Result<(), Fail> {
     let text = vec![in rt.alloc(); b'#'; 4_194_305]?;
     let longest = run(&rt, &[], &mut &text[1..])?;
-    assert_eq!(rt; longest.status, 0);
-    assert!(rt; longest.output.is_empty() && longest.errors.is_empty());
+    expect_eq(&rt, longest.status, 0);
+    expect_that(&rt, longest.output.is_empty() && longest.errors.is_empty());
     let longer = run(&rt, &[], &mut text.as_slice())?;
-    assert!(rt;
+    expect_that(
+        &rt,
         longer.errors.starts_with(
-            b"nvmesim: script too long\nnvmesim: standard input has more than 4194304 "
-        )
+            b"nvmesim: script too long\nnvmesim: standard input has more than 4194304 ",
+        ),
     );
-    assert_eq!(rt; longer.status, 1);
-    assert!(rt; longer.output.is_empty());
+    expect_eq(&rt, longer.status, 1);
+    expect_that(&rt, longer.output.is_empty());
     Ok(())
 }
