@@ -6,7 +6,7 @@ mod copies;
 mod driven;
 mod host;
 
-use batch::quickest;
+use batch::{Times, quickest};
 use driven::Driven;
 use host::Host;
 use std::io;
@@ -30,16 +30,31 @@ const REQUESTS: [(&str, driven::Kind); 5] = [
 
 /// Measures commands by a host's own stores, then requests by its driver, then plain copies.
 pub(crate) fn all<R: Clock + AllocGlobal + Print>(rt: &R, rounds: u32) -> io::Result<()> {
+    by_stores(rt, rounds)?;
+    by_a_driver(rt, rounds)?;
+    copies::of_blocks(rt, rounds)?;
+    copies::of_transfers(rt, rounds)
+}
+
+fn by_stores<R: Clock + AllocGlobal + Print>(rt: &R, rounds: u32) -> io::Result<()> {
     println!(rt; "by stores: store, tail doorbell, fetch, execute, head doorbell; all")?;
     for controllers in [1, 16] {
         commands(rt, controllers, rounds)?;
     }
+    Ok(())
+}
+
+fn by_a_driver<R: Clock + AllocGlobal + Print>(rt: &R, rounds: u32) -> io::Result<()> {
     println!(rt; "by a driver: place, ring, fetch, execute, poll; all")?;
     for hosts in [1, 16] {
         requests(rt, hosts, rounds)?;
     }
-    copies::of_blocks(rt, rounds)?;
-    copies::of_transfers(rt, rounds)
+    Ok(())
+}
+
+/// Prints what the events of a command take, behind its name and the number of controllers.
+fn tell<R: Print>(rt: &R, name: &str, controllers: u16, times: Times) -> io::Result<()> {
+    println!(rt; "{name}, last of {controllers}: {times}")
 }
 
 /// The commands of the host of the last of so many controllers.
@@ -50,10 +65,7 @@ fn commands<R: Clock + AllocGlobal + Print>(
 ) -> io::Result<()> {
     for (name, kind) in COMMANDS {
         let mut host = Host::new(rt.alloc(), controllers, kind)?;
-        println!(rt;
-            "{name}, last of {controllers}: {}",
-            quickest(rt, &mut host, rounds)?
-        )?;
+        tell(rt, name, controllers, quickest(rt, &mut host, rounds)?)?;
     }
     Ok(())
 }
@@ -62,10 +74,7 @@ fn commands<R: Clock + AllocGlobal + Print>(
 fn requests<R: Clock + AllocGlobal + Print>(rt: &R, hosts: u16, rounds: u32) -> io::Result<()> {
     for (name, kind) in REQUESTS {
         let mut host = Driven::new(rt.alloc(), hosts, kind)?;
-        println!(rt;
-            "{name}, last of {hosts}: {}",
-            quickest(rt, &mut host, rounds)?
-        )?;
+        tell(rt, name, hosts, quickest(rt, &mut host, rounds)?)?;
     }
     Ok(())
 }

@@ -2,7 +2,7 @@
 
 ghost use Rattle.std.specs.Prelude.{◌<◌};
 
-use crate::stopwatch::{BYTES, Measured, copies, since};
+use crate::stopwatch::{BYTES, Measured, copies, since, tell};
 use nvme_medium::{BLOCK, Cached, FileMedium, HostFile, Lent, Medium, read_blocks, write_blocks};
 use std::fs::{File, OpenOptions};
 use std::io;
@@ -25,7 +25,7 @@ pub(crate) fn all<R: Clock + AllocGlobal + Print + Files<File = File>>(
     over_an_image(rt, &mut medium, bytes.as_mut_slice(), rounds)?;
     let file = OpenOptions::new().read(true).write(true).open(rt, image)?;
     by_plain_calls(rt, &file, bytes.as_mut_slice(), rounds)?;
-    println!(rt; "copy of 256 blocks: {}", copies(rt, rounds)?)
+    tell(rt, "copy of 256 blocks", copies(rt, rounds)?)
 }
 
 /// Measures transfers as the program makes them.
@@ -36,11 +36,11 @@ fn over_an_image<R: Clock + Print, M: Medium>(
     rounds: u32,
 ) -> io::Result<()> {
     let written = writes(rt, medium, bytes, rounds)?;
-    println!(rt; "write of 256 blocks: {written}")?;
+    tell(rt, "write of 256 blocks", written)?;
     let read = reads(rt, medium, bytes, true, rounds)?;
-    println!(rt; "read of 256 blocks, none kept: {read}")?;
+    tell(rt, "read of 256 blocks, none kept", read)?;
     let kept = reads(rt, medium, bytes, false, rounds)?;
-    println!(rt; "read of 256 blocks, all kept: {kept}")
+    tell(rt, "read of 256 blocks, all kept", kept)
 }
 
 /// Measures calls of the system on as many bytes, a block in each, or all in one.
@@ -51,13 +51,13 @@ fn by_plain_calls<R: Clock + Print>(
     rounds: u32,
 ) -> io::Result<()> {
     let written = plain_writes(rt, file, bytes, BLOCK, rounds)?;
-    println!(rt; "256 calls of pwrite: {written}")?;
+    tell(rt, "256 calls of pwrite", written)?;
     let read = plain_reads(rt, file, bytes, BLOCK, rounds)?;
-    println!(rt; "256 calls of pread: {read}")?;
+    tell(rt, "256 calls of pread", read)?;
     let written = plain_writes(rt, file, bytes, BYTES, rounds)?;
-    println!(rt; "one call of pwrite: {written}")?;
+    tell(rt, "one call of pwrite", written)?;
     let read = plain_reads(rt, file, bytes, BYTES, rounds)?;
-    println!(rt; "one call of pread: {read}")
+    tell(rt, "one call of pread", read)
 }
 
 /// An image behind a cache of 256 blocks, as the program uses it.

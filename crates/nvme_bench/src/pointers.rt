@@ -4,7 +4,7 @@ ghost use Rattle.std.specs.Prelude.{◌≡◌, length};
 ghost use Rattle.nvme_spec.specs.Transfers.{addresses};
 
 use crate::opening::{LIST, PAGES, listed_window};
-use crate::stopwatch::{BYTES, Measured, copies, since};
+use crate::stopwatch::{BYTES, Measured, copies, since, tell};
 use nvme_mem::Window;
 use nvme_prp::{Pieces, gather_block, scatter_block, walk};
 use std::io;
@@ -14,19 +14,27 @@ use std::time::Instant;
 /// Measures each call, and prints a line for each.
 pub(crate) fn all<R: Clock + AllocGlobal + Print>(rt: &R, rounds: u32) -> io::Result<()> {
     let mut window = listed_window(rt.alloc())?;
-    println!(rt; "walk of 256 blocks: {}", walks(rt, &window, rounds)?)?;
-    println!(rt; "copy of 256 blocks: {}", copies(rt, rounds)?)?;
-    if let Ok(pieces) = walk(&window, PAGES, LIST, 131_072) {
-        println!(rt;
-            "gather of a block: {}",
-            gathers(rt, &window, &pieces, rounds)?
+    tell(rt, "walk of 256 blocks", walks(rt, &window, rounds)?)?;
+    tell(rt, "copy of 256 blocks", copies(rt, rounds)?)?;
+    moves(rt, &mut window, rounds)?;
+    tell(rt, "copy of a block", block_copies(rt, rounds)?)
+}
+
+/// Measures what moves a block by the list of pages.
+fn moves<R: Clock + Print>(rt: &R, window: &mut Window, rounds: u32) -> io::Result<()> {
+    if let Ok(pieces) = walk(window, PAGES, LIST, 131_072) {
+        tell(
+            rt,
+            "gather of a block",
+            gathers(rt, window, &pieces, rounds)?,
         )?;
-        println!(rt;
-            "scatter of a block: {}",
-            scatters(rt, &mut window, &pieces, rounds)?
+        tell(
+            rt,
+            "scatter of a block",
+            scatters(rt, window, &pieces, rounds)?,
         )?;
     }
-    println!(rt; "copy of a block: {}", block_copies(rt, rounds)?)
+    Ok(())
 }
 
 fn walks<R: Clock>(rt: &R, window: &Window, rounds: u32) -> io::Result<Measured> {

@@ -22,6 +22,12 @@ impl fmt::Display for Measured {
     }
 }
 
+/// Prints what was measured, behind its name. It has the one `println!` of these lines, since each makes the proof of its
+/// function much longer.
+pub(crate) fn tell<R: Print>(rt: &R, name: &str, measured: Measured) -> io::Result<()> {
+    println!(rt; "{name}: {measured}")
+}
+
 /// The time since a start.
 pub(crate) fn since<R: Clock>(
     rt: &R,

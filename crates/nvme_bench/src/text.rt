@@ -1,6 +1,6 @@
 //! The text of scripts and transcripts beside plain work on as many bytes.
 
-use crate::stopwatch::{BYTES, Measured, since};
+use crate::stopwatch::{BYTES, Measured, since, tell};
 use nvme_grammar::{Buffers, parse};
 use script_text::{HexText, data_in};
 use std::alloc::{AllocError, Global};
@@ -17,27 +17,27 @@ struct Kind {
 /// Lines of each kind, each short.
 const KINDS: [Kind; 6] = [
     Kind {
-        name: "reads",
+        name: "1,000 reads",
         line: b"read 1 1 0 1\n",
     },
     Kind {
-        name: "writes",
+        name: "1,000 writes",
         line: b"write 1 1 0 1 hex:01\n",
     },
     Kind {
-        name: "fills",
+        name: "1,000 fills",
         line: b"write 1 1 0 256 fill:5a\n",
     },
     Kind {
-        name: "attachments",
+        name: "1,000 attachments",
         line: b"attached 1 1\n",
     },
     Kind {
-        name: "comments",
+        name: "1,000 comments",
         line: b"# a comment\n",
     },
     Kind {
-        name: "empty lines",
+        name: "1,000 empty lines",
         line: b"\n",
     },
 ];
@@ -62,22 +62,21 @@ fn data<R: Clock + AllocGlobal + Print>(
     digits: &[u8],
     rounds: u32,
 ) -> io::Result<()> {
-    println!(rt; "256 blocks as digits: {}", shown(rt, bytes, rounds)?)?;
-    println!(rt; "digits as 256 blocks: {}", decoded(rt, digits, rounds)?)?;
-    println!(rt; "copy of these digits: {}", copied(rt, digits, rounds)?)
+    tell(rt, "256 blocks as digits", shown(rt, bytes, rounds)?)?;
+    tell(rt, "digits as 256 blocks", decoded(rt, digits, rounds)?)?;
+    tell(rt, "copy of these digits", copied(rt, digits, rounds)?)
 }
 
 /// Zeros, which are not shown, beside a scan.
 fn no_data<R: Clock + AllocGlobal + Print>(rt: &R, zeros: &[u8], rounds: u32) -> io::Result<()> {
-    println!(rt; "256 blocks of zeros: {}", shown(rt, zeros, rounds)?)?;
-    println!(rt; "scan of these zeros: {}", scanned(rt, zeros, rounds)?)
+    tell(rt, "256 blocks of zeros", shown(rt, zeros, rounds)?)?;
+    tell(rt, "scan of these zeros", scanned(rt, zeros, rounds)?)
 }
 
 /// 1,000 lines of a kind.
 fn lines<R: Clock + AllocGlobal + Print>(rt: &R, kind: &Kind, rounds: u32) -> io::Result<()> {
-    let name = kind.name;
     let text = script(rt.alloc(), kind.line)?;
-    println!(rt; "1,000 {name}: {}", parsed(rt, text.as_slice(), rounds)?)
+    tell(rt, kind.name, parsed(rt, text.as_slice(), rounds)?)
 }
 
 /// Bytes without an order that a processor could guess, none of them 0.

@@ -4,7 +4,7 @@ ghost use Rattle.std.specs.Prelude.{IfOk};
 ghost use Rattle.nvme_exec.specs.Carrying.{CanExecute};
 
 use crate::opening::{LIST, PAGES, configuration, listed_window, want_of_memory};
-use crate::stopwatch::{BYTES, Measured, copies, since};
+use crate::stopwatch::{BYTES, Measured, copies, since, tell};
 use nvme_exec::{execute, lanes_equal};
 use nvme_medium::{Medium, MemMedium};
 use nvme_mem::Window;
@@ -15,21 +15,22 @@ use std::io;
 use std::rt::Clock;
 use std::time::Instant;
 
-const WRITE: u8 = 0x01;
-
-const READ: u8 = 0x02;
-
-const COMPARE: u8 = 0x05;
+/// The commands that are measured, with their opcodes.
+const COMMANDS: [(&str, u8); 3] = [
+    ("Write of 256 blocks", 0x01),
+    ("Read of 256 blocks", 0x02),
+    ("Compare of 256 blocks", 0x05),
+];
 
 /// Measures each call, and prints a line for each.
 pub(crate) fn all<R: Clock + AllocGlobal + Print>(rt: &R, rounds: u32) -> io::Result<()> {
-    println!(rt; "copy of 256 blocks: {}", copies(rt, rounds)?)?;
-    println!(rt; "comparison of 256 blocks: {}", comparisons(rt, rounds)?)?;
-    println!(rt; "Write of 256 blocks: {}", commands(rt, WRITE, rounds)?)?;
-    println!(rt; "Read of 256 blocks: {}", commands(rt, READ, rounds)?)?;
-    println!(rt; "Compare of 256 blocks: {}", commands(rt, COMPARE, rounds)?)?;
-    println!(rt; "a block by lanes: {}", lanes(rt, rounds)?)?;
-    println!(rt; "a block by ==: {}", slices(rt, rounds)?)
+    tell(rt, "copy of 256 blocks", copies(rt, rounds)?)?;
+    tell(rt, "comparison of 256 blocks", comparisons(rt, rounds)?)?;
+    for (name, opcode) in COMMANDS {
+        tell(rt, name, commands(rt, opcode, rounds)?)?;
+    }
+    tell(rt, "a block by lanes", lanes(rt, rounds)?)?;
+    tell(rt, "a block by ==", slices(rt, rounds)?)
 }
 
 fn comparisons<R: Clock + AllocGlobal>(rt: &R, rounds: u32) -> io::Result<Measured> {

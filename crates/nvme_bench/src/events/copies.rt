@@ -8,6 +8,11 @@ use std::time::Instant;
 /// How many blocks are copied between two looks at the clock.
 const BATCH: u32 = 8;
 
+/// Prints what a copy takes, with a sum over what was copied.
+fn tell<R: Print>(rt: &R, name: &str, nanoseconds: u128, sum: u64) -> io::Result<()> {
+    println!(rt; "{name}: {nanoseconds} ns, sum {sum}")
+}
+
 /// Copies a batch of blocks, the `round`-th, and gives how long it took and a byte of each.
 fn blocks<R: Clock>(rt: &R, source: &[u8; BYTES], round: u32) -> io::Result<(u128, u64)> {
     let mut block = [0; 512];
@@ -31,7 +36,7 @@ pub(crate) fn of_blocks<R: Clock + Print>(rt: &R, rounds: u32) -> io::Result<()>
         sum = sum.wrapping_add(bytes);
     }
     let each = quickest / u128::from(BATCH);
-    println!(rt; "copy of a block: {each} ns, sum {sum}")
+    tell(rt, "copy of a block", each, sum)
 }
 
 /// Copies 256 blocks at once, and prints what that takes.
@@ -46,5 +51,5 @@ pub(crate) fn of_transfers<R: Clock + Print>(rt: &R, rounds: u32) -> io::Result<
         quickest = quickest.min(start.elapsed(rt)?.as_nanos());
         sum = sum.wrapping_add(u64::from(target[round as usize % BYTES]));
     }
-    println!(rt; "copy of 256 blocks: {quickest} ns, sum {sum}")
+    tell(rt, "copy of 256 blocks", quickest, sum)
 }

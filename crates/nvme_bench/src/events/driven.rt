@@ -78,16 +78,23 @@ impl Driven {
     /// Opens so many hosts, all of whose drivers bring their controllers up.
     pub(crate) fn new(alloc: Global, hosts: u16, kind: Kind) -> io::Result<Driven> {
         let config = configuration(alloc, hosts)?;
-        let mut fleet = Fleet::new(alloc, &config, medium(alloc)?).map_err(|_| want_of_memory())?;
-        for cntlid in 1..hosts.min(16) + 1 {
-            fleet.apply(FleetEvent::BringUp(cntlid));
-        }
-        Ok(Driven {
+        let fleet = Fleet::new(alloc, &config, medium(alloc)?).map_err(|_| want_of_memory())?;
+        let mut driven = Driven {
             fleet,
             cntlid: hosts,
             kind,
             bytes: vec![in alloc; 2; 512 * kind.blocks() as usize]?,
-        })
+        };
+        for cntlid in 1..hosts.min(16) + 1 {
+            driven.happen(FleetEvent::BringUp(cntlid));
+        }
+        Ok(driven)
+    }
+
+    /// One event, of which nothing is known but what it gave: the contract of the fleet ends here.
+    #[inline(always)]
+    fn happen(&mut self, event: FleetEvent<'_>) -> FleetSeen {
+        self.fleet.apply(event)
     }
 }
 
@@ -105,23 +112,23 @@ impl Batch for Driven {
 
     fn ring(&mut self) {
         for _ in 0..self.kind.count() {
-            self.fleet.apply(FleetEvent::Ring(self.cntlid));
+            self.happen(FleetEvent::Ring(self.cntlid));
         }
     }
 
     fn fetch(&mut self) {
         for _ in 0..self.kind.count() {
-            self.fleet.apply(FleetEvent::Fetch(self.cntlid, 1));
+            self.happen(FleetEvent::Fetch(self.cntlid, 1));
         }
     }
 
     fn execute(&mut self) -> u64 {
         let mut sum = 0_u64;
         for _ in 0..self.kind.count() {
-            if let FleetSeen::Executed(Executed::Posted(outcome)) = self
-                .fleet
-                .apply(FleetEvent::Execute(self.cntlid, 0))
-            {
+            if let FleetSeen::Executed(Executed::Posted(outcome)) = self.happen(FleetEvent::Execute(
+                self.cntlid,
+                0,
+            )) {
                 sum = sum.wrapping_add(1 + u64::from(outcome.status.sc));
             }
         }
@@ -132,10 +139,9 @@ impl Batch for Driven {
     fn complete(&mut self) -> u64 {
         let mut sum = 0_u64;
         for _ in 0..self.kind.count() {
-            if let FleetSeen::Polled(Ok(Some(Answer::Done { len, .. }))) = self
-                .fleet
-                .apply(FleetEvent::Poll(self.cntlid))
-            {
+            if let FleetSeen::Polled(Ok(Some(Answer::Done { len, .. }))) = self.happen(
+                FleetEvent::Poll(self.cntlid),
+            ) {
                 sum = sum.wrapping_add(len as u64);
             }
         }

@@ -80,9 +80,14 @@ impl Host {
         Ok(host)
     }
 
+    /// One event, of which nothing is known but what it gave: the contract of the subsystem ends here.
+    #[inline(always)]
+    fn happen(&mut self, event: Event<'_>) -> Seen {
+        self.subsystem.apply(event)
+    }
+
     fn write(&mut self, offset: u64, value: u32) {
-        self.subsystem
-            .apply(Event::Write32(self.cntlid, offset, value));
+        self.happen(Event::Write32(self.cntlid, offset, value));
     }
 
     fn enable(&mut self) {
@@ -91,21 +96,19 @@ impl Host {
         self.write(0x14, 0x0046_0001);
         let completions = entry(5, 0, [COMPLETIONS, 0], [0x003f_0001, 1, 0]);
         let commands = entry(1, 0, [COMMANDS, 0], [0x003f_0001, 0x0001_0001, 0]);
-        self.subsystem
-            .apply(Event::Store(self.cntlid, 0, &completions));
-        self.subsystem
-            .apply(Event::Store(self.cntlid, 64, &commands));
+        self.happen(Event::Store(self.cntlid, 0, &completions));
+        self.happen(Event::Store(self.cntlid, 64, &commands));
         self.write(0x1000, 2);
         for _ in 0..2 {
-            self.subsystem.apply(Event::Fetch(self.cntlid, 0));
-            self.subsystem.apply(Event::Execute(self.cntlid, 0));
+            self.happen(Event::Fetch(self.cntlid, 0));
+            self.happen(Event::Execute(self.cntlid, 0));
         }
     }
 
     fn list_pages(&mut self) {
         for i in 0..31 {
             let page = PAGES + 4096 * (i + 1);
-            self.subsystem.apply(Event::Store(self.cntlid, LIST + 8 * i, &page.to_le_bytes()));
+            self.happen(Event::Store(self.cntlid, LIST + 8 * i, &page.to_le_bytes()));
         }
     }
 }
@@ -120,8 +123,7 @@ impl Batch for Host {
         let entry = command(self.kind, round);
         for i in 0..BATCH {
             let slot = u64::from(self.tail.wrapping_add(i) % 64);
-            self.subsystem
-                .apply(Event::Store(self.cntlid, COMMANDS + 64 * slot, &entry));
+            self.happen(Event::Store(self.cntlid, COMMANDS + 64 * slot, &entry));
         }
         self.tail = self.tail.wrapping_add(BATCH) % 64;
     }
@@ -134,17 +136,17 @@ impl Batch for Host {
 
     fn fetch(&mut self) {
         for _ in 0..BATCH {
-            self.subsystem.apply(Event::Fetch(self.cntlid, 1));
+            self.happen(Event::Fetch(self.cntlid, 1));
         }
     }
 
     fn execute(&mut self) -> u64 {
         let mut sum = 0_u64;
         for _ in 0..BATCH {
-            if let Seen::Executed(Executed::Posted(outcome)) = self
-                .subsystem
-                .apply(Event::Execute(self.cntlid, 0))
-            {
+            if let Seen::Executed(Executed::Posted(outcome)) = self.happen(Event::Execute(
+                self.cntlid,
+                0,
+            )) {
                 sum = sum.wrapping_add(1 + u64::from(outcome.status.sc));
             }
         }
