@@ -3,6 +3,7 @@ import re
 from dataclasses import dataclass
 from pathlib import Path
 
+from support.placing import stands_beside
 from support.source import Function, functions_of
 
 FOLDERS = ("must-fail", "wrong-bodies")
@@ -21,7 +22,8 @@ class Change:
 
 @dataclass(frozen=True)
 class Edit:
-    """A wrong body: its crate, its file, and what it changes; the function, where it changes the body of one alone."""
+    """A wrong body: its crate, its file, and what it changes; the function, where it changes the body of one alone, and
+    whether a copy of that can stand beside it."""
     crate: str
     file: Path
     text: str
@@ -29,6 +31,7 @@ class Edit:
     function: Function = None
     path: str = ""
     body: str = ""
+    is_copied: bool = False
 
     @property
     def name(self):
@@ -78,10 +81,11 @@ def read_edit(rt, crate, file):
     text = file.read_text()
     changes = changes_of(text)
     path, function = changed_function(folder, changes)
-    body = ""
-    if function:
-        body = "\n".join((folder / path).read_text().split("\n")[function.body + 1:function.last])
-    return Edit(crate.name, file, text, changes, function, path, body)
+    if not function:
+        return Edit(crate.name, file, text, changes)
+    whole = (folder / path).read_text()
+    body = "\n".join(whole.split("\n")[function.body + 1:function.last])
+    return Edit(crate.name, file, text, changes, function, path, body, stands_beside(folder, whole, function))
 
 
 def files_of(crate, folders=FOLDERS):
@@ -106,32 +110,21 @@ def orphans(root, crates):
     return [it for it in found if it.parent not in homes and "out" not in it.relative_to(root).parts]
 
 
-def texts_of(folder, edits):
-    """The crate's files with these wrong bodies in them, by their paths: each changes the lines of its own function."""
-    texts = {}
-    for edit in edits:
-        whole = own = (folder / edit.path).read_text()
-        for it in edit.changes:
-            own = own.replace(it.old, it.new)
-        lines = texts.setdefault(edit.path, whole.split("\n"))
-        body = slice(edit.function.body + 1, edit.function.last)
-        lines[body] = own.split("\n")[body]
-    return {path: "\n".join(lines) for path, lines in texts.items()}
-
-
 def are_apart(one, other):
-    """Whether two wrong bodies can share a check: of two functions, neither of which names the other."""
-    def names(body, function):
-        return re.search(rf"\b{function.word}\b", body)
+    """Whether two wrong bodies can share a check: as copies; or in the place of their functions, where these are two
+    and neither of them names the other; or one in its place and one as a copy, where the latter's function does not
+    name the former's."""
+    def names(edit, function):
+        return edit.function.name == function.name or re.search(rf"\b{function.word}\b", edit.body)
 
-    return (one.function.name != other.function.name and not names(one.body, other.function)
-            and not names(other.body, one.function))
+    return ((one.is_copied or not names(other, one.function))
+            and (other.is_copied or not names(one, other.function)))
 
 
 def batches_of(edits, most):
     """The wrong bodies of one crate in as few checks as may be, and those that need a check in full."""
     batches = []
-    for edit in (it for it in edits if it.function):
+    for edit in sorted((it for it in edits if it.function), key=lambda it: it.is_copied):
         room = next((b for b in batches if len(b) < most and all(are_apart(edit, it) for it in b)), None)
         if room is None:
             batches.append([edit])

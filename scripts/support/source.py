@@ -19,6 +19,7 @@ class Function:
     body: int
     last: int
     is_seen: bool
+    is_of_trait: bool = False
 
     @property
     def word(self):
@@ -107,8 +108,9 @@ def functions_of(text, path):
             body, last = ends_of(lines, at, head[1])
             is_method = bool(owner.name and head[1])
             name = f"{owner.name}::{head[3]}" if is_method else module_of(path) + head[3]
-            is_seen = head[2] == "pub " or is_method and owner.shows_all
-            found.append(Function(name, top_of(lines, at), body, last, is_seen))
+            is_of_trait = is_method and owner.shows_all
+            is_seen = head[2] == "pub " or is_of_trait
+            found.append(Function(name, top_of(lines, at), body, last, is_seen, is_of_trait))
             at = last
         at += 1
     return found

@@ -9,7 +9,7 @@ from dataclasses import dataclass, field
 from pathlib import Path
 from types import SimpleNamespace
 
-from support.edits import texts_of
+from support.placing import texts_of
 
 NOTE = re.compile(r"note: (?:\./)?(src/\S+):(\d+):\d+: it is not proved that (.*?) ?\(`([^`]+)`\)")
 ANSWER = re.compile(r"(?:note: )?(?:\./)?proofs/(\S+)/\w+\.antt:\d+:\d+: (?:error: )?`([^`]+)`: (.*)")
@@ -59,7 +59,10 @@ class Said:
         return found
 
     def refuses(self, edit):
-        """Whether the edited function is refused, for the sake of a goal of its own."""
+        """Whether the edited function is refused, for the sake of a goal of its own; and where it is a copy, whether
+        the function that it is a copy of is proved."""
+        if edit.copied and self.verdicts(edit.crate, edit.copied.name) != ["proved"]:
+            return False
         lines = self.verdicts(edit.crate, edit.function.name)
         return any(it.startswith(("not proved", "no proof: expected")) for it in lines) and bool(self.own_goals(edit))
 
@@ -110,6 +113,7 @@ class Bench:
                 if (self.folder / part).is_dir():
                     shutil.copytree(self.folder / part, f"{room}/{part}")
             for path, text in texts.items():
+                Path(room, path).parent.mkdir(parents=True, exist_ok=True)
                 Path(room, path).write_text(text)
             words = [*self.rt.rtlib.guarded(), self.rt.rtlib.RATTLE, "check"]
             words += self.crate.words(["--jobs", "1"], keeps=False)
@@ -126,18 +130,20 @@ class Bench:
 
     def try_batch(self, batch):
         """Tries wrong bodies in one check, and each that is not refused there for its own sake alone."""
-        texts = texts_of(self.folder, batch)
-        said = self.check(texts, [it.function.name for it in batch], self.kept)
-        how = f"with {len(batch) - 1} others" if len(batch) > 1 else "alone"
+        is_shared = len(batch) > 1
+        texts, placed = texts_of(self.folder, batch, lambda it: is_shared and it.is_copied)
+        only = [word for it in placed for word in (it.function, it.copied) if word]
+        said = self.check(texts, dict.fromkeys(it.name for it in only), self.kept)
+        how = f"with {len(batch) - 1} others" if is_shared else "alone"
         is_spoiled = self.is_spoiled(said, texts)
-        for edit in batch:
-            if not is_spoiled and said.refuses(edit):
-                self.tried.add(edit.function.name)
-                yield Result(edit, True, how, told(said.own_goals(edit), self.clauses(edit)))
-            elif len(batch) > 1:
-                yield from self.try_batch([edit])
+        for it in placed:
+            if not is_spoiled and said.refuses(it):
+                self.tried |= set() if it.copied else {it.function.name}
+                yield Result(it.edit, True, how, told(said.own_goals(it), self.clauses(it.edit)))
+            elif is_shared:
+                yield from self.try_batch([it.edit])
             else:
-                yield self.try_in_full(edit)
+                yield self.try_in_full(it.edit)
 
     def asked(self, edit, *kept):
         """What `rt` makes of a wrong body: whether the prover refuses it, and in which words."""
