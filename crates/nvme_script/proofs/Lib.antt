@@ -6,3 +6,4 @@ pub mod Running
 pub mod Preparing
 pub mod Ending
 pub mod Alone
+pub mod Reasons

@@ -10,3 +10,5 @@ pub mod Faults
 pub mod ScriptCalls
 pub mod RunLaws
 pub mod Statuses
+pub mod Reasons
+pub mod ReasonLaws

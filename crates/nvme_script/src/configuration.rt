@@ -1,13 +1,17 @@
 //! Why a configuration is refused: the rule, and the line that is at fault.
 
-ghost use Rattle.std.specs.Prelude.{◌≤◌, length};
+ghost use Rattle.std.specs.Prelude.{◌≡◌, ◌≤◌, ◌==◌, ◌&&◌, [], Some, length};
+ghost use Rattle.std.specs.List.{list_any};
 ghost use Rattle.script_text.specs.Words.{most_words};
 ghost use Rattle.nvme_grammar.specs.Room.{HasBytesRoom};
+ghost use Rattle.nvme_spec.specs.Configuration.{is_private};
+ghost use Rattle.nvme_ns.specs.Configured.{configuration};
+ghost use Rattle.nvme_script.specs.Reasons as spec;
+ghost use Rattle.nvme_script.specs.declared.configuration.SetupLine.TheVariants as line_of;
 
 use nvme_grammar::{Line, parse_line};
-use nvme_spec::{Config, ConfigFault};
+use nvme_spec::{Config, ConfigFault, ControllerConfig, NsConfig};
 use script_text::front_line;
-use std::fmt;
 
 /// A line before `start`, by its kind, and by its place among the lines of that kind, from 0.
 #[derive(Clone, Copy, Debug, PartialEq, Eq)]
@@ -33,73 +37,13 @@ pub enum BrokenRule {
     UnknownNamespace(u32),
     /// The controller and the namespace that are attached twice.
     RepeatedAttachment(u16, u32),
-    /// The private namespace that has a second controller, and that.
+    /// The second controller of a private namespace, and that.
     NotShared(u16, u32),
     NoBlocks(u32),
     /// The namespace, and its blocks.
     TooLarge(u32, u64),
     /// The namespace that has no room, and the blocks of the medium.
     DoesNotFit(u32, u64),
-}
-
-impl fmt::Display for BrokenRule {
-    fn fmt<W: fmt::Write>(&self, f: &mut fmt::Formatter<W>) -> fmt::Result {
-        match *self {
-            BrokenRule::TooManyControllers => write!(
-                f,
-                "this is controller 17, and 16 is the most"
-            ),
-            BrokenRule::TooManyNamespaces => write!(
-                f,
-                "this is the ninth namespace, and 8 is the most"
-            ),
-            BrokenRule::TooManyAttachments => write!(
-                f,
-                "this is attachment 129, and 128 is the most"
-            ),
-            BrokenRule::Misnumbered(k, cntlid) => {
-                write!(
-                    f,
-                    "controller {k} has to stand here, and not {cntlid}: they are counted from 1"
-                )
-            }
-            BrokenRule::NoHost(cntlid) => write!(
-                f,
-                "controller {cntlid} belongs to host 0, which is none"
-            ),
-            BrokenRule::ForeignNsid(nsid) => write!(
-                f,
-                "namespace {nsid} can't be: they are 1 to 8"
-            ),
-            BrokenRule::RepeatedNsid(nsid) => write!(f, "namespace {nsid} stands twice"),
-            BrokenRule::UnknownController(cntlid) => write!(
-                f,
-                "controller {cntlid} is not configured"
-            ),
-            BrokenRule::UnknownNamespace(nsid) => write!(f, "namespace {nsid} is not configured"),
-            BrokenRule::RepeatedAttachment(cntlid, nsid) => {
-                write!(
-                    f,
-                    "controller {cntlid} is attached to namespace {nsid} twice"
-                )
-            }
-            BrokenRule::NotShared(cntlid, nsid) => write!(
-                f,
-                "namespace {nsid} is private, and controller {cntlid} is the second that is attached to it"
-            ),
-            BrokenRule::NoBlocks(nsid) => write!(f, "namespace {nsid} has no blocks"),
-            BrokenRule::TooLarge(nsid, blocks) => {
-                write!(
-                    f,
-                    "namespace {nsid} has {blocks} blocks, and 65536 is the most"
-                )
-            }
-            BrokenRule::DoesNotFit(nsid, blocks) => write!(
-                f,
-                "namespace {nsid} ends behind the {blocks} blocks of the medium, where the namespaces lie one after the other"
-            ),
-        }
-    }
 }
 
 /// The rule that a refused configuration breaks, and where.
@@ -110,98 +54,186 @@ pub struct ConfigReason {
 }
 
 /// A reason at a line.
-fn at(line: SetupLine, rule: BrokenRule) -> Option<ConfigReason> {
+fn at(line: SetupLine, rule: BrokenRule) -> Option<ConfigReason>
+    ensures { result ≡ spec.reason_at line (Some rule) }
+{
     Some(ConfigReason { line, rule })
 }
 
 /// The first line that is one too many.
-fn too_many(config: &Config) -> Option<ConfigReason> {
+fn one_too_many(config: &Config) -> Option<ConfigReason>
+    ensures { result ≡ spec.one_too_many (configuration config.now) }
+{
     if config.controllers.len() > 16 {
         return at(SetupLine::Controller(16), BrokenRule::TooManyControllers);
     }
     if config.namespaces.len() > 8 {
         return at(SetupLine::Namespace(8), BrokenRule::TooManyNamespaces);
     }
-    at(SetupLine::Attached(128), BrokenRule::TooManyAttachments)
+    if config.attached.len() > 128 {
+        return at(SetupLine::Attached(128), BrokenRule::TooManyAttachments);
+    }
+    None
 }
 
-/// The first controller whose identifier is not its number, or else the first without a host.
-fn bad_controller(config: &Config) -> Option<ConfigReason> {
-    for (i, controller) in config.controllers.iter().enumerate() {
-        let cntlid = controller.cntlid;
-        if usize::from(cntlid) != i + 1 {
-            return at(
-                SetupLine::Controller(i),
-                BrokenRule::Misnumbered(i + 1, cntlid),
-            );
-        }
-        if controller.host == 0 {
-            return at(SetupLine::Controller(i), BrokenRule::NoHost(cntlid));
+/// What is wrong with a controller behind others: its identifier is not its number, or it has no host.
+fn controller_breaks(
+    before: &[ControllerConfig],
+    controller: ControllerConfig,
+) -> Option<BrokenRule>
+    ensures { result ≡ spec.controller_breaks before.now controller }
+{
+    let number = before.len() + 1;
+    let cntlid = controller.cntlid;
+    if usize::from(cntlid) != number {
+        return Some(BrokenRule::Misnumbered(number, cntlid));
+    }
+    if controller.host == 0 {
+        return Some(BrokenRule::NoHost(cntlid));
+    }
+    None
+}
+
+/// The first controller with which something is wrong.
+fn bad_controller(controllers: &[ControllerConfig]) -> Option<ConfigReason>
+    ensures { result ≡ spec.first_line line_of.Controller spec.controller_breaks [] controllers.now }
+{
+    for (i, controller) in controllers.iter().enumerate() {
+        if let Some(rule) = controller_breaks(&controllers[..i], *controller) {
+            return at(SetupLine::Controller(i), rule);
         }
     }
     None
 }
 
-/// The first namespace whose identifier can't be, or stands before it.
-fn bad_namespace(config: &Config) -> Option<ConfigReason> {
-    let namespaces = config.namespaces.as_slice();
-    for i in 0..namespaces.len() {
-        let nsid = namespaces[i].nsid;
-        if nsid == 0 || nsid > 8 {
-            return at(SetupLine::Namespace(i), BrokenRule::ForeignNsid(nsid));
-        }
-        if namespaces[..i].iter().any(|n| n.nsid == nsid) {
-            return at(SetupLine::Namespace(i), BrokenRule::RepeatedNsid(nsid));
+/// Whether a namespace has this identifier.
+fn is_named(namespaces: &[NsConfig], nsid: u32) -> bool
+    ensures { result ≡ list_any (λ n. n.nsid == nsid) namespaces.now }
+{
+    namespaces.iter().any(|n| n.nsid == nsid)
+}
+
+/// What is wrong with the identifier of a namespace behind others: it can't be, or is one of theirs.
+fn namespace_breaks(before: &[NsConfig], namespace: NsConfig) -> Option<BrokenRule>
+    ensures { result ≡ spec.namespace_breaks before.now namespace }
+{
+    let nsid = namespace.nsid;
+    if nsid == 0 || nsid > 8 {
+        return Some(BrokenRule::ForeignNsid(nsid));
+    }
+    if is_named(before, nsid) {
+        return Some(BrokenRule::RepeatedNsid(nsid));
+    }
+    None
+}
+
+/// The first namespace with whose identifier something is wrong.
+fn bad_namespace(namespaces: &[NsConfig]) -> Option<ConfigReason>
+    ensures { result ≡ spec.first_line line_of.Namespace spec.namespace_breaks [] namespaces.now }
+{
+    for (i, namespace) in namespaces.iter().enumerate() {
+        if let Some(rule) = namespace_breaks(&namespaces[..i], *namespace) {
+            return at(SetupLine::Namespace(i), rule);
         }
     }
     None
 }
 
-/// What is wrong with an attachment behind others, if anything is.
-fn broken_attachment(
-    config: &Config,
-    others: &[(u16, u32)],
-    cntlid: u16,
-    nsid: u32,
-) -> Option<BrokenRule> {
-    if !config.controllers.iter().any(|c| c.cntlid == cntlid) {
+/// Whether a controller has this identifier.
+fn has_controller(controllers: &[ControllerConfig], cntlid: u16) -> bool
+    ensures { result ≡ list_any (λ k. k.cntlid == cntlid) controllers.now }
+{
+    controllers.iter().any(|k| k.cntlid == cntlid)
+}
+
+/// Whether the namespace with this identifier is private.
+fn has_private(config: &Config, nsid: u32) -> bool
+    ensures { result ≡ is_private (configuration config.now) nsid }
+{
+    config
+        .namespaces
+        .iter()
+        .any(|n| n.nsid == nsid && !n.shared)
+}
+
+/// Whether a pair is one of these.
+fn is_attached(pairs: &[(u16, u32)], cntlid: u16, nsid: u32) -> bool
+    ensures { result ≡ list_any (λ pair. (pair.0 == cntlid) && (pair.1 == nsid)) pairs.now }
+{
+    pairs.iter().any(|pair| pair.0 == cntlid && pair.1 == nsid)
+}
+
+/// Whether something is attached to a namespace.
+fn is_taken(pairs: &[(u16, u32)], nsid: u32) -> bool
+    ensures { result ≡ list_any (λ pair. pair.1 == nsid) pairs.now }
+{
+    pairs.iter().any(|pair| pair.1 == nsid)
+}
+
+/// What is wrong with an attachment behind others: it names what is not configured, is one of them, or is the second of
+/// a private namespace.
+fn attachment_breaks(config: &Config, before: &[(u16, u32)], pair: (u16, u32)) -> Option<BrokenRule>
+    ensures { result ≡ spec.attachment_breaks (configuration config.now) before.now pair }
+{
+    let (cntlid, nsid) = pair;
+    if !has_controller(&config.controllers, cntlid) {
         return Some(BrokenRule::UnknownController(cntlid));
     }
-    let Some(namespace) = config.namespaces.iter().find(|n| n.nsid == nsid) else {
+    if !is_named(&config.namespaces, nsid) {
         return Some(BrokenRule::UnknownNamespace(nsid));
-    };
-    if others.iter().any(|other| *other == (cntlid, nsid)) {
+    }
+    if is_attached(before, cntlid, nsid) {
         return Some(BrokenRule::RepeatedAttachment(cntlid, nsid));
     }
-    if !namespace.shared && others.iter().any(|other| other.1 == nsid) {
+    if has_private(config, nsid) && is_taken(before, nsid) {
         return Some(BrokenRule::NotShared(cntlid, nsid));
     }
     None
 }
 
 /// The first attachment with which something is wrong.
-fn bad_attachment(config: &Config) -> Option<ConfigReason> {
+fn bad_attachment(config: &Config) -> Option<ConfigReason>
+    ensures { result ≡ spec.first_line line_of.Attached (spec.attachment_breaks (configuration config.now)) []
+        config.now.attached.items }
+{
     let attached = config.attached.as_slice();
-    for i in 0..attached.len() {
-        let (cntlid, nsid) = attached[i];
-        if let Some(rule) = broken_attachment(config, &attached[..i], cntlid, nsid) {
+    for (i, pair) in attached.iter().enumerate() {
+        if let Some(rule) = attachment_breaks(config, &attached[..i], *pair) {
             return at(SetupLine::Attached(i), rule);
         }
     }
     None
 }
 
+/// The first line with whose identifiers something is wrong.
+fn bad_id(config: &Config) -> Option<ConfigReason>
+    ensures { result ≡ spec.first_bad_id (configuration config.now) }
+{
+    bad_controller(&config.controllers)
+        .or_else(|| bad_namespace(&config.namespaces))
+        .or_else(|| bad_attachment(config))
+}
+
+/// What is wrong with the size of a namespace: it has no blocks, or too many.
+fn size_breaks(namespace: NsConfig) -> Option<BrokenRule>
+    ensures { result ≡ spec.size_breaks [] namespace }
+{
+    let NsConfig { nsid, blocks, .. } = namespace;
+    if blocks == 0 {
+        return Some(BrokenRule::NoBlocks(nsid));
+    }
+    if blocks > 65_536 {
+        return Some(BrokenRule::TooLarge(nsid, blocks));
+    }
+    None
+}
+
 /// The first namespace without blocks, or with too many.
-fn bad_size(config: &Config) -> Option<ConfigReason> {
-    for (i, namespace) in config.namespaces.iter().enumerate() {
-        if namespace.blocks == 0 {
-            return at(
-                SetupLine::Namespace(i),
-                BrokenRule::NoBlocks(namespace.nsid),
-            );
-        }
-        if namespace.blocks > 65_536 {
-            let rule = BrokenRule::TooLarge(namespace.nsid, namespace.blocks);
+fn bad_size(namespaces: &[NsConfig]) -> Option<ConfigReason>
+    ensures { result ≡ spec.first_line line_of.Namespace spec.size_breaks [] namespaces.now }
+{
+    for (i, namespace) in namespaces.iter().enumerate() {
+        if let Some(rule) = size_breaks(*namespace) {
             return at(SetupLine::Namespace(i), rule);
         }
     }
@@ -209,9 +241,11 @@ fn bad_size(config: &Config) -> Option<ConfigReason> {
 }
 
 /// The first namespace that has no room on the medium behind those before it.
-fn does_not_fit(config: &Config, medium_blocks: u64) -> Option<ConfigReason> {
+fn does_not_fit(namespaces: &[NsConfig], medium_blocks: u64) -> Option<ConfigReason>
+    ensures { result ≡ spec.first_line line_of.Namespace (spec.room_breaks medium_blocks) [] namespaces.now }
+{
     let mut room = medium_blocks;
-    for (i, namespace) in config.namespaces.iter().enumerate() {
+    for (i, namespace) in namespaces.iter().enumerate() {
         if namespace.blocks > room {
             let rule = BrokenRule::DoesNotFit(namespace.nsid, medium_blocks);
             return at(SetupLine::Namespace(i), rule);
@@ -224,18 +258,15 @@ fn does_not_fit(config: &Config, medium_blocks: u64) -> Option<ConfigReason> {
 impl ConfigReason {
     /// Why a configuration is refused with this fault over a medium of so many blocks: a rule that it breaks and that
     /// has this fault, and the first line that breaks it. `None` for want of memory.
-    pub fn of(config: &Config, medium_blocks: u64, fault: ConfigFault) -> Option<ConfigReason> {
+    #[tactic(auto, unfolding(crate::specs::Reasons::reason_of))]
+    pub fn of(config: &Config, medium_blocks: u64, fault: ConfigFault) -> Option<ConfigReason>
+        ensures { result ≡ spec.reason_of (configuration config.now) medium_blocks fault }
+    {
         match fault {
-            ConfigFault::TooMany => too_many(config),
-            ConfigFault::BadId => match bad_controller(config) {
-                Some(reason) => Some(reason),
-                None => match bad_namespace(config) {
-                    Some(reason) => Some(reason),
-                    None => bad_attachment(config),
-                },
-            },
-            ConfigFault::BadSize => bad_size(config),
-            ConfigFault::DoesNotFit => does_not_fit(config, medium_blocks),
+            ConfigFault::TooMany => one_too_many(config),
+            ConfigFault::BadId => bad_id(config),
+            ConfigFault::BadSize => bad_size(&config.namespaces),
+            ConfigFault::DoesNotFit => does_not_fit(&config.namespaces, medium_blocks),
             ConfigFault::NoMemory => None,
         }
     }

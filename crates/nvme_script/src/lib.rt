@@ -2,10 +2,12 @@
 #![tactic(auto)]
 
 mod configuration;
+mod examples;
 pub mod laws;
 mod program;
 mod reason;
 mod run;
+mod sentence;
 
 pub use configuration::{BrokenRule, ConfigReason, SetupLine};
 pub use program::{Failure, Paths, image_at, paths_of, run_program, scratch};
