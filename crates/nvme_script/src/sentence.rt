@@ -87,7 +87,7 @@ fn not_shared(cntlid: u16, nsid: u32) -> Sentence
 impl BrokenRule {
     /// The sentence that says it.
     #[tactic(auto, unfolding(crate::specs::Reasons::rule_text))]
-    pub fn sentence(self) -> Sentence
+    fn sentence(self) -> Sentence
         ensures { sentence_text result ≡ rule_text self }
     {
         match self {
