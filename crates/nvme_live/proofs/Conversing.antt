@@ -7,7 +7,7 @@ use Rattle.std.proofs.lemmas.Bool.{ltb-true, ltb-false, lt-ltb, false≢true}
 use Rattle.std.proofs.lemmas.List.{length-take}
 use Rattle.std.proofs.lemmas.List.Elements.{All-nil}
 use Rattle.nvme_spec.specs.Blocks.{Device}
-use Rattle.nvme_spec.specs.Configuration.{Configuration}
+use Rattle.nvme_live.specs.SetUps.{SetUp, with_line}
 use Rattle.nvme_fleet.specs.FleetStates.{Layers}
 use Rattle.nvme_grammar.specs.declared.line.Line.{Line}
 use Rattle.nvme_grammar.specs.declared.line.Line.TheVariants.{Blank, Controller, Namespace, Attached, Start, Event}
@@ -23,7 +23,7 @@ use Rattle.nvme_live.specs.Answers.{Answers, Answered}
 use Rattle.nvme_live.specs.Asking.{asked}
 use Rattle.nvme_live.specs.Saying.{Breaks, with_feed}
 use Rattle.nvme_live.specs.Settling.{Comes, SettlesAlike}
-use Rattle.nvme_live.specs.Standings.{Standing, Setting, Running, Turn, set_by}
+use Rattle.nvme_live.specs.Standings.{Standing, Setting, Running, Turn}
 use Rattle.nvme_live.specs.Conversations.{Converses, Ends, EndsBy, BreaksOff, Unread, Starves, ComesToStart}
 use Rattle.nvme_live.specs.Taking.{ReadsLine, TakesFront, kept}
 use Rattle.nvme_live.proofs.Takings.{kept-all, kept-short}
@@ -53,13 +53,13 @@ pub front-none : (a : Option (List ℕ)) → TakesFront a a
 front-none a = record { bytes = []; of_line = All-nil (λ b. b ≡ 10 → ⊥); taken = Consumes-nil a }
 
 -- A line before `start`.
-pub comes-by : {T E : Type 0} (written : Result T E) (result : Result Settled ScriptFault) (n : ℕ) (old : Configuration) (asks : Asked) (new : Configuration) (before after : Option (List ℕ)) (answer : List ℕ)
+pub comes-by : {T E : Type 0} (written : Result T E) (result : Result Settled ScriptFault) (n : ℕ) (old : SetUp) (asks : Asked) (new : SetUp) (before after : Option (List ℕ)) (answer : List ℕ)
     → MatchResult written (λ _. result ≡ Ok settled.Answered) (λ _. result ≡ Err Write) → SettlesAlike n old asks answer new
     → OnOk written (Appends before after answer) → OnErr written (Breaks before after answer) → Comes result n old asks new before after
 comes-by (Ok x) result n old asks new before after answer is alike ok err = subst (λ (r : Result Settled ScriptFault). Comes r n old asks new before after) (sym is) (answer, alike, ok)
 comes-by (Err e) result n old asks new before after answer is alike ok err = subst (λ (r : Result Settled ScriptFault). Comes r n old asks new before after) (sym is) (answer, alike, err)
 
-pub sets-other : (n : ℕ) (c new : Configuration) (line : Line) → (line ≡ Start → ⊥) → new ≡ set_by c (line_by_value line) → SettlesAlike n c (Sets (line_by_value line)) (with_feed (codes "ok")) new
+pub sets-other : (n : ℕ) (c new : SetUp) (line : Line) → (line ≡ Start → ⊥) → new ≡ with_line n c (line_by_value line) → SettlesAlike n c (Sets (line_by_value line)) (with_feed (codes "ok")) new
 sets-other n c new Start other e = absurd (other refl)
 sets-other n c new Blank other e = λ blocks d. (refl, ap Setting e)
 sets-other n c new (Controller k) other e = λ blocks d. (refl, ap Setting e)
@@ -113,7 +113,7 @@ pub short-read : (v w : Option (List ℕ)) (line : List ℕ) → ReadsLine true 
 short-read v w line reads = let short = kept-short reads.0 in omega (arith, short, ap length reads.2)
 
 -- A line before `start`, by what it came to.
-module _ (tells : Bool) (blocks : ℕ) (d : Device) (k : ℕ) (c0 c1 c2 : Configuration) (u v x y : Option (List ℕ)) (h : Converses tells blocks d 1 (Setting c0) k (Setting c1) u v x y)
+module _ (tells : Bool) (blocks : ℕ) (d : Device) (k : ℕ) (c0 c1 c2 : SetUp) (u v x y : Option (List ℕ)) (h : Converses tells blocks d 1 (Setting c0) k (Setting c1) u v x y)
     (w z : Option (List ℕ)) (line : List ℕ) (asks : Asked) (reads : ReadsLine true v w line) (is : asks ≡ asked line) where
   pub came-answered : Comes (Ok settled.Answered) k c1 asks c2 y z → Converses tells blocks d 1 (Setting c0) (k + 1) (Setting c2) u w x z
   came-answered (answer, alike, wrote) = line-more tells blocks d (Setting c0) (Setting c1) 1 k u v x y h w z line asks reads is (Setting c2) answer (alike blocks d) wrote
@@ -122,7 +122,7 @@ module _ (tells : Bool) (blocks : ℕ) (d : Device) (k : ℕ) (c0 c1 c2 : Config
   came-started (starts, same, unwritten) countable = record {
     between = v;
     conversed = subst (λ (t : Option (List ℕ)). Converses tells blocks d 1 (Setting c0) k (Setting c2) u v x t) (sym unwritten)
-        (subst (λ (c : Configuration). Converses tells blocks d 1 (Setting c0) k (Setting c) u v x y) (sym same) h);
+        (subst (λ (c : SetUp). Converses tells blocks d 1 (Setting c0) k (Setting c) u v x y) (sym same) h);
     line = reads.0;
     taken = reads.1;
     starts = sym (is ∙ ap asked reads.2 ∙ asked-kept reads.0) ∙ starts;
@@ -132,7 +132,7 @@ module _ (tells : Bool) (blocks : ℕ) (d : Device) (k : ℕ) (c0 c1 c2 : Config
   pub came-to-fault : (fault : ScriptFault) → Comes (Err fault) k c1 asks c2 y z → EndsBy fault tells blocks d 1 (Setting c0) (Setting c2) u w x z
   came-to-fault Write (answer, alike, broke) = line-broke tells blocks d (Setting c0) (Setting c1) 1 k u v x y h w z line asks reads is (Setting c2) answer (alike blocks d) broke
   came-to-fault NoMemory (says, sets, same, unwritten) =
-      subst (λ (c : Configuration). Starves tells blocks d 1 (Setting c0) (Setting c) u w x z) (sym same)
+      subst (λ (c : SetUp). Starves tells blocks d 1 (Setting c0) (Setting c) u w x z) (sym same)
       (line-starves tells blocks d (Setting c0) (Setting c1) 1 k u v x y h w z line asks reads is says sets unwritten)
   came-to-fault (Syntax i) q = absurd q
   came-to-fault (Config i f) q = absurd q

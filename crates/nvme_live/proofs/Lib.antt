@@ -1,4 +1,5 @@
 pub mod Takings
+pub mod SetUps
 pub mod Turns
 pub mod Sessions
 pub mod Conversing
@@ -8,3 +9,4 @@ pub mod Kept
 pub mod Lines
 pub mod SessionScripts
 pub mod SessionLaws
+pub mod OnLiterals

@@ -3,7 +3,8 @@ use Rattle.std.proofs.Common.{◌≡◌, ℕ, Bool, List, Option, None, Some, Ok
 use Rattle.std.specs.Prelude.{Result, IfOk, IfErr}
 use Rattle.nvme_spec.specs.Blocks.{Device}
 use Rattle.nvme_spec.specs.MediumCalls.{MediumCall}
-use Rattle.nvme_ns.specs.Configured.{configuration}
+use Rattle.nvme_live.specs.declared.line_numbers.LineNumbers.{LineNumbers}
+use Rattle.nvme_live.specs.SetUps.{SetUp, no_numbers, nothing_set_up, numbers_in, set_up_of}
 use Rattle.nvme_fleet.specs.FleetStates.{Layers}
 use Rattle.script_text.specs.Lines.{text_lines}
 use Rattle.script_text.specs.Streams.{ReadCall}
@@ -23,22 +24,30 @@ not-some (Some n) h = absurd (h n refl)
 
 module _ {S M : Type 0} (read : S → ReadCall → S → Type 0) (remaining : S → Option (List ℕ)) (s t : S) (step : M → MediumCall → M → Type 0) (tells : Bool) (device : M → Device) (blocks : ℕ)
     (text : List ℕ) (script : Script) (ready : IsReady text script) (is : IsRead read remaining s (Ok text) t) (medium : M) (u w x z : Option (List ℕ)) where
-  setting : script.start ≡ None → Opens step tells device blocks text medium (start_of (text_lines text)) (Setting (configuration script.config)) x x
-  setting none =
-      subst (λ (o : Option ℕ). Opens step tells device blocks text medium o (Setting (configuration script.config)) x x) (sym (sym ready.says.start ∙ none))
-      (ready.grammar, ap Setting (nothing-set text script ready none), refl)
+  -- without `start` nothing is set up, and no line is numbered
+  module _ (numbers : LineNumbers) (unnumbered : numbers_in numbers ≡ no_numbers) where
+    abbrev set : SetUp
+    set = set_up_of script.config numbers
 
-  pub live-set-ok : {E : Type 0} (r : Result M E) → script.start ≡ None
-      → IfOk r (λ after. Rests (λ last. Ends tells blocks (device medium) 1 (Setting (configuration script.config)) last u w x z) (device medium) (device after))
-      → IfOk r (λ after. (text : List ℕ) × IsRead read remaining s (Ok text) t × LivesOn step tells device blocks text medium after u w x z)
-  live-set-ok (Ok after) none h = (text, is, record { first = Setting (configuration script.config); told = x; opened = setting none; rests = h })
-  live-set-ok (Err e) none h = tt
+    nothing-yet : script.start ≡ None → set ≡ nothing_set_up
+    nothing-yet none = λ i. record { configuration = nothing-set text script ready none i; numbers = unnumbered i }
 
-  pub live-set-err : {E : Type 0} (r : Result E (ScriptFault × M)) → script.start ≡ None
-      → IfErr r (λ e. Rests (λ last. EndsBy e.0 tells blocks (device medium) 1 (Setting (configuration script.config)) last u w x z) (device medium) (device e.1))
-      → IfErr r (λ e. ReadsThen read remaining s t e.0 (λ text. Fails step tells device blocks text medium e.0 e.1 u w x z))
-  live-set-err (Ok after) none h = tt
-  live-set-err (Err e) none h = (Ok text, is, inr (record { first = Setting (configuration script.config); told = x; opened = setting none; rests = h }))
+    setting : script.start ≡ None → Opens step tells device blocks text medium (start_of (text_lines text)) (Setting set) x x
+    setting none =
+        subst (λ (o : Option ℕ). Opens step tells device blocks text medium o (Setting set) x x) (sym (sym ready.says.start ∙ none))
+        (ready.grammar, ap Setting (nothing-yet none), refl)
+
+    pub live-set-ok : {E : Type 0} (r : Result M E) → script.start ≡ None
+        → IfOk r (λ after. Rests (λ last. Ends tells blocks (device medium) 1 (Setting set) last u w x z) (device medium) (device after))
+        → IfOk r (λ after. (text : List ℕ) × IsRead read remaining s (Ok text) t × LivesOn step tells device blocks text medium after u w x z)
+    live-set-ok (Ok after) none h = (text, is, record { first = Setting set; told = x; opened = setting none; rests = h })
+    live-set-ok (Err e) none h = tt
+
+    pub live-set-err : {E : Type 0} (r : Result E (ScriptFault × M)) → script.start ≡ None
+        → IfErr r (λ e. Rests (λ last. EndsBy e.0 tells blocks (device medium) 1 (Setting set) last u w x z) (device medium) (device e.1))
+        → IfErr r (λ e. ReadsThen read remaining s t e.0 (λ text. Fails step tells device blocks text medium e.0 e.1 u w x z))
+    live-set-err (Ok after) none h = tt
+    live-set-err (Err e) none h = (Ok text, is, inr (record { first = Setting set; told = x; opened = setting none; rests = h }))
 
   module _ (n : ℕ) (starts : script.start ≡ Some n) (l : Layers) (mid : M) (y : Option (List ℕ)) (ran : IsScript text blocks × RunsTo step tells device text medium l mid x y) where
     running : Opens step tells device blocks text medium (start_of (text_lines text)) (Running l) x y

@@ -5,7 +5,8 @@ use Rattle.std.specs.List.{concat, list_any}
 use Rattle.std.specs.Io.KnownBytes.{Appends, Consumes, IsAtEnd}
 use Rattle.std.proofs.lemmas.Bool.{false≢true}
 use Rattle.nvme_spec.specs.Blocks.{Device, blocks_from}
-use Rattle.nvme_spec.specs.Configuration.{Configuration, first_config_fault}
+use Rattle.nvme_spec.specs.Configuration.{first_config_fault}
+use Rattle.nvme_live.specs.SetUps.{SetUp, numbered_reason, with_line}
 use Rattle.nvme_spec.specs.declared.config.ConfigFault.{ConfigFault}
 use Rattle.nvme_spec.specs.declared.medium.MediumFault.{MediumFault}
 use Rattle.nvme_subsys.specs.Looking.{Reads}
@@ -31,7 +32,7 @@ use Rattle.nvme_live.specs.Keeping.{is_block_look}
 use Rattle.nvme_live.specs.Saying.{with_feed}
 use Rattle.nvme_live.specs.SessionLaws.{EndIsUnique, HasTicketsOnce, IsAnswered, LinesBeforeStartAreAnswered, LinesOfARunAreAnswered, SessionIsUnique, StartIsAnswered, asks_start, events_asked, failures_at, with_asked}
 use Rattle.nvme_live.specs.Showing.{early_text, read_text, shown_text}
-use Rattle.nvme_live.specs.Standings.{Standing, Setting, Running, Over, Session, SetsBy, Starts, Turn, refused_text, set_by, started_text}
+use Rattle.nvme_live.specs.Standings.{Standing, Setting, Running, Over, Session, SetsBy, Starts, Turn, refused_text, started_text}
 use Rattle.nvme_live.specs.Taking.{TakesLines, session_lines}
 use Rattle.nvme_live.proofs.Kept.{looked-at, same-layers}
 use Rattle.nvme_live.proofs.Lines.{lines_are_known}
@@ -73,11 +74,11 @@ answered-rises tells n (Looks looking) old new answer h = shows-rises tells n lo
 answered-rises tells n (Sets says) old new answer h = same-rises _ _ (ap failing h.1)
 answered-rises tells n (Does event) old new answer h = step-rises tells old new event h.reply h.step
 
-stays-at : (d : Device) (c k : Configuration) (new : Standing) → new ≡ Setting k → failures_at d (Setting c) ≤ failures_at d new
+stays-at : (d : Device) (c k : SetUp) (new : Standing) → new ≡ Setting k → failures_at d (Setting c) ≤ failures_at d new
 stays-at d c k new e = same-rises _ _ (ap (failures_at d) e)
 
-sets-rises : (blocks : ℕ) (d : Device) (n : ℕ) (c : Configuration) (line : Line) (answer : List ℕ) (new : Standing) → SetsBy blocks d n c line answer new → failures_at d (Setting c) ≤ failures_at d new
-sets-rises blocks d n c Start answer new h = same-rises _ _ (ap (λ (e : Device). e.failures) (starts-device (first_config_fault c blocks) d n c answer new h))
+sets-rises : (blocks : ℕ) (d : Device) (n : ℕ) (c : SetUp) (line : Line) (answer : List ℕ) (new : Standing) → SetsBy blocks d n c line answer new → failures_at d (Setting c) ≤ failures_at d new
+sets-rises blocks d n c Start answer new h = same-rises _ _ (ap (λ (e : Device). e.failures) (starts-device (first_config_fault c.configuration blocks) blocks d n c answer new h))
 sets-rises blocks d n c Blank answer new h = stays-at d c _ new h.1
 sets-rises blocks d n c (Controller k) answer new h = stays-at d c _ new h.1
 sets-rises blocks d n c (Namespace k) answer new h = stays-at d c _ new h.1
@@ -158,12 +159,12 @@ module _ (n : ℕ) (old new other : Layers) (a b : List ℕ) (x : new.subsystem.
       same-head : (r s : Reply) → r ∷ [] ≡ s ∷ [] → r ≡ s
       same-head r s e = cc
 
-starts-alike : (o : Option ConfigFault) (d : Device) (n : ℕ) (c : Configuration) (a b : List ℕ) (new other : Standing) → Starts o d n c a new → Starts o d n c b other → Alike a b new other
-starts-alike None d n c a b new other h k = alike a b _ new other _ h k
-starts-alike (Some fault) d n c a b new other h k = alike a b _ new other _ h k
+starts-alike : (o : Option ConfigFault) (blocks : ℕ) (d : Device) (n : ℕ) (c : SetUp) (a b : List ℕ) (new other : Standing) → Starts o blocks d n c a new → Starts o blocks d n c b other → Alike a b new other
+starts-alike None blocks d n c a b new other h k = alike a b _ new other _ h k
+starts-alike (Some fault) blocks d n c a b new other h k = alike a b _ new other _ h k
 
-sets-alike : (blocks : ℕ) (d : Device) (n : ℕ) (c : Configuration) (line : Line) (a b : List ℕ) (new other : Standing) → SetsBy blocks d n c line a new → SetsBy blocks d n c line b other → Alike a b new other
-sets-alike blocks d n c Start a b new other h k = starts-alike (first_config_fault c blocks) d n c a b new other h k
+sets-alike : (blocks : ℕ) (d : Device) (n : ℕ) (c : SetUp) (line : Line) (a b : List ℕ) (new other : Standing) → SetsBy blocks d n c line a new → SetsBy blocks d n c line b other → Alike a b new other
+sets-alike blocks d n c Start a b new other h k = starts-alike (first_config_fault c.configuration blocks) blocks d n c a b new other h k
 sets-alike blocks d n c Blank a b new other h k = alike a b _ new other _ h k
 sets-alike blocks d n c (Controller i) a b new other h k = alike a b _ new other _ h k
 sets-alike blocks d n c (Namespace i) a b new other h k = alike a b _ new other _ h k
@@ -208,15 +209,15 @@ answered-once n (Looks looking) old new answer h x below once = subst HaveTicket
 answered-once n (Sets says) old new answer h x below once = subst HaveTicketsOnce (sym h.1) once
 answered-once n (Does event) old new answer h x below once = tickets_stay_once true old new (event ∷ []) (h.reply ∷ []) (new, h.step, refl) once
 
-starts-once : (o : Option ConfigFault) (d : Device) (n : ℕ) (c : Configuration) (answer : List ℕ) (new : Standing) → Starts o d n c answer new → HasTicketsOnce new
-starts-once None d n c answer new h = subst HasTicketsOnce (sym h.1) (opening_has_tickets_once c d)
-starts-once (Some fault) d n c answer new h = subst HasTicketsOnce (sym h.1) tt
+starts-once : (o : Option ConfigFault) (blocks : ℕ) (d : Device) (n : ℕ) (c : SetUp) (answer : List ℕ) (new : Standing) → Starts o blocks d n c answer new → HasTicketsOnce new
+starts-once None blocks d n c answer new h = subst HasTicketsOnce (sym h.1) (opening_has_tickets_once c.configuration d)
+starts-once (Some fault) blocks d n c answer new h = subst HasTicketsOnce (sym h.1) tt
 
-set-once : (c : Configuration) (new : Standing) → new ≡ Setting c → HasTicketsOnce new
+set-once : (c : SetUp) (new : Standing) → new ≡ Setting c → HasTicketsOnce new
 set-once c new e = subst HasTicketsOnce (sym e) tt
 
-sets-once : (blocks : ℕ) (d : Device) (n : ℕ) (c : Configuration) (line : Line) (answer : List ℕ) (new : Standing) → SetsBy blocks d n c line answer new → HasTicketsOnce new
-sets-once blocks d n c Start answer new h = starts-once (first_config_fault c blocks) d n c answer new h
+sets-once : (blocks : ℕ) (d : Device) (n : ℕ) (c : SetUp) (line : Line) (answer : List ℕ) (new : Standing) → SetsBy blocks d n c line answer new → HasTicketsOnce new
+sets-once blocks d n c Start answer new h = starts-once (first_config_fault c.configuration blocks) blocks d n c answer new h
 sets-once blocks d n c Blank answer new h = set-once _ new h.1
 sets-once blocks d n c (Controller i) answer new h = set-once _ new h.1
 sets-once blocks d n c (Namespace i) answer new h = set-once _ new h.1
@@ -279,16 +280,16 @@ end_is_unique blocks d n old new other text before left right after another once
     (same.1, written before (concat k.conversed.answers) another k.conversed.wrote ∙ ap (λ rs. Some (before ++ concat rs)) same.0 ∙ sym (written before (concat h.conversed.answers) after h.conversed.wrote))
 
 -- There is an answer.
-settles-somehow : (tells : Bool) (blocks : ℕ) (d : Device) (n : ℕ) (c : Configuration) (q : Asked) → asks_start q ≡ false → (later : Configuration) × (answer : List ℕ) × Turn tells blocks d n (Setting c) q answer (Setting later)
+settles-somehow : (tells : Bool) (blocks : ℕ) (d : Device) (n : ℕ) (c : SetUp) (q : Asked) → asks_start q ≡ false → (later : SetUp) × (answer : List ℕ) × Turn tells blocks d n (Setting c) q answer (Setting later)
 settles-somehow tells blocks d n c (Fails why) none = (c, with_feed (refusal n why), (refl, refl))
 settles-somehow tells blocks d n c Nothing none = (c, with_feed (codes "ok"), (refl, refl))
 settles-somehow tells blocks d n c (Looks looking) none = (c, with_feed (early_text n looking), (refl, refl))
 settles-somehow tells blocks d n c (Does event) none = (c, with_feed (refusal n BehindStart), (refl, refl))
-settles-somehow tells blocks d n c (Sets Blank) none = (set_by c Blank, with_feed (codes "ok"), (refl, refl))
-settles-somehow tells blocks d n c (Sets (Controller k)) none = (set_by c (Controller k), with_feed (codes "ok"), (refl, refl))
-settles-somehow tells blocks d n c (Sets (Namespace k)) none = (set_by c (Namespace k), with_feed (codes "ok"), (refl, refl))
-settles-somehow tells blocks d n c (Sets (Attached k m)) none = (set_by c (Attached k m), with_feed (codes "ok"), (refl, refl))
-settles-somehow tells blocks d n c (Sets (Event event)) none = (set_by c (Event event), with_feed (codes "ok"), (refl, refl))
+settles-somehow tells blocks d n c (Sets Blank) none = (with_line n c Blank, with_feed (codes "ok"), (refl, refl))
+settles-somehow tells blocks d n c (Sets (Controller k)) none = (with_line n c (Controller k), with_feed (codes "ok"), (refl, refl))
+settles-somehow tells blocks d n c (Sets (Namespace k)) none = (with_line n c (Namespace k), with_feed (codes "ok"), (refl, refl))
+settles-somehow tells blocks d n c (Sets (Attached k m)) none = (with_line n c (Attached k m), with_feed (codes "ok"), (refl, refl))
+settles-somehow tells blocks d n c (Sets (Event event)) none = (with_line n c (Event event), with_feed (codes "ok"), (refl, refl))
 settles-somehow tells blocks d n c (Sets Start) none = absurd (false≢true (sym none))
 
 pub lines_before_start_are_answered : LinesBeforeStartAreAnswered
@@ -302,9 +303,9 @@ lines_before_start_are_answered tells blocks d n c (line ∷ lines) none =
 pub start_is_answered : StartIsAnswered
 start_is_answered tells blocks d n c line asks = by (asked line) refl asks
   where
-    starts : (o : Option ConfigFault) → (new : Standing) × (answer : List ℕ) × Starts o d n c answer new
-    starts None = (Running (opening_layers c d), with_feed started_text, (refl, refl))
-    starts (Some fault) = (Over n fault, with_feed (refused_text n fault), (refl, refl))
+    starts : (o : Option ConfigFault) → (new : Standing) × (answer : List ℕ) × Starts o blocks d n c answer new
+    starts None = (Running (opening_layers c.configuration d), with_feed started_text, (refl, refl))
+    starts (Some fault) = (Over n fault, with_feed (refused_text n fault (numbered_reason c blocks fault)), (refl, refl))
 
     by : (q : Asked) → asked line ≡ q → asks_start q ≡ true → (new : Standing) × IsAnswered tells blocks d n (Setting c) (line ∷ []) new
     by (Fails why) e so = absurd (false≢true so)
@@ -317,7 +318,7 @@ start_is_answered tells blocks d n c line asks = by (asked line) refl asks
     by (Sets (Attached k m)) e so = absurd (false≢true so)
     by (Sets (Event event)) e so = absurd (false≢true so)
     by (Sets Start) e so =
-        let (new, answer, h) = starts (first_config_fault c blocks) in
+        let (new, answer, h) = starts (first_config_fault c.configuration blocks) in
         (new, (answer ∷ [], (new, subst (λ (q : Asked). Turn tells blocks d n (Setting c) q answer new) (sym e) h, refl)))
 
 shows-somehow : (tells : Bool) (n : ℕ) (looking : Looking) (l : Layers) → is_block_look (Looks looking) ≡ false → (answer : List ℕ) × Shows tells n looking l answer l

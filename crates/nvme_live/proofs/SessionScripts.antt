@@ -17,7 +17,8 @@ use Rattle.nvme_live.specs.SessionScripts.{behind, session_text, text_of}
 use Rattle.nvme_live.specs.Taking.{IsOfLine, TakesLines}
 use Rattle.nvme_live.proofs.Lines.{behind-feed, some-line}
 use Rattle.nvme_spec.specs.Blocks.{Device}
-use Rattle.nvme_spec.specs.Configuration.{Configuration, empty_configuration, first_config_fault}
+use Rattle.nvme_spec.specs.Configuration.{Configuration, first_config_fault}
+use Rattle.nvme_live.specs.SetUps.{SetUp, nothing_set_up, set_by, with_line}
 use Rattle.nvme_spec.specs.declared.config.ConfigFault.{ConfigFault}
 use Rattle.nvme_spec.specs.MediumCalls.{MediumCall}
 use Rattle.nvme_event.specs.declared.event.FleetEvent.{FleetEvent}
@@ -36,7 +37,7 @@ use Rattle.nvme_live.specs.SessionScripts.{IsAScript, IsKeptAs, IsPlayed, Played
 use Rattle.nvme_live.specs.Keeping.{LooksWell, RunAmidLooks, bytes_if, event_answers, is_event, is_kept, is_refusal, kept_lines, line_if}
 use Rattle.nvme_live.specs.Lives.{Opens, RunsTo}
 use Rattle.nvme_live.specs.Saying.{with_feed}
-use Rattle.nvme_live.specs.Standings.{SetsBy, Over, Running, Session, Setting, Settles, Standing, Starts, set_by}
+use Rattle.nvme_live.specs.Standings.{SetsBy, Over, Running, Session, Setting, Settles, Standing, Starts}
 use Rattle.live_text.specs.Looking.{is_looking, looking_at}
 use Rattle.live_text.specs.declared.fault.Why.TheVariants.{TooLong}
 use Rattle.live_text.specs.declared.looking.Looking.{Looking}
@@ -161,7 +162,7 @@ gathered-behind front lines may =
 
 -- What the lines from here on are, kept of a session that has said these, and where it stands then.
 abbrev Stands : (Layers → List FleetEvent → List Reply → Layers → Type 0) → ℕ → Device → List Line → List (List ℕ) → List ℕ → Standing → Type 0
-Stands Ran blocks d front kept told (Setting c) = (c ≡ gathered (front ++ said kept)) × (list_any is_start (front ++ said kept) ≡ false) × (told ≡ [])
+Stands Ran blocks d front kept told (Setting s) = (s.configuration ≡ gathered (front ++ said kept)) × (list_any is_start (front ++ said kept) ≡ false) × (told ≡ [])
 Stands Ran blocks d front kept told (Running last) =
     (list_any is_start (front ++ said kept) ≡ true) × (first_config_fault (gathered (front ++ said kept)) blocks ≡ None)
     × ((before : List ℕ) → Transcribes Ran (opening_layers (gathered (front ++ said kept)) d) (events_of kept) last (Some before) (Some (before ++ told)))
@@ -186,7 +187,7 @@ module _ (Ran : Layers → List FleetEvent → List Reply → Layers → Type 0)
   same-events = ap (filter_map event_in) said-one ∙ rw no_event refl
 
   stands-more : (new : Standing) → Stands Ran blocks d (front ++ says ∷ []) kept told new → Stands Ran blocks d front (line ∷ kept) told new
-  stands-more (Setting c) (e, none, silent) = (e ∙ ap gathered (sym moved), ap (list_any is_start) moved ∙ none, silent)
+  stands-more (Setting s) (e, none, silent) = (e ∙ ap gathered (sym moved), ap (list_any is_start) moved ∙ none, silent)
   stands-more (Running last) (so, accepted, ran) = (
     ap (list_any is_start) moved ∙ so,
     ap (λ ls. first_config_fault (gathered ls) blocks) moved ∙ accepted,
@@ -285,23 +286,23 @@ module _ (tells : Bool) (Ran : Layers → List FleetEvent → List Reply → Lay
   grown-over n k why front c (line ∷ lines) [] new sets so refused went = absurd went
   grown-over n k why front c (line ∷ lines) (answer ∷ answers) new sets so refused went = absurd (went.1)
 
-  grown-start : (o : Option ConfigFault) (n : ℕ) (front : List Line) (c : Configuration) (answer : List ℕ) (mid : Standing) (lines answers : List (List ℕ)) (new : Standing) → first_config_fault c blocks ≡ o → Starts o d n c answer mid → c ≡ gathered front
+  grown-start : (o : Option ConfigFault) (n : ℕ) (front : List Line) (s : SetUp) (answer : List ℕ) (mid : Standing) (lines answers : List (List ℕ)) (new : Standing) → first_config_fault s.configuration blocks ≡ o → Starts o blocks d n s answer mid → s.configuration ≡ gathered front
       → list_any is_start front ≡ true → Session tells blocks d (n + 1) mid lines answers new → AllFine Fine (n + 1) lines answers
       → (is_refusal answer ≡ false) × Grown Ran blocks d front (kept_lines lines answers) (event_answers lines answers) new
-  grown-start None n front c answer mid lines answers new e (says, at) sets so went fine = (
+  grown-start None n front s answer mid lines answers new e (says, at) sets so went fine = (
     ap is_refusal says,
-    grown-running (n + 1) front c lines answers new sets so e (subst (λ (s : Standing). Session tells blocks d (n + 1) s lines answers new) at went) fine,
+    grown-running (n + 1) front s.configuration lines answers new sets so e (subst (λ (t : Standing). Session tells blocks d (n + 1) t lines answers new) at went) fine,
   )
-  grown-start (Some why) n front c answer mid lines answers new e (says, at) sets so went fine = (
+  grown-start (Some why) n front s answer mid lines answers new e (says, at) sets so went fine = (
     ap is_refusal says,
-    grown-over (n + 1) n why front c lines answers new sets so e (subst (λ (s : Standing). Session tells blocks d (n + 1) s lines answers new) at went),
+    grown-over (n + 1) n why front s.configuration lines answers new sets so e (subst (λ (t : Standing). Session tells blocks d (n + 1) t lines answers new) at went),
   )
 
   -- a line before `start`, where the lines behind it are known
-  module _ (n : ℕ) (front : List Line) (c : Configuration) (sets : c ≡ gathered front) (unstarted : list_any is_start front ≡ false) (line answer : List ℕ) (mid : Standing) (lines answers : List (List ℕ)) (new : Standing)
+  module _ (n : ℕ) (front : List Line) (c : SetUp) (sets : c.configuration ≡ gathered front) (unstarted : list_any is_start front ≡ false) (line answer : List ℕ) (mid : Standing) (lines answers : List (List ℕ)) (new : Standing)
       (went : Session tells blocks d (n + 1) mid lines answers new) (fine : AllFine Fine (n + 1) lines answers)
-      (later : (more : List Line) (k : Configuration) → k ≡ gathered more → list_any is_start more ≡ false → Session tells blocks d (n + 1) (Setting k) lines answers new → Grown Ran blocks d more (kept_lines lines answers) (event_answers lines answers) new) where
-    stays : (k : Configuration) → mid ≡ Setting k → Session tells blocks d (n + 1) (Setting k) lines answers new
+      (later : (more : List Line) (k : SetUp) → k.configuration ≡ gathered more → list_any is_start more ≡ false → Session tells blocks d (n + 1) (Setting k) lines answers new → Grown Ran blocks d more (kept_lines lines answers) (event_answers lines answers) new) where
+    stays : (k : SetUp) → mid ≡ Setting k → Session tells blocks d (n + 1) (Setting k) lines answers new
     stays k at = subst (λ (s : Standing). Session tells blocks d (n + 1) s lines answers new) at went
 
     abbrev Grows : Type 0
@@ -321,15 +322,15 @@ module _ (tells : Bool) (Ran : Layers → List FleetEvent → List Reply → Lay
         let line_is = sets-line line says e in
         grown-kept Ran blocks d front line answer (kept_lines lines answers) (event_answers lines answers) new says (kept-line line answer line_is.0 none) line_is.1 silent no_event (ap (λ t. fits t says) unstarted ∙ fit) h
 
-    set-up : (says : Line) → asked line ≡ Sets says → answer ≡ with_feed (codes "ok") → mid ≡ Setting (set_by c says) → is_start says ≡ false → is_event (Some says) ≡ false → event_in says ≡ None → fits false says ≡ true → Grows
+    set-up : (says : Line) → asked line ≡ Sets says → answer ≡ with_feed (codes "ok") → mid ≡ Setting (with_line n c says) → is_start says ≡ false → is_event (Some says) ≡ false → event_in says ≡ None → fits false says ≡ true → Grows
     set-up says e ok at other silent no_event fit =
         kept-by says e (ap is_refusal ok) silent no_event fit
-        (later (front ++ says ∷ []) (set_by c says) (ap (λ k. set_by k says) sets ∙ sym (gathered-one front says)) (list_any-append is_start front (says ∷ []) ∙ rw (unstarted, other) refl) (stays (set_by c says) at))
+        (later (front ++ says ∷ []) (with_line n c says) (ap (λ k. set_by k says) sets ∙ sym (gathered-one front says)) (list_any-append is_start front (says ∷ []) ∙ rw (unstarted, other) refl) (stays (with_line n c says) at))
 
-    begun : asked line ≡ Sets Start → Starts (first_config_fault c blocks) d n c answer mid → Grows
+    begun : asked line ≡ Sets Start → Starts (first_config_fault c.configuration blocks) blocks d n c answer mid → Grows
     begun e starts =
         let so : list_any is_start (front ++ Start ∷ []) ≡ true = list_any-append is_start front (Start ∷ []) ∙ rw unstarted refl in
-        let h = grown-start (first_config_fault c blocks) n (front ++ Start ∷ []) c answer mid lines answers new refl starts (sets ∙ sym (gathered-one front Start)) so went fine in
+        let h = grown-start (first_config_fault c.configuration blocks) n (front ++ Start ∷ []) c answer mid lines answers new refl starts (sets ∙ sym (gathered-one front Start)) so went fine in
         kept-by Start e h.0 refl refl refl h.1
 
     sets-by : (says : Line) → asked line ≡ Sets says → SetsBy blocks d n c says answer mid → Grows
@@ -360,7 +361,7 @@ module _ (tells : Bool) (Ran : Layers → List FleetEvent → List Reply → Lay
     settled (Sets says) e h = sets-by says e h
     settled (Does event) e h = dropped (refused-line line answer (ap is_refusal h.0)) h.1
 
-  pub grown : (lines answers : List (List ℕ)) (n : ℕ) (front : List Line) (c : Configuration) (new : Standing) → c ≡ gathered front → list_any is_start front ≡ false
+  pub grown : (lines answers : List (List ℕ)) (n : ℕ) (front : List Line) (c : SetUp) (new : Standing) → c.configuration ≡ gathered front → list_any is_start front ≡ false
       → Session tells blocks d n (Setting c) lines answers new → AllFine Fine n lines answers → Grown Ran blocks d front (kept_lines lines answers) (event_answers lines answers) new
   grown [] [] n front c new sets unstarted went fine = subst (λ (s : Standing). Grown Ran blocks d front [] [] s) (sym went) (record {
     spelled = refl;
@@ -433,8 +434,8 @@ module _ (text : List ℕ) (raw : List (List ℕ)) (lines : text_lines text ≡ 
 
     kept-as : (set : (c : Configuration) → list_any is_start (said raw) ≡ false → c ≡ gathered (said raw) → configuration_of (text_lines (text ++ codes "start")) ≡ c)
         → (last : Standing) → Grown Ran blocks d [] raw told last → IsKeptAs Ran blocks d text told last
-    kept-as set (Setting c) h =
-        record { grammar = text-begins h.spelled h.placed; unstarted = none-from (start_of (text_lines text)) (text-starts ∙ h.stands.1); sets = set c h.stands.1 h.stands.0; silent = h.stands.2 }
+    kept-as set (Setting s) h =
+        record { grammar = text-begins h.spelled h.placed; unstarted = none-from (start_of (text_lines text)) (text-starts ∙ h.stands.1); sets = set s.configuration h.stands.1 h.stands.0; silent = h.stands.2 }
     kept-as set (Running last) h = kept-played last (text-begins h.spelled h.placed) h.stands.0 h.stands.1 h.stands.2
     kept-as set (Over k why) h = record {
       grammar = text-begins h.spelled h.placed;
@@ -483,10 +484,10 @@ module _ {M : Type 0} (step : M → MediumCall → M → Type 0) (tells : Bool) 
   abbrev kept : List (List ℕ)
   kept = kept_lines lines answers
 
-  alone : (text : List ℕ) → text ≡ text_of kept → from ≡ Setting empty_configuration → IsKeptAs Ran blocks (device medium) text (event_answers lines answers) last
+  alone : (text : List ℕ) → text ≡ text_of kept → from ≡ Setting nothing_set_up → IsKeptAs Ran blocks (device medium) text (event_answers lines answers) last
   alone text is_text begins =
       let kept_of_line = kept-of-line lines answers of_line in
-      let h = grown tells Ran Fine is blocks (device medium) lines answers 1 [] empty_configuration last refl refl (subst (λ (s : Standing). Session tells blocks (device medium) 1 s lines answers last) begins went) fine in
+      let h = grown tells Ran Fine is blocks (device medium) lines answers 1 [] nothing_set_up last refl refl (subst (λ (s : Standing). Session tells blocks (device medium) 1 s lines answers last) begins went) fine in
       subst (λ (t : List ℕ). IsKeptAs Ran blocks (device medium) t (event_answers lines answers) last) (sym is_text)
       (kept-as (text_of kept) kept (text-lines kept kept_of_line) Ran blocks (device medium) (event_answers lines answers) (started-text kept kept_of_line) last h)
 

@@ -5,6 +5,8 @@ use Rattle.std.specs.List.{list_any}
 use Rattle.std.specs.Io.KnownBytes.{Appends}
 use Rattle.nvme_spec.specs.Blocks.{Device}
 use Rattle.nvme_spec.specs.Configuration.{Configuration, empty_configuration, first_config_fault}
+use Rattle.nvme_script.specs.declared.configuration.BrokenRule.{BrokenRule}
+use Rattle.nvme_live.specs.SetUps.{SetUp, numbered_reason}
 use Rattle.nvme_spec.specs.declared.config.ConfigFault.{ConfigFault}
 use Rattle.nvme_spec.specs.declared.config.ConfigFault.TheVariants.{NoMemory as WantOfMemory}
 use Rattle.nvme_machine.specs.Subsystems as machine
@@ -29,45 +31,51 @@ use Rattle.nvme_live.specs.Standings.{Standing, Setting, Running, Over, Starts, 
 use Rattle.nvme_live.specs.Taking.{TakesLine}
 use Rattle.nvme_live.proofs.Sessions.{conversed-none, conversed-one, ends-behind, ends_by-behind}
 
-pub accepted-start : (o : Option ConfigFault) (d : Device) (n : ℕ) (c : Configuration) → o ≡ None → Starts o d n c (with_feed started_text) (Running (opening_layers c d))
-accepted-start o d n c e = subst (λ (p : Option ConfigFault). Starts p d n c (with_feed started_text) (Running (opening_layers c d))) (sym e) (refl, refl)
+pub accepted-start : (o : Option ConfigFault) (blocks : ℕ) (d : Device) (n : ℕ) (s : SetUp) → o ≡ None → Starts o blocks d n s (with_feed started_text) (Running (opening_layers s.configuration d))
+accepted-start o blocks d n s e = subst (λ (p : Option ConfigFault). Starts p blocks d n s (with_feed started_text) (Running (opening_layers s.configuration d))) (sym e) (refl, refl)
 
 refuses : (o : Option ConfigFault) (fault : ConfigFault) → fault ≡ unwrap_or o WantOfMemory → fault ≢ WantOfMemory → o ≡ Some fault
 refuses None fault e other = absurd (other e)
 refuses (Some f) fault e other = ap Some (sym e)
 
-pub refused-start : (result : ScriptFault) (blocks : ℕ) (d : Device) (n : ℕ) (c : Configuration) (fault : ConfigFault) (before after : Option (List ℕ)) → fault ≡ unwrap_or (first_config_fault c blocks) WantOfMemory
-    → StartRefused result n fault before after → StartFails result blocks d n c before after
-refused-start (Config k why) blocks d n c fault before after is (at, same, other, wrote) =
-    (at, refuses (first_config_fault c blocks) fault is other ∙ ap Some (sym same), subst (λ (f : ConfigFault). Appends before after (with_feed (refused_text n f))) (sym same) wrote)
-refused-start Write blocks d n c fault before after is (other, broke) = (
-  with_feed (refused_text n fault),
+-- a reason that is what the definition gives for this fault
+pub refused-start : (result : ScriptFault) (blocks : ℕ) (d : Device) (n : ℕ) (s : SetUp) (fault : ConfigFault) (reason : Option (ℕ × BrokenRule)) (before after : Option (List ℕ)) → fault ≡ unwrap_or (first_config_fault s.configuration blocks) WantOfMemory
+    → reason ≡ numbered_reason s blocks fault → StartRefused result n fault reason before after → StartFails result blocks d n s before after
+refused-start (Config k why) blocks d n s fault reason before after is because (at, same, other, wrote) = (
+  at,
+  refuses (first_config_fault s.configuration blocks) fault is other ∙ ap Some (sym same),
+  subst (λ (f : ConfigFault). Appends before after (with_feed (refused_text n f (numbered_reason s blocks f)))) (sym same)
+      (subst (λ (r : Option (ℕ × BrokenRule)). Appends before after (with_feed (refused_text n fault r))) because wrote),
+)
+refused-start Write blocks d n s fault reason before after is because (other, broke) = (
+  with_feed (refused_text n fault reason),
   Over n fault,
-  subst (λ (p : Option ConfigFault). Starts p d n c (with_feed (refused_text n fault)) (Over n fault)) (sym (refuses (first_config_fault c blocks) fault is other)) (refl, refl),
+  subst (λ (p : Option ConfigFault). Starts p blocks d n s (with_feed (refused_text n fault reason)) (Over n fault)) (sym (refuses (first_config_fault s.configuration blocks) fault is other))
+      (ap (λ (r : Option (ℕ × BrokenRule)). with_feed (refused_text n fault r)) because, refl),
   broke,
 )
-refused-start NoMemory blocks d n c fault before after is h = h.1
-refused-start (Syntax k) blocks d n c fault before after is h = absurd h
-refused-start TooLong blocks d n c fault before after is h = absurd h
-refused-start Read blocks d n c fault before after is h = absurd h
+refused-start NoMemory blocks d n s fault reason before after is because h = h.1
+refused-start (Syntax k) blocks d n s fault reason before after is because h = absurd h
+refused-start TooLong blocks d n s fault reason before after is because h = absurd h
+refused-start Read blocks d n s fault reason before after is because h = absurd h
 
 opened-device : (c : Configuration) (d : Device) → (opening_layers c d).subsystem.device ≡ d
 unfolding machine.opening
 opened-device c d = refl
 
-pub starts-device : (o : Option ConfigFault) (d : Device) (n : ℕ) (c : Configuration) (answer : List ℕ) (new : Standing) → Starts o d n c answer new → device_in d new ≡ d
-starts-device None d n c answer new (says, is) = ap (device_in d) is ∙ opened-device c d
-starts-device (Some fault) d n c answer new (says, is) = ap (device_in d) is
+pub starts-device : (o : Option ConfigFault) (blocks : ℕ) (d : Device) (n : ℕ) (s : SetUp) (answer : List ℕ) (new : Standing) → Starts o blocks d n s answer new → device_in d new ≡ d
+starts-device None blocks d n s answer new (says, is) = ap (device_in d) is ∙ opened-device s.configuration d
+starts-device (Some fault) blocks d n s answer new (says, is) = ap (device_in d) is
 
-module _ (tells : Bool) (blocks : ℕ) (d : Device) (n : ℕ) (c : Configuration) (line : List ℕ) (between u y : Option (List ℕ)) (taken : TakesLine between line u) (starts : asked line ≡ Sets Start) where
-  turn : (answer : List ℕ) (new : Standing) → Starts (first_config_fault c blocks) d n c answer new → Turn tells blocks d n (Setting c) (asked line) answer new
+module _ (tells : Bool) (blocks : ℕ) (d : Device) (n : ℕ) (c : SetUp) (line : List ℕ) (between u y : Option (List ℕ)) (taken : TakesLine between line u) (starts : asked line ≡ Sets Start) where
+  turn : (answer : List ℕ) (new : Standing) → Starts (first_config_fault c.configuration blocks) blocks d n c answer new → Turn tells blocks d n (Setting c) (asked line) answer new
   turn answer new s = subst (λ (q : Asked). Turn tells blocks d n (Setting c) q answer new) (sym starts) s
 
-  module _ (l : Layers) (z : Option (List ℕ)) (opened : l ≡ opening_layers c d) (accepted : first_config_fault c blocks ≡ None) (said : Appends y z (with_feed started_text)) where
+  module _ (l : Layers) (z : Option (List ℕ)) (opened : l ≡ opening_layers c.configuration d) (accepted : first_config_fault c.configuration blocks ≡ None) (said : Appends y z (with_feed started_text)) where
     begun : Converses tells blocks d n (Setting c) (n + 1) (Running l) between u y z
     begun =
         conversed-one tells blocks d n (Setting c) (Running l) between u y z line (with_feed started_text) taken
-        (turn (with_feed started_text) (Running l) (subst (λ (m : Layers). Starts (first_config_fault c blocks) d n c (with_feed started_text) (Running m)) (sym opened) (accepted-start (first_config_fault c blocks) d n c accepted))) said
+        (turn (with_feed started_text) (Running l) (subst (λ (m : Layers). Starts (first_config_fault c.configuration blocks) blocks d n c (with_feed started_text) (Running m)) (sym opened) (accepted-start (first_config_fault c.configuration blocks) blocks d n c accepted))) said
 
     pub start-ends : (w x : Option (List ℕ)) (left : Device) → Rests (λ last. Ends tells blocks d (n + 1) (Running l) last u w z x) d left → Rests (λ last. Ends tells blocks d n (Setting c) last between w y x) d left
     start-ends w x left h = record { last = h.last; ended = ends-behind tells blocks d n (n + 1) (Setting c) (Running l) between u y z begun h.last w x h.ended; rests = h.rests }
@@ -81,8 +89,8 @@ module _ (tells : Bool) (blocks : ℕ) (d : Device) (n : ℕ) (c : Configuration
     last = Over k f;
     ended = (
       n + 1,
-      conversed-one tells blocks d n (Setting c) (Over k f) between u y z line (with_feed (refused_text n f)) taken
-          (turn (with_feed (refused_text n f)) (Over k f) (subst (λ (o : Option ConfigFault). Starts o d n c (with_feed (refused_text n f)) (Over k f)) (sym is) (refl, ap (λ i. Over i f) at))) wrote,
+      conversed-one tells blocks d n (Setting c) (Over k f) between u y z line (with_feed (refused_text n f (numbered_reason c blocks f))) taken
+          (turn (with_feed (refused_text n f (numbered_reason c blocks f))) (Over k f) (subst (λ (o : Option ConfigFault). Starts o blocks d n c (with_feed (refused_text n f (numbered_reason c blocks f))) (Over k f)) (sym is) (refl, ap (λ i. Over i f) at))) wrote,
       refl,
     );
     rests = kept;
@@ -101,7 +109,7 @@ module _ (tells : Bool) (blocks : ℕ) (d : Device) (n : ℕ) (c : Configuration
       turn = turn answer new s;
       broke = broke;
     };
-    rests = kept ∙ sym (starts-device (first_config_fault c blocks) d n c answer new s);
+    rests = kept ∙ sym (starts-device (first_config_fault c.configuration blocks) blocks d n c answer new s);
   }
   start-fails NoMemory z left same kept = record {
     last = Setting c;
@@ -121,7 +129,7 @@ module _ (tells : Bool) (blocks : ℕ) (d : Device) (n : ℕ) (c : Configuration
   start-fails Read z left h kept = absurd h
 
 -- behind the lines before it
-module _ (tells : Bool) (blocks : ℕ) (d : Device) (k : ℕ) (old new : Configuration) (u v x y : Option (List ℕ)) (h : ComesToStart tells blocks d k old new u v x y) (w z : Option (List ℕ)) (left : Device) where
+module _ (tells : Bool) (blocks : ℕ) (d : Device) (k : ℕ) (old new : SetUp) (u v x y : Option (List ℕ)) (h : ComesToStart tells blocks d k old new u v x y) (w z : Option (List ℕ)) (left : Device) where
   pub set-then-ends : Rests (λ last. Ends tells blocks d k (Setting new) last h.between w y z) d left → Rests (λ last. Ends tells blocks d 1 (Setting old) last u w x z) d left
   set-then-ends g = record { last = g.last; ended = ends-behind tells blocks d 1 k (Setting old) (Setting new) u h.between x y h.conversed g.last w z g.ended; rests = g.rests }
 
@@ -138,8 +146,8 @@ module _ (text : List ℕ) (script : Script) (ready : IsReady text script) where
       same_configuration (text_lines text) script ready.says ∙ empty
 
 -- What the lines behind `start` come to, as what they come to with it.
-module _ {T E : Type 0} (device : T → Device) (tells : Bool) (blocks : ℕ) (d : Device) (n : ℕ) (c : Configuration) (l : Layers) (u y z w x : Option (List ℕ))
-    (opened : l ≡ opening_layers c d) (accepted : first_config_fault c blocks ≡ None) (said : Appends y z (with_feed started_text)) where
+module _ {T E : Type 0} (device : T → Device) (tells : Bool) (blocks : ℕ) (d : Device) (n : ℕ) (c : SetUp) (l : Layers) (u y z w x : Option (List ℕ))
+    (opened : l ≡ opening_layers c.configuration d) (accepted : first_config_fault c.configuration blocks ≡ None) (said : Appends y z (with_feed started_text)) where
   pub start-ok : (r : Result T E) → IfOk r (λ after. (size : ℕ) (e : Device) → Rests (λ last. Ends tells size e (n + 1) (Running l) last u w z x) e (device after))
       → IfOk r (λ after. (line : List ℕ) (between : Option (List ℕ)) → TakesLine between line u → asked line ≡ Sets Start → Rests (λ last. Ends tells blocks d n (Setting c) last between w y x) d (device after))
   start-ok (Ok after) h = λ line between taken starts. start-ends tells blocks d n c line between u y taken starts l z opened accepted said w x (device after) (h blocks d)
@@ -151,7 +159,7 @@ module _ {T E : Type 0} (device : T → Device) (tells : Bool) (blocks : ℕ) (d
   start-err (Err e) h = λ line between taken starts. start-ends-by tells blocks d n c line between u y taken starts l z opened accepted said e.0 w x (device e.1) (h blocks d)
 
 -- What the lines behind those that set up come to.
-module _ {T E : Type 0} (device : T → Device) (tells : Bool) (blocks : ℕ) (d : Device) (k : ℕ) (old new : Configuration) (u v x y w z : Option (List ℕ)) (h : ComesToStart tells blocks d k old new u v x y) where
+module _ {T E : Type 0} (device : T → Device) (tells : Bool) (blocks : ℕ) (d : Device) (k : ℕ) (old new : SetUp) (u v x y w z : Option (List ℕ)) (h : ComesToStart tells blocks d k old new u v x y) where
   pub set-ok : (r : Result T E)
       → IfOk r (λ after. (line : List ℕ) (between : Option (List ℕ)) → TakesLine between line v → asked line ≡ Sets Start → Rests (λ last. Ends tells blocks d k (Setting new) last between w y z) d (device after))
       → IfOk r (λ after. Rests (λ last. Ends tells blocks d 1 (Setting old) last u w x z) d (device after))

@@ -3,7 +3,7 @@ use Rattle.std.specs.Prelude.{◌≡◌, ◌<◌, ◌+◌, ◌-◌, ◌^◌, ℕ
 use Rattle.std.specs.List.{concat}
 use Rattle.std.specs.Io.KnownBytes.{Appends, IsAtEnd, Keeps}
 use Rattle.nvme_spec.specs.Blocks.{Device}
-use Rattle.nvme_spec.specs.Configuration.{Configuration}
+use Rattle.nvme_live.specs.SetUps.{SetUp}
 use Rattle.nvme_grammar.specs.declared.line.Line.{Line}
 use Rattle.nvme_grammar.specs.declared.line.Line.TheVariants.{Start}
 use Rattle.nvme_script.specs.declared.run.ScriptFault.{ScriptFault}
@@ -81,7 +81,7 @@ EndsBy (Syntax k) tells blocks d n old new unread left before after = ⊥
 EndsBy TooLong tells blocks d n old new unread left before after = ⊥
 
 -- Lines before `start` were answered, and then `start` was read, which has this number and is not answered yet.
-pub record ComesToStart (tells : Bool) (blocks : ℕ) (d : Device) (k : ℕ) (old new : Configuration)
+pub record ComesToStart (tells : Bool) (blocks : ℕ) (d : Device) (k : ℕ) (old new : SetUp)
     (unread left before after : Option (List ℕ)) : Type 0 where
   pub between : Option (List ℕ)
   pub conversed : Converses tells blocks d 1 (Setting old) k (Setting new) unread between before after
@@ -91,7 +91,7 @@ pub record ComesToStart (tells : Bool) (blocks : ℕ) (d : Device) (k : ℕ) (ol
   pub countable : k < 2 ^ 64 - 1
 
 -- What the lines before `start` come to, over any medium.
-abbrev pub SetsUp : Result (Option ℕ) ScriptFault → Configuration → Configuration → Option (List ℕ) → Option (List ℕ)
+abbrev pub SetsUp : Result (Option ℕ) ScriptFault → SetUp → SetUp → Option (List ℕ) → Option (List ℕ)
     → Option (List ℕ) → Option (List ℕ) → Type 0
 SetsUp (Ok None) old new unread left before after = (tells : Bool) (blocks : ℕ) (d : Device)
     → Ends tells blocks d 1 (Setting old) (Setting new) unread left before after

@@ -12,12 +12,15 @@ pub mod Showing
 pub mod Shown
 pub mod Answers
 pub mod Taking
+pub mod SetUps
 pub mod Standings
 pub mod Settling
 pub mod Conversations
 pub mod Lives
 pub use Rattle.nvme_script.specs.Faults as ScriptFaults
 pub use Rattle.nvme_script.specs.ScriptCalls
+pub use Rattle.nvme_script.specs.Reasons
 pub mod Keeping
 pub mod SessionScripts
 pub mod SessionLaws
+pub mod SetUpLaws

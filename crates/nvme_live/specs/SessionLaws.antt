@@ -2,7 +2,7 @@
 use Rattle.std.specs.Prelude.{◌≡◌, ◌<◌, ◌-◌, ◌^◌, ℕ, Bool, true, false, List, [], ◌∷◌, Option, Some}
 use Rattle.std.specs.List.{list_any}
 use Rattle.nvme_spec.specs.Blocks.{Device}
-use Rattle.nvme_spec.specs.Configuration.{Configuration}
+use Rattle.nvme_live.specs.SetUps.{SetUp}
 use Rattle.nvme_event.specs.declared.event.FleetEvent.{FleetEvent}
 use Rattle.nvme_event.specs.Replies.{Reply}
 use Rattle.nvme_fleet.specs.FleetStates.{Layers}
@@ -23,7 +23,7 @@ failures_at d standing = (device_in d standing).failures
 
 -- a ticket stands in one slot of a driver at most, as it does from each opening on
 abbrev pub HasTicketsOnce : Standing → Type 0
-HasTicketsOnce (Setting c) = Unit {0}
+HasTicketsOnce (Setting s) = Unit {0}
 HasTicketsOnce (Running l) = HaveTicketsOnce l
 HasTicketsOnce (Over k fault) = Unit {0}
 
@@ -60,15 +60,15 @@ asks_start (Does event) = false
 -- Before `start` each list of lines has answers, and `start` has one, whatever the medium.
 abbrev pub LinesBeforeStartAreAnswered : Type 0
 LinesBeforeStartAreAnswered =
-    (tells : Bool) (blocks : ℕ) (d : Device) (n : ℕ) (c : Configuration) (lines : List (List ℕ))
+    (tells : Bool) (blocks : ℕ) (d : Device) (n : ℕ) (s : SetUp) (lines : List (List ℕ))
     → list_any (λ line. asks_start (asked line)) lines ≡ false
-    → (later : Configuration) × IsAnswered tells blocks d n (Setting c) lines (Setting later)
+    → (later : SetUp) × IsAnswered tells blocks d n (Setting s) lines (Setting later)
 
 abbrev pub StartIsAnswered : Type 0
 StartIsAnswered =
-    (tells : Bool) (blocks : ℕ) (d : Device) (n : ℕ) (c : Configuration) (line : List ℕ)
+    (tells : Bool) (blocks : ℕ) (d : Device) (n : ℕ) (s : SetUp) (line : List ℕ)
     → asks_start (asked line) ≡ true
-    → (new : Standing) × IsAnswered tells blocks d n (Setting c) (line ∷ []) new
+    → (new : Standing) × IsAnswered tells blocks d n (Setting s) (line ∷ []) new
 
 -- the events that lines ask for
 abbrev pub with_asked : Asked → List FleetEvent → List FleetEvent

@@ -60,7 +60,7 @@ pub record IsRefused (blocks : ℕ) (text said : List ℕ) (why : ConfigFault) :
 -- what the text of a session is, and what it says, by where the session stands
 abbrev pub IsKeptAs : (Layers → List FleetEvent → List Reply → Layers → Type 0) → ℕ → Device → List ℕ → List ℕ
     → Standing → Type 0
-IsKeptAs Ran blocks d text said (Setting c) = IsSetUp text said c
+IsKeptAs Ran blocks d text said (Setting s) = IsSetUp text said s.configuration
 IsKeptAs Ran blocks d text said (Running last) = IsPlayed Ran blocks d text said last
 IsKeptAs Ran blocks d text said (Over k why) = IsRefused blocks text said why
 

@@ -2,7 +2,7 @@
 use Rattle.std.specs.Prelude.{◌≡◌, ℕ, List, Option, Result, Ok, Err}
 use Rattle.std.specs.Io.KnownBytes.{Appends}
 use Rattle.nvme_spec.specs.Blocks.{Device}
-use Rattle.nvme_spec.specs.Configuration.{Configuration}
+use Rattle.nvme_live.specs.SetUps.{SetUp}
 use Rattle.nvme_grammar.specs.declared.line.Line.{Line}
 use Rattle.nvme_grammar.specs.declared.line.Line.TheVariants.{Start}
 use Rattle.nvme_script.specs.declared.run.ScriptFault.{ScriptFault}
@@ -14,13 +14,13 @@ use Rattle.nvme_live.specs.declared.setting.Settled.TheVariants.{Answered, Start
 use Rattle.nvme_live.specs.Saying.{Breaks}
 use Rattle.nvme_live.specs.Standings.{Setting, Settles}
 
--- over any medium the n-th line is answered so, and leaves this configuration
-abbrev pub SettlesAlike : ℕ → Configuration → Asked → List ℕ → Configuration → Type 0
+-- over any medium the n-th line is answered so, and leaves this set up
+abbrev pub SettlesAlike : ℕ → SetUp → Asked → List ℕ → SetUp → Type 0
 SettlesAlike n old asks answer new = (blocks : ℕ) (d : Device) → Settles blocks d n old asks answer (Setting new)
 
 -- It was answered; or it is `start`, and nothing was written yet; or its answer was not written whole, or not flushed; or
 -- no memory was found for it.
-abbrev pub Comes : Result Settled ScriptFault → ℕ → Configuration → Asked → Configuration → Option (List ℕ)
+abbrev pub Comes : Result Settled ScriptFault → ℕ → SetUp → Asked → SetUp → Option (List ℕ)
     → Option (List ℕ) → Type 0
 Comes (Ok Answered) n old asks new before after =
     (answer : List ℕ) × SettlesAlike n old asks answer new × Appends before after answer

@@ -2,13 +2,14 @@
 
 ghost use Rattle.std.specs.Prelude.{◌≡◌, ◌<◌, ℕ, IfErr, IfOk, length};
 ghost use Rattle.nvme_spec.specs.Blocks.{Device};
-ghost use Rattle.nvme_ns.specs.Configured.{configuration};
+ghost use Rattle.nvme_live.specs.SetUps.{set_up_of};
 ghost use Rattle.nvme_fleet.specs.FleetStates.{layers_of};
 ghost use Rattle.nvme_live.specs.Conversations.{Ends, EndsBy, SetsUp};
 ghost use Rattle.nvme_live.specs.Lives.{Rests};
 ghost use Rattle.nvme_live.specs.Standings.{Running};
 
 use crate::asking::asked_of;
+use crate::line_numbers::LineNumbers;
 use crate::reading::read_line;
 use crate::rooms::Rooms;
 use crate::setting::{Settled, settle};
@@ -23,6 +24,7 @@ use std::io::{BufRead, Write};
 /// input.
 pub fn set_up<R: BufRead, W: Write>(
     config: &mut Config,
+    numbers: &mut LineNumbers,
     line: &mut Vec<u8>,
     bytes: &mut [u8],
     identifiers: &mut [u16],
@@ -34,7 +36,7 @@ pub fn set_up<R: BufRead, W: Write>(
     requires bytes_room { length bytes.old ≡ 2097153 }
     requires identifiers_room { length identifiers.old ≡ 2097153 }
     requires blocks_room { length blocks.old ≡ 2097153 }
-    ensures { SetsUp result (configuration config.old) (configuration config.new)
+    ensures { SetsUp result (set_up_of config.old numbers.old) (set_up_of config.new numbers.new)
         (R.remaining reader.old) (R.remaining reader.new) (W.contents writer.old) (W.contents writer.new) }
 {
     for number in 1..u64::MAX {
@@ -44,7 +46,7 @@ pub fn set_up<R: BufRead, W: Write>(
             Err(fault) => return Err(fault),
         }
         let asked = asked_of(line.as_slice(), bytes, identifiers, blocks);
-        match settle(number, asked, config, text, writer) {
+        match settle(number, asked, config, numbers, text, writer) {
             Ok(Settled::Answered) => {}
             Ok(Settled::Started) => return Ok(Some(number)),
             Err(fault) => return Err(fault),

@@ -1,12 +1,17 @@
 //! Worked examples of the definitions: the contract of each function here is computed by the check.
 
-ghost use Rattle.std.specs.Prelude.{◌≡◌, ◌++◌, ◌∷◌, [], codes, true, false};
+ghost use Rattle.std.specs.Prelude.{◌≡◌, ◌++◌, ◌∷◌, [], Some, codes, true, false};
 ghost use Rattle.nvme_spec.specs.Configuration.{empty_configuration};
-ghost use Rattle.nvme_grammar.specs.declared.line.Line.TheVariants.{Attached, Start};
+ghost use Rattle.nvme_spec.specs.Examples.{namespace};
+ghost use Rattle.nvme_grammar.specs.declared.line.Line.TheVariants.{Attached, Namespace, Start};
 ghost use Rattle.nvme_live.specs.Keeping.{is_kept};
 ghost use Rattle.nvme_live.specs.Showing.{bit_text, io_name};
-ghost use Rattle.nvme_live.specs.Standings.{set_by};
+ghost use Rattle.nvme_live.specs.SetUps.{nothing_set_up, numbered_reason, set_by, with_line};
+ghost use Rattle.nvme_live.specs.Standings.{refused_text};
 ghost use Rattle.nvme_live.specs.Taking.{session_lines};
+
+use nvme_script::BrokenRule;
+use nvme_spec::ConfigFault;
 
 /// A line feed ends a line, and the last line may lack it; behind the last line feed stands no line.
 pub fn lines_of_bytes()
@@ -23,11 +28,31 @@ pub fn kept_lines()
     ensures refused { is_kept (codes "pu 1") (codes "! line 1 word 1: there is no line 'pu'; did you mean 'up'?") ≡ false }
 {}
 
-/// What a line adds to a configuration.
+/// What a line adds to what is set up, with its number.
 pub fn configurations()
     ensures attached { set_by empty_configuration (Attached 1 2)
         ≡ record { controllers = []; namespaces = []; attached = (1, 2) ∷ [] } }
     ensures start { set_by empty_configuration Start ≡ empty_configuration }
+    ensures number { (with_line 7 nothing_set_up (Attached 1 2)).numbers
+        ≡ record { of_controllers = []; of_namespaces = []; of_attachments = 7 ∷ [] } }
+{}
+
+/// Why `start` is refused: the fourth line of the session is at fault, and its second one is not.
+#[tactic(auto, unfolding(nvme_script::specs::Reasons::reason_of))]
+pub fn reasons()
+    ensures size { numbered_reason
+        (with_line 4 (with_line 2 nothing_set_up (Namespace (namespace 1 64 true))) (Namespace (namespace 3 70000 true)))
+        1024 ConfigFault.BadSize ≡ Some (4, BrokenRule.TooLarge 3 70000) }
+    ensures identifiers { numbered_reason
+        (with_line 4 (with_line 2 nothing_set_up (Namespace (namespace 1 64 true))) (Namespace (namespace 1 64 true)))
+        1024 ConfigFault.BadId ≡ Some (4, BrokenRule.RepeatedNsid 1) }
+{}
+
+/// What a refused `start` is answered.
+#[tactic(auto, unfolding(crate::proofs::OnLiterals::texts_on_literals))]
+pub fn refusals()
+    ensures reason { refused_text 6 ConfigFault.BadSize (Some (4, BrokenRule.TooLarge 3 70000))
+        ≡ codes "refused line 6: BadSize; line 4: namespace 3 has 70000 blocks, and 65536 is the most" }
 {}
 
 /// Names that looking lines show.

@@ -3,6 +3,7 @@
 ghost use Rattle.nvme_live.specs.Keeping.{KeptLinesAreARun, KeptLinesRunAmidLooks, KeptLinesTranscribe};
 ghost use Rattle.nvme_live.specs.SessionLaws.{EndIsUnique, LinesBeforeStartAreAnswered, LinesOfARunAreAnswered, SessionIsUnique, StartIsAnswered};
 ghost use Rattle.nvme_live.specs.SessionScripts.{PlayedIsARun, RefusedIsAFault, ReplaysAlike, SessionIsAScript, SessionIsAScriptAmidLooks};
+ghost use Rattle.nvme_live.specs.SetUpLaws.{RefusalNamesALine, SetUpIsNumbered};
 ghost use Rattle.nvme_live.specs.Taking.{LinesAreKnown};
 
 use nvme_medium::Medium;
@@ -45,4 +46,11 @@ pub fn lines_are_answered()
     ensures before { LinesBeforeStartAreAnswered }
     ensures start { StartIsAnswered }
     ensures behind { LinesOfARunAreAnswered }
+{}
+
+/// What a session has set up has the numbers of the lines that set it up, counted over all of its lines; and where it
+/// can't start with that, the answer to `start` names one of these lines, and the rule that it breaks.
+pub fn refusals_name_a_line()
+    ensures numbered { SetUpIsNumbered }
+    ensures reason { RefusalNamesALine }
 {}

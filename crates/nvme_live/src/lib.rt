@@ -5,6 +5,7 @@ mod asking;
 mod conversation;
 mod examples;
 pub mod laws;
+mod line_numbers;
 mod names;
 mod opening;
 mod program;

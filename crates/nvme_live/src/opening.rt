@@ -3,18 +3,22 @@
 ghost use Rattle.std.specs.Prelude.{◌≡◌, ℕ, IfErr, IfOk, Ok, length};
 ghost use Rattle.script_text.specs.Reading.{IsRead};
 ghost use Rattle.nvme_script.specs.Faults.{IsEarlyFault, IsReady, IsWrite, ReadsThen};
+ghost use Rattle.nvme_live.specs.SetUps.{no_numbers, numbers_in};
 
+use crate::line_numbers::LineNumbers;
 use crate::rooms::Rooms;
 use nvme_grammar::{Script, parse};
 use nvme_script::ScriptFault;
 use script_text::{Source, read_text};
 use std::alloc::Global;
 
-/// What a session begins with: the script that is run first, what it says, and the room that lines work in.
+/// What a session begins with: the script that is run first, what it says, the numbers of the lines that set up, and the
+/// room that lines work in.
 #[derive(Drop)]
 pub(crate) struct Opening {
     pub text: Vec<u8>,
     pub script: Script,
+    pub numbers: LineNumbers,
     pub rooms: Rooms,
 }
 
@@ -22,6 +26,7 @@ pub(crate) struct Opening {
 pub(crate) fn prepare<S: Source>(alloc: Global, script: &mut S) -> Result<Opening, ScriptFault>
     ensures text { IfOk result (λ opening. IsRead S.step S.remaining script.old (Ok opening.text.items) script.new) }
     ensures script { IfOk result (λ opening. IsReady opening.text.items opening.script) }
+    ensures numbers { IfOk result (λ opening. numbers_in opening.numbers ≡ no_numbers) }
     ensures bytes { IfOk result (λ opening. length opening.rooms.bytes.items ≡ 2097153) }
     ensures identifiers { IfOk result (λ opening. length opening.rooms.identifiers.items ≡ 2097153) }
     ensures blocks { IfOk result (λ opening. length opening.rooms.blocks.items ≡ 2097153) }
@@ -40,6 +45,7 @@ pub(crate) fn prepare<S: Source>(alloc: Global, script: &mut S) -> Result<Openin
     Ok(Opening {
         text,
         script,
+        numbers: LineNumbers::new(alloc),
         rooms,
     })
 }

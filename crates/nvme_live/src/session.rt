@@ -13,55 +13,76 @@ ghost use Rattle.nvme_live.specs.declared.asking.Asked.TheVariants.{Sets};
 ghost use Rattle.nvme_live.specs.Conversations.{Ends, EndsBy};
 ghost use Rattle.nvme_live.specs.Lives.{Fails, FailsFirst, LivesOn, Rests, RunsTo, StartFails, StartRefused};
 ghost use Rattle.nvme_live.specs.Saying.{with_feed};
+ghost use Rattle.nvme_live.specs.SetUps.{set_up_of};
 ghost use Rattle.nvme_live.specs.Standings.{Setting, refused_text, started_text};
 ghost use Rattle.nvme_live.specs.Taking.{TakesLine};
 
 use crate::conversation::{run_on, set_up};
+use crate::line_numbers::{LineNumbers, numbered_reason};
 use crate::names::fault_name;
 use crate::opening::{Opening, prepare};
 use crate::rooms::Rooms;
 use crate::saying::say;
 use nvme_fleet::{Fleet, NewFault};
 use nvme_medium::Medium;
-use nvme_script::{ScriptFault, run_events};
+use nvme_script::{BrokenRule, ScriptFault, run_events};
 use nvme_spec::{Config, ConfigFault};
 use script_text::Source;
 use std::alloc::Global;
 use std::fmt;
 use std::io::{BufRead, Write};
 
-/// The answer to `start`, which has this number, where the configuration is refused.
+/// The answer to `start`, which has this number, where the configuration is refused: the fault, and the line that is at
+/// fault, by its number, with the rule that it breaks.
 #[derive(Clone, Copy)]
 struct RefusedText {
     number: u64,
     fault: ConfigFault,
+    reason: Option<(u64, BrokenRule)>,
 }
 
 impl fmt::Display for RefusedText {
-    ghost output = { λ r. Some (refused_text r.number r.fault) };
+    ghost output = { λ r. Some (refused_text r.number r.fault r.reason) };
 
     fn fmt<W: fmt::Write>(&self, f: &mut fmt::Formatter<W>) -> fmt::Result {
-        write!(
-            f,
-            "refused line {}: {}",
-            self.number,
-            fault_name(self.fault)
-        )
+        match self.reason {
+            Some((line, rule)) => write!(
+                f,
+                "refused line {}: {}; line {line}: {rule}",
+                self.number,
+                fault_name(self.fault)
+            ),
+            None => write!(
+                f,
+                "refused line {}: {}",
+                self.number,
+                fault_name(self.fault)
+            ),
+        }
     }
 }
 
-/// Answers `start`, whose fleet was refused; want of memory is not answered.
+/// Answers `start`, whose fleet was refused for this reason; want of memory is not answered.
 fn refuse_start<W: Write>(
     number: u64,
     fault: ConfigFault,
+    reason: Option<(u64, BrokenRule)>,
     text: &mut String,
     writer: &mut W,
 ) -> ScriptFault
-    ensures { StartRefused result number fault (W.contents writer.old) (W.contents writer.new) }
+    ensures { StartRefused result number fault reason (W.contents writer.old) (W.contents writer.new) }
 {
     match fault {
         ConfigFault::NoMemory => ScriptFault::NoMemory,
-        _ => match say(writer, text, RefusedText { number, fault }) {
+        _ => match say(
+            writer,
+            text,
+            RefusedText {
+                number,
+                fault,
+                reason,
+            },
+        ) {
             Ok(()) => ScriptFault::Config(number as usize, fault),
             Err(_) => ScriptFault::Write,
         },
@@ -73,6 +94,7 @@ fn start<W: Write, M: Medium>(
     alloc: Global,
     number: u64,
     config: &Config,
+    numbers: &LineNumbers,
     text: &mut String,
     writer: &mut W,
     medium: M,
@@ -82,7 +104,7 @@ fn start<W: Write, M: Medium>(
     ensures accepted { IfOk result (λ _. first_config_fault (configuration config.now) (M.size medium) ≡ None) }
     ensures said { IfOk result (λ _. Appends (W.contents writer.old) (W.contents writer.new) (with_feed started_text)) }
     ensures fault { IfErr result (λ e. StartFails e.0 (M.size medium) (M.device medium) number
-        (configuration config.now) (W.contents writer.old) (W.contents writer.new)) }
+        (set_up_of config.now numbers.now) (W.contents writer.old) (W.contents writer.new)) }
     ensures kept { IfErr result (λ e. e.1 ≡ medium) }
 {
     match Fleet::new(alloc, config, medium) {
@@ -91,7 +113,9 @@ fn start<W: Write, M: Medium>(
             Err(_) => Err((ScriptFault::Write, fleet.into_medium())),
         },
         Err(NewFault { fault, medium }) => {
-            Err((refuse_start(number, fault, text, writer), medium))
+            let reason = numbered_reason(config, numbers, medium.blocks(), fault);
+            let answered = refuse_start(number, fault, reason, text, writer);
+            Err((answered, medium))
         }
     }
 }
@@ -101,6 +125,7 @@ fn run_from_start<R: BufRead, W: Write, M: Medium>(
     alloc: Global,
     number: u64,
     config: &Config,
+    numbers: &LineNumbers,
     rooms: &mut Rooms,
     reader: &mut R,
     writer: &mut W,
@@ -112,16 +137,25 @@ fn run_from_start<R: BufRead, W: Write, M: Medium>(
     requires blocks_room { length rooms.old.blocks.items ≡ 2097153 }
     ensures ok { IfOk result (λ after. (line : List ℕ) (between : Option (List ℕ))
         → TakesLine between line (R.remaining reader.old) → asked line ≡ Sets Start
-        → Rests (λ last. Ends M.tells (M.size medium) (M.device medium) number (Setting (configuration config.now)) last
+        → Rests (λ last. Ends M.tells (M.size medium) (M.device medium) number (Setting (set_up_of config.now numbers.now)) last
         between (R.remaining reader.new) (W.contents writer.old) (W.contents writer.new)) (M.device medium)
         (M.device after)) }
     ensures fault { IfErr result (λ e. (line : List ℕ) (between : Option (List ℕ))
         → TakesLine between line (R.remaining reader.old) → asked line ≡ Sets Start
-        → Rests (λ last. EndsBy e.0 M.tells (M.size medium) (M.device medium) number (Setting (configuration config.now))
+        → Rests (λ last. EndsBy e.0 M.tells (M.size medium) (M.device medium) number (Setting (set_up_of config.now numbers.now))
         last between (R.remaining reader.new) (W.contents writer.old) (W.contents writer.new)) (M.device medium)
         (M.device e.1)) }
 {
-    match start(alloc, number, config, &mut rooms.text, writer, medium) {
+    let started = start(
+        alloc,
+        number,
+        config,
+        numbers,
+        &mut rooms.text,
+        writer,
+        medium,
+    );
+    match started {
         Ok(fleet) => run_on(number + 1, fleet, rooms, reader, writer),
         Err(fault) => Err(fault),
     }
@@ -139,14 +173,15 @@ fn run_from_setting<R: BufRead, W: Write, M: Medium>(
     requires identifiers_room { length opening.old.rooms.identifiers.items ≡ 2097153 }
     requires blocks_room { length opening.old.rooms.blocks.items ≡ 2097153 }
     ensures ok { IfOk result (λ after. Rests (λ last. Ends M.tells (M.size medium) (M.device medium) 1
-        (Setting (configuration opening.old.script.config)) last (R.remaining reader.old) (R.remaining reader.new)
+        (Setting (set_up_of opening.old.script.config opening.old.numbers)) last (R.remaining reader.old) (R.remaining reader.new)
         (W.contents writer.old) (W.contents writer.new)) (M.device medium) (M.device after)) }
     ensures fault { IfErr result (λ e. Rests (λ last. EndsBy e.0 M.tells (M.size medium) (M.device medium) 1
-        (Setting (configuration opening.old.script.config)) last (R.remaining reader.old) (R.remaining reader.new)
+        (Setting (set_up_of opening.old.script.config opening.old.numbers)) last (R.remaining reader.old) (R.remaining reader.new)
         (W.contents writer.old) (W.contents writer.new)) (M.device medium) (M.device e.1)) }
 {
     let set = set_up(
         &mut opening.script.config,
+        &mut opening.numbers,
         &mut opening.rooms.line,
         &mut opening.rooms.bytes,
         &mut opening.rooms.identifiers,
@@ -162,6 +197,7 @@ fn run_from_setting<R: BufRead, W: Write, M: Medium>(
             alloc,
             number,
             &opening.script.config,
+            &opening.numbers,
             &mut opening.rooms,
             reader,
             writer,

@@ -1,5 +1,5 @@
 use Rattle.std.proofs.Common.{◌≡◌, Ok, None, Some, refl, subst, rules}
-use Rattle.nvme_ns.specs.Configured.{configuration}
+use Rattle.nvme_live.specs.SetUps.{set_up_of}
 use Rattle.nvme_live.specs.Conversations.{SetsUp}
 use Rattle.nvme_live.specs.Standings.{Setting}
 use Rattle.nvme_live.proofs.Starting.{set-err, set-ok}
@@ -8,7 +8,7 @@ use Rattle.nvme_live.proofs.session.run_from_setting.Goals as goal
 pub run_from_start-requires-clause-countable : goal.run_from_start-requires-clause-countable
 run_from_start-requires-clause-countable g c =
     let is : c.set_up-set.result ≡ Ok (Some c.in-Ok-Some.number) = search rules in
-    let comes = subst (λ r. SetsUp r (configuration c.args.opening.now.script.config) (configuration c.set_up-set.new.config) (g.R.Read.remaining c.args.reader.now) (g.R.Read.remaining c.set_up-set.new.reader)
+    let comes = subst (λ r. SetsUp r (set_up_of c.args.opening.now.script.config c.args.opening.now.numbers) (set_up_of c.set_up-set.new.config c.set_up-set.new.numbers) (g.R.Read.remaining c.args.reader.now) (g.R.Read.remaining c.set_up-set.new.reader)
     (g.W.Write.contents c.args.writer.now) (g.W.Write.contents c.set_up-set.new.writer)) is c.set_up-set.ensures in
     let start = comes g.M.Medium.tells (g.M.Medium.size c.args.medium) (g.M.Medium.device c.args.medium) in
     start.countable
@@ -16,30 +16,30 @@ run_from_start-requires-clause-countable g c =
 pub returns-in-Ok-None-clause-ok : goal.returns-in-Ok-None-clause-ok
 returns-in-Ok-None-clause-ok g c =
     let is : c.set_up-set.result ≡ Ok None = search rules in
-    let comes = subst (λ r. SetsUp r (configuration c.args.opening.now.script.config) (configuration c.set_up-set.new.config) (g.R.Read.remaining c.args.reader.now) (g.R.Read.remaining c.set_up-set.new.reader)
+    let comes = subst (λ r. SetsUp r (set_up_of c.args.opening.now.script.config c.args.opening.now.numbers) (set_up_of c.set_up-set.new.config c.set_up-set.new.numbers) (g.R.Read.remaining c.args.reader.now) (g.R.Read.remaining c.set_up-set.new.reader)
     (g.W.Write.contents c.args.writer.now) (g.W.Write.contents c.set_up-set.new.writer)) is c.set_up-set.ensures in
-    record { last = Setting (configuration c.set_up-set.new.config); ended = comes g.M.Medium.tells (g.M.Medium.size c.args.medium) (g.M.Medium.device c.args.medium); rests = refl }
+    record { last = Setting (set_up_of c.set_up-set.new.config c.set_up-set.new.numbers); ended = comes g.M.Medium.tells (g.M.Medium.size c.args.medium) (g.M.Medium.device c.args.medium); rests = refl }
 
 pub returns-in-Err-clause-fault : goal.returns-in-Err-clause-fault
 returns-in-Err-clause-fault g c =
-    let comes = subst (λ r. SetsUp r (configuration c.args.opening.now.script.config) (configuration c.set_up-set.new.config) (g.R.Read.remaining c.args.reader.now) (g.R.Read.remaining c.set_up-set.new.reader)
+    let comes = subst (λ r. SetsUp r (set_up_of c.args.opening.now.script.config c.args.opening.now.numbers) (set_up_of c.set_up-set.new.config c.set_up-set.new.numbers) (g.R.Read.remaining c.args.reader.now) (g.R.Read.remaining c.set_up-set.new.reader)
     (g.W.Write.contents c.args.writer.now) (g.W.Write.contents c.set_up-set.new.writer)) c.in-Err.is c.set_up-set.ensures in
-    record { last = Setting (configuration c.set_up-set.new.config); ended = comes g.M.Medium.tells (g.M.Medium.size c.args.medium) (g.M.Medium.device c.args.medium); rests = refl }
+    record { last = Setting (set_up_of c.set_up-set.new.config c.set_up-set.new.numbers); ended = comes g.M.Medium.tells (g.M.Medium.size c.args.medium) (g.M.Medium.device c.args.medium); rests = refl }
 
 pub returns-in-Ok-Some-clause-ok : goal.returns-in-Ok-Some-clause-ok
 returns-in-Ok-Some-clause-ok g c =
     let is : c.set_up-set.result ≡ Ok (Some c.in-Ok-Some.number) = search rules in
-    let comes = subst (λ r. SetsUp r (configuration c.args.opening.now.script.config) (configuration c.set_up-set.new.config) (g.R.Read.remaining c.args.reader.now) (g.R.Read.remaining c.set_up-set.new.reader)
+    let comes = subst (λ r. SetsUp r (set_up_of c.args.opening.now.script.config c.args.opening.now.numbers) (set_up_of c.set_up-set.new.config c.set_up-set.new.numbers) (g.R.Read.remaining c.args.reader.now) (g.R.Read.remaining c.set_up-set.new.reader)
     (g.W.Write.contents c.args.writer.now) (g.W.Write.contents c.set_up-set.new.writer)) is c.set_up-set.ensures in
-    set-ok g.M.Medium.device g.M.Medium.tells (g.M.Medium.size c.args.medium) (g.M.Medium.device c.args.medium) c.in-Ok-Some.number (configuration c.args.opening.now.script.config) (configuration c.set_up-set.new.config)
+    set-ok g.M.Medium.device g.M.Medium.tells (g.M.Medium.size c.args.medium) (g.M.Medium.device c.args.medium) c.in-Ok-Some.number (set_up_of c.args.opening.now.script.config c.args.opening.now.numbers) (set_up_of c.set_up-set.new.config c.set_up-set.new.numbers)
     (g.R.Read.remaining c.args.reader.now) (g.R.Read.remaining c.set_up-set.new.reader) (g.W.Write.contents c.args.writer.now) (g.W.Write.contents c.set_up-set.new.writer) (g.R.Read.remaining c.run_from_start.new.reader) (g.W.Write.contents c.run_from_start.new.writer)
     (comes g.M.Medium.tells (g.M.Medium.size c.args.medium) (g.M.Medium.device c.args.medium)) c.run_from_start.result c.run_from_start.ensures.ok
 
 pub returns-in-Ok-Some-clause-fault : goal.returns-in-Ok-Some-clause-fault
 returns-in-Ok-Some-clause-fault g c =
     let is : c.set_up-set.result ≡ Ok (Some c.in-Ok-Some.number) = search rules in
-    let comes = subst (λ r. SetsUp r (configuration c.args.opening.now.script.config) (configuration c.set_up-set.new.config) (g.R.Read.remaining c.args.reader.now) (g.R.Read.remaining c.set_up-set.new.reader)
+    let comes = subst (λ r. SetsUp r (set_up_of c.args.opening.now.script.config c.args.opening.now.numbers) (set_up_of c.set_up-set.new.config c.set_up-set.new.numbers) (g.R.Read.remaining c.args.reader.now) (g.R.Read.remaining c.set_up-set.new.reader)
     (g.W.Write.contents c.args.writer.now) (g.W.Write.contents c.set_up-set.new.writer)) is c.set_up-set.ensures in
-    set-err g.M.Medium.device g.M.Medium.tells (g.M.Medium.size c.args.medium) (g.M.Medium.device c.args.medium) c.in-Ok-Some.number (configuration c.args.opening.now.script.config) (configuration c.set_up-set.new.config)
+    set-err g.M.Medium.device g.M.Medium.tells (g.M.Medium.size c.args.medium) (g.M.Medium.device c.args.medium) c.in-Ok-Some.number (set_up_of c.args.opening.now.script.config c.args.opening.now.numbers) (set_up_of c.set_up-set.new.config c.set_up-set.new.numbers)
     (g.R.Read.remaining c.args.reader.now) (g.R.Read.remaining c.set_up-set.new.reader) (g.W.Write.contents c.args.writer.now) (g.W.Write.contents c.set_up-set.new.writer) (g.R.Read.remaining c.run_from_start.new.reader) (g.W.Write.contents c.run_from_start.new.writer)
     (comes g.M.Medium.tells (g.M.Medium.size c.args.medium) (g.M.Medium.device c.args.medium)) c.run_from_start.result c.run_from_start.ensures.fault

@@ -7,14 +7,14 @@ pub returns-in_default-clause-ok : goal.returns-in_default-clause-ok
 returns-in_default-clause-ok g c =
     live-set-ok g.S.Source.step g.S.Source.remaining c.args.script.now c.prepare.new.script g.M.Medium.step g.M.Medium.tells g.M.Medium.device (g.M.Medium.size c.args.medium)
     c.in-Ok.opening.text.items c.in-Ok.opening.script c.in-Ok.ensures.script c.in-Ok.ensures.text c.args.medium (g.R.Read.remaining c.args.reader.now) (g.R.Read.remaining c.run_from_setting.new.reader)
-    (g.W.Write.contents c.args.writer.now) (g.W.Write.contents c.run_from_setting.new.writer) c.run_from_setting.result
+    (g.W.Write.contents c.args.writer.now) (g.W.Write.contents c.run_from_setting.new.writer) c.in-Ok.opening.numbers c.in-Ok.ensures.numbers c.run_from_setting.result
     (not-some c.in-Ok.opening.script.start c.in_default.not-Some) c.run_from_setting.ensures.ok
 
 pub returns-in_default-clause-fault : goal.returns-in_default-clause-fault
 returns-in_default-clause-fault g c =
     live-set-err g.S.Source.step g.S.Source.remaining c.args.script.now c.prepare.new.script g.M.Medium.step g.M.Medium.tells g.M.Medium.device (g.M.Medium.size c.args.medium)
     c.in-Ok.opening.text.items c.in-Ok.opening.script c.in-Ok.ensures.script c.in-Ok.ensures.text c.args.medium (g.R.Read.remaining c.args.reader.now) (g.R.Read.remaining c.run_from_setting.new.reader)
-    (g.W.Write.contents c.args.writer.now) (g.W.Write.contents c.run_from_setting.new.writer) c.run_from_setting.result
+    (g.W.Write.contents c.args.writer.now) (g.W.Write.contents c.run_from_setting.new.writer) c.in-Ok.opening.numbers c.in-Ok.ensures.numbers c.run_from_setting.result
     (not-some c.in-Ok.opening.script.start c.in_default.not-Some) c.run_from_setting.ensures.fault
 
 pub returns-in-Ok-run_first-clause-ok : goal.returns-in-Ok-run_first-clause-ok

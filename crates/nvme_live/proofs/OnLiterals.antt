@@ -1,0 +1,8 @@
+-- What an answer unfolds to compute texts with literal numbers.
+use Rattle.std.specs.Prelude.{⊤}
+use Rattle.std.specs.Fmt.{digits}
+use Rattle.nvme_script.specs.Reasons.{rule_text}
+
+unfoldable pub texts_on_literals : ⊤
+unfolding digits rule_text
+texts_on_literals = tt

@@ -1,0 +1,8 @@
+use Rattle.nvme_live.proofs.SetUps.{refusal_names_a_line, set_up_is_numbered}
+use Rattle.nvme_live.proofs.laws.refusals_name_a_line.Goals as goal
+
+pub returns-clause-numbered : goal.returns-clause-numbered
+returns-clause-numbered c = set_up_is_numbered
+
+pub returns-clause-reason : goal.returns-clause-reason
+returns-clause-reason c = refusal_names_a_line

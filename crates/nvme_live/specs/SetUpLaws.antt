@@ -1,0 +1,61 @@
+-- Of which lines a session has the numbers, and that a refused `start` names one of them.
+use Rattle.std.specs.Prelude.{◌≡◌, ◌+◌, ℕ, Bool, false, is_some, if◌then◌else◌, List, [], ◌∷◌, length, slice_get, Option, Some}
+use Rattle.nvme_spec.specs.Blocks.{Device}
+use Rattle.nvme_spec.specs.Configuration.{first_config_fault}
+use Rattle.nvme_spec.specs.declared.config.ConfigFault.{ConfigFault}
+use Rattle.nvme_grammar.specs.Script.{attachment_in, controller_in, namespace_in}
+use Rattle.nvme_grammar.specs.declared.line.Line.{Line}
+use Rattle.nvme_script.specs.declared.configuration.BrokenRule.{BrokenRule}
+use Rattle.nvme_live.specs.declared.asking.Asked.{Asked}
+use Rattle.nvme_live.specs.declared.asking.Asked.TheVariants.{Fails, Nothing, Looks, Sets, Does}
+use Rattle.nvme_live.specs.Asking.{asked}
+use Rattle.nvme_live.specs.SetUps.{SetUp, nothing_set_up, numbered_reason}
+use Rattle.nvme_live.specs.Standings.{Setting, Session}
+
+-- whether something of a kind is set up by what a line asks
+abbrev pub sets_up : {A : Type 0} → (Line → Option A) → Asked → Bool
+sets_up in_line (Sets line) = is_some (in_line line)
+sets_up in_line (Fails why) = false
+sets_up in_line Nothing = false
+sets_up in_line (Looks looking) = false
+sets_up in_line (Does event) = false
+
+-- The numbers of the lines that set up something of a kind, among lines of which the first has the number n: all are
+-- counted, also those that say nothing, that look, and that are not carried out.
+abbrev pub numbers_from : {A : Type 0} → (Line → Option A) → ℕ → List (List ℕ) → List ℕ
+numbers_from in_line n [] = []
+numbers_from in_line n (line ∷ lines) =
+    if sets_up in_line (asked line) then n ∷ numbers_from in_line (n + 1) lines else numbers_from in_line (n + 1) lines
+
+-- What a session has set up, from its first line on, has the numbers of just the lines that set it up; each list of the
+-- configuration is as long as that of its numbers.
+pub record IsNumbered (lines : List (List ℕ)) (s : SetUp) : Type 0 where
+  pub controllers : s.numbers.of_controllers ≡ numbers_from controller_in 1 lines
+  pub namespaces : s.numbers.of_namespaces ≡ numbers_from namespace_in 1 lines
+  pub attachments : s.numbers.of_attachments ≡ numbers_from attachment_in 1 lines
+  pub each_controller : length s.numbers.of_controllers ≡ length s.configuration.controllers
+  pub each_namespace : length s.numbers.of_namespaces ≡ length s.configuration.namespaces
+  pub each_attachment : length s.numbers.of_attachments ≡ length s.configuration.attached
+
+abbrev pub SetUpIsNumbered : Type 0
+SetUpIsNumbered =
+    (tells : Bool) (blocks : ℕ) (d : Device) (lines answers : List (List ℕ)) (s : SetUp)
+    → Session tells blocks d 1 (Setting nothing_set_up) lines answers (Setting s) → IsNumbered lines s
+
+-- the line with this number, of lines from the first on, sets up something
+pub record IsSettingLine (k : ℕ) (lines : List (List ℕ)) : Type 0 where
+  pub place : ℕ
+  pub counted : k ≡ place + 1
+  pub line : List ℕ
+  pub at : slice_get lines place ≡ Some line
+  pub says : Line
+  pub sets : asked line ≡ Sets says
+
+-- Where a session can't start with what it has set up, the refusal has a reason: it names a line of the session that
+-- set something up. So its answer always has its second half.
+abbrev pub RefusalNamesALine : Type 0
+RefusalNamesALine =
+    (tells : Bool) (blocks : ℕ) (d : Device) (lines answers : List (List ℕ)) (s : SetUp) (fault : ConfigFault)
+    → Session tells blocks d 1 (Setting nothing_set_up) lines answers (Setting s)
+    → first_config_fault s.configuration blocks ≡ Some fault
+    → (k : ℕ) × (rule : BrokenRule) × (numbered_reason s blocks fault ≡ Some (k, rule)) × IsSettingLine k lines

@@ -1,0 +1,82 @@
+-- What a session has set up before `start`, and which of its lines did.
+use Rattle.std.specs.Prelude.{ℕ, List, [], ◌∷◌, ◌++◌, slice_get, Option, None, Some, option_map}
+use Rattle.nvme_spec.specs.Configuration.{Configuration, empty_configuration}
+use Rattle.nvme_spec.specs.declared.config.Config.{Config}
+use Rattle.nvme_spec.specs.declared.config.ConfigFault.{ConfigFault}
+use Rattle.nvme_ns.specs.Configured as ns
+use Rattle.nvme_grammar.specs.declared.line.Line.{Line}
+use Rattle.nvme_grammar.specs.declared.line.Line.TheVariants.{Blank, Controller, Namespace, Attached, Start, Event}
+use Rattle.nvme_script.specs.Reasons.{reason_of}
+use Rattle.nvme_script.specs.declared.configuration.SetupLine.{SetupLine}
+use Rattle.nvme_script.specs.declared.configuration.SetupLine.TheVariants as line_of
+use Rattle.nvme_script.specs.declared.configuration.BrokenRule.{BrokenRule}
+use Rattle.nvme_script.specs.declared.configuration.ConfigReason.{ConfigReason}
+use Rattle.nvme_live.specs.declared.line_numbers.LineNumbers.{LineNumbers}
+
+-- the numbers of the lines of a session that set up controllers, namespaces and attachments, in the order of the lines
+pub record Numbers : Type 0 where
+  pub of_controllers : List ℕ
+  pub of_namespaces : List ℕ
+  pub of_attachments : List ℕ
+
+-- what is set up, and the numbers of the lines that did
+pub record SetUp : Type 0 where
+  pub configuration : Configuration
+  pub numbers : Numbers
+
+abbrev pub no_numbers : Numbers
+no_numbers = record { of_controllers = []; of_namespaces = []; of_attachments = [] }
+
+abbrev pub nothing_set_up : SetUp
+nothing_set_up = record { configuration = empty_configuration; numbers = no_numbers }
+
+abbrev pub numbers_in : LineNumbers → Numbers
+numbers_in numbers = record {
+  of_controllers = numbers.controllers.items;
+  of_namespaces = numbers.namespaces.items;
+  of_attachments = numbers.attached.items;
+}
+
+abbrev pub set_up_of : Config → LineNumbers → SetUp
+set_up_of config numbers = record { configuration = ns.configuration config; numbers = numbers_in numbers }
+
+-- what a line adds to a configuration
+abbrev pub set_by : Configuration → Line → Configuration
+set_by c Blank = c
+set_by c (Controller k) = record c { controllers = c.controllers ++ k ∷ [] }
+set_by c (Namespace n) = record c { namespaces = c.namespaces ++ n ∷ [] }
+set_by c (Attached k n) = record c { attached = c.attached ++ (k, n) ∷ [] }
+set_by c Start = c
+set_by c (Event event) = c
+
+-- where the number of the n-th line of a session is put
+abbrev pub numbered_by : ℕ → Numbers → Line → Numbers
+numbered_by n numbers Blank = numbers
+numbered_by n numbers (Controller k) = record numbers { of_controllers = numbers.of_controllers ++ n ∷ [] }
+numbered_by n numbers (Namespace m) = record numbers { of_namespaces = numbers.of_namespaces ++ n ∷ [] }
+numbered_by n numbers (Attached k m) = record numbers { of_attachments = numbers.of_attachments ++ n ∷ [] }
+numbered_by n numbers Start = numbers
+numbered_by n numbers (Event event) = numbers
+
+-- what is set up behind the n-th line of a session
+abbrev pub with_line : ℕ → SetUp → Line → SetUp
+with_line n s line = record {
+  configuration = set_by s.configuration line;
+  numbers = numbered_by n s.numbers line;
+}
+
+-- the number of the i-th line of a kind, from 0
+abbrev pub number_of : Numbers → SetupLine → Option ℕ
+number_of numbers (line_of.Controller i) = slice_get numbers.of_controllers i
+number_of numbers (line_of.Namespace i) = slice_get numbers.of_namespaces i
+number_of numbers (line_of.Attached i) = slice_get numbers.of_attachments i
+
+-- a reason by the number of its line
+abbrev pub by_number : Numbers → Option ConfigReason → Option (ℕ × BrokenRule)
+by_number numbers None = None
+by_number numbers (Some reason) = option_map (λ k. (k, reason.rule)) (number_of numbers reason.line)
+
+-- Why what is set up is refused with this fault over a medium of so many blocks: the number of the line that is at fault,
+-- and the rule that it breaks.
+abbrev pub numbered_reason : SetUp → ℕ → ConfigFault → Option (ℕ × BrokenRule)
+numbered_reason s blocks fault = by_number s.numbers (reason_of s.configuration blocks fault)

@@ -1,0 +1,90 @@
+//! The numbers of the lines that set up a configuration, and which of them is at fault where it is refused.
+
+ghost use Rattle.std.specs.Prelude.{◌≡◌, OnErr, OnOk};
+ghost use Rattle.nvme_grammar.specs.Lent.{line_by_value};
+ghost use Rattle.nvme_live.specs.SetUps as spec;
+
+use nvme_grammar::Line;
+use nvme_script::{BrokenRule, ConfigReason, SetupLine};
+use nvme_spec::{Config, ConfigFault};
+use std::alloc::{AllocError, Global};
+
+/// The numbers of the lines of a session that set up a configuration, in the order of its lists.
+#[derive(Drop)]
+pub struct LineNumbers {
+    pub controllers: Vec<u64>,
+    pub namespaces: Vec<u64>,
+    pub attached: Vec<u64>,
+}
+
+impl LineNumbers {
+    /// Of no lines.
+    pub fn new(alloc: Global) -> LineNumbers
+        ensures { spec.numbers_in result ≡ spec.no_numbers }
+    {
+        LineNumbers {
+            controllers: Vec::new(alloc),
+            namespaces: Vec::new(alloc),
+            attached: Vec::new(alloc),
+        }
+    }
+
+    /// The number of a line.
+    fn of(&self, line: SetupLine) -> Option<u64>
+        ensures { result ≡ spec.number_of (spec.numbers_in self.now) line }
+    {
+        match line {
+            SetupLine::Controller(i) => self.controllers.get(i).copied(),
+            SetupLine::Namespace(i) => self.namespaces.get(i).copied(),
+            SetupLine::Attached(i) => self.attached.get(i).copied(),
+        }
+    }
+}
+
+/// Adds to a configuration what a line sets up, and the line's number to those of its kind. Where memory is refused
+/// nothing is added to either.
+pub fn set(
+    number: u64,
+    config: &mut Config,
+    numbers: &mut LineNumbers,
+    line: Line<'_>,
+) -> Result<(), AllocError>
+    ensures ok { OnOk result (spec.set_up_of config.new numbers.new
+        ≡ spec.with_line number (spec.set_up_of config.old numbers.old) (line_by_value line.entry)) }
+    ensures err { OnErr result (spec.set_up_of config.new numbers.new ≡ spec.set_up_of config.old numbers.old) }
+{
+    match line {
+        Line::Controller(controller) => {
+            numbers.controllers.reserve(1)?;
+            config.controllers.push(controller)?;
+            numbers.controllers.push_reserved(number);
+        }
+        Line::Namespace(namespace) => {
+            numbers.namespaces.reserve(1)?;
+            config.namespaces.push(namespace)?;
+            numbers.namespaces.push_reserved(number);
+        }
+        Line::Attached { cntlid, nsid } => {
+            numbers.attached.reserve(1)?;
+            config.attached.push((cntlid, nsid))?;
+            numbers.attached.push_reserved(number);
+        }
+        Line::Blank | Line::Start | Line::Event(_) => {}
+    }
+    Ok(())
+}
+
+/// Why a configuration is refused with this fault over a medium of so many blocks: the number of the line that is at
+/// fault, and the rule that it breaks.
+pub fn numbered_reason(
+    config: &Config,
+    numbers: &LineNumbers,
+    blocks: u64,
+    fault: ConfigFault,
+) -> Option<(u64, BrokenRule)>
+    ensures { result ≡ spec.numbered_reason (spec.set_up_of config.now numbers.now) blocks fault }
+{
+    let reason = ConfigReason::of(config, blocks, fault)?;
+    let number = numbers.of(reason.line)?;
+    Some((number, reason.rule))
+}
