@@ -98,6 +98,7 @@ class World:
         self.sides: Dict[int, Side] = {}
         self.spaces: Dict[int, Namespace] = {}
         self.attached: List[Tuple[int, int]] = []
+        self.attaching: List[int] = []
         self.started = False
         self.count = 0
 
@@ -114,8 +115,10 @@ class World:
 
     def configure(self, words: List[str]) -> str:
         if words == ["start"]:
-            if any(c not in self.sides or n not in self.spaces for c, n in self.attached):
-                return f"refused line {self.count}: BadId"
+            for (c, n), line in zip(self.attached, self.attaching):
+                for kind, name, known in (("controller", c, self.sides), ("namespace", n, self.spaces)):
+                    if name not in known:
+                        return f"refused line {self.count}: BadId; line {line}: {kind} {name} is not configured"
             self.started = True
             return "started"
         if words[0] == "controller" and len(words) == 4:
@@ -125,6 +128,7 @@ class World:
             self.spaces[number(words[1])] = Namespace(number(words[3]), first)
         elif words[0] == "attached":
             self.attached.append((number(words[1]), number(words[2])))
+            self.attaching.append(self.count)
         else:
             raise ValueError(words[0])
         return "ok"

@@ -12,7 +12,8 @@ from .support import PACKAGE, TOP, examples
 
 WRONG = (
     "", "placed", "placed 1", "placed 1 x", "placed 1 2 3", "placed 01 2", "placed  1 2", "placed -1 2", "refused 1",
-    "refused 1 Never", "refused line 5: BadId", "rung", "rung 1 Up", "fetch 1 1", "fetch 1 1 given", "execute 1 0",
+    "refused 1 Never", "refused line 5: BadId; line 2: controller 2 is not configured",
+    "rung", "rung 1 Up", "fetch 1 1", "fetch 1 1 given", "execute 1 0",
     "execute 1 0 posted", "execute 1 0 posted 9:99 0", "execute 1 0 posted 0:00 12", "execute 1 0 none 0", "poll 1",
     "poll 1 answered", "poll 1 aborted", "poll 1 2 0:00", "poll 1 2 0:00 0", "poll 1 2 0:00 0000000G", "ok", "started",
     "poll 1 2 0:00 00000000 512", "poll 1 2 0:00 00000000 1 0000", "poll 1 2 0:00 00000000 512 zz", "wirte 1",

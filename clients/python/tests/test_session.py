@@ -140,7 +140,8 @@ class UserTest(unittest.TestCase):
                 self.assertEqual(caught.exception.line, "namespase 1 blocks 8 shared")
                 session.configure("attached 1 7")
                 self.assertEqual(session.script, "controller 1 host 0xa1\nattached 1 7\n")
-                with self.assertRaises(ConfigurationRefused):
+                why = "^the configuration is refused: line 4: BadId; line 3: namespace 7 is not configured$"
+                with self.assertRaisesRegex(ConfigurationRefused, why):
                     session.start()
                 with self.assertRaises(SessionClosed):
                     session.ask("up 1")
