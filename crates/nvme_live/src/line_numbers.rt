@@ -19,7 +19,7 @@ pub struct LineNumbers {
 
 impl LineNumbers {
     /// Of no lines.
-    pub fn new(alloc: Global) -> LineNumbers
+    pub(crate) fn new(alloc: Global) -> LineNumbers
         ensures { spec.numbers_in result ≡ spec.no_numbers }
     {
         LineNumbers {
