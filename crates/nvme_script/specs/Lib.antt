@@ -12,3 +12,4 @@ pub mod RunLaws
 pub mod Statuses
 pub mod Reasons
 pub mod ReasonLaws
+pub mod SetupLines

@@ -2,11 +2,14 @@
 
 ghost use Rattle.std.specs.Prelude.{◌≡◌, ◌≤◌, ◌==◌, ◌&&◌, [], Some, length};
 ghost use Rattle.std.specs.List.{list_any};
+ghost use Rattle.script_text.specs.Lines.{text_lines};
 ghost use Rattle.script_text.specs.Words.{most_words};
+ghost use Rattle.nvme_grammar.specs.Line.{line_at};
 ghost use Rattle.nvme_grammar.specs.Room.{HasBytesRoom};
 ghost use Rattle.nvme_spec.specs.Configuration.{is_private};
 ghost use Rattle.nvme_ns.specs.Configured.{configuration};
 ghost use Rattle.nvme_script.specs.Reasons as spec;
+ghost use Rattle.nvme_script.specs.SetupLines.{is_of_kind, number_in, place_of};
 ghost use Rattle.nvme_script.specs.declared.configuration.SetupLine.TheVariants as line_of;
 
 use nvme_grammar::{Line, parse_line};
@@ -272,40 +275,50 @@ impl ConfigReason {
     }
 }
 
-/// The wanted line, counted from behind this one: `None` where it is this one.
-fn counted_down(wanted: SetupLine, line: &Line<'_>) -> Option<SetupLine> {
-    match (wanted, line) {
-        (SetupLine::Controller(left), Line::Controller(_)) => {
-            Some(SetupLine::Controller(left.checked_sub(1)?))
-        }
-        (SetupLine::Namespace(left), Line::Namespace(_)) => {
-            Some(SetupLine::Namespace(left.checked_sub(1)?))
-        }
-        (SetupLine::Attached(left), Line::Attached { .. }) => {
-            Some(SetupLine::Attached(left.checked_sub(1)?))
-        }
-        _ => Some(wanted),
-    }
-}
-
 impl SetupLine {
+    /// How many lines of its kind stand before it.
+    fn place(self) -> usize
+        ensures { result ≡ place_of self }
+    {
+        match self {
+            SetupLine::Controller(i) | SetupLine::Namespace(i) | SetupLine::Attached(i) => i,
+        }
+    }
+
+    /// Whether a line of a text is of its kind.
+    fn is_kind_of(self, raw: &[u8], bytes: &mut [u8], identifiers: &mut [u16]) -> bool
+        requires bytes_room { HasBytesRoom raw.now bytes.old }
+        requires identifiers_room { most_words raw.now ≤ length identifiers.old }
+        ensures { result ≡ is_of_kind self (line_at raw.now) }
+    {
+        let Some(line) = parse_line(raw, bytes, identifiers) else {
+            return false;
+        };
+        match self {
+            SetupLine::Controller(_) => matches!(line, Line::Controller(_)),
+            SetupLine::Namespace(_) => matches!(line, Line::Namespace(_)),
+            SetupLine::Attached(_) => matches!(line, Line::Attached { .. }),
+        }
+    }
+
     /// Its number among all lines of a text, from 1, if it is there. The buffers need room for what any line says.
     pub fn number_in(self, text: &[u8], bytes: &mut [u8], identifiers: &mut [u16]) -> Option<usize>
         requires bytes_room { HasBytesRoom text.now bytes.old }
         requires identifiers_room { most_words text.now ≤ length identifiers.old }
+        ensures { result ≡ number_in self (text_lines text.now) }
     {
-        let mut wanted = self;
+        let mut left = self.place();
         let mut number: usize = 1;
         let mut rest = Some(text);
         while let Some(lines) = rest {
             let (line, behind) = front_line(lines);
-            if let Some(said) = parse_line(line, bytes, identifiers) {
-                let Some(left) = counted_down(wanted, &said) else {
+            if self.is_kind_of(line, bytes, identifiers) {
+                if left == 0 {
                     return Some(number);
-                };
-                wanted = left;
+                }
+                left -= 1;
             }
-            number = number.checked_add(1)?;
+            number += 1;
             rest = behind;
         }
         None

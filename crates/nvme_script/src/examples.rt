@@ -5,6 +5,7 @@ ghost use Rattle.std.specs.Prelude.{◌≡◌, ◌+◌, ℕ, [], ◌∷◌, None
 ghost use Rattle.std.specs.List.{range_with_len};
 ghost use Rattle.nvme_spec.specs.Examples.{cluster, controller, namespace, single};
 ghost use Rattle.nvme_script.specs.Reasons.{reason_at, reason_of, rule_text};
+ghost use Rattle.nvme_script.specs.SetupLines.{number_in};
 
 use crate::configuration::{BrokenRule, SetupLine};
 use nvme_spec::ConfigFault;
@@ -77,6 +78,16 @@ fn nothing_broken()
     ensures fits { reason_of cluster 72 ConfigFault.DoesNotFit ≡ None }
     ensures identifiers { reason_of cluster 72 ConfigFault.BadId ≡ None }
     ensures memory { reason_of cluster 72 ConfigFault.NoMemory ≡ None }
+{}
+
+/// The number of a line counts comments, empty lines and lines of other kinds.
+#[tactic(auto, unfolding(nvme_grammar::proofs::OnLiterals::lines_on_literals))]
+fn numbers_of_lines()
+    ensures second { number_in (SetupLine.Controller 1)
+        (codes "# hosts" ∷ codes "controller 1 host 0xa1" ∷ [] ∷ codes "controller 2 host 0xb2" ∷ []) ≡ Some 4 }
+    ensures other { number_in (SetupLine.Namespace 0)
+        (codes "controller 1 host 0xa1" ∷ codes "namespace 1 blocks 64 shared" ∷ []) ≡ Some 2 }
+    ensures none { number_in (SetupLine.Attached 0) (codes "controller 1 host 0xa1" ∷ []) ≡ None }
 {}
 
 /// Sentences.
