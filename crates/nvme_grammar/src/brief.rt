@@ -1,96 +1,165 @@
-//! Lines of one number or two behind the keyword of an event, as most lines of a script are: they need no table of words.
+//! Lines of a keyword and numbers, and of Writes and Compares, as most lines of a script are: they need no table of
+//! words.
 
-ghost use Rattle.std.specs.Prelude.{◌≡◌, ◌∷◌, [], true, Some, IfSome};
-ghost use Rattle.script_text.specs.Words.{is_line_text, line_words};
-ghost use Rattle.nvme_grammar.specs.Brief.{brief_event};
+ghost use Rattle.std.specs.Prelude.{◌≡◌, ◌≤◌, ◌*◌, ◌<◌, ◌∷◌, [], List, ℕ, true, length, option_map, IfSome};
+ghost use Rattle.nvme_spec.specs.Limits.{most_bytes};
+ghost use Rattle.nvme_driver.specs.declared.request.Request.TheVariants.{Write as WriteOf, Compare as CompareOf};
+ghost use Rattle.script_text.specs.Words.{is_line_text, line_words, starts_apart};
+ghost use Rattle.nvme_grammar.specs.Brief.{Numbers, IsTransfer, IsWithin, brief_line, transfer_line};
+ghost use Rattle.nvme_grammar.specs.Keywords.{keyword_text};
+ghost use Rattle.nvme_grammar.specs.Lent.{line_by_value};
 ghost use Rattle.nvme_grammar.specs.Line.{sentence};
-ghost use Rattle.nvme_grammar.specs.declared.line.Line.TheVariants.{Event};
 
+use super::keyword::Keyword;
+use super::line::Line;
+use super::numbers::event_in;
+use arrayvec::ArrayVec;
+use nvme_driver::Request;
 use nvme_event::FleetEvent;
-use script_text::{behind_separators, first_word, number_u16};
+use script_text::{behind_separators, data_in, first_word, number_u64};
 
-/// An event of one number or two, which is moved at less cost than a `FleetEvent`.
+/// The most numbers that stand behind a keyword.
+const MOST_NUMBERS: usize = 7;
+
+/// What a line says, as far as it is known before its data are read.
 #[derive(Clone, Copy)]
-pub enum BriefEvent {
-    BringUp(u16),
-    Ring(u16),
-    Fetch(u16, u16),
-    Execute(u16, u16),
-    Poll(u16),
-    Reset(u16),
+pub enum Brief<'a> {
+    /// An event without data.
+    Event(FleetEvent<'static>),
+    Write(Transfer<'a>),
+    Compare(Transfer<'a>),
 }
 
-impl BriefEvent {
-    /// The event of a fleet.
-    #[inline(always)]
-    pub fn event<'a>(self) -> FleetEvent<'a>
-        ensures { result ≡ brief_event self }
-    {
-        match self {
-            BriefEvent::BringUp(cntlid) => FleetEvent::BringUp(cntlid),
-            BriefEvent::Ring(cntlid) => FleetEvent::Ring(cntlid),
-            BriefEvent::Fetch(cntlid, queue) => FleetEvent::Fetch(cntlid, queue),
-            BriefEvent::Execute(cntlid, index) => FleetEvent::Execute(cntlid, usize::from(index)),
-            BriefEvent::Poll(cntlid) => FleetEvent::Poll(cntlid),
-            BriefEvent::Reset(cntlid) => FleetEvent::Reset(cntlid),
-        }
+/// A Write or a Compare, with the word that spells its data.
+#[derive(Clone, Copy)]
+pub struct Transfer<'a> {
+    cntlid: u16,
+    nsid: u32,
+    slba: u64,
+    blocks: u32,
+    word: &'a [u8],
+}
+
+/// A Write, whose data are put into a buffer.
+fn write_line<'a>(transfer: Transfer<'_>, bytes: &'a mut [u8]) -> Option<Line<'a>>
+    requires data_room { most_bytes ≤ length bytes.old }
+    requires digits_room { length transfer.word.now ≤ 2 * length bytes.old }
+    ensures { option_map line_by_value result ≡ transfer_line WriteOf transfer.entry }
+{
+    let bytes = data_in(transfer.word, transfer.blocks, bytes)?;
+    let (nsid, slba) = (transfer.nsid, transfer.slba);
+    let request = Request::Write { nsid, slba, bytes };
+    Some(Line::Event(FleetEvent::Place(transfer.cntlid, request)))
+}
+
+/// A Compare, whose data are put into a buffer.
+fn compare_line<'a>(transfer: Transfer<'_>, bytes: &'a mut [u8]) -> Option<Line<'a>>
+    requires data_room { most_bytes ≤ length bytes.old }
+    requires digits_room { length transfer.word.now ≤ 2 * length bytes.old }
+    ensures { option_map line_by_value result ≡ transfer_line CompareOf transfer.entry }
+{
+    let bytes = data_in(transfer.word, transfer.blocks, bytes)?;
+    let (nsid, slba) = (transfer.nsid, transfer.slba);
+    let request = Request::Compare { nsid, slba, bytes };
+    Some(Line::Event(FleetEvent::Place(transfer.cntlid, request)))
+}
+
+/// What a line says, whose data are put into a buffer. `None` where their word spells none, or more than the blocks have
+/// room for.
+#[inline(always)]
+pub fn line_of<'a>(brief: Brief<'_>, bytes: &'a mut [u8]) -> Option<Line<'a>>
+    requires data_room { most_bytes ≤ length bytes.old }
+    requires digits_room { IsWithin brief (2 * length bytes.old) }
+    ensures { option_map line_by_value result ≡ brief_line brief.entry }
+{
+    match brief {
+        Brief::Event(event) => Some(Line::Event(event)),
+        Brief::Write(transfer) => write_line(transfer, bytes),
+        Brief::Compare(transfer) => compare_line(transfer, bytes),
     }
 }
 
-/// The event of a keyword and one number.
+/// Puts the numbers at the front of a line into a table, and gives the line behind them: from the first word on that is
+/// none, or that the table has no room for.
 #[inline(always)]
-fn alone_event(keyword: &[u8], cntlid: &[u8]) -> Option<BriefEvent>
-    ensures { IfSome result (λ event. sentence (keyword.now ∷ cntlid.now ∷ []) ≡ Some (Event (brief_event event))) }
+fn numbers_in<'a>(line: &'a [u8], numbers: &mut ArrayVec<u64, MOST_NUMBERS>) -> &'a [u8]
+    requires apart { starts_apart line.now ≡ true }
+    requires empty { numbers.old.items ≡ [] }
+    ensures text { is_line_text result.now ≡ is_line_text line.now }
+    ensures words { is_line_text line.now ≡ true
+        → Numbers numbers.new.items (line_words line.now) (line_words result.now) }
+    ensures apart { starts_apart result.now ≡ true }
+    ensures within { length result.now ≤ length line.now }
 {
-    if keyword == b"ring".as_slice() {
-        Some(BriefEvent::Ring(number_u16(cntlid)?))
-    } else if keyword == b"poll".as_slice() {
-        Some(BriefEvent::Poll(number_u16(cntlid)?))
-    } else if keyword == b"up".as_slice() {
-        Some(BriefEvent::BringUp(number_u16(cntlid)?))
-    } else if keyword == b"reset".as_slice() {
-        Some(BriefEvent::Reset(number_u16(cntlid)?))
-    } else {
-        None
+    let mut rest = line;
+    while !rest.is_empty() && !numbers.is_full() {
+        let Some(first) = first_word(rest) else {
+            return rest;
+        };
+        let Some(number) = number_u64(first.word) else {
+            return rest;
+        };
+        numbers.push(number);
+        rest = first.behind;
     }
+    rest
 }
 
-/// The event of a keyword and two numbers.
+/// `C N SLBA BLOCKS DATA`
 #[inline(always)]
-fn pair_event(keyword: &[u8], cntlid: &[u8], number: &[u8]) -> Option<BriefEvent>
-    ensures { IfSome result (λ event. sentence (keyword.now ∷ cntlid.now ∷ number.now ∷ [])
-        ≡ Some (Event (brief_event event))) }
+fn transfer_of<'a>(numbers: &[u64], word: &'a [u8]) -> Option<Transfer<'a>>
+    ensures { IfSome result (IsTransfer numbers.now word.now) }
 {
-    if keyword == b"fetch".as_slice() {
-        Some(BriefEvent::Fetch(number_u16(cntlid)?, number_u16(number)?))
-    } else if keyword == b"execute".as_slice() {
-        Some(BriefEvent::Execute(number_u16(cntlid)?, number_u16(number)?))
-    } else {
-        None
-    }
+    let [cntlid, nsid, slba, blocks] = numbers.as_array::<4>()?;
+    Some(Transfer {
+        cntlid: u16::try_from(*cntlid).ok()?,
+        nsid: u32::try_from(*nsid).ok()?,
+        slba: *slba,
+        blocks: u32::try_from(*blocks).ok()?,
+        word,
+    })
 }
 
-/// The event of a line of so few words. `None` for any other line, which may say something all the same.
+/// A line whose last word is no number. `None` where it is no Write and no Compare.
 #[inline(always)]
-pub fn event_in_brief(line: &[u8]) -> Option<BriefEvent>
-    ensures text { IfSome result (λ event. is_line_text line.now ≡ true) }
-    ensures words { IfSome result (λ event. sentence (line_words line.now) ≡ Some (Event (brief_event event))) }
+fn transfer_in<'a>(keyword: Keyword, numbers: &[u64], rest: &'a [u8]) -> Option<Brief<'a>>
+    requires apart { starts_apart rest.now ≡ true }
+    requires some { 0 < length rest.now }
+    ensures text { IfSome result (λ brief. is_line_text rest.now ≡ true) }
+    ensures words { IfSome result (λ brief. (words : List (List ℕ))
+        → Numbers numbers.now words (line_words rest.now) → sentence (keyword_text keyword ∷ words) ≡ brief_line brief) }
+    ensures within { IfSome result (λ brief. IsWithin brief (length rest.now)) }
 {
-    let line = behind_separators(line);
-    if line.is_empty() {
+    let last = first_word(rest)?;
+    if !last.behind.is_empty() {
         return None;
     }
-    let keyword = first_word(line)?;
-    if keyword.behind.is_empty() {
+    let transfer = transfer_of(numbers, last.word)?;
+    match keyword {
+        Keyword::Write => Some(Brief::Write(transfer)),
+        Keyword::Compare => Some(Brief::Compare(transfer)),
+        _ => None,
+    }
+}
+
+/// What a line says. `None` for other lines than those of a keyword and numbers, Writes and Compares, which may say
+/// something all the same.
+#[inline(always)]
+pub fn brief_of(line: &[u8]) -> Option<Brief<'_>>
+    ensures text { IfSome result (λ brief. is_line_text line.now ≡ true) }
+    ensures words { IfSome result (λ brief. sentence (line_words line.now) ≡ brief_line brief) }
+    ensures within { IfSome result (λ brief. IsWithin brief (length line.now)) }
+{
+    let start = behind_separators(line);
+    if start.is_empty() {
         return None;
     }
-    let cntlid = first_word(keyword.behind)?;
-    if cntlid.behind.is_empty() {
-        return alone_event(keyword.word, cntlid.word);
+    let first = first_word(start)?;
+    let keyword = Keyword::told(first.word)?;
+    let mut numbers = ArrayVec::new();
+    let rest = numbers_in(first.behind, &mut numbers);
+    if !rest.is_empty() {
+        return transfer_in(keyword, numbers.as_slice(), rest);
     }
-    let number = first_word(cntlid.behind)?;
-    if !number.behind.is_empty() {
-        return None;
-    }
-    pair_event(keyword.word, cntlid.word, number.word)
+    Some(Brief::Event(event_in(keyword, numbers.as_slice())?))
 }

@@ -1,6 +1,6 @@
 //! The words that lines begin with, and what stands behind each of them.
 
-ghost use Rattle.std.specs.Prelude.{◌≡◌};
+ghost use Rattle.std.specs.Prelude.{◌≡◌, IfSome};
 ghost use Rattle.nvme_grammar.specs.Keywords.{keyword_text, keyword_of, places_of, behind_of, place_at, takes_words, sets_up, form_text, nearest_to};
 ghost use Rattle.nvme_grammar.specs.Near.{is_near};
 
@@ -256,6 +256,34 @@ impl Keyword {
     {
         let places = self.places().len();
         places <= words && self.behind().takes(words - places)
+    }
+
+    /// The keyword that a word is. `None` where it is none of those that stand behind `start` most.
+    #[inline(always)]
+    pub(crate) fn told(word: &[u8]) -> Option<Keyword>
+        ensures { IfSome result (λ keyword. word.now ≡ keyword_text keyword) }
+    {
+        match word {
+            b"ring" => Some(Keyword::Ring),
+            b"fetch" => Some(Keyword::Fetch),
+            b"execute" => Some(Keyword::Execute),
+            b"poll" => Some(Keyword::Poll),
+            b"read" => Some(Keyword::Read),
+            b"write" => Some(Keyword::Write),
+            b"compare" => Some(Keyword::Compare),
+            b"zeroes" => Some(Keyword::Zeroes),
+            b"flush" => Some(Keyword::Flush),
+            b"register" => Some(Keyword::Register),
+            b"acquire" => Some(Keyword::Acquire),
+            b"release" => Some(Keyword::Release),
+            b"report" => Some(Keyword::Report),
+            b"identify" => Some(Keyword::Identify),
+            b"protect" => Some(Keyword::Protect),
+            b"protection" => Some(Keyword::Protection),
+            b"up" => Some(Keyword::Up),
+            b"reset" => Some(Keyword::Reset),
+            _ => None,
+        }
     }
 
     /// The keyword that a word is, if it is one.

@@ -15,6 +15,7 @@ mod keyword;
 mod laws;
 mod line;
 mod near;
+mod numbers;
 mod place;
 mod request;
 mod script;

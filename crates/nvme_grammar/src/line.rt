@@ -9,7 +9,7 @@ ghost use Rattle.nvme_grammar.specs.Line.{sentence, is_comment, line_at};
 ghost use Rattle.nvme_grammar.specs.Room.{HasBytesRoom};
 ghost use Rattle.nvme_grammar.specs.Lists.{long_line};
 
-use super::brief::event_in_brief;
+use super::brief::{brief_of, line_of};
 use super::configuration::{attached_of, controller_of, namespace_of, start_of};
 use super::event::{event_of, list_event_of};
 use super::identifiers::long_list_of;
@@ -123,8 +123,8 @@ pub fn parse_line<'a>(
     if is_comment_line(line) {
         return Some(Line::Blank);
     }
-    if let Some(brief) = event_in_brief(line) {
-        return Some(Line::Event(brief.event()));
+    match brief_of(line) {
+        Some(brief) => line_of(brief, bytes),
+        None => parse_words(line, bytes, identifiers),
     }
-    parse_words(line, bytes, identifiers)
 }

@@ -80,15 +80,22 @@ fn plain<'a>(request: Request<'a>, words: &[&[u8]]) -> Option<Request<'a>>
     }
 }
 
-/// IEKEY: 0 or 1.
-pub fn bit_in(word: &[u8]) -> Option<bool>
-    ensures { result ≡ bit_at word.now }
+/// IEKEY, by its number: 0 or 1.
+pub fn bit_of(number: u8) -> Option<bool>
+    ensures { result ≡ bit_of number }
 {
-    match number_u8(word)? {
+    match number {
         0 => Some(false),
         1 => Some(true),
         _ => None,
     }
+}
+
+/// IEKEY: 0 or 1.
+pub fn bit_in(word: &[u8]) -> Option<bool>
+    ensures { result ≡ bit_at word.now }
+{
+    bit_of(number_u8(word)?)
 }
 
 /// Two reservation keys.
