@@ -8,6 +8,7 @@ use Rattle.nvme_driver.specs.declared.request.Request.TheVariants.{Read, Write, 
 use Rattle.script_text.specs.Numbers.{number, below, number_at}
 use Rattle.script_text.specs.Words.{line_words, is_line_text}
 use Rattle.script_text.specs.Data.{data_at}
+use Rattle.script_text.specs.Front.{BeginsWith}
 use Rattle.nvme_grammar.specs.Arity.{◌>>=◌}
 use Rattle.nvme_grammar.specs.Brief.{Numbers}
 use Rattle.nvme_grammar.specs.Lent.{lent}
@@ -36,9 +37,9 @@ narrow bits w n e small = by (number w) e
     by (Some m) e = rw (fits m _ e, lt-ltb n (2 ^ bits) small) refl
 
 -- one number more
-pub Numbers-more : (ns : List ℕ) (ws : List (List ℕ)) (w : List ℕ) (behind : List (List ℕ)) (n : ℕ) → Numbers ns ws (w ∷ behind) → number_at 64 w ≡ Some n → Numbers (ns ++ n ∷ []) ws behind
-Numbers-more [] ws w behind n h e = (w, behind, h, e, refl)
-Numbers-more (m ∷ ns) ws w behind n (first, more, split, k, h) e = (first, more, split, k, Numbers-more ns more w behind n h e)
+pub Numbers-more : (ns : List ℕ) (ws more behind : List (List ℕ)) (n : ℕ) → Numbers ns ws more → BeginsWith n more behind → Numbers (ns ++ n ∷ []) ws behind
+Numbers-more [] ws more behind n h (w, split, k) = (w, behind, h ∙ split, k, refl)
+Numbers-more (m ∷ ns) ws more behind n (first, others, split, k, h) e = (first, others, split, k, Numbers-more ns others more behind n h e)
 
 -- what the numbers behind `KEYWORD C N` ask for
 module _ (nsid : ℕ) where

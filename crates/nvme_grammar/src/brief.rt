@@ -16,7 +16,7 @@ use super::numbers::event_in;
 use arrayvec::ArrayVec;
 use nvme_driver::Request;
 use nvme_event::FleetEvent;
-use script_text::{behind_separators, data_in, first_word, number_u64};
+use script_text::{behind_separators, data_in, first_word, front_number};
 
 /// The most numbers that stand behind a keyword.
 const MOST_NUMBERS: usize = 7;
@@ -93,14 +93,11 @@ fn numbers_in<'a>(line: &'a [u8], numbers: &mut ArrayVec<u64, MOST_NUMBERS>) -> 
 {
     let mut rest = line;
     while !rest.is_empty() && !numbers.is_full() {
-        let Some(first) = first_word(rest) else {
+        let Some(front) = front_number(rest) else {
             return rest;
         };
-        let Some(number) = number_u64(first.word) else {
-            return rest;
-        };
-        numbers.push(number);
-        rest = first.behind;
+        numbers.push(front.number);
+        rest = front.behind;
     }
     rest
 }

@@ -1,5 +1,6 @@
 mod DecodeLemmas
 mod FillLemmas
+mod FrontLemmas
 mod HexTextLemmas
 mod LineLemmas
 pub mod OnLiterals

@@ -1,4 +1,5 @@
 pub mod Data
+pub mod Front
 pub mod HexText
 pub mod Lines
 pub mod Numbers

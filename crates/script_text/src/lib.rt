@@ -6,6 +6,7 @@
 mod data;
 mod decoding;
 mod examples;
+mod front;
 mod hex_text;
 pub mod laws;
 mod lines;
@@ -16,6 +17,7 @@ mod words;
 mod writing;
 
 pub use data::{bytes_in, data_in};
+pub use front::{FrontNumber, front_number};
 pub use hex_text::HexText;
 pub use lines::front_line;
 pub use number::{number_u8, number_u16, number_u32, number_u64, number_u128};

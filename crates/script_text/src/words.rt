@@ -11,7 +11,7 @@ pub const MOST_WORDS: usize = 8;
 
 /// Whether a byte stands between words: a space, a tab or a carriage return, and no other.
 #[inline(always)]
-fn is_separator_byte(byte: u8) -> bool
+pub(crate) fn is_separator_byte(byte: u8) -> bool
     ensures { result ≡ is_separator byte }
 {
     matches!(byte, b' ' | b'\t' | b'\r')
