@@ -1,6 +1,6 @@
 //! Lines of the transcript that are put together by hand, as most are: a formatter takes several times as long.
 
-ghost use Rattle.std.specs.Prelude.{◌≡◌, ◌+◌, ◌≤◌, ◌++◌, [], true, length, codes, decimal, IsTrue};
+ghost use Rattle.std.specs.Prelude.{◌≡◌, ◌+◌, ◌≤◌, ◌++◌, [], true, length, codes, decimal, IsTrue, IfSome};
 ghost use Rattle.arrayvec.specs.ArrayString.{array_string_len};
 ghost use Rattle.nvme_wire.specs.StatusNames.{status_text};
 ghost use Rattle.nvme_transcript.specs.Transcript.{answer_text, event_text, executed_text, fetched_text, polled_text, subject_text};
@@ -19,6 +19,28 @@ const ROOM: usize = 96;
 /// A line, or its front.
 pub type Short = ArrayString<ROOM>;
 
+/// The digit of a number below 10. `None` for any other number.
+#[inline(always)]
+#[tactic(auto, using(std::proofs::lemmas::Fmt::decimal_digit))]
+fn digit_of(number: u64) -> Option<&'static str>
+    ensures digit { IfSome result (λ digit. digit.now ≡ decimal number) }
+    ensures one { IfSome result (λ digit. length digit.now ≡ 1) }
+{
+    match number {
+        0 => Some("0"),
+        1 => Some("1"),
+        2 => Some("2"),
+        3 => Some("3"),
+        4 => Some("4"),
+        5 => Some("5"),
+        6 => Some("6"),
+        7 => Some("7"),
+        8 => Some("8"),
+        9 => Some("9"),
+        _ => None,
+    }
+}
+
 /// Appends a number of at most 16 bits.
 #[inline(always)]
 fn put_u16(text: &mut Short, number: u16)
@@ -26,6 +48,10 @@ fn put_u16(text: &mut Short, number: u16)
     ensures bytes { text.new.bytes ≡ text.old.bytes ++ decimal number }
     ensures short { array_string_len text.new ≤ array_string_len text.old + 5 }
 {
+    if let Some(digit) = digit_of(u64::from(number)) {
+        text.push_str(digit);
+        return;
+    }
     let mut buffer = Buffer::new();
     text.push_str(buffer.format(number));
 }
@@ -37,6 +63,10 @@ fn put_u64(text: &mut Short, number: u64)
     ensures bytes { text.new.bytes ≡ text.old.bytes ++ decimal number }
     ensures short { array_string_len text.new ≤ array_string_len text.old + 20 }
 {
+    if let Some(digit) = digit_of(number) {
+        text.push_str(digit);
+        return;
+    }
     let mut buffer = Buffer::new();
     text.push_str(buffer.format(number));
 }
