@@ -77,11 +77,22 @@ impl Script {
             → fits_behind lines (line_by_value line.entry) ≡ true
             → Reads self.new (lines ++ line_by_value line.entry ∷ [])) }
     {
+        self.take(number, &line)
+    }
+
+    /// The same for a line that is lent: it is not moved, which is much of what the line of an event costs here.
+    #[inline(always)]
+    fn take(&mut self, number: usize, line: &Line) -> Result<(), AllocError>
+        ensures { OnOk result ((lines : List Line) → Reads self.old lines → number ≡ length lines + 1
+            → fits_behind lines (line_by_value line.now) ≡ true
+            → Reads self.new (lines ++ line_by_value line.now ∷ [])) }
+    {
         match line {
-            Line::Blank | Line::Event(_) => {}
-            Line::Controller(controller) => self.config.controllers.push(controller)?,
-            Line::Namespace(namespace) => self.config.namespaces.push(namespace)?,
-            Line::Attached { cntlid, nsid } => self.config.attached.push((cntlid, nsid))?,
+            Line::Blank => {}
+            Line::Event(_) => {}
+            Line::Controller(controller) => self.config.controllers.push(*controller)?,
+            Line::Namespace(namespace) => self.config.namespaces.push(*namespace)?,
+            Line::Attached { cntlid, nsid } => self.config.attached.push((*cntlid, *nsid))?,
             Line::Start => self.start = Some(number),
         }
         Ok(())
@@ -127,14 +138,15 @@ pub fn parse(
     let mut rest = Some(text);
     while let Some(lines) = rest {
         let (line, behind) = front_line(lines);
-        let Some(line) = parse_line(line, bytes, identifiers) else {
+        let said = parse_line(line, bytes, identifiers);
+        let Some(line) = &said else {
             return Err(ParseFault::Syntax(before + 1));
         };
-        if !script.allows(&line) {
+        if !script.allows(line) {
             return Err(ParseFault::Syntax(before + 1));
         }
         before += 1;
-        script.add(before, line)?;
+        script.take(before, line)?;
         rest = behind;
     }
     Ok(script.finished())

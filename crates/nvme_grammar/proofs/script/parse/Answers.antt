@@ -16,13 +16,13 @@ loop-rest-init c = record {
   within = omega arith;
 }
 
-pub returns-in_default-parse_line-clause-fault : goal.returns-in_default-parse_line-clause-fault
-returns-in_default-parse_line-clause-fault c =
+pub returns-in_default-said-clause-fault : goal.returns-in_default-said-clause-fault
+returns-in_default-said-clause-fault c =
     let raw = text_lines c.args.text.now in
     let i = c.loop-rest.before in
     let here = line_here raw i c.front_line.result.0.now (lines_left c.front_line.result.1) (sym (rw c.in-Some.is at c.loop-rest.invariant.left) ∙ c.front_line.ensures.lines) in
-    let none : c.parse_line.result ≡ None = search rules in
-    first_unread raw i c.front_line.result.0.now here.0 here.1 c.loop-rest.invariant.begun (sym c.parse_line.ensures.line ∙ ap (option_map line_by_value) none)
+    let none : c.parse_line-said.result ≡ None = search rules in
+    first_unread raw i c.front_line.result.0.now here.0 here.1 c.loop-rest.invariant.begun (sym c.parse_line-said.ensures.line ∙ ap (option_map line_by_value) none)
 
 pub returns-then-not-allows-clause-fault : goal.returns-then-not-allows-clause-fault
 returns-then-not-allows-clause-fault c =
@@ -30,7 +30,7 @@ returns-then-not-allows-clause-fault c =
     let i = c.loop-rest.before in
     let here = line_here raw i c.front_line.result.0.now (lines_left c.front_line.result.1) (sym (rw c.in-Some.is at c.loop-rest.invariant.left) ∙ c.front_line.ensures.lines) in
     let refused : c.allows.result ≡ false = search rules in
-    first_misplaced raw i c.front_line.result.0.now here.0 here.1 c.loop-rest.invariant.begun (line_by_value c.in-Some-parse_line.line) (sym c.parse_line.ensures.line ∙ ap (option_map line_by_value) c.in-Some-parse_line.is)
+    first_misplaced raw i c.front_line.result.0.now here.0 here.1 c.loop-rest.invariant.begun (line_by_value c.in-Some-said.line) (sym c.parse_line-said.ensures.line ∙ ap (option_map line_by_value) c.in-Some-said.is)
     (sym (c.allows.ensures _ c.loop-rest.invariant.read) ∙ refused)
 
 pub loop-rest-preserved : goal.loop-rest-preserved
@@ -40,15 +40,15 @@ loop-rest-preserved c =
     let kept = c.loop-rest.invariant in
     let here = line_here raw i c.front_line.result.0.now (lines_left c.front_line.result.1) (sym (rw c.in-Some.is at kept.left) ∙ c.front_line.ensures.lines) in
     let allowed : c.allows.result ≡ true = search rules in
-    let says = sym c.parse_line.ensures.line ∙ ap (option_map line_by_value) c.in-Some-parse_line.is in
+    let says = sym c.parse_line-said.ensures.line ∙ ap (option_map line_by_value) c.in-Some-said.is in
     let placed = sym (c.allows.ensures _ kept.read) ∙ allowed in
     let number : i + 1 ≡ length (said (take i raw)) + 1 = rw (length-said-taken raw i here.0 kept.begun) refl in
     let within = rw c.in-Some.is at kept.within in
     record {
       left = sym here.2;
-      begun = AllBegin-next raw i c.front_line.result.0.now here.0 here.1 kept.begun (line_by_value c.in-Some-parse_line.line) says placed;
-      read = subst (λ (t : List Line). Reads c.add.new.self t) (sym (said-next raw i c.front_line.result.0.now here.0 here.1 kept.begun (line_by_value c.in-Some-parse_line.line) says))
-          (c.in_ok-add.ensures _ kept.read number placed);
+      begun = AllBegin-next raw i c.front_line.result.0.now here.0 here.1 kept.begun (line_by_value c.in-Some-said.line) says placed;
+      read = subst (λ (t : List Line). Reads c.take.new.self t) (sym (said-next raw i c.front_line.result.0.now here.0 here.1 kept.begun (line_by_value c.in-Some-said.line) says))
+          (c.in_ok-take.ensures _ kept.read number placed);
       within = omega (arith, within, lines_shorter c.front_line.result.1 _ c.front_line.ensures.shorter);
     }
 
