@@ -1,5 +1,6 @@
 mod ArityLemmas
 mod IdentifierLemmas
+mod JudgedLemmas
 pub mod LawLemmas
 mod LongLines
 pub mod OnLiterals

@@ -1,7 +1,7 @@
 //! Lines of a keyword and numbers, and of Writes and Compares, as most lines of a script are: they need no table of
 //! words.
 
-ghost use Rattle.std.specs.Prelude.{◌≡◌, ◌≤◌, ◌*◌, ◌<◌, ◌∷◌, [], List, ℕ, true, length, option_map, IfSome};
+ghost use Rattle.std.specs.Prelude.{◌≡◌, ◌≤◌, ◌*◌, ◌<◌, ◌∷◌, [], List, ℕ, true, length, option_map, is_some, IfSome};
 ghost use Rattle.nvme_spec.specs.Limits.{most_bytes};
 ghost use Rattle.nvme_driver.specs.declared.request.Request.TheVariants.{Write as WriteOf, Compare as CompareOf};
 ghost use Rattle.script_text.specs.Words.{is_line_text, line_words, starts_apart};
@@ -16,7 +16,7 @@ use super::numbers::event_in;
 use arrayvec::ArrayVec;
 use nvme_driver::Request;
 use nvme_event::FleetEvent;
-use script_text::{behind_separators, data_in, first_word, front_number};
+use script_text::{behind_separators, data_in, first_word, front_number, is_data};
 
 /// The most numbers that stand behind a keyword.
 const MOST_NUMBERS: usize = 7;
@@ -76,6 +76,20 @@ pub fn line_of<'a>(brief: Brief<'_>, bytes: &'a mut [u8]) -> Option<Line<'a>>
         Brief::Event(event) => Some(Line::Event(event)),
         Brief::Write(transfer) => write_line(transfer, bytes),
         Brief::Compare(transfer) => compare_line(transfer, bytes),
+    }
+}
+
+/// Whether there is a line of these data: whether their word spells some, and no more than the blocks have room for. The
+/// buffer is overwritten, but not filled.
+#[inline(always)]
+pub fn has_data(brief: Brief<'_>, bytes: &mut [u8]) -> bool
+    requires digits_room { IsWithin brief (2 * length bytes.old) }
+    ensures { result ≡ is_some (brief_line brief.entry) }
+{
+    match brief {
+        Brief::Event(_) => true,
+        Brief::Write(transfer) => is_data(transfer.word, transfer.blocks, bytes),
+        Brief::Compare(transfer) => is_data(transfer.word, transfer.blocks, bytes),
     }
 }
 

@@ -6,10 +6,11 @@ ghost use Rattle.nvme_spec.specs.Limits.{most_bytes};
 ghost use Rattle.script_text.specs.Words.{most_words, starts_apart, is_line_text, line_words};
 ghost use Rattle.nvme_grammar.specs.Lent.{line_by_value};
 ghost use Rattle.nvme_grammar.specs.Line.{sentence, is_comment, line_at};
+ghost use Rattle.nvme_grammar.specs.Reading.{event_aside};
 ghost use Rattle.nvme_grammar.specs.Room.{HasBytesRoom};
 ghost use Rattle.nvme_grammar.specs.Lists.{long_line};
 
-use super::brief::{brief_of, line_of};
+use super::brief::{brief_of, has_data, line_of};
 use super::configuration::{attached_of, controller_of, namespace_of, start_of};
 use super::event::{event_of, list_event_of};
 use super::identifiers::long_list_of;
@@ -125,6 +126,31 @@ pub fn parse_line<'a>(
     }
     match brief_of(line) {
         Some(brief) => line_of(brief, bytes),
+        None => parse_words(line, bytes, identifiers),
+    }
+}
+
+/// What a line says, as `parse_line` does, but for which event it is: for the line of any event it is a power cycle. A
+/// script is judged by it, so that no event is put together, and no data are.
+#[tactic(auto, unfolding(crate::specs::Line::line_at))]
+pub fn judged_line<'a>(
+    line: &[u8],
+    bytes: &'a mut [u8],
+    identifiers: &'a mut [u16],
+) -> Option<Line<'a>>
+    requires bytes_room { HasBytesRoom line.now bytes.old }
+    requires identifiers_room { most_words line.now ≤ length identifiers.old }
+    ensures line { option_map event_aside result ≡ option_map event_aside (line_at line.now) }
+{
+    if line.is_empty() {
+        return Some(Line::Blank);
+    }
+    if is_comment_line(line) {
+        return Some(Line::Blank);
+    }
+    match brief_of(line) {
+        Some(brief) if has_data(brief, bytes) => Some(Line::Event(FleetEvent::PowerCycle)),
+        Some(_) => None,
         None => parse_words(line, bytes, identifiers),
     }
 }

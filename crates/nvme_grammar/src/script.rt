@@ -10,7 +10,7 @@ ghost use Rattle.nvme_grammar.specs.Reading.{Reads};
 ghost use Rattle.nvme_grammar.specs.declared.line.Line.{Line};
 ghost use Rattle.nvme_grammar.specs.declared.script.ParseFault.TheVariants.{NoMemory as MemoryRefused};
 
-use super::line::{Line, parse_line};
+use super::line::{Line, judged_line};
 use nvme_spec::Config;
 use script_text::front_line;
 use std::alloc::{AllocError, Global};
@@ -138,7 +138,7 @@ pub fn parse(
     let mut rest = Some(text);
     while let Some(lines) = rest {
         let (line, behind) = front_line(lines);
-        let said = parse_line(line, bytes, identifiers);
+        let said = judged_line(line, bytes, identifiers);
         let Some(line) = &said else {
             return Err(ParseFault::Syntax(before + 1));
         };

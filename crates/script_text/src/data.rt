@@ -1,6 +1,6 @@
 //! The bytes that a script spells: put into a buffer, of which the part that holds them is lent.
 
-ghost use Rattle.std.specs.Prelude.{◌≡◌, ◌≤◌, ◌*◌, length, take, option_map, IfSome};
+ghost use Rattle.std.specs.Prelude.{◌≡◌, ◌≤◌, ◌*◌, length, take, option_map, is_some, IfSome};
 ghost use Rattle.script_text.specs.Data.{transfer_len, fill_data, filled_up, some_bytes, bytes_at, data_at};
 ghost use Rattle.hex.specs.Hex.{decode_of};
 
@@ -74,6 +74,17 @@ fn filled<'a>(digits: &[u8], len: Option<usize>, buffer: &'a mut [u8]) -> Option
     Some(data)
 }
 
+/// Whether digits spell one byte.
+fn is_byte(digits: &[u8], len: Option<usize>) -> bool
+    ensures { result ≡ is_some (fill_data len (decode_of digits.now)) }
+{
+    let mut byte = [0];
+    match hex::decode_to_slice(digits, &mut byte) {
+        Ok(()) => true,
+        Err(_) => false,
+    }
+}
+
 /// Some bytes at the front of a buffer, and zeros behind them. `None` where they are more than the data.
 fn padded<'a>(count: usize, len: usize, buffer: &'a mut [u8]) -> Option<&'a [u8]>
     requires some { count ≤ length buffer.old }
@@ -107,5 +118,25 @@ pub fn data_in<'a>(word: &[u8], blocks: u32, buffer: &'a mut [u8]) -> Option<&'a
     match len {
         Some(len) => padded(count, len, buffer),
         None => Some(&[]),
+    }
+}
+
+/// Whether a word spells data for a transfer of so many blocks: whether `data_in` gives any. The buffer is overwritten, but
+/// not filled.
+#[tactic(auto, unfolding(crate::specs::Data::data_at))]
+pub fn is_data(word: &[u8], blocks: u32, buffer: &mut [u8]) -> bool
+    requires room_for_digits { length word.now ≤ 2 * length buffer.old }
+    ensures { result ≡ is_some (data_at blocks word.now) }
+{
+    let len = transfer_len_of(blocks);
+    if let Some(digits) = word.strip_prefix(b"fill:".as_slice()) {
+        return is_byte(digits, len);
+    }
+    let Some(count) = spelled(word, buffer) else {
+        return false;
+    };
+    match len {
+        Some(len) => count <= len,
+        None => true,
     }
 }

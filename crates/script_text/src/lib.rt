@@ -16,7 +16,7 @@ mod stream;
 mod words;
 mod writing;
 
-pub use data::{bytes_in, data_in};
+pub use data::{bytes_in, data_in, is_data};
 pub use front::{FrontNumber, front_number};
 pub use hex_text::HexText;
 pub use lines::front_line;

@@ -1,9 +1,9 @@
-use Rattle.std.proofs.Common.{◌≡◌, ◌<◌, length, map, true, false, refl, ap, sym, ◌∙◌, arith}
+use Rattle.std.proofs.Common.{◌≡◌, ◌<◌, length, map, true, refl, ap, ◌∙◌, arith}
 use Rattle.std.specs.Prelude.{◌++◌}
 use Rattle.std.proofs.lemmas.Grind.{common_steps}
 use Rattle.std.proofs.lemmas.List.{length-map}
 use Rattle.script_text.specs.Words.{line_words, is_line_text}
-use Rattle.nvme_grammar.specs.Line.{line_at, is_comment}
+use Rattle.nvme_grammar.specs.Line.{line_at}
 use Rattle.nvme_grammar.proofs.LongLines.{long_line-sentence}
 use Rattle.nvme_grammar.proofs.line.parse_words.Goals as goal
 

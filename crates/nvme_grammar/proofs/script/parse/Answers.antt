@@ -1,11 +1,12 @@
-use Rattle.std.proofs.Common.{◌≡◌, ◌+◌, List, ℕ, length, take, drop, true, false, None, refl, sym, ap, subst, ◌∙◌, rules, arith}
+use Rattle.std.proofs.Common.{◌≡◌, ◌+◌, List, ℕ, length, take, true, false, None, refl, sym, ap, subst, ◌∙◌, rules, arith}
 use Rattle.std.specs.Prelude.{option_map}
 use Rattle.script_text.specs.Lines.{text_lines, lines_left}
-use Rattle.nvme_grammar.specs.Lent.{line_by_value}
+use Rattle.nvme_grammar.specs.Line.{line_at}
 use Rattle.nvme_grammar.specs.Script.{said, Begins}
-use Rattle.nvme_grammar.specs.Reading.{Reads}
+use Rattle.nvme_grammar.specs.Reading.{Reads, event_aside}
 use Rattle.nvme_grammar.specs.declared.line.Line.{Line}
 use Rattle.nvme_grammar.proofs.ScriptLemmas.{AllBegin-none, first_unread, first_misplaced, AllBegin-next, said-next, length-said-taken, line_here, all_read, lines_shorter}
+use Rattle.nvme_grammar.proofs.JudgedLemmas.{aside-none, aside-some, fits-aside, Reads-aside}
 use Rattle.nvme_grammar.proofs.script.parse.Goals as goal
 
 pub loop-rest-init : goal.loop-rest-init
@@ -21,8 +22,8 @@ returns-in_default-said-clause-fault c =
     let raw = text_lines c.args.text.now in
     let i = c.loop-rest.before in
     let here = line_here raw i c.front_line.result.0.now (lines_left c.front_line.result.1) (sym (rw c.in-Some.is at c.loop-rest.invariant.left) ∙ c.front_line.ensures.lines) in
-    let none : c.parse_line-said.result ≡ None = search rules in
-    first_unread raw i c.front_line.result.0.now here.0 here.1 c.loop-rest.invariant.begun (sym c.parse_line-said.ensures.line ∙ ap (option_map line_by_value) none)
+    let none : c.judged_line-said.result ≡ None = search rules in
+    first_unread raw i c.front_line.result.0.now here.0 here.1 c.loop-rest.invariant.begun (aside-none _ (sym (ap (option_map event_aside) none) ∙ c.judged_line-said.ensures.line))
 
 pub returns-then-not-allows-clause-fault : goal.returns-then-not-allows-clause-fault
 returns-then-not-allows-clause-fault c =
@@ -30,8 +31,9 @@ returns-then-not-allows-clause-fault c =
     let i = c.loop-rest.before in
     let here = line_here raw i c.front_line.result.0.now (lines_left c.front_line.result.1) (sym (rw c.in-Some.is at c.loop-rest.invariant.left) ∙ c.front_line.ensures.lines) in
     let refused : c.allows.result ≡ false = search rules in
-    first_misplaced raw i c.front_line.result.0.now here.0 here.1 c.loop-rest.invariant.begun (line_by_value c.in-Some-said.line) (sym c.parse_line-said.ensures.line ∙ ap (option_map line_by_value) c.in-Some-said.is)
-    (sym (c.allows.ensures _ c.loop-rest.invariant.read) ∙ refused)
+    let real = aside-some (line_at c.front_line.result.0.now) c.in-Some-said.line (sym (ap (option_map event_aside) c.in-Some-said.is) ∙ c.judged_line-said.ensures.line) in
+    first_misplaced raw i c.front_line.result.0.now here.0 here.1 c.loop-rest.invariant.begun real.0 real.1
+    (sym (fits-aside (said (take i raw)) c.in-Some-said.line real.0 real.2) ∙ sym (c.allows.ensures _ c.loop-rest.invariant.read) ∙ refused)
 
 pub loop-rest-preserved : goal.loop-rest-preserved
 loop-rest-preserved c =
@@ -40,15 +42,16 @@ loop-rest-preserved c =
     let kept = c.loop-rest.invariant in
     let here = line_here raw i c.front_line.result.0.now (lines_left c.front_line.result.1) (sym (rw c.in-Some.is at kept.left) ∙ c.front_line.ensures.lines) in
     let allowed : c.allows.result ≡ true = search rules in
-    let says = sym c.parse_line-said.ensures.line ∙ ap (option_map line_by_value) c.in-Some-said.is in
-    let placed = sym (c.allows.ensures _ kept.read) ∙ allowed in
+    let real = aside-some (line_at c.front_line.result.0.now) c.in-Some-said.line (sym (ap (option_map event_aside) c.in-Some-said.is) ∙ c.judged_line-said.ensures.line) in
+    let judged = sym (c.allows.ensures _ kept.read) ∙ allowed in
+    let placed = sym (fits-aside (said (take i raw)) c.in-Some-said.line real.0 real.2) ∙ judged in
     let number : i + 1 ≡ length (said (take i raw)) + 1 = rw (length-said-taken raw i here.0 kept.begun) refl in
     let within = rw c.in-Some.is at kept.within in
     record {
       left = sym here.2;
-      begun = AllBegin-next raw i c.front_line.result.0.now here.0 here.1 kept.begun (line_by_value c.in-Some-said.line) says placed;
-      read = subst (λ (t : List Line). Reads c.take.new.self t) (sym (said-next raw i c.front_line.result.0.now here.0 here.1 kept.begun (line_by_value c.in-Some-said.line) says))
-          (c.in_ok-take.ensures _ kept.read number placed);
+      begun = AllBegin-next raw i c.front_line.result.0.now here.0 here.1 kept.begun real.0 real.1 placed;
+      read = subst (λ (t : List Line). Reads c.take.new.self t) (sym (said-next raw i c.front_line.result.0.now here.0 here.1 kept.begun real.0 real.1))
+          (Reads-aside c.take.new.self (said (take i raw)) c.in-Some-said.line real.0 real.2 (c.in_ok-take.ensures _ kept.read number judged));
       within = omega (arith, within, lines_shorter c.front_line.result.1 _ c.front_line.ensures.shorter);
     }
 

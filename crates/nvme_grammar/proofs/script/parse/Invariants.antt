@@ -1,6 +1,5 @@
 use Rattle.std.proofs.Common.{◌≡◌, ◌+◌, ◌≤◌, drop, length, take}
 use Rattle.script_text.specs.Lines.{text_lines, lines_left}
-use Rattle.nvme_grammar.specs.Room.{HasBytesRoom}
 use Rattle.nvme_grammar.specs.Script.{said}
 use Rattle.nvme_grammar.specs.Reading.{Reads}
 use Rattle.nvme_grammar.proofs.ScriptLemmas.{AllBegin, lines_length}

@@ -1,0 +1,7 @@
+use Rattle.std.proofs.Common.{rules, ap, ◌∙◌}
+use Rattle.std.specs.Prelude.{is_some}
+use Rattle.script_text.proofs.FillLemmas.{fill_data-sized}
+use Rattle.script_text.proofs.data.is_byte.Goals as goal
+
+pub returns-in-Err : goal.returns-in-Err
+returns-in-Err c = rw (fill_data-sized c.args.len c.args.digits.now) (search rules)
