@@ -1,11 +1,21 @@
-//! Commands, controllers and subsystems: each a module of its own, over what they share.
+//! Each part by the name of its library, then commands, controllers and subsystems, over what they share.
 
 mod admin;
 mod answers;
 mod asserting;
 mod configuration;
 mod ctrl;
+mod driver;
 mod entries;
 mod exec;
+mod medium;
+mod mem;
 mod memory;
+mod ns;
+mod policy;
+mod prp;
+mod regs;
+mod resv;
+mod ring;
 mod subsys;
+mod wire;

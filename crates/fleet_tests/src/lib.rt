@@ -1,5 +1,5 @@
-//! Tests of fleets, apart since a crate with tests of its own is proved twice; they use `Fleet::apply` and `Fleet::run`
-//! alone.
+//! Tests of fleets, of the text of scripts, their grammar, their runs and the program, apart since a crate with tests of
+//! its own is proved twice; they use public calls alone.
 #![tactic(auto)]
 
 #[cfg(test)]

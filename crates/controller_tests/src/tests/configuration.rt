@@ -1,7 +1,9 @@
-//! The configurations that subsystems are opened with.
+//! The configurations that subsystems are opened with, and an access state that several tests begin with.
 
+use nvme_ns::Spaces;
 use nvme_spec::{Config, ControllerConfig, HostId, NsConfig};
 use std::alloc::{AllocError, Global};
+use std::test::Fail;
 
 fn controller(cntlid: u16, host: HostId) -> ControllerConfig {
     ControllerConfig {
@@ -44,4 +46,10 @@ pub(crate) fn shared_configuration(alloc: Global, blocks: [u64; 2]) -> Result<Co
         ]?,
         attached: vec![in alloc; (1, 1), (2, 1), (1, 2), (2, 2)]?,
     })
+}
+
+/// The access state of the first configuration with 8 private blocks, over the 72 blocks of its namespaces.
+pub(crate) fn opened(alloc: Global) -> Result<Spaces, Fail> {
+    let config = configuration(alloc, 8)?;
+    Ok(Spaces::new(&config, 72)?)
 }

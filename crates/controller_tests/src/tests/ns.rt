@@ -1,7 +1,7 @@
 //! The access state of a subsystem: how it opens, and what attaching, protecting and registering leave.
 
 use crate::tests::asserting::{expect_eq, expect_that};
-use crate::tests::configuration::{cluster, opened};
+use crate::tests::configuration::{configuration, opened};
 use nvme_ns::{ConfigFault, ControllerConfig, NsConfig, Spaces};
 use nvme_resv::Role;
 use nvme_spec::Protection;
@@ -10,7 +10,7 @@ use std::test::Fail;
 
 #[test]
 fn a_cluster_opens(rt: HostRuntime) -> Result<(), Fail> {
-    let config = cluster(rt.alloc())?;
+    let config = configuration(rt.alloc(), 8)?;
     expect_eq(
         &rt,
         Spaces::new(&config, 71).err(),
@@ -40,7 +40,7 @@ fn a_cluster_opens(rt: HostRuntime) -> Result<(), Fail> {
 
 #[test]
 fn faults_are_named(rt: HostRuntime) -> Result<(), Fail> {
-    let mut config = cluster(rt.alloc())?;
+    let mut config = configuration(rt.alloc(), 8)?;
     config.namespaces.push(NsConfig {
         nsid: 3,
         blocks: 0,
@@ -51,7 +51,7 @@ fn faults_are_named(rt: HostRuntime) -> Result<(), Fail> {
         Spaces::new(&config, 72).err(),
         Some(ConfigFault::BadSize),
     );
-    let mut config = cluster(rt.alloc())?;
+    let mut config = configuration(rt.alloc(), 8)?;
     config.controllers.push(ControllerConfig {
         cntlid: 6,
         host: 1,
@@ -62,7 +62,7 @@ fn faults_are_named(rt: HostRuntime) -> Result<(), Fail> {
         Spaces::new(&config, 72).err(),
         Some(ConfigFault::BadId),
     );
-    let mut config = cluster(rt.alloc())?;
+    let mut config = configuration(rt.alloc(), 8)?;
     for nsid in 3..10 {
         config.namespaces.push(NsConfig {
             nsid,

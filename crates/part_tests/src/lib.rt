@@ -1,6 +1,0 @@
-//! Tests of the parts that controllers and hosts are made of, apart since a crate with tests of its own is proved
-//! twice; they use public calls alone.
-#![tactic(auto)]
-
-#[cfg(test)]
-mod tests;
