@@ -52,8 +52,14 @@ fn by_a_driver<R: Clock + AllocGlobal + Print>(rt: &R, rounds: u32) -> io::Resul
     Ok(())
 }
 
-/// Prints what the events of a command take, behind its name and the number of controllers.
-fn tell<R: Print>(rt: &R, name: &str, controllers: u16, times: Times) -> io::Result<()> {
+/// Prints what the events of a command take, behind its name and the number of controllers, or passes on what went wrong.
+fn tell<R: Print>(
+    rt: &R,
+    name: &str,
+    controllers: u16,
+    times: io::Result<Times>,
+) -> io::Result<()> {
+    let times = times?;
     println!(rt; "{name}, last of {controllers}: {times}")
 }
 
@@ -64,17 +70,37 @@ fn commands<R: Clock + AllocGlobal + Print>(
     rounds: u32,
 ) -> io::Result<()> {
     for (name, kind) in COMMANDS {
-        let mut host = Host::new(rt.alloc(), controllers, kind)?;
-        tell(rt, name, controllers, quickest(rt, &mut host, rounds)?)?;
+        tell(rt, name, controllers, sent(rt, controllers, kind, rounds))?;
     }
     Ok(())
+}
+
+/// What a command takes by the host's own stores.
+fn sent<R: Clock + AllocGlobal>(
+    rt: &R,
+    controllers: u16,
+    kind: host::Kind,
+    rounds: u32,
+) -> io::Result<Times> {
+    let mut host = Host::new(rt.alloc(), controllers, kind)?;
+    quickest(rt, &mut host, rounds)
 }
 
 /// The requests of the last of so many hosts.
 fn requests<R: Clock + AllocGlobal + Print>(rt: &R, hosts: u16, rounds: u32) -> io::Result<()> {
     for (name, kind) in REQUESTS {
-        let mut host = Driven::new(rt.alloc(), hosts, kind)?;
-        tell(rt, name, hosts, quickest(rt, &mut host, rounds)?)?;
+        tell(rt, name, hosts, placed(rt, hosts, kind, rounds))?;
     }
     Ok(())
+}
+
+/// What a request takes by the host's driver.
+fn placed<R: Clock + AllocGlobal>(
+    rt: &R,
+    hosts: u16,
+    kind: driven::Kind,
+    rounds: u32,
+) -> io::Result<Times> {
+    let mut host = Driven::new(rt.alloc(), hosts, kind)?;
+    quickest(rt, &mut host, rounds)
 }

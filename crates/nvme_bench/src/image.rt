@@ -20,43 +20,61 @@ pub(crate) fn all<R: Clock + AllocGlobal + Print + Files<File = File>>(
     image: &str,
     rounds: u32,
 ) -> io::Result<()> {
-    let mut bytes = vec![in rt.alloc(); 0x5a_u8; BYTES]?;
-    let mut medium = cached_image(rt, image)?;
-    over_an_image(rt, &mut medium, bytes.as_mut_slice(), rounds)?;
-    let file = OpenOptions::new().read(true).write(true).open(rt, image)?;
-    by_plain_calls(rt, &file, bytes.as_mut_slice(), rounds)?;
-    tell(rt, "copy of 256 blocks", copies(rt, rounds)?)
+    through_a_cache(rt, image, rounds)?;
+    by_the_system(rt, image, rounds)?;
+    tell(rt, "copy of 256 blocks", copies(rt, rounds))
 }
 
 /// Measures transfers as the program makes them.
+fn through_a_cache<R: Clock + AllocGlobal + Print + Files<File = File>>(
+    rt: &R,
+    image: &str,
+    rounds: u32,
+) -> io::Result<()> {
+    let mut bytes = vec![in rt.alloc(); 0x5a_u8; BYTES]?;
+    let mut medium = cached_image(rt, image)?;
+    over_an_image(rt, &mut medium, bytes.as_mut_slice(), rounds)
+}
+
 fn over_an_image<R: Clock + Print, M: Medium>(
     rt: &R,
     medium: &mut M,
     bytes: &mut [u8],
     rounds: u32,
 ) -> io::Result<()> {
-    let written = writes(rt, medium, bytes, rounds)?;
+    let written = writes(rt, medium, bytes, rounds);
     tell(rt, "write of 256 blocks", written)?;
-    let read = reads(rt, medium, bytes, true, rounds)?;
+    let read = reads(rt, medium, bytes, true, rounds);
     tell(rt, "read of 256 blocks, none kept", read)?;
-    let kept = reads(rt, medium, bytes, false, rounds)?;
+    let kept = reads(rt, medium, bytes, false, rounds);
     tell(rt, "read of 256 blocks, all kept", kept)
 }
 
-/// Measures calls of the system on as many bytes, a block in each, or all in one.
+/// Measures calls of the system on as many bytes.
+fn by_the_system<R: Clock + AllocGlobal + Print + Files<File = File>>(
+    rt: &R,
+    image: &str,
+    rounds: u32,
+) -> io::Result<()> {
+    let mut bytes = vec![in rt.alloc(); 0x5a_u8; BYTES]?;
+    let file = OpenOptions::new().read(true).write(true).open(rt, image)?;
+    by_plain_calls(rt, &file, bytes.as_mut_slice(), rounds)
+}
+
+/// A block in each call, or all in one.
 fn by_plain_calls<R: Clock + Print>(
     rt: &R,
     file: &File,
     bytes: &mut [u8],
     rounds: u32,
 ) -> io::Result<()> {
-    let written = plain_writes(rt, file, bytes, BLOCK, rounds)?;
+    let written = plain_writes(rt, file, bytes, BLOCK, rounds);
     tell(rt, "256 calls of pwrite", written)?;
-    let read = plain_reads(rt, file, bytes, BLOCK, rounds)?;
+    let read = plain_reads(rt, file, bytes, BLOCK, rounds);
     tell(rt, "256 calls of pread", read)?;
-    let written = plain_writes(rt, file, bytes, BYTES, rounds)?;
+    let written = plain_writes(rt, file, bytes, BYTES, rounds);
     tell(rt, "one call of pwrite", written)?;
-    let read = plain_reads(rt, file, bytes, BYTES, rounds)?;
+    let read = plain_reads(rt, file, bytes, BYTES, rounds);
     tell(rt, "one call of pread", read)
 }
 

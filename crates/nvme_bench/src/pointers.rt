@@ -14,10 +14,10 @@ use std::time::Instant;
 /// Measures each call, and prints a line for each.
 pub(crate) fn all<R: Clock + AllocGlobal + Print>(rt: &R, rounds: u32) -> io::Result<()> {
     let mut window = listed_window(rt.alloc())?;
-    tell(rt, "walk of 256 blocks", walks(rt, &window, rounds)?)?;
-    tell(rt, "copy of 256 blocks", copies(rt, rounds)?)?;
+    tell(rt, "walk of 256 blocks", walks(rt, &window, rounds))?;
+    tell(rt, "copy of 256 blocks", copies(rt, rounds))?;
     moves(rt, &mut window, rounds)?;
-    tell(rt, "copy of a block", block_copies(rt, rounds)?)
+    tell(rt, "copy of a block", block_copies(rt, rounds))
 }
 
 /// Measures what moves a block by the list of pages.
@@ -26,12 +26,12 @@ fn moves<R: Clock + Print>(rt: &R, window: &mut Window, rounds: u32) -> io::Resu
         tell(
             rt,
             "gather of a block",
-            gathers(rt, window, &pieces, rounds)?,
+            gathers(rt, window, &pieces, rounds),
         )?;
         tell(
             rt,
             "scatter of a block",
-            scatters(rt, window, &pieces, rounds)?,
+            scatters(rt, window, &pieces, rounds),
         )?;
     }
     Ok(())

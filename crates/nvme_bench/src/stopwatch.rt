@@ -22,9 +22,10 @@ impl fmt::Display for Measured {
     }
 }
 
-/// Prints what was measured, behind its name. It has the one `println!` of these lines, since each makes the proof of its
-/// function much longer.
-pub(crate) fn tell<R: Print>(rt: &R, name: &str, measured: Measured) -> io::Result<()> {
+/// Prints what was measured, behind its name, or passes on what went wrong. It has the one `println!` of these lines,
+/// and the one `?`, since each makes the proof of its function longer.
+pub(crate) fn tell<R: Print>(rt: &R, name: &str, measured: io::Result<Measured>) -> io::Result<()> {
+    let measured = measured?;
     println!(rt; "{name}: {measured}")
 }
 

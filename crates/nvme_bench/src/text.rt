@@ -62,21 +62,21 @@ fn data<R: Clock + AllocGlobal + Print>(
     digits: &[u8],
     rounds: u32,
 ) -> io::Result<()> {
-    tell(rt, "256 blocks as digits", shown(rt, bytes, rounds)?)?;
-    tell(rt, "digits as 256 blocks", decoded(rt, digits, rounds)?)?;
-    tell(rt, "copy of these digits", copied(rt, digits, rounds)?)
+    tell(rt, "256 blocks as digits", shown(rt, bytes, rounds))?;
+    tell(rt, "digits as 256 blocks", decoded(rt, digits, rounds))?;
+    tell(rt, "copy of these digits", copied(rt, digits, rounds))
 }
 
 /// Zeros, which are not shown, beside a scan.
 fn no_data<R: Clock + AllocGlobal + Print>(rt: &R, zeros: &[u8], rounds: u32) -> io::Result<()> {
-    tell(rt, "256 blocks of zeros", shown(rt, zeros, rounds)?)?;
-    tell(rt, "scan of these zeros", scanned(rt, zeros, rounds)?)
+    tell(rt, "256 blocks of zeros", shown(rt, zeros, rounds))?;
+    tell(rt, "scan of these zeros", scanned(rt, zeros, rounds))
 }
 
 /// 1,000 lines of a kind.
 fn lines<R: Clock + AllocGlobal + Print>(rt: &R, kind: &Kind, rounds: u32) -> io::Result<()> {
     let text = script(rt.alloc(), kind.line)?;
-    tell(rt, kind.name, parsed(rt, text.as_slice(), rounds)?)
+    tell(rt, kind.name, parsed(rt, text.as_slice(), rounds))
 }
 
 /// Bytes without an order that a processor could guess, none of them 0.

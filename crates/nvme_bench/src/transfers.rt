@@ -24,13 +24,13 @@ const COMMANDS: [(&str, u8); 3] = [
 
 /// Measures each call, and prints a line for each.
 pub(crate) fn all<R: Clock + AllocGlobal + Print>(rt: &R, rounds: u32) -> io::Result<()> {
-    tell(rt, "copy of 256 blocks", copies(rt, rounds)?)?;
-    tell(rt, "comparison of 256 blocks", comparisons(rt, rounds)?)?;
+    tell(rt, "copy of 256 blocks", copies(rt, rounds))?;
+    tell(rt, "comparison of 256 blocks", comparisons(rt, rounds))?;
     for (name, opcode) in COMMANDS {
-        tell(rt, name, commands(rt, opcode, rounds)?)?;
+        tell(rt, name, commands(rt, opcode, rounds))?;
     }
-    tell(rt, "a block by lanes", lanes(rt, rounds)?)?;
-    tell(rt, "a block by ==", slices(rt, rounds)?)
+    tell(rt, "a block by lanes", lanes(rt, rounds))?;
+    tell(rt, "a block by ==", slices(rt, rounds))
 }
 
 fn comparisons<R: Clock + AllocGlobal>(rt: &R, rounds: u32) -> io::Result<Measured> {
