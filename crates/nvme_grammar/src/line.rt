@@ -130,8 +130,8 @@ pub fn parse_line<'a>(
     }
 }
 
-/// What a line says, as `parse_line` does, but for which event it is: for the line of any event it is a power cycle. A
-/// script is judged by it, so that no event is put together, and no data are.
+/// What a line says, as `parse_line` does, but for which event it is: any event stands for one. A script is judged by it,
+/// so that most events and their data are not put together.
 #[tactic(auto, unfolding(crate::specs::Line::line_at))]
 pub fn judged_line<'a>(
     line: &[u8],
