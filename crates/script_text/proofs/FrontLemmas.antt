@@ -1,12 +1,12 @@
 -- Decimal digits at the front of a line.
 use Rattle.std.proofs.Common.{◌≡◌, ℕ, zero, suc, ◌+◌, ◌^◌, ◌<◌, ◌≤◌, Bool, true, false, List, [], ◌∷◌, length, take, drop, get_or, Some, refl, sym, ap, subst, ◌∙◌, arith}
-use Rattle.std.specs.Prelude.{codes, ◌&&◌, nat_eq, if◌then◌else◌}
+use Rattle.std.specs.Prelude.{codes, ◌&&◌, nat_eq}
 use Rattle.std.specs.List.{list_all, starts_with, prefix_len}
 use Rattle.std.specs.Str.Parse.{digits_value}
 use Rattle.std.proofs.lemmas.Bool.{false≢true}
 use Rattle.std.proofs.lemmas.List.{length-take-le}
 use Rattle.script_text.specs.Front.{BeginsWith}
-use Rattle.script_text.specs.Numbers.{is_digit, number_at, numeral, below}
+use Rattle.script_text.specs.Numbers.{is_digit, number_at}
 use Rattle.script_text.specs.Words.{is_visible, is_separator, line_words, is_line_text}
 use Rattle.script_text.proofs.NumberLemmas.{below-fits}
 use Rattle.script_text.proofs.WordLemmas.{behind-text, front-words}

@@ -1,5 +1,6 @@
 -- Bytes as digits: what two digits more leave, and that digits are text.
-use Rattle.std.proofs.Common.{◌≡◌, ℕ, zero, suc, ◌+◌, ◌*◌, ◌/◌, ◌%◌, ◌<◌, ◌≤◌, List, [], ◌∷◌, ◌++◌, length, take, drop, slice_index, slice_set, map, get_or, false, Fits, w8, refl, sym, ap, ◌∙◌, arith}
+use Rattle.std.proofs.Common.{◌≡◌, ◌==◌, ℕ, zero, suc, ◌+◌, ◌*◌, ◌/◌, ◌%◌, ◌<◌, ◌≤◌, List, [], ◌∷◌, ◌++◌, length, take, drop, slice_index, slice_set, map, get_or, false, Fits, w8, refl, sym, ap, ◌∙◌, arith}
+use Rattle.std.proofs.lemmas.Bool.{true≢false}
 use Rattle.std.specs.Fmt.{digit_glyph}
 use Rattle.std.specs.List.{flat_map}
 use Rattle.std.specs.Prelude.{Result, Ok, Err, IsOk, MatchResult, IsUtf8}
@@ -7,7 +8,7 @@ use Rattle.std.specs.Str.{IsAscii}
 use Rattle.std.proofs.lemmas.List.{append_assoc, append-nil, drop_all, drop_more, map-append, take_all, take_more, take_more_set}
 use Rattle.std.proofs.lemmas.Str.Ascii.{IsAscii-nil, IsAscii-cons}
 use Rattle.hex.proofs.Pairs.{take-two_writes}
-use Rattle.script_text.specs.HexText.{hex_pair, high_digit, low_digit}
+use Rattle.script_text.specs.HexText.{hex_pair, high_digit, low_digit, hex_or_dash}
 
 pub length-pairs : (bs : List ℕ) → length (flat_map hex_pair bs) ≡ 2 * length bs
 length-pairs [] = refl
@@ -62,3 +63,8 @@ pairs-take (suc n) (b ∷ bs) =
 pub read-text : {T E : Type 0} (r : Result T E) (P : T → Type 0) (Q : E → Type 0) (bytes : List ℕ) → MatchResult r P (λ e. ¬ (IsUtf8 bytes) × Q e) → IsUtf8 bytes → IsOk r
 read-text (Ok x) P Q bytes h utf8 = refl
 read-text (Err e) P Q bytes h utf8 = absurd (h.0 utf8)
+
+-- what has elements has digits, and no dash
+pub no-dash : (bs : List ℕ) → (length bs == 0) ≡ false → hex_or_dash bs ≡ flat_map hex_pair bs
+no-dash [] h = absurd (true≢false h)
+no-dash (b ∷ bs) h = refl

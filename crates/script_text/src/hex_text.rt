@@ -1,8 +1,8 @@
 //! Data in a transcript: hexadecimal, without the zero bytes at the end.
 
-ghost use Rattle.std.specs.Prelude.{◌≡◌, ◌<◌, ◌≤◌, false, length, map, take, Some};
+ghost use Rattle.std.specs.Prelude.{◌≡◌, ◌<◌, ◌≤◌, ◌==◌, false, length, map, take, Some};
 ghost use Rattle.std.specs.Fmt.{digit_glyph};
-ghost use Rattle.std.specs.List.{flat_map};
+ghost use Rattle.std.specs.List.{flat_map, list_all};
 ghost use Rattle.script_text.specs.HexText.{hex_pair, high_digit, low_digit, hex_or_dash, without_trailing_zeros};
 
 use std::fmt;
@@ -10,18 +10,33 @@ use std::fmt;
 /// How many bytes are put into digits at a time.
 const CHUNK: usize = 128;
 
+/// How many bytes are looked at together for whether they are zeros.
+const ZEROS: usize = 32;
+
 /// Bytes that are shown in lower-case hexadecimal without their trailing zero bytes, as `-` where nothing
 /// is left.
 #[derive(Clone, Copy)]
 pub struct HexText<'a>(pub &'a [u8]);
 
-/// The bytes without zeros at their end, taken away 16 at a time.
+/// Whether all bytes are zero. No other byte stops it early: without a branch on each, a processor looks at several at
+/// once.
+fn are_zeros(bytes: &[u8; ZEROS]) -> bool
+    ensures { result ≡ list_all (λ byte. byte == 0) bytes.now }
+{
+    let mut all = true;
+    for i in 0..ZEROS {
+        all = all & (bytes[i] == 0);
+    }
+    all
+}
+
+/// The bytes without zeros at their end, taken away 32 at a time.
 fn without_zero_chunks(bytes: &[u8]) -> &[u8]
     ensures { without_trailing_zeros result.now ≡ without_trailing_zeros bytes.now }
 {
     let mut rest = bytes;
-    while let Some((front, last)) = rest.split_last_chunk::<16>() {
-        if u128::from_le_bytes(*last) != 0 {
+    while let Some((front, last)) = rest.split_last_chunk::<ZEROS>() {
+        if !are_zeros(last) {
             break;
         }
         rest = front;
@@ -95,13 +110,21 @@ fn padded(chunk: &[u8]) -> [u8; CHUNK]
     bytes
 }
 
-/// A chunk's bytes as text in hexadecimal.
-fn text_of<'a>(chunk: &[u8], digits: &'a mut [u8; 2 * CHUNK]) -> &'a str
-    requires { length chunk.now ≤ 128 }
+/// A whole chunk as text in hexadecimal.
+fn text_of_chunk<'a>(chunk: &[u8; CHUNK], digits: &'a mut [u8; 2 * CHUNK]) -> &'a str
     ensures { result.now ≡ flat_map hex_pair chunk.now }
 {
-    encode(&padded(chunk), digits);
-    str::from_utf8(&digits[..2 * chunk.len()]).unwrap()
+    encode(chunk, digits);
+    str::from_utf8(digits).unwrap()
+}
+
+/// The bytes behind the last whole chunk as text in hexadecimal.
+fn text_of<'a>(rest: &[u8], digits: &'a mut [u8; 2 * CHUNK]) -> &'a str
+    requires { length rest.now ≤ 128 }
+    ensures { result.now ≡ flat_map hex_pair rest.now }
+{
+    encode(&padded(rest), digits);
+    str::from_utf8(&digits[..2 * rest.len()]).unwrap()
 }
 
 impl fmt::Display for HexText<'_> {
@@ -113,11 +136,10 @@ impl fmt::Display for HexText<'_> {
             return f.write_str("-");
         }
         let mut digits = [0; 2 * CHUNK];
-        while !rest.is_empty() {
-            let (chunk, behind) = rest.split_at(rest.len().min(CHUNK));
-            f.write_str(text_of(chunk, &mut digits))?;
+        while let Some((chunk, behind)) = rest.split_first_chunk::<CHUNK>() {
+            f.write_str(text_of_chunk(chunk, &mut digits))?;
             rest = behind;
         }
-        Ok(())
+        f.write_str(text_of(rest, &mut digits))
     }
 }

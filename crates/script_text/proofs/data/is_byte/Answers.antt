@@ -1,5 +1,4 @@
-use Rattle.std.proofs.Common.{rules, ap, ◌∙◌}
-use Rattle.std.specs.Prelude.{is_some}
+use Rattle.std.proofs.Common.{rules}
 use Rattle.script_text.proofs.FillLemmas.{fill_data-sized}
 use Rattle.script_text.proofs.data.is_byte.Goals as goal
 

@@ -1,4 +1,4 @@
-use Rattle.std.proofs.Common.{◌≡◌, ◌<◌, ◌∷◌, length, drop, true, sym, ap, ◌∙◌, rules, arith}
+use Rattle.std.proofs.Common.{◌≡◌, ◌∷◌, length, drop, true, sym, ap, ◌∙◌, rules, arith}
 use Rattle.script_text.specs.Words.{line_words, is_line_text, is_separator}
 use Rattle.script_text.proofs.WordLemmas.{separator-words, separator-text}
 use Rattle.script_text.proofs.FrontLemmas.{stops-end, stops-separator, front-text, front-number}

@@ -1,5 +1,3 @@
-use Rattle.std.proofs.Common.{◌≡◌, ◌<◌, ◌≤◌, length, get_or, true, false, not, ap, sym, ◌∙◌, arith}
-use Rattle.script_text.specs.Lines.{is_of_line}
 use Rattle.script_text.proofs.LineLemmas.{line-found, line-not_found}
 use Rattle.script_text.proofs.lines.line_len.Goals as goal
 
