@@ -207,7 +207,7 @@ impl<M: Medium> Fleet<M> {
     }
 
     /// A store or a register write of a raw host.
-    #[inline(never)]
+    #[inline(always)]
     fn apply_raw(&mut self, cntlid: u16, event: Event<'_>) -> FleetSeen
         requires own { controller_of event ≡ cntlid }
         requires host { IsOfHost event }
@@ -225,6 +225,34 @@ impl<M: Medium> Fleet<M> {
             return FleetSeen::NotRaw;
         }
         told(self.subsystem.apply(event))
+    }
+
+    /// A store of a raw host.
+    // It and the next stand apart from one another, so that the compiler knows of each what the subsystem may give, and
+    // carries no room for an execution's outcome.
+    #[inline(never)]
+    fn store_raw(&mut self, cntlid: u16, address: u64, bytes: &[u8]) -> FleetSeen
+        ensures step { Is (raw_moment (fleet_of self.old.state) (Event.Store cntlid address bytes.entry))
+            (reply_in result self.new.state.buffer) (fleet_of self.new.state) }
+        ensures below { AppliesRaw (driver_at self.old.state.drivers cntlid) M.tells (layers_of self.old.state)
+            (Event.Store cntlid address bytes.entry) result (layers_of self.new.state) }
+        ensures medium { self.new.medium ≡ self.old.medium }
+        ensures fits { data_len result ≤ length self.new.state.buffer }
+    {
+        self.apply_raw(cntlid, Event::Store(cntlid, address, bytes))
+    }
+
+    /// A register write of a raw host.
+    #[inline(never)]
+    fn write_raw(&mut self, cntlid: u16, offset: u64, value: u32) -> FleetSeen
+        ensures step { Is (raw_moment (fleet_of self.old.state) (Event.Write32 cntlid offset value))
+            (reply_in result self.new.state.buffer) (fleet_of self.new.state) }
+        ensures below { AppliesRaw (driver_at self.old.state.drivers cntlid) M.tells (layers_of self.old.state)
+            (Event.Write32 cntlid offset value) result (layers_of self.new.state) }
+        ensures medium { self.new.medium ≡ self.old.medium }
+        ensures fits { data_len result ≤ length self.new.state.buffer }
+    {
+        self.apply_raw(cntlid, Event::Write32(cntlid, offset, value))
     }
 
     /// Power is lost in the subsystem, and comes back; then each driver resets its controller.
@@ -261,10 +289,10 @@ impl<M: Medium> Fleet<M> {
             FleetEvent::Poll(cntlid) => self.deliver(cntlid, DriverCall::Poll),
             FleetEvent::Reset(cntlid) => self.deliver(cntlid, DriverCall::Reset),
             FleetEvent::RawStore(cntlid, address, bytes) => {
-                self.apply_raw(cntlid, Event::Store(cntlid, address, bytes))
+                self.store_raw(cntlid, address, bytes)
             }
             FleetEvent::RawWrite32(cntlid, offset, value) => {
-                self.apply_raw(cntlid, Event::Write32(cntlid, offset, value))
+                self.write_raw(cntlid, offset, value)
             }
             FleetEvent::PowerCycle => self.power_cycle(),
         }
