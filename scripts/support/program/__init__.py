@@ -1,0 +1,1 @@
+"""Runs of the built program, and what must come of them."""

@@ -1,0 +1,64 @@
+"""The words of the command line, and the files that they name."""
+from support.program.case import HELLO, HELLO_SHOWN, SETUP, Case
+
+USAGE = "usage: nvmesim [IMAGE [SCRIPT]]"
+MANY = "is one too many"
+OPTION = "begins as an option does, and there is none"
+ABSENT = "No such file or directory (os error 2)"
+
+# Words that are refused, the number of the one that is at fault, and why.
+BAD_WORDS = (
+    ("a b c", 3, MANY), ("--help", 1, OPTION), ("-h", 1, OPTION), ("-x", 1, OPTION), ("--", 1, OPTION),
+    ("-- a", 1, OPTION), ("- -x", 2, OPTION), ("- --help", 2, OPTION), ("- - --", 3, OPTION),
+    ("no-such-image --help", 2, OPTION),
+)
+
+# Files that are refused, and why: those of the image before those of the script.
+BAD_FILES = (
+    (("no-such-image",), f"'no-such-image' can't be opened as the image, for reading and writing: {ABSENT}"),
+    (("/dev/zero",), "'/dev/zero' is no regular file, as an image has to be"),
+    (("/dev/null", "no-such-script"), "'/dev/null' is no regular file, as an image has to be"),
+    (("no-such-image", "no-such-script"),
+     f"'no-such-image' can't be opened as the image, for reading and writing: {ABSENT}"),
+    (("",), f"'' can't be opened as the image, for reading and writing: {ABSENT}"),
+    ((".",), "'.' is no regular file, as an image has to be"),
+    (("-", "no-such-script"), f"'no-such-script' can't be opened as the script, for reading: {ABSENT}"),
+    (("-", ""), f"'' can't be opened as the script, for reading: {ABSENT}"),
+    (("-", "."), ". can't be read"),
+)
+
+
+def bad_words(text: str, number: int, why: str) -> Case:
+    """Words that are refused before anything is opened."""
+    words = text.split()
+    return Case(f"the words {text}", words, SETUP, status=3,
+                errors=f"nvmesim: bad command line\nnvmesim: word {number}, '{words[number - 1]}', {why}; {USAGE}\n")
+
+
+def bad_files(words: tuple, why: str) -> Case:
+    """Files that are refused before the script is judged."""
+    return Case(f"the files {words}", words, "not a script", status=2,
+                errors=f"nvmesim: file fault\nnvmesim: {why}\n")
+
+
+ONE_NAMESPACE = "namespace 1 blocks 1 shared\nstart\n"
+
+CASES = (
+    *(bad_words(*it) for it in BAD_WORDS),
+    *(bad_files(*it) for it in BAD_FILES),
+    Case("a script that is taken for an image", ("taken-for-image",), ONE_NAMESPACE,
+         {"taken-for-image": ONE_NAMESPACE.encode()}, 1,
+         errors="nvmesim: line 2: DoesNotFit\nnvmesim: 'taken-for-image' has no whole block; to run a script over zeros "
+                "in memory: ./nvmesim - taken-for-image\n"),
+    Case("an image that is taken for a script", ("-", "taken-for-script"),
+         files={"taken-for-script": bytes(1024)}, status=1,
+         errors="nvmesim: line 1: not understood\nnvmesim: 'taken-for-script' begins with a byte 00h, as images do and "
+                f"scripts don't; {USAGE}\n"),
+    Case("a script that is called -, and is not there", ("-", "-"), SETUP, status=2,
+         errors=f"nvmesim: file fault\nnvmesim: '-' can't be opened as the script, for reading: {ABSENT}\n"),
+    Case("a script that is called -", ("-", "-"), "not a script", {"-": HELLO.encode()}, output=HELLO_SHOWN),
+    Case("a script of a byte more than the greatest length, in a file", ("-", "too-long"),
+         files={"too-long": b"#" * 4194305}, status=1,
+         errors="nvmesim: script too long\nnvmesim: too-long has more than 4194304 bytes; an image is the first word: "
+                "nvmesim [IMAGE [SCRIPT]]\n"),
+)

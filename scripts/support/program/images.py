@@ -1,0 +1,94 @@
+"""Images: what a run leaves of them, and what becomes of one that someone else cuts."""
+import os
+from pathlib import Path
+
+from support.program.case import HELLO, HELLO_SHOWN, SETUP, Case, answered, carried
+
+# A Write is executed, and the last line lacks a word.
+CUT_SHORT = SETUP + "up 1\nwrite 1 1 0 1 hex:01\nring 1\nfetch 1 1\nexecute 1 0\nread 1 1 0"
+KEPT = b"\7" * 40000
+
+
+def last_block(blocks: int) -> str:
+    """A block is written at 8 in a namespace of so many blocks."""
+    return (f"controller 1 host 1\nnamespace 1 blocks {blocks} shared\nattached 1 1\nstart\nup 1\n"
+            "write 1 1 8 1 fill:5a\nring 1\nfetch 1 1\nexecute 1 0\n")
+
+
+def two_namespaces(private_blocks: int) -> str:
+    """Four controllers, a namespace of 64 blocks, and one of so many behind it."""
+    return ("controller 1 host 0xa1\ncontroller 2 host 0xb2\ncontroller 3 host 0xa1\ncontroller 4 host 0xc3\n"
+            f"namespace 1 blocks 64 shared\nnamespace 2 blocks {private_blocks} private\n"
+            "attached 1 1\nattached 2 1\nattached 3 1\nattached 4 1\nattached 1 2\nstart\n")
+
+
+TAIL = b"\7" * 5000
+# An image of 72 blocks that differ.
+MARKED = b"\1" + b"\7" * 36862 + b"\x09"
+DOES_NOT_FIT = ("DoesNotFit", "namespace 2 ends behind the 72 blocks of the medium, where the namespaces lie one after "
+                "the other")
+
+
+def refused(blocks: int, fault: str, reason: str) -> Case:
+    """A configuration that is refused over an image."""
+    return Case(f"an image behind a refused namespace of {blocks} blocks", ("image",), two_namespaces(blocks),
+                {"image": MARKED}, 1, errors=f"nvmesim: line 12: {fault}\nnvmesim: line 6: {reason}\n")
+
+
+def make_old(room: Path) -> None:
+    """An image of 64 blocks that holds nothing and was changed long ago."""
+    with open(room / "image", "wb") as image:
+        image.truncate(32768)
+    os.utime(room / "image", (0, 0))
+
+
+def alone(what: str, requests: tuple, answers: tuple, left: bytes = bytes(32768), is_left_alone: bool = True) -> Case:
+    """Requests over such an image."""
+    output = answered(*answers)
+    for status, rule in (("0:80", 9), ("0:02", 5)):
+        output = output.replace(f"posted {status} 0", f"posted {status} {rule}")
+    return Case(f"an old image behind {what}", ("image",), carried(*requests), output=output, left={"image": left},
+                before=make_old, is_left_alone=is_left_alone)
+
+
+def make_pipe(room: Path) -> None:
+    """An image of 64 blocks, and a pipe for the script."""
+    (room / "image").write_bytes(bytes(32768))
+    os.mkfifo(room / "script")
+
+
+def cut_and_tell(room: Path) -> None:
+    """Cuts the image to nothing behind its opening and before the script is read: the pipe is opened behind it."""
+    with open(room / "script", "w", encoding="ascii") as pipe:
+        os.truncate(room / "image", 0)
+        pipe.write(carried("read 1 1 0 1", "read 1 1 64 1"))
+
+
+DONE = "0:00 00000000"
+CASES = (
+    Case("an image behind an empty script", ("image",), files={"image": KEPT}),
+    Case("an image behind a script without events", ("image",), SETUP, {"image": KEPT}),
+    Case("an image behind a script whose last line lacks a word", ("image",), CUT_SHORT, {"image": KEPT}, 1,
+         errors="nvmesim: line 10: not understood\nnvmesim: column 1: read takes 5 words: read C N SLBA BLOCKS\n"),
+    Case("an image behind a subsystem without controllers", ("image",), "start\nup 1\n", {"image": MARKED},
+         output="nocontroller 1\n"),
+    refused(0, "BadSize", "namespace 2 has no blocks"),
+    refused(65537, "BadSize", "namespace 2 has 65537 blocks, and 65536 is the most"),
+    refused(9, *DOES_NOT_FIT),
+    Case("ten blocks on 5,000 bytes", ("image",), last_block(10), {"image": TAIL}, 1,
+         errors="nvmesim: line 4: DoesNotFit\nnvmesim: line 2: namespace 1 ends behind the 9 blocks of the medium, "
+                "where the namespaces lie one after the other\n"),
+    Case("nine blocks on 5,000 bytes", ("image",), last_block(9), {"image": TAIL},
+         output="up 1 ok\nplaced 1 1\nrung 1\nfetch 1 1 took\nexecute 1 0 posted 0:00 0\n",
+         left={"image": TAIL[:4096] + b"\x5a" * 512 + TAIL[4608:]}),
+    Case("a block that is written in place", ("image",), HELLO, {"image": bytes(32768)}, output=HELLO_SHOWN,
+         left={"image": b"Hello" + bytes(32763)}),
+    alone("no command", (), ()),
+    alone("commands that read", ("read 1 1 0 64", "compare 1 1 0 1 fill:00"), (f"{DONE} 32768 -", DONE)),
+    alone("writes that are denied", ("write 1 1 64 1 hex:01", "write 1 2 0 1 hex:01"),
+          ("0:80 00000000", "0:02 00000000")),
+    alone("a Write of zeros", ("write 1 1 63 1 fill:00",), (DONE,), is_left_alone=False),
+    Case("an image that is cut to nothing: Unrecovered Read Error, and ranges go by its first length",
+         ("image", "script"), before=make_pipe, beside=cut_and_tell, left={"image": b""},
+         output=answered("2:81 00000000", "0:80 00000000").replace("posted 0:80 0", "posted 0:80 9")),
+)
