@@ -8,7 +8,9 @@ from nvmesim.script import LineKind, read_lines
 from . import standin
 from .support import examples
 
-UNKNOWN = ("identify", "attachments", "raw-host", "raw-queues", "raw-full-queue", "raw-fetched")
+# Those with the lines of raw hosts, identify, and lists of controllers.
+UNKNOWN = ("nobody", "spelling", "each-line", "identify", "attachments", "raw-host", "raw-and-driver", "raw-queues",
+           "raw-completions", "raw-full-queue", "raw-fetched")
 
 
 class StandinTest(unittest.TestCase):

@@ -77,7 +77,7 @@ def is_left_alone(image: Path) -> bool:
 
 
 def limiting(limit: Optional[int]) -> Optional[Callable[[], None]]:
-    """What is done before the program starts, so that its writes fail behind the limit, and no signal stops it there."""
+    """What is done before the program starts, so that its writes fail behind the limit and no signal stops it."""
     def set_limit() -> None:
         signal.signal(signal.SIGXFSZ, signal.SIG_IGN)
         resource.setrlimit(resource.RLIMIT_FSIZE, (limit, limit))

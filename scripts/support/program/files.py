@@ -48,8 +48,8 @@ CASES = (
     *(bad_files(*it) for it in BAD_FILES),
     Case("a script that is taken for an image", ("taken-for-image",), ONE_NAMESPACE,
          {"taken-for-image": ONE_NAMESPACE.encode()}, 1,
-         errors="nvmesim: line 2: DoesNotFit\nnvmesim: 'taken-for-image' has no whole block; to run a script over zeros "
-                "in memory: ./nvmesim - taken-for-image\n"),
+         errors="nvmesim: line 2: DoesNotFit\nnvmesim: 'taken-for-image' has no whole block; to run a script over "
+                "zeros in memory: ./nvmesim - taken-for-image\n"),
     Case("an image that is taken for a script", ("-", "taken-for-script"),
          files={"taken-for-script": bytes(1024)}, status=1,
          errors="nvmesim: line 1: not understood\nnvmesim: 'taken-for-script' begins with a byte 00h, as images do and "
