@@ -1,5 +1,5 @@
-//! Tests of fleets, of the text of scripts, their grammar, their runs and the program, apart since a crate with tests of
-//! its own is proved twice; they use public calls alone.
+//! Tests of fleets and of runs of scripts, apart since a crate with tests of its own is proved twice; they use public
+//! calls alone.
 #![tactic(auto)]
 
 #[cfg(test)]

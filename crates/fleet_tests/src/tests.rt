@@ -1,14 +1,11 @@
-//! Hosts that use a fleet by events alone; and what no clause says of scripts: that the calls succeed while memory lasts,
-//! and what scripts and the program show.
+//! What no clause says, and no script shows: that calls succeed while memory lasts, what each failing call of a medium or
+//! of a stream leaves, and what a fleet lets see between two events. What the program shows stands in nvme_examples and in
+//! scripts/program.
 
 mod asserting;
 mod bench;
 mod configurations;
 mod faults;
-mod grammar;
 mod mailboxes;
-mod power;
-mod raw_hosts;
 mod running;
 mod script;
-mod text;

@@ -75,13 +75,6 @@ pub(crate) fn happen(fleet: &mut Bench, event: FleetEvent<'_>) -> Shown {
     show(fleet.apply(event))
 }
 
-/// Events have to give what stands beside them.
-pub(crate) fn expect(rt: &impl Abort, fleet: &mut Bench, events: &[(FleetEvent<'_>, Shown)]) {
-    for (at, (event, seen)) in events.iter().enumerate() {
-        assert_eq!(rt; happen(fleet, *event), *seen, "at event {at}");
-    }
-}
-
 /// An event has to give this, and these data.
 pub(crate) fn expect_data(
     rt: &impl Abort,
@@ -255,12 +248,6 @@ pub(crate) fn answered(ticket: u64, len: usize) -> Shown {
         dw0: 0,
         len,
     })))
-}
-
-/// A request that was not handed up when its controller was reset.
-pub(crate) fn aborted(ticket: u64) -> Shown {
-    let ticket = Ticket(ticket);
-    Shown::Polled(Ok(Some(Answer::Aborted { ticket })))
 }
 
 /// A command that was executed with success.

@@ -1,10 +1,10 @@
-//! Configurations that are refused, the smallest one, and want of memory.
+//! Configurations that are refused, and want of memory: whatever comes, the medium is handed back.
 
 use crate::tests::asserting::{expect_eq, expect_that};
-use crate::tests::bench::{Shown, accepted, configuration, happen};
-use nvme_fleet::{Fleet, FleetEvent};
+use crate::tests::bench::configuration;
+use nvme_fleet::Fleet;
 use nvme_medium::MemMedium;
-use nvme_spec::{Config, ConfigFault};
+use nvme_spec::ConfigFault;
 use std::alloc::Global;
 use std::test::Fail;
 
@@ -26,24 +26,6 @@ fn is_unchanged(medium: &MemMedium) -> bool {
         && *first == 1
         && *last == 9
         && bytes.get(1..36_863) == Some([7; 36_862].as_slice())
-}
-
-#[test]
-fn a_fleet_without_controllers(rt: HostRuntime) -> Result<(), Fail> {
-    let config = Config {
-        controllers: Vec::new(rt.alloc()),
-        namespaces: Vec::new(rt.alloc()),
-        attached: Vec::new(rt.alloc()),
-    };
-    let mut fleet = accepted(rt.alloc(), &config, marked_medium(rt.alloc())?)?;
-    expect_eq(
-        &rt,
-        happen(&mut fleet, FleetEvent::BringUp(1)),
-        Shown::NoController,
-    );
-    expect_eq(&rt, fleet.data(), [].as_slice());
-    expect_that(&rt, is_unchanged(&fleet.into_medium()));
-    Ok(())
 }
 
 #[test]

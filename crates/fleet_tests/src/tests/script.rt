@@ -1,8 +1,6 @@
-//! The program's words, texts and statuses, the image's file, and streams that fail.
+//! Scripts over media and streams that fail at any of their calls.
 
 mod broken_streams;
-mod image;
 mod lines;
 mod media;
-mod program;
 mod streams;

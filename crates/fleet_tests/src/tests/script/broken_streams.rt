@@ -1,11 +1,11 @@
 //! Scripts over streams that fail in the middle.
 
-use super::lines::{HELLO, SETUP, carried};
-use super::program::run_to;
+use super::lines::{HELLO, carried};
 use super::streams::{FailingReader, FailingWriter};
 use crate::tests::asserting::{expect_eq, expect_that};
 use nvme_medium::MemMedium;
-use nvme_script::{ScriptFault, run_script};
+use nvme_script::{ScriptFault, run_program, run_script};
+use std::fs;
 use std::test::Fail;
 
 /// A byte is written to each of the blocks 0, 1 and 2.
@@ -104,40 +104,33 @@ fn a_writer_that_fails_stops_behind_its_command(rt: HostRuntime) -> Result<(), F
     Ok(())
 }
 
-/// A transcript that goes through the buffer whole, and one of which a part is written before its end.
+/// Each write of the transcript succeeds, and its last flush fails, as no stream of the system does. The image has what
+/// was written.
 #[test]
-fn the_program_says_that_the_transcript_is_not_written(rt: HostRuntime) -> Result<(), Fail> {
-    let short = carried(rt.alloc(), HELLO)?;
-    let long = carried(rt.alloc(), &[b"flush 1 1".as_slice(); 120])?;
-    let cases = [
-        (short.as_slice(), FailingWriter::at_write(rt.alloc(), 0)),
-        (short.as_slice(), FailingWriter::at_flush(rt.alloc(), 0)),
-        (long.as_slice(), FailingWriter::at_write(rt.alloc(), 0)),
-        (long.as_slice(), FailingWriter::at_write(rt.alloc(), 1)),
-    ];
-    for (text, mut writer) in cases {
-        let (status, errors) = run_to(&rt, &[], &mut &text[..], &mut writer)?;
-        expect_eq(
-            &rt,
-            errors.as_slice(),
-            b"nvmesim: file fault\nnvmesim: standard output can't be written\n".as_slice(),
-        );
-        expect_eq(&rt, status, 2);
-    }
-    Ok(())
-}
-
-#[test]
-fn the_program_says_that_the_script_is_not_read(rt: HostRuntime) -> Result<(), Fail> {
-    let mut reader = FailingReader::new(SETUP, 3);
-    let mut written: Vec<u8> = Vec::new(rt.alloc());
-    let (status, errors) = run_to(&rt, &[], &mut reader, &mut written)?;
+fn a_flush_that_fails_is_told(rt: HostRuntime) -> Result<(), Fail> {
+    let text = carried(rt.alloc(), HELLO)?;
+    let path = "no-transcript.img";
+    fs::write(&rt, path, [0; 32768].as_slice())?;
+    let mut words = Vec::new(rt.alloc());
+    words.push(String::from_str(rt.alloc(), "nvmesim")?)?;
+    words.push(String::from_str(rt.alloc(), path)?)?;
+    let mut writer = FailingWriter::at_flush(rt.alloc(), 0);
+    let mut errors: Vec<u8> = Vec::new(rt.alloc());
+    let status = run_program(
+        &rt,
+        words.as_slice(),
+        &mut text.as_slice(),
+        &mut writer,
+        &mut errors,
+    );
+    let left = fs::read(&rt, path)?;
+    fs::remove_file(&rt, path)?;
+    expect_eq(&rt, status, 2);
     expect_eq(
         &rt,
         errors.as_slice(),
-        b"nvmesim: file fault\nnvmesim: standard input can't be read\n".as_slice(),
+        b"nvmesim: file fault\nnvmesim: standard output can't be written\n".as_slice(),
     );
-    expect_eq(&rt, status, 2);
-    expect_that(&rt, written.is_empty());
+    expect_that(&rt, left.starts_with(b"Hello\x00"));
     Ok(())
 }

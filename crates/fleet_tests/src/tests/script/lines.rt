@@ -3,7 +3,7 @@
 use std::alloc::{AllocError, Global};
 
 /// One controller with a shared namespace of 64 blocks: the first four lines of many scripts.
-pub const SETUP: &[u8] = b"controller 1 host 0xa1
+const SETUP: &[u8] = b"controller 1 host 0xa1
 namespace 1 blocks 64 shared
 attached 1 1
 start
@@ -12,32 +12,12 @@ start
 /// A Write of a block, and a Read of it.
 pub const HELLO: &[&[u8]] = &[b"write 1 1 0 1 hex:48656c6c6f", b"read 1 1 0 1"];
 
-/// What they print behind `up 1`.
-pub const HELLO_SHOWN: &[u8] = b"up 1 ok
-placed 1 1
-rung 1
-fetch 1 1 took
-execute 1 0 posted 0:00 0
-poll 1 1 0:00 00000000
-placed 1 2
-rung 1
-fetch 1 1 took
-execute 1 0 posted 0:00 0
-poll 1 2 0:00 00000000 512 48656c6c6f
-";
-
-/// The setup with more lines behind it.
-pub(crate) fn with_setup(alloc: Global, lines: &[u8]) -> Result<Vec<u8>, AllocError> {
-    let mut text = Vec::new(alloc);
-    text.extend_from_slice(SETUP)?;
-    text.extend_from_slice(lines)?;
-    Ok(text)
-}
-
 /// The setup, behind which the driver of controller 1 comes up, and each of these requests is placed, rung, fetched,
 /// executed and handed up.
 pub(crate) fn carried(alloc: Global, requests: &[&[u8]]) -> Result<Vec<u8>, AllocError> {
-    let mut text = with_setup(alloc, b"up 1\n")?;
+    let mut text = Vec::new(alloc);
+    text.extend_from_slice(SETUP)?;
+    text.extend_from_slice(b"up 1\n")?;
     for request in requests {
         text.extend_from_slice(request)?;
         text.extend_from_slice(b"\nring 1\nfetch 1 1\nexecute 1 0\npoll 1\n")?;
