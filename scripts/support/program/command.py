@@ -1,5 +1,7 @@
 """The command `scripts/program`."""
 import argparse
+import os
+import subprocess
 import sys
 import tempfile
 from dataclasses import replace
@@ -25,7 +27,8 @@ def words_of(given: List[str]) -> argparse.Namespace:
     """The command's own words."""
     parser = argparse.ArgumentParser(prog="scripts/program", description=USAGE,
                                      formatter_class=argparse.RawDescriptionHelpFormatter)
-    parser.add_argument("program", metavar="PROGRAM", help="a built nvmesim, such as crates/nvmesim/out/nvmesim")
+    parser.add_argument("program", metavar="PROGRAM", nargs="?",
+                        help="a built nvmesim; else the one that ./nvmesim builds is taken")
     parser.add_argument("--self-test", action="store_true",
                         help="spoil each thing that each case wants, one by one: it must be found")
     return parser.parse_args(given)
@@ -53,10 +56,16 @@ def try_spoiled(case: Case, program: Path, folder: Path) -> List[str]:
     return [f"passes as {clipped}" for clipped in (str(it)[:200] for it in spoiled(case) if not any(faults(it, shown)))]
 
 
-def main(given: List[str]) -> int:
+def built(top: Path) -> Path:
+    """The program that ./nvmesim builds, where that can be built."""
+    subprocess.run([str(top / "nvmesim"), "-", os.devnull], stdin=subprocess.DEVNULL, check=False)
+    return top / "crates/nvmesim/out/nvmesim"
+
+
+def main(top: Path, given: List[str]) -> int:
     """The command's status."""
     words = words_of(given)
-    program = Path(words.program).resolve()
+    program = Path(words.program).resolve() if words.program else built(top)
     if not program.is_file():
         print(f"program: there is no {program}", file=sys.stderr)
         return 2
