@@ -1,6 +1,5 @@
 //! Each part by the name of its library, then commands, controllers and subsystems, over what they share.
 
-mod admin;
 mod answers;
 mod asserting;
 mod configuration;
@@ -13,7 +12,6 @@ mod mem;
 mod memory;
 mod ns;
 mod policy;
-mod prp;
 mod regs;
 mod resv;
 mod ring;

@@ -125,41 +125,19 @@ fn a_late_controller_comes_up_over_a_full_window(rt: HostRuntime) -> Result<(), 
 }
 
 #[test]
-fn bad_requests_are_refused(rt: HostRuntime) -> Result<(), Fail> {
+fn half_a_block_is_refused(rt: HostRuntime) -> Result<(), Fail> {
     let (mut driver, mut port) = up(rt.alloc())?;
-    let register = |action| Request::Register {
+    let write = Request::Write {
         nsid: 1,
-        action,
-        iekey: false,
-        cptpl: 0,
-        crkey: 0,
-        nrkey: 0,
+        slba: 0,
+        bytes: &[0; 511],
     };
-    let bad = [
-        Request::Read {
-            nsid: 1,
-            slba: 0,
-            blocks: 0,
-        },
-        Request::Write {
-            nsid: 1,
-            slba: 0,
-            bytes: &[0; 511],
-        },
-        Request::Report {
-            nsid: 1,
-            dwords: 32_769,
-        },
-        register(8),
-    ];
-    for request in bad {
-        expect_eq(
-            &rt,
-            driver.place(&mut port, &request),
-            Err(PlaceRefusal::BadRequest),
-        );
-    }
-    expect_eq(&rt, driver.place(&mut port, &register(7)), Ok(Ticket(1)));
+    expect_eq(
+        &rt,
+        driver.place(&mut port, &write),
+        Err(PlaceRefusal::BadRequest),
+    );
+    expect_eq(&rt, driver.place(&mut port, &READ), Ok(Ticket(1)));
     Ok(())
 }
 

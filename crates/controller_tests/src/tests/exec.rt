@@ -3,6 +3,3 @@
 mod bench;
 mod faults;
 mod lanes;
-mod pointers;
-mod ranges;
-mod reservations;

@@ -1,11 +1,10 @@
-//! The access state of a subsystem: how it opens, and what attaching, protecting and registering leave.
+//! The access state of a subsystem: how it opens, and a reservation that it lends.
 
 use crate::tests::asserting::{expect_eq, expect_that};
 use crate::tests::configuration::{configuration, opened};
 use nvme_ns::{ConfigFault, ControllerConfig, NsConfig, Spaces};
 use nvme_resv::Role;
 use nvme_spec::Protection;
-use nvme_wire::Status;
 use std::test::Fail;
 
 #[test]
@@ -99,123 +98,5 @@ fn a_lent_reservation_keeps_what_is_registered(rt: HostRuntime) -> Result<(), Fa
         .reservation(1)
         .expect(&rt, "namespace 1 is configured");
     expect_eq(&rt, other.role(0xa1), Role::Outsider);
-    Ok(())
-}
-
-#[test]
-fn a_namespace_is_protected_alone(rt: HostRuntime) -> Result<(), Fail> {
-    let mut spaces = opened(rt.alloc())?;
-    expect_that(&rt, spaces.protection(2).is_some());
-    spaces.set_protection(2, Protection::Protected);
-    expect_eq(&rt, spaces.protection(2), Some(Protection::Protected));
-    expect_eq(&rt, spaces.protection(1), Some(Protection::Open));
-    Ok(())
-}
-
-#[test]
-fn a_power_cycle_takes_what_does_not_persist(rt: HostRuntime) -> Result<(), Fail> {
-    let mut spaces = opened(rt.alloc())?;
-    for nsid in [1, 2] {
-        let before = spaces
-            .reservation(nsid)
-            .expect(&rt, "the namespace is configured");
-        expect_that(&rt, before.has_room_for(0xa1));
-        expect_that(
-            &rt,
-            spaces.reservation_mut(nsid).register(0xa1, 0x11).is_ok(),
-        );
-    }
-    expect_that(&rt, spaces.reservation(2).is_some());
-    spaces.reservation_mut(2).set_ptpl(true);
-    expect_that(&rt, spaces.protection(1).is_some());
-    spaces.set_protection(1, Protection::UntilCycle);
-    expect_that(&rt, spaces.protection(2).is_some());
-    spaces.set_protection(2, Protection::Protected);
-
-    spaces.power_cycle();
-    for (nsid, role, protection) in [
-        (1, Role::Outsider, Protection::Open),
-        (2, Role::Registrant, Protection::Protected),
-    ] {
-        let after = spaces
-            .reservation(nsid)
-            .expect(&rt, "the namespace is configured");
-        expect_eq(&rt, after.role(0xa1), role);
-        expect_eq(&rt, spaces.protection(nsid), Some(protection));
-    }
-    Ok(())
-}
-
-#[test]
-fn a_list_is_taken_whole_or_refused(rt: HostRuntime) -> Result<(), Fail> {
-    let mut spaces = opened(rt.alloc())?;
-    expect_eq(
-        &rt,
-        [spaces.shared(1), spaces.shared(2), spaces.shared(3)],
-        [Some(true), Some(false), None],
-    );
-    expect_eq(&rt, spaces.detach(1, &[2, 4]), Ok(()));
-    expect_eq(
-        &rt,
-        [spaces.is_attached(2, 1), spaces.is_attached(3, 1)],
-        [false, true],
-    );
-    expect_eq(
-        &rt,
-        spaces.detach(1, &[1, 2]),
-        Err(Status::NAMESPACE_NOT_ATTACHED),
-    );
-    expect_that(&rt, spaces.is_attached(1, 1));
-    expect_that(&rt, spaces.namespace(1).is_some());
-    expect_eq(
-        &rt,
-        spaces.attach(1, &[2, 3]),
-        Err(Status::NAMESPACE_ALREADY_ATTACHED),
-    );
-    expect_that(&rt, !spaces.is_attached(2, 1));
-    expect_that(&rt, spaces.namespace(1).is_some());
-    expect_eq(&rt, spaces.attach(1, &[2, 4]), Ok(()));
-    expect_that(&rt, spaces.is_attached(4, 1));
-    Ok(())
-}
-
-#[test]
-fn lists_of_controllers_rise(rt: HostRuntime) -> Result<(), Fail> {
-    let mut spaces = opened(rt.alloc())?;
-    for list in [&[2, 1][..], &[2, 2][..], &[0][..], &[5][..], &[][..]] {
-        expect_eq(
-            &rt,
-            spaces.detach(1, list),
-            Err(Status::CONTROLLER_LIST_INVALID),
-        );
-    }
-    expect_eq(
-        &rt,
-        spaces.detach(1, &[1; 2048]),
-        Err(Status::CONTROLLER_LIST_INVALID),
-    );
-    Ok(())
-}
-
-#[test]
-fn a_private_namespace_has_one_controller(rt: HostRuntime) -> Result<(), Fail> {
-    let mut spaces = opened(rt.alloc())?;
-    expect_that(&rt, spaces.namespace(2).is_some());
-    expect_eq(
-        &rt,
-        spaces.attach(2, &[2]),
-        Err(Status::NAMESPACE_IS_PRIVATE),
-    );
-    expect_eq(&rt, spaces.detach(2, &[1]), Ok(()));
-    expect_that(&rt, spaces.namespace(2).is_some());
-    expect_eq(
-        &rt,
-        spaces.attach(2, &[2, 3]),
-        Err(Status::NAMESPACE_IS_PRIVATE),
-    );
-    expect_that(&rt, !spaces.is_attached(2, 2));
-    expect_that(&rt, spaces.namespace(2).is_some());
-    expect_eq(&rt, spaces.attach(2, &[3]), Ok(()));
-    expect_that(&rt, spaces.is_attached(3, 2));
     Ok(())
 }

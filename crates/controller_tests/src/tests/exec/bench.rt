@@ -6,7 +6,7 @@ ghost use Rattle.nvme_spec.specs.Execution.{HasKnownRegistrants};
 
 use crate::tests::configuration::configuration;
 use nvme_exec::execute;
-use nvme_medium::{Medium, MemMedium};
+use nvme_medium::Medium;
 use nvme_mem::Window;
 use nvme_ns::Spaces;
 use nvme_wire::{Sqe, Status};
@@ -34,16 +34,6 @@ pub(crate) fn bench_over<M: Medium + Drop>(alloc: Global, medium: M) -> Result<B
         medium,
         window,
     })
-}
-
-/// Opens the configuration over a medium of 72 blocks of zeros.
-pub(crate) fn open_bench(alloc: Global) -> Result<Bench<MemMedium>, Fail>
-    ensures within { IfOk result (λ bench.
-        LiesWithin (⟦<MemMedium as Medium>⟧.size bench.medium) bench.spaces.namespaces) }
-    ensures known { IfOk result (λ bench. HasKnownRegistrants bench.spaces) }
-{
-    let medium = MemMedium::new(alloc, &[0; 72 * 512])?;
-    bench_over(alloc, medium)
 }
 
 /// Executes an entry: its status and the rule, or None where the controller isn't configured.
