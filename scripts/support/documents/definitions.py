@@ -4,7 +4,7 @@ from dataclasses import dataclass, field
 from pathlib import Path
 from typing import Dict, Iterator, List, Optional, Set, Tuple
 
-from support.documents.texts import crates
+from support.documents.texts import OTHERS, crates
 
 HEAD = re.compile(r"(?:abbrev|unfoldable)(?: pub)? (\w+)|(?:pub )?(?:record|data) (\w+)|(?:pub )?([\w-]+) :")
 USE = re.compile(r"(?:ghost )?(?:pub )?use Rattle\.(\w+)\.specs\.([\w.]+?)(?:\.\{(.*)\})?(?: as (\w+))?;?$")
@@ -122,7 +122,8 @@ class Library:
                     self.modules[name] = read_specs(name, text)
                 elif path.suffix == ".rt":
                     self.modules[name] = read_code(name, text)
-                    for it in self.modules[name].definitions:
+                    # No definition is made of a type that a program or a test has to itself.
+                    for it in self.modules[name].definitions if not OTHERS.match(crate) else ():
                         self.types.setdefault(it, []).append((name, it))
 
     def found(self, key: Key) -> Optional[Definition]:

@@ -4,7 +4,7 @@ from pathlib import Path
 from typing import Dict, Iterator, List, Tuple
 
 from support.documents.names import code_of
-from support.documents.texts import Document, Finding, crates
+from support.documents.texts import OTHERS, Document, Finding, crates
 
 TABLE = "docs/ARCHITECTURE.md"
 HEADING = "Which calls take memory"
@@ -13,8 +13,6 @@ CALL = re.compile(r"^( *)pub fn (\w+)[^({]*(?:<[^(]*>)?\(([^)]*)\)", re.M)
 OWNER = re.compile(r"^(?:pub )?(?:impl(?:<.*?>)? (?:[\w:<>, ]+ for )?|trait )(\w+)", re.M)
 # An allocator, or a runtime that has one.
 TAKES = re.compile(r"\balloc: |\brt: &")
-# Crates that are programs or tests.
-OTHERS = re.compile(r".*_(?:tests|bench|examples)$|nvmesim$")
 
 
 def calls(top: Path) -> Iterator[Tuple[str, str]]:

@@ -9,6 +9,8 @@ from typing import Iterator, List, Optional, Tuple
 TOP_TEXTS = ("README.md", "CONTRIBUTING.md", "CHANGELOG.md", "nvmesim", "nvmelive", "crates.txt")
 FOLDERS = ("docs", "man", "scripts", "bench", ".ci", "clients")
 CRATE_PARTS = ("src", "specs", "proofs")
+# Crates that are programs or tests.
+OTHERS = re.compile(r".*_(?:tests|bench|examples)$|nvmesim$")
 
 FENCE = re.compile(r"^(```+|~~~+)\s*(\w*)\s*$")
 MARK = re.compile(r"^<!-- excerpt: (.+?) -->$")
