@@ -165,8 +165,8 @@ class World:
     def refusal(self, side: Side, words: List[str]) -> str:
         if not side.up:
             return "NotReady"
-        most = {"read": 256, "write": 256, "compare": 256, "zeroes": 65536}.get(words[0])
-        if most is not None and not 1 <= number(words[4]) <= most:
+        most = {"read": 256, "write": 256, "compare": 256, "zeroes": 65536, "report": 32768}.get(words[0])
+        if most is not None and not 1 <= number(words[3 if words[0] == "report" else 4]) <= most:
             return "BadRequest"
         if words[0] in ("register", "acquire", "release", "protect") and number(words[3]) > 7:
             return "BadRequest"

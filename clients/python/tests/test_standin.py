@@ -8,15 +8,14 @@ from nvmesim.script import LineKind, read_lines
 from . import standin
 from .support import examples
 
-# Those with the lines of raw hosts, identify, and lists of controllers.
-UNKNOWN = ("nobody", "spelling", "each-line", "identify", "attachments", "raw-host", "raw-and-driver", "raw-queues",
-           "raw-completions", "raw-full-queue", "raw-fetched")
+# What the names of those begin with that it does not know: all of raw hosts, and some others.
+UNKNOWN = ("nobody", "spelling", "each-line", "identify", "attachments", "raw-")
 
 
 class StandinTest(unittest.TestCase):
     def test_it_answers_as_the_transcripts(self) -> None:
         for name, script, transcript in examples():
-            if name in UNKNOWN:
+            if name.startswith(UNKNOWN):
                 continue
             world, told = standin.World(), ""
             for line in read_lines(script):

@@ -12,6 +12,7 @@ mod mem;
 mod memory;
 mod ns;
 mod policy;
+mod prp;
 mod regs;
 mod resv;
 mod ring;

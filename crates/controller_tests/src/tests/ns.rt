@@ -1,10 +1,12 @@
-//! The access state of a subsystem: how it opens, and a reservation that it lends.
+//! The access state of a subsystem: how it opens, a reservation that it lends, and a list that is longer than one in
+//! memory can be.
 
 use crate::tests::asserting::{expect_eq, expect_that};
 use crate::tests::configuration::{configuration, opened};
 use nvme_ns::{ConfigFault, ControllerConfig, NsConfig, Spaces};
 use nvme_resv::Role;
 use nvme_spec::Protection;
+use nvme_wire::Status;
 use std::test::Fail;
 
 #[test]
@@ -98,5 +100,16 @@ fn a_lent_reservation_keeps_what_is_registered(rt: HostRuntime) -> Result<(), Fa
         .reservation(1)
         .expect(&rt, "namespace 1 is configured");
     expect_eq(&rt, other.role(0xa1), Role::Outsider);
+    Ok(())
+}
+
+#[test]
+fn a_list_of_2048_controllers_is_refused(rt: HostRuntime) -> Result<(), Fail> {
+    let mut spaces = opened(rt.alloc())?;
+    expect_eq(
+        &rt,
+        spaces.detach(1, &[1; 2048]),
+        Err(Status::CONTROLLER_LIST_INVALID),
+    );
     Ok(())
 }
