@@ -7,6 +7,11 @@ import time
 from pathlib import Path
 
 
+# What takes long beside the longest chain, so that the end of the chain would wait for it: it gets two jobs, also where
+# other crates take the other processors.
+LONG = ("nvme_grammar",)
+
+
 def cone_of(wanted):
     """The crates and all that they stand on, lowest first."""
     found = []
@@ -82,7 +87,8 @@ def prove(rt, wanted, jobs, tell, log):
     def build(crate, jobs):
         progress.begin(crate.name)
         with tempfile.TemporaryFile("w+", errors="replace") as crate.out:
-            is_well = not crate.build_rlib(["--jobs", str(jobs)], anew=False)
+            most = max(jobs, 2) if crate.name in LONG else jobs
+            is_well = not crate.build_rlib(["--jobs", str(most)], anew=False)
             crate.out.seek(0)
             with WRITING:
                 log.write(f"== {crate.name}\n")
