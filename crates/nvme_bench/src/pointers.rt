@@ -37,6 +37,8 @@ fn moves<R: Clock + Print>(rt: &R, window: &mut Window, rounds: u32) -> io::Resu
     Ok(())
 }
 
+// Not inlined, so that what stands around it does not change what a walk costs.
+#[inline(never)]
 fn walks<R: Clock>(rt: &R, window: &Window, rounds: u32) -> io::Result<Measured> {
     let mut sum = 0_u64;
     let start = Instant::now(rt)?;
