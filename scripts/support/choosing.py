@@ -22,9 +22,9 @@ class Book:
         return sum(map(len, self.edits.values()))
 
 
-def read_book(rt, root, crates, toolchain):
+def read_book(rt, root, crates, logic):
     """Reads every wrong body and every record."""
-    book, digests = Book(crates), record.Digests(toolchain)
+    book, digests = Book(crates), record.Digests(logic)
     for folder in edits.orphans(root, crates.values()):
         book.faults.append(f"{folder.relative_to(root)}: nobody tries these, since no crate stands there")
     for name, crate in crates.items():

@@ -160,7 +160,7 @@ def main(root, given):
             say(f"wrong-bodies: crates.txt has no crate {name}")
             return 2
     trial.lend(rt)
-    book = choosing.read_book(rt, root, crates, toolchain.ask("version"))
+    book = choosing.read_book(rt, root, crates, toolchain.logic())
     chosen = {name: found for name, found in chosen_of(words, book).items() if found}
     count = sum(map(len, chosen.values()))
     say(f"{count} of {book.tally()} wrong bodies are tried, of {len(chosen)} crates: {' '.join(chosen)}")

@@ -2,7 +2,7 @@
 
 A line has a wrong body's name, a digest and the goal that refused it. The digest is of all that the refusal rests on:
 the wrong body, the crate's own sources, definitions and proofs, the contracts and definitions of the crates below, and
-the toolchain. A line with another digest than the present one says nothing.
+the toolchain's logic. A line with another digest than the present one says nothing.
 """
 import hashlib
 import re
@@ -79,8 +79,8 @@ def whole(crate):
 class Digests:
     """The digests of wrong bodies, of which each crate's own part is computed once."""
 
-    def __init__(self, toolchain):
-        self.toolchain, self.seen, self.parts = toolchain, {}, {}
+    def __init__(self, logic):
+        self.logic, self.seen, self.parts = logic, {}, {}
 
     def of_contracts(self, crate):
         if crate.name not in self.seen:
@@ -90,7 +90,7 @@ class Digests:
     def of_crate(self, crate):
         if crate.name not in self.parts:
             below = sorted((it.name, self.of_contracts(it)) for it in crate.below())
-            self.parts[crate.name] = digest_of([self.toolchain, crate.name, crate.of_kit, below, *whole(crate)])
+            self.parts[crate.name] = digest_of([self.logic, crate.name, crate.of_kit, below, *whole(crate)])
         return self.parts[crate.name]
 
     def of_edit(self, crate, edit):

@@ -21,6 +21,13 @@ def ask(word):
     return ran.stdout.strip()
 
 
+def logic():
+    """The logic that proofs are checked by, as `rt version` names it. Kits of the toolchain that differ otherwise can
+    have the same."""
+    version = ask("version")
+    return version[version.find("logic "):] if "logic " in version else version
+
+
 def load(root):
     """Reads `rt`, which stands beside the page that `rt doc` names, and goes to the top of the repository, as `rt`
     wants."""
