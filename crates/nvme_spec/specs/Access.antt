@@ -1,5 +1,5 @@
 -- What a reservation lets a host read and write (NVM Express Base Specification 2.0, "Reservation Types").
-use Rattle.std.specs.Prelude.{ℕ, ◌≤◌, Bool, true, false, if◌then◌else◌, ◌==◌}
+use Rattle.std.specs.Prelude.{ℕ, Bool, true, false, if◌then◌else◌, ◌==◌}
 use Rattle.nvme_spec.specs.declared.access.Hold.{Hold}
 use Rattle.nvme_spec.specs.declared.access.Hold.TheVariants.{Free, One, All}
 use Rattle.nvme_spec.specs.declared.access.Role.{Role}
@@ -66,9 +66,3 @@ abbrev pub is_permitted : Hold → Role → Group → Bool
 is_permitted Free role group = true
 is_permitted (One type host) role group = is_permitted_under type role group
 is_permitted (All type) role group = is_permitted_under type role group
-
--- the hold's type is one of the six
-abbrev pub HasKnownType : Hold → Type 0
-HasKnownType Free = Unit {0}
-HasKnownType (One type host) = (1 ≤ type) × (type ≤ 6)
-HasKnownType (All type) = (1 ≤ type) × (type ≤ 6)
