@@ -11,7 +11,7 @@ use Rattle.nvme_spec.specs.Reservation.{Reservation, unreserved}
 use Rattle.nvme_spec.specs.World.{World, Namespace, host_of, namespace_of}
 use Rattle.nvme_spec.specs.IoRules.{permits_group}
 use Rattle.nvme_spec.specs.Layout.{Extent, extent_of, reservation_of, may_read, may_write}
-use Rattle.nvme_spec.specs.Sound.{IsSoundReservation, site_of}
+use Rattle.nvme_spec.specs.Sound.{IsSoundReservation, namespace_place}
 use Rattle.nvme_spec.specs.Power.{cycled_reservation, cycled_protection, cycled_namespace, cycled_world}
 use Rattle.nvme_spec.specs.PowerLaws.{protection_at, CycleKeepsPlaces, CycleKeepsPersistent, CycleKeepsRights, CycleForgetsOthers, CycleEndsProtection, CycleKeepsItSound, CyclesAreOne}
 use Rattle.nvme_spec.proofs.SoundWorlds.{sound-by}
@@ -96,9 +96,9 @@ cycle_ends_protection w n =
 
 -- Soundness.
 
-sites-cycled : (ns : List Namespace) → map site_of (map cycled_namespace ns) ≡ map site_of ns
-sites-cycled [] = refl
-sites-cycled (n ∷ ns) = ap (λ ss. site_of n ∷ ss) (sites-cycled ns)
+places-cycled : (ns : List Namespace) → map namespace_place (map cycled_namespace ns) ≡ map namespace_place ns
+places-cycled [] = refl
+places-cycled (n ∷ ns) = ap (λ ss. namespace_place n ∷ ss) (places-cycled ns)
 
 either-sound : (ks : List ControllerHost) (b : Bool) (r : Reservation) → IsSoundReservation ks r → IsSoundReservation ks (if b then r else unreserved)
 either-sound ks true r h = h
@@ -112,7 +112,7 @@ reservations-cycled ks (n ∷ ns) h = (either-sound ks n.reservation.ptpl n.rese
 pub cycle_keeps_it_sound : CycleKeepsItSound
 unfolding cycled_world
 cycle_keeps_it_sound w sound =
-    sound-by w (cycled_world w) sound refl (sites-cycled w.namespaces) sound.attachments (reservations-cycled w.controllers w.namespaces sound.reservations)
+    sound-by w (cycled_world w) sound refl (places-cycled w.namespaces) sound.attachments (reservations-cycled w.controllers w.namespaces sound.reservations)
 
 -- Once more.
 

@@ -18,7 +18,7 @@ use Rattle.nvme_spec.specs.AdminRules.{admin_judgement, listed_controllers, data
 use Rattle.nvme_spec.specs.AdminEffects.{world_of, world_after, execution_by, admin_execution}
 use Rattle.nvme_spec.specs.AdminLaws.{besides_protection}
 use Rattle.nvme_spec.specs.Statuses as status
-use Rattle.nvme_spec.specs.Sound.{IsSoundReservation, site_of, clash, AreAttachments, is_controller, is_namespace, is_shared_in, AdminExecutionKeepsItSound}
+use Rattle.nvme_spec.specs.Sound.{IsSoundReservation, namespace_place, clash, AreAttachments, is_controller, is_namespace, is_shared_in, AdminExecutionKeepsItSound}
 use Rattle.nvme_spec.proofs.Registrants.{all-filter, all-map, same_test}
 use Rattle.nvme_spec.proofs.AdminLaws.{changes_only_protection}
 use Rattle.nvme_spec.proofs.Passing.{not_false}
@@ -283,9 +283,9 @@ attached-after w queues k e window h = by (admin_judgement w queues k e window) 
     by (Ok tt) is (Some command) named =
         after-it w command e (data_of window e) (λ same. names-it w queues k e window is (named ∙ ap Some same)) h
 
-sites-unprotected : (ns : List Namespace) → map site_of ns ≡ map site_of (map besides_protection ns)
-sites-unprotected [] = refl
-sites-unprotected (n ∷ ns) = ap (λ ss. site_of n ∷ ss) (sites-unprotected ns)
+places-unprotected : (ns : List Namespace) → map namespace_place ns ≡ map namespace_place (map besides_protection ns)
+places-unprotected [] = refl
+places-unprotected (n ∷ ns) = ap (λ ss. namespace_place n ∷ ss) (places-unprotected ns)
 
 seen : (P : Namespace → Type 0) (ns : List Namespace) → ((n : Namespace) → P n → P (besides_protection n)) → AllByRecursion P ns → AllByRecursion P (map besides_protection ns)
 seen P ns f h = all-mapped P besides_protection ns (all-map P (λ n. P (besides_protection n)) f ns h)
@@ -300,7 +300,7 @@ admin_execution_keeps_it_sound w queues k e window sound =
     let same = changes_only_protection w queues k e window in
     let P : Namespace → Type 0 = λ n. IsSoundReservation w.controllers n.reservation in
     sound-by w next sound same.controllers
-    (sites-unprotected next.namespaces ∙ ap (map site_of) same.namespaces ∙ sym (sites-unprotected w.namespaces))
+    (places-unprotected next.namespaces ∙ ap (map namespace_place) same.namespaces ∙ sym (places-unprotected w.namespaces))
     (attached-after w queues k e window sound.attachments)
     (unseen P next.namespaces (λ n h. h)
     (subst (AllByRecursion P) (sym same.namespaces) (seen P w.namespaces (λ n h. h) sound.reservations)))

@@ -13,7 +13,7 @@ use Rattle.nvme_spec.specs.Report.{ControllerHost, HasRisingIds}
 use Rattle.nvme_spec.specs.Reservation.{unreserved}
 use Rattle.nvme_spec.specs.Attachments.{is_shared}
 use Rattle.nvme_spec.specs.World.{Namespace, host_of, namespace_of, controller_host, laid_out, opening_world}
-use Rattle.nvme_spec.specs.Sound.{IsSoundReservation, Site, site_of, AreInOrder, clash, AreAttachments, is_controller, is_namespace, is_shared_in, OpeningIsSound}
+use Rattle.nvme_spec.specs.Sound.{IsSoundReservation, NamespacePlace, namespace_place, AreInOrder, clash, AreAttachments, is_controller, is_namespace, is_shared_in, OpeningIsSound}
 use Rattle.nvme_spec.proofs.QueueChanges.{neither}
 use Rattle.nvme_spec.proofs.Passing.{not_false}
 
@@ -43,14 +43,14 @@ hosted (k ∷ ks) h =
 
 -- Namespaces.
 
-behind-it : (n first : ℕ) (s : Site) (ns : List NsConfig) → s.nsid ≡ n → s.first + s.blocks ≤ first → list_any (λ (m : NsConfig). m.nsid == n) ns ≡ false
-    → AllByRecursion (λ (later : Site). (later.nsid ≢ s.nsid) × (s.first + s.blocks ≤ later.first)) (map site_of (laid_out first ns))
+behind-it : (n first : ℕ) (s : NamespacePlace) (ns : List NsConfig) → s.nsid ≡ n → s.first + s.blocks ≤ first → list_any (λ (m : NsConfig). m.nsid == n) ns ≡ false
+    → AllByRecursion (λ (later : NamespacePlace). (later.nsid ≢ s.nsid) × (s.first + s.blocks ≤ later.first)) (map namespace_place (laid_out first ns))
 behind-it n first s [] same le h = tt
 behind-it n first s (m ∷ ns) same le h =
     let parts = neither (m.nsid == n) (list_any (λ (x : NsConfig). x.nsid == n) ns) h in
     (((λ e. eqb-false m.nsid n parts.0 (e ∙ same)), le), behind-it n (first + m.blocks) s ns same (omega (arith, le)) parts.1)
 
-in-order : (first : ℕ) (ns : List NsConfig) → has_repeated_nsid ns ≡ false → AreInOrder (map site_of (laid_out first ns))
+in-order : (first : ℕ) (ns : List NsConfig) → has_repeated_nsid ns ≡ false → AreInOrder (map namespace_place (laid_out first ns))
 in-order first [] h = tt
 in-order first (n ∷ ns) h =
     let parts = neither (list_any (λ (m : NsConfig). m.nsid == n.nsid) ns) (has_repeated_nsid ns) h in (

@@ -1,5 +1,5 @@
--- A world stays sound where sites and controllers stay: what is left to show are its attachments and its reservations. The
--- I/O commands leave the former, and keep the latter.
+-- A world stays sound where places and controllers stay: what is left to show are its attachments and its reservations.
+-- The I/O commands leave the former, and keep the latter.
 use Rattle.std.proofs.Common.{◌≡◌, ℕ, ◌==◌, ◌||◌, nat_lt, Bool, true, false, cond, List, [], ◌∷◌, map, Option, None, Some, Ok, Err, refl, sym, ap, subst, ◌∙◌, arith}
 use Rattle.std.specs.Prelude.{find, option_map, is_some}
 use Rattle.std.specs.List.{AllByRecursion}
@@ -23,7 +23,7 @@ use Rattle.nvme_spec.specs.IoData.{outcome_in, action_outcome, data_of, reservat
 use Rattle.nvme_spec.specs.Execution.{Scene, ExecutesBy, Performs, world_after}
 use Rattle.nvme_spec.specs.Layout.{HasSameLayout, unreserved_one}
 use Rattle.nvme_spec.specs.Statuses as status
-use Rattle.nvme_spec.specs.Sound.{IsTyped, IsSoundReservation, Site, site_of, AreInOrder, AreAttachments, is_controller, is_namespace, is_shared_in, IsSound, ExecutionKeepsItSound}
+use Rattle.nvme_spec.specs.Sound.{IsTyped, IsSoundReservation, NamespacePlace, namespace_place, AreInOrder, AreAttachments, is_controller, is_namespace, is_shared_in, IsSound, ExecutionKeepsItSound}
 use Rattle.nvme_spec.proofs.Hosts.{AreKnown, KeepsIfSome, keeps-known}
 use Rattle.nvme_spec.proofs.Worlds.{of_named, changed-all, host-known}
 use Rattle.nvme_spec.proofs.Passing.{has-passed}
@@ -31,56 +31,56 @@ use Rattle.nvme_spec.proofs.Fencing.{execution_keeps_the_rest}
 use Rattle.nvme_spec.proofs.QueueChanges.{no-failure, next-test, neither}
 use Rattle.nvme_spec.proofs.SoundReservations.{NamesType, keeps-rising, keeps-held, keeps-typed}
 
--- Sites tell which namespaces there are, and which are shared.
+-- Places tell which namespaces there are, and which are shared.
 
-abbrev is_shared_site : Option Site → Bool
-is_shared_site None = false
-is_shared_site (Some s) = s.shared
+abbrev is_shared_place : Option NamespacePlace → Bool
+is_shared_place None = false
+is_shared_place (Some s) = s.shared
 
-some-found : (n : ℕ) (ns : List Namespace) → is_some (find (λ (m : Namespace). m.nsid == n) ns) ≡ is_some (find (λ (s : Site). s.nsid == n) (map site_of ns))
+some-found : (n : ℕ) (ns : List Namespace) → is_some (find (λ (m : Namespace). m.nsid == n) ns) ≡ is_some (find (λ (s : NamespacePlace). s.nsid == n) (map namespace_place ns))
 some-found n [] = refl
 some-found n (m ∷ ms) =
     elim (m.nsid == n) as (λ b. is_some (cond b (Some m) (find (λ (x : Namespace). x.nsid == n) ms))
-    ≡ is_some (cond b (Some (site_of m)) (find (λ (s : Site). s.nsid == n) (map site_of ms)))) [
+    ≡ is_some (cond b (Some (namespace_place m)) (find (λ (s : NamespacePlace). s.nsid == n) (map namespace_place ms)))) [
       | true ↦ refl
       | false ↦ some-found n ms
     ]
 
-shared-found : (n : ℕ) (ns : List Namespace) → is_shared (find (λ (m : Namespace). m.nsid == n) ns) ≡ is_shared_site (find (λ (s : Site). s.nsid == n) (map site_of ns))
+shared-found : (n : ℕ) (ns : List Namespace) → is_shared (find (λ (m : Namespace). m.nsid == n) ns) ≡ is_shared_place (find (λ (s : NamespacePlace). s.nsid == n) (map namespace_place ns))
 shared-found n [] = refl
 shared-found n (m ∷ ms) =
     elim (m.nsid == n) as (λ b. is_shared (cond b (Some m) (find (λ (x : Namespace). x.nsid == n) ms))
-    ≡ is_shared_site (cond b (Some (site_of m)) (find (λ (s : Site). s.nsid == n) (map site_of ms)))) [
+    ≡ is_shared_place (cond b (Some (namespace_place m)) (find (λ (s : NamespacePlace). s.nsid == n) (map namespace_place ms)))) [
       | true ↦ refl
       | false ↦ shared-found n ms
     ]
 
-pub same-namespaces : (old new : World) → map site_of new.namespaces ≡ map site_of old.namespaces → is_namespace old ≡ is_namespace new
+pub same-namespaces : (old new : World) → map namespace_place new.namespaces ≡ map namespace_place old.namespaces → is_namespace old ≡ is_namespace new
 unfolding namespace_of
 same-namespaces old new e = λ i n.
-    (some-found n old.namespaces ∙ ap (λ ss. is_some (find (λ (s : Site). s.nsid == n) ss)) (sym e) ∙ sym (some-found n new.namespaces)) i
+    (some-found n old.namespaces ∙ ap (λ ss. is_some (find (λ (s : NamespacePlace). s.nsid == n) ss)) (sym e) ∙ sym (some-found n new.namespaces)) i
 
-pub same-sharing : (old new : World) → map site_of new.namespaces ≡ map site_of old.namespaces → is_shared_in old ≡ is_shared_in new
+pub same-sharing : (old new : World) → map namespace_place new.namespaces ≡ map namespace_place old.namespaces → is_shared_in old ≡ is_shared_in new
 unfolding namespace_of
 same-sharing old new e = λ i n.
-    (shared-found n old.namespaces ∙ ap (λ ss. is_shared_site (find (λ (s : Site). s.nsid == n) ss)) (sym e) ∙ sym (shared-found n new.namespaces)) i
+    (shared-found n old.namespaces ∙ ap (λ ss. is_shared_place (find (λ (s : NamespacePlace). s.nsid == n) ss)) (sym e) ∙ sym (shared-found n new.namespaces)) i
 
 pub same-controllers : (old new : World) → new.controllers ≡ old.controllers → is_controller old ≡ is_controller new
 unfolding host_of
 same-controllers old new e = λ i k. is_some (option_map (λ (h : ControllerHost). h.1) (find (λ (h : ControllerHost). h.0 == k) (sym e i)))
 
 -- so a world is sound by its attachments, as the old world sees them, and its reservations
-pub sound-by : (old new : World) → IsSound old → new.controllers ≡ old.controllers → map site_of new.namespaces ≡ map site_of old.namespaces
+pub sound-by : (old new : World) → IsSound old → new.controllers ≡ old.controllers → map namespace_place new.namespaces ≡ map namespace_place old.namespaces
     → AreAttachments (is_controller old) (is_namespace old) (is_shared_in old) new.attachments
     → AllByRecursion (λ (n : Namespace). IsSoundReservation old.controllers n.reservation) new.namespaces → IsSound new
-sound-by old new sound controllers sites attached reserved = record {
+sound-by old new sound controllers places attached reserved = record {
   controllers = subst HasRisingIds (sym controllers) sound.controllers;
   hosts = subst (λ ks. AllByRecursion (λ (k : ControllerHost). k.1 ≡ 0 → ⊥) ks) (sym controllers) sound.hosts;
-  namespaces = subst AreInOrder (sym sites) sound.namespaces;
+  namespaces = subst AreInOrder (sym places) sound.namespaces;
   attachments =
       subst (λ c. AreAttachments c (is_namespace new) (is_shared_in new) new.attachments) (same-controllers old new controllers)
-      (subst (λ n. AreAttachments (is_controller old) n (is_shared_in new) new.attachments) (same-namespaces old new sites)
-      (subst (λ s. AreAttachments (is_controller old) (is_namespace old) s new.attachments) (same-sharing old new sites) attached));
+      (subst (λ n. AreAttachments (is_controller old) n (is_shared_in new) new.attachments) (same-namespaces old new places)
+      (subst (λ s. AreAttachments (is_controller old) (is_namespace old) s new.attachments) (same-sharing old new places) attached));
   reservations = subst (λ ks. AllByRecursion (λ (n : Namespace). IsSoundReservation ks n.reservation) new.namespaces) (sym controllers) reserved;
 }
 
@@ -163,18 +163,18 @@ performs-sound tells ReservationRegister k e sent old new answer returned named 
 performs-sound tells ReservationAcquire k e sent old new answer returned named typed s h = reserves old.world new.world k e sent ReservationAcquire named typed s h.world
 performs-sound tells ReservationRelease k e sent old new answer returned named typed s h = reserves old.world new.world k e sent ReservationRelease named typed s h.world
 
--- The sites are those of before.
+-- The places are those of before.
 
-sites-unreserved : (ns : List Namespace) → map site_of ns ≡ map site_of (map unreserved_one ns)
-sites-unreserved [] = refl
-sites-unreserved (n ∷ ns) = ap (λ ss. site_of n ∷ ss) (sites-unreserved ns)
+places-unreserved : (ns : List Namespace) → map namespace_place ns ≡ map namespace_place (map unreserved_one ns)
+places-unreserved [] = refl
+places-unreserved (n ∷ ns) = ap (λ ss. namespace_place n ∷ ss) (places-unreserved ns)
 
-sites-kept : (old new : World) → HasSameLayout old new → map site_of new.namespaces ≡ map site_of old.namespaces
-sites-kept old new same = sites-unreserved new.namespaces ∙ ap (map site_of) same.namespaces ∙ sym (sites-unreserved old.namespaces)
+places-kept : (old new : World) → HasSameLayout old new → map namespace_place new.namespaces ≡ map namespace_place old.namespaces
+places-kept old new same = places-unreserved new.namespaces ∙ ap (map namespace_place) same.namespaces ∙ sym (places-unreserved old.namespaces)
 
 executed : (old new : World) → IsSound old → HasSameLayout old new → StaysReserved old new → IsSound new
 executed old new sound same reserved =
-    sound-by old new sound same.controllers (sites-kept old new same)
+    sound-by old new sound same.controllers (places-kept old new same)
     (subst (λ pairs. AreAttachments (is_controller old) (is_namespace old) (is_shared_in old) pairs) (sym same.attachments) sound.attachments)
     reserved
 

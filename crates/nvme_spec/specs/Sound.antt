@@ -29,20 +29,21 @@ pub record IsSoundReservation (controllers : List ControllerHost) (r : Reservati
   pub typed : IsTyped r.hold
 
 -- where a namespace lies, and who may share it: all that no command changes
-pub record Site : Type 0 where
+pub record NamespacePlace : Type 0 where
   pub nsid : ℕ
   pub first : ℕ
   pub blocks : ℕ
   pub shared : Bool
 
-abbrev pub site_of : Namespace → Site
-site_of n = record { nsid = n.nsid; first = n.first; blocks = n.blocks; shared = n.shared }
+abbrev pub namespace_place : Namespace → NamespacePlace
+namespace_place n = record { nsid = n.nsid; first = n.first; blocks = n.blocks; shared = n.shared }
 
 -- no two have one identifier, and each begins behind those before it
-abbrev pub AreInOrder : List Site → Type 0
+abbrev pub AreInOrder : List NamespacePlace → Type 0
 AreInOrder [] = Unit {0}
-AreInOrder (s ∷ rest) =
-    AllByRecursion (λ (later : Site). (later.nsid ≢ s.nsid) × (s.first + s.blocks ≤ later.first)) rest × AreInOrder rest
+AreInOrder (p ∷ rest) =
+    AllByRecursion (λ (later : NamespacePlace). (later.nsid ≢ p.nsid) × (p.first + p.blocks ≤ later.first)) rest
+    × AreInOrder rest
 
 -- two attachments can't stand together: they are the same, or attach one private namespace
 abbrev pub clash : (ℕ → Bool) → ℕ × ℕ → ℕ × ℕ → Bool
@@ -67,7 +68,7 @@ is_shared_in w nsid = is_shared (namespace_of w nsid)
 pub record IsSound (w : World) : Type 0 where
   pub controllers : HasRisingIds w.controllers
   pub hosts : AllByRecursion (λ (k : ControllerHost). k.1 ≢ 0) w.controllers
-  pub namespaces : AreInOrder (map site_of w.namespaces)
+  pub namespaces : AreInOrder (map namespace_place w.namespaces)
   pub attachments : AreAttachments (is_controller w) (is_namespace w) (is_shared_in w) w.attachments
   pub reservations : AllByRecursion (λ (n : Namespace). IsSoundReservation w.controllers n.reservation) w.namespaces
 
