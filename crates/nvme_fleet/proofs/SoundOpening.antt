@@ -7,7 +7,7 @@ use Rattle.nvme_driver.specs.declared.lane.Lane.{Lane}
 use Rattle.nvme_driver.specs.declared.lane.Lane.TheVariants.{Admin, Io}
 use Rattle.nvme_driver.specs.Drivers.{new_driver, ends}
 use Rattle.nvme_machine.specs.Controllers.{new_controller}
-use Rattle.nvme_machine.proofs.Placing.{length-zeros}
+use Rattle.nvme_machine.proofs.Windows.{length-zeros}
 use Rattle.nvme_spec.specs.Limits.{most_bytes}
 use Rattle.nvme_driver.specs.Polls.{waiting_at}
 use Rattle.nvme_fleet.specs.Views.{empty, slot_at, live_in, received_in, AgeIn, Resting, Holds}

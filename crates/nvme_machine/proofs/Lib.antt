@@ -12,7 +12,7 @@ pub mod SecretCommands
 pub mod Secrecy
 pub mod Preempted
 pub mod Everywhere
-pub mod Placing
+pub mod Windows
 pub mod Slots
 pub mod Posted
 pub mod Calling

@@ -41,12 +41,12 @@ use Rattle.nvme_machine.specs.Controllers.{Controller, SubmissionQueue, Completi
 use Rattle.nvme_machine.specs.Answers.{Answer, Answers, AnswersAs}
 use Rattle.nvme_machine.specs.Subsystems.{Subsystem, Step, ReactsAs, ExecutesAt, ExecutesOne, ExecutesOver, controller_at, controller_of, with_controller, scene_of, after_answer, after_execution, numbered, replaced}
 use Rattle.nvme_machine.specs.Preempted.{change_of}
-use Rattle.nvme_machine.specs.Placing.{IsPlaced}
+use Rattle.nvme_machine.specs.Windows.{HasItsWindow}
 use Rattle.nvme_machine.specs.Posted.{IsUnread, PostedEntry, entry_address, StandsUnread, PostedIsUnread, Overlaps, is_touched, addresses_of, TakesByExecution, TakesByWrite, UnreadStands, UnreadStandsOverRuns}
 use Rattle.nvme_machine.proofs.Denials.{completion}
 use Rattle.nvme_machine.proofs.Everywhere.{step-keeps}
 use Rattle.nvme_machine.proofs.Others.{marks-numbered, executed-at, NamesOne, others-keep}
-use Rattle.nvme_machine.proofs.Placing.{keeps_placed, answer-window, change-suits, IsOpen, is-open, slot-inside, length-entry}
+use Rattle.nvme_machine.proofs.Windows.{keeps_its_window, answer-window, change-suits, IsOpen, is-open, slot-inside, length-entry}
 use Rattle.nvme_machine.proofs.Preempted.{change-is}
 use Rattle.nvme_machine.proofs.Slots.{unread-next, posted-unread, untouched-take, scattered-apart, overlaps-or, stored-apart, stored-there}
 use Rattle.nvme_machine.proofs.Staying.{replaced-same, same_place}
@@ -68,7 +68,7 @@ over-window e c d queues bytes u = record {
 }
 
 -- an entry lies in the window
-inside-window : (e : PostedEntry) (c : Controller) → IsPlaced c → StandsUnread e c → entry_address e + 16 ≤ length c.window
+inside-window : (e : PostedEntry) (c : Controller) → HasItsWindow c → StandsUnread e c → entry_address e + 16 ≤ length c.window
 inside-window e c p u =
     let x = u.found_in in
     let lies = p.completion e.queue x u.at in
@@ -78,7 +78,7 @@ inside-window e c p u =
 
 -- Stores, fetches and marks.
 
-store-it : (address : ℕ) (bytes : List ℕ) (c : Controller) (e : PostedEntry) → IsPlaced c → StandsUnread e c → StandsUnread e (after_store address bytes c).controller ⊎ Overlaps address (length bytes) e
+store-it : (address : ℕ) (bytes : List ℕ) (c : Controller) (e : PostedEntry) → HasItsWindow c → StandsUnread e c → StandsUnread e (after_store address bytes c).controller ⊎ Overlaps address (length bytes) e
 unfolding after_store
 store-it address bytes c e p u = elim (overlaps-or address (length bytes) e) [
   | inl over ↦ inr over
@@ -215,7 +215,7 @@ set-there (o ∷ xs) (suc q) x y h = set-there xs q x y h
 abbrev Beside : CompletionQueue → PostedEntry → Type 0
 Beside x e = (entry_address e + 16 ≤ completion_slot x) ⊎ (completion_slot x + 16 ≤ entry_address e)
 
-written-beside : (c : Controller) (t : FetchedCommand) (p : QueuePair) (why : Status) (first : ℕ) (e : PostedEntry) → IsPlaced c → IsOpen c t p → Beside p.completion e
+written-beside : (c : Controller) (t : FetchedCommand) (p : QueuePair) (why : Status) (first : ℕ) (e : PostedEntry) → HasItsWindow c → IsOpen c t p → Beside p.completion e
     → slice_range (with_bytes c.window (completion_slot p.completion) (completion_of t p why first)) (entry_address e) (entry_address e + 16) ≡ slice_range c.window (entry_address e) (entry_address e + 16)
 written-beside c t p why first e placed opened beside =
     let inside = slot-inside p.completion (placed.completion p.submission.cqid p.completion opened.completion) in
@@ -226,7 +226,7 @@ written-beside c t p why first e placed opened beside =
     ])
 
 -- in its own queue
-posts-here : (i : ℕ) (t : FetchedCommand) (p : QueuePair) (why : Status) (first : ℕ) (c : Controller) (e : PostedEntry) → IsPlaced c → IsOpen c t p → StandsUnread e c → p.submission.cqid ≡ e.queue
+posts-here : (i : ℕ) (t : FetchedCommand) (p : QueuePair) (why : Status) (first : ℕ) (c : Controller) (e : PostedEntry) → HasItsWindow c → IsOpen c t p → StandsUnread e c → p.submission.cqid ≡ e.queue
     → StandsUnread e (after_posting i t p why first c)
 unfolding after_posting
 posts-here i t p why first c e placed opened u same =
@@ -249,7 +249,7 @@ posts-here i t p why first c e placed opened u same =
     }
 
 -- in another
-posts-there : (i : ℕ) (t : FetchedCommand) (p : QueuePair) (why : Status) (first : ℕ) (c : Controller) (e : PostedEntry) → IsPlaced c → IsOpen c t p → StandsUnread e c → p.submission.cqid ≢ e.queue
+posts-there : (i : ℕ) (t : FetchedCommand) (p : QueuePair) (why : Status) (first : ℕ) (c : Controller) (e : PostedEntry) → HasItsWindow c → IsOpen c t p → StandsUnread e c → p.submission.cqid ≢ e.queue
     → Beside p.completion e → StandsUnread e (after_posting i t p why first c)
 unfolding after_posting
 posts-there i t p why first c e placed opened u other beside = record {
@@ -260,7 +260,7 @@ posts-there i t p why first c e placed opened u other beside = record {
   stands = written-beside c t p why first e placed opened beside ∙ u.stands;
 }
 
-posts : (i : ℕ) (t : FetchedCommand) (p : QueuePair) (why : Status) (first : ℕ) (c : Controller) (e : PostedEntry) → IsPlaced c → IsOpen c t p → StandsUnread e c
+posts : (i : ℕ) (t : FetchedCommand) (p : QueuePair) (why : Status) (first : ℕ) (c : Controller) (e : PostedEntry) → HasItsWindow c → IsOpen c t p → StandsUnread e c
     → StandsUnread e (after_posting i t p why first c) ⊎ ((p.submission.cqid ≢ e.queue) × Overlaps (completion_slot p.completion) 16 e)
 posts i t p why first c e placed opened u = elim (same_place p.submission.cqid e.queue) [
   | inl same ↦ inl (posts-here i t p why first c e placed opened u same)
@@ -290,14 +290,14 @@ changes (DropCq qid) queues c e suits there u = elim (same_place qid e.queue) [
 open-over : (c : Controller) (window : List ℕ) (t : FetchedCommand) (p : QueuePair) → IsOpen c t p → IsOpen (record c { window = window }) t p
 open-over c window t p o = record { submission = o.submission; completion = o.completion; room = o.room }
 
-placed-over : (c : Controller) (window : List ℕ) → length window ≡ length c.window → IsPlaced c → IsPlaced (record c { window = window })
-placed-over c window size p = record { window = size ∙ p.window; registers = p.registers; submission = p.submission; completion = p.completion }
+has-window-over : (c : Controller) (window : List ℕ) → length window ≡ length c.window → HasItsWindow c → HasItsWindow (record c { window = window })
+has-window-over c window size p = record { window = size ∙ p.window; registers = p.registers; submission = p.submission; completion = p.completion }
 
 abbrev Takes : Subsystem → ℕ → Controller → FetchedCommand → QueuePair → PostedEntry → Type 0
 Takes s k c t p e = (is_touched (addresses_of c t) e ≡ true) ⊎ ((p.submission.cqid ≢ e.queue) × Overlaps (completion_slot p.completion) 16 e) ⊎ (change_of s k c t ≡ DropCq e.queue)
 
 finishes : (tells : Bool) (s : Subsystem) (k i : ℕ) (c : Controller) (t : FetchedCommand) (p : QueuePair) (a : Answer) (e : PostedEntry) → open_pair c t ≡ Some p
-    → Answers tells (queues_of c) k t (scene_of s c) a → IsPlaced c → StandsUnread e c → StandsUnread e (after_answer i t p a c) ⊎ Takes s k c t p e
+    → Answers tells (queues_of c) k t (scene_of s c) a → HasItsWindow c → StandsUnread e c → StandsUnread e (after_answer i t p a c) ⊎ Takes s k c t p e
 unfolding after_answer
 finishes tells s k i c t p a e room answers placed u = elim (cases_Bool (is_touched (addresses_of c t) e)) [
   | inl touched ↦ inr (inl touched)
@@ -307,7 +307,7 @@ finishes tells s k i c t p a e room answers placed u = elim (cases_Bool (is_touc
       let opened = open-over c a.left.window t p (is-open c t p room) in
       let bytes = data-apart tells s.world s.device k c t a e answers clear (inside-window e c placed u) in
       let here : StandsUnread e d = over-window e c d refl bytes u in
-      elim (posts i t p a.outcome.status a.outcome.dw0 d e (placed-over c a.left.window size placed) opened here) [
+      elim (posts i t p a.outcome.status a.outcome.dw0 d e (has-window-over c a.left.window size placed) opened here) [
         | inl posted ↦ elim (changes a.change (queues_of c) (after_posting i t p a.outcome.status a.outcome.dw0 d) e (change-suits tells s.world s.device k c t a answers) (is-there c.completion e.queue u.found_in u.at) posted) [
           | inl stands ↦ inl stands
           | inr drops ↦ inr (inr (inr (sym (change-is tells s k c t a answers) ∙ drops)))
@@ -337,7 +337,7 @@ stays : (old new : Subsystem) (k : ℕ) (c : Controller) (i : ℕ) (e : PostedEn
 stays old new k c i e same at u = inl (c, ap (λ s. controller_at s k) same ∙ at, u)
 
 over-it : (o : Option QueuePair) (tells : Bool) (old new : Subsystem) (k : ℕ) (c : Controller) (i : ℕ) (t : FetchedCommand) (seen : Seen) (e : PostedEntry) → controller_at old k ≡ Some c → slice_get c.fetched i ≡ Some t → open_pair c t ≡ o
-    → ExecutesOver o tells old k c i t seen new → IsPlaced c → StandsUnread e c → Result old new k c i e
+    → ExecutesOver o tells old k c i t seen new → HasItsWindow c → StandsUnread e c → Result old new k c i e
 over-it None tells old new k c i t seen e at found room h placed u = stays old new k c i e h.1 at u
 over-it (Some p) tells old new k c i t seen e at found room h placed u =
     elim (finishes tells old k i c t p h.answer e room h.answers placed u) [
@@ -346,11 +346,11 @@ over-it (Some p) tells old new k c i t seen e at found room h placed u =
     ]
 
 one-it : (o : Option FetchedCommand) (tells : Bool) (old new : Subsystem) (k : ℕ) (c : Controller) (i : ℕ) (seen : Seen) (e : PostedEntry) → controller_at old k ≡ Some c → slice_get c.fetched i ≡ o
-    → ExecutesOne o tells old k c i seen new → IsPlaced c → StandsUnread e c → Result old new k c i e
+    → ExecutesOne o tells old k c i seen new → HasItsWindow c → StandsUnread e c → Result old new k c i e
 one-it None tells old new k c i seen e at found h placed u = stays old new k c i e h.1 at u
 one-it (Some t) tells old new k c i seen e at found h placed u = over-it (open_pair c t) tells old new k c i t seen e at found refl h placed u
 
-executes : (tells : Bool) (old new : Subsystem) (k i : ℕ) (c : Controller) (seen : Seen) (e : PostedEntry) → controller_at old k ≡ Some c → ExecutesAt (controller_at old k) tells old k i seen new → IsPlaced c → StandsUnread e c
+executes : (tells : Bool) (old new : Subsystem) (k i : ℕ) (c : Controller) (seen : Seen) (e : PostedEntry) → controller_at old k ≡ Some c → ExecutesAt (controller_at old k) tells old k i seen new → HasItsWindow c → StandsUnread e c
     → Result old new k c i e
 executes tells old new k i c seen e at h placed u =
     one-it (slice_get c.fetched i) tells old new k c i seen e at refl (subst (λ o. ExecutesAt o tells old k i seen new) at h) placed u
@@ -411,7 +411,7 @@ unread_stands_over_runs tells old new (event ∷ events) [] j e run placed c at 
 unread_stands_over_runs tells old new (event ∷ events) (x ∷ later) j e run placed c at u =
     let mid : Subsystem = run.0 in
     elim (unread_stands tells old mid event x run.1 placed j c e at u) [
-      | inl s ↦ unread_stands_over_runs tells mid new events later j e run.3 (step-keeps IsPlaced keeps_placed tells old mid event x run.1 placed) s.0 s.1 s.2
+      | inl s ↦ unread_stands_over_runs tells mid new events later j e run.3 (step-keeps HasItsWindow keeps_its_window tells old mid event x run.1 placed) s.0 s.1 s.2
       | inr taken ↦ absurd (run.2 c at taken)
     ]
 
@@ -422,7 +422,7 @@ used c t p a opened suits drops =
     let s : Suits (queues_of c) (DropCq p.submission.cqid) = subst (Suits (queues_of c)) drops suits in
     eqb-false p.submission.cqid p.submission.cqid (unused-at p.submission.cqid c.submission t.queue p.submission s.2 opened.submission) refl
 
-new-entry : (i : ℕ) (t : FetchedCommand) (p : QueuePair) (why : Status) (first : ℕ) (c : Controller) → IsPlaced c → IsOpen c t p
+new-entry : (i : ℕ) (t : FetchedCommand) (p : QueuePair) (why : Status) (first : ℕ) (c : Controller) → HasItsWindow c → IsOpen c t p
     → StandsUnread (record { queue = p.submission.cqid; base = p.completion.base; slot = slot_of p.completion.tail.size p.completion.tail.posted; bytes = completion_of t p why first }) (after_posting i t p why first c)
 unfolding after_posting
 new-entry i t p why first c placed opened =
@@ -449,7 +449,7 @@ posted_is_unread tells old new k i c t p outcome step waits placed =
     let d : Controller = record c { window = a.left.window } in
     let own = is-open c t p waits.room in
     let opened = open-over c a.left.window t p own in
-    let entry = new-entry i t p a.outcome.status a.outcome.dw0 d (placed-over c a.left.window size whole) opened in
+    let entry = new-entry i t p a.outcome.status a.outcome.dw0 d (has-window-over c a.left.window size whole) opened in
     let e : PostedEntry = record { queue = p.submission.cqid; base = p.completion.base; slot = slot_of p.completion.tail.size p.completion.tail.posted; bytes = completion_of t p a.outcome.status a.outcome.dw0 } in
     subst (λ (o : Outcome). Stands (record { queue = p.submission.cqid; base = p.completion.base; slot = slot_of p.completion.tail.size p.completion.tail.posted; bytes = completion_of t p o.status o.dw0 }) (controller_at new k)) same
     (elim (changes a.change (queues_of c) (after_posting i t p a.outcome.status a.outcome.dw0 d) e (change-suits tells old.world old.device k c t a done.answers) (is-there c.completion p.submission.cqid p.completion own.completion) entry) [

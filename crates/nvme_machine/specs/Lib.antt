@@ -12,7 +12,7 @@ pub mod EventCalls
 pub mod AllowedCalls
 pub mod Secrecy
 pub mod Preempted
-pub mod Placing
+pub mod Windows
 pub mod Posted
 pub mod PowerCycles
 pub mod FaultFreeCalls

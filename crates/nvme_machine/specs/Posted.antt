@@ -21,7 +21,7 @@ use Rattle.nvme_machine.specs.declared.seen.Seen.TheVariants.{Executed}
 use Rattle.nvme_machine.specs.Controllers.{Controller, CompletionQueue, QueuePair, completion_at, open_pair, completion_slot, completion_of}
 use Rattle.nvme_machine.specs.Subsystems.{Subsystem, Step, controller_at}
 use Rattle.nvme_machine.specs.Runs.{Waits}
-use Rattle.nvme_machine.specs.Placing.{AreAllPlaced}
+use Rattle.nvme_machine.specs.Windows.{AllHaveTheirWindows}
 use Rattle.nvme_machine.specs.Preempted.{change_of}
 
 -- how far a slot lies behind the tail of its queue
@@ -57,7 +57,7 @@ abbrev pub PostedIsUnread : Type 0
 PostedIsUnread =
     (tells : Bool) → (old new : Subsystem) → (k i : ℕ) → (c : Controller) → (t : FetchedCommand) → (p : QueuePair)
     → (outcome : Outcome)
-    → Step tells old (Execute k i) (Executed (Posted outcome)) new → Waits old k i c t p → AreAllPlaced old
+    → Step tells old (Execute k i) (Executed (Posted outcome)) new → Waits old k i c t p → AllHaveTheirWindows old
     → (d : Controller) × (controller_at new k ≡ Some d)
     × StandsUnread (record {
       queue = p.submission.cqid;
@@ -123,7 +123,7 @@ TakesEntry s j c e (Execute k i) = (k ≡ j) × TakesByExecution s k c i e
 abbrev pub UnreadStands : Type 0
 UnreadStands =
     (tells : Bool) → (old new : Subsystem) → (event : Event) → (seen : Seen) → Step tells old event seen new
-    → AreAllPlaced old
+    → AllHaveTheirWindows old
     → (j : ℕ) → (c : Controller) → (e : PostedEntry) → controller_at old j ≡ Some c → StandsUnread e c
     → ((d : Controller) × (controller_at new j ≡ Some d) × StandsUnread e d) ⊎ TakesEntry old j c e event
 
@@ -141,6 +141,6 @@ RunSparing tells j e old (event ∷ events) [] new = ⊥
 abbrev pub UnreadStandsOverRuns : Type 0
 UnreadStandsOverRuns =
     (tells : Bool) → (old new : Subsystem) → (events : List Event) → (seen : List Seen) → (j : ℕ) → (e : PostedEntry)
-    → RunSparing tells j e old events seen new → AreAllPlaced old
+    → RunSparing tells j e old events seen new → AllHaveTheirWindows old
     → (c : Controller) → controller_at old j ≡ Some c → StandsUnread e c
     → (d : Controller) × (controller_at new j ≡ Some d) × StandsUnread e d

@@ -8,7 +8,7 @@ ghost use Rattle.nvme_machine.specs.AllowedCalls.{CallsAreAllowed, CallsOfRunsAr
 ghost use Rattle.nvme_machine.specs.PowerCycles.{PowerTakes, PersistenceLasts, FencingOutlastsPower, SecrecyOutlastsPower, ProtectedUntilPower};
 ghost use Rattle.nvme_machine.specs.CallLaws.{StepsHaveCalls, RunsHaveCalls, StepCallsAreUnique, RunCallsAreUnique, StepCallsAreComputed, RunCallsAreComputed, RunCallsExist, DeniedIsNoSuccess, FlushedIsOneFlush};
 ghost use Rattle.nvme_machine.specs.Wiring.{OpeningIsWired, WiringStays, WaitsWhereFull};
-ghost use Rattle.nvme_machine.specs.Placing.{OpeningIsPlaced, WindowsKeepTheirLength};
+ghost use Rattle.nvme_machine.specs.Windows.{OpeningHasItsWindows, WindowsKeepTheirLength};
 ghost use Rattle.nvme_machine.specs.Posted.{PostedIsUnread, UnreadStands, UnreadStandsOverRuns};
 ghost use Rattle.nvme_machine.specs.Marking.{MarkedIsAborted, PreemptedCommandsAreMarked};
 ghost use Rattle.nvme_machine.specs.Preempted.{CommandsAreFollowed, PreemptedStaysOut};
@@ -140,7 +140,7 @@ pub fn nothing_is_lost()
 
 /// Whatever happens, each controller's window has all its bytes, and its queues lie in it.
 pub fn windows_keep_their_bytes()
-    ensures opening { OpeningIsPlaced }
+    ensures opening { OpeningHasItsWindows }
     ensures run { WindowsKeepTheirLength }
 {}
 

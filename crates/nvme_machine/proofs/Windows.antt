@@ -39,13 +39,13 @@ use Rattle.nvme_machine.specs.declared.seen.Seen.TheVariants.{Stored, Outside}
 use Rattle.nvme_machine.specs.Controllers.{Controller, SubmissionQueue, CompletionQueue, QueuePair, new_controller, no_submission_queues, no_completion_queues, queues_of, completion_at, submission_at, pair_of, if_room, open_pair, with_tail, with_head, with_admin_queues, admin_submission_queue, admin_completion_queue, taking_effect, fetchable, fetched_from, reaction, after_store, after_write32, after_fetch, after_posting, after_queue_change, completion_slot, completion_of, with_marks}
 use Rattle.nvme_machine.specs.Answers.{Answer, Answers, AnswersAs}
 use Rattle.nvme_machine.specs.Subsystems.{opening, controller_at, after_answer}
-use Rattle.nvme_machine.specs.Placing.{SubmitsInside, LiesInside, IsPlaced, OpeningIsPlaced, WindowsKeepTheirLength}
+use Rattle.nvme_machine.specs.Windows.{SubmitsInside, LiesInside, HasItsWindow, OpeningHasItsWindows, WindowsKeepTheirLength}
 use Rattle.nvme_machine.proofs.Everywhere.{Keeps, run-keeps}
 use Rattle.nvme_machine.proofs.Staying.{changing}
 use Rattle.nvme_machine.proofs.Wirings.{set-either, mapped-back, first-alone, none-alone, fetchable-at}
 
 -- the same queues
-same-queues : (c d : Controller) → length d.window ≡ window_size → d.registers ≡ c.registers → d.submission ≡ c.submission → d.completion ≡ c.completion → IsPlaced c → IsPlaced d
+same-queues : (c d : Controller) → length d.window ≡ window_size → d.registers ≡ c.registers → d.submission ≡ c.submission → d.completion ≡ c.completion → HasItsWindow c → HasItsWindow d
 same-queues c d window registers submission completion p = record {
   window = window;
   registers = subst IsConsistent (sym registers) p.registers;
@@ -55,7 +55,7 @@ same-queues c d window registers submission completion p = record {
 
 -- the same completion queues, where the submission queues are placed too
 same-completion : (c d : Controller) → d.window ≡ c.window → d.registers ≡ c.registers → d.completion ≡ c.completion
-    → ((q : ℕ) → (x : SubmissionQueue) → submission_at d q ≡ Some x → SubmitsInside x) → IsPlaced c → IsPlaced d
+    → ((q : ℕ) → (x : SubmissionQueue) → submission_at d q ≡ Some x → SubmitsInside x) → HasItsWindow c → HasItsWindow d
 same-completion c d window registers completion submission p = record {
   window = ap length window ∙ p.window;
   registers = subst IsConsistent (sym registers) p.registers;
@@ -63,11 +63,11 @@ same-completion c d window registers completion submission p = record {
   completion = λ q x is. p.completion q x (ap (λ xs. slice_index_or xs q None) (sym completion) ∙ is);
 }
 
-stored : (address : ℕ) (bytes : List ℕ) (c : Controller) → IsPlaced c → IsPlaced (after_store address bytes c).controller
+stored : (address : ℕ) (bytes : List ℕ) (c : Controller) → HasItsWindow c → HasItsWindow (after_store address bytes c).controller
 unfolding after_store
 stored address bytes c p = by (nat_le (address + length bytes) window_size) refl
   where
-    by : (b : Bool) → nat_le (address + length bytes) window_size ≡ b → IsPlaced (if b then reaction (record c { window = with_bytes c.window address bytes }) Stored else reaction c Outside).controller
+    by : (b : Bool) → nat_le (address + length bytes) window_size ≡ b → HasItsWindow (if b then reaction (record c { window = with_bytes c.window address bytes }) Stored else reaction c Outside).controller
     by true e =
         let fits = leb-true _ _ e in
         let size = p.window in
@@ -77,7 +77,7 @@ stored address bytes c p = by (nat_le (address + length bytes) window_size) refl
 fetched-inside : (s : SubmissionQueue) → SubmitsInside s → SubmitsInside (record s { head = fetched_one s.head })
 fetched-inside s p = (p.0, submission_head_stays.1 s.head p.1)
 
-took : (q : ℕ) (c : Controller) (o : Option SubmissionQueue) → fetchable c q ≡ o → IsPlaced c → IsPlaced (fetched_from q c o).controller
+took : (q : ℕ) (c : Controller) (o : Option SubmissionQueue) → fetchable c q ≡ o → HasItsWindow c → HasItsWindow (fetched_from q c o).controller
 took q c None is p = p
 took q c (Some s) is p =
     same-completion c (fetched_from q c (Some s)).controller refl refl refl (λ m x h. elim (set-either c.submission q m (Some (record s { head = fetched_one s.head })) x h) [
@@ -110,7 +110,7 @@ empty-fits size fits = record { size = fits; posted = omega (arith, fits.0); unr
 placed-queue : (at size : ℕ) → IsQueuePlace at size 16 → LiesInside (record { base = at; tail = empty_completion_tail size })
 placed-queue at size p = (p, empty-fits size p.size)
 
-enabled : (o : Option AdminQueues) (c : Controller) → length c.window ≡ window_size → IsConsistent c.registers → IfSome o ArePlaced → IsPlaced (with_admin_queues o c)
+enabled : (o : Option AdminQueues) (c : Controller) → length c.window ≡ window_size → IsConsistent c.registers → IfSome o ArePlaced → HasItsWindow (with_admin_queues o c)
 enabled None c window registers p = record { window = window; registers = registers; submission = λ q x h. absurd (none-submits q x h); completion = λ q x h. absurd (none-completes q x h) }
 enabled (Some a) c window registers p = record {
   window = window;
@@ -139,7 +139,7 @@ told v s p = (
   submission_head_stays.0 s.head v p.1,
 )
 
-effects : (effect : RegEffect) (c : Controller) → IsPlaced c → IsPlaced (taking_effect effect c)
+effects : (effect : RegEffect) (c : Controller) → HasItsWindow c → HasItsWindow (taking_effect effect c)
 unfolding taking_effect
 effects Nothing c p = p
 effects Shutdown c p = p
@@ -159,13 +159,13 @@ effects (CqHead q v) c p = record {
   ]);
 }
 
-wrote-it : (offset v : ℕ) (c : Controller) → IsPlaced c → IsPlaced (after_write32 offset v c)
+wrote-it : (offset v : ℕ) (c : Controller) → HasItsWindow c → HasItsWindow (after_write32 offset v c)
 unfolding after_write32
 wrote-it offset v c p =
     effects (register.after_write c.registers offset v).effect (record c { registers = (register.after_write c.registers offset v).registers })
     (record { window = p.window; registers = stays_consistent c.registers offset v p.registers; submission = p.submission; completion = p.completion })
 
-fetched-it : (q : ℕ) (c : Controller) → IsPlaced c → IsPlaced (after_fetch q c).controller
+fetched-it : (q : ℕ) (c : Controller) → HasItsWindow c → HasItsWindow (after_fetch q c).controller
 unfolding after_fetch
 fetched-it q c p = took q c (fetchable c q) refl p
 
@@ -244,7 +244,7 @@ slot-inside x p =
 posted-queue : (x : CompletionQueue) → LiesInside x → 0 < completion_room x.tail → LiesInside (record x { tail = after_post x.tail })
 posted-queue x p room = (p.0, completion_tail_stays.1 x.tail p.1 room)
 
-posts : (i : ℕ) (t : FetchedCommand) (p : QueuePair) (why : Status) (first : ℕ) (c : Controller) → IsOpen c t p → IsPlaced c → IsPlaced (after_posting i t p why first c)
+posts : (i : ℕ) (t : FetchedCommand) (p : QueuePair) (why : Status) (first : ℕ) (c : Controller) → IsOpen c t p → HasItsWindow c → HasItsWindow (after_posting i t p why first c)
 unfolding after_posting
 posts i t p why first c opened placed =
     let at = placed.completion p.submission.cqid p.completion opened.completion in
@@ -259,7 +259,7 @@ posts i t p why first c opened placed =
       ];
     }
 
-changes : (change : QueueChange) (queues : Queues) (c : Controller) → Suits queues change → IsPlaced c → IsPlaced (after_queue_change change c)
+changes : (change : QueueChange) (queues : Queues) (c : Controller) → Suits queues change → HasItsWindow c → HasItsWindow (after_queue_change change c)
 unfolding after_queue_change
 changes Keep queues c suits p = p
 changes (MakeSq qid size at to) queues c suits p =
@@ -292,22 +292,22 @@ changes (DropCq qid) queues c suits p = record {
 }
 
 -- the same queues over another window, as long
-over-window : (c : Controller) (window : List ℕ) → length window ≡ length c.window → IsPlaced c → IsPlaced (record c { window = window })
+over-window : (c : Controller) (window : List ℕ) → length window ≡ length c.window → HasItsWindow c → HasItsWindow (record c { window = window })
 over-window c window size p = same-queues c (record c { window = window }) (size ∙ p.window) refl refl refl p
 
 open-over : (c : Controller) (window : List ℕ) (t : FetchedCommand) (p : QueuePair) → IsOpen c t p → IsOpen (record c { window = window }) t p
 open-over c window t p o = record { submission = o.submission; completion = o.completion; room = o.room }
 
 finishes : (tells : Bool) (w : World) (d : Device) (k i : ℕ) (c : Controller) (t : FetchedCommand) (p : QueuePair) (a : Answer) → open_pair c t ≡ Some p
-    → Answers tells (queues_of c) k t (record { world = w; window = c.window; device = d }) a → IsPlaced c → IsPlaced (after_answer i t p a c)
+    → Answers tells (queues_of c) k t (record { world = w; window = c.window; device = d }) a → HasItsWindow c → HasItsWindow (after_answer i t p a c)
 unfolding after_answer
 finishes tells w d k i c t p a room answers placed =
     let size = answer-window tells (queues_of c) k t (record { world = w; window = c.window; device = d }) a answers in
     changes a.change (queues_of c) (after_posting i t p a.outcome.status a.outcome.dw0 (record c { window = a.left.window })) (change-suits tells w d k c t a answers)
     (posts i t p a.outcome.status a.outcome.dw0 (record c { window = a.left.window }) (open-over c a.left.window t p (is-open c t p room)) (over-window c a.left.window size placed))
 
-pub keeps_placed : Keeps IsPlaced
-keeps_placed = record {
+pub keeps_its_window : Keeps HasItsWindow
+keeps_its_window = record {
   marks = λ n c p. same-queues c (with_marks n c) p.window refl refl refl p;
   store = λ address bytes c p. stored address bytes c p;
   write = λ offset v c p. wrote-it offset v c p;
@@ -317,21 +317,21 @@ keeps_placed = record {
 }
 
 pub windows_keep_their_length : WindowsKeepTheirLength
-windows_keep_their_length tells old new events seen run placed = run-keeps IsPlaced keeps_placed tells old new events seen run placed
+windows_keep_their_length tells old new events seen run placed = run-keeps HasItsWindow keeps_its_window tells old new events seen run placed
 
 pub length-zeros : length zeros ≡ window_size
 unfolding zeros
 length-zeros = length-replicate {A = ℕ} window_size 0
 
-new-is-placed : (k : ℕ) → IsPlaced (new_controller k)
-new-is-placed k = record { window = length-zeros; registers = begins_consistent; submission = λ q x h. absurd (none-submits q x h); completion = λ q x h. absurd (none-completes q x h) }
+new-has-its-window : (k : ℕ) → HasItsWindow (new_controller k)
+new-has-its-window k = record { window = length-zeros; registers = begins_consistent; submission = λ q x h. absurd (none-submits q x h); completion = λ q x h. absurd (none-completes q x h) }
 
-all-new : (ks : List ControllerConfig) (i : ℕ) (d : Controller) → slice_get (map (λ (k : ControllerConfig). new_controller k.cntlid) ks) i ≡ Some d → IsPlaced d
+all-new : (ks : List ControllerConfig) (i : ℕ) (d : Controller) → slice_get (map (λ (k : ControllerConfig). new_controller k.cntlid) ks) i ≡ Some d → HasItsWindow d
 all-new [] i d h = absurd (none-some _ h)
-all-new (k ∷ ks) zero d h = subst IsPlaced (same_Some _ _ h) (new-is-placed k.cntlid)
+all-new (k ∷ ks) zero d h = subst HasItsWindow (same_Some _ _ h) (new-has-its-window k.cntlid)
 all-new (k ∷ ks) (suc i) d h = all-new ks i d h
 
-pub opening_is_placed : OpeningIsPlaced
+pub opening_has_its_windows : OpeningHasItsWindows
 unfolding opening controller_at
-opening_is_placed c m zero d h = absurd (none-some _ h)
-opening_is_placed c m (suc i) d h = all-new c.controllers i d h
+opening_has_its_windows c m zero d h = absurd (none-some _ h)
+opening_has_its_windows c m (suc i) d h = all-new c.controllers i d h

@@ -19,21 +19,21 @@ abbrev pub LiesInside : CompletionQueue → Type 0
 LiesInside x = IsQueuePlace x.base x.tail.size 16 × FitsCompletionTail x.tail
 
 -- a controller has its whole window, registers that agree with their state, and its queues in the window
-pub record IsPlaced (c : Controller) : Type 0 where
+pub record HasItsWindow (c : Controller) : Type 0 where
   pub window : length c.window ≡ window_size
   pub registers : IsConsistent c.registers
   pub submission : (q : ℕ) → (s : SubmissionQueue) → submission_at c q ≡ Some s → SubmitsInside s
   pub completion : (q : ℕ) → (x : CompletionQueue) → completion_at c q ≡ Some x → LiesInside x
 
-abbrev pub AreAllPlaced : Subsystem → Type 0
-AreAllPlaced s = (k : ℕ) → (c : Controller) → controller_at s k ≡ Some c → IsPlaced c
+abbrev pub AllHaveTheirWindows : Subsystem → Type 0
+AllHaveTheirWindows s = (k : ℕ) → (c : Controller) → controller_at s k ≡ Some c → HasItsWindow c
 
 -- it is so at the opening
-abbrev pub OpeningIsPlaced : Type 0
-OpeningIsPlaced = (c : Configuration) → (d : Device) → AreAllPlaced (opening c d)
+abbrev pub OpeningHasItsWindows : Type 0
+OpeningHasItsWindows = (c : Configuration) → (d : Device) → AllHaveTheirWindows (opening c d)
 
 -- and stays so over every run: no window ever has a byte more or less
 abbrev pub WindowsKeepTheirLength : Type 0
 WindowsKeepTheirLength =
     (tells : Bool) → (old new : Subsystem) → (events : List Event) → (seen : List Seen)
-    → Run tells old events seen new → AreAllPlaced old → AreAllPlaced new
+    → Run tells old events seen new → AllHaveTheirWindows old → AllHaveTheirWindows new
