@@ -27,18 +27,18 @@ use Rattle.nvme_machine.specs.Subsystems.{after_answer}
 use Rattle.nvme_machine.specs.Executing.{Setting, FinishesOver, FinishesOne, ExecutesNth, scene_in, Finishes}
 use Rattle.nvme_machine.specs.Calling.{AreCallsAs, AreCallsOfAnswer, AreCallsOver, AreCallsOne, AreCallsNth}
 use Rattle.nvme_machine.proofs.AdminWorlds.{Becomes, HasSameReservations, admin-becomes, admin-keeps, all-still, same-controllers}
-use Rattle.nvme_ctrl.specs.Executions.{IsPlaced}
+use Rattle.nvme_ctrl.specs.Executions.{LiesInMemory}
 
--- a change that suits the queues is placed
-pub suits-placed : (queues : Queues) (change : QueueChange) → Suits queues change → IsPlaced change
-suits-placed queues Keep h = tt
-suits-placed queues (MakeCq qid size base) h = h.1
-suits-placed queues (MakeSq qid size base cqid) h = h.1
-suits-placed queues (DropCq qid) h = tt
-suits-placed queues (DropSq qid) h = tt
+-- a new queue that suits the queues lies in host memory
+pub suits-lies : (queues : Queues) (change : QueueChange) → Suits queues change → LiesInMemory change
+suits-lies queues Keep h = tt
+suits-lies queues (MakeCq qid size base) h = h.1
+suits-lies queues (MakeSq qid size base cqid) h = h.1
+suits-lies queues (DropCq qid) h = tt
+suits-lies queues (DropSq qid) h = tt
 
-pub admin-placed : (w : World) (queues : Queues) (k : ℕ) (e window : List ℕ) (x : AdminExecution) → admin_execution w queues k e window ≡ x → IsPlaced x.change
-admin-placed w queues k e window x is = subst (λ (y : AdminExecution). IsPlaced y.change) is (suits-placed queues _ (admin_changes_suit w queues k e window))
+pub admin-lies : (w : World) (queues : Queues) (k : ℕ) (e window : List ℕ) (x : AdminExecution) → admin_execution w queues k e window ≡ x → LiesInMemory x.change
+admin-lies w queues k e window x is = subst (λ (y : AdminExecution). LiesInMemory y.change) is (suits-lies queues _ (admin_changes_suit w queues k e window))
 
 pub admin-fits : (w : World) (queues : Queues) (k : ℕ) (e window : List ℕ) (x : AdminExecution) → admin_execution w queues k e window ≡ x → x.status.sct < 8
 admin-fits w queues k e window x is = subst (λ (y : AdminExecution). y.status.sct < 8) is (admin_execution_fits w queues k e window).0

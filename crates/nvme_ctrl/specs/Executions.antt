@@ -8,12 +8,12 @@ use Rattle.nvme_machine.specs.Answers.{Answer}
 use Rattle.nvme_ctrl.specs.declared.execution.Answered.{Answered}
 
 -- a new queue lies in host memory
-abbrev pub IsPlaced : QueueChange → Type 0
-IsPlaced Keep = Unit {0}
-IsPlaced (MakeCq qid size base) = IsQueuePlace base size 16
-IsPlaced (MakeSq qid size base cqid) = IsQueuePlace base size 64
-IsPlaced (DropCq qid) = Unit {0}
-IsPlaced (DropSq qid) = Unit {0}
+abbrev pub LiesInMemory : QueueChange → Type 0
+LiesInMemory Keep = Unit {0}
+LiesInMemory (MakeCq qid size base) = IsQueuePlace base size 16
+LiesInMemory (MakeSq qid size base cqid) = IsQueuePlace base size 64
+LiesInMemory (DropCq qid) = Unit {0}
+LiesInMemory (DropSq qid) = Unit {0}
 
 -- what was answered, what it marks, and what is left
 abbrev pub answer_of : Answered → Marks → Scene → Answer

@@ -9,7 +9,7 @@ ghost use Rattle.nvme_machine.specs.Controllers.{queues_of};
 ghost use Rattle.nvme_machine.specs.Answers.{Answers};
 ghost use Rattle.nvme_machine.specs.Executing.{setting, ExecutesNth};
 ghost use Rattle.nvme_machine.specs.Calling.{AreCallsOfAnswer, AreCallsNth};
-ghost use Rattle.nvme_ctrl.specs.Executions.{IsPlaced, answer_of};
+ghost use Rattle.nvme_ctrl.specs.Executions.{LiesInMemory, answer_of};
 
 use crate::controller::Controller;
 use nvme_admin::execute_admin;
@@ -98,7 +98,7 @@ impl Controller {
             medium.old medium.new }
         ensures rest { self.new ≡ record self.old { window = self.new.window } }
         ensures fits { result.status.sct < 8 }
-        ensures placed { IsPlaced result.change }
+        ensures placed { LiesInMemory result.change }
         ensures ready { CanExecute spaces.new (M.size medium.new) self.new.cntlid }
         ensures controllers { spaces.new.controllers ≡ spaces.old.controllers }
         ensures size { M.size medium.new ≡ M.size medium.old }

@@ -4,7 +4,7 @@ ghost use Rattle.std.specs.Prelude.{◌≡◌, ◌<◌, Option, Some, map, optio
 ghost use Rattle.nvme_machine.specs.Controllers.{SubmissionQueue as Submissions, CompletionQueue as Completions};
 ghost use Rattle.nvme_spec.specs.Queues.{completion_room};
 ghost use Rattle.nvme_machine.specs.Controllers.{open_pair, after_posting, after_queue_change, queues_of, without_queue, completion_of};
-ghost use Rattle.nvme_ctrl.specs.Executions.{IsPlaced};
+ghost use Rattle.nvme_ctrl.specs.Executions.{LiesInMemory};
 
 use crate::completion_queue::CompletionQueue;
 use crate::controller::Controller;
@@ -155,7 +155,7 @@ impl Controller {
     /// lies in host memory is the caller's condition.
     #[tactic(auto, unfolding(nvme_machine::specs::Controllers::after_queue_change))]
     pub(crate) fn change_queues(&mut self, change: QueueChange)
-        requires { IsPlaced change }
+        requires { LiesInMemory change }
         ensures { self.new ≡ after_queue_change change self.old }
     {
         match change {

@@ -1,6 +1,6 @@
 use Rattle.nvme_spec.proofs.StatusLaws.{execution_fits}
 use Rattle.nvme_exec.specs.Carrying.{outcome_of}
-use Rattle.nvme_ctrl.proofs.Executions.{admin-answers, admin-fits, admin-placed, admin-ready, admin-controllers, io-answers, admin-calls, io-calls}
+use Rattle.nvme_ctrl.proofs.Executions.{admin-answers, admin-fits, admin-lies, admin-ready, admin-controllers, io-answers, admin-calls, io-calls}
 use Rattle.nvme_ctrl.proofs.controller.Controller.perform.Goals as goal
 
 pub returns-then-command-eq0-clause-answers : goal.returns-then-command-eq0-clause-answers
@@ -13,7 +13,7 @@ pub returns-then-command-eq0-clause-fits : goal.returns-then-command-eq0-clause-
 returns-then-command-eq0-clause-fits g c = admin-fits _ _ _ _ _ _ c.perform_admin.ensures.executed
 
 pub returns-then-command-eq0-clause-placed : goal.returns-then-command-eq0-clause-placed
-returns-then-command-eq0-clause-placed g c = admin-placed _ _ _ _ _ _ c.perform_admin.ensures.executed
+returns-then-command-eq0-clause-placed g c = admin-lies _ _ _ _ _ _ c.perform_admin.ensures.executed
 
 pub returns-then-command-eq0-clause-ready : goal.returns-then-command-eq0-clause-ready
 returns-then-command-eq0-clause-ready g c =
