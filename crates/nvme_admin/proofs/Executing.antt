@@ -26,7 +26,7 @@ use Rattle.nvme_spec.specs.World.{World}
 use Rattle.nvme_spec.specs.Statuses as status
 use Rattle.nvme_admin.specs.declared.outcome.AdminOutcome.{AdminOutcome}
 use Rattle.nvme_admin.specs.declared.rules.Admitted.{Admitted}
-use Rattle.nvme_admin.specs.Admitted.{IsAdmitted, IsPlaced}
+use Rattle.nvme_admin.specs.Admitted.{IsAdmitted, HasPlaces}
 use Rattle.nvme_admin.specs.Executed.{execution_of}
 
 -- What the rules answer.
@@ -99,14 +99,14 @@ denied w new queues cntlid e window memory d o h is same unchanged =
 -- What an allowed command has done.
 
 -- the data that it finds in its host's memory
-pub data-is : (w : World) (window e places : List ℕ) (a : Admitted) → IsAdmitted w e a → IsPlaced window e a places
+pub data-is : (w : World) (window e places : List ℕ) (a : Admitted) → IsAdmitted w e a → HasPlaces window e a places
     → data_of window e ≡ gathered_bytes window places
 data-is w window e places a h p =
     ap (λ c. data_in (data_length_of c e) window e) h.named ∙ ap (gathered_bytes window) (sym p.at)
 
 -- an execution by its parts
 pub performed : (w new : World) (cntlid : ℕ) (window memory e places : List ℕ) (a : Admitted) (k : AdminCommand) (dw0 : ℕ) (o : AdminOutcome)
-    → IsAdmitted w e a → IsPlaced window e a places → a.command ≡ k
+    → IsAdmitted w e a → HasPlaces window e a places → a.command ≡ k
     → dw0 ≡ double_word_0 w k e → new ≡ world_after w k e (data_of window e) → memory ≡ with_scattered window places (data_out w cntlid k e)
     → o ≡ record { status = status.successful_completion; dw0 = dw0; rule = 0; change = a.change }
     → performance w cntlid window a.command e ≡ execution_of o new memory
@@ -147,7 +147,7 @@ pub other : (k m n : AdminCommand) → k ≡ m → (m ≡ n → ⊥) → k ≡ n
 other k m n is differ same = differ (sym is ∙ same)
 
 -- Identify
-pub identified : (w : World) (cntlid : ℕ) (window memory e places : List ℕ) (a : Admitted) (o : AdminOutcome) → IsAdmitted w e a → IsPlaced window e a places
+pub identified : (w : World) (cntlid : ℕ) (window memory e places : List ℕ) (a : Admitted) (o : AdminOutcome) → IsAdmitted w e a → HasPlaces window e a places
     → a.command ≡ Identify → memory ≡ with_scattered window places (identify_data w cntlid e)
     → o ≡ record { status = status.successful_completion; dw0 = 0; rule = 0; change = a.change } → performance w cntlid window a.command e ≡ execution_of o w memory
 unfolding double_word_0 world_after data_out
@@ -155,7 +155,7 @@ identified w cntlid window memory e places a o h p is m done =
     performed w w cntlid window memory e places a Identify 0 o h p is refl refl m done
 
 -- Set Features
-pub set : (w new : World) (cntlid : ℕ) (window e places : List ℕ) (a : Admitted) (dw0 : ℕ) (o : AdminOutcome) → IsAdmitted w e a → IsPlaced window e a places
+pub set : (w new : World) (cntlid : ℕ) (window e places : List ℕ) (a : Admitted) (dw0 : ℕ) (o : AdminOutcome) → IsAdmitted w e a → HasPlaces window e a places
     → a.command ≡ SetFeatures → dw0 ≡ double_word_0 w SetFeatures e → new ≡ world_after w SetFeatures e []
     → o ≡ record { status = status.successful_completion; dw0 = dw0; rule = 0; change = a.change } → performance w cntlid window a.command e ≡ execution_of o new window
 unfolding world_after data_out
@@ -163,7 +163,7 @@ set w new cntlid window e places a dw0 o h p is d n done =
     performed w new cntlid window window e places a SetFeatures dw0 o h p is d n (unscattered window places) done
 
 -- Get Features
-pub got : (w : World) (cntlid : ℕ) (window memory e places : List ℕ) (a : Admitted) (dw0 : ℕ) (o : AdminOutcome) → IsAdmitted w e a → IsPlaced window e a places
+pub got : (w : World) (cntlid : ℕ) (window memory e places : List ℕ) (a : Admitted) (dw0 : ℕ) (o : AdminOutcome) → IsAdmitted w e a → HasPlaces window e a places
     → a.command ≡ GetFeatures → dw0 ≡ double_word_0 w GetFeatures e → memory ≡ with_scattered window places (data_out w cntlid GetFeatures e)
     → o ≡ record { status = status.successful_completion; dw0 = dw0; rule = 0; change = a.change } → performance w cntlid window a.command e ≡ execution_of o w memory
 unfolding world_after
@@ -174,7 +174,7 @@ got w cntlid window memory e places a dw0 o h p is d m done =
 world-by : (w new : World) (o p : Outcome) → o ≡ p → p ≡ Ok new → new ≡ world_of w o
 world-by w new o p is h = rw (is, h) refl
 
-pub attached : (w new : World) (cntlid : ℕ) (window e places : List ℕ) (a : Admitted) (o : AdminOutcome) → IsAdmitted w e a → IsPlaced window e a places
+pub attached : (w new : World) (cntlid : ℕ) (window e places : List ℕ) (a : Admitted) (o : AdminOutcome) → IsAdmitted w e a → HasPlaces window e a places
     → a.command ≡ NamespaceAttachment → attachment_outcome w e (gathered_bytes window places) ≡ Ok new
     → o ≡ record { status = status.successful_completion; dw0 = 0; rule = 0; change = a.change } → performance w cntlid window a.command e ≡ execution_of o new window
 unfolding double_word_0 world_after data_out
@@ -187,7 +187,7 @@ attached w new cntlid window e places a o h p is n done =
 abbrev list_judgement : Outcome → Judgement
 list_judgement r = judgement_by (record { number = 11; tests = refusal_tests r })
 
-on-list : (w : World) (window e places : List ℕ) (a : Admitted) (r : Outcome) → IsAdmitted w e a → IsPlaced window e a places
+on-list : (w : World) (window e places : List ℕ) (a : Admitted) (r : Outcome) → IsAdmitted w e a → HasPlaces window e a places
     → a.command ≡ NamespaceAttachment → attachment_outcome w e (gathered_bytes window places) ≡ r
     → judgement_by (list_rule (Some a.command) w e (data_of window e)) ≡ list_judgement r
 unfolding list_rule
@@ -196,20 +196,20 @@ on-list w window e places a r h p is n =
     ∙ ap (λ sent. judgement_by (list_rule (Some NamespaceAttachment) w e sent)) (data-is w window e places a h p)
     ∙ ap list_judgement n
 
-pub list-passes : (w new : World) (window e places : List ℕ) (a : Admitted) → IsAdmitted w e a → IsPlaced window e a places
+pub list-passes : (w new : World) (window e places : List ℕ) (a : Admitted) → IsAdmitted w e a → HasPlaces window e a places
     → a.command ≡ NamespaceAttachment → attachment_outcome w e (gathered_bytes window places) ≡ Ok new
     → judgement_by (list_rule (Some a.command) w e (data_of window e)) ≡ Ok tt
 unfolding judgement_by
 list-passes w new window e places a h p is n = on-list w window e places a (Ok new) h p is n
 
-pub list-refuses : (w : World) (window e places : List ℕ) (a : Admitted) (why : Status) → IsAdmitted w e a → IsPlaced window e a places
+pub list-refuses : (w : World) (window e places : List ℕ) (a : Admitted) (why : Status) → IsAdmitted w e a → HasPlaces window e a places
     → a.command ≡ NamespaceAttachment → attachment_outcome w e (gathered_bytes window places) ≡ Err why
     → judgement_by (list_rule (Some a.command) w e (data_of window e)) ≡ Err (record { rule = 11; status = why })
 unfolding judgement_by
 list-refuses w window e places a why h p is n = on-list w window e places a (Err why) h p is n
 
 -- A command on queues: none of the others.
-pub queues-done : (k : AdminCommand) (w : World) (cntlid : ℕ) (window e places : List ℕ) (a : Admitted) (o : AdminOutcome) → IsAdmitted w e a → IsPlaced window e a places
+pub queues-done : (k : AdminCommand) (w : World) (cntlid : ℕ) (window e places : List ℕ) (a : Admitted) (o : AdminOutcome) → IsAdmitted w e a → HasPlaces window e a places
     → a.command ≡ k → (k ≡ Identify → ⊥) → (k ≡ SetFeatures → ⊥) → (k ≡ GetFeatures → ⊥) → (k ≡ NamespaceAttachment → ⊥)
     → o ≡ record { status = status.successful_completion; dw0 = 0; rule = 0; change = a.change } → performance w cntlid window a.command e ≡ execution_of o w window
 unfolding double_word_0 world_after data_out

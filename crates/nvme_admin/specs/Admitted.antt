@@ -17,6 +17,6 @@ pub record IsAdmitted (w : World) (e : List ℕ) (a : Admitted) : Type 0 where
   pub attaches : a.command ≡ NamespaceAttachment → IsSome (namespace_of w (nsid e))
 
 -- Where its data lie.
-pub record IsPlaced (window e : List ℕ) (a : Admitted) (places : List ℕ) : Type 0 where
+pub record HasPlaces (window e : List ℕ) (a : Admitted) (places : List ℕ) : Type 0 where
   pub at : places ≡ data_addresses (data_length a.command e) window e
   pub size : length places ≡ data_length a.command e

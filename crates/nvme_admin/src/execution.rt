@@ -5,7 +5,7 @@ ghost use Rattle.nvme_spec.specs.AdminEffects as effects;
 ghost use Rattle.nvme_spec.specs.AdminRules as rules;
 ghost use Rattle.nvme_spec.specs.Rules.{judgement_by};
 ghost use Rattle.nvme_spec.specs.Transfers.{addresses};
-ghost use Rattle.nvme_admin.specs.Admitted.{IsAdmitted, IsPlaced};
+ghost use Rattle.nvme_admin.specs.Admitted.{IsAdmitted, HasPlaces};
 ghost use Rattle.nvme_admin.specs.Executed.{execution_of};
 
 use crate::attachment::change_attachments;
@@ -84,7 +84,7 @@ fn carry_out(
     pieces: &Pieces,
 ) -> Result<AdminOutcome, Denial>
     requires admitted { IsAdmitted spaces.old sqe.now admitted.now }
-    requires placed { IsPlaced window.old sqe.now admitted.now (addresses pieces.now.parts.items) }
+    requires placed { HasPlaces window.old sqe.now admitted.now (addresses pieces.now.parts.items) }
     ensures passed { OnOk result
         (judgement_by (rules.list_rule (Some admitted.now.command) spaces.old sqe.now
         (rules.data_of window.old sqe.now))
