@@ -16,7 +16,7 @@ use Rattle.nvme_machine.specs.declared.seen.Seen.TheVariants.{Executed}
 use Rattle.nvme_machine.specs.Controllers.{Controller, QueuePair, Reaction, queues_of, open_pair}
 use Rattle.nvme_machine.specs.Answers.{Answer, Answers, AnswersAs, admin_answer}
 use Rattle.nvme_machine.specs.Subsystems.{Subsystem, Step, ReactsAs, ExecutesAt, ExecutesOne, ExecutesOver, controller_at, with_controller, scene_of, after_execution, after_power_cycle}
-use Rattle.nvme_machine.specs.FaultFree.{Moment, fault_free_answer, fault_free_step, fault_free_seen, fault_free_left, io_answer, reacting, executing, executing_one, executing_over}
+use Rattle.nvme_machine.specs.FaultFree.{Aftermath, fault_free_answer, fault_free_step, fault_free_seen, fault_free_left, io_answer, reacting, executing, executing_one, executing_over}
 use Rattle.nvme_machine.specs.Runs.{FailuresNeverFall, RunExists, RunIsUnique}
 use Rattle.nvme_machine.proofs.Denials.{same-answer}
 use Rattle.nvme_machine.proofs.Layouts.{layout_stays}
@@ -93,7 +93,7 @@ unfolding Answers fault_free_answer
 answer-alone queues k t s a h f below = as-alone (t.queue == 0) queues k t s a h f below
 
 -- what was seen and left is what the function says
-abbrev Is : Seen → Subsystem → Moment → Type 0
+abbrev Is : Seen → Subsystem → Aftermath → Type 0
 Is seen new m = (seen ≡ m.seen) × (new ≡ m.left)
 
 over-alone : (o : Option QueuePair) (old new : Subsystem) (k : ℕ) (c : Controller) (i : ℕ) (t : FetchedCommand) (seen : Seen) → ExecutesOver o true old k c i t seen new

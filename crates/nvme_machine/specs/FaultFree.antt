@@ -25,39 +25,39 @@ fault_free_answer queues cntlid t s =
     else io_answer (fault_free_execution cntlid t.entry t.marked s)
 
 -- What an event gives, and the subsystem after it.
-pub record Moment : Type 0 where
+pub record Aftermath : Type 0 where
   pub seen : Seen
   pub left : Subsystem
 
-abbrev pub moment : Seen → Subsystem → Moment
-moment what s = record { seen = what; left = s }
+abbrev pub aftermath : Seen → Subsystem → Aftermath
+aftermath what s = record { seen = what; left = s }
 
-abbrev pub reacting : Option Controller → Subsystem → ℕ → (Controller → Reaction) → Moment
-reacting None s k f = moment NoController s
-reacting (Some c) s k f = moment (f c).seen (with_controller s k (f c).controller)
+abbrev pub reacting : Option Controller → Subsystem → ℕ → (Controller → Reaction) → Aftermath
+reacting None s k f = aftermath NoController s
+reacting (Some c) s k f = aftermath (f c).seen (with_controller s k (f c).controller)
 
-abbrev pub answered : Subsystem → ℕ → Controller → ℕ → FetchedCommand → QueuePair → Answer → Moment
-answered s k c i t p a = moment (Executed (Posted a.outcome)) (after_execution s k c i t p a)
+abbrev pub answered : Subsystem → ℕ → Controller → ℕ → FetchedCommand → QueuePair → Answer → Aftermath
+answered s k c i t p a = aftermath (Executed (Posted a.outcome)) (after_execution s k c i t p a)
 
-abbrev pub executing_over : Option QueuePair → Subsystem → ℕ → Controller → ℕ → FetchedCommand → Moment
-executing_over None s k c i t = moment (Executed CqFull) s
+abbrev pub executing_over : Option QueuePair → Subsystem → ℕ → Controller → ℕ → FetchedCommand → Aftermath
+executing_over None s k c i t = aftermath (Executed CqFull) s
 executing_over (Some p) s k c i t = answered s k c i t p (fault_free_answer (queues_of c) k t (scene_of s c))
 
-abbrev pub executing_one : Option FetchedCommand → Subsystem → ℕ → Controller → ℕ → Moment
-executing_one None s k c i = moment (Executed NoSuch) s
+abbrev pub executing_one : Option FetchedCommand → Subsystem → ℕ → Controller → ℕ → Aftermath
+executing_one None s k c i = aftermath (Executed NoSuch) s
 executing_one (Some t) s k c i = executing_over (open_pair c t) s k c i t
 
-abbrev pub executing : Option Controller → Subsystem → ℕ → ℕ → Moment
-executing None s k i = moment NoController s
+abbrev pub executing : Option Controller → Subsystem → ℕ → ℕ → Aftermath
+executing None s k i = aftermath NoController s
 executing (Some c) s k i = executing_one (slice_get c.fetched i) s k c i
 
-abbrev pub fault_free_step : Subsystem → Event → Moment
+abbrev pub fault_free_step : Subsystem → Event → Aftermath
 fault_free_step s (Store k address bytes) = reacting (controller_at s k) s k (after_store address bytes.now)
 fault_free_step s (Write32 k offset v) = reacting (controller_at s k) s k (wrote offset v)
 fault_free_step s (Read32 k offset) = reacting (controller_at s k) s k (has_read offset)
 fault_free_step s (Fetch k q) = reacting (controller_at s k) s k (after_fetch q)
 fault_free_step s (Execute k i) = executing (controller_at s k) s k i
-fault_free_step s PowerCycle = moment Cycled (after_power_cycle s)
+fault_free_step s PowerCycle = aftermath Cycled (after_power_cycle s)
 
 -- what the events give, one after the other
 abbrev pub fault_free_seen : Subsystem → List Event → List Seen
