@@ -19,7 +19,7 @@ use Rattle.nvme_event.specs.declared.seen.FleetSeen.TheVariants as seen
 use Rattle.nvme_event.specs.Replies.{Reply}
 use Rattle.nvme_event.specs.Events.{concerns}
 use Rattle.nvme_fleet.specs.Mailboxes.{Item, FetchedItem, PostedAnswer, LaneBox, Mailbox, box_at, with_box, lane_of, names, with_mark}
-use Rattle.nvme_fleet.specs.Deliveries.{Reaction, reaction, recounted, ring_lane, brought_up, refusal, new_item, with_placed, placed_by, placed, rung, fetched_first, lane_at, fetched_of, answer_reply, handed_up, polled_io, polled_admin, polled_aborted, polled}
+use Rattle.nvme_fleet.specs.Deliveries.{MailboxReaction, mailbox_reaction, recounted, ring_lane, brought_up, refusal, new_item, with_placed, placed_by, placed, rung, fetched_first, lane_at, fetched_of, answer_reply, handed_up, polled_io, polled_admin, polled_aborted, polled}
 use Rattle.nvme_fleet.specs.Executions.{Response}
 use Rattle.nvme_fleet.specs.Fleets.{WithDriver, Fleet, Run, Is, called_at, host_at, after_answer, with_posted, answer_for}
 use Rattle.nvme_fleet.proofs.MailboxMarks.{DiffersInMarks, differs, others-differ}
@@ -88,13 +88,13 @@ with-known P Q Io b m k h = (k.0, h, k.2)
 
 -- Events move requests and answers.
 
-abbrev pub KnownBy : (Item → Type 0) → (PostedAnswer → Type 0) → Reaction → Type 0
+abbrev pub KnownBy : (Item → Type 0) → (PostedAnswer → Type 0) → MailboxReaction → Type 0
 KnownBy P Q r = Known P Q r.mailbox
 
 pub brought-up : (P : Item → Type 0) (Q : PostedAnswer → Type 0) (m : Mailbox) → Known P Q m → KnownBy P Q (brought_up m)
 brought-up P Q m k = by m.up
   where
-    by : (b : Bool) → KnownBy P Q (if b then reaction m (seen.Up (Err AlreadyUp)) else reaction (record m { up = true; admin = recounted m.admin; io = recounted m.io }) (seen.Up (Ok tt)))
+    by : (b : Bool) → KnownBy P Q (if b then mailbox_reaction m (seen.Up (Err AlreadyUp)) else mailbox_reaction (record m { up = true; admin = recounted m.admin; io = recounted m.io }) (seen.Up (Ok tt)))
     by true = k
     by false = k
 
@@ -113,7 +113,7 @@ rings P Q m k = by m.up
     lane : (b : LaneBox) → KnownIn P Q b → KnownIn P Q (ring_lane b)
     lane b h = (tt, all-append P b.rung b.placed h.1 h.0, h.2)
 
-    by : (b : Bool) → KnownBy P Q (if b then reaction (record m { admin = ring_lane m.admin; io = ring_lane m.io }) (seen.Rung (Ok tt)) else reaction m (seen.Rung (Err (record {}))))
+    by : (b : Bool) → KnownBy P Q (if b then mailbox_reaction (record m { admin = ring_lane m.admin; io = ring_lane m.io }) (seen.Rung (Ok tt)) else mailbox_reaction m (seen.Rung (Err (record {}))))
     by true = (lane m.admin k.0, lane m.io k.1, k.2)
     by false = k
 
@@ -146,7 +146,7 @@ admin-polled P Q (first ∷ rest) m e k = hands-up P Q Admin first rest m e k
 pub polls : (P : Item → Type 0) (Q : PostedAnswer → Type 0) (ts : List ℕ) (m : Mailbox) → Known P Q m → KnownBy P Q (polled_aborted ts m)
 polls P Q [] m k = by m.up
   where
-    by : (b : Bool) → KnownBy P Q (if b then polled_admin m.admin.posted m else reaction m (seen.Polled (Err poll_fault.NotUp)))
+    by : (b : Bool) → KnownBy P Q (if b then polled_admin m.admin.posted m else mailbox_reaction m (seen.Polled (Err poll_fault.NotUp)))
     by true = admin-polled P Q m.admin.posted m refl k
     by false = k
 polls P Q (t ∷ ts) m k = k
@@ -378,8 +378,8 @@ admin-done Q (first ∷ rest) m e k d = first-of Q m.admin.posted Admin m first 
 poll-done : (Q : PostedAnswer → Type 0) (ts : List ℕ) (m : Mailbox) → Known Any Q m → IsDone (polled_aborted ts m).reply.seen → HandsUp Q (polled_aborted ts m).reply
 poll-done Q [] m k d = by m.up d
   where
-    by : (b : Bool) → IsDone (if b then polled_admin m.admin.posted m else reaction m (seen.Polled (Err poll_fault.NotUp))).reply.seen
-        → HandsUp Q (if b then polled_admin m.admin.posted m else reaction m (seen.Polled (Err poll_fault.NotUp))).reply
+    by : (b : Bool) → IsDone (if b then polled_admin m.admin.posted m else mailbox_reaction m (seen.Polled (Err poll_fault.NotUp))).reply.seen
+        → HandsUp Q (if b then polled_admin m.admin.posted m else mailbox_reaction m (seen.Polled (Err poll_fault.NotUp))).reply
     by true d = admin-done Q m.admin.posted m refl k d
     by false d = absurd d
 poll-done Q (t ∷ ts) m k d = absurd d

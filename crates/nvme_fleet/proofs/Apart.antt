@@ -13,7 +13,7 @@ use Rattle.nvme_event.specs.declared.seen.FleetSeen.TheVariants.{Executed as Exe
 use Rattle.nvme_event.specs.Replies.{Reply}
 use Rattle.nvme_event.specs.Events.{concerns}
 use Rattle.nvme_fleet.specs.Mailboxes.{FetchedItem, Mailbox}
-use Rattle.nvme_fleet.specs.Deliveries.{Reaction, plain, fetched, reset}
+use Rattle.nvme_fleet.specs.Deliveries.{MailboxReaction, plain, fetched, reset}
 use Rattle.nvme_fleet.specs.Executions.{Site, Answers}
 use Rattle.nvme_fleet.specs.Fleets.{Host, WithDriver, Raw, Fleet, Is, Completes, ExecutesItem, ExecutesAt, host_at, with_host, power_cycled, called_at, raw_at, fetched_at, settled, after_answer, site_of, marks_in, replaced, numbered}
 use Rattle.nvme_fleet.specs.Apart.{HasMailbox, Becomes, Posts, ExecutesOwn, OwnStep, OthersStep, MailboxStep, MovesOn, HostsAreApart, marks_seen, marked_by}
@@ -48,14 +48,14 @@ own tells old new event reply k m n here at h = record {
 }
 
 -- what a call leaves there
-calls : (old new : Fleet) (j k : ℕ) (m : Mailbox) (call : Mailbox → Reaction) (reply : Reply) → j ≡ k → HasMailbox old k m → Is (called_at (host_at old j) old j call) reply new
+calls : (old new : Fleet) (j k : ℕ) (m : Mailbox) (call : Mailbox → MailboxReaction) (reply : Reply) → j ≡ k → HasMailbox old k m → Is (called_at (host_at old j) old j call) reply new
     → Becomes (call m) reply (call m).mailbox × HasMailbox new k (call m).mailbox
 calls old new j k m call reply same at h =
     let here : host_at old j ≡ Some (WithDriver m) = ap (host_at old) same ∙ at in
     let so : Is (called_at (Some (WithDriver m)) old j call) reply new = subst (λ o. Is (called_at o old j call) reply new) here h in
     ((so.0, refl), ap (λ f. host_at f k) so.1 ∙ ap (λ x. host_at (with_host old x (WithDriver (call m).mailbox)) k) same ∙ own-set old k (WithDriver m) (WithDriver (call m).mailbox) at)
 
-by-call : (tells : Bool) (old new : Fleet) (event : FleetEvent) (j k : ℕ) (m : Mailbox) (call : Mailbox → Reaction) (reply : Reply) (b : Bool) → (j == k) ≡ b → concerns event k ≡ b
+by-call : (tells : Bool) (old new : Fleet) (event : FleetEvent) (j k : ℕ) (m : Mailbox) (call : Mailbox → MailboxReaction) (reply : Reply) (b : Bool) → (j == k) ≡ b → concerns event k ≡ b
     → OthersStep event k m reply new.site m → (Becomes (call m) reply (call m).mailbox → OwnStep event tells k old.site m reply new.site (call m).mailbox)
     → HasMailbox old k m → Is (called_at (host_at old j) old j call) reply new → MovesOn tells old event reply new k m
 by-call tells old new event j k m call reply true e here stays becomes at h =

@@ -26,7 +26,7 @@ use Rattle.nvme_event.specs.declared.seen.FleetSeen.{FleetSeen}
 use Rattle.nvme_event.specs.declared.seen.FleetSeen.TheVariants.{Executed as ExecutedSeen}
 use Rattle.nvme_event.specs.Replies.{Reply}
 use Rattle.nvme_fleet.specs.Mailboxes.{FetchedItem, Mailbox, lane_of}
-use Rattle.nvme_fleet.specs.Deliveries.{Reaction, plain}
+use Rattle.nvme_fleet.specs.Deliveries.{MailboxReaction, plain}
 use Rattle.nvme_fleet.specs.Executions.{Site, Response, scene_at, IsServed, AnswersIo, AnswersAs, Answers, io_verdict, admin_judgement, admin_response_by, admin_response, bytes_with, command_entry}
 use Rattle.nvme_fleet.specs.Fleets.{Host, WithDriver, Raw, Fleet, Moment, Is, Step, host_at, with_host, power_cycled, settled, called_at, raw_at, fetched_at, after_execution, after_raw, ExecutesItem, ExecutesRaw, ExecutesAt, setting_of}
 use Rattle.nvme_fleet.specs.FaultFree.{served, performance_of, io_response, response_as, response, executing_item, RawExecution, raw_over, raw_one, executing, fault_free_step, fault_free_replies, fault_free_left}
@@ -96,7 +96,7 @@ executes-counts (Some (Raw c)) tells old new k i reply h = raw-counts tells old 
 
 -- every other event leaves the medium
 
-called-calm : (o : Option Host) (f : Fleet) (k : ℕ) (call : Mailbox → Reaction) → failures_in (called_at o f k call).fleet ≡ failures_in f
+called-calm : (o : Option Host) (f : Fleet) (k : ℕ) (call : Mailbox → MailboxReaction) → failures_in (called_at o f k call).fleet ≡ failures_in f
 unfolding with_host
 called-calm None f k call = refl
 called-calm (Some (WithDriver m)) f k call = refl

@@ -35,7 +35,7 @@ use Rattle.nvme_event.specs.declared.event.FleetEvent.{FleetEvent}
 use Rattle.nvme_event.specs.declared.event.FleetEvent.TheVariants.{BringUp, Place, Ring, Fetch, Execute, Poll, Reset, RawStore, RawWrite32, PowerCycle}
 use Rattle.nvme_event.specs.declared.seen.FleetSeen.{FleetSeen}
 use Rattle.nvme_fleet.specs.Mailboxes.{FetchedItem, Mailbox, lane_of}
-use Rattle.nvme_fleet.specs.Deliveries.{Reaction}
+use Rattle.nvme_fleet.specs.Deliveries.{MailboxReaction}
 use Rattle.nvme_fleet.specs.Executions.{Site, Response, scene_at, IsServed, AnswersIo, AnswersAs, Answers, action_of, io_judgement, io_verdict, admin_judgement, admin_response_by, admin_response, command_entry}
 use Rattle.nvme_fleet.specs.Fleets.{Host, WithDriver, Raw, Fleet, Step, host_at, with_host, power_cycled, settled, called_at, raw_at, fetched_at, ExecutesItem, ExecutesAt, setting_of}
 use Rattle.nvme_fleet.specs.FaultFree.{served, performance_of, io_response, response_as, response, executing_item, raw_over, raw_one, raw_execution, executing, fault_free_step}
@@ -201,7 +201,7 @@ executes (Some (Raw c)) f k i laid =
     }
 
 -- every other event leaves the medium and the world
-pub called-site : (o : Option Host) (f : Fleet) (k : ℕ) (call : Mailbox → Reaction) → (called_at o f k call).fleet.site ≡ f.site
+pub called-site : (o : Option Host) (f : Fleet) (k : ℕ) (call : Mailbox → MailboxReaction) → (called_at o f k call).fleet.site ≡ f.site
 unfolding with_host
 called-site None f k call = refl
 called-site (Some (WithDriver m)) f k call = refl

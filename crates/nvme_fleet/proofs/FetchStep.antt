@@ -13,7 +13,7 @@ use Rattle.nvme_machine.specs.declared.seen.Fetched.TheVariants.{Idle}
 use Rattle.nvme_machine.specs.Controllers.{Controller, SubmissionQueue, fetchable, after_fetch, fetched_from, submission_at, most_fetched}
 use Rattle.nvme_event.specs.declared.seen.FleetSeen.TheVariants.{Fetched}
 use Rattle.nvme_fleet.specs.Mailboxes.{Item, Mailbox, box_at}
-use Rattle.nvme_fleet.specs.Deliveries.{Reaction, reaction, plain, fetched, fetched_first, fetched_of, lane_at}
+use Rattle.nvme_fleet.specs.Deliveries.{MailboxReaction, mailbox_reaction, plain, fetched, fetched_first, fetched_of, lane_at}
 use Rattle.nvme_fleet.specs.Fleets.{raw_fetch}
 use Rattle.nvme_fleet.specs.Lanes.{DeviceEnds, DeviceSide, Both, mail, pair, state, fetch, fetched_pair}
 use Rattle.nvme_fleet.specs.Sound.{Sound, IsPaired, IsOff, IsOfLane, host_side, device_side, mailbox, submission_as, taken_by, waiting_count}
@@ -23,15 +23,15 @@ use Rattle.nvme_fleet.proofs.Linking.{of, submission-is, pair-is, entry-in}
 use Rattle.nvme_fleet.proofs.Fetching.{fetch-both, fetch-mail, fetch-idle, taken-few}
 
 -- nothing is fetched
-idle-step : (d : Driver) (c : Controller) (q : ℕ) → Sound d c → fetchable c q ≡ None → fetched q (mailbox d c) ≡ reaction (mailbox d c) (Fetched Idle)
+idle-step : (d : Driver) (c : Controller) (q : ℕ) → Sound d c → fetchable c q ≡ None → fetched q (mailbox d c) ≡ mailbox_reaction (mailbox d c) (Fetched Idle)
     → IsStep (fetched q (mailbox d c)) d (after_fetch q c).controller (plain (Fetched (raw_fetch c q)))
 unfolding after_fetch
 idle-step d c q s none same =
     let e : fetched_from q c (fetchable c q) ≡ fetched_from q c None = ap (fetched_from q c) none in
     record {
       sound = subst (Sound d) (sym (ap (λ r. r.controller) e)) s;
-      mail = ap (λ (r : Reaction). r.mailbox) same ∙ ap (mailbox d) (sym (ap (λ r. r.controller) e));
-      gives = rw none (ap (λ (r : Reaction). r.reply) same);
+      mail = ap (λ (r : MailboxReaction). r.mailbox) same ∙ ap (mailbox d) (sym (ap (λ r. r.controller) e));
+      gives = rw none (ap (λ (r : MailboxReaction). r.reply) same);
     }
 
 -- a lane where none waits
@@ -125,8 +125,8 @@ one-waits lane d c p s u some =
     let sound : Sound d (taken_in lane c p) = record { both = b; fits = s.fits; sizes = s.sizes; up = λ t. paired-taken lane c p; down = λ t. absurd (no-way (is_up d.state) t u) } in
     record {
       sound = subst (Sound d) (sym k) sound;
-      mail = ap (λ (r : Reaction). r.mailbox) f ∙ sym (ap (mailbox d) k ∙ ap (mail (host_side d)) v ∙ m.1);
-      gives = rw o (ap (λ (r : Reaction). r.reply) f);
+      mail = ap (λ (r : MailboxReaction). r.mailbox) f ∙ sym (ap (mailbox d) k ∙ ap (mail (host_side d)) v ∙ m.1);
+      gives = rw o (ap (λ (r : MailboxReaction). r.reply) f);
     }
 
 by-lane : (lane : Lane) (d : Driver) (c : Controller) (p : IsPaired c) → Sound d c → is_up d.state ≡ true
@@ -179,7 +179,7 @@ pub fetch_is_a_step : FetchIsAStep
 fetch_is_a_step d c zero s = lane-step Admin d c s
 fetch_is_a_step d c (suc zero) s = lane-step Io d c s
 fetch_is_a_step d c (suc (suc n)) s =
-    let same : fetched (suc (suc n)) (mailbox d c) ≡ reaction (mailbox d c) (Fetched Idle) = ap (λ o. fetched_of o (mailbox d c)) (no-lane n) in
+    let same : fetched (suc (suc n)) (mailbox d c) ≡ mailbox_reaction (mailbox d c) (Fetched Idle) = ap (λ o. fetched_of o (mailbox d c)) (no-lane n) in
     elim (cases_Bool (is_up d.state)) [
       | inl u ↦ idle-step d c (suc (suc n)) s (far-queue c (s.up u) n) same
       | inr u ↦ idle-step d c (suc (suc n)) s (off-queue c (suc (suc n)) (s.down u)) same

@@ -12,7 +12,7 @@ use Rattle.nvme_event.specs.declared.event.FleetEvent.TheVariants.{BringUp, Plac
 use Rattle.nvme_event.specs.declared.seen.FleetSeen.{FleetSeen}
 use Rattle.nvme_event.specs.Replies.{Reply}
 use Rattle.nvme_fleet.specs.Mailboxes.{Item, FetchedItem, Mailbox, box_at}
-use Rattle.nvme_fleet.specs.Deliveries.{Reaction, brought_up, refusal, placed_by, placed, rung, lane_at, fetched_first, fetched_of, reset}
+use Rattle.nvme_fleet.specs.Deliveries.{MailboxReaction, brought_up, refusal, placed_by, placed, rung, lane_at, fetched_first, fetched_of, reset}
 use Rattle.nvme_fleet.specs.Fleets.{Host, WithDriver, Raw, Fleet, Is, Step, ExecutesItem, ExecutesAt, called_at, raw_at, fetched_at, host_at}
 use Rattle.nvme_fleet.specs.FleetStates.{FleetState, Layers, data_in, layers_of}
 use Rattle.nvme_fleet.specs.Layers as layers
@@ -26,33 +26,33 @@ use Rattle.nvme_fleet.proofs.LayerCalls.{calls-more}
 abbrev pub IsQuiet : Reply → Type 0
 IsQuiet r = r.bytes ≡ []
 
-quiet-up : (m : Mailbox) → IsQuiet (let r : Reaction = brought_up m in r.reply)
+quiet-up : (m : Mailbox) → IsQuiet (let r : MailboxReaction = brought_up m in r.reply)
 quiet-up m = by m m.up
   where
-    by : (m : Mailbox) (b : Bool) → IsQuiet (let r : Reaction = brought_up (record m { up = b }) in r.reply)
+    by : (m : Mailbox) (b : Bool) → IsQuiet (let r : MailboxReaction = brought_up (record m { up = b }) in r.reply)
     by m true = refl
     by m false = refl
 
-quiet-rung : (m : Mailbox) → IsQuiet (let r : Reaction = rung m in r.reply)
+quiet-rung : (m : Mailbox) → IsQuiet (let r : MailboxReaction = rung m in r.reply)
 quiet-rung m = by m m.up
   where
-    by : (m : Mailbox) (b : Bool) → IsQuiet (let r : Reaction = rung (record m { up = b }) in r.reply)
+    by : (m : Mailbox) (b : Bool) → IsQuiet (let r : MailboxReaction = rung (record m { up = b }) in r.reply)
     by m true = refl
     by m false = refl
 
-quiet-placed : (o : Option PlaceRefusal) (m : Mailbox) (request : Request) → IsQuiet (let r : Reaction = placed_by o m request in r.reply)
+quiet-placed : (o : Option PlaceRefusal) (m : Mailbox) (request : Request) → IsQuiet (let r : MailboxReaction = placed_by o m request in r.reply)
 quiet-placed None m request = refl
 quiet-placed (Some why) m request = refl
 
-quiet-first : (l : Lane) (xs : List Item) (m : Mailbox) → IsQuiet (let r : Reaction = fetched_first l xs m in r.reply)
+quiet-first : (l : Lane) (xs : List Item) (m : Mailbox) → IsQuiet (let r : MailboxReaction = fetched_first l xs m in r.reply)
 quiet-first l [] m = refl
 quiet-first l (x ∷ xs) m = refl
 
-quiet-fetched : (o : Option Lane) (m : Mailbox) → IsQuiet (let r : Reaction = fetched_of o m in r.reply)
+quiet-fetched : (o : Option Lane) (m : Mailbox) → IsQuiet (let r : MailboxReaction = fetched_of o m in r.reply)
 quiet-fetched None m = refl
 quiet-fetched (Some l) m = quiet-first l (box_at l m).rung m
 
-quiet-call : (h : Option Host) (f : Fleet) (k : ℕ) (call : Mailbox → Reaction) (reply : Reply) (new : Fleet) → ((m : Mailbox) → IsQuiet (call m).reply)
+quiet-call : (h : Option Host) (f : Fleet) (k : ℕ) (call : Mailbox → MailboxReaction) (reply : Reply) (new : Fleet) → ((m : Mailbox) → IsQuiet (call m).reply)
     → Is (called_at h f k call) reply new → IsQuiet reply
 quiet-call None f k call reply new q is = ap (λ (r : Reply). r.bytes) is.0
 quiet-call (Some (WithDriver m)) f k call reply new q is = ap (λ (r : Reply). r.bytes) is.0 ∙ q m

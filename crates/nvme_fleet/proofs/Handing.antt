@@ -9,11 +9,11 @@ use Rattle.nvme_machine.specs.Controllers.{Controller}
 use Rattle.nvme_event.specs.declared.seen.FleetSeen.TheVariants.{Polled}
 use Rattle.nvme_event.specs.Replies.{Reply, data_len}
 use Rattle.nvme_fleet.specs.Mailboxes.{Mailbox, PostedAnswer}
-use Rattle.nvme_fleet.specs.Deliveries.{Reaction, polled, polled_aborted, polled_admin, polled_io, reaction}
+use Rattle.nvme_fleet.specs.Deliveries.{MailboxReaction, polled, polled_aborted, polled_admin, polled_io, mailbox_reaction}
 use Rattle.nvme_fleet.specs.FleetStates.{reply_in}
 use Rattle.nvme_fleet.specs.Steps.{IsStep}
 
-abbrev IsCounted : Reaction → Type 0
+abbrev IsCounted : MailboxReaction → Type 0
 IsCounted r = data_len r.reply.seen ≡ length r.reply.bytes
 
 io-counted : (xs : List PostedAnswer) (m : Mailbox) → IsCounted (polled_io xs m)
@@ -24,7 +24,7 @@ admin-counted : (xs : List PostedAnswer) (m : Mailbox) → IsCounted (polled_adm
 admin-counted [] m = io-counted m.io.posted m
 admin-counted (x ∷ xs) m = refl
 
-up-counted : (up : Bool) (m : Mailbox) → IsCounted (if up then polled_admin m.admin.posted m else reaction m (Polled (Err poll_fault.NotUp)))
+up-counted : (up : Bool) (m : Mailbox) → IsCounted (if up then polled_admin m.admin.posted m else mailbox_reaction m (Polled (Err poll_fault.NotUp)))
 up-counted true m = admin-counted m.admin.posted m
 up-counted false m = refl
 

@@ -8,7 +8,7 @@ use Rattle.nvme_machine.specs.Controllers.{Controller}
 use Rattle.nvme_machine.specs.Subsystems.{is_host_among}
 use Rattle.nvme_event.specs.declared.seen.FleetSeen.{FleetSeen}
 use Rattle.nvme_fleet.specs.Mailboxes.{Mailbox, with_marks}
-use Rattle.nvme_fleet.specs.Deliveries.{Reaction}
+use Rattle.nvme_fleet.specs.Deliveries.{MailboxReaction}
 use Rattle.nvme_fleet.specs.Fleets.{Host, WithDriver, Raw, Fleet, host_at, with_host, host_cycled, power_cycled, called_at, raw_at, fetched_at, marked, marked_from, numbered, replaced}
 use Rattle.nvme_fleet.specs.Apart.{marked_by}
 
@@ -56,7 +56,7 @@ cycled-host f k h at = cycled-at f k ∙ ap (option_map host_cycled) at
 
 -- an event of another host
 
-pub called-other : (o : Option Host) (f : Fleet) (j k : ℕ) (call : Mailbox → Reaction) → j ≢ k → host_at (called_at o f j call).fleet k ≡ host_at f k
+pub called-other : (o : Option Host) (f : Fleet) (j k : ℕ) (call : Mailbox → MailboxReaction) → j ≢ k → host_at (called_at o f j call).fleet k ≡ host_at f k
 called-other None f j k call other = refl
 called-other (Some (WithDriver m)) f j k call other = other-set f j k _ other
 called-other (Some (Raw c)) f j k call other = refl

@@ -21,7 +21,7 @@ use Rattle.nvme_machine.specs.Executing.{Setting}
 use Rattle.nvme_event.specs.declared.seen.FleetSeen.TheVariants.{Placed, Polled}
 use Rattle.nvme_event.specs.Replies.{Reply}
 use Rattle.nvme_fleet.specs.Deliveries as mail
-use Rattle.nvme_fleet.specs.Deliveries.{Reaction}
+use Rattle.nvme_fleet.specs.Deliveries.{MailboxReaction}
 use Rattle.nvme_fleet.specs.Linked.{Linked, linked_controller, linked_setting}
 use Rattle.nvme_fleet.specs.Links.{with_controller}
 use Rattle.nvme_fleet.specs.Sound.{Sound, mailbox}
@@ -37,13 +37,13 @@ port-calls : (tells : Bool) (calls : List Call) (p q : Linked) → IsPlain calls
 port-calls tells calls p q plain h = calls-are tells calls (linked_setting p) (linked_setting q) plain (settings tells calls p q h)
 
 -- The driver's and the controller's part of a step, and what else the port is over.
-pub record IsLinkedStep (r : Reaction) (d : Driver) (old new : Setting) (reply : Reply) : Type 0 where
+pub record IsLinkedStep (r : MailboxReaction) (d : Driver) (old new : Setting) (reply : Reply) : Type 0 where
   pub step : IsStep r d new.controller reply
   pub cntlid : new.controller.cntlid ≡ old.controller.cntlid
   pub world : new.world ≡ old.world
   pub device : new.device ≡ old.device
 
-linked-step : (r : Reaction) (d d' : Driver) (old new : Setting) (c : Controller) (a b : Reply) → new ≡ with_controller old c → c.cntlid ≡ old.controller.cntlid → d' ≡ d → b ≡ a
+linked-step : (r : MailboxReaction) (d d' : Driver) (old new : Setting) (c : Controller) (a b : Reply) → new ≡ with_controller old c → c.cntlid ≡ old.controller.cntlid → d' ≡ d → b ≡ a
     → IsStep r d c a → IsLinkedStep r d' old new b
 linked-step r d d' old new c a b n k e f s = record {
   cntlid = ap (λ (x : Setting). x.controller.cntlid) n ∙ k;

@@ -14,7 +14,7 @@ use Rattle.std.specs.Borrow.{GName}
 use Rattle.nvme_machine.specs.Executing.{Setting}
 use Rattle.nvme_event.specs.declared.seen.FleetSeen.TheVariants as seen
 use Rattle.nvme_fleet.specs.Mailboxes.{Mailbox}
-use Rattle.nvme_fleet.specs.Deliveries.{Reaction, brought_up, rung, reset, plain}
+use Rattle.nvme_fleet.specs.Deliveries.{MailboxReaction, brought_up, rung, reset, plain}
 use Rattle.nvme_fleet.specs.Sound.{Sound, is_failed, mailbox}
 use Rattle.nvme_fleet.specs.Steps.{IsStep, after_calls, rung_reply}
 use Rattle.std.specs.List.{AllByRecursion}
@@ -91,7 +91,7 @@ stays-up : (tells : Bool) (d d' : Driver) (old new : Linked) (result : Result (U
 stays-up tells d d' old new result s u r e n =
     let is = already-up (mailbox d (linked_controller old)) u in
     record {
-      step = rw (r, e, n) (record { sound = s; mail = ap (λ (x : Reaction). x.mailbox) is; gives = ap (λ (x : Reaction). x.reply) is });
+      step = rw (r, e, n) (record { sound = s; mail = ap (λ (x : MailboxReaction). x.mailbox) is; gives = ap (λ (x : MailboxReaction). x.reply) is });
       cntlid = ap (λ (p : Linked). (linked_controller p).cntlid) n;
       world = ap (λ (p : Linked). (linked_setting p).world) n;
       device = ap (λ (p : Linked). (linked_setting p).device) n;

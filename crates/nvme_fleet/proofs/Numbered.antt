@@ -20,7 +20,7 @@ use Rattle.nvme_event.specs.declared.event.FleetEvent.TheVariants.{BringUp, Plac
 use Rattle.nvme_event.specs.declared.seen.FleetSeen.{FleetSeen}
 use Rattle.nvme_event.specs.Replies.{Reply}
 use Rattle.nvme_fleet.specs.Mailboxes.{FetchedItem, Mailbox, new_mailbox}
-use Rattle.nvme_fleet.specs.Deliveries.{Reaction}
+use Rattle.nvme_fleet.specs.Deliveries.{MailboxReaction}
 use Rattle.nvme_fleet.specs.Executions.{Site}
 use Rattle.nvme_fleet.specs.Fleets.{Host, WithDriver, Raw, Fleet, Moment, Is, Step, new_host, opening, replaced, host_at, with_host, host_cycled, power_cycled, marked, marked_from, settled, called_at, raw_at, fetched_at, ExecutesItem, ExecutesAt, setting_of}
 use Rattle.nvme_fleet.specs.IoCommands.{BearsItsNumber, AreNumbered, OpeningIsNumbered, NumbersStay}
@@ -106,7 +106,7 @@ one-id (Some t) tells i old executed new h = over-id (open_pair old.controller t
 whole : (old new : Fleet) → new ≡ old → AreNumbered old → AreNumbered new
 whole old new e all = subst AreNumbered (sym e) all
 
-called : (o : Option Host) (f : Fleet) (k : ℕ) (call : Mailbox → Reaction) → AreNumbered f → AreNumbered (called_at o f k call).fleet
+called : (o : Option Host) (f : Fleet) (k : ℕ) (call : Mailbox → MailboxReaction) → AreNumbered f → AreNumbered (called_at o f k call).fleet
 called None f k call all = all
 called (Some (WithDriver m)) f k call all = put f k _ all tt
 called (Some (Raw c)) f k call all = all

@@ -26,7 +26,7 @@ use Rattle.nvme_driver.proofs.PageLists.{length-stored_list}
 use Rattle.nvme_driver.proofs.Moving.{entries_move_their_data}
 use Rattle.nvme_machine.specs.Controllers.{Controller, after_store}
 use Rattle.nvme_fleet.specs.Mailboxes.{Item, Mailbox, box_at, with_box}
-use Rattle.nvme_fleet.specs.Deliveries.{Reaction, refusal, placed_by, new_item, with_placed}
+use Rattle.nvme_fleet.specs.Deliveries.{MailboxReaction, refusal, placed_by, new_item, with_placed}
 use Rattle.nvme_fleet.specs.Views.{Slot, asked_in, is_plain, suits, item_in, received_in}
 use Rattle.nvme_fleet.specs.Lanes as lanes
 use Rattle.nvme_fleet.specs.Lanes.{HostSide, DeviceSide, Both, Placement, whole, area, listed, mail, placed, placed_device, placed_window, base}
@@ -78,7 +78,7 @@ refusal-is d c request s =
 pub refusal_is_a_step : RefusalIsAStep
 refusal_is_a_step d c request why s h =
     let e = ap (λ o. placed_by o (mailbox d c) request) (refusal-is d c request s ∙ h) in
-    record { sound = s; mail = ap (λ (r : Reaction). r.mailbox) e; gives = ap (λ (r : Reaction). r.reply) e }
+    record { sound = s; mail = ap (λ (r : MailboxReaction). r.mailbox) e; gives = ap (λ (r : MailboxReaction). r.reply) e }
 
 -- what a request that is placed has passed
 record Passed (u bad ring : Bool) : Type 0 where
@@ -325,6 +325,6 @@ place_is_a_step d c request slot s h f say =
     let i = ap (λ x. with_one (lane_of request) (mailbox d c) x) (new-item-so d c request slot k) in
     record {
       sound = subst (Sound (driver.placed d request slot)) (sym e) sound;
-      mail = ap (λ (x : Reaction). x.mailbox) q ∙ sym (ap (mailbox (driver.placed d request slot)) e ∙ ap (λ x. mail x (device_side (controller_then d c request slot))) hd ∙ m ∙ i);
-      gives = ap (λ (x : Reaction). x.reply) q;
+      mail = ap (λ (x : MailboxReaction). x.mailbox) q ∙ sym (ap (mailbox (driver.placed d request slot)) e ∙ ap (λ x. mail x (device_side (controller_then d c request slot))) hd ∙ m ∙ i);
+      gives = ap (λ (x : MailboxReaction). x.reply) q;
     }

@@ -7,7 +7,7 @@ use Rattle.nvme_event.specs.Replies.{Reply}
 use Rattle.nvme_fleet.specs.Views.{Slot, ticket_in, can_hear}
 use Rattle.nvme_fleet.specs.Lanes.{area}
 use Rattle.nvme_fleet.specs.Deliveries as step
-use Rattle.nvme_fleet.specs.Deliveries.{Reaction, reaction, plain, answer_reply, handed_up, polled_aborted, polled_admin, polled_io}
+use Rattle.nvme_fleet.specs.Deliveries.{MailboxReaction, mailbox_reaction, plain, answer_reply, handed_up, polled_aborted, polled_admin, polled_io}
 use Rattle.nvme_fleet.specs.Steps.{IsStep, PollIsAStep, after_calls}
 use Rattle.nvme_fleet.proofs.Places.{no-way}
 use Rattle.nvme_spec.specs.Limits.{most_bytes}
@@ -349,8 +349,8 @@ aborts d c i t s e low =
         up = s.up;
         down = s.down;
       };
-      mail = ap (λ (r : Reaction). r.mailbox) f ∙ sym m.1;
-      gives = ap (λ (r : Reaction). r.reply) f;
+      mail = ap (λ (r : MailboxReaction). r.mailbox) f ∙ sym m.1;
+      gives = ap (λ (r : MailboxReaction). r.reply) f;
     }
 
 -- nothing was aborted
@@ -382,10 +382,10 @@ io-found d c s u z none =
           let found : poll.found d c.window ≡ None =
           ap (λ o. poll.found_or (poll.found_in Admin o) (poll.found_in Io (poll.new_in Io d.io c.window))) none
           ∙ ap (poll.found_in Io) (new-none Io d c.window r.consumed (looks-none Io (host_side d) (device_side c) b u y)) in
-          let q : polled_admin (box_at Admin (mailbox d c)).posted (mailbox d c) ≡ reaction (mailbox d c) (Polled (Ok None)) =
+          let q : polled_admin (box_at Admin (mailbox d c)).posted (mailbox d c) ≡ mailbox_reaction (mailbox d c) (Polled (Ok None)) =
           g ∙ ap (λ xs. polled_io xs (mailbox d c)) (none-there Io (host_side d) (device_side c) y) in
           subst (λ k. IsStep (polled_admin (box_at Admin (mailbox d c)).posted (mailbox d c)) k.driver (after_calls k.calls c) (poll_reply k)) (sym (ap (poll.found_poll d c.window) found))
-          (record { sound = s; mail = ap (λ (r : Reaction). r.mailbox) q; gives = ap (λ (r : Reaction). r.reply) q })
+          (record { sound = s; mail = ap (λ (r : MailboxReaction). r.mailbox) q; gives = ap (λ (r : MailboxReaction). r.reply) q })
     ]
 
 all-found : (d : Driver) (c : Controller) → Sound d c → is_up d.state ≡ true → plainly d c (poll.found d c.window)
@@ -416,6 +416,6 @@ poll_is_a_step d c None s h =
     let n = none-aborted (host_side d) (device_side c) (λ k. number-none (waiting_at d.slots k) (h k)) in
     let f : step.polled (mailbox d c) ≡ polled_aborted [] (mailbox d c) = ap (λ ts. polled_aborted ts (mailbox d c)) n in
     subst (λ y. IsStep y (poll.polled d None c.window).driver (after_calls (poll.polled d None c.window).calls c) (poll_reply (poll.polled d None c.window))) (sym f) (elim (cases_Bool (is_up d.state)) [
-      | inl u ↦ subst (λ t. IsStep (if t then polled_admin (box_at Admin (mailbox d c)).posted (mailbox d c) else reaction (mailbox d c) (Polled (Err poll_fault.NotUp))) (if t then poll.found_poll d c.window (poll.found d c.window) else poll.without_calls (Err poll_fault.NotUp) d).driver (after_calls (if t then poll.found_poll d c.window (poll.found d c.window) else poll.without_calls (Err poll_fault.NotUp) d).calls c) (poll_reply (if t then poll.found_poll d c.window (poll.found d c.window) else poll.without_calls (Err poll_fault.NotUp) d))) (sym u) (all-found d c s u)
-      | inr u ↦ subst (λ t. IsStep (if t then polled_admin (box_at Admin (mailbox d c)).posted (mailbox d c) else reaction (mailbox d c) (Polled (Err poll_fault.NotUp))) (if t then poll.found_poll d c.window (poll.found d c.window) else poll.without_calls (Err poll_fault.NotUp) d).driver (after_calls (if t then poll.found_poll d c.window (poll.found d c.window) else poll.without_calls (Err poll_fault.NotUp) d).calls c) (poll_reply (if t then poll.found_poll d c.window (poll.found d c.window) else poll.without_calls (Err poll_fault.NotUp) d))) (sym u) (record { sound = s; mail = refl; gives = refl })
+      | inl u ↦ subst (λ t. IsStep (if t then polled_admin (box_at Admin (mailbox d c)).posted (mailbox d c) else mailbox_reaction (mailbox d c) (Polled (Err poll_fault.NotUp))) (if t then poll.found_poll d c.window (poll.found d c.window) else poll.without_calls (Err poll_fault.NotUp) d).driver (after_calls (if t then poll.found_poll d c.window (poll.found d c.window) else poll.without_calls (Err poll_fault.NotUp) d).calls c) (poll_reply (if t then poll.found_poll d c.window (poll.found d c.window) else poll.without_calls (Err poll_fault.NotUp) d))) (sym u) (all-found d c s u)
+      | inr u ↦ subst (λ t. IsStep (if t then polled_admin (box_at Admin (mailbox d c)).posted (mailbox d c) else mailbox_reaction (mailbox d c) (Polled (Err poll_fault.NotUp))) (if t then poll.found_poll d c.window (poll.found d c.window) else poll.without_calls (Err poll_fault.NotUp) d).driver (after_calls (if t then poll.found_poll d c.window (poll.found d c.window) else poll.without_calls (Err poll_fault.NotUp) d).calls c) (poll_reply (if t then poll.found_poll d c.window (poll.found d c.window) else poll.without_calls (Err poll_fault.NotUp) d))) (sym u) (record { sound = s; mail = refl; gives = refl })
     ])

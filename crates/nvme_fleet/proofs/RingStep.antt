@@ -9,7 +9,7 @@ use Rattle.nvme_driver.specs.Drivers.{Driver, is_up, tail_of, ring_calls}
 use Rattle.nvme_driver.specs.Calls.{Writes}
 use Rattle.nvme_machine.specs.Controllers.{Controller, with_tail, submission_at, after_write32}
 use Rattle.nvme_event.specs.declared.seen.FleetSeen.TheVariants.{Rung}
-use Rattle.nvme_fleet.specs.Deliveries.{Reaction, reaction, rung, ring_lane}
+use Rattle.nvme_fleet.specs.Deliveries.{MailboxReaction, mailbox_reaction, rung, ring_lane}
 use Rattle.nvme_fleet.specs.Lanes.{Both, pair, with_pair, mail, ring, ring_pair}
 use Rattle.nvme_fleet.specs.Sound.{Sound, IsPaired, host_side, device_side, mailbox}
 use Rattle.nvme_fleet.specs.Steps.{IsStep, RingIsAStep, after_calls, rung_reply}
@@ -87,24 +87,24 @@ up-step d c s u =
     let q = paired-rung Io _ (paired-rung Admin c p (tail_of d.admin) w) (tail_of d.io) x in
     let k : Both (host_side d) (device_side (rung_both d c)) = subst (Both (host_side d)) (sym v) (ring-both (host_side d) (device_side c) b u) in
     let sound : Sound d (rung_both d c) = record { both = k; fits = s.fits; sizes = s.sizes; up = λ t. q; down = λ t. absurd (no-way (is_up d.state) t u) } in
-    let f : rung (mailbox d c) ≡ reaction (record (mailbox d c) { admin = ring_lane (mailbox d c).admin; io = ring_lane (mailbox d c).io }) (Rung (Ok tt)) =
-    ap (λ t. if t then reaction (record (mailbox d c) { admin = ring_lane (mailbox d c).admin; io = ring_lane (mailbox d c).io }) (Rung (Ok tt)) else reaction (mailbox d c) (Rung (Err (record {})))) u in
+    let f : rung (mailbox d c) ≡ mailbox_reaction (record (mailbox d c) { admin = ring_lane (mailbox d c).admin; io = ring_lane (mailbox d c).io }) (Rung (Ok tt)) =
+    ap (λ t. if t then mailbox_reaction (record (mailbox d c) { admin = ring_lane (mailbox d c).admin; io = ring_lane (mailbox d c).io }) (Rung (Ok tt)) else mailbox_reaction (mailbox d c) (Rung (Err (record {})))) u in
     record {
       sound = subst (Sound d) (sym e) sound;
-      mail = ap (λ (r : Reaction). r.mailbox) f ∙ sym (ap (mailbox d) e ∙ ap (mail (host_side d)) v ∙ ring-mail (host_side d) (device_side c) b u);
-      gives = ap (λ (r : Reaction). r.reply) f;
+      mail = ap (λ (r : MailboxReaction). r.mailbox) f ∙ sym (ap (mailbox d) e ∙ ap (mail (host_side d)) v ∙ ring-mail (host_side d) (device_side c) b u);
+      gives = ap (λ (r : MailboxReaction). r.reply) f;
     }
 
 down-step : (d : Driver) (c : Controller) → Sound d c → is_up d.state ≡ false
     → IsStep (rung (mailbox d c)) d (after_calls (ring_calls d) c) (rung_reply false)
 down-step d c s u =
     let e : after_calls (ring_calls d) c ≡ c = ap (λ t. after_calls (if t then Writes (tail_doorbell Admin) (tail_of d.admin) ∷ Writes (tail_doorbell Io) (tail_of d.io) ∷ [] else []) c) u in
-    let f : rung (mailbox d c) ≡ reaction (mailbox d c) (Rung (Err (record {}))) =
-    ap (λ t. if t then reaction (record (mailbox d c) { admin = ring_lane (mailbox d c).admin; io = ring_lane (mailbox d c).io }) (Rung (Ok tt)) else reaction (mailbox d c) (Rung (Err (record {})))) u in
+    let f : rung (mailbox d c) ≡ mailbox_reaction (mailbox d c) (Rung (Err (record {}))) =
+    ap (λ t. if t then mailbox_reaction (record (mailbox d c) { admin = ring_lane (mailbox d c).admin; io = ring_lane (mailbox d c).io }) (Rung (Ok tt)) else mailbox_reaction (mailbox d c) (Rung (Err (record {})))) u in
     record {
       sound = subst (Sound d) (sym e) s;
-      mail = ap (λ (r : Reaction). r.mailbox) f ∙ ap (mailbox d) (sym e);
-      gives = ap (λ (r : Reaction). r.reply) f;
+      mail = ap (λ (r : MailboxReaction). r.mailbox) f ∙ ap (mailbox d) (sym e);
+      gives = ap (λ (r : MailboxReaction). r.reply) f;
     }
 
 pub ring_is_a_step : RingIsAStep

@@ -29,7 +29,7 @@ use Rattle.nvme_event.specs.declared.seen.FleetSeen.{FleetSeen}
 use Rattle.nvme_event.specs.Events.{OfItsHost}
 use Rattle.nvme_event.specs.Replies.{Reply}
 use Rattle.nvme_fleet.specs.Mailboxes.{FetchedItem, Mailbox, lane_of}
-use Rattle.nvme_fleet.specs.Deliveries.{Reaction}
+use Rattle.nvme_fleet.specs.Deliveries.{MailboxReaction}
 use Rattle.nvme_fleet.specs.Bytes as bytes
 use Rattle.nvme_fleet.specs.FleetStates.{Layers, fleet_in}
 use Rattle.nvme_fleet.specs.Executions.{Answers, AnswersAs, AnswersIo, Response, Site, admin_judgement, admin_response, admin_response_by, command_entry, io_verdict, scene_at}
@@ -94,7 +94,7 @@ stays n old new d differ is = same-device n old.site.world old.site.device new.s
 whole : (n : ℕ) (old new : Fleet) (d : Device) → DifferIn n old.site.world old.site.device d → new ≡ old → DifferIn n old.site.world new.site.device d
 whole n old new d differ is = stays n old new d differ (ap (λ (f : Fleet). f.site) is)
 
-called-over : (o : Option Host) (f : Fleet) (k : ℕ) (call : Mailbox → Reaction) (d : Device) (reply : Reply) (new : Fleet) → Is (called_at o f k call) reply new → Is (called_at o (over d f) k call) reply (over d new)
+called-over : (o : Option Host) (f : Fleet) (k : ℕ) (call : Mailbox → MailboxReaction) (d : Device) (reply : Reply) (new : Fleet) → Is (called_at o f k call) reply new → Is (called_at o (over d f) k call) reply (over d new)
 unfolding with_host
 called-over None f k call d reply new h = (h.0, ap (over d) h.1)
 called-over (Some (WithDriver m)) f k call d reply new h = (h.0, ap (over d) h.1)

@@ -11,7 +11,7 @@ use Rattle.nvme_event.specs.declared.event.FleetEvent.TheVariants.{BringUp, Plac
 use Rattle.nvme_event.specs.Events.{concerns}
 use Rattle.nvme_event.specs.Replies.{Reply}
 use Rattle.nvme_fleet.specs.Mailboxes.{FetchedItem, Item, LaneBox, Mailbox, PostedAnswer, box_at, lane_of, new_mailbox, with_box, with_mark}
-use Rattle.nvme_fleet.specs.Deliveries.{Reaction, brought_up, fetched, fetched_first, fetched_of, handed_up, lane_at, placed, placed_by, polled, polled_aborted, polled_admin, polled_io, refusal, reset, rung}
+use Rattle.nvme_fleet.specs.Deliveries.{MailboxReaction, brought_up, fetched, fetched_first, fetched_of, handed_up, lane_at, placed, placed_by, polled, polled_aborted, polled_admin, polled_io, refusal, reset, rung}
 use Rattle.nvme_fleet.specs.Executions.{Response, Site}
 use Rattle.nvme_fleet.specs.Fleets.{Fleet, Run, WithDriver, after_answer, host_at, opening}
 use Rattle.nvme_fleet.specs.Apart.{ExecutesOwn, HasMailbox, MailboxStep, OwnStep}
@@ -55,7 +55,7 @@ up-rests m up down = absurd (no (sym up ∙ down))
 rests-up : (m : Mailbox) → Rests m → Rests (brought_up m).mailbox
 rests-up m = by m.up
   where
-    by : (b : Bool) → Rests (record m { up = b }) → Rests (let r : Reaction = brought_up (record m { up = b }) in r.mailbox)
+    by : (b : Bool) → Rests (record m { up = b }) → Rests (let r : MailboxReaction = brought_up (record m { up = b }) in r.mailbox)
     by true h = h
     by false h = λ down. absurd (cc)
 
@@ -63,21 +63,21 @@ box-up : (lane : Lane) (b : LaneBox) (m : Mailbox) → (with_box lane b m).up �
 box-up Admin b m = refl
 box-up Io b m = refl
 
-rests-by : (o : Option PlaceRefusal) (m : Mailbox) (request : Request) → m.up ≡ true → Rests (let r : Reaction = placed_by o m request in r.mailbox)
+rests-by : (o : Option PlaceRefusal) (m : Mailbox) (request : Request) → m.up ≡ true → Rests (let r : MailboxReaction = placed_by o m request in r.mailbox)
 rests-by None m request up = up-rests _ (box-up _ _ _ ∙ up)
 rests-by (Some why) m request up = up-rests m up
 
 rests-placed : (m : Mailbox) (request : Request) → Rests m → Rests (placed m request).mailbox
 rests-placed m request = by m.up
   where
-    by : (b : Bool) → Rests (record m { up = b }) → Rests (let r : Reaction = placed (record m { up = b }) request in r.mailbox)
+    by : (b : Bool) → Rests (record m { up = b }) → Rests (let r : MailboxReaction = placed (record m { up = b }) request in r.mailbox)
     by true h = rests-by (refusal (record m { up = true }) request) (record m { up = true }) request refl
     by false h = h
 
 rests-rung : (m : Mailbox) → Rests m → Rests (rung m).mailbox
 rests-rung m = by m.up
   where
-    by : (b : Bool) → Rests (record m { up = b }) → Rests (let r : Reaction = rung (record m { up = b }) in r.mailbox)
+    by : (b : Bool) → Rests (record m { up = b }) → Rests (let r : MailboxReaction = rung (record m { up = b }) in r.mailbox)
     by true h = λ down. absurd (cc)
     by false h = h
 
@@ -85,21 +85,21 @@ lane-rung : (lane : Lane) (m : Mailbox) → IsIdle m → (box_at lane m).rung �
 lane-rung Admin m i = (let a = i.admin in a.rung)
 lane-rung Io m i = (let b = i.io in b.rung)
 
-rests-first : (lane : Lane) (xs : List Item) (m : Mailbox) → (box_at lane m).rung ≡ xs → Rests m → Rests (let r : Reaction = fetched_first lane xs m in r.mailbox)
+rests-first : (lane : Lane) (xs : List Item) (m : Mailbox) → (box_at lane m).rung ≡ xs → Rests m → Rests (let r : MailboxReaction = fetched_first lane xs m in r.mailbox)
 rests-first lane [] m is h = h
 rests-first lane (x ∷ rest) m is h = λ down. absurd (filled (sym is ∙ lane-rung lane m (h (sym (box-up lane _ _) ∙ down))))
   where
     filled : x ∷ rest ≡ [] → ⊥
     filled e = absurd (cc)
 
-rests-of : (o : Option Lane) (m : Mailbox) → Rests m → Rests (let r : Reaction = fetched_of o m in r.mailbox)
+rests-of : (o : Option Lane) (m : Mailbox) → Rests m → Rests (let r : MailboxReaction = fetched_of o m in r.mailbox)
 rests-of None m h = h
 rests-of (Some lane) m h = rests-first lane (box_at lane m).rung m refl h
 
 rests-fetched : (q : ℕ) (m : Mailbox) → Rests m → Rests (fetched q m).mailbox
 rests-fetched q m h = rests-of (lane_at q) m h
 
-rests-handed : (lane : Lane) (x : PostedAnswer) (rest : List PostedAnswer) (m : Mailbox) → (box_at lane m).posted ≡ x ∷ rest → Rests m → Rests (let r : Reaction = handed_up lane x rest m in r.mailbox)
+rests-handed : (lane : Lane) (x : PostedAnswer) (rest : List PostedAnswer) (m : Mailbox) → (box_at lane m).posted ≡ x ∷ rest → Rests m → Rests (let r : MailboxReaction = handed_up lane x rest m in r.mailbox)
 rests-handed lane x rest m is h = λ down. absurd (filled (sym is ∙ lane-posted lane (h (sym (box-up lane _ m) ∙ down))))
   where
     filled : x ∷ rest ≡ [] → ⊥
@@ -109,18 +109,18 @@ rests-handed lane x rest m is h = λ down. absurd (filled (sym is ∙ lane-poste
     lane-posted Admin i = (let a = i.admin in a.posted)
     lane-posted Io i = (let b = i.io in b.posted)
 
-rests-io : (xs : List PostedAnswer) (m : Mailbox) → m.io.posted ≡ xs → Rests m → Rests (let r : Reaction = polled_io xs m in r.mailbox)
+rests-io : (xs : List PostedAnswer) (m : Mailbox) → m.io.posted ≡ xs → Rests m → Rests (let r : MailboxReaction = polled_io xs m in r.mailbox)
 rests-io [] m is h = h
 rests-io (x ∷ rest) m is h = rests-handed Io x rest m is h
 
-rests-admin : (xs : List PostedAnswer) (m : Mailbox) → m.admin.posted ≡ xs → Rests m → Rests (let r : Reaction = polled_admin xs m in r.mailbox)
+rests-admin : (xs : List PostedAnswer) (m : Mailbox) → m.admin.posted ≡ xs → Rests m → Rests (let r : MailboxReaction = polled_admin xs m in r.mailbox)
 rests-admin [] m is h = rests-io m.io.posted m refl h
 rests-admin (x ∷ rest) m is h = rests-handed Admin x rest m is h
 
-rests-aborted : (xs : List ℕ) (m : Mailbox) → Rests m → Rests (let r : Reaction = polled_aborted xs m in r.mailbox)
+rests-aborted : (xs : List ℕ) (m : Mailbox) → Rests m → Rests (let r : MailboxReaction = polled_aborted xs m in r.mailbox)
 rests-aborted [] m = by m.up
   where
-    by : (b : Bool) → Rests (record m { up = b }) → Rests (let r : Reaction = polled_aborted [] (record m { up = b }) in r.mailbox)
+    by : (b : Bool) → Rests (record m { up = b }) → Rests (let r : MailboxReaction = polled_aborted [] (record m { up = b }) in r.mailbox)
     by true h = rests-admin m.admin.posted (record m { up = true }) refl h
     by false h = h
 rests-aborted (x ∷ rest) m = λ h down. let i = h down in record { admin = i.admin; io = i.io; fetched = i.fetched }
@@ -149,7 +149,7 @@ rests-own (Some x) tells k s left m n i reply at e h =
     let r = e.response in
     rests-marked (after_answer i x r m) n (differs r.outcome.marks r.left.world k (after_answer i x r m) n e.leaves) (rests-executed i x r m at h)
 
-becomes : (r : Reaction) (n : Mailbox) → n ≡ r.mailbox → Rests r.mailbox → Rests n
+becomes : (r : MailboxReaction) (n : Mailbox) → n ≡ r.mailbox → Rests r.mailbox → Rests n
 becomes r n e h = subst Rests (sym e) h
 
 own-rests : (event : FleetEvent) (tells : Bool) (k : ℕ) (s left : Site) (m n : Mailbox) (reply : Reply) → OwnStep event tells k s m reply left n → Rests m → Rests n

@@ -18,7 +18,7 @@ use Rattle.nvme_event.specs.declared.event.FleetEvent.TheVariants.{BringUp, Plac
 use Rattle.nvme_event.specs.declared.seen.FleetSeen.{FleetSeen}
 use Rattle.nvme_event.specs.Replies.{Reply}
 use Rattle.nvme_fleet.specs.Mailboxes.{FetchedItem, Item, LaneBox, Mailbox, PostedAnswer, new_mailbox}
-use Rattle.nvme_fleet.specs.Deliveries.{Reaction, brought_up, lane_at, placed, polled, refusal, reset, rung}
+use Rattle.nvme_fleet.specs.Deliveries.{MailboxReaction, brought_up, lane_at, placed, polled, refusal, reset, rung}
 use Rattle.nvme_fleet.specs.Executions.{Site}
 use Rattle.nvme_fleet.specs.Fleets.{Fleet, Host, Is, Moment, Raw, Step, WithDriver, ExecutesAt, ExecutesItem, called_at, fetched_at, host_at, host_cycled, power_cycled, marked, marked_from, new_host, opening, raw_at, replaced, settled, with_host}
 use Rattle.nvme_fleet.specs.Regular.{HoldsTaken, WasTaken}
@@ -129,7 +129,7 @@ settles f k left x m all is = hosts-marked left.world m 1 (replaced f.hosts k x)
 whole : (old new : Fleet) → new ≡ old → AllHold old → AllHold new
 whole old new e all = subst AllHold (sym e) all
 
-called : (o : Option Host) (f : Fleet) (k : ℕ) (call : Mailbox → Reaction) → ((m : Mailbox) → Takes m → Takes (call m).mailbox) → host_at f k ≡ o → AllHold f → AllHold (called_at o f k call).fleet
+called : (o : Option Host) (f : Fleet) (k : ℕ) (call : Mailbox → MailboxReaction) → ((m : Mailbox) → Takes m → Takes (call m).mailbox) → host_at f k ≡ o → AllHold f → AllHold (called_at o f k call).fleet
 called None f k call keeps at all = all
 called (Some (WithDriver m)) f k call keeps at all = put f k (WithDriver (call m).mailbox) all (keeps m (there f k (WithDriver m) at all))
 called (Some (Raw c)) f k call keeps at all = all

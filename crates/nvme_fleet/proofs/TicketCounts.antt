@@ -19,7 +19,7 @@ use Rattle.nvme_event.specs.declared.seen.FleetSeen.TheVariants as seen
 use Rattle.nvme_event.specs.Replies.{Reply}
 use Rattle.nvme_event.specs.Events.{concerns}
 use Rattle.nvme_fleet.specs.Mailboxes.{Item, FetchedItem, PostedAnswer, LaneBox, Mailbox, box_at, with_box, lane_of, new_mailbox}
-use Rattle.nvme_fleet.specs.Deliveries.{Reaction, reaction, plain, recounted, ring_lane, brought_up, refusal, new_item, with_placed, placed_by, rung, fetched_first, lane_at, fetched_of, handed_up, polled_io, polled_admin, polled_aborted, reset}
+use Rattle.nvme_fleet.specs.Deliveries.{MailboxReaction, mailbox_reaction, plain, recounted, ring_lane, brought_up, refusal, new_item, with_placed, placed_by, rung, fetched_first, lane_at, fetched_of, handed_up, polled_io, polled_admin, polled_aborted, reset}
 use Rattle.nvme_fleet.specs.Executions.{Site, Response}
 use Rattle.nvme_fleet.specs.Fleets.{WithDriver, Raw, Fleet, Run, host_at, after_answer, new_host, numbered, opening}
 use Rattle.nvme_fleet.proofs.MailboxMarks.{DiffersInMarks, differs, others-differ}
@@ -57,13 +57,13 @@ gives-on l m n xs ys a b =
       omega (arith, p, q),
     )
 
-abbrev GivesBy : Mailbox → Reaction → Type 0
+abbrev GivesBy : Mailbox → MailboxReaction → Type 0
 GivesBy m r = Gives m r.mailbox (given_in r.reply.seen)
 
 brought-up : (m : Mailbox) → GivesBy m (brought_up m)
 brought-up m = by m.up
   where
-    by : (b : Bool) → GivesBy m (if b then reaction m (seen.Up (Err AlreadyUp)) else reaction (record m { up = true; admin = recounted m.admin; io = recounted m.io }) (seen.Up (Ok tt)))
+    by : (b : Bool) → GivesBy m (if b then mailbox_reaction m (seen.Up (Err AlreadyUp)) else mailbox_reaction (record m { up = true; admin = recounted m.admin; io = recounted m.io }) (seen.Up (Ok tt)))
     by true = none m m refl
     by false = none m (record m { up = true; admin = recounted m.admin; io = recounted m.io }) refl
 
@@ -80,7 +80,7 @@ places None m request =
 rings : (m : Mailbox) → GivesBy m (rung m)
 rings m = by m.up
   where
-    by : (b : Bool) → GivesBy m (if b then reaction (record m { admin = ring_lane m.admin; io = ring_lane m.io }) (seen.Rung (Ok tt)) else reaction m (seen.Rung (Err (record {}))))
+    by : (b : Bool) → GivesBy m (if b then mailbox_reaction (record m { admin = ring_lane m.admin; io = ring_lane m.io }) (seen.Rung (Ok tt)) else mailbox_reaction m (seen.Rung (Err (record {}))))
     by true = none m (record m { admin = ring_lane m.admin; io = ring_lane m.io }) refl
     by false = none m m refl
 
@@ -104,7 +104,7 @@ admin-polled (first ∷ rest) m = none m (handed_up Admin first rest m).mailbox 
 polls : (ts : List ℕ) (m : Mailbox) → GivesBy m (polled_aborted ts m)
 polls [] m = by m.up
   where
-    by : (b : Bool) → GivesBy m (if b then polled_admin m.admin.posted m else reaction m (seen.Polled (Err poll_fault.NotUp)))
+    by : (b : Bool) → GivesBy m (if b then polled_admin m.admin.posted m else mailbox_reaction m (seen.Polled (Err poll_fault.NotUp)))
     by true = admin-polled m.admin.posted m
     by false = none m m refl
 polls (t ∷ ts) m = none m (record m { aborted = ts }) refl
@@ -119,7 +119,7 @@ marks-next m n (inr h) = ap (λ (x : Mailbox). x.next) h.1
 
 -- One event.
 
-by-call : (m n : Mailbox) (r : Reaction) (reply : Reply) → Becomes r reply n → GivesBy m r → Gives m n (given_in reply.seen)
+by-call : (m n : Mailbox) (r : MailboxReaction) (reply : Reply) → Becomes r reply n → GivesBy m r → Gives m n (given_in reply.seen)
 by-call m n r reply h g = subst (λ (x : Reply). Gives m n (given_in x.seen)) (sym h.0) (subst (λ x. Gives m x (given_in r.reply.seen)) (sym h.1) g)
 
 by-execution : (o : Option FetchedItem) (tells : Bool) (k : ℕ) (s left : Site) (m n : Mailbox) (i : ℕ) (reply : Reply) → ExecutesOwn o tells k s m i reply left n → Gives m n (given_in reply.seen)

@@ -11,7 +11,7 @@ use Rattle.nvme_driver.specs.declared.faults.PollFault.TheVariants as poll_fault
 use Rattle.nvme_driver.specs.Requests.{asked_of}
 use Rattle.nvme_event.specs.declared.seen.FleetSeen.TheVariants.{Up, Rung, Polled}
 use Rattle.nvme_fleet.specs.Mailboxes.{Item, FetchedItem, PostedAnswer, LaneBox, Mailbox, box_at, with_box, lane_of, tickets_in, ranked, rising, open_tickets, names, with_mark, with_marks}
-use Rattle.nvme_fleet.specs.Deliveries.{Reaction, reaction, recounted, ring_lane, brought_up, refusal, new_item, with_placed, placed_by, placed, rung, fetched_first, lane_at, fetched_of, fetched, handed_up, polled_io, polled_admin, polled_aborted, polled, reset}
+use Rattle.nvme_fleet.specs.Deliveries.{MailboxReaction, mailbox_reaction, recounted, ring_lane, brought_up, refusal, new_item, with_placed, placed_by, placed, rung, fetched_first, lane_at, fetched_of, fetched, handed_up, polled_io, polled_admin, polled_aborted, polled, reset}
 use Rattle.nvme_fleet.specs.Executions.{Response}
 use Rattle.nvme_fleet.specs.Fleets.{after_answer, with_posted, answer_for}
 use Rattle.nvme_fleet.specs.Views.{total}
@@ -116,13 +116,13 @@ marks_flow w m n (inr h) =
     subst (λ x. Flow w m x 0 0 0 0) (sym h.1) (stays w m (with_marks h.0 m) (omega (arith, e)) refl refl)
 
 -- Calls of the driver. An event's reaction flows by what it gives.
-abbrev pub FlowsBy : (ℕ → ℕ) → Mailbox → Reaction → Type 0
+abbrev pub FlowsBy : (ℕ → ℕ) → Mailbox → MailboxReaction → Type 0
 FlowsBy w m r = Flow w m r.mailbox (total w (given_in r.reply.seen)) 0 (total w (done_in r.reply.seen)) (total w (aborted_in r.reply.seen))
 
 pub brought-up : (w : ℕ → ℕ) (m : Mailbox) → FlowsBy w m (brought_up m)
 brought-up w m = by m.up
   where
-    by : (b : Bool) → FlowsBy w m (if b then reaction m (Up (Err AlreadyUp)) else reaction (record m { up = true; admin = recounted m.admin; io = recounted m.io }) (Up (Ok tt)))
+    by : (b : Bool) → FlowsBy w m (if b then mailbox_reaction m (Up (Err AlreadyUp)) else mailbox_reaction (record m { up = true; admin = recounted m.admin; io = recounted m.io }) (Up (Ok tt)))
     by true = stays w m m refl refl refl
     by false = stays w m (record m { up = true; admin = recounted m.admin; io = recounted m.io }) refl refl refl
 
@@ -142,7 +142,7 @@ placed-by w None m request = with-request w (asked_of request).command.lane (new
 pub rings : (w : ℕ → ℕ) (m : Mailbox) → FlowsBy w m (rung m)
 rings w m = by m.up
   where
-    by : (b : Bool) → FlowsBy w m (if b then reaction (record m { admin = ring_lane m.admin; io = ring_lane m.io }) (Rung (Ok tt)) else reaction m (Rung (Err (record {}))))
+    by : (b : Bool) → FlowsBy w m (if b then mailbox_reaction (record m { admin = ring_lane m.admin; io = ring_lane m.io }) (Rung (Ok tt)) else mailbox_reaction m (Rung (Err (record {}))))
     by true =
         let a = total-append (λ (i : Item). w i.ticket) m.admin.rung m.admin.placed in
         let b = total-append (λ (i : Item). w i.ticket) m.io.rung m.io.placed in
@@ -185,7 +185,7 @@ admin-polled w (first ∷ rest) m h = hands-up w Admin first rest m h
 polls : (w : ℕ → ℕ) (ts : List ℕ) (m : Mailbox) → m.aborted ≡ ts → FlowsBy w m (polled_aborted ts m)
 polls w [] m h = by m.up
   where
-    by : (b : Bool) → FlowsBy w m (if b then polled_admin m.admin.posted m else reaction m (Polled (Err poll_fault.NotUp)))
+    by : (b : Bool) → FlowsBy w m (if b then polled_admin m.admin.posted m else mailbox_reaction m (Polled (Err poll_fault.NotUp)))
     by true = admin-polled w m.admin.posted m refl
     by false = stays w m m refl refl refl
 polls w (t ∷ ts) m h =

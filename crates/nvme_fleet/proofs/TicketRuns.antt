@@ -9,7 +9,7 @@ use Rattle.nvme_event.specs.declared.seen.FleetSeen.TheVariants as seen
 use Rattle.nvme_event.specs.Replies.{Reply}
 use Rattle.nvme_event.specs.Events.{concerns}
 use Rattle.nvme_fleet.specs.Mailboxes.{FetchedItem, Mailbox}
-use Rattle.nvme_fleet.specs.Deliveries.{Reaction, plain, reset}
+use Rattle.nvme_fleet.specs.Deliveries.{MailboxReaction, plain, reset}
 use Rattle.nvme_fleet.specs.Executions.{Site}
 use Rattle.nvme_fleet.specs.Fleets.{Host, WithDriver, Fleet, Run, host_at, after_answer}
 use Rattle.nvme_fleet.specs.Views.{total}
@@ -37,7 +37,7 @@ none-posted : (what : FleetSeen) → where_posted what [] ≡ []
 none-posted (seen.Executed (Posted outcome)) = refl
 none-posted other = refl
 
-by-call : (w : ℕ → ℕ) (m n : Mailbox) (r : Reaction) (reply : Reply) → Becomes r reply n → FlowsBy w m r → FlowsIn w m n reply.seen []
+by-call : (w : ℕ → ℕ) (m n : Mailbox) (r : MailboxReaction) (reply : Reply) → Becomes r reply n → FlowsBy w m r → FlowsIn w m n reply.seen []
 by-call w m n r reply h f =
     let none = ap (total w) (none-posted r.reply.seen) in
     let g : FlowsIn w m r.mailbox r.reply.seen [] =

@@ -11,19 +11,19 @@ use Rattle.nvme_event.specs.declared.event.FleetEvent.TheVariants.{BringUp, Plac
 use Rattle.nvme_event.specs.declared.seen.FleetSeen.TheVariants as seen
 use Rattle.nvme_event.specs.Replies.{Reply}
 use Rattle.nvme_fleet.specs.Mailboxes.{Item, FetchedItem, PostedAnswer, Mailbox, box_at}
-use Rattle.nvme_fleet.specs.Deliveries.{Reaction, reaction, recounted, ring_lane, brought_up, refusal, placed_by, rung, fetched_first, lane_at, fetched_of, polled_io, polled_admin, polled_aborted}
+use Rattle.nvme_fleet.specs.Deliveries.{MailboxReaction, mailbox_reaction, recounted, ring_lane, brought_up, refusal, placed_by, rung, fetched_first, lane_at, fetched_of, polled_io, polled_admin, polled_aborted}
 use Rattle.nvme_fleet.specs.Executions.{Site}
 use Rattle.nvme_fleet.specs.Apart.{Becomes, ExecutesOwn, OwnStep, MailboxStep}
 use Rattle.nvme_fleet.specs.Unseen.{IsUnseen, UnseenNeverComes}
 use Rattle.nvme_fleet.proofs.Apart.{hosts_are_apart}
 
-abbrev Spares : Reaction → Type 0
+abbrev Spares : MailboxReaction → Type 0
 Spares r = IsUnseen r.reply.seen → ⊥
 
 brought-up : (m : Mailbox) → Spares (brought_up m)
 brought-up m = by m.up
   where
-    by : (b : Bool) → Spares (if b then reaction m (seen.Up (Err AlreadyUp)) else reaction (record m { up = true; admin = recounted m.admin; io = recounted m.io }) (seen.Up (Ok tt)))
+    by : (b : Bool) → Spares (if b then mailbox_reaction m (seen.Up (Err AlreadyUp)) else mailbox_reaction (record m { up = true; admin = recounted m.admin; io = recounted m.io }) (seen.Up (Ok tt)))
     by true u = u
     by false u = u
 
@@ -34,7 +34,7 @@ places None m request u = u
 rings : (m : Mailbox) → Spares (rung m)
 rings m = by m.up
   where
-    by : (b : Bool) → Spares (if b then reaction (record m { admin = ring_lane m.admin; io = ring_lane m.io }) (seen.Rung (Ok tt)) else reaction m (seen.Rung (Err (record {}))))
+    by : (b : Bool) → Spares (if b then mailbox_reaction (record m { admin = ring_lane m.admin; io = ring_lane m.io }) (seen.Rung (Ok tt)) else mailbox_reaction m (seen.Rung (Err (record {}))))
     by true u = u
     by false u = u
 
@@ -57,12 +57,12 @@ admin-polled (first ∷ rest) m u = u
 polls : (ts : List ℕ) (m : Mailbox) → Spares (polled_aborted ts m)
 polls [] m u = by m.up u
   where
-    by : (b : Bool) → Spares (if b then polled_admin m.admin.posted m else reaction m (seen.Polled (Err poll_fault.NotUp)))
+    by : (b : Bool) → Spares (if b then polled_admin m.admin.posted m else mailbox_reaction m (seen.Polled (Err poll_fault.NotUp)))
     by true u = admin-polled m.admin.posted m u
     by false u = u
 polls (t ∷ ts) m u = u
 
-by-call : (r : Reaction) (reply : Reply) (n : Mailbox) → Becomes r reply n → Spares r → IsUnseen reply.seen → ⊥
+by-call : (r : MailboxReaction) (reply : Reply) (n : Mailbox) → Becomes r reply n → Spares r → IsUnseen reply.seen → ⊥
 by-call r reply n h spares u = spares (subst (λ (x : Reply). IsUnseen x.seen) h.0 u)
 
 by-execution : (o : Option FetchedItem) (tells : Bool) (k : ℕ) (s left : Site) (m n : Mailbox) (i : ℕ) (reply : Reply) → ExecutesOwn o tells k s m i reply left n → IsUnseen reply.seen → ⊥

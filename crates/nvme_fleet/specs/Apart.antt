@@ -13,7 +13,7 @@ use Rattle.nvme_event.specs.declared.seen.FleetSeen.TheVariants.{Executed as Exe
 use Rattle.nvme_event.specs.Events.{concerns}
 use Rattle.nvme_event.specs.Replies.{Reply}
 use Rattle.nvme_fleet.specs.Mailboxes.{FetchedItem, Mailbox, with_marks}
-use Rattle.nvme_fleet.specs.Deliveries.{plain, Reaction, brought_up, placed, rung, fetched, polled, reset}
+use Rattle.nvme_fleet.specs.Deliveries.{plain, MailboxReaction, brought_up, placed, rung, fetched, polled, reset}
 use Rattle.nvme_fleet.specs.Executions.{Site, Response, Answers}
 use Rattle.nvme_fleet.specs.Fleets.{WithDriver, Fleet, Step, host_at, after_answer, marks_in}
 
@@ -31,7 +31,7 @@ marks_seen other = no_marks
 abbrev pub marked_by : Marks → World → ℕ → Mailbox → Mailbox
 marked_by marks w k m = if is_host_among marks.hosts.items (host_of w k) then with_marks marks.nsid m else m
 
-abbrev pub Becomes : Reaction → Reply → Mailbox → Type 0
+abbrev pub Becomes : MailboxReaction → Reply → Mailbox → Type 0
 Becomes r reply n = (reply ≡ r.reply) × (n ≡ r.mailbox)
 
 -- the i-th fetched request is executed in this site, which leaves that one

@@ -20,21 +20,21 @@ abbrev pub plain : FleetSeen → Reply
 plain what = record { seen = what; bytes = [] }
 
 -- A mailbox after an event, and what the event gave.
-pub record Reaction : Type 0 where
+pub record MailboxReaction : Type 0 where
   pub mailbox : Mailbox
   pub reply : Reply
 
-abbrev pub reaction : Mailbox → FleetSeen → Reaction
-reaction m what = record { mailbox = m; reply = plain what }
+abbrev pub mailbox_reaction : Mailbox → FleetSeen → MailboxReaction
+mailbox_reaction m what = record { mailbox = m; reply = plain what }
 
 -- The driver brings its controller up: that fails only where it is up already.
 abbrev pub recounted : LaneBox → LaneBox
 recounted b = record b { unheard = 0; since = 0 }
 
-abbrev pub brought_up : Mailbox → Reaction
+abbrev pub brought_up : Mailbox → MailboxReaction
 brought_up m =
-    if m.up then reaction m (Up (Err AlreadyUp))
-    else reaction (record m { up = true; admin = recounted m.admin; io = recounted m.io }) (Up (Ok tt))
+    if m.up then mailbox_reaction m (Up (Err AlreadyUp))
+    else mailbox_reaction (record m { up = true; admin = recounted m.admin; io = recounted m.io }) (Up (Ok tt))
 
 -- A request is placed: the last of its lane, with the next ticket.
 
@@ -66,30 +66,30 @@ with_request m request =
     let lane = (asked_of request).command.lane in
     with_box lane (with_placed (box_at lane m) (new_item m request)) (record m { next = m.next + 1 })
 
-abbrev pub placed_by : Option PlaceRefusal → Mailbox → Request → Reaction
-placed_by (Some why) m request = reaction m (Placed (Err why))
-placed_by None m request = reaction (with_request m request) (Placed (Ok (record { 0 = m.next })))
+abbrev pub placed_by : Option PlaceRefusal → Mailbox → Request → MailboxReaction
+placed_by (Some why) m request = mailbox_reaction m (Placed (Err why))
+placed_by None m request = mailbox_reaction (with_request m request) (Placed (Ok (record { 0 = m.next })))
 
-abbrev pub placed : Mailbox → Request → Reaction
+abbrev pub placed : Mailbox → Request → MailboxReaction
 placed m request = placed_by (refusal m request) m request
 
 -- The controller is told: what was placed stands behind what was rung, in both lanes.
 abbrev pub ring_lane : LaneBox → LaneBox
 ring_lane b = record b { rung = b.rung ++ b.placed; placed = [] }
 
-abbrev pub rung : Mailbox → Reaction
+abbrev pub rung : Mailbox → MailboxReaction
 rung m =
-    if m.up then reaction (record m { admin = ring_lane m.admin; io = ring_lane m.io }) (Rung (Ok tt))
-    else reaction m (Rung (Err (record {})))
+    if m.up then mailbox_reaction (record m { admin = ring_lane m.admin; io = ring_lane m.io }) (Rung (Ok tt))
+    else mailbox_reaction m (Rung (Err (record {})))
 
 -- The controller fetches the first request that was rung in a lane, where there is one.
 abbrev pub with_rest : LaneBox → List Item → LaneBox
 with_rest b rest = record b { rung = rest; since = b.since + 1 }
 
-abbrev pub fetched_first : Lane → List Item → Mailbox → Reaction
-fetched_first lane [] m = reaction m (Fetched Idle)
+abbrev pub fetched_first : Lane → List Item → Mailbox → MailboxReaction
+fetched_first lane [] m = mailbox_reaction m (Fetched Idle)
 fetched_first lane (first ∷ rest) m =
-    reaction
+    mailbox_reaction
     (with_box lane (with_rest (box_at lane m) rest)
     (record m { fetched = m.fetched ++ record { item = first; marked = false } ∷ [] }))
     (Fetched Took)
@@ -98,11 +98,11 @@ fetched_first lane (first ∷ rest) m =
 abbrev pub lane_at : ℕ → Option Lane
 lane_at q = if q == 0 then Some Admin else (if q == 1 then Some Io else None)
 
-abbrev pub fetched_of : Option Lane → Mailbox → Reaction
-fetched_of None m = reaction m (Fetched Idle)
+abbrev pub fetched_of : Option Lane → Mailbox → MailboxReaction
+fetched_of None m = mailbox_reaction m (Fetched Idle)
 fetched_of (Some lane) m = fetched_first lane (box_at lane m).rung m
 
-abbrev pub fetched : ℕ → Mailbox → Reaction
+abbrev pub fetched : ℕ → Mailbox → MailboxReaction
 fetched q m = fetched_of (lane_at q) m
 
 -- The driver hands up the first aborted request; else, where it is up, the first answer of the admin lane, and then of
@@ -116,32 +116,32 @@ answer_reply a = record {
   bytes = a.bytes;
 }
 
-abbrev pub handed_up : Lane → PostedAnswer → List PostedAnswer → Mailbox → Reaction
+abbrev pub handed_up : Lane → PostedAnswer → List PostedAnswer → Mailbox → MailboxReaction
 handed_up lane first rest m =
     record { mailbox = with_box lane (without_first (box_at lane m) first rest) m; reply = answer_reply first }
 
-abbrev pub polled_io : List PostedAnswer → Mailbox → Reaction
-polled_io [] m = reaction m (Polled (Ok None))
+abbrev pub polled_io : List PostedAnswer → Mailbox → MailboxReaction
+polled_io [] m = mailbox_reaction m (Polled (Ok None))
 polled_io (first ∷ rest) m = handed_up Io first rest m
 
-abbrev pub polled_admin : List PostedAnswer → Mailbox → Reaction
+abbrev pub polled_admin : List PostedAnswer → Mailbox → MailboxReaction
 polled_admin [] m = polled_io m.io.posted m
 polled_admin (first ∷ rest) m = handed_up Admin first rest m
 
-abbrev pub polled_aborted : List ℕ → Mailbox → Reaction
+abbrev pub polled_aborted : List ℕ → Mailbox → MailboxReaction
 polled_aborted [] m =
-    if m.up then polled_admin m.admin.posted m else reaction m (Polled (Err poll_fault.NotUp))
+    if m.up then polled_admin m.admin.posted m else mailbox_reaction m (Polled (Err poll_fault.NotUp))
 polled_aborted (first ∷ rest) m =
-    reaction (record m { aborted = rest }) (Polled (Ok (Some (Aborted (record { 0 = first })))))
+    mailbox_reaction (record m { aborted = rest }) (Polled (Ok (Some (Aborted (record { 0 = first })))))
 
-abbrev pub polled : Mailbox → Reaction
+abbrev pub polled : Mailbox → MailboxReaction
 polled m = polled_aborted m.aborted m
 
 -- The driver resets its controller: all that was not handed up is aborted, in the order of the tickets, behind what was
 -- aborted before.
-abbrev pub reset : Mailbox → Reaction
+abbrev pub reset : Mailbox → MailboxReaction
 reset m =
-    reaction
+    mailbox_reaction
     (record {
       up = false;
       next = m.next;

@@ -16,7 +16,7 @@ use Rattle.nvme_fleet.specs.declared.delivery.DriverCall.{DriverCall}
 use Rattle.nvme_fleet.specs.declared.delivery.DriverCall.TheVariants.{BringUp, Place, Ring, Poll, Reset}
 use Rattle.nvme_fleet.specs.Mailboxes.{Mailbox}
 use Rattle.nvme_fleet.specs.Deliveries as mail
-use Rattle.nvme_fleet.specs.Deliveries.{Reaction, plain}
+use Rattle.nvme_fleet.specs.Deliveries.{MailboxReaction, plain}
 use Rattle.nvme_fleet.specs.Fleets.{Host, WithDriver, Raw, Fleet}
 use Rattle.nvme_fleet.specs.Sound.{Sound, mailbox}
 use Rattle.nvme_fleet.specs.Steps.{IsStep}
@@ -72,7 +72,7 @@ abbrev pub reply_in : FleetSeen → List ℕ → Reply
 reply_in what buffer = record { seen = what; bytes = take (data_len what) buffer }
 
 -- what a call of a driver makes of its mailbox
-abbrev pub reaction_to : DriverCall → Mailbox → Reaction
+abbrev pub reaction_to : DriverCall → Mailbox → MailboxReaction
 reaction_to BringUp m = mail.brought_up m
 reaction_to (Place request) m = mail.placed m request
 reaction_to Ring m = mail.rung m

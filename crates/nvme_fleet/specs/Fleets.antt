@@ -22,7 +22,7 @@ use Rattle.nvme_event.specs.declared.seen.FleetSeen.{FleetSeen}
 use Rattle.nvme_event.specs.declared.seen.FleetSeen.TheVariants.{Fetched as FetchedSeen, Executed as ExecutedSeen, Stored, Outside, Wrote, Cycled, NoController, NoDriver, NotRaw}
 use Rattle.nvme_event.specs.Replies.{Reply}
 use Rattle.nvme_fleet.specs.Mailboxes.{FetchedItem, PostedAnswer, LaneBox, Mailbox, new_mailbox, box_at, with_box, lane_of, with_marks}
-use Rattle.nvme_fleet.specs.Deliveries.{plain, Reaction, brought_up, placed, rung, fetched, polled, reset}
+use Rattle.nvme_fleet.specs.Deliveries.{plain, MailboxReaction, brought_up, placed, rung, fetched, polled, reset}
 use Rattle.nvme_fleet.specs.Executions.{Site, Response, Answers}
 
 -- A host with a driver, or a raw one.
@@ -69,15 +69,15 @@ abbrev pub moment : Fleet → FleetSeen → Moment
 moment f what = record { fleet = f; reply = plain what }
 
 -- A call of a driver.
-abbrev pub delivered : Fleet → ℕ → Reaction → Moment
+abbrev pub delivered : Fleet → ℕ → MailboxReaction → Moment
 delivered f k r = record { fleet = with_host f k (WithDriver r.mailbox); reply = r.reply }
 
-abbrev pub called_at : Option Host → Fleet → ℕ → (Mailbox → Reaction) → Moment
+abbrev pub called_at : Option Host → Fleet → ℕ → (Mailbox → MailboxReaction) → Moment
 called_at None f k call = moment f NoController
 called_at (Some (WithDriver m)) f k call = delivered f k (call m)
 called_at (Some (Raw c)) f k call = moment f NoDriver
 
-abbrev pub called : Fleet → ℕ → (Mailbox → Reaction) → Moment
+abbrev pub called : Fleet → ℕ → (Mailbox → MailboxReaction) → Moment
 called f k call = called_at (host_at f k) f k call
 
 -- An event of a raw host.

@@ -53,7 +53,7 @@ after_calls [] c = c
 after_calls (call ∷ calls) c = after_calls calls (after_call call c)
 
 -- The driver and its controller are sound then, and are the mailbox of a reaction; the event gives this.
-pub record IsStep (r : mail.Reaction) (d : driver.Driver) (c : Controller) (reply : Reply) : Type 0 where
+pub record IsStep (r : mail.MailboxReaction) (d : driver.Driver) (c : Controller) (reply : Reply) : Type 0 where
   pub sound : Sound d c
   pub mail : r.mailbox ≡ mailbox d c
   pub gives : r.reply ≡ reply

@@ -8,7 +8,7 @@ use Rattle.nvme_event.specs.declared.event.FleetEvent.{FleetEvent}
 use Rattle.nvme_event.specs.declared.event.FleetEvent.TheVariants.{BringUp, Place, Ring, Fetch, Execute, Poll, Reset, RawStore, RawWrite32, PowerCycle}
 use Rattle.nvme_event.specs.Replies.{Reply}
 use Rattle.nvme_fleet.specs.Mailboxes.{Mailbox}
-use Rattle.nvme_fleet.specs.Deliveries.{Reaction, placed, placed_by, refusal}
+use Rattle.nvme_fleet.specs.Deliveries.{MailboxReaction, placed, placed_by, refusal}
 use Rattle.nvme_fleet.specs.Fleets.{Host, WithDriver, Raw, Fleet, Moment, Is, Step, called_at, host_at}
 use Rattle.nvme_spec.specs.MediumCalls.{MediumCall}
 use Rattle.nvme_driver.specs.Drivers.{Driver, lane_of}
@@ -56,7 +56,7 @@ placed-by_value m (request.Detach nsid list) = by (refusal m (request.Detach nsi
     by None = refl
     by (Some why) = refl
 
-called-same : (h : Option Host) (f : Fleet) (k : ℕ) (a b : Mailbox → Reaction) → ((m : Mailbox) → a m ≡ b m) → called_at h f k a ≡ called_at h f k b
+called-same : (h : Option Host) (f : Fleet) (k : ℕ) (a b : Mailbox → MailboxReaction) → ((m : Mailbox) → a m ≡ b m) → called_at h f k a ≡ called_at h f k b
 called-same None f k a b same = refl
 called-same (Some (WithDriver m)) f k a b same = rw (same m) refl
 called-same (Some (Raw c)) f k a b same = refl
