@@ -16,7 +16,7 @@ use Rattle.nvme_spec.specs.declared.verdict.Denial.{Denial}
 use Rattle.nvme_spec.specs.AdminCommands.{command_of, data_length, data_length_of, sel, fid, write_protection, names_feature}
 use Rattle.nvme_spec.specs.AdminEffects.{double_word_0, data_out, world_after, world_of, performance, execution_by, admin_execution, identify_data}
 use Rattle.nvme_spec.specs.AdminRules.{admin_access_rules, list_count, listed_controllers, attachment_outcome, list_rule, data_of, admin_judgement}
-use Rattle.nvme_spec.specs.Attachments.{Outcome, list_tests, attach, detach}
+use Rattle.nvme_spec.specs.Attachments.{AttachmentOutcome, list_tests, attach, detach}
 use Rattle.nvme_spec.specs.DataRules.{data_in, data_addresses, pointer_rule}
 use Rattle.nvme_spec.proofs.Judgements.{first_failing-append}
 use Rattle.nvme_spec.proofs.PagesJoined.{range-split}
@@ -171,7 +171,7 @@ got w cntlid window memory e places a dw0 o h p is d m done =
     performed w w cntlid window memory e places a GetFeatures dw0 o h p is d refl m done
 
 -- Namespace Attachment
-world-by : (w new : World) (o p : Outcome) → o ≡ p → p ≡ Ok new → new ≡ world_of w o
+world-by : (w new : World) (o p : AttachmentOutcome) → o ≡ p → p ≡ Ok new → new ≡ world_of w o
 world-by w new o p is h = rw (is, h) refl
 
 pub attached : (w new : World) (cntlid : ℕ) (window e places : List ℕ) (a : Admitted) (o : AdminOutcome) → IsAdmitted w e a → HasPlaces window e a places
@@ -184,10 +184,10 @@ attached w new cntlid window e places a o h p is n done =
     (unscattered window places) done
 
 -- what the rule on the list answers
-abbrev list_judgement : Outcome → Judgement
+abbrev list_judgement : AttachmentOutcome → Judgement
 list_judgement r = judgement_by (record { number = 11; tests = refusal_tests r })
 
-on-list : (w : World) (window e places : List ℕ) (a : Admitted) (r : Outcome) → IsAdmitted w e a → HasPlaces window e a places
+on-list : (w : World) (window e places : List ℕ) (a : Admitted) (r : AttachmentOutcome) → IsAdmitted w e a → HasPlaces window e a places
     → a.command ≡ NamespaceAttachment → attachment_outcome w e (gathered_bytes window places) ≡ r
     → judgement_by (list_rule (Some a.command) w e (data_of window e)) ≡ list_judgement r
 unfolding list_rule

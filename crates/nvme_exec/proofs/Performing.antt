@@ -59,7 +59,7 @@ no-marks ReservationRegister e h = absurd (h refl)
 no-marks ReservationAcquire e h = absurd (h refl)
 no-marks ReservationRelease e h = absurd (h refl)
 
-unmarked : (command : Command) (e : List ℕ) (outcome : Option resv.Outcome) → (kind_of command ≡ OnReservation → ⊥) → no_marks ≡ marks_of command e outcome
+unmarked : (command : Command) (e : List ℕ) (outcome : Option resv.ActionOutcome) → (kind_of command ≡ OnReservation → ⊥) → no_marks ≡ marks_of command e outcome
 unmarked command e outcome h = sym (rw (no-marks command e h) refl)
 
 -- a command is answered so
@@ -165,12 +165,12 @@ report-done tells w cntlid n window new e a device outcome h k n-is stored size 
     bytes-of : (a : Admission) (e : List ℕ) → a.plan ≡ plan_of a.plan.kind e → a.plan.bytes ≡ data_length a.plan.kind e
     bytes-of a e planned = ap (λ (p : Plan). p.bytes) planned
 
-unrefused-by : (o : Option resv.Outcome) (removed : List ℕ) → Removes o removed → IsUnrefused o
+unrefused-by : (o : Option resv.ActionOutcome) (removed : List ℕ) → Removes o removed → IsUnrefused o
 unrefused-by None removed r = tt
 unrefused-by (Some (Ok t)) removed r = refl
 unrefused-by (Some (Err why)) removed r = absurd r
 
-removed-is : (o : Option resv.Outcome) (removed : List ℕ) → Removes o removed → removed ≡ removed_by o
+removed-is : (o : Option resv.ActionOutcome) (removed : List ℕ) → Removes o removed → removed ≡ removed_by o
 removed-is None removed r = absurd r
 removed-is (Some (Ok t)) removed r = r
 removed-is (Some (Err why)) removed r = absurd r

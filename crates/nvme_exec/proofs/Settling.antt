@@ -13,7 +13,7 @@ use Rattle.nvme_resv.specs.declared.change.Change.{Change}
 use Rattle.nvme_resv.specs.Answers.{HasRoomFor}
 use Rattle.nvme_exec.specs.Carrying.{FollowsSome, Settles, Removes}
 
-settles : (outcome : Option resv.Outcome) (w : World) (n : ℕ) (space : Namespace) (result : Result Change Status) (next : resv.Reservation) → namespace_of w n ≡ Some space
+settles : (outcome : Option resv.ActionOutcome) (w : World) (n : ℕ) (space : Namespace) (result : Result Change Status) (next : resv.Reservation) → namespace_of w n ≡ Some space
     → FollowsSome outcome space.reservation result next → Settles outcome n w result (with_reservation w n next)
 settles None w n space result next found a = absurd a
 settles (Some (Ok new)) w n space result next found a = (a.0, ap (with_reservation w n) a.1)
@@ -50,29 +50,29 @@ room-for w cntlid host n r named configured few rising known = room-at w cntlid 
 
 -- what was removed, why it was refused, and what is left of the world
 
-removed-by : (outcome : Option resv.Outcome) (n : ℕ) (w new : World) (change : Change) → Settles outcome n w (Ok change) new → Removes outcome change.removed.items
+removed-by : (outcome : Option resv.ActionOutcome) (n : ℕ) (w new : World) (change : Change) → Settles outcome n w (Ok change) new → Removes outcome change.removed.items
 removed-by None n w new change s = s
 removed-by (Some (Ok t)) n w new change s =
     let same : change ≡ record { removed = record { items = t.removed } } = cc (s.0) in ap (λ (c : Change). c.removed.items) same
 removed-by (Some (Err why)) n w new change s = absurd (cc (s.0))
 
-pub removed : (outcome other : Option resv.Outcome) (n : ℕ) (w new : World) (result : Result Change Status) (change : Change) → outcome ≡ other → result ≡ Ok change
+pub removed : (outcome other : Option resv.ActionOutcome) (n : ℕ) (w new : World) (result : Result Change Status) (change : Change) → outcome ≡ other → result ≡ Ok change
     → Settles other n w result new → Removes outcome change.removed.items
 removed outcome other n w new result change is done s = rw is (removed-by other n w new change (rw done at s))
 
-refused-by : (outcome : Option resv.Outcome) (n : ℕ) (w new : World) (why : Status) → Settles outcome n w (Err why) new → outcome ≡ Some (Err why)
+refused-by : (outcome : Option resv.ActionOutcome) (n : ℕ) (w new : World) (why : Status) → Settles outcome n w (Err why) new → outcome ≡ Some (Err why)
 refused-by None n w new why s = absurd s
 refused-by (Some (Ok t)) n w new why s = absurd (cc (s.0))
 refused-by (Some (Err reason)) n w new why s = let same : why ≡ reason = cc (s.0) in rw same refl
 
-pub refused : (outcome other : Option resv.Outcome) (n : ℕ) (w new : World) (result : Result Change Status) (why : Status) → outcome ≡ other → result ≡ Err why
+pub refused : (outcome other : Option resv.ActionOutcome) (n : ℕ) (w new : World) (result : Result Change Status) (why : Status) → outcome ≡ other → result ≡ Err why
     → Settles other n w result new → outcome ≡ Some (Err why)
 refused outcome other n w new result why is done s = is ∙ refused-by other n w new why (rw done at s)
 
-left-by : (outcome : Option resv.Outcome) (n : ℕ) (w new : World) (result : Result Change Status) → Settles outcome n w result new → new ≡ world_after w n outcome
+left-by : (outcome : Option resv.ActionOutcome) (n : ℕ) (w new : World) (result : Result Change Status) → Settles outcome n w result new → new ≡ world_after w n outcome
 left-by None n w new result s = absurd s
 left-by (Some (Ok t)) n w new result s = s.1
 left-by (Some (Err why)) n w new result s = s.1
 
-pub left : (outcome other : Option resv.Outcome) (n : ℕ) (w new : World) (result : Result Change Status) → outcome ≡ other → Settles other n w result new → new ≡ world_after w n outcome
+pub left : (outcome other : Option resv.ActionOutcome) (n : ℕ) (w new : World) (result : Result Change Status) → outcome ≡ other → Settles other n w result new → new ≡ world_after w n outcome
 left outcome other n w new result is s = rw is (left-by other n w new result s)

@@ -21,11 +21,11 @@ use Rattle.nvme_spec.proofs.Judgements.{first_failing-append}
 use Rattle.nvme_exec.specs.Carrying.{IsUnrefused}
 
 -- the rules on the data
-abbrev data_rules : ℕ → Option resv.Outcome → List ℕ → List ℕ → List Rule
+abbrev data_rules : ℕ → Option resv.ActionOutcome → List ℕ → List ℕ → List Rule
 data_rules bytes outcome window e = pointer_rule bytes window e ∷ action_rule outcome ∷ []
 
 -- what a command makes of its reservation
-abbrev outcome_now : Option Command → World → ℕ → List ℕ → List ℕ → Option resv.Outcome
+abbrev outcome_now : Option Command → World → ℕ → List ℕ → List ℕ → Option resv.ActionOutcome
 outcome_now command w cntlid window e = outcome_in command (namespace_of w (nsid e)) (host_of w cntlid) e (data_of window e)
 
 judged : (w : World) (cntlid : ℕ) (e : List ℕ) (marked : Bool) (window : List ℕ)
@@ -85,7 +85,7 @@ decided w cntlid e marked window plan h =
     ∙ ap (λ j. conclusion (else_by j (first_failing (data_rules (data_length_of (command_of (opcode e)) e) outcome window e))) (command_of (opcode e)) e) p.passed
     ∙ ap (λ c. conclusion (first_failing (data_rules (data_length_of c e) outcome window e)) c e) p.named
 
-pointer-fails : (bytes : ℕ) (command : Command) (outcome : Option resv.Outcome) (window e : List ℕ) (d : Denial) → judgement_by (pointer_rule bytes window e) ≡ Err d
+pointer-fails : (bytes : ℕ) (command : Command) (outcome : Option resv.ActionOutcome) (window e : List ℕ) (d : Denial) → judgement_by (pointer_rule bytes window e) ≡ Err d
     → conclusion (first_failing (data_rules bytes outcome window e)) (Some command) e ≡ Denied d.rule d.status
 pointer-fails bytes command outcome window e d h =
     ap (λ j. conclusion (else_by j (first_failing (action_rule outcome ∷ []))) (Some command) e) h
@@ -97,14 +97,14 @@ pointer-denied w cntlid e marked window plan d h f =
     let bytes : plan.bytes ≡ data_length plan.kind e = ap (λ (p : Plan). p.bytes) (planned-by w cntlid e marked plan h).plan_is in
     decided w cntlid e marked window plan h ∙ pointer-fails (data_length plan.kind e) plan.kind _ window e d (rw bytes at f)
 
-data-sound : (bytes : ℕ) (command : Command) (window e : List ℕ) (now outcome : Option resv.Outcome) → data_fault bytes window e ≡ None → now ≡ outcome
+data-sound : (bytes : ℕ) (command : Command) (window e : List ℕ) (now outcome : Option resv.ActionOutcome) → data_fault bytes window e ≡ None → now ≡ outcome
     → conclusion (first_failing (data_rules bytes now window e)) (Some command) e ≡ conclusion (else_by (denial_by 11 (first_failure (outcome_tests outcome))) (Ok tt)) (Some command) e
 unfolding judgement_by pointer_rule action_rule
 data-sound bytes command window e now outcome h o =
     ap (λ f. conclusion (else_by (denial_by 10 (first_failure (fault_tests f))) (first_failing (action_rule now ∷ []))) (Some command) e) h
     ∙ ap (λ r. conclusion (else_by (denial_by 11 (first_failure (outcome_tests r))) (Ok tt)) (Some command) e) o
 
-sound-by : (w : World) (cntlid : ℕ) (e : List ℕ) (marked : Bool) (window : List ℕ) (plan : Plan) (outcome : Option resv.Outcome) → verdict w cntlid e marked ≡ Allowed plan
+sound-by : (w : World) (cntlid : ℕ) (e : List ℕ) (marked : Bool) (window : List ℕ) (plan : Plan) (outcome : Option resv.ActionOutcome) → verdict w cntlid e marked ≡ Allowed plan
     → data_fault (data_length plan.kind e) window e ≡ None → reservation_outcome w cntlid e (data_of window e) ≡ outcome
     → io_verdict w cntlid e marked window ≡ conclusion (else_by (denial_by 11 (first_failure (outcome_tests outcome))) (Ok tt)) (Some plan.kind) e
 unfolding reservation_outcome
@@ -117,7 +117,7 @@ pub action-denied : (w : World) (cntlid : ℕ) (e : List ℕ) (marked : Bool) (w
     → io_verdict w cntlid e marked window ≡ Denied 11 refusal
 action-denied w cntlid e marked window plan refusal h f o = sound-by w cntlid e marked window plan (Some (Err refusal)) h f o
 
-passes : (plan : Plan) (e : List ℕ) (outcome : Option resv.Outcome) → IsUnrefused outcome
+passes : (plan : Plan) (e : List ℕ) (outcome : Option resv.ActionOutcome) → IsUnrefused outcome
     → conclusion (else_by (denial_by 11 (first_failure (outcome_tests outcome))) (Ok tt)) (Some plan.kind) e ≡ Allowed (plan_of plan.kind e)
 passes plan e None h = refl
 passes plan e (Some (Ok t)) h = refl

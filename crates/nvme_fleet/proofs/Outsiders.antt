@@ -18,7 +18,7 @@ use Rattle.nvme_spec.specs.IoData.{current_key, other_key, key_outcome, action_o
 use Rattle.nvme_spec.specs.IoRules.{permits_group}
 use Rattle.nvme_spec.specs.Layout.{reservation_of}
 use Rattle.nvme_spec.specs.Reservation as resv
-use Rattle.nvme_spec.specs.Reservation.{Reservation, Outcome, is_registered, is_registered_with, is_key_in_use, is_holders_key, is_holder, is_of_type, is_of_all, is_free, with_key, removed_hosts}
+use Rattle.nvme_spec.specs.Reservation.{Reservation, ActionOutcome, is_registered, is_registered_with, is_key_in_use, is_holders_key, is_holder, is_of_type, is_of_all, is_free, with_key, removed_hosts}
 use Rattle.nvme_spec.specs.ReservationLaws.{Keeps}
 use Rattle.nvme_spec.specs.World.{World, Namespace, namespace_of, with_namespace, with_reservation}
 use Rattle.nvme_spec.proofs.Hosts.{persisting-keeps}
@@ -74,12 +74,12 @@ removed-out (x ∷ xs) after host h = by (is_registered after x.host) refl (remo
 
 -- Actions.
 
-either : (Q : Outcome → Type 0) (b : Bool) (x y : Outcome) → Q x → Q y → Q (if b then x else y)
+either : (Q : ActionOutcome → Type 0) (b : Bool) (x y : ActionOutcome) → Q x → Q y → Q (if b then x else y)
 either Q true x y h k = h
 either Q false x y h k = k
 
 -- what an action makes of those without a key
-abbrev pub KeepsOut : ℕ → Outcome → Type 0
+abbrev pub KeepsOut : ℕ → ActionOutcome → Type 0
 KeepsOut host o = Keeps o (IsOut host)
 
 register-out : (r : Reservation) (by key host : ℕ) → by ≢ host → IsOut host r → KeepsOut host (resv.register r by key)
@@ -114,7 +114,7 @@ clear-out : (r : Reservation) (by key host : ℕ) → KeepsOut host (resv.clear 
 clear-out r by key host = either (KeepsOut host) (is_registered_with r.registrants by key) _ _ refl tt
 
 -- the same, where a command acts on a reservation at all
-abbrev pub IfActs : (Outcome → Type 0) → Option Outcome → Type 0
+abbrev pub IfActs : (ActionOutcome → Type 0) → Option ActionOutcome → Type 0
 IfActs Q None = Unit {0}
 IfActs Q (Some o) = Q o
 
@@ -147,7 +147,7 @@ outcome-out (Some command) (Some m) (Some by) e keys host other h =
     command-out command m.reservation by e keys host (λ is same. other (ap Some is) (ap Some same)) (h m refl)
 
 -- A preempt removes, and those it removed have no key.
-abbrev pub Removes : ℕ → Outcome → Type 0
+abbrev pub Removes : ℕ → ActionOutcome → Type 0
 Removes host (Err why) = Unit {0}
 Removes host (Ok t) = list_any (λ h. h == host) t.removed ≡ true → IsOut host t.next
 
@@ -187,7 +187,7 @@ reserved-in next n (m ∷ ms) r h = by (m.nsid == n) refl (reserved-in next n ms
     by false e again k = again (subst (λ b. found (cond b (Some m) (find (λ m. m.nsid == n) behind)) ≡ Some r) e k)
 
 -- where a command on the namespace has removed the host, it has no key
-pub removed-world : (w : World) (a n host : ℕ) (o : Option Outcome) → a ≡ n → IfActs (Removes host) o → list_any (λ h. h == host) (removed_by o) ≡ true
+pub removed-world : (w : World) (a n host : ℕ) (o : Option ActionOutcome) → a ≡ n → IfActs (Removes host) o → list_any (λ h. h == host) (removed_by o) ≡ true
     → IsOutside (world_after w a o) n host
 unfolding reservation_of namespace_of
 removed-world w a n host None same h gone = absurd (cc)
@@ -197,7 +197,7 @@ removed-world w a n host (Some (Ok t)) same h gone = λ r at.
     ap (λ x. is_registered x.registrants host) is ∙ h gone
 
 -- what a command on namespace a makes of those without a key for namespace n
-pub world-out : (w : World) (a n host : ℕ) (o : Option Outcome) → IsOutside w n host → (a ≡ n → IfActs (KeepsOut host) o) → IsOutside (world_after w a o) n host
+pub world-out : (w : World) (a n host : ℕ) (o : Option ActionOutcome) → IsOutside w n host → (a ≡ n → IfActs (KeepsOut host) o) → IsOutside (world_after w a o) n host
 unfolding reservation_of namespace_of
 world-out w a n host None h k = h
 world-out w a n host (Some (Err why)) h k = h

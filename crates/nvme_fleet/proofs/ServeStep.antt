@@ -124,7 +124,7 @@ returns tells io.ReservationReport k x keys old new answer returned p h =
     record { few = omega (arith, e); done = λ t. e }
 
 -- the marks are the same
-marks-same : (command : Command) (x y : List ℕ) (o q : Option resv.Outcome) → SameFields x y → o ≡ q → marks_of command x o ≡ marks_of command y q
+marks-same : (command : Command) (x y : List ℕ) (o q : Option resv.ActionOutcome) → SameFields x y → o ≡ q → marks_of command x o ≡ marks_of command y q
 marks-same command x y o q f e =
     ap (marks_of command x) e
     ∙ sym (λ i. if is_one_of (Some command) (io.ReservationAcquire ∷ []) && action-same x y f i == 2 then marks_on (f.nsid i) (removed_by q) else no_marks)

@@ -74,7 +74,7 @@ bytes_with why returned = if is_success why then returned else []
 -- Of the I/O lane.
 
 -- what the command makes of the reservation of its namespace, if it acts on one
-abbrev pub action_of : World → ℕ → Asked → Option resv.Outcome
+abbrev pub action_of : World → ℕ → Asked → Option resv.ActionOutcome
 action_of w cntlid a = reservation_outcome w cntlid (command_entry a) a.sent
 
 unfoldable pub io_judgement : World → ℕ → Asked → Bool → Judgement

@@ -1,11 +1,11 @@
 -- What an action answers.
 use Rattle.std.specs.Prelude.{◌≡◌, ℕ, ◌<◌, ◌⊎◌, length, IsTrue, Result, Ok, Err}
 use Rattle.nvme_wire.specs.declared.status.Status.{Status}
-use Rattle.nvme_spec.specs.Reservation.{Reservation, Outcome, is_registered}
+use Rattle.nvme_spec.specs.Reservation.{Reservation, ActionOutcome, is_registered}
 use Rattle.nvme_resv.specs.declared.change.Change.{Change}
 
 -- an action on `old` with this outcome answers `result`, and leaves `new`
-abbrev pub Follows : Outcome → Reservation → Result Change Status → Reservation → Type 0
+abbrev pub Follows : ActionOutcome → Reservation → Result Change Status → Reservation → Type 0
 Follows (Err status) old result new = (result ≡ Err status) × (new ≡ old)
 Follows (Ok transition) old result new =
     (result ≡ Ok (record { removed = record { items = transition.removed } })) × (new ≡ transition.next)

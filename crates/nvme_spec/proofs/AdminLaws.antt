@@ -8,7 +8,7 @@ use Rattle.nvme_spec.specs.declared.command.AdminCommand.{AdminCommand}
 use Rattle.nvme_spec.specs.declared.command.AdminCommand.TheVariants.{DeleteSubmissionQueue, CreateSubmissionQueue, DeleteCompletionQueue, CreateCompletionQueue, Identify, SetFeatures, GetFeatures, NamespaceAttachment}
 use Rattle.nvme_spec.specs.World.{World, Namespace, namespace_of, with_namespace, with_protection}
 use Rattle.nvme_spec.specs.Rules.{Judgement}
-use Rattle.nvme_spec.specs.Attachments.{Outcome, unless_refused, with_attached, without_attached, attach, detach}
+use Rattle.nvme_spec.specs.Attachments.{AttachmentOutcome, unless_refused, with_attached, without_attached, attach, detach}
 use Rattle.nvme_spec.specs.AdminCommands.{command_of, fid, write_protection, wps, protection_of, sel}
 use Rattle.nvme_spec.specs.AdminRules.{admin_judgement, data_of}
 use Rattle.nvme_spec.specs.AdminEffects.{world_of, world_after, execution_by, admin_execution}
@@ -45,7 +45,7 @@ detaching : (w : World) (n : ℕ) (cs : List ℕ) → KeepsAllBut w (world_of w 
 unfolding detach
 detaching w n cs = by-refusal w (without_attached w n cs) _ (record { controllers = refl; namespaces = refl })
 
-either : (w : World) (t : Bool) (a b : Outcome) → KeepsAllBut w (world_of w a) → KeepsAllBut w (world_of w b) → KeepsAllBut w (world_of w (if t then a else b))
+either : (w : World) (t : Bool) (a b : AttachmentOutcome) → KeepsAllBut w (world_of w a) → KeepsAllBut w (world_of w b) → KeepsAllBut w (world_of w (if t then a else b))
 either w true a b h k = h
 either w false a b h k = k
 

@@ -85,7 +85,7 @@ refusal-refuses (Err s) h = (h, tt)
 
 -- The actions of reservations.
 
-abbrev ActionRefuses : Option resv.Outcome → Type 0
+abbrev ActionRefuses : Option resv.ActionOutcome → Type 0
 ActionRefuses None = Unit {0}
 ActionRefuses (Some o) = RefusalRefuses o
 
@@ -142,7 +142,7 @@ release-refuses r host type key =
 clear-refuses : (r : resv.Reservation) (host key : ℕ) → RefusalRefuses (resv.clear r host key)
 clear-refuses r host key = if-refusal _ _ _ (becoming _) conflict
 
-persisting-refuses : (change : ℕ) (o : resv.Outcome) → RefusalRefuses o → RefusalRefuses (resv.persisting change o)
+persisting-refuses : (change : ℕ) (o : resv.ActionOutcome) → RefusalRefuses o → RefusalRefuses (resv.persisting change o)
 unfolding RefusalRefuses
 persisting-refuses change (Ok t) h = tt
 persisting-refuses change (Err s) h = h
@@ -169,7 +169,7 @@ outcome-refuses (Some c) None host e keys = tt
 outcome-refuses (Some c) (Some n) None e keys = tt
 outcome-refuses (Some c) (Some n) (Some host) e keys = action-refuses c n.reservation host e keys
 
-action-tests : (o : Option resv.Outcome) → ActionRefuses o → TestsRefuse (outcome_tests o)
+action-tests : (o : Option resv.ActionOutcome) → ActionRefuses o → TestsRefuse (outcome_tests o)
 action-tests None h = tt
 action-tests (Some o) h = refusal-refuses o h
 

@@ -9,7 +9,7 @@ use Rattle.nvme_spec.specs.declared.command.Command.{Command}
 use Rattle.nvme_spec.specs.declared.command.Command.TheVariants.{Flush, Write, Read, Compare, WriteZeroes, ReservationRegister, ReservationReport, ReservationAcquire, ReservationRelease}
 use Rattle.nvme_spec.specs.Report.{ControllerHost}
 use Rattle.nvme_spec.specs.Commands.{action, iekey, rtype, cptpl}
-use Rattle.nvme_spec.specs.Reservation.{Reservation, Outcome, IsRising, with_key, is_registered, is_registered_with, is_free, is_of_type, is_of_all, is_holder, is_holders_key, is_key_in_use, register, unregister, replace, acquire, preempt, release, clear, persisting, ptpl_after}
+use Rattle.nvme_spec.specs.Reservation.{Reservation, ActionOutcome, IsRising, with_key, is_registered, is_registered_with, is_free, is_of_type, is_of_all, is_holder, is_holders_key, is_key_in_use, register, unregister, replace, acquire, preempt, release, clear, persisting, ptpl_after}
 use Rattle.nvme_spec.specs.ReservationLaws.{Keeps}
 use Rattle.nvme_spec.specs.IoData.{action_outcome, current_key, other_key}
 use Rattle.nvme_spec.proofs.Registrants.{all-filter, filter-all, all-map, above_test, rising-filter, rising-with_key, all-append}
@@ -87,15 +87,15 @@ room ks xs host r a h few =
 
 -- Actions bring no other host in.
 
-pub keeps-if : (P : Reservation → Type 0) (b : Bool) (x y : Outcome) → Keeps x P → Keeps y P → Keeps (if b then x else y) P
+pub keeps-if : (P : Reservation → Type 0) (b : Bool) (x y : ActionOutcome) → Keeps x P → Keeps y P → Keeps (if b then x else y) P
 keeps-if P true x y h k = h
 keeps-if P false x y h k = k
 
 -- what an action keeps, by its tests
-abbrev KeepsKnown : List ControllerHost → Outcome → Type 0
+abbrev KeepsKnown : List ControllerHost → ActionOutcome → Type 0
 KeepsKnown ks o = Keeps o (λ next. AreKnown ks next.registrants)
 
-abbrev keeps-by : (ks : List ControllerHost) (b : Bool) (x y : Outcome) → KeepsKnown ks x → KeepsKnown ks y → KeepsKnown ks (if b then x else y)
+abbrev keeps-by : (ks : List ControllerHost) (b : Bool) (x y : ActionOutcome) → KeepsKnown ks x → KeepsKnown ks y → KeepsKnown ks (if b then x else y)
 keeps-by ks b x y h k = keeps-if (λ next. AreKnown ks next.registrants) b x y h k
 
 keeps-register : (ks : List ControllerHost) (r : Reservation) (host nrkey : ℕ) → AreKnown ks r.registrants → IsKnown ks host → KeepsKnown ks (register r host nrkey)
@@ -129,13 +129,13 @@ keeps-clear : (ks : List ControllerHost) (r : Reservation) (host crkey : ℕ) �
 keeps-clear ks r host crkey = keeps-by ks (is_registered_with r.registrants host crkey) _ _ tt tt
 
 -- what holds of an outcome, if there is one
-abbrev pub KeepsIfSome : Option Outcome → (Reservation → Type 0) → Type 0
+abbrev pub KeepsIfSome : Option ActionOutcome → (Reservation → Type 0) → Type 0
 KeepsIfSome None P = Unit {0}
 KeepsIfSome (Some o) P = Keeps o P
 
 -- whether a reservation persists is no part of it
 pub persisting-keeps : (P : Reservation → Type 0) → ((r : Reservation) (persists : Bool) → P r → P (record r { ptpl = persists }))
-    → (change : ℕ) (o : Outcome) → Keeps o P → Keeps (persisting change o) P
+    → (change : ℕ) (o : ActionOutcome) → Keeps o P → Keeps (persisting change o) P
 persisting-keeps P f change (Ok t) h = f t.next (ptpl_after change t.next.ptpl) h
 persisting-keeps P f change (Err s) h = tt
 

@@ -90,7 +90,7 @@ pub record IsReserved (a : ℕ) (old new : World) : Type 0 where
 pub is-same : (a : ℕ) (old new : World) → new ≡ old → IsReserved a old new
 is-same a old new e = record { layout = same-layout old new e; others = λ n other. ap (λ w. reservation_of w n) e }
 
-pub is-reserved : (w : World) (a : ℕ) (o : Option resv.Outcome) → IsReserved a w (world_after w a o)
+pub is-reserved : (w : World) (a : ℕ) (o : Option resv.ActionOutcome) → IsReserved a w (world_after w a o)
 unfolding reservation_of
 is-reserved w a None = is-same a w w refl
 is-reserved w a (Some (Err refusal)) = is-same a w w refl

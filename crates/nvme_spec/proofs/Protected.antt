@@ -13,7 +13,7 @@ use Rattle.nvme_spec.specs.World.{World, Namespace, forbids_writing, namespace_o
 use Rattle.nvme_spec.specs.IoRules.{is_protected}
 use Rattle.nvme_spec.specs.Layout.{HasSameLayout, unreserved_one}
 use Rattle.nvme_spec.specs.AdminCommands.{command_of, fid, number_of_queues, write_protection, sv, nsqr, ncqr, wps, protection_of, sel}
-use Rattle.nvme_spec.specs.Attachments.{Outcome, unless_refused, with_attached, without_attached, attach, detach}
+use Rattle.nvme_spec.specs.Attachments.{AttachmentOutcome, unless_refused, with_attached, without_attached, attach, detach}
 use Rattle.nvme_spec.specs.Rules.{Judgement, Test, test, judgement_by}
 use Rattle.nvme_spec.specs.AdminRules.{admin_judgement, data_of, listed_controllers, field_rule, is_protected_until_cycle, set_features_rule}
 use Rattle.nvme_spec.specs.ExistingQueues.{has_io_queue}
@@ -86,7 +86,7 @@ detached-keeps : (w : World) (n : ℕ) (ks : List ℕ) → (world_of w (detach w
 unfolding detach
 detached-keeps w n ks = unless-refused w (without_attached w n ks) _ refl
 
-either-keeps : (w : World) (t : Bool) (a b : Outcome) → (world_of w a).namespaces ≡ w.namespaces → (world_of w b).namespaces ≡ w.namespaces
+either-keeps : (w : World) (t : Bool) (a b : AttachmentOutcome) → (world_of w a).namespaces ≡ w.namespaces → (world_of w b).namespaces ≡ w.namespaces
     → (world_of w (if t then a else b)).namespaces ≡ w.namespaces
 either-keeps w true a b h k = h
 either-keeps w false a b h k = k

@@ -5,7 +5,7 @@ use Rattle.std.proofs.lemmas.Bool.Decides.{nat_tests}
 use Rattle.nvme_spec.specs.declared.access.Registrant.{Registrant}
 use Rattle.nvme_spec.specs.declared.access.Hold.{Hold}
 use Rattle.nvme_spec.specs.declared.access.Hold.TheVariants.{Free, One, All}
-use Rattle.nvme_spec.specs.Reservation.{Reservation, Outcome, IsRising, becomes, is_registered, is_registered_with, is_of_all, with_key, taken_by, remaining_hold, next_generation, register, unregister, replace, acquire, preempt, is_free, is_of_type, is_holder, is_holders_key, is_key_in_use}
+use Rattle.nvme_spec.specs.Reservation.{Reservation, ActionOutcome, IsRising, becomes, is_registered, is_registered_with, is_of_all, with_key, taken_by, remaining_hold, next_generation, register, unregister, replace, acquire, preempt, is_free, is_of_type, is_holder, is_holders_key, is_key_in_use}
 use Rattle.nvme_spec.specs.Statuses as status
 use Rattle.nvme_spec.specs.ReservationLaws.{Gives, Keeps, IsHoldOf, IsHeldByRegistrants}
 use Rattle.nvme_spec.proofs.Registrants.{filter-all, filter-none, all-map, above_test, same_test}
@@ -134,7 +134,7 @@ replace-held r host iekey crkey nrkey h =
     ]
 
 -- an action that is denied to a host without its key, and else is this one
-with-its-key : (r : Reservation) (host key : ℕ) (action : Outcome) → (is_registered r.registrants host ≡ true → Keeps action IsHeldByRegistrants)
+with-its-key : (r : Reservation) (host key : ℕ) (action : ActionOutcome) → (is_registered r.registrants host ≡ true → Keeps action IsHeldByRegistrants)
     → Keeps (if not (is_registered_with r.registrants host key) then Err status.reservation_conflict else action) IsHeldByRegistrants
 with-its-key r host key action f =
     elim (is_registered_with r.registrants host key)
@@ -144,7 +144,7 @@ with-its-key r host key action f =
     ] refl
 
 -- one of two outcomes
-either : (b : Bool) (x y : Outcome) → Keeps x IsHeldByRegistrants → Keeps y IsHeldByRegistrants → Keeps (if b then x else y) IsHeldByRegistrants
+either : (b : Bool) (x y : ActionOutcome) → Keeps x IsHeldByRegistrants → Keeps y IsHeldByRegistrants → Keeps (if b then x else y) IsHeldByRegistrants
 either true x y h k = h
 either false x y h k = k
 

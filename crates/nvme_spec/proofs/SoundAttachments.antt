@@ -12,7 +12,7 @@ use Rattle.nvme_spec.specs.declared.queues.Queues.{Queues}
 use Rattle.nvme_spec.specs.Limits.{longest_controller_list}
 use Rattle.nvme_spec.specs.World.{World, Namespace, host_of, namespace_of, is_attached, with_protection}
 use Rattle.nvme_spec.specs.Rules.{Test, Judgement, test, first_failure, judgement_by}
-use Rattle.nvme_spec.specs.Attachments.{Outcome, are_controllers_above, list_tests, has_controller, is_shared, attach_tests, attach_each, detach_each, unless_refused, with_attached, without_attached, attach, detach}
+use Rattle.nvme_spec.specs.Attachments.{AttachmentOutcome, are_controllers_above, list_tests, has_controller, is_shared, attach_tests, attach_each, detach_each, unless_refused, with_attached, without_attached, attach, detach}
 use Rattle.nvme_spec.specs.AdminCommands.{command_of, fid, write_protection, wps, protection_of, sel}
 use Rattle.nvme_spec.specs.AdminRules.{admin_judgement, listed_controllers, data_of, selection_rule}
 use Rattle.nvme_spec.specs.AdminEffects.{world_of, world_after, execution_by, admin_execution}
@@ -254,7 +254,7 @@ either-way : (w : World) (t : Bool) (a b : World) → AreThere w a.attachments �
 either-way w true a b h k = h
 either-way w false a b h k = k
 
-either-outcome : (w : World) (t : Bool) (a b : Outcome) → AreThere w (world_of w a).attachments → AreThere w (world_of w b).attachments
+either-outcome : (w : World) (t : Bool) (a b : AttachmentOutcome) → AreThere w (world_of w a).attachments → AreThere w (world_of w b).attachments
     → AreThere w (world_of w (if t then a else b)).attachments
 either-outcome w true a b h k = h
 either-outcome w false a b h k = k

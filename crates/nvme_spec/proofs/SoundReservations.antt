@@ -8,7 +8,7 @@ use Rattle.nvme_spec.specs.declared.access.Hold.TheVariants.{Free, One, All}
 use Rattle.nvme_spec.specs.declared.command.Command.{Command}
 use Rattle.nvme_spec.specs.declared.command.Command.TheVariants.{Flush, Write, Read, Compare, WriteZeroes, ReservationRegister, ReservationReport, ReservationAcquire, ReservationRelease}
 use Rattle.nvme_spec.specs.Commands.{action, iekey, rtype, cptpl}
-use Rattle.nvme_spec.specs.Reservation.{Reservation, Outcome, IsRising, is_registered, is_registered_with, is_free, is_of_type, is_of_all, is_holder, is_holders_key, is_key_in_use, taken_by, remaining_hold, register, unregister, replace, acquire, preempt, release, clear}
+use Rattle.nvme_spec.specs.Reservation.{Reservation, ActionOutcome, IsRising, is_registered, is_registered_with, is_free, is_of_type, is_of_all, is_holder, is_holders_key, is_key_in_use, taken_by, remaining_hold, register, unregister, replace, acquire, preempt, release, clear}
 use Rattle.nvme_spec.specs.ReservationLaws.{Keeps, IsHeldByRegistrants}
 use Rattle.nvme_spec.specs.IoData.{action_outcome, current_key, other_key}
 use Rattle.nvme_spec.specs.Sound.{IsTyped}
@@ -18,10 +18,10 @@ use Rattle.nvme_spec.proofs.Hosts.{keeps-if, KeepsIfSome, persisting-keeps}
 
 -- Registrants rise.
 
-abbrev Rises : Outcome → Type 0
+abbrev Rises : ActionOutcome → Type 0
 Rises o = Keeps o (λ next. IsRising next.registrants)
 
-rises-if : (b : Bool) (x y : Outcome) → Rises x → Rises y → Rises (if b then x else y)
+rises-if : (b : Bool) (x y : ActionOutcome) → Rises x → Rises y → Rises (if b then x else y)
 rises-if b x y h k = keeps-if (λ next. IsRising next.registrants) b x y h k
 
 rises-register : (r : Reservation) (host key : ℕ) → IsRising r.registrants → Rises (register r host key)
@@ -78,7 +78,7 @@ keeps-rising ReservationReport r host e keys a = tt
 
 -- Who holds it is registered.
 
-held-if : (b : Bool) (x y : Outcome) → Keeps x IsHeldByRegistrants → Keeps y IsHeldByRegistrants → Keeps (if b then x else y) IsHeldByRegistrants
+held-if : (b : Bool) (x y : ActionOutcome) → Keeps x IsHeldByRegistrants → Keeps y IsHeldByRegistrants → Keeps (if b then x else y) IsHeldByRegistrants
 held-if b x y h k = keeps-if IsHeldByRegistrants b x y h k
 
 held-unregister : (r : Reservation) (host : ℕ) (iekey : Bool) (key : ℕ) → Keeps (unregister r host iekey key) IsHeldByRegistrants
@@ -116,10 +116,10 @@ keeps-held ReservationReport r host e keys a = tt
 
 -- Its type suits who holds it.
 
-abbrev Types : Outcome → Type 0
+abbrev Types : ActionOutcome → Type 0
 Types o = Keeps o (λ next. IsTyped next.hold)
 
-types-if : (b : Bool) (x y : Outcome) → Types x → Types y → Types (if b then x else y)
+types-if : (b : Bool) (x y : ActionOutcome) → Types x → Types y → Types (if b then x else y)
 types-if b x y h k = keeps-if (λ next. IsTyped next.hold) b x y h k
 
 taken-typed : (host type : ℕ) → 1 ≤ type → type ≤ 6 → IsTyped (taken_by host type)

@@ -104,7 +104,7 @@ names-type ReservationRegister e h = tt
 names-type ReservationReport e h = tt
 names-type ReservationRelease e h = tt
 
-joined : (o : Option resv.Outcome) (ks : List ControllerHost) → KeepsIfSome o (λ next. resv.IsRising next.registrants) → KeepsIfSome o (λ next. AreKnown ks next.registrants)
+joined : (o : Option resv.ActionOutcome) (ks : List ControllerHost) → KeepsIfSome o (λ next. resv.IsRising next.registrants) → KeepsIfSome o (λ next. AreKnown ks next.registrants)
     → KeepsIfSome o IsHeldByRegistrants → KeepsIfSome o (λ next. IsTyped next.hold) → KeepsIfSome o (IsSoundReservation ks)
 joined None ks a b c d = tt
 joined (Some (Err refusal)) ks a b c d = tt
@@ -132,7 +132,7 @@ outcome-sound w k e sent command named typed sound =
         (keeps-held command n.reservation of e sent s.held)
         (keeps-typed command n.reservation of e sent typed s.typed)
 
-after-sound : (w : World) (a : ℕ) (o : Option resv.Outcome) → KeepsIfSome o (IsSoundReservation w.controllers) → AreReserved w
+after-sound : (w : World) (a : ℕ) (o : Option resv.ActionOutcome) → KeepsIfSome o (IsSoundReservation w.controllers) → AreReserved w
     → AllByRecursion (λ (n : Namespace). IsSoundReservation w.controllers n.reservation) (world_after w a o).namespaces
 after-sound w a None k h = h
 after-sound w a (Some (Err refusal)) k h = h

@@ -13,7 +13,7 @@ use Rattle.nvme_spec.specs.declared.queues.QueueChange.TheVariants.{Keep, MakeCq
 use Rattle.nvme_spec.specs.Transfers.{with_scattered}
 use Rattle.nvme_spec.specs.World.{World, Namespace, host_of, namespace_of, with_protection}
 use Rattle.nvme_spec.specs.Rules.{Judgement}
-use Rattle.nvme_spec.specs.Attachments.{Outcome}
+use Rattle.nvme_spec.specs.Attachments.{AttachmentOutcome}
 use Rattle.nvme_spec.specs.Identify.{identify_attached, identify_controller, namespace_list, attached_above}
 use Rattle.nvme_spec.specs.AdminCommands.{command_of, data_length, qid, queue_size, cqid, cns, namespace_structure, controller_structure, fid, number_of_queues, host_identifier, write_protection, wps, protection_of, state_of}
 use Rattle.nvme_spec.specs.DataRules.{data_addresses}
@@ -60,7 +60,7 @@ queue_change DeleteCompletionQueue e = DropCq (qid e)
 queue_change CreateCompletionQueue e = MakeCq (qid e) (queue_size e) (prp1 e)
 queue_change command e = Keep
 
-abbrev pub world_of : World → Outcome → World
+abbrev pub world_of : World → AttachmentOutcome → World
 world_of w (Ok next) = next
 world_of w (Err refusal) = w
 

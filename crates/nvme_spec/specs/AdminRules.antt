@@ -17,7 +17,7 @@ use Rattle.nvme_spec.specs.World.{World, Namespace, host_of, namespace_of, is_at
 use Rattle.nvme_spec.specs.Rules.{Rule, Test, Judgement, test, rule, refusal_tests, first_failing}
 use Rattle.nvme_spec.specs.IoRules.{opcode_rule, form_rule, is_no_nsid, permits_group}
 use Rattle.nvme_spec.specs.DataRules.{data_in, pointer_rule}
-use Rattle.nvme_spec.specs.Attachments.{Outcome, attach, detach}
+use Rattle.nvme_spec.specs.Attachments.{AttachmentOutcome, attach, detach}
 use Rattle.nvme_spec.specs.ExistingQueues.{has_completion_queue, has_submission_queue, is_used, has_io_queue}
 use Rattle.nvme_spec.specs.AdminCommands.{command_of, is_one_of, qid, queue_size, pc, cqid, cns, namespace_structure, namespace_list_structure, fid, number_of_queues, host_identifier, write_protection, sv, nsqr, ncqr, wps, exhid, sel, names_feature, asks_for, data_length_of}
 use Rattle.nvme_spec.specs.Statuses as status
@@ -182,7 +182,7 @@ unfoldable pub listed_controllers : List ℕ → List ℕ
 listed_controllers bytes = map (λ i. word_at bytes (2 + 2 * i)) (range_with_len 0 (list_count bytes))
 
 -- what becomes of the world where a namespace is attached to the listed controllers, or detached from them
-abbrev pub attachment_outcome : World → List ℕ → List ℕ → Outcome
+abbrev pub attachment_outcome : World → List ℕ → List ℕ → AttachmentOutcome
 attachment_outcome w e sent =
     if sel e == 0 then attach w (nsid e) (listed_controllers sent) else detach w (nsid e) (listed_controllers sent)
 

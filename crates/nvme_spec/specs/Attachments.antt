@@ -50,11 +50,11 @@ abbrev pub detach_each : World → ℕ → List ℕ → List Test
 detach_each w nsid controllers = flat_map (detach_tests w nsid) controllers
 
 -- A change is refused with a status, or gives the next world.
-abbrev pub Outcome : Type 0
-Outcome = Result World Status
+abbrev pub AttachmentOutcome : Type 0
+AttachmentOutcome = Result World Status
 
 -- the next world, unless a test fails
-abbrev pub unless_refused : Option Status → World → Outcome
+abbrev pub unless_refused : Option Status → World → AttachmentOutcome
 unless_refused None next = Ok next
 unless_refused (Some why) next = Err why
 
@@ -70,13 +70,13 @@ without_attached w nsid controllers =
     }
 
 -- the namespace is attached to these controllers
-unfoldable pub attach : World → ℕ → List ℕ → Outcome
+unfoldable pub attach : World → ℕ → List ℕ → AttachmentOutcome
 attach w nsid controllers =
     unless_refused (first_failure (list_tests w controllers ++ attach_each w nsid (has_controller w nsid) controllers))
     (with_attached w nsid controllers)
 
 -- it is detached from them
-unfoldable pub detach : World → ℕ → List ℕ → Outcome
+unfoldable pub detach : World → ℕ → List ℕ → AttachmentOutcome
 detach w nsid controllers =
     unless_refused (first_failure (list_tests w controllers
     ++ detach_each w nsid controllers)) (without_attached w nsid controllers)

@@ -48,7 +48,7 @@ abbrev pub verdict_on : World → Sent → Verdict
 verdict_on w s = io_verdict w s.cntlid s.entry false s.window
 
 -- what a reservation command makes of the reservation
-abbrev pub outcome_on : World → Sent → Option resv.Outcome
+abbrev pub outcome_on : World → Sent → Option resv.ActionOutcome
 outcome_on w s = reservation_outcome w s.cntlid s.entry (data_of s.window s.entry)
 
 -- the world after a command, by what the rules answer to it

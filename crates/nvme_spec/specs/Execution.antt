@@ -57,7 +57,7 @@ BlockEffect tells WriteZeroes first blocks sent old new answer returned =
 BlockEffect tells command first blocks sent old new answer returned = ⊥
 
 -- the world, where the reservation of a namespace has become so
-abbrev pub world_after : World → ℕ → Option resv.Outcome → World
+abbrev pub world_after : World → ℕ → Option resv.ActionOutcome → World
 world_after w n None = w
 world_after w n (Some (Err refusal)) = w
 world_after w n (Some (Ok transition)) = with_reservation w n transition.next
@@ -116,7 +116,7 @@ marks_on n [] = no_marks
 marks_on n (host ∷ rest) = record { nsid = n; hosts = record { items = host ∷ rest } }
 
 -- the hosts that an action removed
-abbrev pub removed_by : Option resv.Outcome → List ℕ
+abbrev pub removed_by : Option resv.ActionOutcome → List ℕ
 removed_by None = []
 removed_by (Some (Err refusal)) = []
 removed_by (Some (Ok transition)) = transition.removed
@@ -125,7 +125,7 @@ removed_by (Some (Ok transition)) = transition.removed
 abbrev pub marks_for : Command → List ℕ → List ℕ → Marks
 marks_for command e removed = if is_preempt_and_abort command e then marks_on (nsid e) removed else no_marks
 
-abbrev pub marks_of : Command → List ℕ → Option resv.Outcome → Marks
+abbrev pub marks_of : Command → List ℕ → Option resv.ActionOutcome → Marks
 marks_of command e outcome = marks_for command e (removed_by outcome)
 
 -- a denied command is answered with the rule and its status

@@ -22,14 +22,14 @@ abbrev pub other_key : List ℕ → ℕ
 other_key keys = qword keys 8
 
 -- what Reservation Register makes of the key of a host, by its action
-abbrev pub key_outcome : resv.Reservation → ℕ → List ℕ → List ℕ → resv.Outcome
+abbrev pub key_outcome : resv.Reservation → ℕ → List ℕ → List ℕ → resv.ActionOutcome
 key_outcome r host e keys =
     if action e == 0 then resv.register r host (other_key keys)
     else (if action e == 1 then resv.unregister r host (iekey e) (current_key keys)
     else resv.replace r host (iekey e) (current_key keys) (other_key keys))
 
 -- what a reservation command of a host makes of a reservation, by its keys. Other commands make nothing of it
-unfoldable pub action_outcome : Command → resv.Reservation → ℕ → List ℕ → List ℕ → Option resv.Outcome
+unfoldable pub action_outcome : Command → resv.Reservation → ℕ → List ℕ → List ℕ → Option resv.ActionOutcome
 action_outcome ReservationRegister r host e keys =
     Some (resv.persisting (cptpl e) (key_outcome r host e keys))
 action_outcome ReservationAcquire r host e keys = Some (
@@ -41,23 +41,23 @@ action_outcome ReservationRelease r host e keys = Some (
 action_outcome command r host e keys = None
 
 -- what a command makes of the reservation of the namespace that it names, for the host that sent it
-abbrev pub outcome_in : Option Command → Option Namespace → Option ℕ → List ℕ → List ℕ → Option resv.Outcome
+abbrev pub outcome_in : Option Command → Option Namespace → Option ℕ → List ℕ → List ℕ → Option resv.ActionOutcome
 outcome_in (Some command) (Some n) (Some host) e keys = action_outcome command n.reservation host e keys
 outcome_in (Some command) (Some n) None e keys = None
 outcome_in (Some command) None host e keys = None
 outcome_in None n host e keys = None
 
 -- the same of a command of a controller, by the data that its host's memory holds
-unfoldable pub reservation_outcome : World → ℕ → List ℕ → List ℕ → Option resv.Outcome
+unfoldable pub reservation_outcome : World → ℕ → List ℕ → List ℕ → Option resv.ActionOutcome
 reservation_outcome w cntlid e brought =
     outcome_in (command_of (opcode e)) (namespace_of w (nsid e)) (host_of w cntlid) e brought
 
-abbrev pub outcome_tests : Option resv.Outcome → List Test
+abbrev pub outcome_tests : Option resv.ActionOutcome → List Test
 outcome_tests None = []
 outcome_tests (Some outcome) = refusal_tests outcome
 
 -- 11: the reservation refuses the action
-unfoldable pub action_rule : Option resv.Outcome → Rule
+unfoldable pub action_rule : Option resv.ActionOutcome → Rule
 action_rule outcome = record { number = 11; tests = outcome_tests outcome }
 
 -- the data that a command finds in its host's memory

@@ -99,11 +99,11 @@ pub record Transition : Type 0 where
   pub removed : List ℕ
 
 -- An action is denied with a status and changes nothing, or makes a transition.
-abbrev pub Outcome : Type 0
-Outcome = Result Transition Status
+abbrev pub ActionOutcome : Type 0
+ActionOutcome = Result Transition Status
 
 -- the next state, where no host was preempted
-abbrev pub becomes : Reservation → Outcome
+abbrev pub becomes : Reservation → ActionOutcome
 becomes next = Ok (record { next = next; removed = [] })
 
 -- the hosts that were registered and no longer are
@@ -111,7 +111,7 @@ abbrev pub removed_hosts : List Registrant → List Registrant → List ℕ
 removed_hosts before after = map (λ r. r.host) (filter (λ r. not (is_registered after r.host)) before)
 
 -- the next state, and the hosts that it no longer has
-abbrev pub preempts : Reservation → Reservation → Outcome
+abbrev pub preempts : Reservation → Reservation → ActionOutcome
 preempts r next = Ok (record { next = next; removed = removed_hosts r.registrants next.registrants })
 
 -- these registrants and this hold, and one more generation: the counter has 32 bits
@@ -124,21 +124,21 @@ abbrev pub remaining : Reservation → List Registrant → Reservation
 remaining r rest = next_generation r rest (remaining_hold r.hold rest)
 
 -- Reservation Register command, Register Reservation Key. A host that has another key already is denied.
-abbrev pub register : Reservation → ℕ → ℕ → Outcome
+abbrev pub register : Reservation → ℕ → ℕ → ActionOutcome
 register r host nrkey =
     if is_registered r.registrants host
     && not (is_registered_with r.registrants host nrkey) then Err status.reservation_conflict
     else becomes (next_generation r (with_key r.registrants host nrkey) r.hold)
 
 -- Reservation Register command, Unregister Reservation Key. With IEKEY the key that the host gives is not looked at.
-abbrev pub unregister : Reservation → ℕ → Bool → ℕ → Outcome
+abbrev pub unregister : Reservation → ℕ → Bool → ℕ → ActionOutcome
 unregister r host iekey crkey =
     if is_registered r.registrants host && (iekey || is_registered_with r.registrants host crkey)
     then becomes (remaining r (filter (λ x. not (x.host == host)) r.registrants))
     else Err status.reservation_conflict
 
 -- Reservation Register command, Replace Reservation Key. With IEKEY a host that is not registered is registered.
-abbrev pub replace : Reservation → ℕ → Bool → ℕ → ℕ → Outcome
+abbrev pub replace : Reservation → ℕ → Bool → ℕ → ℕ → ActionOutcome
 replace r host iekey crkey nrkey =
     if iekey || is_registered_with r.registrants host crkey
     then becomes (next_generation r (with_key r.registrants host nrkey) r.hold)
@@ -149,12 +149,12 @@ abbrev pub ptpl_after : ℕ → Bool → Bool
 ptpl_after cptpl before = if cptpl == 2 then false else (if cptpl == 3 then true else before)
 
 -- the same outcome, with that change of the next state
-abbrev pub persisting : ℕ → Outcome → Outcome
+abbrev pub persisting : ℕ → ActionOutcome → ActionOutcome
 persisting cptpl (Err refusal) = Err refusal
 persisting cptpl (Ok t) = Ok (record t { next = record t.next { ptpl = ptpl_after cptpl t.next.ptpl } })
 
 -- Reservation Acquire command, Acquire.
-abbrev pub acquire : Reservation → ℕ → ℕ → ℕ → Outcome
+abbrev pub acquire : Reservation → ℕ → ℕ → ℕ → ActionOutcome
 acquire r host rtype crkey =
     if not (is_registered_with r.registrants host crkey) then Err status.reservation_conflict
     else (if is_free r.hold then becomes (record r { hold = taken_by host rtype })
@@ -163,7 +163,7 @@ acquire r host rtype crkey =
 
 -- Reservation Acquire command, Preempt. Key 0 stands for all other registrants of a reservation that all hold; the key
 -- of a single holder takes its reservation; any other key only removes the registrants that have it.
-abbrev pub preempt : Reservation → ℕ → ℕ → ℕ → ℕ → Outcome
+abbrev pub preempt : Reservation → ℕ → ℕ → ℕ → ℕ → ActionOutcome
 preempt r host rtype crkey prkey =
     if not (is_registered_with r.registrants host crkey) then Err status.reservation_conflict
     else (if prkey == 0
@@ -178,7 +178,7 @@ preempt r host rtype crkey prkey =
     else Err status.reservation_conflict)))
 
 -- Reservation Release command, Release. A registrant that holds nothing succeeds and changes nothing.
-abbrev pub release : Reservation → ℕ → ℕ → ℕ → Outcome
+abbrev pub release : Reservation → ℕ → ℕ → ℕ → ActionOutcome
 release r host rtype crkey =
     if not (is_registered_with r.registrants host crkey) then Err status.reservation_conflict
     else (if not (is_holder r host) then becomes r
@@ -186,7 +186,7 @@ release r host rtype crkey =
     else Err status.invalid_field_in_command))
 
 -- Reservation Release command, Clear.
-abbrev pub clear : Reservation → ℕ → ℕ → Outcome
+abbrev pub clear : Reservation → ℕ → ℕ → ActionOutcome
 clear r host crkey =
     if is_registered_with r.registrants host crkey then becomes (next_generation r [] Free)
     else Err status.reservation_conflict

@@ -5,20 +5,20 @@ use Rattle.nvme_spec.specs.declared.access.Hold.{Hold}
 use Rattle.nvme_spec.specs.declared.access.Role.{Role}
 use Rattle.nvme_spec.specs.declared.access.Role.TheVariants.{Outsider, Registrant as OnlyRegistrant, Holder}
 use Rattle.nvme_spec.specs.declared.access.Group.TheVariants.{Read, Write}
-use Rattle.nvme_spec.specs.Reservation.{Reservation, Outcome, becomes}
+use Rattle.nvme_spec.specs.Reservation.{Reservation, ActionOutcome, becomes}
 use Rattle.nvme_spec.specs.Access.{is_permitted_under}
 use Rattle.nvme_spec.specs.Report.{ControllerHost}
 
 -- Preempt gives the next state, and has removed these hosts
-abbrev pub preempting : Reservation → List ℕ → Outcome
+abbrev pub preempting : Reservation → List ℕ → ActionOutcome
 preempting state hosts = Ok (record { next = state; removed = hosts })
 
 -- one action after another; the first that is denied ends them
-abbrev pub and_then : Outcome → (Reservation → Outcome) → Outcome
+abbrev pub and_then : ActionOutcome → (Reservation → ActionOutcome) → ActionOutcome
 and_then (Ok transition) action = action transition.next
 and_then (Err status) action = Err status
 
-abbrev pub steps : Reservation → List (Reservation → Outcome) → Outcome
+abbrev pub steps : Reservation → List (Reservation → ActionOutcome) → ActionOutcome
 steps r [] = becomes r
 steps r (action ∷ []) = action r
 steps r (action ∷ next ∷ rest) = and_then (action r) (λ state. steps state (next ∷ rest))

@@ -3,15 +3,15 @@ use Rattle.std.specs.Prelude.{not, ◌==◌, IsTrue, List, length, Ok, Err}
 use Rattle.nvme_spec.specs.declared.access.Registrant.{Registrant}
 use Rattle.nvme_spec.specs.declared.access.Hold.{Hold}
 use Rattle.nvme_spec.specs.declared.access.Hold.TheVariants.{Free, One, All}
-use Rattle.nvme_spec.specs.Reservation.{Reservation, Outcome, is_registered}
+use Rattle.nvme_spec.specs.Reservation.{Reservation, ActionOutcome, is_registered}
 
 -- the action is not denied, and the next state is so
-abbrev pub Gives : Outcome → (Reservation → Type 0) → Type 0
+abbrev pub Gives : ActionOutcome → (Reservation → Type 0) → Type 0
 Gives (Ok transition) P = P transition.next
 Gives (Err status) P = ⊥
 
 -- where the action is not denied, the next state is so
-abbrev pub Keeps : Outcome → (Reservation → Type 0) → Type 0
+abbrev pub Keeps : ActionOutcome → (Reservation → Type 0) → Type 0
 Keeps (Ok transition) P = P transition.next
 Keeps (Err status) P = Unit {0}
 
