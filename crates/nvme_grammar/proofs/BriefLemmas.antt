@@ -2,12 +2,12 @@
 use Rattle.std.proofs.Common.{◌≡◌, ℕ, ◌<◌, ◌^◌, Bool, true, false, List, [], ◌∷◌, ◌++◌, length, Option, Some, None, refl, sym, ap, ◌∙◌, arith}
 use Rattle.std.specs.Prelude.{codes, if◌then◌else◌, is_some, unwrap_or, option_map}
 use Rattle.std.proofs.lemmas.Bool.{false≢true, lt-ltb}
-use Rattle.nvme_event.specs.declared.event.FleetEvent.TheVariants.{BringUp, Place, Ring, Fetch, Execute, Poll, Reset}
+use Rattle.nvme_event.specs.declared.event.FleetEvent.TheVariants.{BringUp, Place, Ring, Fetch, Execute, Poll, Reset, RawStore, RawWrite32}
 use Rattle.nvme_driver.specs.declared.request.Request.{Request}
 use Rattle.nvme_driver.specs.declared.request.Request.TheVariants.{Read, Write, Compare, WriteZeroes, Flush, Register, Acquire, Release, Report, Identify, Protect, Protection}
 use Rattle.script_text.specs.Numbers.{number, below, number_at}
 use Rattle.script_text.specs.Words.{line_words, is_line_text}
-use Rattle.script_text.specs.Data.{data_at}
+use Rattle.script_text.specs.Data.{bytes_at, data_at}
 use Rattle.script_text.specs.Front.{BeginsWith}
 use Rattle.nvme_grammar.specs.Arity.{◌>>=◌}
 use Rattle.nvme_grammar.specs.Brief.{Numbers}
@@ -152,6 +152,23 @@ module _ (c : ℕ) (small : c < 2 ^ 16) where
   unfolding sentence event_at
   says_identify s n cns nsid ws (w1, ws1, e1, k1, (w2, ws2, e2, k2, (w3, ws3, e3, k3, end))) =
       rw (e1, e2, e3, end, narrow 16 w1 c k1 small, narrow 8 w2 s k2 cns, narrow 32 w3 n k3 nsid) refl
+
+  pub says_write32 : (o v : ℕ) → v < 2 ^ 32 → (ws : List (List ℕ)) → Numbers (c ∷ o ∷ v ∷ []) ws []
+      → sentence (codes "write32" ∷ ws) ≡ Some (Event (RawWrite32 c o v))
+  unfolding sentence event_at
+  says_write32 o v value ws (w1, ws1, e1, k1, (w2, ws2, e2, k2, (w3, ws3, e3, k3, end))) =
+      rw (e1, e2, e3, end, narrow 16 w1 c k1 small, k2, narrow 32 w3 v k3 value) refl
+
+  -- a store, whose last word spells bytes
+  pub says_store : (a : ℕ) (word : List ℕ) (ws : List (List ℕ)) → Numbers (c ∷ a ∷ []) ws (word ∷ [])
+      → sentence (codes "store" ∷ ws) ≡ option_map (λ bytes. Event (RawStore c a (lent bytes))) (bytes_at word)
+  unfolding sentence event_at
+  says_store a word ws (w1, ws1, e1, k1, (w2, ws2, e2, k2, end)) = rw (e1, e2, end, narrow 16 w1 c k1 small, k2) (by (bytes_at word))
+    where
+      by : (o : Option (List ℕ)) → event_line (o >>= (λ bytes. Some (RawStore c a (lent bytes))))
+          ≡ option_map (λ bytes. Event (RawStore c a (lent bytes))) o
+      by None = refl
+      by (Some bytes) = refl
 
 -- Writes and Compares, whose last word spells data
 module _ (c n s b : ℕ) (cntlid : c < 2 ^ 16) (nsid : n < 2 ^ 32) (blocks : b < 2 ^ 32) (word : List ℕ) where

@@ -1,11 +1,11 @@
-//! Lines of a keyword and numbers, and of Writes and Compares, as most lines of a script are: they need no table of
-//! words.
+//! Lines of a keyword and numbers, and of Writes, Compares and stores, as most lines of a script are: they need no table
+//! of words.
 
 ghost use Rattle.std.specs.Prelude.{◌≡◌, ◌≤◌, ◌*◌, ◌<◌, ◌∷◌, [], List, ℕ, true, length, option_map, is_some, IfSome};
 ghost use Rattle.nvme_spec.specs.Limits.{most_bytes};
 ghost use Rattle.nvme_driver.specs.declared.request.Request.TheVariants.{Write as WriteOf, Compare as CompareOf};
 ghost use Rattle.script_text.specs.Words.{is_line_text, line_words, starts_apart};
-ghost use Rattle.nvme_grammar.specs.Brief.{Numbers, IsTransfer, IsWithin, brief_line, transfer_line};
+ghost use Rattle.nvme_grammar.specs.Brief.{Numbers, IsStoreLine, IsTransfer, IsWithin, brief_line, stored_line, transfer_line};
 ghost use Rattle.nvme_grammar.specs.Keywords.{keyword_text};
 ghost use Rattle.nvme_grammar.specs.Lent.{line_by_value};
 ghost use Rattle.nvme_grammar.specs.Line.{sentence};
@@ -16,7 +16,7 @@ use super::numbers::event_in;
 use arrayvec::ArrayVec;
 use nvme_driver::Request;
 use nvme_event::FleetEvent;
-use script_text::{behind_separators, data_in, first_word, front_number, is_data};
+use script_text::{behind_separators, bytes_in, data_in, first_word, front_number, is_data};
 
 /// The most numbers that stand behind a keyword.
 const MOST_NUMBERS: usize = 7;
@@ -28,6 +28,7 @@ pub enum Brief<'a> {
     Event(FleetEvent<'static>),
     Write(Transfer<'a>),
     Compare(Transfer<'a>),
+    Store(StoreLine<'a>),
 }
 
 /// A Write or a Compare, with the word that spells its data.
@@ -37,6 +38,14 @@ pub struct Transfer<'a> {
     nsid: u32,
     slba: u64,
     blocks: u32,
+    word: &'a [u8],
+}
+
+/// A store of a raw host, with the word that spells its bytes.
+#[derive(Clone, Copy)]
+pub struct StoreLine<'a> {
+    cntlid: u16,
+    address: u64,
     word: &'a [u8],
 }
 
@@ -64,6 +73,16 @@ fn compare_line<'a>(transfer: Transfer<'_>, bytes: &'a mut [u8]) -> Option<Line<
     Some(Line::Event(FleetEvent::Place(transfer.cntlid, request)))
 }
 
+/// A store, whose bytes are put into a buffer.
+fn store_line<'a>(stored: StoreLine<'_>, bytes: &'a mut [u8]) -> Option<Line<'a>>
+    requires digits_room { length stored.word.now ≤ 2 * length bytes.old }
+    ensures { option_map line_by_value result ≡ stored_line stored.entry }
+{
+    let bytes = bytes_in(stored.word, bytes)?;
+    let event = FleetEvent::RawStore(stored.cntlid, stored.address, bytes);
+    Some(Line::Event(event))
+}
+
 /// What a line says, whose data are put into a buffer. `None` where their word spells none, or more than the blocks have
 /// room for.
 #[inline(always)]
@@ -76,6 +95,7 @@ pub fn line_of<'a>(brief: Brief<'_>, bytes: &'a mut [u8]) -> Option<Line<'a>>
         Brief::Event(event) => Some(Line::Event(event)),
         Brief::Write(transfer) => write_line(transfer, bytes),
         Brief::Compare(transfer) => compare_line(transfer, bytes),
+        Brief::Store(stored) => store_line(stored, bytes),
     }
 }
 
@@ -90,6 +110,7 @@ pub fn has_data(brief: Brief<'_>, bytes: &mut [u8]) -> bool
         Brief::Event(_) => true,
         Brief::Write(transfer) => is_data(transfer.word, transfer.blocks, bytes),
         Brief::Compare(transfer) => is_data(transfer.word, transfer.blocks, bytes),
+        Brief::Store(stored) => bytes_in(stored.word, bytes).is_some(),
     }
 }
 
@@ -131,9 +152,22 @@ fn transfer_of<'a>(numbers: &[u64], word: &'a [u8]) -> Option<Transfer<'a>>
     })
 }
 
-/// A line whose last word is no number. `None` where it is no Write and no Compare.
+/// `C ADDR hex:DIGITS`
 #[inline(always)]
-fn transfer_in<'a>(keyword: Keyword, numbers: &[u64], rest: &'a [u8]) -> Option<Brief<'a>>
+fn stored_of<'a>(numbers: &[u64], word: &'a [u8]) -> Option<StoreLine<'a>>
+    ensures { IfSome result (IsStoreLine numbers.now word.now) }
+{
+    let [cntlid, address] = numbers.as_array::<2>()?;
+    Some(StoreLine {
+        cntlid: u16::try_from(*cntlid).ok()?,
+        address: *address,
+        word,
+    })
+}
+
+/// A line whose last word is no number. `None` where it is no Write, no Compare and no store.
+#[inline(always)]
+fn spelled_in<'a>(keyword: Keyword, numbers: &[u64], rest: &'a [u8]) -> Option<Brief<'a>>
     requires apart { starts_apart rest.now ≡ true }
     requires some { 0 < length rest.now }
     ensures text { IfSome result (λ brief. is_line_text rest.now ≡ true) }
@@ -145,16 +179,25 @@ fn transfer_in<'a>(keyword: Keyword, numbers: &[u64], rest: &'a [u8]) -> Option<
     if !last.behind.is_empty() {
         return None;
     }
-    let transfer = transfer_of(numbers, last.word)?;
     match keyword {
-        Keyword::Write => Some(Brief::Write(transfer)),
-        Keyword::Compare => Some(Brief::Compare(transfer)),
+        Keyword::Write => {
+            let transfer = transfer_of(numbers, last.word)?;
+            Some(Brief::Write(transfer))
+        }
+        Keyword::Compare => {
+            let transfer = transfer_of(numbers, last.word)?;
+            Some(Brief::Compare(transfer))
+        }
+        Keyword::Store => {
+            let stored = stored_of(numbers, last.word)?;
+            Some(Brief::Store(stored))
+        }
         _ => None,
     }
 }
 
-/// What a line says. `None` for other lines than those of a keyword and numbers, Writes and Compares, which may say
-/// something all the same.
+/// What a line says. `None` for other lines than those of a keyword and numbers, Writes, Compares and stores, which may
+/// say something all the same.
 #[inline(always)]
 pub fn brief_of(line: &[u8]) -> Option<Brief<'_>>
     ensures text { IfSome result (λ brief. is_line_text line.now ≡ true) }
@@ -170,7 +213,7 @@ pub fn brief_of(line: &[u8]) -> Option<Brief<'_>>
     let mut numbers = ArrayVec::new();
     let rest = numbers_in(first.behind, &mut numbers);
     if !rest.is_empty() {
-        return transfer_in(keyword, numbers.as_slice(), rest);
+        return spelled_in(keyword, numbers.as_slice(), rest);
     }
     Some(Brief::Event(event_in(keyword, numbers.as_slice())?))
 }

@@ -282,6 +282,8 @@ impl Keyword {
             b"protection" => Some(Keyword::Protection),
             b"up" => Some(Keyword::Up),
             b"reset" => Some(Keyword::Reset),
+            b"store" => Some(Keyword::Store),
+            b"write32" => Some(Keyword::Write32),
             _ => None,
         }
     }

@@ -45,6 +45,20 @@ fn identify_in(numbers: &[u64]) -> Option<(u16, u8, u32)>
     ))
 }
 
+/// `C OFF V`
+#[inline(always)]
+fn write32_in(numbers: &[u64]) -> Option<(u16, u64, u32)>
+    ensures { IfSome result (λ asked. (numbers.now ≡ asked.0 ∷ asked.1 ∷ asked.2 ∷ [])
+        × (asked.0 < 2 ^ 16) × (asked.2 < 2 ^ 32)) }
+{
+    let [cntlid, offset, value] = numbers.as_array::<3>()?;
+    Some((
+        u16::try_from(*cntlid).ok()?,
+        *offset,
+        u32::try_from(*value).ok()?,
+    ))
+}
+
 /// `SLBA BLOCKS`
 #[inline(always)]
 fn range_in(operands: &[u64]) -> Option<(u64, u32)>
@@ -227,6 +241,10 @@ pub fn event_in<'a>(keyword: Keyword, numbers: &[u64]) -> Option<FleetEvent<'a>>
         Keyword::Identify => {
             let (cntlid, cns, nsid) = identify_in(numbers)?;
             Some(FleetEvent::Place(cntlid, Request::Identify { cns, nsid }))
+        }
+        Keyword::Write32 => {
+            let (cntlid, offset, value) = write32_in(numbers)?;
+            Some(FleetEvent::RawWrite32(cntlid, offset, value))
         }
         _ => place_in(keyword, numbers),
     }

@@ -1,5 +1,5 @@
 use Rattle.std.proofs.Common.{◌≡◌, rules}
-use Rattle.nvme_grammar.proofs.BriefLemmas.{says_up, says_ring, says_poll, says_reset, says_fetch, says_execute, says_identify}
+use Rattle.nvme_grammar.proofs.BriefLemmas.{says_up, says_ring, says_poll, says_reset, says_fetch, says_execute, says_identify, says_write32}
 use Rattle.nvme_grammar.proofs.numbers.event_in.Goals as goal
 
 pub returns-in_ok-alone_in-in-Up : goal.returns-in_ok-alone_in-in-Up
@@ -40,3 +40,9 @@ returns-in_ok-cntlid-in-Identify c =
     let asked = c.in_ok-cntlid-in-Identify in
     let is = asked.ensures in
     λ words h. rw c.in-Identify.is (says_identify asked.cntlid is.1 asked.cns asked.nsid is.2 is.3 words (rw is.0 at h))
+
+pub returns-in_ok-cntlid-in-Write32 : goal.returns-in_ok-cntlid-in-Write32
+returns-in_ok-cntlid-in-Write32 c =
+    let asked = c.in_ok-cntlid-in-Write32 in
+    let is = asked.ensures in
+    λ words h. rw c.in-Write32.is (says_write32 asked.cntlid is.1 asked.offset asked.value is.2 words (rw is.0 at h))
