@@ -1,7 +1,6 @@
 """The command `scripts/wrong-bodies`."""
 import argparse
 import os
-import queue
 import threading
 import time
 from dataclasses import dataclass, field
@@ -9,8 +8,8 @@ from dataclasses import dataclass, field
 from support import choosing, edits, proving, record, toolchain, trial
 from support.proving import say
 
-MOST = 12
-USAGE = """Tries wrong bodies over kept work: the prover must refuse each.
+MOST = 20
+USAGE = """Tries wrong bodies, over kept work where there is some: the prover must refuse each.
 
 A wrong body is a file NAME.edit in crates/CRATE/must-fail or crates/CRATE/wrong-bodies. Without names, those are tried
 for which crates/CRATE/wrong-bodies.record says nothing of the present text; with --all, or with names of crates, all of
@@ -37,7 +36,6 @@ class Run:
     rt: object
     book: choosing.Book
     is_kept: bool
-    tasks: queue.SimpleQueue = field(default_factory=queue.SimpleQueue)
     results: list = field(default_factory=list)
     unsound: set = field(default_factory=set)
     spent: dict = field(default_factory=dict)
@@ -65,9 +63,7 @@ class Run:
         record.write(self.book.crates[name], lines)
 
     def close(self, bench):
-        """Ends a worker's stay at a crate."""
-        if bench is None:
-            return
+        """Ends the stay at a crate."""
         name, is_sound = bench.crate.name, bench.is_sound()
         bench.close()
         with self.lock:
@@ -76,24 +72,25 @@ class Run:
                 self.unsound.add(name)
                 self.keep_record(name)
 
-    def work(self):
-        """One worker: tries batches until none is left, with a copy of one crate's kept work at a time."""
-        bench = None
-        while True:
+    def try_part(self, name, checks):
+        """Tries wrong bodies of a crate, one check after the other over the same folder."""
+        bench = trial.Bench(self.rt, self.book.crates[name])
+        for batch in checks:
             try:
-                name, batch = self.tasks.get_nowait()
-            except queue.Empty:
-                return self.close(bench)
-            if bench is None or bench.crate.name != name:
-                self.close(bench)
-                bench = trial.Bench(self.rt, self.book.crates[name])
-            try:
-                for result in bench.try_batch(batch) if batch[0].function else [bench.try_in_full(batch[0])]:
+                for result in self.results_of(bench, batch):
                     self.take(result)
             except Exception as error:
                 missing = {it.name for it in batch} - {it.edit.name for it in self.results if it.edit.crate == name}
                 for edit in (it for it in batch if it.name in missing):
                     self.take(trial.Result(edit, False, "not at all", repr(error)))
+        self.close(bench)
+
+    def results_of(self, bench, batch):
+        """What comes of wrong bodies that share a check, or of one that is no function's."""
+        if batch[0].function:
+            return bench.try_batch(batch)
+        line = self.book.lines[batch[0].crate].get(batch[0].name)
+        return [bench.try_by_witnesses(batch[0], line.goal if line else "")]
 
 
 def chosen_of(words, book):
@@ -105,31 +102,37 @@ def chosen_of(words, book):
     return {name: edits for name, edits in found.items() if name in named}
 
 
-def keep(rt, crates, jobs):
-    """Has each crate's work kept, and its libraries built; over what `rt ci` has just built, where it did."""
+def build_below(rt, crates, jobs):
+    """Has the libraries built that the crates stand on, where `rt ci` has not just built them. Of the crates themselves
+    each check proves what it needs, where nothing is kept of them."""
     below = [it for it in proving.cone_of(crates) if any(it in other.below() for other in crates)]
-    if all(map(proving.is_left_by_ci, below)) and not all(it.is_built() for it in crates):
-        return proving.keep_each(rt, crates, jobs, say)
+    if all(map(proving.is_left_by_ci, below)):
+        return True
     with open(os.devnull, "w", encoding="utf-8") as log:
-        return proving.prove(rt, crates, jobs, say, log)
+        return proving.prove(rt, below, jobs, say, log)
 
 
-def room_for(rt, crates):
-    """How many checks can run side by side: one a processor, as many as memory holds of the largest."""
-    return max(1, min(rt.processors(), int(0.85 * rt.free() / max(map(rt.need, crates)))))
+def parts_of(found, count):
+    """A crate's wrong bodies in so many parts, or fewer: each the checks that one worker makes, one after the other."""
+    batches, alone = edits.batches_of(found, min(MOST, -(-len(found) // count)))
+    checks = [*batches, *([it] for it in alone)]
+    return [checks[at::count] for at in range(min(count, len(checks)))]
 
 
 def try_all(run, chosen, jobs):
-    """Tries them side by side, those of the crates with most of them first."""
-    for name, found in sorted(chosen.items(), key=lambda it: -len(it[1])):
-        batches, alone = edits.batches_of(found, MOST)
-        for batch in [*([it] for it in alone), *batches]:
-            run.tasks.put((name, batch))
-    workers = [threading.Thread(target=run.work) for _ in range(jobs)]
-    for it in workers:
-        it.start()
-    for it in workers:
-        it.join()
+    """Tries them side by side, as many as memory holds, those first that take longest. The checks of a crate come one
+    after the other, so that what the first of them proves is there for the others; a crate is taken in parts where it
+    has more than a processor's share of the work."""
+    if jobs:
+        run.rt.processors = lambda: jobs
+    weights = {name: len(found) * run.rt.need(run.book.crates[name]) for name, found in chosen.items()}
+    tasks = {}
+    for name, found in chosen.items():
+        count = max(1, round(run.rt.processors() * weights[name] / sum(weights.values())))
+        for number, checks in enumerate(parts_of(found, count)):
+            tasks[name, number] = ([], weights[name] // count, run.rt.need(run.book.crates[name]),
+                                   lambda _given, _jobs, name=name, checks=checks: run.try_part(name, checks))
+    run.rt.in_lanes(tasks)
 
 
 def end(run, book, count):
@@ -165,7 +168,7 @@ def main(root, given):
     count = sum(map(len, chosen.values()))
     say(f"{count} of {book.tally()} wrong bodies are tried, of {len(chosen)} crates: {' '.join(chosen)}")
     run = Run(rt, book, not words.gate)
-    if count and keep(rt, [crates[it] for it in chosen], words.jobs):
-        try_all(run, chosen, words.jobs or room_for(rt, [crates[it] for it in chosen]))
+    if count and build_below(rt, [crates[it] for it in chosen], words.jobs):
+        try_all(run, chosen, words.jobs)
     say(f"{(time.monotonic() - begun) / 60:.1f} minutes")
     return end(run, book, count)

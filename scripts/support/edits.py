@@ -22,8 +22,8 @@ class Change:
 
 @dataclass(frozen=True)
 class Edit:
-    """A wrong body: its crate, its file, and what it changes; the function, where it changes the body of one alone, and
-    whether a copy of that can stand beside it."""
+    """A wrong body: its crate, its file, and what it changes; the function, where it changes the body of one alone,
+    with the text of that body and of its changes, and whether a copy of the function can stand beside it."""
     crate: str
     file: Path
     text: str
@@ -55,8 +55,20 @@ def changes_of(text):
     return tuple(changes)
 
 
+def says_the_same(change):
+    """Whether a change is of spaces alone, as where a text that stands twice is made one that stands once."""
+    return '"' not in change.old and re.findall(r"\w+|\S", change.old) == re.findall(r"\w+|\S", change.new)
+
+
+def is_within(function, line, change):
+    """Whether a change of this line is one of the function's body, which can begin behind the brace of its head."""
+    begins = change.old.endswith("{") and change.new.startswith(change.old)
+    return function.body < line < function.last or begins and line == function.body < function.last
+
+
 def changed_function(folder, changes):
-    """The file and the one function whose body the changes are in, or none."""
+    """The file and the one function whose body the changes are in, or none. What changes spaces alone may stand
+    anywhere: a check has the wrong body without it."""
     found, texts = set(), {}
     for it in changes:
         if not it.path.startswith("src/"):
@@ -65,7 +77,9 @@ def changed_function(folder, changes):
         # A later change may apply to what an earlier one made, which leaves each line where it was.
         line = text[:text.index(it.old)].count("\n")
         texts[it.path] = text.replace(it.old, it.new)
-        here = [f for f in functions_of((folder / it.path).read_text(), it.path) if f.body < line < f.last]
+        if says_the_same(it):
+            continue
+        here = [f for f in functions_of((folder / it.path).read_text(), it.path) if is_within(f, line, it)]
         if len(here) != 1:
             return "", None
         found.add((it.path, here[0]))
@@ -84,7 +98,7 @@ def read_edit(rt, crate, file):
     if not function:
         return Edit(crate.name, file, text, changes)
     whole = (folder / path).read_text()
-    body = "\n".join(whole.split("\n")[function.body + 1:function.last])
+    body = "\n".join([*whole.split("\n")[function.body + 1:function.last], *(it.new for it in changes)])
     return Edit(crate.name, file, text, changes, function, path, body, stands_beside(folder, whole, function))
 
 
@@ -122,9 +136,11 @@ def are_apart(one, other):
 
 
 def batches_of(edits, most):
-    """The wrong bodies of one crate in as few checks as may be, and those that need a check in full."""
+    """The wrong bodies of one crate in as few checks as may be, those of one function beside one another, since each
+    check proves the functions too that its copies are of; and those that are no function's, each of which needs a check
+    of its own."""
     batches = []
-    for edit in sorted((it for it in edits if it.function), key=lambda it: it.is_copied):
+    for edit in sorted((it for it in edits if it.function), key=lambda it: (it.is_copied, it.path, it.function.first)):
         room = next((b for b in batches if len(b) < most and all(are_apart(edit, it) for it in b)), None)
         if room is None:
             batches.append([edit])

@@ -81,7 +81,7 @@ def texts_of(folder, edits, beside):
             if beside(edit):
                 copies.setdefault(function.last, []).append((number, edit, own[function.first:function.last + 1]))
             else:
-                lines[function.body + 1:function.last] = own[function.body + 1:function.last]
+                lines[function.body:function.last] = own[function.body:function.last]
         texts[path], found = joined(lines, copies, here)
         placed += found
         for number, edit in enumerate(here):

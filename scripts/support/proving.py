@@ -1,6 +1,5 @@
 """Proves crates side by side, over what earlier runs kept, and keeps what it proves."""
 import shutil
-import subprocess
 import tempfile
 import threading
 import time
@@ -32,7 +31,8 @@ def is_left_by_ci(crate):
     library = Path(crate.rlib)
     if not library.is_dir() or (library.parent / "stamp").exists():
         return False
-    return all(newest_source(it) < (library / "format").stat().st_mtime for it in [*crate.below(), crate])
+    # What an earlier run on this machine built is put there by links, as old as they are, in a folder that is new.
+    return all(newest_source(it) < library.stat().st_mtime for it in [*crate.below(), crate])
 
 
 def side_by_side(rt, work, jobs):
@@ -41,14 +41,15 @@ def side_by_side(rt, work, jobs):
     crates, call = work
     if jobs:
         rt.processors = lambda: jobs
-    names = {it.name for it in crates}
+    # Some kits of the toolchain give the processors that are idle to tasks that are called a proof, and to no other.
+    keys = {it.name: (it.name, "proof") for it in crates}
 
     def task(crate):
-        waits = [it.name for it in crate.below() if it.name in names]
+        waits = [keys[it.name] for it in crate.below() if it.name in keys]
         return (waits, crate.count(rb"\n"), rt.need(crate),
                 lambda given, jobs: all(given[it] for it in waits) and call(crate, jobs))
 
-    return all(rt.in_lanes({it.name: task(it) for it in crates}).values())
+    return all(rt.in_lanes({keys[it.name]: task(it) for it in crates}).values())
 
 
 # Threads write a line at a time.
@@ -103,20 +104,3 @@ def prove(rt, wanted, jobs, tell, log):
     for it in held:
         rt.rtlib.os.close(it)
     return is_well
-
-
-def keep_each(rt, crates, jobs, tell):
-    """Proves each crate once over the libraries that stand below it as they are, and keeps its work in its out/."""
-    progress = Progress(len(crates), tell)
-
-    def check(crate, jobs):
-        progress.begin(crate.name)
-        words = [*rt.rtlib.guarded(), rt.rtlib.RATTLE, "check", *crate.words(["--jobs", str(jobs)], keeps=False)]
-        ran = subprocess.run([*words, *rt.rtlib.KEPT], cwd=crate.folder, stdin=subprocess.DEVNULL,
-                             stdout=subprocess.PIPE, stderr=subprocess.STDOUT, text=True, errors="replace")
-        if ran.returncode:
-            tell(ran.stdout[-2000:])
-        progress.end(crate.name, "NOT PROVED" if ran.returncode else "kept")
-        return not ran.returncode
-
-    return side_by_side(rt, (crates, check), jobs)

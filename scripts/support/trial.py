@@ -1,4 +1,4 @@
-"""Tries wrong bodies of one crate over a copy of its kept work."""
+"""Tries wrong bodies of one crate over a copy of its kept work, or over none."""
 import os
 import re
 import shutil
@@ -10,11 +10,17 @@ from pathlib import Path
 from types import SimpleNamespace
 
 from support.placing import texts_of
+from support.witnesses import witnesses_of
 
 NOTE = re.compile(r"note: (?:\./)?(src/\S+):(\d+):\d+: it is not proved that (.*?) ?\(`([^`]+)`\)")
 ANSWER = re.compile(r"(?:note: )?(?:\./)?proofs/(\S+)/\w+\.antt:\d+:\d+: (?:error: )?`([^`]+)`: (.*)")
 CLAUSE = re.compile(r"^ +ensures\*? (?:([\w-]+) )?(\{.*?\});?$(?=\n +(?:requires|ensures|ghost)|\s*\Z)", re.M | re.S)
 OPEN = re.compile(r"did not prove ((?:`[^`]+`(?:, | and )?)+)")
+# How the check of some functions ends where it is finished.
+SOME = re.compile(r"^only=\d+ proved=\d+\n*\Z", re.M)
+# What `rt` says of a wrong body that is refused for what it says: with the first goal, and not for a name alone.
+BY_A_GOAL = re.compile(r"refused, as it must be: \S")
+NOT_PROVED = ("not proved", "no proof: expected")
 
 
 @dataclass(frozen=True)
@@ -42,6 +48,9 @@ class Said:
         head = re.compile(rf"fn {crate}::(?:\w+::)*{re.escape(name)}: (.*)")
         return [it[1] for it in map(head.match, self.lines) if it]
 
+    def is_not_proved(self, crate, name):
+        return any(it.startswith(NOT_PROVED) for it in self.verdicts(crate, name))
+
     def own_goals(self, edit):
         """The goals of the edited function that stayed open, each with what it says."""
         function, found = edit.function, {}
@@ -63,8 +72,7 @@ class Said:
         the function that it is a copy of is proved."""
         if edit.copied and self.verdicts(edit.crate, edit.copied.name) != ["proved"]:
             return False
-        lines = self.verdicts(edit.crate, edit.function.name)
-        return any(it.startswith(("not proved", "no proof: expected")) for it in lines) and bool(self.own_goals(edit))
+        return self.is_not_proved(edit.crate, edit.function.name) and bool(self.own_goals(edit))
 
 
 def told(goals, clauses=None):
@@ -92,16 +100,36 @@ def clauses_of(text, function):
     return dict(CLAUSE.findall(head))
 
 
+def linked(folder, to):
+    """Copies kept work: what was proved by links, where these can be made, since a check replaces such a file and
+    changes none."""
+    def copy(one, other):
+        try:
+            if one.endswith(".oantt"):
+                return os.link(one, other)
+        except OSError:
+            pass
+        return shutil.copy2(one, other)
+
+    shutil.copytree(folder, to, copy_function=copy)
+
+
 class Bench:
-    """A crate, and a copy of its kept work that one worker tries wrong bodies over."""
+    """A crate, and the folder that the checks of its wrong bodies keep their work in. It begins with a copy of the
+    crate's kept work, or with nothing: then the first check proves the functions that it asks for as they stand, with
+    what they call and the lemmas that they cite, and the next checks take that."""
 
     def __init__(self, rt, crate):
         self.rt, self.crate = rt, crate
         self.folder = Path(crate.folder)
         self.room = tempfile.mkdtemp(prefix="wrong-bodies-")
         self.kept = f"{self.room}/kept"
-        self.tried, self.spent, self.output = set(), 0.0, ""
-        shutil.copytree(self.folder / "out/incremental", self.kept)
+        self.tried, self.spent, self.said = set(), 0.0, None
+        self.begins_anew = not (self.folder / "out/incremental").is_dir()
+        if self.begins_anew:
+            os.mkdir(self.kept)
+        else:
+            linked(self.folder / "out/incremental", self.kept)
 
     def close(self):
         shutil.rmtree(self.room, ignore_errors=True)
@@ -119,8 +147,7 @@ class Bench:
             words += self.crate.words(["--jobs", "1"], keeps=False)
             words += ["--incremental", kept] if kept else []
             said = run([*words, *(word for it in only for word in ("--only", it))], room)
-        self.spent += said.seconds
-        self.output = said.text
+        self.spent, self.said = self.spent + said.seconds, said
         return said
 
     def is_spoiled(self, said, texts):
@@ -131,13 +158,18 @@ class Bench:
         return is_unread or said.status != 1 or not any(it.startswith("only=") for it in said.lines)
 
     def try_batch(self, batch):
-        """Tries wrong bodies in one check, and each that is not refused there for its own sake alone."""
+        """Tries wrong bodies in one check, and each that is not refused there for its own sake alone; where the check
+        comes to nothing, as by one that can't be read, each half of them."""
         is_shared = len(batch) > 1
         texts, placed = texts_of(self.folder, batch, lambda it: is_shared and it.is_copied)
         only = [word for it in placed for word in (it.function, it.copied) if word]
         said = self.check(texts, dict.fromkeys(it.name for it in only), self.kept)
         how = f"with {len(batch) - 1} others" if is_shared else "alone"
         is_spoiled = self.is_spoiled(said, texts)
+        if is_spoiled and is_shared:
+            yield from self.try_batch(batch[:len(batch) // 2])
+            yield from self.try_batch(batch[len(batch) // 2:])
+            return
         for it in placed:
             if not is_spoiled and said.refuses(it):
                 self.tried |= set() if it.copied else {it.function.name}
@@ -147,23 +179,39 @@ class Bench:
             else:
                 yield self.try_in_full(it.edit)
 
-    def asked(self, edit, *kept):
-        """What `rt` makes of a wrong body: whether the prover refuses it, and in which words. Some kits of the toolchain
-        tell it by the name of an outcome, others by a truth value."""
+    def asked(self, edit, *kept, only=()):
+        """What `rt` makes of a wrong body, checked in full or by some functions: whether the prover refuses it, and in
+        which words. Some kits of the toolchain tell it by the name of an outcome, others by a truth value."""
+        HERE.bench, HERE.only = self, only
         outcome, words = self.rt.must_fail(self.crate, str(edit.file), ["--jobs", "1"], *kept)
-        return outcome == getattr(self.rt, "REFUSED", True), words
+        return outcome == getattr(self.rt, "REFUSED", True), words.split(f"{edit.name}: ", 1)[-1]
+
+    def try_by_witnesses(self, edit, goal=""):
+        """Tries a wrong body that is no function's by a check of the functions in which it is likely to show, and in
+        full where none of them is refused; `goal` is what refused it once."""
+        only = witnesses_of(self.folder, edit.name, goal)
+        is_refused, words = self.asked(edit, self.kept, only=only) if only else (False, "")
+        refused = [it for it in only if self.said.is_not_proved(edit.crate, it)] if is_refused else []
+        if not refused or not BY_A_GOAL.match(words):
+            return self.try_in_full(edit)
+        self.tried |= set(refused)
+        return Result(edit, True, f"in {refused[0]}", self.first_goals(edit, words))
 
     def try_in_full(self, edit):
-        """Tries a wrong body as `rt` does: over the kept work, and from nothing where it is not refused so."""
-        HERE.bench = self
+        """Tries a wrong body as `rt` does: over the kept work, and from nothing where it is not refused so; but what is
+        proved over work that this run began itself is proved."""
         is_refused, words = self.asked(edit, self.kept)
-        if not is_refused and "BAD EDIT" not in words:
+        is_proved = self.begins_anew and "NOT REFUSED" in words
+        if not is_refused and "BAD EDIT" not in words and not is_proved:
             is_refused, words = self.asked(edit)
-        words = words.split(f"{edit.name}: ", 1)[-1]
-        goals = {it[4]: it[3] for it in map(NOTE.match, self.output.split("\n")) if it}
+        return Result(edit, is_refused, "in full", self.first_goals(edit, words) if is_refused else words)
+
+    def first_goals(self, edit, words):
+        """The goals that the last check left open, or what `rt` said of the first."""
+        goals = {it[4]: it[3] for it in map(NOTE.match, self.said.lines) if it}
         first = re.sub(r"^refused, as it must be(?:: )?", "", words) or "not proved"
         told_goals = told(goals, self.clauses(edit) if edit.function else None) if goals else first
-        return Result(edit, is_refused, "in full", " ".join(told_goals.split()) if is_refused else words)
+        return " ".join(told_goals.split())
 
     def clauses(self, edit):
         """The clauses of the edited function's contract."""
@@ -174,15 +222,17 @@ class Bench:
         return not self.tried or self.check({}, sorted(self.tried), self.kept).status == 0
 
 
-# The bench that a worker's check in full is made on.
+# The bench that a worker's check by `rt` is made on, and the functions that it asks for, where these are some.
 HERE = threading.local()
 
 
 def lend(rt):
-    """Has `rt` make its checks of wrong bodies on the worker's bench, where their time is counted."""
+    """Has `rt` make its checks of wrong bodies on the worker's bench, where their time is counted. It knows how a check
+    of the whole crate ends that is not proved: so ends one of some functions here that are not all proved."""
     def checked(_crate, texts, _flags, kept):
-        said = HERE.bench.check(texts, (), kept)
-        return SimpleNamespace(returncode=said.status, stdout=said.text)
+        said = HERE.bench.check(texts, HERE.only, kept)
+        text = SOME.sub("logic=not-proved", said.text) if HERE.only and said.status == 1 else said.text
+        return SimpleNamespace(returncode=said.status, stdout=text)
 
     rt.checked = checked
 
