@@ -133,14 +133,8 @@ unscattered window (a ∷ places) = refl
 -- only Namespace Attachment has a list
 pub unlisted : (k : AdminCommand) (w : World) (e sent : List ℕ) → (k ≡ NamespaceAttachment → ⊥) → judgement_by (list_rule (Some k) w e sent) ≡ Ok tt
 unfolding list_rule judgement_by
-unlisted DeleteSubmissionQueue w e sent h = refl
-unlisted CreateSubmissionQueue w e sent h = refl
-unlisted DeleteCompletionQueue w e sent h = refl
-unlisted CreateCompletionQueue w e sent h = refl
-unlisted Identify w e sent h = refl
-unlisted SetFeatures w e sent h = refl
-unlisted GetFeatures w e sent h = refl
 unlisted NamespaceAttachment w e sent h = absurd (h refl)
+unlisted command w e sent h = refl
 
 -- commands that differ
 pub other : (k m n : AdminCommand) → k ≡ m → (m ≡ n → ⊥) → k ≡ n → ⊥

@@ -4,6 +4,7 @@ use Rattle.std.specs.Prelude.{◌==◌}
 use Rattle.std.proofs.lemmas.Bool.{cases_lt, lt-ltb, ne_eqb}
 use Rattle.nvme_wire.specs.declared.sqe.fields.SqeFields.{SqeFields}
 use Rattle.nvme_wire.specs.Submission.{cdw10, cdw12}
+use Rattle.nvme_spec.specs.Limits.{most_bytes}
 use Rattle.nvme_spec.specs.Commands as commands
 use Rattle.nvme_spec.specs.AdminCommands as admin_commands
 use Rattle.nvme_driver.specs.declared.request.Request.TheVariants.{Read, Write, Compare, WriteZeroes, Flush, Register, Acquire, Release, Report, Identify, Protect, Protection, Attach, Detach}
@@ -46,14 +47,14 @@ divided (suc n) e = let z = ne_eqb (suc n) 0 (λ k. omega (arith, k)) in absurd 
 pub record Whole (n : ℕ) : Type 0 where
   pub some : 1 ≤ n
   pub blocks : n % 512 ≡ 0
-  pub most : n ≤ 131072
+  pub most : n ≤ most_bytes
 
 pub whole : (bytes : List ℕ) → not (are_whole_blocks bytes) ≡ false → Whole (length bytes)
 whole bytes e =
     let n : ℕ = length bytes in
-    let one = both (not (n == 0) && (n % 512 == 0)) (not (nat_lt 131072 n)) (not-true _ e) in
+    let one = both (not (n == 0) && (n % 512 == 0)) (not (nat_lt most_bytes n)) (not-true _ e) in
     let two = both (not (n == 0)) (n % 512 == 0) one.0 in
-    record { some = not-zero n two.0; blocks = divided (n % 512) two.1; most = not-over n 131072 one.1 }
+    record { some = not-zero n two.0; blocks = divided (n % 512) two.1; most = not-over n most_bytes one.1 }
 
 pub entries_move_their_data : EntriesMoveTheirData
 unfolding commands.command_of commands.block_count commands.report_length admin_commands.command_of admin_commands.fid

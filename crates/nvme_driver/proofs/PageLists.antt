@@ -4,6 +4,7 @@ use Rattle.std.specs.Prelude.{slice_range, ◌⊎◌}
 use Rattle.std.proofs.lemmas.List.{take-take, take-append-le, take_at, drop_at, drop-drop, drop-take, length-take-le}
 use Rattle.std.proofs.Math.Seq.{drop-append-add}
 use Rattle.std.proofs.lemmas.Bool.{cases_lt, lt-leb, le-leb, cond-true, cond-false}
+use Rattle.nvme_spec.specs.Limits.{most_bytes}
 use Rattle.nvme_spec.specs.Bytes.{with_bytes}
 use Rattle.nvme_driver.specs.Layout.{list_page, data_area}
 use Rattle.nvme_driver.specs.Pointers.{pages_behind, listed_pages, list_of_slot, stored_list, page_entries, OtherPartsStay, StoredListIsThere, StoresKeepLists, ListsKeepOthers}
@@ -60,14 +61,14 @@ other_parts_stay = part-apart
 listed-long : (s bytes : ℕ) → 8192 < bytes → stored_list s bytes ≡ list_of_slot s bytes
 listed-long s bytes long = ap (page_entries (data_area s + 4096)) (cond-false _ _ _ (lt-leb bytes 8192 long))
 
-pub listed-few : (bytes : ℕ) → bytes ≤ 131072 → listed_pages bytes ≤ 31
+pub listed-few : (bytes : ℕ) → bytes ≤ most_bytes → listed_pages bytes ≤ 31
 listed-few bytes most =
     ⊎_elim {C = listed_pages bytes ≤ 31}
     (λ (long : 8192 < bytes). let e : listed_pages bytes ≡ pages_behind bytes = cond-false _ _ _ (lt-leb bytes 8192 long) in omega arith)
     (λ (short : bytes ≤ 8192). let e : listed_pages bytes ≡ 0 = cond-true _ _ _ (le-leb bytes 8192 short) in omega arith)
     (cases_lt 8192 bytes)
 
-pub length-stored_list : (s bytes : ℕ) → bytes ≤ 131072 → length (stored_list s bytes) ≤ 248
+pub length-stored_list : (s bytes : ℕ) → bytes ≤ most_bytes → length (stored_list s bytes) ≤ 248
 length-stored_list s bytes most =
     let size = length-page_entries (data_area s + 4096) (listed_pages bytes) in
     let few = listed-few bytes most in

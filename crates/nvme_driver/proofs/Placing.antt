@@ -2,6 +2,7 @@
 use Rattle.std.proofs.Common.{◌≡◌, ℕ, ◌+◌, ◌≤◌, ◌<◌, List, length, refl, sym, ap, ◌∙◌, arith, inl, subst}
 use Rattle.nvme_wire.specs.declared.sqe.fields.SqeFields.{SqeFields}
 use Rattle.nvme_wire.specs.Submission.{submission_entry, submission_of}
+use Rattle.nvme_spec.specs.Limits.{most_bytes}
 use Rattle.nvme_spec.specs.Bytes.{with_bytes}
 use Rattle.nvme_spec.specs.Memory.{window_size}
 use Rattle.nvme_spec.proofs.Splices.{length-with_bytes}
@@ -26,7 +27,7 @@ entry-low Io n = omega arith
 
 -- of a request that moves at most 131,072 bytes, in the window that its three stores leave
 holds-placed : (d : Driver) (window : List ℕ) (request : Request) (slot : ℕ) → length window ≡ window_size → slot < 24 →
-    length (asked_of request).sent ≤ 131072 → (asked_of request).moved ≤ 131072 →
+    length (asked_of request).sent ≤ most_bytes → (asked_of request).moved ≤ most_bytes →
     submission_of (entry_of request slot) ≡ entry_fields (asked_of request) slot →
     HoldsRequest d window (placed_window d window request slot) request slot
 holds-placed d window request slot whole fits few most say =
@@ -62,14 +63,14 @@ holds-placed d window request slot whole fits few most say =
 
 -- as the three stores of the code leave it
 pub holds : (d : Driver) (old one two new sent list entry : List ℕ) (request : Request) (slot a b c : ℕ) →
-    length old ≡ window_size → slot < 24 → length sent ≤ 131072 → (asked_of request).moved ≤ 131072 →
+    length old ≡ window_size → slot < 24 → length sent ≤ most_bytes → (asked_of request).moved ≤ most_bytes →
     a ≡ data_area slot → sent ≡ (asked_of request).sent → b ≡ list_page slot →
     list ≡ stored_list slot (asked_of request).moved → c ≡ entry_place d request → entry ≡ entry_of request slot →
     one ≡ with_bytes old a sent → two ≡ with_bytes one b list → new ≡ with_bytes two c entry →
     submission_of (entry_of request slot) ≡ entry_fields (asked_of request) slot →
     HoldsRequest d old new request slot
 holds d old one two new sent list entry request slot a b c whole fits few most a-is sent-is b-is list-is c-is entry-is one-is two-is new-is say =
-    let short : length (asked_of request).sent ≤ 131072 = subst (λ xs. length xs ≤ 131072) sent-is few in
+    let short : length (asked_of request).sent ≤ most_bytes = subst (λ xs. length xs ≤ most_bytes) sent-is few in
     let first : one ≡ with_bytes old (data_area slot) (asked_of request).sent =
     one-is ∙ ap (λ x. with_bytes old x sent) a-is ∙ ap (with_bytes old (data_area slot)) sent-is in
     let second : two ≡ with_bytes (with_bytes old (data_area slot) (asked_of request).sent) (list_page slot) (stored_list slot (asked_of request).moved) =

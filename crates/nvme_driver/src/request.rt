@@ -6,6 +6,7 @@ ghost use Rattle.nvme_driver.specs.Requests.{asked_of, is_bad as bad, words_of};
 
 use crate::lane::Lane;
 use crate::opcode::{admin, io};
+use nvme_spec::MOST_BYTES;
 
 /// The feature Namespace Write Protection Config.
 const WRITE_PROTECTION: u32 = 0x84;
@@ -129,7 +130,7 @@ impl Request<'_> {
         match *self {
             Request::Read { blocks, .. } => blocks == 0 || blocks > 256,
             Request::Write { bytes, .. } | Request::Compare { bytes, .. } => {
-                bytes.is_empty() || bytes.len() % 512 != 0 || bytes.len() > 131_072
+                bytes.is_empty() || bytes.len() % 512 != 0 || bytes.len() > MOST_BYTES
             }
             Request::WriteZeroes { blocks, .. } => blocks == 0 || blocks > 65_536,
             Request::Register { action, cptpl, .. } => action > 7 || cptpl > 3,

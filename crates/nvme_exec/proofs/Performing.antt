@@ -27,15 +27,10 @@ use Rattle.nvme_exec.proofs.Data.{data-is, outcome-is}
 -- only reservation commands make something of a reservation
 no-action : (command : Command) (r : resv.Reservation) (host : ℕ) (e keys : List ℕ) → (kind_of command ≡ OnReservation → ⊥) → action_outcome command r host e keys ≡ None
 unfolding action_outcome
-no-action Flush r host e keys h = refl
-no-action Write r host e keys h = refl
-no-action Read r host e keys h = refl
-no-action Compare r host e keys h = refl
-no-action WriteZeroes r host e keys h = refl
-no-action ReservationReport r host e keys h = refl
 no-action ReservationRegister r host e keys h = absurd (h refl)
 no-action ReservationAcquire r host e keys h = absurd (h refl)
 no-action ReservationRelease r host e keys h = absurd (h refl)
+no-action command r host e keys h = refl
 
 no-outcome : (command : Command) (n : Option Namespace) (host : ℕ) (e keys : List ℕ) → (kind_of command ≡ OnReservation → ⊥) → outcome_in (Some command) n (Some host) e keys ≡ None
 no-outcome command None host e keys h = refl
@@ -49,15 +44,10 @@ unreserved w cntlid window e a h other =
 
 -- such a command marks nothing
 no-marks : (command : Command) (e : List ℕ) → (kind_of command ≡ OnReservation → ⊥) → is_preempt_and_abort command e ≡ is_preempt_and_abort Flush e
-no-marks Flush e h = refl
-no-marks Write e h = refl
-no-marks Read e h = refl
-no-marks Compare e h = refl
-no-marks WriteZeroes e h = refl
-no-marks ReservationReport e h = refl
 no-marks ReservationRegister e h = absurd (h refl)
 no-marks ReservationAcquire e h = absurd (h refl)
 no-marks ReservationRelease e h = absurd (h refl)
+no-marks command e h = refl
 
 unmarked : (command : Command) (e : List ℕ) (outcome : Option resv.ActionOutcome) → (kind_of command ≡ OnReservation → ⊥) → no_marks ≡ marks_of command e outcome
 unmarked command e outcome h = sym (rw (no-marks command e h) refl)
@@ -71,15 +61,11 @@ aimed : (tells : Bool) (command : Command) (w : World) (e sent : List ℕ) (firs
     → first ≡ start_of (namespace_of w (nsid e)) + (plan_of command e).first → blocks ≡ (plan_of command e).blocks
     → BlockEffect tells command first blocks sent before after answer returned
     → BlockEffect tells command (medium_block w e) (block_count e) sent before after answer returned
-aimed tells Flush w e sent first blocks before after answer returned f b h = h
 aimed tells Write w e sent first blocks before after answer returned f b h = rw f at h
 aimed tells Read w e sent first blocks before after answer returned f b h = rw (f, b) at h
 aimed tells Compare w e sent first blocks before after answer returned f b h = rw f at h
 aimed tells WriteZeroes w e sent first blocks before after answer returned f b h = rw (f, b) at h
-aimed tells ReservationRegister w e sent first blocks before after answer returned f b h = h
-aimed tells ReservationReport w e sent first blocks before after answer returned f b h = h
-aimed tells ReservationAcquire w e sent first blocks before after answer returned f b h = h
-aimed tells ReservationRelease w e sent first blocks before after answer returned f b h = h
+aimed tells command w e sent first blocks before after answer returned f b h = h
 
 -- a kind is not another
 not-reservation-blocks : (k : CommandKind) → k ≡ OnBlocks → k ≡ OnReservation → ⊥
@@ -119,15 +105,8 @@ blocks-done tells w cntlid window new e a before after answer outcome h k acts i
 
 -- only Report reports
 report-kind : (command : Command) → kind_of command ≡ OnReport → command ≡ ReservationReport
-report-kind Flush h = absurd (cc)
-report-kind Write h = absurd (cc)
-report-kind Read h = absurd (cc)
-report-kind Compare h = absurd (cc)
-report-kind WriteZeroes h = absurd (cc)
 report-kind ReservationReport h = refl
-report-kind ReservationRegister h = absurd (cc)
-report-kind ReservationAcquire h = absurd (cc)
-report-kind ReservationRelease h = absurd (cc)
+report-kind command h = absurd (cc)
 
 -- a report
 pub report-done : (tells : Bool) (w : World) (cntlid n : ℕ) (window new e : List ℕ) (a : Admission) (device : Device) (outcome : Outcome)

@@ -5,8 +5,9 @@ use Rattle.std.specs.List.{AllByRecursion}
 use Rattle.std.proofs.lemmas.Bool.Decides.{nat_tests}
 use Rattle.nvme_wire.specs.Submission.{opcode, nsid}
 use Rattle.nvme_wire.specs.declared.status.Status.{Status}
+use Rattle.nvme_spec.specs.Limits.{most_bytes}
 use Rattle.nvme_spec.specs.declared.command.Command.{Command}
-use Rattle.nvme_spec.specs.declared.command.Command.TheVariants.{Flush, Write, Read, Compare, WriteZeroes, ReservationRegister, ReservationReport, ReservationAcquire, ReservationRelease}
+use Rattle.nvme_spec.specs.declared.command.Command.TheVariants.{Write, Read, Compare, ReservationReport, ReservationAcquire}
 use Rattle.nvme_spec.specs.declared.verdict.Denial.{Denial}
 use Rattle.nvme_spec.specs.declared.verdict.Plan.{Plan}
 use Rattle.nvme_spec.specs.declared.verdict.Verdict.TheVariants.{Allowed, Denied}
@@ -163,26 +164,22 @@ fields-pass w cntlid e marked plan h =
     let all = all-pass (access_rules w cntlid e marked) p.passed in
     all-tests-pass _ (no-failure _ _ (ap (λ c. judgement_by (field_rule c e)) (sym p.named) ∙ all.1.1.1.1.1.0))
 
-few : (n : ℕ) → nat_lt 256 n ≡ false → 512 * n ≤ 131072
+few : (n : ℕ) → nat_lt 256 n ≡ false → 512 * n ≤ most_bytes
 few n h = grind (arith, nat_tests)
 
-small : (n : ℕ) → nat_lt 131072 n ≡ false → n ≤ 131072
+small : (n : ℕ) → nat_lt most_bytes n ≡ false → n ≤ most_bytes
 small n h = grind (arith, nat_tests)
 
 -- no command moves more than 131,072 bytes
-bytes-few : (command : Command) (e : List ℕ) → AllByRecursion (λ (t : Test). t.fails ≡ false) (field_rule (Some command) e).tests → data_length command e ≤ 131072
+bytes-few : (command : Command) (e : List ℕ) → AllByRecursion (λ (t : Test). t.fails ≡ false) (field_rule (Some command) e).tests → data_length command e ≤ most_bytes
 unfolding field_rule
-bytes-few Flush e h = omega arith
 bytes-few Write e h = few (block_count e) h.0
 bytes-few Read e h = few (block_count e) h.0
 bytes-few Compare e h = few (block_count e) h.0
-bytes-few WriteZeroes e h = omega arith
-bytes-few ReservationRegister e h = omega arith
 bytes-few ReservationReport e h = small (report_length e) h.1.1.1.1.1.0
-bytes-few ReservationAcquire e h = omega arith
-bytes-few ReservationRelease e h = omega arith
+bytes-few command e h = omega arith
 
-pub plan-bytes : (w : World) (cntlid : ℕ) (e : List ℕ) (marked : Bool) (plan : Plan) → verdict w cntlid e marked ≡ Allowed plan → data_length plan.kind e ≤ 131072
+pub plan-bytes : (w : World) (cntlid : ℕ) (e : List ℕ) (marked : Bool) (plan : Plan) → verdict w cntlid e marked ≡ Allowed plan → data_length plan.kind e ≤ most_bytes
 plan-bytes w cntlid e marked plan h = bytes-few plan.kind e (fields-pass w cntlid e marked plan h)
 
 type-by : (n : ℕ) (a b : Bool) → (a || b || (n == 0) || nat_lt 6 n) ≡ false → (1 ≤ n) × (n ≤ 6)

@@ -1,6 +1,7 @@
 -- A command that the rules on access and on its data pointer have let pass.
 use Rattle.std.specs.Prelude.{◌≡◌, ◌+◌, ◌≤◌, ℕ, List, length, Some, IsSome}
 use Rattle.nvme_wire.specs.Submission.{opcode, nsid}
+use Rattle.nvme_spec.specs.Limits.{most_bytes}
 use Rattle.nvme_spec.specs.declared.command.Command.TheVariants.{ReservationAcquire}
 use Rattle.nvme_spec.specs.Commands.{command_of, plan_of, data_length, rtype}
 use Rattle.nvme_spec.specs.Transfers.{addresses}
@@ -20,5 +21,5 @@ pub record IsAdmitted (w : World) (cntlid : ℕ) (window e : List ℕ) (a : Admi
   pub blocks : a.extent.blocks ≡ a.plan.blocks
   pub placed : addresses a.pieces.parts.items ≡ data_addresses (data_length a.plan.kind e) window e
   pub bytes : length (addresses a.pieces.parts.items) ≡ data_length a.plan.kind e
-  pub few : data_length a.plan.kind e ≤ 131072
+  pub few : data_length a.plan.kind e ≤ most_bytes
   pub typed : a.plan.kind ≡ ReservationAcquire → (1 ≤ rtype e) × (rtype e ≤ 6)

@@ -1,6 +1,7 @@
 //! Reservation Report: the registrants and the holder of a namespace, in the memory of the host.
 
 ghost use Rattle.std.specs.Prelude.{◌≡◌, ◌≤◌, length, IsSome};
+ghost use Rattle.nvme_spec.specs.Limits.{most_bytes};
 ghost use Rattle.nvme_spec.specs.World.{namespace_of};
 ghost use Rattle.nvme_spec.specs.Transfers.{addresses, with_scattered};
 ghost use Rattle.nvme_spec.specs.Execution.{report_of};
@@ -15,7 +16,7 @@ const FRONT: usize = 1088;
 /// Stores a report of so many bytes.
 pub fn report(spaces: &Spaces, nsid: u32, window: &mut Window, pieces: &Pieces, bytes: u64)
     requires named { IsSome (namespace_of spaces.now nsid) }
-    requires few { bytes ≤ 131072 }
+    requires few { bytes ≤ most_bytes }
     requires size { length (addresses pieces.now.parts.items) ≡ bytes }
     ensures stored { window.new ≡ with_scattered window.old (addresses pieces.now.parts.items)
         (report_of (namespace_of spaces.now nsid) spaces.now.controllers bytes) }

@@ -12,7 +12,7 @@ use Rattle.script_text.specs.Front.{BeginsWith}
 use Rattle.nvme_grammar.specs.Arity.{◌>>=◌}
 use Rattle.nvme_grammar.specs.Brief.{Numbers}
 use Rattle.nvme_grammar.specs.Lent.{lent}
-use Rattle.nvme_grammar.specs.Requests.{request_at, bit_of}
+use Rattle.nvme_grammar.specs.Requests.{request_at, numbers_at, bit_of}
 use Rattle.nvme_grammar.specs.Events.{event_at, place}
 use Rattle.nvme_grammar.specs.Keywords.{keyword_text}
 use Rattle.nvme_grammar.specs.Line.{sentence, event_line, line_at}
@@ -88,26 +88,27 @@ module _ (nsid : ℕ) where
       rw (e1, e2, e3, e4, e5, end, narrow 8 w1 a k1 action, narrow 8 w2 i k2 small, bit, narrow 8 w3 p k3 cptpl, k4, k5) refl
 
 -- the keyword of a request places it
-no_request : {A : Type 0} (r : Request) → None ≡ Some r → A
-no_request r e = absurd (false≢true (ap is_some e))
+no_request : {A : Type 0} (list : Option (List ℕ)) (r : Request) → (list >>= (λ numbers. None)) ≡ Some r → A
+no_request None r e = absurd (false≢true (ap is_some e))
+no_request (Some numbers) r e = absurd (false≢true (ap is_some e))
 
 pub placing : (k : Keyword) (nsid : ℕ) (ws : List (List ℕ)) (r : Request) → request_at (keyword_text k) nsid ws ≡ Some r
     → (vs : List (List ℕ)) → sentence (keyword_text k ∷ vs) ≡ event_line (place (keyword_text k) vs)
 unfolding sentence event_at request_at
-placing keyword.Controller nsid ws r e vs = no_request r e
-placing keyword.Namespace nsid ws r e vs = no_request r e
-placing keyword.Attached nsid ws r e vs = no_request r e
-placing keyword.Start nsid ws r e vs = no_request r e
-placing keyword.Up nsid ws r e vs = no_request r e
-placing keyword.Ring nsid ws r e vs = no_request r e
-placing keyword.Fetch nsid ws r e vs = no_request r e
-placing keyword.Execute nsid ws r e vs = no_request r e
-placing keyword.Poll nsid ws r e vs = no_request r e
-placing keyword.Reset nsid ws r e vs = no_request r e
-placing keyword.Store nsid ws r e vs = no_request r e
-placing keyword.Write32 nsid ws r e vs = no_request r e
-placing keyword.PowerCycle nsid ws r e vs = no_request r e
-placing keyword.Identify nsid ws r e vs = no_request r e
+placing keyword.Controller nsid ws r e vs = no_request (numbers_at 16 ws) r e
+placing keyword.Namespace nsid ws r e vs = no_request (numbers_at 16 ws) r e
+placing keyword.Attached nsid ws r e vs = no_request (numbers_at 16 ws) r e
+placing keyword.Start nsid ws r e vs = no_request (numbers_at 16 ws) r e
+placing keyword.Up nsid ws r e vs = no_request (numbers_at 16 ws) r e
+placing keyword.Ring nsid ws r e vs = no_request (numbers_at 16 ws) r e
+placing keyword.Fetch nsid ws r e vs = no_request (numbers_at 16 ws) r e
+placing keyword.Execute nsid ws r e vs = no_request (numbers_at 16 ws) r e
+placing keyword.Poll nsid ws r e vs = no_request (numbers_at 16 ws) r e
+placing keyword.Reset nsid ws r e vs = no_request (numbers_at 16 ws) r e
+placing keyword.Store nsid ws r e vs = no_request (numbers_at 16 ws) r e
+placing keyword.Write32 nsid ws r e vs = no_request (numbers_at 16 ws) r e
+placing keyword.PowerCycle nsid ws r e vs = no_request (numbers_at 16 ws) r e
+placing keyword.Identify nsid ws r e vs = no_request (numbers_at 16 ws) r e
 placing k nsid ws r e vs = refl
 
 -- `C N`, and a request

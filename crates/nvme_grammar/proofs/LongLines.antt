@@ -11,10 +11,10 @@ use Rattle.script_text.specs.Words.{line_words, is_line_text, starts_apart}
 use Rattle.script_text.proofs.WordLemmas.{some_words}
 use Rattle.nvme_grammar.specs.Arity.{◌>>=◌}
 use Rattle.nvme_grammar.specs.Lent.{lent}
-use Rattle.nvme_grammar.specs.Requests.{request_at, numbers_at}
+use Rattle.nvme_grammar.specs.Requests.{request_at, numbers_at, list_request}
 use Rattle.nvme_grammar.specs.Events.{event_at}
 use Rattle.nvme_grammar.specs.Line.{sentence, event_line}
-use Rattle.nvme_grammar.specs.Lists.{list_event, list_request, long_line}
+use Rattle.nvme_grammar.specs.Lists.{list_event, long_line}
 use Rattle.std.proofs.lemmas.List.{length-append}
 
 either : {B : Type 0} (b : Bool) (x y z : Option B) → x ≡ z → y ≡ z → (if b then x else y) ≡ z
@@ -42,6 +42,9 @@ listed w c n ws make is =
     regrouped (numbers_at 16 ws) (make nsid) (λ request. Some (Place cntlid request))
     ∙ same_after (numbers_at 16 ws) _ _ (λ list. ap (λ r. r >>= (λ request. Some (Place cntlid request))) (sym (is nsid list)))))
 
+no_list_request : (w : List ℕ) (nsid : ℕ) (list : List ℕ) → bytes_eq w (codes "attach") ≡ false → bytes_eq w (codes "detach") ≡ false → list_request w nsid list ≡ None
+no_list_request w nsid list a d = rw (a, d) refl
+
 -- with another keyword so many words ask for no request
 no_request : (w : List ℕ) (nsid : ℕ) (ws : List (List ℕ)) → 6 ≤ length ws → bytes_eq w (codes "attach") ≡ false → bytes_eq w (codes "detach") ≡ false → request_at w nsid ws ≡ None
 unfolding request_at
@@ -63,7 +66,7 @@ no_request w nsid (x ∷ y ∷ z ∷ t ∷ u ∷ v ∷ ws) many a d =
     (either (bytes_eq w (codes "report")) _ _ None refl
     (either (bytes_eq w (codes "protect")) _ _ None refl
     (either (bytes_eq w (codes "protection")) _ _ None refl
-    (rw (a, d) refl)))))))))))
+    (after (numbers_at 16 (x ∷ y ∷ z ∷ t ∷ u ∷ v ∷ ws)) _ (λ list. no_list_request w nsid list a d))))))))))))
 
 no_event : (w c n : List ℕ) (ws : List (List ℕ)) → 6 ≤ length ws → bytes_eq w (codes "attach") ≡ false → bytes_eq w (codes "detach") ≡ false → event_at w (c ∷ n ∷ ws) ≡ None
 unfolding event_at
@@ -103,9 +106,6 @@ attach_sentence c n ws = ap event_line (listed (codes "attach") c n ws (λ nsid 
 detach_sentence : (c n : List ℕ) (ws : List (List ℕ)) → sentence (codes "detach" ∷ c ∷ n ∷ ws) ≡ event_line (list_event (codes "detach") c n (numbers_at 16 ws))
 unfolding sentence event_at request_at
 detach_sentence c n ws = ap event_line (listed (codes "detach") c n ws (λ nsid list. Detach nsid (lent list)) (λ nsid list. refl))
-
-no_list_request : (w : List ℕ) (nsid : ℕ) (list : List ℕ) → bytes_eq w (codes "attach") ≡ false → bytes_eq w (codes "detach") ≡ false → list_request w nsid list ≡ None
-no_list_request w nsid list a d = rw (a, d) refl
 
 -- more than eight words are a list behind `attach C N` or `detach C N`, or say nothing
 pub long_sentence : (w c n : List ℕ) (ws : List (List ℕ)) → 6 ≤ length ws → sentence (w ∷ c ∷ n ∷ ws) ≡ event_line (list_event w c n (numbers_at 16 ws))

@@ -1,6 +1,6 @@
 -- The words of each keyword, place by place, are fine exactly where they say something that may stand there.
-use Rattle.std.proofs.Common.{◌≡◌, ℕ, zero, suc, Bool, true, false, not, List, [], ◌∷◌, drop, Option, Some, None, refl, sym, ap, subst, ◌∙◌}
-use Rattle.std.specs.Prelude.{◌&&◌, codes, slice_get, if◌then◌else◌, option_map, is_some, unwrap_or}
+use Rattle.std.proofs.Common.{◌≡◌, ℕ, Bool, true, false, not, List, [], ◌∷◌, drop, Option, Some, None, refl, sym, ap, subst, ◌∙◌}
+use Rattle.std.specs.Prelude.{◌&&◌, codes, if◌then◌else◌, option_map, is_some, unwrap_or}
 use Rattle.std.specs.List.{find}
 use Rattle.std.specs.Str.{bytes_eq}
 use Rattle.std.proofs.lemmas.Bool.{false≢true}
@@ -13,7 +13,7 @@ use Rattle.script_text.specs.Numbers.{number_at}
 use Rattle.script_text.specs.Data.{bytes_at, data_at}
 use Rattle.nvme_grammar.specs.Arity.{◌>>=◌}
 use Rattle.std.specs.Borrow.{Bor}
-use Rattle.nvme_grammar.specs.Requests.{request_at, bit_at, on_blocks, with_data, with_list, register, acquire, release, report, protect}
+use Rattle.nvme_grammar.specs.Requests.{request_at, numbers_at, bit_at, on_blocks, with_data, with_list, register, acquire, release, report, protect}
 use Rattle.nvme_grammar.specs.Events.{event_at, place, alone, pair, identify, store, write32}
 use Rattle.nvme_grammar.specs.Line.{sentence, event_line, controller, namespace, attached, start, sharing, rawness}
 use Rattle.nvme_grammar.specs.Places.{suits}
@@ -44,7 +44,7 @@ module _ (g : Option Request → Bool) (none : g None ≡ false) (t : Bool) (som
   with_data-fine make = three-fine g none t before (Number operand.Slba) (Number operand.Blocks) Data _ (λ s b w. bound g (number_at 64 s) _ _ none (λ x e. bound g (number_at 32 b) _ _ none (λ y f.
       ap (λ o. is_some (o >>= (λ blocks. data_at blocks w)) && t) f ∙ bound g (data_at y w) _ _ none (λ d h. some _)))) ws
 
-  with_list-fine : (make : Bor (List ℕ) → Request) → fine t before [] behind.Controllers ws ≡ g (with_list make ws)
+  with_list-fine : (make : Bor (List ℕ) → Request) → fine t before [] behind.Controllers ws ≡ g (with_list (λ l. Some (make (lent l))) ws)
   with_list-fine make = numbers-fine (λ o. g (o >>= (λ l. Some (make (lent l))))) none t (λ l. some _) before ws
 
   register-fine : fine t before (Number operand.Action ∷ Iekey ∷ Number operand.Cptpl ∷ Number operand.Crkey ∷ Number operand.Nrkey ∷ []) behind.Nothing ws ≡ g (register nsid ws)
@@ -188,14 +188,19 @@ IsNo word k = bytes_eq word (keyword_text k) ≡ false
 some_same : {A : Type 0} (a b : A) → Some a ≡ Some b → a ≡ b
 some_same a b e = ap (λ o. unwrap_or o a) e
 
-find_none : {A : Type 0} (p : A → Bool) (xs : List A) → find p xs ≡ None → (i : ℕ) (x : A) → slice_get xs i ≡ Some x → p x ≡ false
-find_none p [] h i x e = absurd (false≢true (ap is_some e))
-find_none p (y ∷ xs) h zero x e = subst (λ z. p z ≡ false) (some_same y x e) (first_false (p y) y (find p xs) h).0
-find_none p (y ∷ xs) h (suc i) x e = find_none p xs (first_false (p y) y (find p xs) h).1 i x e
+-- what one test finds, another that finds nothing does not hold of
+find_none : {A : Type 0} (p q : A → Bool) (xs : List A) → find p xs ≡ None → (x : A) → find q xs ≡ Some x → p x ≡ false
+find_none p q [] h x e = absurd (false≢true (ap is_some e))
+find_none p q (y ∷ xs) h x e = by (q y) e (find_none p q xs (first_false (p y) y (find p xs) h).1 x)
+  where
+    by : (b : Bool) → (if b then Some y else find q xs) ≡ Some x → (find q xs ≡ Some x → p x ≡ false) → p x ≡ false
+    by true g rest = subst (λ z. p z ≡ false) (some_same y x g) (first_false (p y) y (find p xs) h).0
+    by false g rest = rest g
 
 no_request : (word : List ℕ) (nsid : ℕ) (ws : List (List ℕ)) → ((k : Keyword) → IsNo word k) → request_at word nsid ws ≡ None
 unfolding request_at
-no_request word nsid ws other = rw (other Read, other Write, other Compare, other Zeroes, other Flush, other Register, other Acquire, other Release, other Report, other Protect, other Protection, other Attach, other Detach) refl
+no_request word nsid ws other = rw (other Read, other Write, other Compare, other Zeroes, other Flush, other Register, other Acquire, other Release, other Report, other Protect, other Protection)
+    (after (numbers_at 16 ws) _ (λ l. rw (other Attach, other Detach) refl))
 
 no_place : (word : List ℕ) (ws : List (List ℕ)) → ((k : Keyword) → IsNo word k) → place word ws ≡ None
 no_place word [] other = refl
@@ -210,35 +215,14 @@ no_sentence : (word : List ℕ) (ws : List (List ℕ)) → ((k : Keyword) → Is
 unfolding sentence
 no_sentence word ws other = rw (other Controller, other Namespace, other Attached, other Start) (ap event_line (no_event word ws other))
 
+-- each keyword is found by its text
+found : (k : Keyword) → find (λ other. bytes_eq (keyword_text k) (keyword_text other)) keywords ≡ Some k
+found Controller = refl
+found k = refl
+
 is_no : (word : List ℕ) → keyword_of word ≡ None → (k : Keyword) → IsNo word k
 unfolding keyword_of
-is_no word h Controller = find_none (λ k. bytes_eq word (keyword_text k)) keywords h 0 Controller refl
-is_no word h Namespace = find_none (λ k. bytes_eq word (keyword_text k)) keywords h 1 Namespace refl
-is_no word h Attached = find_none (λ k. bytes_eq word (keyword_text k)) keywords h 2 Attached refl
-is_no word h Start = find_none (λ k. bytes_eq word (keyword_text k)) keywords h 3 Start refl
-is_no word h Up = find_none (λ k. bytes_eq word (keyword_text k)) keywords h 4 Up refl
-is_no word h Read = find_none (λ k. bytes_eq word (keyword_text k)) keywords h 5 Read refl
-is_no word h Write = find_none (λ k. bytes_eq word (keyword_text k)) keywords h 6 Write refl
-is_no word h Compare = find_none (λ k. bytes_eq word (keyword_text k)) keywords h 7 Compare refl
-is_no word h Zeroes = find_none (λ k. bytes_eq word (keyword_text k)) keywords h 8 Zeroes refl
-is_no word h Flush = find_none (λ k. bytes_eq word (keyword_text k)) keywords h 9 Flush refl
-is_no word h Register = find_none (λ k. bytes_eq word (keyword_text k)) keywords h 10 Register refl
-is_no word h Acquire = find_none (λ k. bytes_eq word (keyword_text k)) keywords h 11 Acquire refl
-is_no word h Release = find_none (λ k. bytes_eq word (keyword_text k)) keywords h 12 Release refl
-is_no word h Report = find_none (λ k. bytes_eq word (keyword_text k)) keywords h 13 Report refl
-is_no word h Identify = find_none (λ k. bytes_eq word (keyword_text k)) keywords h 14 Identify refl
-is_no word h Protect = find_none (λ k. bytes_eq word (keyword_text k)) keywords h 15 Protect refl
-is_no word h Protection = find_none (λ k. bytes_eq word (keyword_text k)) keywords h 16 Protection refl
-is_no word h Attach = find_none (λ k. bytes_eq word (keyword_text k)) keywords h 17 Attach refl
-is_no word h Detach = find_none (λ k. bytes_eq word (keyword_text k)) keywords h 18 Detach refl
-is_no word h Ring = find_none (λ k. bytes_eq word (keyword_text k)) keywords h 19 Ring refl
-is_no word h Fetch = find_none (λ k. bytes_eq word (keyword_text k)) keywords h 20 Fetch refl
-is_no word h Execute = find_none (λ k. bytes_eq word (keyword_text k)) keywords h 21 Execute refl
-is_no word h Poll = find_none (λ k. bytes_eq word (keyword_text k)) keywords h 22 Poll refl
-is_no word h Reset = find_none (λ k. bytes_eq word (keyword_text k)) keywords h 23 Reset refl
-is_no word h Store = find_none (λ k. bytes_eq word (keyword_text k)) keywords h 24 Store refl
-is_no word h Write32 = find_none (λ k. bytes_eq word (keyword_text k)) keywords h 25 Write32 refl
-is_no word h PowerCycle = find_none (λ k. bytes_eq word (keyword_text k)) keywords h 26 PowerCycle refl
+is_no word h k = find_none (λ other. bytes_eq word (keyword_text other)) (λ other. bytes_eq (keyword_text k) (keyword_text other)) keywords h k (found k)
 
 find_some : {A : Type 0} (p : A → Bool) (xs : List A) (x : A) → find p xs ≡ Some x → p x ≡ true
 find_some p [] x h = absurd (false≢true (ap is_some h))

@@ -1,28 +1,17 @@
 -- Lists of controllers, of any length.
-use Rattle.std.specs.Prelude.{ℕ, List, ◌∷◌, ◌++◌, codes, option_map, Option, Some, None, if◌then◌else◌}
-use Rattle.std.specs.Str.{bytes_eq}
+use Rattle.std.specs.Prelude.{ℕ, List, ◌∷◌, ◌++◌, option_map, Option, Some, None, if◌then◌else◌}
 use Rattle.nvme_event.specs.declared.event.FleetEvent.{FleetEvent}
 use Rattle.nvme_event.specs.declared.event.FleetEvent.TheVariants.{Place}
-use Rattle.nvme_driver.specs.declared.request.Request.{Request}
-use Rattle.nvme_driver.specs.declared.request.Request.TheVariants.{Attach, Detach}
 use Rattle.script_text.specs.Numbers.{number_at}
 use Rattle.script_text.specs.Words.{line_words, is_line_text}
 use Rattle.nvme_grammar.specs.Arity.{◌>>=◌}
-use Rattle.nvme_grammar.specs.Lent.{lent}
-use Rattle.nvme_grammar.specs.Requests.{numbers_at}
+use Rattle.nvme_grammar.specs.Requests.{numbers_at, list_request}
 use Rattle.nvme_grammar.specs.declared.line.Line.{Line}
 use Rattle.nvme_grammar.specs.declared.line.Line.TheVariants.{Event}
 
 -- the numbers that the words of a line spell, where the line is text
 abbrev pub line_numbers : List ℕ → Option (List ℕ)
 line_numbers line = if is_line_text line then numbers_at 16 (line_words line) else None
-
--- the request with a list that a keyword asks for
-abbrev pub list_request : List ℕ → ℕ → List ℕ → Option Request
-list_request word nsid list =
-    if bytes_eq word (codes "attach") then Some (Attach nsid (lent list))
-    else if bytes_eq word (codes "detach") then Some (Detach nsid (lent list))
-    else None
 
 -- `attach C N`, or `detach C N`, and a list
 abbrev pub list_event : List ℕ → List ℕ → List ℕ → Option (List ℕ) → Option FleetEvent

@@ -85,11 +85,18 @@ numbers_at bits (word ∷ words) = do
   rest ← numbers_at bits words
   Some (first ∷ rest)
 
+-- the request with a list that a keyword asks for
+abbrev pub list_request : List ℕ → ℕ → List ℕ → Option Request
+list_request word nsid list =
+    if bytes_eq word (codes "attach") then Some (Attach nsid (lent list))
+    else if bytes_eq word (codes "detach") then Some (Detach nsid (lent list))
+    else None
+
 -- `C1 C2 ..`, none or more
-abbrev pub with_list : (Bor (List ℕ) → Request) → List (List ℕ) → Option Request
-with_list make words = do
+abbrev pub with_list : (List ℕ → Option Request) → List (List ℕ) → Option Request
+with_list ask words = do
   list ← numbers_at 16 words
-  Some (make (lent list))
+  ask list
 
 -- what the words behind `KEYWORD C N` ask for, by the keyword
 unfoldable pub request_at : List ℕ → ℕ → List (List ℕ) → Option Request
@@ -105,6 +112,4 @@ request_at word nsid words =
     else if bytes_eq word (codes "report") then report nsid words
     else if bytes_eq word (codes "protect") then protect nsid words
     else if bytes_eq word (codes "protection") then zero_words (Protection nsid) words
-    else if bytes_eq word (codes "attach") then with_list (Attach nsid) words
-    else if bytes_eq word (codes "detach") then with_list (Detach nsid) words
-    else None
+    else with_list (list_request word nsid) words

@@ -4,10 +4,8 @@ ghost use Rattle.std.specs.Prelude.{◌≡◌, ◌≤◌, length, IfOk};
 ghost use Rattle.script_text.specs.Words.{most_words};
 ghost use Rattle.nvme_grammar.specs.Room.{HasBytesRoom};
 
+use nvme_spec::MOST_BYTES;
 use std::alloc::{AllocError, Global};
-
-/// The most bytes that a transfer has: 256 blocks of 512 bytes.
-const MOST_BYTES: usize = 131_072;
 
 /// Memory for what one event of a script holds. The same is used for each line, one after the other.
 #[derive(Drop)]

@@ -7,9 +7,9 @@ ghost use Rattle.nvme_event.specs.declared.event.FleetEvent.TheVariants.{PowerCy
 ghost use Rattle.nvme_grammar.specs.Lent.{request_by_value, event_by_value};
 ghost use Rattle.nvme_grammar.specs.Arity.{zero_words};
 ghost use Rattle.nvme_grammar.specs.Events.{alone, pair, identify, store, write32, place, event_at};
-ghost use Rattle.nvme_grammar.specs.Lists.{list_request, list_event};
+ghost use Rattle.nvme_grammar.specs.Lists.{list_event};
 
-use super::request::request_of;
+use super::request::{list_request_of, request_of};
 use nvme_driver::Request;
 use nvme_event::FleetEvent;
 use script_text::{bytes_in, number_u8, number_u16, number_u32, number_u64};
@@ -136,19 +136,6 @@ pub fn event_of<'a>(
         identify_of(words)
     } else {
         place_of(keyword, words, bytes, identifiers)
-    }
-}
-
-/// The request with a list that a keyword asks for.
-fn list_request_of<'a>(keyword: &[u8], nsid: u32, list: &'a [u16]) -> Option<Request<'a>>
-    ensures { option_map request_by_value result ≡ list_request keyword.now nsid list.now }
-{
-    if keyword == b"attach".as_slice() {
-        Some(Request::Attach { nsid, list })
-    } else if keyword == b"detach".as_slice() {
-        Some(Request::Detach { nsid, list })
-    } else {
-        None
     }
 }
 

@@ -3,10 +3,10 @@
 ghost use Rattle.std.specs.Prelude.{◌≡◌, ◌*◌, ◌≤◌, length, map, option_map};
 ghost use Rattle.std.specs.List.{AllByRecursion};
 ghost use Rattle.nvme_spec.specs.Limits.{most_bytes};
-ghost use Rattle.nvme_driver.specs.declared.request.Request.TheVariants.{Read as ReadOf, Write as WriteOf, Compare as CompareOf, WriteZeroes as ZeroesOf, Attach as AttachOf, Detach as DetachOf};
+ghost use Rattle.nvme_driver.specs.declared.request.Request.TheVariants.{Read as ReadOf, Write as WriteOf, Compare as CompareOf, WriteZeroes as ZeroesOf};
 ghost use Rattle.nvme_grammar.specs.Arity.{zero_words};
 ghost use Rattle.nvme_grammar.specs.Lent.{request_by_value};
-ghost use Rattle.nvme_grammar.specs.Requests.{on_blocks, with_data, bit_of, bit_at, keys_at, register, acquire, release, report, protect, with_list, request_at};
+ghost use Rattle.nvme_grammar.specs.Requests.{on_blocks, with_data, bit_of, bit_at, keys_at, register, acquire, release, report, protect, list_request, with_list, request_at};
 
 use super::identifiers::list_of;
 use nvme_driver::Request;
@@ -181,22 +181,32 @@ fn protect_of<'a>(nsid: u32, words: &[&[u8]]) -> Option<Request<'a>>
     })
 }
 
-/// `C1 C2 ..`, none or more
-fn attach_of<'a>(nsid: u32, words: &[&[u8]], identifiers: &'a mut [u16]) -> Option<Request<'a>>
-    requires room { length words.now ≤ length identifiers.old }
-    ensures { option_map request_by_value result ≡ with_list (AttachOf nsid) (map (λ word. word.now) words.now) }
+/// The request with a list that a keyword asks for.
+pub fn list_request_of<'a>(keyword: &[u8], nsid: u32, list: &'a [u16]) -> Option<Request<'a>>
+    ensures { option_map request_by_value result ≡ list_request keyword.now nsid list.now }
 {
-    let list = list_of(words, identifiers)?;
-    Some(Request::Attach { nsid, list })
+    if keyword == b"attach".as_slice() {
+        Some(Request::Attach { nsid, list })
+    } else if keyword == b"detach".as_slice() {
+        Some(Request::Detach { nsid, list })
+    } else {
+        None
+    }
 }
 
 /// `C1 C2 ..`, none or more
-fn detach_of<'a>(nsid: u32, words: &[&[u8]], identifiers: &'a mut [u16]) -> Option<Request<'a>>
+fn with_list_of<'a>(
+    keyword: &[u8],
+    nsid: u32,
+    words: &[&[u8]],
+    identifiers: &'a mut [u16],
+) -> Option<Request<'a>>
     requires room { length words.now ≤ length identifiers.old }
-    ensures { option_map request_by_value result ≡ with_list (DetachOf nsid) (map (λ word. word.now) words.now) }
+    ensures { option_map request_by_value result
+        ≡ with_list (list_request keyword.now nsid) (map (λ word. word.now) words.now) }
 {
     let list = list_of(words, identifiers)?;
-    Some(Request::Detach { nsid, list })
+    list_request_of(keyword, nsid, list)
 }
 
 /// What the words behind `KEYWORD C N` ask for, by the keyword.
@@ -235,11 +245,7 @@ pub fn request_of<'a>(
         protect_of(nsid, words)
     } else if keyword == b"protection".as_slice() {
         plain(Request::Protection { nsid }, words)
-    } else if keyword == b"attach".as_slice() {
-        attach_of(nsid, words, identifiers)
-    } else if keyword == b"detach".as_slice() {
-        detach_of(nsid, words, identifiers)
     } else {
-        None
+        with_list_of(keyword, nsid, words, identifiers)
     }
 }

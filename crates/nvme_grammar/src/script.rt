@@ -71,16 +71,8 @@ impl Script {
         }
     }
 
-    /// Takes the next line, which has this number.
-    pub fn add(&mut self, number: usize, line: Line) -> Result<(), AllocError>
-        ensures { OnOk result ((lines : List Line) → Reads self.old lines → number ≡ length lines + 1
-            → fits_behind lines (line_by_value line.entry) ≡ true
-            → Reads self.new (lines ++ line_by_value line.entry ∷ [])) }
-    {
-        self.take(number, &line)
-    }
-
-    /// The same for a line that is lent: it is not moved, which is much of what the line of an event costs here.
+    /// Takes the next line, which has this number. It is lent, since to move it is much of what an event's line costs
+    /// here.
     #[inline(always)]
     fn take(&mut self, number: usize, line: &Line) -> Result<(), AllocError>
         ensures { OnOk result ((lines : List Line) → Reads self.old lines → number ≡ length lines + 1

@@ -3,7 +3,7 @@ use Rattle.std.proofs.Common.{◌≡◌, ℕ, ◌+◌, ◌≤◌, Bool, true, fa
 use Rattle.std.specs.Prelude.{nat_le, OnOk, if◌then◌else◌}
 use Rattle.std.proofs.lemmas.Bool.{leb-true}
 use Rattle.nvme_spec.specs.declared.command.Command.{Command}
-use Rattle.nvme_spec.specs.declared.command.Command.TheVariants.{Flush, Write, Read, Compare, WriteZeroes, ReservationRegister, ReservationReport, ReservationAcquire, ReservationRelease}
+use Rattle.nvme_spec.specs.declared.command.Command.TheVariants.{Flush, ReservationRegister, ReservationReport, ReservationAcquire, ReservationRelease}
 use Rattle.nvme_wire.specs.declared.status.Status.{Status}
 use Rattle.nvme_spec.specs.Commands.{plan_of}
 use Rattle.nvme_spec.specs.Rules.{Judgement, denial_by, judgement_by}
@@ -27,12 +27,9 @@ on_ok (Err denial) p = tt
 
 pub plan_in_range : (command : Command) (n : Namespace) (e : List ℕ) → judgement_by (range_rule (Some command) (Some n) e) ≡ Ok tt → (plan_of command e).first + (plan_of command e).blocks ≤ n.blocks
 unfolding judgement_by range_rule
-plan_in_range Read n e h = below _ _ _ _ h
-plan_in_range Write n e h = below _ _ _ _ h
-plan_in_range Compare n e h = below _ _ _ _ h
-plan_in_range WriteZeroes n e h = below _ _ _ _ h
 plan_in_range Flush n e h = omega arith
 plan_in_range ReservationRegister n e h = omega arith
 plan_in_range ReservationReport n e h = omega arith
 plan_in_range ReservationAcquire n e h = omega arith
 plan_in_range ReservationRelease n e h = omega arith
+plan_in_range command n e h = below _ _ _ _ h

@@ -11,16 +11,14 @@ use crate::access::permits_host;
 use crate::command::{command_of, traits_of};
 use crate::fields;
 use nvme_ns::{Namespace, Spaces};
-use nvme_spec::{Command, Denial, HostId};
+use nvme_spec::{Command, Denial, HostId, MOST_BYTES};
 use nvme_wire::{Sqe, Status};
 
 /// The highest namespace identifier.
 const HIGHEST_NSID: u32 = 8;
 
-/// The most blocks of a Read, Write or Compare, and the most bytes of any transfer.
+/// The most blocks of a Read, Write or Compare.
 const MAX_BLOCKS: u32 = 256;
-
-const MAX_BYTES: u64 = 131_072;
 
 /// Denies by a rule that fails.
 #[tactic(auto, unfolding(nvme_spec::specs::Rules::judgement_by))]
@@ -134,7 +132,7 @@ pub fn check_fields(command: Command, sqe: &Sqe) -> Result<(), Denial>
                 Status::HOST_IDENTIFIER_INCONSISTENT_FORMAT,
             )?;
             deny_if(
-                fields::report_length(sqe) > MAX_BYTES,
+                fields::report_length(sqe) > MOST_BYTES as u64,
                 6,
                 Status::INVALID_FIELD_IN_COMMAND,
             )

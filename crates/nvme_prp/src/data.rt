@@ -2,6 +2,7 @@
 
 ghost use Rattle.std.specs.Prelude.{◌≡◌, ◌≤◌, length, None, Ok, Err, OnOk, IfOk, IfErr};
 ghost use Rattle.nvme_spec.specs.DataRules as rules;
+ghost use Rattle.nvme_spec.specs.Limits.{most_bytes};
 ghost use Rattle.nvme_spec.specs.Rules.{judgement_by};
 ghost use Rattle.nvme_spec.specs.Transfers.{addresses};
 
@@ -19,7 +20,7 @@ use nvme_wire::{Sqe, Status};
 /// Rule 10, with the status of the pointer's first fault.
 #[tactic(auto, unfolding(nvme_spec::specs::DataRules::pointer_rule, nvme_spec::specs::Rules::judgement_by))]
 pub fn locate(window: &Window, sqe: &Sqe, bytes: u64) -> Result<Pieces, Denial>
-    requires few { bytes ≤ 131072 }
+    requires few { bytes ≤ most_bytes }
     ensures sound { OnOk result (rules.data_fault bytes window.now sqe.now ≡ None) }
     ensures passed { OnOk result (judgement_by (rules.pointer_rule bytes window.now sqe.now) ≡ Ok tt) }
     ensures placed { IfOk result

@@ -3,6 +3,7 @@
 ghost use Rattle.std.specs.Prelude.{◌≡◌, ◌+◌, ◌*◌, ◌/◌, ◌%◌, ◌≤◌, ◌<◌, ◌++◌, length, map, None, Some, IsTrue, MatchResult, OnOk, IfOk, IfErr};
 ghost use Rattle.std.specs.List.{range_with_len};
 ghost use Rattle.arrayvec.specs.ArrayVec.{array_vec_len};
+ghost use Rattle.nvme_spec.specs.Limits.{most_bytes};
 ghost use Rattle.nvme_spec.specs.Memory.{qword};
 ghost use Rattle.nvme_spec.specs.Pointer.{AddressTest, fault_of, first_fault, page_test, transfer, pointer_tests, pointer_fault, address};
 ghost use Rattle.nvme_spec.specs.Transfers.{addresses, pieces_of, ArePages};
@@ -69,7 +70,7 @@ fn walk_list(window: &Window, start: u64, rest: u64, parts: &mut Parts) -> Resul
     requires aligned { start % 8 ≡ 0 }
     requires in_window { start < 4194304 }
     requires several { 4096 < rest }
-    requires most { rest ≤ 131072 }
+    requires most { rest ≤ most_bytes }
     requires room { array_vec_len parts.old ≡ 1 }
     ensures ok { OnOk result (let l = list_of window.now start rest in
         (first_fault (list_tests l) ≡ None)
@@ -94,7 +95,7 @@ fn walk_list(window: &Window, start: u64, rest: u64, parts: &mut Parts) -> Resul
 /// One part for each page that a transfer touches.
 fn pages_of(window: &Window, prp1: u64, prp2: u64, len: u64) -> Result<Parts, DataFault>
     requires some { 1 ≤ len }
-    requires most { len ≤ 131072 }
+    requires most { len ≤ most_bytes }
     ensures sound { OnOk result (pointer_fault (transfer window.now prp1 prp2 len) ≡ None) }
     ensures parts { IfOk result (λ parts. parts.items ≡ pieces_of (transfer window.now prp1 prp2 len)) }
     ensures fault { IfErr result (λ e. pointer_fault (transfer window.now prp1 prp2 len) ≡ Some e) }
@@ -128,7 +129,7 @@ fn pages_of(window: &Window, prp1: u64, prp2: u64, len: u64) -> Result<Parts, Da
 /// is not a multiple of what it must be, else `Outside` where it lies outside the window.
 pub fn walk(window: &Window, prp1: u64, prp2: u64, len: u64) -> Result<Pieces, DataFault>
     requires some { 1 ≤ len }
-    requires most { len ≤ 131072 }
+    requires most { len ≤ most_bytes }
     ensures sound { OnOk result (pointer_fault (transfer window.now prp1 prp2 len) ≡ None) }
     // Each page has its piece.
     ensures pieces { IfOk result (λ pieces. pieces.parts.items ≡ pieces_of (transfer window.now prp1 prp2 len)) }

@@ -54,15 +54,9 @@ detach-refuses w n ks =
 list-refuses : (o : Option AdminCommand) (w : World) (e sent : List ℕ) → RuleRefuses (adminrule.list_rule o w e sent)
 unfolding adminrule.list_rule
 list-refuses None w e sent = tt
-list-refuses (Some DeleteSubmissionQueue) w e sent = tt
-list-refuses (Some CreateSubmissionQueue) w e sent = tt
-list-refuses (Some DeleteCompletionQueue) w e sent = tt
-list-refuses (Some CreateCompletionQueue) w e sent = tt
-list-refuses (Some Identify) w e sent = tt
-list-refuses (Some SetFeatures) w e sent = tt
-list-refuses (Some GetFeatures) w e sent = tt
 list-refuses (Some NamespaceAttachment) w e sent =
     refusal-refuses _ (if-refusal _ _ _ (attach-refuses w (nsid e) (adminrule.listed_controllers sent)) (detach-refuses w (nsid e) (adminrule.listed_controllers sent)))
+list-refuses (Some command) w e sent = tt
 
 field-refuses : (o : Option AdminCommand) (queues : Queues) (n : Option Namespace) (e : List ℕ) → RuleRefuses (adminrule.field_rule o queues n e)
 unfolding adminrule.submission_deletion_rule adminrule.submission_queue_rule adminrule.completion_deletion_rule adminrule.completion_queue_rule adminrule.identify_rule adminrule.set_features_rule adminrule.get_features_rule adminrule.selection_rule

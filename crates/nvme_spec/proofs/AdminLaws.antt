@@ -5,7 +5,7 @@ use Rattle.nvme_wire.specs.Submission.{opcode, nsid}
 use Rattle.nvme_wire.specs.declared.status.Status.{Status}
 use Rattle.nvme_spec.specs.declared.access.Protection.{Protection}
 use Rattle.nvme_spec.specs.declared.command.AdminCommand.{AdminCommand}
-use Rattle.nvme_spec.specs.declared.command.AdminCommand.TheVariants.{DeleteSubmissionQueue, CreateSubmissionQueue, DeleteCompletionQueue, CreateCompletionQueue, Identify, SetFeatures, GetFeatures, NamespaceAttachment}
+use Rattle.nvme_spec.specs.declared.command.AdminCommand.TheVariants.{SetFeatures, NamespaceAttachment}
 use Rattle.nvme_spec.specs.World.{World, Namespace, namespace_of, with_namespace, with_protection}
 use Rattle.nvme_spec.specs.Rules.{Judgement}
 use Rattle.nvme_spec.specs.Attachments.{AttachmentOutcome, unless_refused, with_attached, without_attached, attach, detach}
@@ -56,12 +56,7 @@ unfolding world_after
 after w SetFeatures e sent =
     keeps-if w (fid e == write_protection) _ (record { controllers = refl; namespaces = protected-alike (protection_of (wps e)) (nsid e) w.namespaces })
 after w NamespaceAttachment e sent = either w (sel e == 0) _ _ (attaching w (nsid e) _) (detaching w (nsid e) _)
-after w DeleteSubmissionQueue e sent = same w
-after w CreateSubmissionQueue e sent = same w
-after w DeleteCompletionQueue e sent = same w
-after w CreateCompletionQueue e sent = same w
-after w Identify e sent = same w
-after w GetFeatures e sent = same w
+after w command e sent = same w
 
 kept-by : (j : Judgement) (command : Option AdminCommand) (w : World) (cntlid : ℕ) (e window : List ℕ) → KeepsAllBut w (execution_by j command w cntlid e window).world
 kept-by (Err d) command w cntlid e window = same w
@@ -105,12 +100,7 @@ attached-by (Err d) command w cntlid e window = inl refl
 attached-by (Ok u) None w cntlid e window = inl refl
 attached-by (Ok tt) (Some NamespaceAttachment) w cntlid e window = inr (refl, refl)
 attached-by (Ok u) (Some SetFeatures) w cntlid e window = inl (attachments-if w (fid e == write_protection) (protection_of (wps e)) (nsid e))
-attached-by (Ok u) (Some DeleteSubmissionQueue) w cntlid e window = inl refl
-attached-by (Ok u) (Some CreateSubmissionQueue) w cntlid e window = inl refl
-attached-by (Ok u) (Some DeleteCompletionQueue) w cntlid e window = inl refl
-attached-by (Ok u) (Some CreateCompletionQueue) w cntlid e window = inl refl
-attached-by (Ok u) (Some Identify) w cntlid e window = inl refl
-attached-by (Ok u) (Some GetFeatures) w cntlid e window = inl refl
+attached-by (Ok u) (Some command) w cntlid e window = inl refl
 
 pub attaches_by_command : AttachesByCommand
 unfolding admin_execution

@@ -5,7 +5,7 @@ use Rattle.std.specs.List.{AllByRecursion}
 use Rattle.nvme_wire.specs.Submission.{opcode, nsid}
 use Rattle.nvme_wire.specs.declared.status.Status.{Status}
 use Rattle.nvme_spec.specs.declared.command.Command.{Command}
-use Rattle.nvme_spec.specs.declared.command.Command.TheVariants.{Flush, Write, Read, Compare, WriteZeroes, ReservationRegister, ReservationReport, ReservationAcquire, ReservationRelease}
+use Rattle.nvme_spec.specs.declared.command.Command.TheVariants.{ReservationRegister, ReservationAcquire, ReservationRelease}
 use Rattle.nvme_spec.specs.declared.pointer.DataFault.{DataFault}
 use Rattle.nvme_spec.specs.declared.pointer.DataFault.TheVariants.{Offset, Outside}
 use Rattle.nvme_spec.specs.declared.verdict.Verdict.{Verdict}
@@ -156,12 +156,7 @@ action-refuses ReservationAcquire r host e keys =
     if-refusal (action e == 0) _ _ (acquire-refuses r host (rtype e) (current_key keys)) (preempt-refuses r host (rtype e) (current_key keys) (other_key keys))
 action-refuses ReservationRelease r host e keys =
     if-refusal (action e == 0) _ _ (release-refuses r host (rtype e) (current_key keys)) (clear-refuses r host (current_key keys))
-action-refuses Flush r host e keys = tt
-action-refuses Write r host e keys = tt
-action-refuses Read r host e keys = tt
-action-refuses Compare r host e keys = tt
-action-refuses WriteZeroes r host e keys = tt
-action-refuses ReservationReport r host e keys = tt
+action-refuses command r host e keys = tt
 
 outcome-refuses : (command : Option Command) (n : Option Namespace) (host : Option ℕ) (e keys : List ℕ) → ActionRefuses (outcome_in command n host e keys)
 outcome-refuses None n host e keys = tt

@@ -7,7 +7,7 @@ use Rattle.nvme_wire.specs.Submission.{opcode, nsid}
 use Rattle.nvme_wire.specs.declared.status.Status.{Status}
 use Rattle.nvme_spec.specs.declared.access.Group.TheVariants.{Write as Writing}
 use Rattle.nvme_spec.specs.declared.command.Command.{Command}
-use Rattle.nvme_spec.specs.declared.command.Command.TheVariants.{Flush, Write, Read, Compare, WriteZeroes, ReservationRegister, ReservationReport, ReservationAcquire, ReservationRelease}
+use Rattle.nvme_spec.specs.declared.command.Command.TheVariants.{Write, Read, WriteZeroes, ReservationRegister, ReservationReport, ReservationAcquire, ReservationRelease}
 use Rattle.nvme_spec.specs.declared.outcome.Outcome.{Outcome}
 use Rattle.nvme_spec.specs.declared.verdict.Plan.{Plan}
 use Rattle.nvme_spec.specs.declared.verdict.Verdict.{Verdict}
@@ -31,18 +31,13 @@ use Rattle.nvme_spec.proofs.FaultFree.{extent-known}
 
 pub performs-rest : (tells : Bool) (command : Command) (k : ℕ) (e sent : List ℕ) (old new : Scene) (answer : Status) (returned : List ℕ)
     → Performs tells command k e sent old new answer returned → IsReserved (nsid e) old.world new.world
-performs-rest tells Flush k e sent old new answer returned h = is-same _ _ _ h.world
-performs-rest tells Write k e sent old new answer returned h = is-same _ _ _ h.world
-performs-rest tells Read k e sent old new answer returned h = is-same _ _ _ h.world
-performs-rest tells Compare k e sent old new answer returned h = is-same _ _ _ h.world
-performs-rest tells WriteZeroes k e sent old new answer returned h = is-same _ _ _ h.world
-performs-rest tells ReservationReport k e sent old new answer returned h = is-same _ _ _ h.world
 performs-rest tells ReservationRegister k e sent old new answer returned h =
     subst (λ w. IsReserved (nsid e) old.world w) (sym h.world) (is-reserved old.world (nsid e) (reservation_outcome old.world k e sent))
 performs-rest tells ReservationAcquire k e sent old new answer returned h =
     subst (λ w. IsReserved (nsid e) old.world w) (sym h.world) (is-reserved old.world (nsid e) (reservation_outcome old.world k e sent))
 performs-rest tells ReservationRelease k e sent old new answer returned h =
     subst (λ w. IsReserved (nsid e) old.world w) (sym h.world) (is-reserved old.world (nsid e) (reservation_outcome old.world k e sent))
+performs-rest tells command k e sent old new answer returned h = is-same _ _ _ h.world
 
 pub by-rest : (v : Verdict) (tells : Bool) (k : ℕ) (e : List ℕ) (old new : Scene) (o : Outcome) → ExecutesBy v tells k e old new o → KeepsTheRest (nsid e) old new
 by-rest (Denied number why) tells k e old new o h =
@@ -125,9 +120,7 @@ whole-data command window e named = length-data_in (data_length_of (command_of (
 
 respects : (s : Scene) (k : ℕ) (e : List ℕ) (command : Command) (new : Scene) (answer : Status) (returned : List ℕ) → IsLaidOut s.world s.device.content → HasPassed s.world k e command
     → Performs true command k e (data_of s.window e) s new answer returned → Respects s k e new.device.content command
-respects s k e Flush new answer returned laid p h = let f = h.effect in same-content s k e new.device.content Flush (f.0.0 refl)
 respects s k e Read new answer returned laid p h = let f = h.effect in same-content s k e new.device.content Read (f.0 refl)
-respects s k e Compare new answer returned laid p h = let f = h.effect in same-content s k e new.device.content Compare (f.0.0 refl)
 respects s k e Write new answer returned laid p h =
     let f = h.effect in
     write-respects s k e (data_of s.window e) new answer Write refl laid (lies s.world k e p.attached p.permitted p.fits) (whole-data Write s.window e p.named) f.0
@@ -138,6 +131,7 @@ respects s k e ReservationRegister new answer returned laid p h = same-content s
 respects s k e ReservationAcquire new answer returned laid p h = same-content s k e new.device.content ReservationAcquire (device-same _ _ h.device)
 respects s k e ReservationRelease new answer returned laid p h = same-content s k e new.device.content ReservationRelease (device-same _ _ h.device)
 respects s k e ReservationReport new answer returned laid p h = same-content s k e new.device.content ReservationReport (device-same _ _ h.device)
+respects s k e command new answer returned laid p h = let f = h.effect in same-content s k e new.device.content command (f.0.0 refl)
 
 -- by what the rules answer
 record LeavesContent (s : Scene) (k : ℕ) (e : List ℕ) (marked : Bool) (content : List ℕ) : Type 0 where
@@ -217,15 +211,10 @@ same-or n a old new P r (inr p) = elim (cases_Bool (a == n)) [
 
 reserves : (tells : Bool) (command : Command) (k : ℕ) (e sent : List ℕ) (old new : Scene) (answer : Status) (returned : List ℕ)
     → Performs tells command k e sent old new answer returned → (new.world ≡ old.world) ⊎ (is_one_of (Some command) reserving ≡ true)
-reserves tells Flush k e sent old new answer returned h = inl h.world
-reserves tells Write k e sent old new answer returned h = inl h.world
-reserves tells Read k e sent old new answer returned h = inl h.world
-reserves tells Compare k e sent old new answer returned h = inl h.world
-reserves tells WriteZeroes k e sent old new answer returned h = inl h.world
-reserves tells ReservationReport k e sent old new answer returned h = inl h.world
 reserves tells ReservationRegister k e sent old new answer returned h = inr refl
 reserves tells ReservationAcquire k e sent old new answer returned h = inr refl
 reserves tells ReservationRelease k e sent old new answer returned h = inr refl
+reserves tells command k e sent old new answer returned h = inl h.world
 
 by-reserves : (v : Verdict) (tells : Bool) (k : ℕ) (e : List ℕ) (marked : Bool) (old new : Scene) (o : Outcome) → io_verdict old.world k e marked old.window ≡ v
     → ExecutesBy v tells k e old new o → (new.world ≡ old.world) ⊎ IsAllowed reserving old.world k e marked old.window

@@ -6,7 +6,7 @@ use Rattle.std.proofs.lemmas.Bool.{cases_lt, cases_Bool, lt-ltb, le-ltb, eqb-tru
 use Rattle.std.proofs.lemmas.Bool.Decides.{nat_tests}
 use Rattle.nvme_spec.specs.declared.access.Registrant.{Registrant}
 use Rattle.nvme_spec.specs.declared.command.Command.{Command}
-use Rattle.nvme_spec.specs.declared.command.Command.TheVariants.{Flush, Write, Read, Compare, WriteZeroes, ReservationRegister, ReservationReport, ReservationAcquire, ReservationRelease}
+use Rattle.nvme_spec.specs.declared.command.Command.TheVariants.{ReservationRegister, ReservationAcquire, ReservationRelease}
 use Rattle.nvme_spec.specs.Report.{ControllerHost}
 use Rattle.nvme_spec.specs.Commands.{action, iekey, rtype, cptpl}
 use Rattle.nvme_spec.specs.Reservation.{Reservation, ActionOutcome, IsRising, with_key, is_registered, is_registered_with, is_free, is_of_type, is_of_all, is_holder, is_holders_key, is_key_in_use, register, unregister, replace, acquire, preempt, release, clear, persisting, ptpl_after}
@@ -153,9 +153,4 @@ keeps-known ks ReservationAcquire r host e keys a h =
 keeps-known ks ReservationRelease r host e keys a h =
     keeps-by ks (action e == 0) _ _ (keeps-release ks r host (rtype e) (current_key keys) a)
     (keeps-clear ks r host (current_key keys))
-keeps-known ks Flush r host e keys a h = tt
-keeps-known ks Write r host e keys a h = tt
-keeps-known ks Read r host e keys a h = tt
-keeps-known ks Compare r host e keys a h = tt
-keeps-known ks WriteZeroes r host e keys a h = tt
-keeps-known ks ReservationReport r host e keys a h = tt
+keeps-known ks command r host e keys a h = tt

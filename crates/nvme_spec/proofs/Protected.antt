@@ -7,7 +7,7 @@ use Rattle.nvme_wire.specs.declared.status.Status.{Status}
 use Rattle.nvme_spec.specs.declared.access.Protection.{Protection}
 use Rattle.nvme_spec.specs.declared.access.Protection.TheVariants.{Open, Protected, UntilCycle}
 use Rattle.nvme_spec.specs.declared.command.AdminCommand.{AdminCommand}
-use Rattle.nvme_spec.specs.declared.command.AdminCommand.TheVariants.{DeleteSubmissionQueue, CreateSubmissionQueue, DeleteCompletionQueue, CreateCompletionQueue, Identify, SetFeatures, GetFeatures, NamespaceAttachment}
+use Rattle.nvme_spec.specs.declared.command.AdminCommand.TheVariants.{SetFeatures, NamespaceAttachment}
 use Rattle.nvme_spec.specs.declared.queues.Queues.{Queues}
 use Rattle.nvme_spec.specs.World.{World, Namespace, forbids_writing, namespace_of, with_protection}
 use Rattle.nvme_spec.specs.IoRules.{is_protected}
@@ -147,12 +147,7 @@ after-lasts w queues SetFeatures e sent n h is =
     features-keep w e n is (fid e == write_protection) (unlasting queues (namespace_of w (nsid e)) e h)
 after-lasts w queues NamespaceAttachment e sent n h is =
     same-namespaces w _ (either-keeps w (sel e == 0) _ _ (attached-keeps w (nsid e) (listed_controllers sent)) (detached-keeps w (nsid e) (listed_controllers sent))) n ∙ is
-after-lasts w queues DeleteSubmissionQueue e sent n h is = is
-after-lasts w queues CreateSubmissionQueue e sent n h is = is
-after-lasts w queues DeleteCompletionQueue e sent n h is = is
-after-lasts w queues CreateCompletionQueue e sent n h is = is
-after-lasts w queues Identify e sent n h is = is
-after-lasts w queues GetFeatures e sent n h is = is
+after-lasts w queues command e sent n h is = is
 
 pub protection_outlasts_commands : ProtectionOutlastsCommands
 unfolding admin_execution

@@ -4,7 +4,7 @@ use Rattle.std.proofs.lemmas.Bool.{eqb-false, eqb-true, ltb-false}
 use Rattle.nvme_wire.specs.Submission.{opcode, nsid, prp1}
 use Rattle.nvme_wire.specs.declared.status.Status.{Status}
 use Rattle.nvme_spec.specs.declared.command.AdminCommand.{AdminCommand}
-use Rattle.nvme_spec.specs.declared.command.AdminCommand.TheVariants.{DeleteSubmissionQueue, CreateSubmissionQueue, DeleteCompletionQueue, CreateCompletionQueue, Identify, SetFeatures, GetFeatures, NamespaceAttachment}
+use Rattle.nvme_spec.specs.declared.command.AdminCommand.TheVariants.{DeleteSubmissionQueue, CreateSubmissionQueue, DeleteCompletionQueue, CreateCompletionQueue}
 use Rattle.nvme_spec.specs.declared.queues.Queues.{Queues}
 use Rattle.nvme_spec.specs.Memory.{window_size}
 use Rattle.nvme_spec.specs.World.{World, Namespace, namespace_of}
@@ -117,10 +117,7 @@ change-suits queues o e DeleteSubmissionQueue h = deletes-submission queues e h
 change-suits queues o e CreateSubmissionQueue h = makes-submission queues e h
 change-suits queues o e DeleteCompletionQueue h = deletes-completion queues e h
 change-suits queues o e CreateCompletionQueue h = makes-completion queues e h
-change-suits queues o e Identify h = tt
-change-suits queues o e SetFeatures h = tt
-change-suits queues o e GetFeatures h = tt
-change-suits queues o e NamespaceAttachment h = tt
+change-suits queues o e command h = tt
 
 execution-suits : (w : World) (queues : Queues) (k : ℕ) (e window : List ℕ) (j : Judgement) (o : Option AdminCommand) → admin_judgement w queues k e window ≡ j → command_of (opcode e) ≡ o
     → Suits queues (execution_by j o w k e window).change

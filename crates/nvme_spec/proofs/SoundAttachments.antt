@@ -7,7 +7,7 @@ use Rattle.std.proofs.lemmas.Bool.{cases_Bool, and_parts, eqb-true, ne_eqb, ltb-
 use Rattle.nvme_wire.specs.Submission.{opcode, nsid}
 use Rattle.nvme_wire.specs.declared.status.Status.{Status}
 use Rattle.nvme_spec.specs.declared.command.AdminCommand.{AdminCommand}
-use Rattle.nvme_spec.specs.declared.command.AdminCommand.TheVariants.{DeleteSubmissionQueue, CreateSubmissionQueue, DeleteCompletionQueue, CreateCompletionQueue, Identify, SetFeatures, GetFeatures, NamespaceAttachment}
+use Rattle.nvme_spec.specs.declared.command.AdminCommand.TheVariants.{SetFeatures, NamespaceAttachment}
 use Rattle.nvme_spec.specs.declared.queues.Queues.{Queues}
 use Rattle.nvme_spec.specs.Limits.{longest_controller_list}
 use Rattle.nvme_spec.specs.World.{World, Namespace, host_of, namespace_of, is_attached, with_protection}
@@ -265,12 +265,7 @@ unfolding world_after
 after-it w SetFeatures e sent known h = either-way w (fid e == write_protection) (with_protection w (nsid e) (protection_of (wps e))) w h h
 after-it w NamespaceAttachment e sent known h =
     either-outcome w (sel e == 0) _ _ (attaching w (nsid e) (listed_controllers sent) (known refl) h) (detaching w (nsid e) (listed_controllers sent) h)
-after-it w DeleteSubmissionQueue e sent known h = h
-after-it w CreateSubmissionQueue e sent known h = h
-after-it w DeleteCompletionQueue e sent known h = h
-after-it w CreateCompletionQueue e sent known h = h
-after-it w Identify e sent known h = h
-after-it w GetFeatures e sent known h = h
+after-it w command e sent known h = h
 
 attached-after : (w : World) (queues : Queues) (k : ℕ) (e window : List ℕ) → AreThere w w.attachments → AreThere w (admin_execution w queues k e window).world.attachments
 unfolding admin_execution

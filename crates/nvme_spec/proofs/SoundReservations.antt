@@ -6,7 +6,7 @@ use Rattle.nvme_spec.specs.declared.access.Registrant.{Registrant}
 use Rattle.nvme_spec.specs.declared.access.Hold.{Hold}
 use Rattle.nvme_spec.specs.declared.access.Hold.TheVariants.{Free, One, All}
 use Rattle.nvme_spec.specs.declared.command.Command.{Command}
-use Rattle.nvme_spec.specs.declared.command.Command.TheVariants.{Flush, Write, Read, Compare, WriteZeroes, ReservationRegister, ReservationReport, ReservationAcquire, ReservationRelease}
+use Rattle.nvme_spec.specs.declared.command.Command.TheVariants.{ReservationRegister, ReservationAcquire, ReservationRelease}
 use Rattle.nvme_spec.specs.Commands.{action, iekey, rtype, cptpl}
 use Rattle.nvme_spec.specs.Reservation.{Reservation, ActionOutcome, IsRising, is_registered, is_registered_with, is_free, is_of_type, is_of_all, is_holder, is_holders_key, is_key_in_use, taken_by, remaining_hold, register, unregister, replace, acquire, preempt, release, clear}
 use Rattle.nvme_spec.specs.ReservationLaws.{Keeps, IsHeldByRegistrants}
@@ -69,12 +69,7 @@ keeps-rising ReservationAcquire r host e keys a =
     (rises-preempt r host (rtype e) (current_key keys) (other_key keys) a)
 keeps-rising ReservationRelease r host e keys a =
     rises-if (action e == 0) _ _ (rises-release r host (rtype e) (current_key keys) a) (rises-clear r host (current_key keys))
-keeps-rising Flush r host e keys a = tt
-keeps-rising Write r host e keys a = tt
-keeps-rising Read r host e keys a = tt
-keeps-rising Compare r host e keys a = tt
-keeps-rising WriteZeroes r host e keys a = tt
-keeps-rising ReservationReport r host e keys a = tt
+keeps-rising command r host e keys a = tt
 
 -- Who holds it is registered.
 
@@ -107,12 +102,7 @@ keeps-held ReservationAcquire r host e keys a =
     (preempt-held r host (rtype e) (current_key keys) (other_key keys))
 keeps-held ReservationRelease r host e keys a =
     held-if (action e == 0) _ _ (held-release r host (rtype e) (current_key keys) a) (held-clear r host (current_key keys))
-keeps-held Flush r host e keys a = tt
-keeps-held Write r host e keys a = tt
-keeps-held Read r host e keys a = tt
-keeps-held Compare r host e keys a = tt
-keeps-held WriteZeroes r host e keys a = tt
-keeps-held ReservationReport r host e keys a = tt
+keeps-held command r host e keys a = tt
 
 -- Its type suits who holds it.
 
@@ -192,9 +182,4 @@ keeps-typed ReservationAcquire r host e keys n a =
     (types-preempt r host (rtype e) (current_key keys) (other_key keys) n.0 n.1 a)
 keeps-typed ReservationRelease r host e keys n a =
     types-if (action e == 0) _ _ (types-release r host (rtype e) (current_key keys) a) (types-clear r host (current_key keys))
-keeps-typed Flush r host e keys n a = tt
-keeps-typed Write r host e keys n a = tt
-keeps-typed Read r host e keys n a = tt
-keeps-typed Compare r host e keys n a = tt
-keeps-typed WriteZeroes r host e keys n a = tt
-keeps-typed ReservationReport r host e keys n a = tt
+keeps-typed command r host e keys n a = tt

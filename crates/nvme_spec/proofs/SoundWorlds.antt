@@ -7,7 +7,7 @@ use Rattle.std.proofs.lemmas.Bool.{eqb-false, ltb-false}
 use Rattle.nvme_wire.specs.Submission.{opcode, nsid}
 use Rattle.nvme_wire.specs.declared.status.Status.{Status}
 use Rattle.nvme_spec.specs.declared.command.Command.{Command}
-use Rattle.nvme_spec.specs.declared.command.Command.TheVariants.{Flush, Write, Read, Compare, WriteZeroes, ReservationRegister, ReservationReport, ReservationAcquire, ReservationRelease}
+use Rattle.nvme_spec.specs.declared.command.Command.TheVariants.{ReservationRegister, ReservationAcquire, ReservationRelease}
 use Rattle.nvme_spec.specs.declared.outcome.Outcome.{Outcome}
 use Rattle.nvme_spec.specs.declared.verdict.Verdict.{Verdict}
 use Rattle.nvme_spec.specs.declared.verdict.Verdict.TheVariants.{Allowed, Denied}
@@ -95,14 +95,7 @@ names-type ReservationAcquire e h =
     let low = neither (nat_lt 2 (action e) || iekey e) (rtype e == 0) high.0 in
     let some = eqb-false (rtype e) 0 low.1 in
     (omega (arith, some), ltb-false 6 (rtype e) high.1)
-names-type Flush e h = tt
-names-type Write e h = tt
-names-type Read e h = tt
-names-type Compare e h = tt
-names-type WriteZeroes e h = tt
-names-type ReservationRegister e h = tt
-names-type ReservationReport e h = tt
-names-type ReservationRelease e h = tt
+names-type command e h = tt
 
 joined : (o : Option resv.ActionOutcome) (ks : List ControllerHost) → KeepsIfSome o (λ next. resv.IsRising next.registrants) → KeepsIfSome o (λ next. AreKnown ks next.registrants)
     → KeepsIfSome o IsHeldByRegistrants → KeepsIfSome o (λ next. IsTyped next.hold) → KeepsIfSome o (IsSoundReservation ks)
@@ -153,15 +146,10 @@ reserves old new k e sent command named typed h is =
 performs-sound : (tells : Bool) (command : Command) (k : ℕ) (e sent : List ℕ) (old new : Scene) (answer : Status) (returned : List ℕ)
     → command_of (opcode e) ≡ Some command → NamesType command e → AreReserved old.world
     → Performs tells command k e sent old new answer returned → StaysReserved old.world new.world
-performs-sound tells Flush k e sent old new answer returned named typed s h = stays _ _ h.world s
-performs-sound tells Write k e sent old new answer returned named typed s h = stays _ _ h.world s
-performs-sound tells Read k e sent old new answer returned named typed s h = stays _ _ h.world s
-performs-sound tells Compare k e sent old new answer returned named typed s h = stays _ _ h.world s
-performs-sound tells WriteZeroes k e sent old new answer returned named typed s h = stays _ _ h.world s
-performs-sound tells ReservationReport k e sent old new answer returned named typed s h = stays _ _ h.world s
 performs-sound tells ReservationRegister k e sent old new answer returned named typed s h = reserves old.world new.world k e sent ReservationRegister named typed s h.world
 performs-sound tells ReservationAcquire k e sent old new answer returned named typed s h = reserves old.world new.world k e sent ReservationAcquire named typed s h.world
 performs-sound tells ReservationRelease k e sent old new answer returned named typed s h = reserves old.world new.world k e sent ReservationRelease named typed s h.world
+performs-sound tells command k e sent old new answer returned named typed s h = stays _ _ h.world s
 
 -- The places are those of before.
 

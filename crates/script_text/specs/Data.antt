@@ -4,9 +4,12 @@ use Rattle.std.specs.List.{starts_with}
 use Rattle.hex.specs.Hex.{decode_of}
 use Rattle.hex.specs.declared.error.FromHexError.{FromHexError}
 
--- how many bytes a transfer of 1 to 256 blocks has
+-- how many bytes a transfer of 1 to 256 blocks has, and the longest
 abbrev pub transfer_len : ℕ → Option ℕ
 transfer_len blocks = if nat_le 1 blocks && nat_le blocks 256 then Some (512 * blocks) else None
+
+abbrev pub longest_data : ℕ
+longest_data = 512 * 256
 
 -- one byte, all over the data
 abbrev pub fill_data : Option ℕ → Result (List ℕ) FromHexError → Option (List ℕ)

@@ -1,7 +1,7 @@
 //! The bytes that a script spells: put into a buffer, of which the part that holds them is lent.
 
 ghost use Rattle.std.specs.Prelude.{◌≡◌, ◌≤◌, ◌*◌, length, take, option_map, is_some, IfSome};
-ghost use Rattle.script_text.specs.Data.{transfer_len, fill_data, filled_up, some_bytes, bytes_at, data_at};
+ghost use Rattle.script_text.specs.Data.{transfer_len, longest_data, fill_data, filled_up, some_bytes, bytes_at, data_at};
 ghost use Rattle.hex.specs.Hex.{decode_of};
 
 use super::decoding::decode;
@@ -106,7 +106,7 @@ fn padded<'a>(count: usize, len: usize, buffer: &'a mut [u8]) -> Option<&'a [u8]
 /// `None` where the word spells no data, or more than the transfer has room for.
 #[tactic(auto, unfolding(crate::specs::Data::data_at))]
 pub fn data_in<'a>(word: &[u8], blocks: u32, buffer: &'a mut [u8]) -> Option<&'a [u8]>
-    requires room { 131072 ≤ length buffer.old }
+    requires room { longest_data ≤ length buffer.old }
     requires room_for_digits { length word.now ≤ 2 * length buffer.old }
     ensures bytes { option_map (λ bytes. bytes.now) result ≡ data_at blocks word.now }
 {

@@ -2,13 +2,14 @@ use Rattle.std.proofs.Common.{◌≡◌, ◌-◌, ◌%◌, ◌≤◌, ◌<◌, �
 use Rattle.std.proofs.lemmas.Result.{err_from_is_err_and}
 use Rattle.std.proofs.lemmas.Bool.{ltb-true}
 use Rattle.std.specs.List.{flat_map, range_with_len}
+use Rattle.nvme_spec.specs.Limits.{most_bytes}
 use Rattle.nvme_prp.specs.Walk.{list_of, list_tests, listed_piece}
 use Rattle.nvme_spec.specs.declared.pointer.Piece.{Piece}
 use Rattle.nvme_spec.specs.Pointer.{PageList, first_fault, entry_tests}
 use Rattle.nvme_prp.proofs.Turns.{IsShort, Reached, turn, page-fault, next-fault, found-length}
 use Rattle.nvme_prp.proofs.walking.walk_list.Goals as goal
 
-short : (window : List ℕ) (start bytes : ℕ) → start % 8 ≡ 0 → start < 4194304 → bytes ≤ 131072 → IsShort (list_of window start bytes)
+short : (window : List ℕ) (start bytes : ℕ) → start % 8 ≡ 0 → start < 4194304 → bytes ≤ most_bytes → IsShort (list_of window start bytes)
 short window start bytes a b s = record { aligned = a; in_window = b; short = omega arith }
 
 -- once all entries are read, no test is left
