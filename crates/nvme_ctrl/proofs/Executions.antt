@@ -22,8 +22,8 @@ use Rattle.nvme_exec.specs.Carrying.{CanExecute}
 use Rattle.nvme_machine.specs.declared.fetched.FetchedCommand.{FetchedCommand}
 use Rattle.nvme_machine.specs.declared.seen.Executed.TheVariants.{Posted}
 use Rattle.nvme_machine.specs.Controllers.{Controller, QueuePair, queues_of, open_pair, after_posting, after_queue_change}
-use Rattle.nvme_machine.specs.Answers.{Answer, Answers, AnswersAs, admin_answer}
-use Rattle.nvme_machine.specs.Subsystems.{after_answer}
+use Rattle.nvme_machine.specs.CommandExecutions.{CommandExecution, CommandComesTo, CommandComesToAs, admin_command_execution}
+use Rattle.nvme_machine.specs.Subsystems.{after_completion}
 use Rattle.nvme_machine.specs.Executing.{Setting, FinishesOver, FinishesOne, ExecutesNth, scene_in, Finishes}
 use Rattle.nvme_machine.specs.Calling.{AreCallsAs, AreCallsOfAnswer, AreCallsOver, AreCallsOne, AreCallsNth}
 use Rattle.nvme_machine.proofs.AdminWorlds.{Becomes, HasSameReservations, admin-becomes, admin-keeps, all-still, same-controllers}
@@ -65,17 +65,17 @@ admin-ready w size queues k e window x is ready = subst (λ (y : AdminExecution)
 -- the answer of an admin command, over any medium
 pub admin-answers : (tells : Bool) (queues : Queues) (k : ℕ) (t : FetchedCommand) (s : Scene) (o : Outcome) (change : QueueChange) (w : World) (window : List ℕ) → t.queue ≡ 0
     → admin_execution s.world queues k t.entry s.window ≡ record { status = o.status; dw0 = o.dw0; rule = o.rule; change = change; world = w; window = window } → o.marks ≡ no_marks
-    → Answers tells queues k t s (record { outcome = o; change = change; left = record { world = w; window = window; device = s.device } })
-unfolding Answers
+    → CommandComesTo tells queues k t s (record { outcome = o; change = change; left = record { world = w; window = window; device = s.device } })
+unfolding CommandComesTo
 admin-answers tells queues k t s o change w window io is marks =
-    subst (λ b. AnswersAs b tells queues k t s (record { outcome = o; change = change; left = record { world = w; window = window; device = s.device } })) (sym (eq-eqb t.queue 0 io))
+    subst (λ b. CommandComesToAs b tells queues k t s (record { outcome = o; change = change; left = record { world = w; window = window; device = s.device } })) (sym (eq-eqb t.queue 0 io))
     ((λ i. record { outcome = record { status = o.status; dw0 = o.dw0; rule = o.rule; marks = marks i }; change = change; left = record { world = w; window = window; device = s.device } })
-    ∙ ap (admin_answer s) (sym is))
+    ∙ ap (admin_command_execution s) (sym is))
 
 pub io-answers : (tells : Bool) (queues : Queues) (k : ℕ) (t : FetchedCommand) (s : Scene) (o : Outcome) (left : Scene) → t.queue ≢ 0
-    → Executes tells k t.entry t.marked s left o → Answers tells queues k t s (record { outcome = o; change = Keep; left = left })
-unfolding Answers
-io-answers tells queues k t s o left io h = subst (λ b. AnswersAs b tells queues k t s (record { outcome = o; change = Keep; left = left })) (sym (ne_eqb t.queue 0 io)) (refl, h)
+    → Executes tells k t.entry t.marked s left o → CommandComesTo tells queues k t s (record { outcome = o; change = Keep; left = left })
+unfolding CommandComesTo
+io-answers tells queues k t s o left io h = subst (λ b. CommandComesToAs b tells queues k t s (record { outcome = o; change = Keep; left = left })) (sym (ne_eqb t.queue 0 io)) (refl, h)
 
 -- the i-th command is there
 pub is-there : {A : Type 0} (xs : List A) (i : ℕ) (x : A) → slice_get xs i ≡ Some x → i < length xs
@@ -84,12 +84,12 @@ is-there (y ∷ xs) zero x h = omega arith
 is-there (y ∷ xs) (suc i) x h = let later = is-there xs i x h in omega (arith, later)
 
 -- the parts make the whole
-finishes : (tells : Bool) (i : ℕ) (old new : Setting) (t : FetchedCommand) (p : QueuePair) (a : Answer) (c d : Controller)
-    → Answers tells (queues_of old.controller) old.controller.cntlid t (scene_in old) a
+finishes : (tells : Bool) (i : ℕ) (old new : Setting) (t : FetchedCommand) (p : QueuePair) (a : CommandExecution) (c d : Controller)
+    → CommandComesTo tells (queues_of old.controller) old.controller.cntlid t (scene_in old) a
     → c ≡ record old.controller { window = a.left.window } → d ≡ after_posting i t p a.outcome.status a.outcome.dw0 c → new.controller ≡ after_queue_change a.change d
     → new.world ≡ a.left.world → new.device ≡ a.left.device
     → Finishes tells i t p old (Posted a.outcome) new
-unfolding after_answer
+unfolding after_completion
 finishes tells i old new t p a c d answers window posted queues world device = record {
   answer = a;
   answers = answers;
@@ -99,9 +99,9 @@ finishes tells i old new t p a c d answers window posted queues world device = r
   device = device;
 }
 
-pub executes-nth : (tells : Bool) (i : ℕ) (old new : Setting) (t : FetchedCommand) (p : QueuePair) (a : Answer) (c d : Controller)
+pub executes-nth : (tells : Bool) (i : ℕ) (old new : Setting) (t : FetchedCommand) (p : QueuePair) (a : CommandExecution) (c d : Controller)
     → slice_get old.controller.fetched i ≡ Some t → open_pair old.controller t ≡ Some p
-    → Answers tells (queues_of old.controller) old.controller.cntlid t (scene_in old) a
+    → CommandComesTo tells (queues_of old.controller) old.controller.cntlid t (scene_in old) a
     → c ≡ record old.controller { window = a.left.window } → d ≡ after_posting i t p a.outcome.status a.outcome.dw0 c → new.controller ≡ after_queue_change a.change d
     → new.world ≡ a.left.world → new.device ≡ a.left.device
     → ExecutesNth tells i old (Posted a.outcome) new
@@ -111,9 +111,9 @@ executes-nth tells i old new t p a c d found pair answers window posted queues w
     (finishes tells i old new t p a c d answers window posted queues world device))
 
 -- and the calls of the answer are those of the whole
-pub calls-nth : {M : Type 0} (step : M → MediumCall → M → Type 0) (before after : M) (tells : Bool) (i : ℕ) (old new : Setting) (t : FetchedCommand) (p : QueuePair) (a : Answer) (c d : Controller)
+pub calls-nth : {M : Type 0} (step : M → MediumCall → M → Type 0) (before after : M) (tells : Bool) (i : ℕ) (old new : Setting) (t : FetchedCommand) (p : QueuePair) (a : CommandExecution) (c d : Controller)
     → slice_get old.controller.fetched i ≡ Some t → open_pair old.controller t ≡ Some p
-    → Answers tells (queues_of old.controller) old.controller.cntlid t (scene_in old) a
+    → CommandComesTo tells (queues_of old.controller) old.controller.cntlid t (scene_in old) a
     → c ≡ record old.controller { window = a.left.window } → d ≡ after_posting i t p a.outcome.status a.outcome.dw0 c → new.controller ≡ after_queue_change a.change d
     → new.world ≡ a.left.world → new.device ≡ a.left.device
     → MakesCalls step (AreCallsOfAnswer old.controller.cntlid t (scene_in old) a) before after
@@ -128,7 +128,7 @@ calls-nth step before after tells i old new t p a c d found pair answers window 
 }
 
 -- a command of the admin queue makes none
-pub admin-calls : {M : Type 0} (step : M → MediumCall → M → Type 0) (m : M) (k : ℕ) (t : FetchedCommand) (s : Scene) (a : Answer) → t.queue ≡ 0
+pub admin-calls : {M : Type 0} (step : M → MediumCall → M → Type 0) (m : M) (k : ℕ) (t : FetchedCommand) (s : Scene) (a : CommandExecution) → t.queue ≡ 0
     → MakesCalls step (AreCallsOfAnswer k t s a) m m
 unfolding AreCallsOfAnswer
 admin-calls step m k t s a admin = record {

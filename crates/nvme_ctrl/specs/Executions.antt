@@ -4,8 +4,8 @@ use Rattle.nvme_spec.specs.declared.queues.QueueChange.TheVariants.{Keep, MakeCq
 use Rattle.nvme_spec.specs.RegisterLaws.{IsQueuePlace}
 use Rattle.nvme_spec.specs.declared.outcome.Marks.{Marks}
 use Rattle.nvme_spec.specs.Execution.{Scene}
-use Rattle.nvme_machine.specs.Answers.{Answer}
-use Rattle.nvme_ctrl.specs.declared.execution.Answered.{Answered}
+use Rattle.nvme_machine.specs.CommandExecutions.{CommandExecution}
+use Rattle.nvme_ctrl.specs.declared.execution.Performed.{Performed}
 
 -- a new queue lies in host memory
 abbrev pub LiesInMemory : QueueChange → Type 0
@@ -16,8 +16,8 @@ LiesInMemory (DropCq qid) = Unit {0}
 LiesInMemory (DropSq qid) = Unit {0}
 
 -- what was answered, what it marks, and what is left
-abbrev pub answer_of : Answered → Marks → Scene → Answer
-answer_of a removed left = record {
+abbrev pub execution_of : Performed → Marks → Scene → CommandExecution
+execution_of a removed left = record {
   outcome = record { status = a.status; dw0 = a.dw0; rule = a.rule; marks = removed };
   change = a.change;
   left = left;

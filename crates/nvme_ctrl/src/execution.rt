@@ -6,23 +6,24 @@ ghost use Rattle.nvme_spec.specs.AdminEffects as admin;
 ghost use Rattle.nvme_spec.specs.MediumCalls.{MakesCalls};
 ghost use Rattle.nvme_exec.specs.Carrying.{CanExecute};
 ghost use Rattle.nvme_machine.specs.Controllers.{queues_of};
-ghost use Rattle.nvme_machine.specs.Answers.{Answers};
+ghost use Rattle.nvme_machine.specs.Bare.{executed_with, marks_by_executed};
+ghost use Rattle.nvme_machine.specs.CommandExecutions.{CommandComesTo};
 ghost use Rattle.nvme_machine.specs.Executing.{setting, ExecutesNth};
 ghost use Rattle.nvme_machine.specs.Calling.{AreCallsOfAnswer, AreCallsNth};
-ghost use Rattle.nvme_ctrl.specs.Executions.{LiesInMemory, answer_of};
+ghost use Rattle.nvme_ctrl.specs.Executions.{LiesInMemory, execution_of};
 
 use crate::controller::Controller;
 use nvme_admin::execute_admin;
 use nvme_exec::execute_marking;
-use nvme_machine::{Executed, FetchedCommand};
+use nvme_machine::{BareExecuted, BareOutcome, Executed, FetchedCommand};
 use nvme_medium::Medium;
 use nvme_ns::Spaces;
-use nvme_spec::{Marks, Outcome, QueueChange};
+use nvme_spec::{Marks, QueueChange};
 use nvme_wire::Status;
 
 /// What an executed command is answered, besides what it marks, and what is to become of the queues.
 #[derive(Clone, Copy, Debug)]
-pub struct Answered {
+pub struct Performed {
     status: Status,
     dw0: u32,
     rule: u8,
@@ -43,8 +44,6 @@ impl Controller {
     ///
     /// That the controller is configured, that all namespaces lie within the medium, and that every registrant is a
     /// controller's host are the caller's conditions; they hold again afterwards.
-    // Inlined, as what it calls to wrap its answer is: the outcome, which has room for sixteen hosts, is made where its
-    // caller wants it, and never moved.
     #[inline(always)]
     pub fn execute<M: Medium>(&mut self, i: usize, spaces: &mut Spaces, medium: &mut M) -> Executed
         requires ready { CanExecute spaces.old (M.size medium.old) self.old.cntlid }
@@ -59,21 +58,48 @@ impl Controller {
         ensures size { M.size medium.new ≡ M.size medium.old }
         ensures cntlid { self.new.cntlid ≡ self.old.cntlid }
     {
+        let mut marks = Marks::none();
+        let executed = self.execute_marking(i, spaces, medium, &mut marks);
+        executed.with(marks)
+    }
+
+    /// Executes a command as `execute` does. What it marks comes to stand in `marks`, which is empty before, and stays
+    /// so where nothing is posted: it has room for sixteen hosts, and each move of it costs.
+    #[inline(always)]
+    pub fn execute_marking<M: Medium>(
+        &mut self,
+        i: usize,
+        spaces: &mut Spaces,
+        medium: &mut M,
+        marks: &mut Marks,
+    ) -> BareExecuted
+        requires unmarked { marks.old ≡ no_marks }
+        requires ready { CanExecute spaces.old (M.size medium.old) self.old.cntlid }
+        ensures executed { ExecutesNth M.tells i
+            (setting self.old spaces.old (M.device medium.old)) (executed_with marks.new result)
+            (setting self.new spaces.new (M.device medium.new)) }
+        ensures calls { MakesCalls M.step (AreCallsNth M.tells i
+            (setting self.old spaces.old (M.device medium.old)) (executed_with marks.new result)
+            (setting self.new spaces.new (M.device medium.new))) medium.old medium.new }
+        ensures marks { marks.new ≡ marks_by_executed result marks.new }
+        ensures ready { CanExecute spaces.new (M.size medium.new) self.new.cntlid }
+        ensures controllers { spaces.new.controllers ≡ spaces.old.controllers }
+        ensures size { M.size medium.new ≡ M.size medium.old }
+        ensures cntlid { self.new.cntlid ≡ self.old.cntlid }
+    {
         let Some(command) = command_at(&self.fetched, i) else {
-            return Executed::NoSuch;
+            return BareExecuted::NoSuch;
         };
         let Some(pair) = self.open_pair(&command) else {
-            return Executed::CqFull;
+            return BareExecuted::CqFull;
         };
-        let mut marks = Marks::none();
-        let answered = self.perform(&command, spaces, medium, &mut marks);
+        let answered = self.perform(&command, spaces, medium, marks);
         self.post(i, &command, pair, answered.status, answered.dw0);
         self.change_queues(answered.change);
-        Executed::Posted(Outcome {
+        BareExecuted::Posted(BareOutcome {
             status: answered.status,
             dw0: answered.dw0,
             rule: answered.rule,
-            marks,
         })
     }
 
@@ -86,15 +112,15 @@ impl Controller {
         spaces: &mut Spaces,
         medium: &mut M,
         marks: &mut Marks,
-    ) -> Answered
+    ) -> Performed
         requires unmarked { marks.old ≡ no_marks }
         requires ready { CanExecute spaces.old (M.size medium.old) self.old.cntlid }
-        ensures answers { Answers M.tells (queues_of self.old) self.old.cntlid command.now
+        ensures answers { CommandComesTo M.tells (queues_of self.old) self.old.cntlid command.now
             (scene spaces.old self.old.window (M.device medium.old))
-            (answer_of result marks.new (scene spaces.new self.new.window (M.device medium.new))) }
+            (execution_of result marks.new (scene spaces.new self.new.window (M.device medium.new))) }
         ensures calls { MakesCalls M.step (AreCallsOfAnswer self.old.cntlid command.now
             (scene spaces.old self.old.window (M.device medium.old))
-            (answer_of result marks.new (scene spaces.new self.new.window (M.device medium.new))))
+            (execution_of result marks.new (scene spaces.new self.new.window (M.device medium.new))))
             medium.old medium.new }
         ensures rest { self.new ≡ record self.old { window = self.new.window } }
         ensures fits { result.status.sct < 8 }
@@ -115,7 +141,7 @@ impl Controller {
             command.marked,
             marks,
         );
-        Answered {
+        Performed {
             status: completed.status,
             dw0: 0,
             rule: completed.rule,
@@ -126,7 +152,7 @@ impl Controller {
     /// Executes an admin command, which marks nothing.
     // Not inlined, so that I/O commands do not pay for the room of its locals.
     #[inline(never)]
-    fn perform_admin(&mut self, command: &FetchedCommand, spaces: &mut Spaces) -> Answered
+    fn perform_admin(&mut self, command: &FetchedCommand, spaces: &mut Spaces) -> Performed
         ensures executed { admin.admin_execution spaces.old (queues_of self.old) self.old.cntlid command.now.entry
             self.old.window
             ≡ record {
@@ -146,7 +172,7 @@ impl Controller {
             self.cntlid,
             &command.entry,
         );
-        Answered {
+        Performed {
             status: answer.status,
             dw0: answer.dw0,
             rule: answer.rule,

@@ -2,10 +2,12 @@
 //! fleet, what that gives to see, and the reply that an event gets.
 #![tactic(auto)]
 
+mod bare;
 mod event;
 mod reply;
 mod seen;
 
+pub use bare::BareFleetSeen;
 pub use event::FleetEvent;
 pub use reply::Reply;
 pub use seen::FleetSeen;

@@ -59,10 +59,7 @@ same-field admin.Identify queues n x y k h = rw (same-cns x y h) refl
 same-field admin.SetFeatures queues n x y k h = rw (same-fid x y h, same-sv x y h, same-nsqr x y h, same-ncqr x y h, same-wps x y h) refl
 same-field admin.GetFeatures queues n x y k h = rw (same-fid x y h, same-exhid x y h) refl
 same-field admin.NamespaceAttachment queues n x y k h = rw (same-sel x y h) refl
-same-field admin.DeleteSubmissionQueue queues n x y k h = absurd k
-same-field admin.CreateSubmissionQueue queues n x y k h = absurd k
-same-field admin.DeleteCompletionQueue queues n x y k h = absurd k
-same-field admin.CreateCompletionQueue queues n x y k h = absurd k
+same-field command queues n x y k h = absurd k
 
 same-nsid : (o : Option AdminCommand) (x y : List ℕ) → SameFields x y → rules.nsid_rule o y ≡ rules.nsid_rule o x
 unfolding rules.nsid_rule
@@ -86,10 +83,7 @@ list-same w x y sent admin.Identify a h = refl
 list-same w x y sent admin.SetFeatures a h = refl
 list-same w x y sent admin.GetFeatures a h = refl
 list-same w x y sent admin.NamespaceAttachment a h = rw (h.nsid, same-sel x y h) refl
-list-same w x y sent admin.DeleteSubmissionQueue a h = absurd a
-list-same w x y sent admin.CreateSubmissionQueue a h = absurd a
-list-same w x y sent admin.DeleteCompletionQueue a h = absurd a
-list-same w x y sent admin.CreateCompletionQueue a h = absurd a
+list-same w x y sent command a h = absurd a
 
 -- double word 0, the data that go to the host, and what becomes of the world
 pub dw0-same : (w : World) (x y : List ℕ) (command : AdminCommand) → IsAsked command → SameFields x y → double_word_0 w command y ≡ double_word_0 w command x
@@ -98,10 +92,7 @@ dw0-same w x y admin.Identify a h = refl
 dw0-same w x y admin.SetFeatures a h = rw (same-fid x y h) refl
 dw0-same w x y admin.GetFeatures a h = rw (h.nsid, same-fid x y h) refl
 dw0-same w x y admin.NamespaceAttachment a h = refl
-dw0-same w x y admin.DeleteSubmissionQueue a h = absurd a
-dw0-same w x y admin.CreateSubmissionQueue a h = absurd a
-dw0-same w x y admin.DeleteCompletionQueue a h = absurd a
-dw0-same w x y admin.CreateCompletionQueue a h = absurd a
+dw0-same w x y command a h = absurd a
 
 pub data-out-same : (w : World) (k : ℕ) (x y : List ℕ) (command : AdminCommand) → IsAsked command → SameFields x y → data_out w k command y ≡ data_out w k command x
 unfolding data_out
@@ -120,7 +111,4 @@ world-same w x y sent admin.Identify a h = refl
 world-same w x y sent admin.SetFeatures a h = rw (h.nsid, same-fid x y h, same-wps x y h) refl
 world-same w x y sent admin.GetFeatures a h = refl
 world-same w x y sent admin.NamespaceAttachment a h = rw (h.nsid, same-sel x y h) refl
-world-same w x y sent admin.DeleteSubmissionQueue a h = absurd a
-world-same w x y sent admin.CreateSubmissionQueue a h = absurd a
-world-same w x y sent admin.DeleteCompletionQueue a h = absurd a
-world-same w x y sent admin.CreateCompletionQueue a h = absurd a
+world-same w x y sent command a h = absurd a

@@ -99,47 +99,29 @@ length-out w k x admin.Identify received moved a e m = length-identify_data w k 
 length-out w k x admin.SetFeatures received moved a e m = sym m
 length-out w k x admin.GetFeatures received moved a e m = rw m.1 (sym m.0)
 length-out w k x admin.NamespaceAttachment received moved a e m = sym m
-length-out w k x admin.DeleteSubmissionQueue received moved a e m = absurd a
-length-out w k x admin.CreateSubmissionQueue received moved a e m = absurd a
-length-out w k x admin.DeleteCompletionQueue received moved a e m = absurd a
-length-out w k x admin.CreateCompletionQueue received moved a e m = absurd a
+length-out w k x command received moved a e m = absurd a
 
 -- the queues stay
 pub keeps-queues : (x : List ℕ) (command : AdminCommand) → IsAsked command → queue_change command x ≡ Keep
 unfolding queue_change
-keeps-queues x admin.Identify a = refl
-keeps-queues x admin.SetFeatures a = refl
-keeps-queues x admin.GetFeatures a = refl
-keeps-queues x admin.NamespaceAttachment a = refl
 keeps-queues x admin.DeleteSubmissionQueue a = absurd a
 keeps-queues x admin.CreateSubmissionQueue a = absurd a
 keeps-queues x admin.DeleteCompletionQueue a = absurd a
 keeps-queues x admin.CreateCompletionQueue a = absurd a
+keeps-queues x command a = refl
 
 -- the data are the request's, where the command looks at them
 pub list-matters : (w : World) (x data_there sent : List ℕ) (command : AdminCommand) (received moved : ℕ) → MovesAs command received moved x → (received ≡ 0 → data_there ≡ sent)
     → rules.list_rule (Some command) w x data_there ≡ rules.list_rule (Some command) w x sent
 unfolding rules.list_rule
-list-matters w x data_there sent admin.Identify received moved m h = refl
-list-matters w x data_there sent admin.SetFeatures received moved m h = refl
-list-matters w x data_there sent admin.GetFeatures received moved m h = refl
 list-matters w x data_there sent admin.NamespaceAttachment received moved m h = rw (h m) refl
-list-matters w x data_there sent admin.DeleteSubmissionQueue received moved m h = refl
-list-matters w x data_there sent admin.CreateSubmissionQueue received moved m h = refl
-list-matters w x data_there sent admin.DeleteCompletionQueue received moved m h = refl
-list-matters w x data_there sent admin.CreateCompletionQueue received moved m h = refl
+list-matters w x data_there sent command received moved m h = refl
 
 pub world-matters : (w : World) (x data_there sent : List ℕ) (command : AdminCommand) (received moved : ℕ) → MovesAs command received moved x → (received ≡ 0 → data_there ≡ sent)
     → world_after w command x data_there ≡ world_after w command x sent
 unfolding world_after
-world-matters w x data_there sent admin.Identify received moved m h = refl
-world-matters w x data_there sent admin.SetFeatures received moved m h = refl
-world-matters w x data_there sent admin.GetFeatures received moved m h = refl
 world-matters w x data_there sent admin.NamespaceAttachment received moved m h = rw (h m) refl
-world-matters w x data_there sent admin.DeleteSubmissionQueue received moved m h = refl
-world-matters w x data_there sent admin.CreateSubmissionQueue received moved m h = refl
-world-matters w x data_there sent admin.DeleteCompletionQueue received moved m h = refl
-world-matters w x data_there sent admin.CreateCompletionQueue received moved m h = refl
+world-matters w x data_there sent command received moved m h = refl
 
 -- double word 0 is within its width
 if-below : (b : Bool) (x y n : ℕ) → x < n → y < n → (if b then x else y) < n
@@ -160,12 +142,7 @@ unfolding double_word_0
 dw0-small w x admin.SetFeatures = if-below (fid x == number_of_queues) _ _ _ (omega arith) (omega arith)
 dw0-small w x admin.GetFeatures =
     if-below (fid x == number_of_queues) _ _ _ (omega arith) (if-below (fid x == write_protection) _ _ _ (protection-small (namespace_of w (nsid x))) (omega arith))
-dw0-small w x admin.Identify = omega arith
-dw0-small w x admin.NamespaceAttachment = omega arith
-dw0-small w x admin.DeleteSubmissionQueue = omega arith
-dw0-small w x admin.CreateSubmissionQueue = omega arith
-dw0-small w x admin.DeleteCompletionQueue = omega arith
-dw0-small w x admin.CreateCompletionQueue = omega arith
+dw0-small w x command = omega arith
 
 -- The command of the admin lane.
 

@@ -25,12 +25,12 @@ use Rattle.nvme_driver.specs.Layout.{data_area}
 use Rattle.nvme_driver.specs.Drivers.{Driver}
 use Rattle.nvme_driver.specs.Requests.{Asked}
 use Rattle.nvme_machine.specs.declared.fetched.FetchedCommand.{FetchedCommand}
-use Rattle.nvme_machine.specs.Answers.{Answer, admin_answer}
+use Rattle.nvme_machine.specs.CommandExecutions.{CommandExecution, admin_command_execution}
 use Rattle.nvme_machine.specs.Controllers.{Controller, queues_of}
 use Rattle.nvme_fleet.specs.Mailboxes.{FetchedItem, lane_of}
-use Rattle.nvme_fleet.specs.Executions.{Site, Response, command_entry, queue_pairs, admin_judgement, admin_served, admin_response_by, admin_response, AnswersAs, Answers}
+use Rattle.nvme_fleet.specs.Executions.{Site, RequestExecution, command_entry, queue_pairs, admin_judgement, admin_served, admin_request_execution_by, admin_request_execution, RequestComesToAs, RequestComesTo}
 use Rattle.nvme_fleet.specs.Sound.{Sound, IsPaired, mailbox, lane_of_queue}
-use Rattle.nvme_fleet.specs.Steps.{IsAnsweredInItsSlot, AdminJudgedAsItsRequest, AdminAnswersItsRequest, response_with}
+use Rattle.nvme_fleet.specs.Steps.{IsAnsweredInItsSlot, AdminJudgedAsItsRequest, AdminAnswersItsRequest, request_execution_with}
 use Rattle.nvme_fleet.proofs.Windows.{stored-none}
 use Rattle.nvme_fleet.proofs.AdminJudging.{IsAsked, admin-access-same, list-same, dw0-same, data-out-same, world-same}
 use Rattle.nvme_fleet.proofs.AdminKinds.{dw0-small, MovesAs, IsPlainAdmin, asked_by, plain-held, moved-is, length-out, keeps-queues, list-matters, world-matters}
@@ -103,12 +103,12 @@ admin_judged_as_its_request d c i t x w cntlid s g f q =
 
 -- The answer.
 
-as-admin : (tells : Bool) (cntlid : ℕ) (x : FetchedItem) (a : Asked) (s : Site) (r : Response) (j : Judgement) (command : AdminCommand) → lane_of x.item ≡ Admin → x.item.asked ≡ a
-    → admin_judgement s.world cntlid a ≡ j → command_of (opcode (command_entry a)) ≡ Some command → r ≡ admin_response_by j (Some command) s cntlid a → Answers tells cntlid x s r
-unfolding Answers admin_response
+as-admin : (tells : Bool) (cntlid : ℕ) (x : FetchedItem) (a : Asked) (s : Site) (r : RequestExecution) (j : Judgement) (command : AdminCommand) → lane_of x.item ≡ Admin → x.item.asked ≡ a
+    → admin_judgement s.world cntlid a ≡ j → command_of (opcode (command_entry a)) ≡ Some command → r ≡ admin_request_execution_by j (Some command) s cntlid a → RequestComesTo tells cntlid x s r
+unfolding RequestComesTo admin_request_execution
 as-admin tells cntlid x a s r j command l y e o h =
-    subst (λ n. AnswersAs n tells cntlid x.item.asked x.marked s r) (sym l)
-    (subst (λ b. r ≡ admin_response s cntlid b) (sym y) (h ∙ sym (ap (λ k. admin_response_by k (command_of (opcode (command_entry a))) s cntlid a) e ∙ ap (λ k. admin_response_by j k s cntlid a) o)))
+    subst (λ n. RequestComesToAs n tells cntlid x.item.asked x.marked s r) (sym l)
+    (subst (λ b. r ≡ admin_request_execution s cntlid b) (sym y) (h ∙ sym (ap (λ k. admin_request_execution_by k (command_of (opcode (command_entry a))) s cntlid a) e ∙ ap (λ k. admin_request_execution_by j k s cntlid a) o)))
 
 -- only as many addresses count as there are bytes
 scattered-taken : (w places bs : List ℕ) → with_scattered w places bs ≡ with_scattered w (take (length bs) places) bs
@@ -127,7 +127,7 @@ lane-is d c i t x h g f q =
 -- an allowed command's answer, as the mailbox has it
 served-with : (d : Driver) (c : Controller) (t : FetchedCommand) (w : World) (device : Device) (cntlid : ℕ) (h : IsAdmin d c t) (command : AdminCommand) → IsAsked command
     → MovesAs command (asked_by d c t).received (asked_by d c t).moved t.entry → length (data_out w cntlid command t.entry) ≡ (asked_by d c t).received
-    → response_with d t (admin_answer (scene w c.window device) (performance w cntlid c.window command t.entry)) (data_out w cntlid command t.entry)
+    → request_execution_with d t (admin_command_execution (scene w c.window device) (performance w cntlid c.window command t.entry)) (data_out w cntlid command t.entry)
     ≡ admin_served (record { world = w; device = device }) cntlid (asked_by d c t) command
 served-with d c t w device cntlid h command a m size i =
     let k = h.held in
@@ -153,13 +153,13 @@ stands-there d c t h bytes n e few =
     ∙ scattered-taken c.window (data_addresses (asked_by d c t).moved c.window t.entry) bytes
     ∙ m.scatters bytes few
 
-abbrev Said : Bool → Driver → Controller → FetchedCommand → FetchedItem → World → Device → ℕ → Answer → Type 0
+abbrev Said : Bool → Driver → Controller → FetchedCommand → FetchedItem → World → Device → ℕ → CommandExecution → Type 0
 Said tells d c t x w device cntlid a = (a.change ≡ Keep) × IsAnsweredInItsSlot tells d c t x w device cntlid a
 
 said-by : (tells : Bool) (d : Driver) (c : Controller) (i : ℕ) (t : FetchedCommand) (x : FetchedItem) (w : World) (device : Device) (cntlid : ℕ) (h : IsAdmin d c t)
     → slice_get c.fetched i ≡ Some t → slice_get (mailbox d c).fetched i ≡ Some x → t.queue ≡ 0 → (command : AdminCommand) → command_of (opcode t.entry) ≡ Some command → IsAsked command
     → MovesAs command (asked_by d c t).received (asked_by d c t).moved t.entry → (j : Judgement) → JudgementRefuses j → admin_judgement w cntlid (asked_by d c t) ≡ j
-    → Said tells d c t x w device cntlid (admin_answer (scene w c.window device) (execution_by j (Some command) w cntlid t.entry c.window))
+    → Said tells d c t x w device cntlid (admin_command_execution (scene w c.window device) (execution_by j (Some command) w cntlid t.entry c.window))
 said-by tells d c i t x w device cntlid h g f q command named a m (Err e) n judges =
     let k = h.held in
     let same = k.same in
@@ -171,7 +171,7 @@ said-by tells d c i t x w device cntlid h g f q command named a m (Err e) n judg
         few = omega arith;
         whole = rw r (omega arith);
         answers = as-admin tells cntlid x (asked_by d c t) (record { world = w; device = device }) _ (Err e) command (lane-is d c i t x h g f q) (asked-is d c i t x g f q) judges (ap command_of same.opcode ∙ named)
-            (denied-with d t (admin_answer (scene w c.window device) (execution_by (Err e) (Some command) w cntlid t.entry c.window)) w c.window device e.rule e.status r refl refl);
+            (denied-with d t (admin_command_execution (scene w c.window device) (execution_by (Err e) (Some command) w cntlid t.entry c.window)) w c.window device e.rule e.status r refl refl);
       },
     )
 said-by tells d c i t x w device cntlid h g f q command named a m (Ok u) n judges =
@@ -204,8 +204,8 @@ pub admin_answers_its_request : AdminAnswersItsRequest
 admin_answers_its_request tells d c i t x w device cntlid a s g f q h =
     let k = admin-known d c i t s g q in
     let p = k.plain in
-    let e : a ≡ admin_answer (scene w c.window device) (execution_by (rules.admin_judgement w (queues_of c) cntlid t.entry c.window) (Some p.command) w cntlid t.entry c.window) =
-    h ∙ ap (admin_answer (scene w c.window device)) (executed-as w (queues_of c) cntlid t.entry c.window p.command p.named) in
+    let e : a ≡ admin_command_execution (scene w c.window device) (execution_by (rules.admin_judgement w (queues_of c) cntlid t.entry c.window) (Some p.command) w cntlid t.entry c.window) =
+    h ∙ ap (admin_command_execution (scene w c.window device)) (executed-as w (queues_of c) cntlid t.entry c.window p.command p.named) in
     subst (Said tells d c t x w device cntlid) (sym e)
     (said-by tells d c i t x w device cntlid k g f q p.command p.named p.asked p.moves (rules.admin_judgement w (queues_of c) cntlid t.entry c.window)
     (admin-refuses w (queues_of c) cntlid t.entry c.window) (sym (judged d c t w cntlid k)))
@@ -216,12 +216,12 @@ executed-small : (w : World) (k : ℕ) (e window : List ℕ) (j : Judgement) (co
 executed-small w k e window (Err d) command = omega arith
 executed-small w k e window (Ok u) command = dw0-small w e command
 
-pub admin-fits : (d : Driver) (c : Controller) (i : ℕ) (t : FetchedCommand) (w : World) (device : Device) (cntlid : ℕ) (a : Answer) → Sound d c → slice_get c.fetched i ≡ Some t → t.queue ≡ 0
-    → a ≡ admin_answer (scene w c.window device) (admin_execution w (queues_of c) cntlid t.entry c.window) → Fits a.outcome.status × (a.outcome.dw0 < 2 ^ 32)
+pub admin-fits : (d : Driver) (c : Controller) (i : ℕ) (t : FetchedCommand) (w : World) (device : Device) (cntlid : ℕ) (a : CommandExecution) → Sound d c → slice_get c.fetched i ≡ Some t → t.queue ≡ 0
+    → a ≡ admin_command_execution (scene w c.window device) (admin_execution w (queues_of c) cntlid t.entry c.window) → Fits a.outcome.status × (a.outcome.dw0 < 2 ^ 32)
 admin-fits d c i t w device cntlid a s g q h =
     let k = admin-known d c i t s g q in
     let p = k.plain in
     let small : (admin_execution w (queues_of c) cntlid t.entry c.window).dw0 < 2 ^ 32 =
     subst (λ x. x.dw0 < 2 ^ 32) (sym (executed-as w (queues_of c) cntlid t.entry c.window p.command p.named))
     (executed-small w cntlid t.entry c.window (rules.admin_judgement w (queues_of c) cntlid t.entry c.window) p.command) in
-    subst (λ (z : Answer). Fits z.outcome.status × (z.outcome.dw0 < 2 ^ 32)) (sym h) (admin_execution_fits w (queues_of c) cntlid t.entry c.window, small)
+    subst (λ (z : CommandExecution). Fits z.outcome.status × (z.outcome.dw0 < 2 ^ 32)) (sym h) (admin_execution_fits w (queues_of c) cntlid t.entry c.window, small)

@@ -17,10 +17,10 @@ use Rattle.nvme_machine.specs.declared.fetched.FetchedCommand.{FetchedCommand}
 use Rattle.nvme_machine.specs.declared.seen.Executed.{Executed}
 use Rattle.nvme_machine.specs.declared.seen.Executed.TheVariants.{NoSuch, CqFull}
 use Rattle.nvme_machine.specs.declared.seen.Seen.TheVariants.{Stored, Outside}
-use Rattle.nvme_machine.specs.Answers as machine
+use Rattle.nvme_machine.specs.CommandExecutions.{CommandComesTo, CommandComesToAs, CommandExecution}
 use Rattle.nvme_machine.specs.Controllers.{Controller, SubmissionQueue, QueuePair, reaction, queues_of, open_pair, after_store, after_write32, after_fetch, fetched_from, fetchable, taking_effect, with_admin_queues, after_posting, after_queue_change}
 use Rattle.nvme_machine.specs.Executing.{Setting, FinishesOne, FinishesOver, scene_in}
-use Rattle.nvme_machine.specs.Subsystems.{marked_from, after_answer}
+use Rattle.nvme_machine.specs.Subsystems.{marked_from, after_completion}
 use Rattle.nvme_machine.proofs.Denials.{unmarked}
 use Rattle.nvme_driver.specs.Calls.{Call, Stores, Writes, Reads, Turns}
 use Rattle.nvme_subsys.specs.Marked.{marks_after}
@@ -111,12 +111,12 @@ left-alone old left x y is quiet same h = record {
 }
 
 over-quiet : (o : Option QueuePair) (tells : Bool) (t : FetchedCommand) (old : Setting) (x : Executed) (left : Setting) → IsAdmin t → AreAdmin old.controller → FinishesOver o tells 0 t old x left → IsQuiet x left
-unfolding machine.Answers after_answer after_posting
+unfolding CommandComesTo after_completion after_posting
 over-quiet None tells t old x left is h f = left-alone old left x CqFull f.0 (λ w cs. refl) f.1 h
 over-quiet (Some p) tells t old x left is h f =
-    let a : machine.Answer = f.answer in
-    let admin = subst (λ b. machine.AnswersAs b tells (queues_of old.controller) old.controller.cntlid t (scene_in old) a) is f.answers in
-    let none : a.outcome.marks ≡ no_marks = ap (λ (y : machine.Answer). y.outcome.marks) admin in
+    let a : CommandExecution = f.answer in
+    let admin = subst (λ b. CommandComesToAs b tells (queues_of old.controller) old.controller.cntlid t (scene_in old) a) is f.answers in
+    let none : a.outcome.marks ≡ no_marks = ap (λ (y : CommandExecution). y.outcome.marks) admin in
     record {
       marks = λ w cs. ap (λ z. marks_after w z cs) f.gives ∙ ap (λ m. marked_from w m 1 cs) none ∙ unmarked w 1 cs;
       admin = subst AreAdmin (sym f.controller)

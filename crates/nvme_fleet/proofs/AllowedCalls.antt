@@ -63,15 +63,7 @@ calls_of_runs_are_allowed tells old new (event ∷ events) (reply ∷ later) cal
 keeps-off : (old : Layers) (e : FleetEvent) (n : ℕ) (x : Extent) → HaveTheirOwn old.subsystem.world → extent_of old.subsystem.world n ≡ Some x → OfItsHost (λ k. may_write old.subsystem.world k n ≡ false) e
     → (call : MediumCall) → MayCall old e call → KeepsOff x call
 keeps-off old (Execute k i) n x own is fenced call may = elsewhere old.subsystem (event.Execute k i) n x own is fenced call may
-keeps-off old (BringUp k) n x own is fenced call may = absurd may
-keeps-off old (Place k request) n x own is fenced call may = absurd may
-keeps-off old (Ring k) n x own is fenced call may = absurd may
-keeps-off old (Fetch k q) n x own is fenced call may = absurd may
-keeps-off old (Poll k) n x own is fenced call may = absurd may
-keeps-off old (Reset k) n x own is fenced call may = absurd may
-keeps-off old (RawStore k address bytes) n x own is fenced call may = absurd may
-keeps-off old (RawWrite32 k offset v) n x own is fenced call may = absurd may
-keeps-off old PowerCycle n x own is fenced call may = absurd may
+keeps-off old event n x own is fenced call may = absurd may
 
 extents-stay : (tells : Bool) (old new : Layers) (e : FleetEvent) (reply : Reply) → Step tells old e reply new → HasSameExtents old.subsystem.world new.subsystem.world
 extents-stay tells old new e reply step =

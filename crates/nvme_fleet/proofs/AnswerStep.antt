@@ -22,12 +22,12 @@ use Rattle.nvme_driver.specs.Layout.{data_area}
 use Rattle.nvme_driver.specs.Polls.{is_success}
 use Rattle.nvme_driver.specs.Drivers.{Driver}
 use Rattle.nvme_machine.specs.declared.fetched.FetchedCommand.{FetchedCommand}
-use Rattle.nvme_machine.specs.Answers.{Answer}
+use Rattle.nvme_machine.specs.CommandExecutions.{CommandExecution}
 use Rattle.nvme_machine.specs.Controllers.{Controller}
 use Rattle.nvme_fleet.specs.Mailboxes.{FetchedItem, lane_of}
-use Rattle.nvme_fleet.specs.Executions.{Site, Response, command_entry, io_judgement, io_verdict, denial_response, AnswersIo, AnswersAs, Answers}
+use Rattle.nvme_fleet.specs.Executions.{Site, RequestExecution, command_entry, io_judgement, io_verdict, denied_request_execution, IoRequestComesTo, RequestComesToAs, RequestComesTo}
 use Rattle.nvme_fleet.specs.Sound.{Sound, mailbox, lane_of_queue}
-use Rattle.nvme_fleet.specs.Steps.{IsServedInItsSlot, IsAnsweredInItsSlot, AnswersItsRequest, response_with}
+use Rattle.nvme_fleet.specs.Steps.{IsServedInItsSlot, IsAnsweredInItsSlot, AnswersItsRequest, request_execution_with}
 use Rattle.nvme_fleet.proofs.Windows.{stored-none}
 use Rattle.nvme_fleet.proofs.Commands.{SameFields}
 use Rattle.nvme_fleet.proofs.Judging.{length-same, count-same, lba-same}
@@ -66,22 +66,22 @@ lane-is d c i t x s g f q =
     let k = io-known d c i t s g q in
     ap (λ (y : FetchedItem). lane_of y.item) (item-is d c i t x g f) ∙ lane-of-item Io d c t (ap lane_of_queue q) (record { received = k.received; of_lane = k.of_lane })
 
-as-io : (tells : Bool) (cntlid : ℕ) (x : FetchedItem) (s : Site) (r : Response) (v : Verdict) → lane_of x.item ≡ Io → io_verdict s.world cntlid x.item.asked x.marked ≡ v
-    → AnswersIo v tells cntlid x.item.asked s r → Answers tells cntlid x s r
-unfolding Answers
+as-io : (tells : Bool) (cntlid : ℕ) (x : FetchedItem) (s : Site) (r : RequestExecution) (v : Verdict) → lane_of x.item ≡ Io → io_verdict s.world cntlid x.item.asked x.marked ≡ v
+    → IoRequestComesTo v tells cntlid x.item.asked s r → RequestComesTo tells cntlid x s r
+unfolding RequestComesTo
 as-io tells cntlid x s r v l e h =
-    subst (λ n. AnswersAs n tells cntlid x.item.asked x.marked s r) (sym l) (subst (λ u. AnswersIo u tells cntlid x.item.asked s r) (sym e) h)
+    subst (λ n. RequestComesToAs n tells cntlid x.item.asked x.marked s r) (sym l) (subst (λ u. IoRequestComesTo u tells cntlid x.item.asked s r) (sym e) h)
 
 -- no denial is Successful Completion
 pub unsuccessful : (s : Status) → Refuses s → is_success s ≡ false
 unsuccessful s h = not-true (is_success s) (of-each (λ x. not (is_success x)) denials s refl h)
 
 -- nothing comes with a denial
-pub denied-with : (d : Driver) (t : FetchedCommand) (a : Answer) (w : World) (window : List ℕ) (device : Device) (number : ℕ) (why : Status) → is_success why ≡ false
-    → a.left ≡ scene w window device → a.outcome ≡ denial_outcome number why → response_with d t a [] ≡ denial_response (record { world = w; device = device }) number why
+pub denied-with : (d : Driver) (t : FetchedCommand) (a : CommandExecution) (w : World) (window : List ℕ) (device : Device) (number : ℕ) (why : Status) → is_success why ≡ false
+    → a.left ≡ scene w window device → a.outcome ≡ denial_outcome number why → request_execution_with d t a [] ≡ denied_request_execution (record { world = w; device = device }) number why
 denied-with d t a w window device number why n l o = rw (l, o, n) refl
 
-answered-by : (tells : Bool) (d : Driver) (c : Controller) (i : ℕ) (t : FetchedCommand) (x : FetchedItem) (w : World) (device : Device) (cntlid : ℕ) (a : Answer)
+answered-by : (tells : Bool) (d : Driver) (c : Controller) (i : ℕ) (t : FetchedCommand) (x : FetchedItem) (w : World) (device : Device) (cntlid : ℕ) (a : CommandExecution)
     → Sound d c → slice_get c.fetched i ≡ Some t → slice_get (mailbox d c).fetched i ≡ Some x → t.queue ≡ 1
     → (v : Verdict) → spec.io_verdict w cntlid t.entry t.marked c.window ≡ v → VerdictRefuses v → ExecutesBy v tells cntlid t.entry (scene w c.window device) a.left a.outcome
     → IsAnsweredInItsSlot tells d c t x w device cntlid a
@@ -90,7 +90,7 @@ answered-by tells d c i t x w device cntlid a s g f q (Denied number why) e n h 
   window = ap (λ z. z.window) h.0 ∙ sym (stored-none c.window (data_area (cid t.entry)));
   few = omega arith;
   whole = (let o = h.1 in let m = unsuccessful why n in rw (o, m) (omega arith));
-  answers = as-io tells cntlid x (record { world = w; device = device }) (response_with d t a []) (Denied number why) (lane-is d c i t x s g f q) (verdict-is d c i t x w cntlid s g f q ∙ e)
+  answers = as-io tells cntlid x (record { world = w; device = device }) (request_execution_with d t a []) (Denied number why) (lane-is d c i t x s g f q) (verdict-is d c i t x w cntlid s g f q ∙ e)
       (denied-with d t a w c.window device number why (unsuccessful why n) h.0 h.1);
 }
 answered-by tells d c i t x w device cntlid a s g f q (Allowed plan) e n h =
@@ -100,7 +100,7 @@ answered-by tells d c i t x w device cntlid a s g f q (Allowed plan) e n h =
       window = r.window;
       few = r.few;
       whole = r.whole;
-      answers = as-io tells cntlid x (record { world = w; device = device }) (response_with d t a r.bytes) (Allowed plan) (lane-is d c i t x s g f q) (verdict-is d c i t x w cntlid s g f q ∙ e) r.served;
+      answers = as-io tells cntlid x (record { world = w; device = device }) (request_execution_with d t a r.bytes) (Allowed plan) (lane-is d c i t x s g f q) (verdict-is d c i t x w cntlid s g f q ∙ e) r.served;
     }
 
 pub answers_its_request : AnswersItsRequest

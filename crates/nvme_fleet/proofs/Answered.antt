@@ -20,7 +20,7 @@ use Rattle.nvme_event.specs.Replies.{Reply}
 use Rattle.nvme_event.specs.Events.{concerns}
 use Rattle.nvme_fleet.specs.Mailboxes.{Item, FetchedItem, PostedAnswer, LaneBox, Mailbox, box_at, with_box, lane_of, names, with_mark}
 use Rattle.nvme_fleet.specs.Deliveries.{MailboxReaction, mailbox_reaction, recounted, ring_lane, brought_up, refusal, new_item, with_placed, placed_by, placed, rung, fetched_first, lane_at, fetched_of, answer_reply, handed_up, polled_io, polled_admin, polled_aborted, polled}
-use Rattle.nvme_fleet.specs.Executions.{Response}
+use Rattle.nvme_fleet.specs.Executions.{RequestExecution}
 use Rattle.nvme_fleet.specs.Fleets.{WithDriver, Fleet, Run, Is, called_at, host_at, after_answer, with_posted, answer_for}
 use Rattle.nvme_fleet.proofs.MailboxMarks.{DiffersInMarks, differs, others-differ}
 use Rattle.nvme_fleet.specs.Apart.{HasMailbox, ExecutesOwn, OwnStep, MailboxStep}
@@ -151,7 +151,7 @@ polls P Q [] m k = by m.up
     by false = k
 polls P Q (t ∷ ts) m k = k
 
-pub answered : (P : Item → Type 0) (Q : PostedAnswer → Type 0) (i : ℕ) (x : FetchedItem) (r : Response) (m : Mailbox) → ((since : ℕ) → Q (answer_for x r since)) → Known P Q m → Known P Q (after_answer i x r m)
+pub answered : (P : Item → Type 0) (Q : PostedAnswer → Type 0) (i : ℕ) (x : FetchedItem) (r : RequestExecution) (m : Mailbox) → ((since : ℕ) → Q (answer_for x r since)) → Known P Q m → Known P Q (after_answer i x r m)
 unfolding after_answer
 answered P Q i x r m new k =
     let l : Lane = lane_of x.item in
@@ -212,8 +212,8 @@ executed-known : (P : Item → Type 0) (Q : PostedAnswer → Type 0) (o : Option
 executed-known P Q None tells j k i old new m n reply same at found h g =
     subst (Known (ItemsNow P k old (Execute j i) reply new) (AnswersNow P Q tells k old (Execute j i) reply new)) (sym h.1) (before P Q tells k old (Execute j i) reply new m g)
 executed-known P Q (Some x) tells j k i old new m n reply same at found h g =
-    marks R S (after_answer i x h.response m) n (differs h.response.outcome.marks h.response.left.world k (after_answer i x h.response m) n h.leaves)
-    (answered R S i x h.response m (λ since. inr (record { item = x.item; ticket_is = refl; known = all-get (OfItem P) m.fetched i x found g.2; executes = now }))
+    marks R S (after_answer i x h.execution m) n (differs h.execution.outcome.marks h.execution.left.world k (after_answer i x h.execution m) n h.leaves)
+    (answered R S i x h.execution m (λ since. inr (record { item = x.item; ticket_is = refl; known = all-get (OfItem P) m.fetched i x found g.2; executes = now }))
     (before P Q tells k old (Execute j i) reply new m g))
   where
     R : Item → Type 0
@@ -222,7 +222,7 @@ executed-known P Q (Some x) tells j k i old new m n reply same at found h g =
     S : PostedAnswer → Type 0
     S = AnswersNow P Q tells k old (Execute j i) reply new
 
-    now : Executes tells k x.item (conclusion_of h.response) old (Execute j i) reply new
+    now : Executes tells k x.item (conclusion_of h.execution) old (Execute j i) reply new
     now = record {
       place = i;
       event_is = ap (λ n. Execute n i) same;
@@ -231,7 +231,7 @@ executed-known P Q (Some x) tells j k i old new m n reply same at found h g =
       fetched = x;
       found = found;
       item_is = refl;
-      response = h.response;
+      execution = h.execution;
       answers = h.answers;
       gives = h.gives;
       leaves = h.site;

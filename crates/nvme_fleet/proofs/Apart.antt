@@ -14,7 +14,7 @@ use Rattle.nvme_event.specs.Replies.{Reply}
 use Rattle.nvme_event.specs.Events.{concerns}
 use Rattle.nvme_fleet.specs.Mailboxes.{FetchedItem, Mailbox}
 use Rattle.nvme_fleet.specs.Deliveries.{MailboxReaction, plain, fetched, reset}
-use Rattle.nvme_fleet.specs.Executions.{Site, Answers}
+use Rattle.nvme_fleet.specs.Executions.{Site, RequestComesTo}
 use Rattle.nvme_fleet.specs.Fleets.{Host, WithDriver, Raw, Fleet, Is, Completes, ExecutesItem, ExecutesAt, host_at, with_host, power_cycled, called_at, raw_at, fetched_at, settled, after_answer, site_of, marks_in, replaced, numbered}
 use Rattle.nvme_fleet.specs.Apart.{HasMailbox, Becomes, Posts, ExecutesOwn, OwnStep, OthersStep, MailboxStep, MovesOn, HostsAreApart, marks_seen, marked_by}
 use Rattle.nvme_fleet.proofs.MailboxMarks.{spared}
@@ -117,7 +117,7 @@ executes-other (Some (WithDriver y)) tells old new j i k reply m apart other at 
     by : (o : Option FetchedItem) → ExecutesItem o tells old j y i reply new → MovesOn tells old (Execute j i) reply new k m
     by None h = keeps tells old new (Execute j i) reply k m other (spared new.site.world k m reply (ExecutedSeen NoSuch) h.0 refl) (ap (λ f. host_at f k) h.1) at
     by (Some x) h =
-        settled-other tells old new reply j i k h.response.left (WithDriver (after_answer i x h.response y)) (Posted h.response.outcome) m apart other at h.gives h.leaves
+        settled-other tells old new reply j i k h.execution.left (WithDriver (after_answer i x h.execution y)) (Posted h.execution.outcome) m apart other at h.gives h.leaves
 executes-other (Some (Raw c)) tells old new j i k reply m apart other at h =
     settled-other tells old new reply j i k (site_of h.left) (Raw h.left.controller) h.executed m apart other at h.gives h.leaves
 
@@ -125,19 +125,19 @@ completes-own : (tells : Bool) (old new : Fleet) (j k i : ℕ) (m : Mailbox) (x 
     → Completes tells old j m i x reply new → MovesOn tells old (Execute j i) reply new k m
 unfolding host_at settled
 completes-own tells old new j k i m x reply same here at found h =
-    let y : Mailbox = after_answer i x h.response m in
+    let y : Mailbox = after_answer i x h.execution m in
     let place : numbered (replaced old.hosts j (WithDriver y)) k ≡ Some (WithDriver y) =
     ap (λ n. numbered (replaced old.hosts n (WithDriver y)) k) same ∙ replaced-here old.hosts k (WithDriver m) (WithDriver y) at in
-    let n : Mailbox = marked_by h.response.outcome.marks h.response.left.world k y in
+    let n : Mailbox = marked_by h.execution.outcome.marks h.execution.left.world k y in
     let posts : Posts tells k old.site m i x reply new.site n = record {
-      response = h.response;
-      answers = subst (λ n. Answers tells n x old.site h.response) same h.answers;
+      execution = h.execution;
+      answers = subst (λ n. RequestComesTo tells n x old.site h.execution) same h.answers;
       gives = h.gives;
       site = ap (λ (f : Fleet). f.site) h.leaves;
       leaves = refl;
     } in
     own tells old new (Execute j i) reply k m n here
-    (ap (λ f. host_at f k) h.leaves ∙ settled-at old j k h.response.left (WithDriver y) h.response.outcome.marks y place)
+    (ap (λ f. host_at f k) h.leaves ∙ settled-at old j k h.execution.left (WithDriver y) h.execution.outcome.marks y place)
     (subst (λ o. ExecutesOwn o tells k old.site m i reply new.site n) (sym found) posts)
 
 executes-own : (tells : Bool) (old new : Fleet) (j i k : ℕ) (reply : Reply) (m : Mailbox) → j ≡ k → (j == k) ≡ true → HasMailbox old k m

@@ -13,7 +13,7 @@ use Rattle.nvme_machine.specs.EventCalls as machine
 use Rattle.nvme_machine.specs.Subsystems.{Subsystem}
 use Rattle.nvme_machine.proofs.CallLaws as machine_laws
 use Rattle.nvme_event.specs.declared.event.FleetEvent.{FleetEvent}
-use Rattle.nvme_event.specs.declared.event.FleetEvent.TheVariants.{BringUp, Place, Ring, Fetch, Execute, Poll, Reset, RawStore, RawWrite32, PowerCycle}
+use Rattle.nvme_event.specs.declared.event.FleetEvent.TheVariants.{Execute}
 use Rattle.nvme_event.specs.declared.seen.FleetSeen.TheVariants as seen
 use Rattle.nvme_event.specs.Replies.{Reply}
 use Rattle.nvme_fleet.specs.CallLaws.{StepsHaveCalls, RunsHaveCalls, StepCallsAreUnique, RunCallsAreUnique, FlushedIsOneFlush}
@@ -27,19 +27,11 @@ use Rattle.nvme_fleet.proofs.Unique.{AreCalm, count, happens-once, layers-alone,
 -- Each step and each run has calls.
 
 pub steps_have_calls : StepsHaveCalls
-steps_have_calls tells old new (BringUp k) reply h = ([], record { mailboxes = h.mailboxes; below = (h.below, refl) })
-steps_have_calls tells old new (Place k request) reply h = ([], record { mailboxes = h.mailboxes; below = (h.below, refl) })
-steps_have_calls tells old new (Ring k) reply h = ([], record { mailboxes = h.mailboxes; below = (h.below, refl) })
-steps_have_calls tells old new (Fetch k q) reply h = ([], record { mailboxes = h.mailboxes; below = (h.below, refl) })
 steps_have_calls tells old new (Execute k i) reply h =
     let below = h.below in
     let some = machine_laws.steps_have_calls tells old.subsystem new.subsystem (event.Execute k i) below.given below.step in
     (some.0, record { mailboxes = h.mailboxes; below = record { given = below.given; step = some.1; gives = below.gives; drivers = below.drivers } })
-steps_have_calls tells old new (Poll k) reply h = ([], record { mailboxes = h.mailboxes; below = (h.below, refl) })
-steps_have_calls tells old new (Reset k) reply h = ([], record { mailboxes = h.mailboxes; below = (h.below, refl) })
-steps_have_calls tells old new (RawStore k address bytes) reply h = ([], record { mailboxes = h.mailboxes; below = (h.below, refl) })
-steps_have_calls tells old new (RawWrite32 k offset v) reply h = ([], record { mailboxes = h.mailboxes; below = (h.below, refl) })
-steps_have_calls tells old new PowerCycle reply h = ([], record { mailboxes = h.mailboxes; below = (h.below, refl) })
+steps_have_calls tells old new event reply h = ([], record { mailboxes = h.mailboxes; below = (h.below, refl) })
 
 pub runs_have_calls : RunsHaveCalls
 runs_have_calls tells old new [] [] h = ([], (h, refl))
@@ -53,17 +45,9 @@ runs_have_calls tells old new (e ∷ events) (reply ∷ later) h =
 -- They are one list.
 
 pub step_calls_are_unique : StepCallsAreUnique
-step_calls_are_unique tells old new other (BringUp k) reply another calls these content left right h g made also = g.below.1 ∙ sym h.below.1
-step_calls_are_unique tells old new other (Place k request) reply another calls these content left right h g made also = g.below.1 ∙ sym h.below.1
-step_calls_are_unique tells old new other (Ring k) reply another calls these content left right h g made also = g.below.1 ∙ sym h.below.1
-step_calls_are_unique tells old new other (Fetch k q) reply another calls these content left right h g made also = g.below.1 ∙ sym h.below.1
 step_calls_are_unique tells old new other (Execute k i) reply another calls these content left right h g made also =
     machine_laws.step_calls_are_unique tells old.subsystem new.subsystem other.subsystem (event.Execute k i) h.below.given g.below.given calls these content left right h.below.step g.below.step made also
-step_calls_are_unique tells old new other (Poll k) reply another calls these content left right h g made also = g.below.1 ∙ sym h.below.1
-step_calls_are_unique tells old new other (Reset k) reply another calls these content left right h g made also = g.below.1 ∙ sym h.below.1
-step_calls_are_unique tells old new other (RawStore k address bytes) reply another calls these content left right h g made also = g.below.1 ∙ sym h.below.1
-step_calls_are_unique tells old new other (RawWrite32 k offset v) reply another calls these content left right h g made also = g.below.1 ∙ sym h.below.1
-step_calls_are_unique tells old new other PowerCycle reply another calls these content left right h g made also = g.below.1 ∙ sym h.below.1
+step_calls_are_unique tells old new other event reply another calls these content left right h g made also = g.below.1 ∙ sym h.below.1
 
 pub run_calls_are_unique : RunCallsAreUnique
 run_calls_are_unique old new other [] [] [] calls these content left right all h g made also a b below = g.1 ∙ sym h.1

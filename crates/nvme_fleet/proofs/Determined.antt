@@ -16,9 +16,9 @@ use Rattle.nvme_machine.specs.declared.fetched.FetchedCommand.{FetchedCommand}
 use Rattle.nvme_machine.specs.declared.seen.Executed.{Executed}
 use Rattle.nvme_machine.specs.declared.seen.Executed.TheVariants.{Posted}
 use Rattle.nvme_machine.specs.Controllers.{Controller, QueuePair, queues_of, open_pair}
-use Rattle.nvme_machine.specs.Subsystems.{after_answer as after_machine_answer}
+use Rattle.nvme_machine.specs.Subsystems.{after_completion}
 use Rattle.nvme_machine.specs.Executing.{Setting, FinishesOne, FinishesOver, scene_in}
-use Rattle.nvme_machine.specs.Answers as machine
+use Rattle.nvme_machine.specs.CommandExecutions.{CommandComesTo, CommandExecution}
 use Rattle.nvme_machine.proofs.Determined as machine_proofs
 use Rattle.nvme_event.specs.declared.event.FleetEvent.{FleetEvent}
 use Rattle.nvme_event.specs.declared.event.FleetEvent.TheVariants.{BringUp, Place, Ring, Fetch, Execute, Poll, Reset, RawStore, RawWrite32, PowerCycle}
@@ -27,48 +27,48 @@ use Rattle.nvme_event.specs.declared.seen.FleetSeen.TheVariants.{Executed as Exe
 use Rattle.nvme_event.specs.Replies.{Reply}
 use Rattle.nvme_fleet.specs.Mailboxes.{FetchedItem, Mailbox, lane_of}
 use Rattle.nvme_fleet.specs.Deliveries.{MailboxReaction, plain}
-use Rattle.nvme_fleet.specs.Executions.{Site, Response, scene_at, IsServed, AnswersIo, AnswersAs, Answers, io_verdict, admin_judgement, admin_response_by, admin_response, bytes_with, command_entry}
+use Rattle.nvme_fleet.specs.Executions.{Site, RequestExecution, scene_at, IsServed, IoRequestComesTo, RequestComesToAs, RequestComesTo, io_verdict, admin_judgement, admin_request_execution_by, admin_request_execution, bytes_with, command_entry}
 use Rattle.nvme_fleet.specs.Fleets.{Host, WithDriver, Raw, Fleet, Moment, Is, Step, host_at, with_host, power_cycled, settled, called_at, raw_at, fetched_at, after_execution, after_raw, ExecutesItem, ExecutesRaw, ExecutesAt, setting_of}
-use Rattle.nvme_fleet.specs.FaultFree.{served, performance_of, io_response, response_as, response, executing_item, RawExecution, raw_over, raw_one, executing, fault_free_step, fault_free_replies, fault_free_left}
+use Rattle.nvme_fleet.specs.FaultFree.{served, performance_of, io_request_execution, request_execution_as, request_execution, executing_item, RawExecution, raw_over, raw_one, executing, fault_free_step, fault_free_replies, fault_free_left}
 use Rattle.nvme_fleet.specs.Determined.{failures_in, FailuresNeverFall, RunIsUnique}
 
 -- The count of failures never falls.
 
-admin-by-calm : (j : Judgement) (command : Option AdminCommand) (s : Site) (k : ℕ) (a : Asked) → (admin_response_by j command s k a).left.device.failures ≡ s.device.failures
+admin-by-calm : (j : Judgement) (command : Option AdminCommand) (s : Site) (k : ℕ) (a : Asked) → (admin_request_execution_by j command s k a).left.device.failures ≡ s.device.failures
 admin-by-calm (Err d) command s k a = refl
 admin-by-calm (Ok u) None s k a = refl
 admin-by-calm (Ok u) (Some command) s k a = refl
 
-pub admin-calm : (s : Site) (k : ℕ) (a : Asked) → (admin_response s k a).left.device.failures ≡ s.device.failures
-unfolding admin_response
+pub admin-calm : (s : Site) (k : ℕ) (a : Asked) → (admin_request_execution s k a).left.device.failures ≡ s.device.failures
+unfolding admin_request_execution
 admin-calm s k a = admin-by-calm (admin_judgement s.world k a) (admin_commands.command_of (opcode (command_entry a))) s k a
 
-io-counts : (v : Verdict) (tells : Bool) (k : ℕ) (a : Asked) (s : Site) (r : Response) → AnswersIo v tells k a s r
+io-counts : (v : Verdict) (tells : Bool) (k : ℕ) (a : Asked) (s : Site) (r : RequestExecution) → IoRequestComesTo v tells k a s r
     → s.device.failures ≤ r.left.device.failures
-io-counts (Denied number why) tells k a s r h = let e = ap (λ (x : Response). x.left.device.failures) h in omega (arith, e)
+io-counts (Denied number why) tells k a s r h = let e = ap (λ (x : RequestExecution). x.left.device.failures) h in omega (arith, e)
 io-counts (Allowed plan) tells k a s r h =
     spec.performs-count tells plan.kind k (command_entry a) a.sent (scene_at s) (scene_at r.left) r.outcome.status h.returned h.effect
 
-response-counts : (lane : Lane) (tells : Bool) (k : ℕ) (a : Asked) (marked : Bool) (s : Site) (r : Response)
-    → AnswersAs lane tells k a marked s r → s.device.failures ≤ r.left.device.failures
-response-counts Admin tells k a marked s r h = let e = ap (λ (x : Response). x.left.device.failures) h ∙ admin-calm s k a in omega (arith, e)
-response-counts Io tells k a marked s r h = io-counts (io_verdict s.world k a marked) tells k a s r h
+execution-counts : (lane : Lane) (tells : Bool) (k : ℕ) (a : Asked) (marked : Bool) (s : Site) (r : RequestExecution)
+    → RequestComesToAs lane tells k a marked s r → s.device.failures ≤ r.left.device.failures
+execution-counts Admin tells k a marked s r h = let e = ap (λ (x : RequestExecution). x.left.device.failures) h ∙ admin-calm s k a in omega (arith, e)
+execution-counts Io tells k a marked s r h = io-counts (io_verdict s.world k a marked) tells k a s r h
 
 whole-counts : (old new : Fleet) → new ≡ old → failures_in old ≤ failures_in new
 whole-counts old new e = let f = ap failures_in e in omega (arith, f)
 
 item-counts : (o : Option FetchedItem) (tells : Bool) (old new : Fleet) (k : ℕ) (m : Mailbox) (i : ℕ) (reply : Reply)
     → ExecutesItem o tells old k m i reply new → failures_in old ≤ failures_in new
-unfolding Answers settled
+unfolding RequestComesTo settled
 item-counts None tells old new k m i reply h = whole-counts old new h.1
 item-counts (Some x) tells old new k m i reply h =
     let e = ap failures_in h.leaves in
-    let less = response-counts (lane_of x.item) tells k x.item.asked x.marked old.site h.response h.answers in
+    let less = execution-counts (lane_of x.item) tells k x.item.asked x.marked old.site h.execution h.answers in
     omega (arith, e, less)
 
 over-counts : (o : Option QueuePair) (tells : Bool) (i : ℕ) (t : FetchedCommand) (old : Setting) (executed : Executed) (new : Setting)
     → FinishesOver o tells i t old executed new → old.device.failures ≤ new.device.failures
-unfolding machine.Answers
+unfolding CommandComesTo
 over-counts None tells i t old executed new h = let e = ap (λ (s : Setting). s.device.failures) h.1 in omega (arith, e)
 over-counts (Some p) tells i t old executed new h =
     let e = ap (λ d. d.failures) h.device in
@@ -142,9 +142,9 @@ failures_never_fall tells old new (event ∷ events) (x ∷ later) run =
     let rest = failures_never_fall tells run.0 new events later run.2 in
     omega (arith, one, rest)
 
--- Without a fault a response is as the function says.
+-- Without a fault an execution is as the function says.
 
-served-alone : (command : Command) (k : ℕ) (a : Asked) (s : Site) (r : Response) → IsServed true command k a s r
+served-alone : (command : Command) (k : ℕ) (a : Asked) (s : Site) (r : RequestExecution) → IsServed true command k a s r
     → r.left.device.failures ≡ s.device.failures → s.device.failures < 2 ^ 64 - 1
     → r ≡ served command k a s (performance_of command k a s)
 served-alone command k a s r h same below =
@@ -162,24 +162,24 @@ served-alone command k a s r h same below =
       left = record { world = w i; device = record { content = c i; failures = same i } };
     }
 
-io-alone : (v : Verdict) (k : ℕ) (a : Asked) (s : Site) (r : Response) → AnswersIo v true k a s r
-    → r.left.device.failures ≡ s.device.failures → s.device.failures < 2 ^ 64 - 1 → r ≡ io_response v k a s
+io-alone : (v : Verdict) (k : ℕ) (a : Asked) (s : Site) (r : RequestExecution) → IoRequestComesTo v true k a s r
+    → r.left.device.failures ≡ s.device.failures → s.device.failures < 2 ^ 64 - 1 → r ≡ io_request_execution v k a s
 io-alone (Denied number why) k a s r h same below = h
 io-alone (Allowed plan) k a s r h same below = served-alone plan.kind k a s r h same below
 
-response-alone : (lane : Lane) (k : ℕ) (a : Asked) (marked : Bool) (s : Site) (r : Response) → AnswersAs lane true k a marked s r
-    → r.left.device.failures ≡ s.device.failures → s.device.failures < 2 ^ 64 - 1 → r ≡ response_as lane k a marked s
-response-alone Admin k a marked s r h same below = h
-response-alone Io k a marked s r h same below = io-alone (io_verdict s.world k a marked) k a s r h same below
+execution-alone : (lane : Lane) (k : ℕ) (a : Asked) (marked : Bool) (s : Site) (r : RequestExecution) → RequestComesToAs lane true k a marked s r
+    → r.left.device.failures ≡ s.device.failures → s.device.failures < 2 ^ 64 - 1 → r ≡ request_execution_as lane k a marked s
+execution-alone Admin k a marked s r h same below = h
+execution-alone Io k a marked s r h same below = io-alone (io_verdict s.world k a marked) k a s r h same below
 
 item-alone : (o : Option FetchedItem) (old new : Fleet) (k : ℕ) (m : Mailbox) (i : ℕ) (reply : Reply) → ExecutesItem o true old k m i reply new
     → failures_in new ≡ failures_in old → failures_in old < 2 ^ 64 - 1 → Is (executing_item o old k m i) reply new
-unfolding Answers response settled
+unfolding RequestComesTo request_execution settled
 item-alone None old new k m i reply h same below = h
 item-alone (Some x) old new k m i reply h same below =
-    let quiet : h.response.left.device.failures ≡ old.site.device.failures = sym (ap failures_in h.leaves) ∙ same in
-    let so = response-alone (lane_of x.item) k x.item.asked x.marked old.site h.response h.answers quiet below in
-    (h.gives ∙ ap (λ (r : Response). plain (ExecutedSeen (Posted r.outcome))) so, h.leaves ∙ ap (λ r. after_execution old k m i x r) so)
+    let quiet : h.execution.left.device.failures ≡ old.site.device.failures = sym (ap failures_in h.leaves) ∙ same in
+    let so = execution-alone (lane_of x.item) k x.item.asked x.marked old.site h.execution h.answers quiet below in
+    (h.gives ∙ ap (λ (r : RequestExecution). plain (ExecutedSeen (Posted r.outcome))) so, h.leaves ∙ ap (λ r. after_execution old k m i x r) so)
 
 -- what a raw host's controller gave and left is what the function says
 abbrev IsRaw : Executed → Setting → RawExecution → Type 0
@@ -192,10 +192,10 @@ over-alone None i t old executed new h same below = h
 over-alone (Some p) i t old executed new h same below =
     let quiet : h.answer.left.device.failures ≡ old.device.failures = sym (ap (λ d. d.failures) h.device) ∙ same in
     let so = machine_proofs.answer-alone (queues_of old.controller) old.controller.cntlid t (scene_in old) h.answer h.answers quiet below in
-    let c = h.controller ∙ ap (λ a. after_machine_answer i t p a old.controller) so in
-    let w = h.world ∙ ap (λ (a : machine.Answer). a.left.world) so in
-    let d = h.device ∙ ap (λ (a : machine.Answer). a.left.device) so in
-    (h.gives ∙ ap (λ (a : machine.Answer). Posted a.outcome) so, λ j. record { controller = c j; world = w j; device = d j })
+    let c = h.controller ∙ ap (λ a. after_completion i t p a old.controller) so in
+    let w = h.world ∙ ap (λ (a : CommandExecution). a.left.world) so in
+    let d = h.device ∙ ap (λ (a : CommandExecution). a.left.device) so in
+    (h.gives ∙ ap (λ (a : CommandExecution). Posted a.outcome) so, λ j. record { controller = c j; world = w j; device = d j })
 
 one-alone : (o : Option FetchedCommand) (i : ℕ) (old : Setting) (executed : Executed) (new : Setting)
     → FinishesOne o true i old executed new → new.device.failures ≡ old.device.failures → old.device.failures < 2 ^ 64 - 1
@@ -220,16 +220,8 @@ executes-alone (Some (Raw c)) old new k i reply h same below = raw-alone old new
 
 pub step-alone : (old new : Fleet) (event : FleetEvent) (reply : Reply) → Step true old event reply new
     → failures_in new ≡ failures_in old → failures_in old < 2 ^ 64 - 1 → Is (fault_free_step old event) reply new
-step-alone old new (BringUp k) reply h same below = h
-step-alone old new (Place k request) reply h same below = h
-step-alone old new (Ring k) reply h same below = h
-step-alone old new (Fetch k q) reply h same below = h
 step-alone old new (Execute k i) reply h same below = executes-alone (host_at old k) old new k i reply h same below
-step-alone old new (Poll k) reply h same below = h
-step-alone old new (Reset k) reply h same below = h
-step-alone old new (RawStore k address bytes) reply h same below = h
-step-alone old new (RawWrite32 k offset v) reply h same below = h
-step-alone old new PowerCycle reply h same below = h
+step-alone old new event reply h same below = h
 
 pub run_is_unique : RunIsUnique
 run_is_unique old new [] [] run same below = (refl, run)

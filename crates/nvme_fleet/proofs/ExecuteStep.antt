@@ -19,13 +19,13 @@ use Rattle.nvme_driver.specs.Drivers.{Driver, is_up}
 use Rattle.nvme_machine.specs.declared.fetched.FetchedCommand.{FetchedCommand}
 use Rattle.nvme_machine.specs.declared.seen.Executed.{Executed}
 use Rattle.nvme_machine.specs.Controllers.{Controller, QueuePair, open_pair, queues_of}
-use Rattle.nvme_machine.specs.Answers.{Answer, admin_answer, AnswersAs, Answers, AnswersIo}
+use Rattle.nvme_machine.specs.CommandExecutions.{CommandExecution, admin_command_execution, CommandComesToAs, CommandComesTo, IoCommandComesTo}
 use Rattle.nvme_machine.specs.Executing.{Setting, ExecutesNth, Finishes, FinishesOver, FinishesOne, scene_in}
 use Rattle.nvme_fleet.specs.Mailboxes.{FetchedItem}
-use Rattle.nvme_fleet.specs.Executions.{Answers as FleetAnswers}
+use Rattle.nvme_fleet.specs.Executions.{RequestComesTo}
 use Rattle.nvme_fleet.specs.Lanes.{DeviceSide, DeviceEnds, Both, pair, state, held_by, fetched_by}
 use Rattle.nvme_fleet.specs.Sound.{Sound, IsPaired, host_side, device_side, mailbox, taken_by, lane_of_queue}
-use Rattle.nvme_fleet.specs.Steps.{IsAnsweredInItsSlot, IsExecuted, response_with, IoExecutionIsAStep, AdminExecutionIsAStep, ExecutionIsAStep}
+use Rattle.nvme_fleet.specs.Steps.{IsAnsweredInItsSlot, IsExecuted, request_execution_with, IoExecutionIsAStep, AdminExecutionIsAStep, ExecutionIsAStep}
 use Rattle.nvme_fleet.proofs.Linking.{of, pair-is}
 use Rattle.nvme_fleet.proofs.PostStep.{known, up-of, open-is, pair_in, fields_of, item_at, posting_has_room, posting_is_a_step}
 use Rattle.nvme_fleet.proofs.HeldStep.{held-known}
@@ -58,7 +58,7 @@ pair-head d c i t p s g e =
     some-is : (y z : QueuePair) → Some y ≡ Some z → y ≡ z
     some-is y z h = cc
 
-pub completion-fits : (lane : Lane) (d : Driver) (c : Controller) (i : ℕ) (t : FetchedCommand) (p : QueuePair) (a : Answer) → Sound d c → slice_get c.fetched i ≡ Some t → t.queue ≡ queue_id lane
+pub completion-fits : (lane : Lane) (d : Driver) (c : Controller) (i : ℕ) (t : FetchedCommand) (p : QueuePair) (a : CommandExecution) → Sound d c → slice_get c.fetched i ≡ Some t → t.queue ≡ queue_id lane
     → open_pair c t ≡ Some p → Fits a.outcome.status × (a.outcome.dw0 < 2 ^ 32) → FitsCompletion (fields_of t p a)
 completion-fits lane d c i t p a s g q e f =
     let k = held-known lane d c i t s g (ap lane_of_queue q ∙ lane-back lane) in
@@ -88,13 +88,13 @@ found-at d c i t g =
     slice_get-map (fetched_by (held_by (host_side d) c.window)) (map taken_by c.fetched) i
     ∙ ap (option_map (fetched_by (held_by (host_side d) c.window))) (slice_get-map taken_by c.fetched i ∙ ap (option_map taken_by) g)
 
-io-answers : (tells : Bool) (d : Driver) (t : FetchedCommand) (old : Setting) (a : Answer) → t.queue ≡ 1
-    → Answers tells (queues_of old.controller) old.controller.cntlid t (scene_in old) a → AnswersIo tells old.controller.cntlid t (scene_in old) a
-unfolding Answers
-io-answers tells d t old a q h = subst (λ n. AnswersAs (n == 0) tells (queues_of old.controller) old.controller.cntlid t (scene_in old) a) q h
+io-answers : (tells : Bool) (d : Driver) (t : FetchedCommand) (old : Setting) (a : CommandExecution) → t.queue ≡ 1
+    → CommandComesTo tells (queues_of old.controller) old.controller.cntlid t (scene_in old) a → IoCommandComesTo tells old.controller.cntlid t (scene_in old) a
+unfolding CommandComesTo
+io-answers tells d t old a q h = subst (λ n. CommandComesToAs (n == 0) tells (queues_of old.controller) old.controller.cntlid t (scene_in old) a) q h
 
 -- an answer that is in its slot, and fits its completion
-pub record IsPostable (tells : Bool) (d : Driver) (t : FetchedCommand) (p : QueuePair) (old : Setting) (x : FetchedItem) (a : Answer) : Type 0 where
+pub record IsPostable (tells : Bool) (d : Driver) (t : FetchedCommand) (p : QueuePair) (old : Setting) (x : FetchedItem) (a : CommandExecution) : Type 0 where
   pub keeps : a.change ≡ Keep
   pub slot : IsAnsweredInItsSlot tells d old.controller t x old.world old.device old.controller.cntlid a
   pub fits_so : FitsCompletion (fields_of t p a)
@@ -109,9 +109,9 @@ finished tells d i t p old executed new s g e h x =
     let same : item_at d old.controller t ≡ r.item = some-is (item_at d old.controller t) r.item (sym f ∙ r.found) in
     record {
       item = r.item;
-      response = response_with d t h.answer y.bytes;
+      execution = request_execution_with d t h.answer y.bytes;
       found = r.found;
-      answers = subst (λ (z : FetchedItem). FleetAnswers tells old.controller.cntlid z (record { world = old.world; device = old.device }) (response_with d t h.answer y.bytes)) same y.answers;
+      answers = subst (λ (z : FetchedItem). RequestComesTo tells old.controller.cntlid z (record { world = old.world; device = old.device }) (request_execution_with d t h.answer y.bytes)) same y.answers;
       gives = h.gives;
       sound = subst (Sound d) (sym h.controller) r.sound;
       mail = ap (mailbox d) h.controller ∙ r.mail;
@@ -130,8 +130,8 @@ finishes tells d i t old executed new s g h =
     let room = posting_has_room d old.controller i t s g in
     (room.0, room.1, subst (λ o. FinishesOver o tells i t old executed new) room.1 over)
 
-io-postable : (tells : Bool) (d : Driver) (i : ℕ) (t : FetchedCommand) (p : QueuePair) (old : Setting) (a : Answer) → Sound d old.controller → slice_get old.controller.fetched i ≡ Some t → t.queue ≡ 1
-    → open_pair old.controller t ≡ Some p → Answers tells (queues_of old.controller) old.controller.cntlid t (scene_in old) a → IsPostable tells d t p old (item_at d old.controller t) a
+io-postable : (tells : Bool) (d : Driver) (i : ℕ) (t : FetchedCommand) (p : QueuePair) (old : Setting) (a : CommandExecution) → Sound d old.controller → slice_get old.controller.fetched i ≡ Some t → t.queue ≡ 1
+    → open_pair old.controller t ≡ Some p → CommandComesTo tells (queues_of old.controller) old.controller.cntlid t (scene_in old) a → IsPostable tells d t p old (item_at d old.controller t) a
 io-postable tells d i t p old a s g q e h =
     let n = io-answers tells d t old a q h in
     let f = found-at d old.controller i t g in
@@ -151,13 +151,13 @@ io_execution_is_a_step tells d i t old executed new s g q h =
 
 -- Of the admin lane.
 
-admin-answers : (tells : Bool) (t : FetchedCommand) (old : Setting) (a : Answer) → t.queue ≡ 0 → Answers tells (queues_of old.controller) old.controller.cntlid t (scene_in old) a
-    → a ≡ admin_answer (scene_in old) (admin_execution old.world (queues_of old.controller) old.controller.cntlid t.entry old.controller.window)
-unfolding Answers
-admin-answers tells t old a q h = subst (λ n. AnswersAs (n == 0) tells (queues_of old.controller) old.controller.cntlid t (scene_in old) a) q h
+admin-answers : (tells : Bool) (t : FetchedCommand) (old : Setting) (a : CommandExecution) → t.queue ≡ 0 → CommandComesTo tells (queues_of old.controller) old.controller.cntlid t (scene_in old) a
+    → a ≡ admin_command_execution (scene_in old) (admin_execution old.world (queues_of old.controller) old.controller.cntlid t.entry old.controller.window)
+unfolding CommandComesTo
+admin-answers tells t old a q h = subst (λ n. CommandComesToAs (n == 0) tells (queues_of old.controller) old.controller.cntlid t (scene_in old) a) q h
 
-admin-postable : (tells : Bool) (d : Driver) (i : ℕ) (t : FetchedCommand) (p : QueuePair) (old : Setting) (a : Answer) → Sound d old.controller → slice_get old.controller.fetched i ≡ Some t → t.queue ≡ 0
-    → open_pair old.controller t ≡ Some p → Answers tells (queues_of old.controller) old.controller.cntlid t (scene_in old) a → IsPostable tells d t p old (item_at d old.controller t) a
+admin-postable : (tells : Bool) (d : Driver) (i : ℕ) (t : FetchedCommand) (p : QueuePair) (old : Setting) (a : CommandExecution) → Sound d old.controller → slice_get old.controller.fetched i ≡ Some t → t.queue ≡ 0
+    → open_pair old.controller t ≡ Some p → CommandComesTo tells (queues_of old.controller) old.controller.cntlid t (scene_in old) a → IsPostable tells d t p old (item_at d old.controller t) a
 admin-postable tells d i t p old a s g q e h =
     let n = admin-answers tells t old a q h in
     let f = found-at d old.controller i t g in

@@ -14,7 +14,7 @@ use Rattle.nvme_fleet.specs.Mailboxes.{PostedAnswer}
 use Rattle.nvme_fleet.specs.Views.{Effect, Host, State, Slot, finished, finished_bytes, executed, executed_state, completion_bytes, phase_of, ticket_in, received_in, AreOf, in_flight, commands, completions, item, answer, box, Running, Holds, Heads, last_head, heard, unread, since, steps, commands_of, answers_of, live_at, slot_at, answers, holds, total, odd, suits, bears, replies, Carried, Phases}
 use Rattle.nvme_fleet.proofs.Totals.{total-append, total-removed, live-within, live-small, live-set, slot-same}
 use Rattle.nvme_fleet.proofs.Slots.{few, Apart, apart-set, same-items, same-odd, same-answers}
-use Rattle.nvme_fleet.proofs.Keeps.{Answers, answered, commands-same, completions-kept}
+use Rattle.nvme_fleet.proofs.Keeps.{EntersCompletion, answered, commands-same, completions-kept}
 use Rattle.nvme_fleet.proofs.Queues.{flight-total, completions-append, same-box, self-eqb, same-entry, same-turn}
 use Rattle.nvme_fleet.proofs.Places.{no-way}
 
@@ -83,7 +83,7 @@ pub record Executes (d : Host) (c : State) (ans : Effect) (i : ℕ) (x bytes : L
   pub gets : take (length ans.bytes) bytes ≡ ans.bytes
 
 written : (d : Host) (c : State) (ans : Effect) (i : ℕ) (x bytes : List ℕ) → Executes d c ans i x bytes →
-    Answers c.window (executed_state c i x ans).window (c.posted % 32) (finished_bytes c ans x)
+    EntersCompletion c.window (executed_state c i x ans).window (c.posted % 32) (finished_bytes c ans x)
 written d c ans i x bytes h = answered c.window (finished_bytes c ans x) (c.posted % 32) ((h.fetched).running).window (omega arith) h.size
 
 apart : (d : Host) (x bytes : List ℕ) → Apart (cid x) (holds d) (holds (executed d x bytes))

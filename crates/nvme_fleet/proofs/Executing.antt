@@ -12,6 +12,7 @@ use Rattle.std.proofs.lemmas.Bool.{cases_Bool}
 use Rattle.std.proofs.lemmas.Grind.{common_steps}
 use Rattle.std.specs.Prelude.{remove, Bool}
 use Rattle.std.specs.Option.{option_map}
+use Rattle.nvme_spec.specs.Limits.{most_bytes}
 use Rattle.nvme_spec.specs.Bytes.{with_bytes}
 use Rattle.nvme_fleet.specs.Views.{Host, State, Slot, box, finished, finished_bytes, received_in, Effect, Resting, Holds, live_in, slot_at, commands_of, holds, executed as executed_one, executed_state}
 use Rattle.nvme_fleet.proofs.Totals.{map-removed}
@@ -37,7 +38,7 @@ pub record Stores (lane : Lane) (w w' : List ℕ) (s at : ℕ) (bytes entry : Li
   pub here : pages_of lane w' ≡ with_bytes (pages_of lane w) at entry
   pub there : pages_of (other lane) w' ≡ pages_of (other lane) w
 
-pub stores : (lane : Lane) (w bytes entry : List ℕ) (s at : ℕ) → length w ≡ 4194304 → s < 24 → length bytes ≤ 131072 → at + length entry ≤ 8192 →
+pub stores : (lane : Lane) (w bytes entry : List ℕ) (s at : ℕ) → length w ≡ 4194304 → s < 24 → length bytes ≤ most_bytes → at + length entry ≤ 8192 →
     Stores lane w (with_bytes (with_bytes w (data_area s) bytes) (base lane + at) entry) s at bytes entry
 stores lane w bytes entry s at l a b h =
     let u = with_bytes w (data_area s) bytes in
@@ -97,7 +98,7 @@ pub record Runs (lane : Lane) (d : HostSide) (c : DeviceSide) (i : ℕ) (x : Lis
 
 pub runs : (lane : Lane) (d : HostSide) (c : DeviceSide) (i : ℕ) (x : List ℕ) (ans : Effect) → Takes lane d c i x
     → length (finished_bytes (state lane c) ans x) ≡ 16 → completion_of (finished_bytes (state lane c) ans x) ≡ finished (state lane c) ans x
-    → length ans.bytes ≤ 131072 → answer_len (received_in (slot_at (slots_in lane c.window 0 d.slots) (cid x)).waiting) ans.status ≤ length ans.bytes → Runs lane d c i x ans
+    → length ans.bytes ≤ most_bytes → answer_len (received_in (slot_at (slots_in lane c.window 0 d.slots) (cid x)).waiting) ans.status ≤ length ans.bytes → Runs lane d c i x ans
 runs lane d c i x ans h z r b f = record {
   takes = h;
   size = z;

@@ -4,7 +4,7 @@ use Rattle.std.specs.Prelude.{slice_get, replicate}
 use Rattle.std.proofs.lemmas.List.{length-take-le}
 use Rattle.nvme_wire.specs.Submission.{opcode}
 use Rattle.nvme_spec.specs.declared.command.Command.{Command}
-use Rattle.nvme_spec.specs.declared.command.Command.TheVariants.{Flush, Write, Read, Compare, WriteZeroes, ReservationRegister, ReservationReport, ReservationAcquire, ReservationRelease}
+use Rattle.nvme_spec.specs.declared.command.Command.TheVariants.{Write, WriteZeroes}
 use Rattle.nvme_spec.specs.declared.command.AdminCommand.{AdminCommand}
 use Rattle.nvme_spec.specs.declared.verdict.Plan.{Plan}
 use Rattle.nvme_spec.specs.declared.verdict.Verdict.{Verdict}
@@ -26,8 +26,8 @@ use Rattle.nvme_driver.specs.Requests.{Asked}
 use Rattle.nvme_machine.specs.declared.fetched.FetchedCommand.{FetchedCommand}
 use Rattle.nvme_machine.specs.Controllers.{Controller, QueuePair, queues_of, open_pair}
 use Rattle.nvme_machine.specs.Executing.{Setting, FinishesOne, FinishesOver, scene_in}
-use Rattle.nvme_machine.specs.Answers as machine
-use Rattle.nvme_machine.specs.FaultFree.{fault_free_answer}
+use Rattle.nvme_machine.specs.CommandExecutions.{CommandComesTo}
+use Rattle.nvme_machine.specs.FaultFree.{fault_free_command_execution}
 use Rattle.nvme_machine.proofs.AdminWorlds.{command-becomes, still}
 use Rattle.nvme_machine.proofs.Layouts.{answer-extents, answer-size}
 use Rattle.nvme_machine.proofs.Determined as machine_proofs
@@ -36,9 +36,9 @@ use Rattle.nvme_event.specs.declared.event.FleetEvent.TheVariants.{BringUp, Plac
 use Rattle.nvme_event.specs.declared.seen.FleetSeen.{FleetSeen}
 use Rattle.nvme_fleet.specs.Mailboxes.{FetchedItem, Mailbox, lane_of}
 use Rattle.nvme_fleet.specs.Deliveries.{MailboxReaction}
-use Rattle.nvme_fleet.specs.Executions.{Site, Response, scene_at, IsServed, AnswersIo, AnswersAs, Answers, action_of, io_judgement, io_verdict, admin_judgement, admin_response_by, admin_response, command_entry}
+use Rattle.nvme_fleet.specs.Executions.{Site, RequestExecution, scene_at, IsServed, IoRequestComesTo, RequestComesToAs, RequestComesTo, action_of, io_judgement, io_verdict, admin_judgement, admin_request_execution_by, admin_request_execution, command_entry}
 use Rattle.nvme_fleet.specs.Fleets.{Host, WithDriver, Raw, Fleet, Step, host_at, with_host, power_cycled, settled, called_at, raw_at, fetched_at, ExecutesItem, ExecutesAt, setting_of}
-use Rattle.nvme_fleet.specs.FaultFree.{served, performance_of, io_response, response_as, response, executing_item, raw_over, raw_one, raw_execution, executing, fault_free_step}
+use Rattle.nvme_fleet.specs.FaultFree.{served, performance_of, io_request_execution, request_execution_as, request_execution, executing_item, raw_over, raw_one, raw_execution, executing, fault_free_step}
 use Rattle.nvme_fleet.specs.Determined.{failures_in, RunExists}
 use Rattle.nvme_fleet.proofs.Determined.{admin-calm}
 
@@ -77,19 +77,13 @@ allowed-passes s k a marked plan is =
 
 served-size : (command : Command) (k : ℕ) (a : Asked) (s : Site) → IsLaidOut s.world s.device.content → HasPassed s.world k (command_entry a) command
     → length s.device.content ≤ length (performance_of command k a s).content
-served-size Flush k a s laid p = omega arith
-served-size Read k a s laid p = omega arith
-served-size Compare k a s laid p = omega arith
-served-size ReservationRegister k a s laid p = omega arith
-served-size ReservationAcquire k a s laid p = omega arith
-served-size ReservationRelease k a s laid p = omega arith
-served-size ReservationReport k a s laid p = omega arith
 served-size Write k a s laid p =
     let fits = spec.range-fits s.world s.device.content k (command_entry a) laid p.attached p.fits in
     put-in s.device.content (512 * medium_block s.world (command_entry a)) a.sent (omega (arith, fits))
 served-size WriteZeroes k a s laid p =
     let fits = spec.range-fits s.world s.device.content k (command_entry a) laid p.attached p.fits in
     put-in s.device.content (512 * medium_block s.world (command_entry a)) (replicate (512 * io_commands.block_count (command_entry a)) 0) (omega (arith, fits))
+served-size command k a s laid p = omega arith
 
 served-is : (command : Command) (k : ℕ) (a : Asked) (s : Site) → IsLaidOut s.world s.device.content → HasPassed s.world k (command_entry a) command
     → IsServed true command k a s (served command k a s (performance_of command k a s))
@@ -110,20 +104,20 @@ served-lies command k a s laid p =
     let l = same.layout in
     record { extents = l.extents; size = served-size command k a s laid p }
 
--- a response that is there, and what it leaves
-record Responds (lane : Lane) (k : ℕ) (a : Asked) (marked : Bool) (s : Site) (r : Response) : Type 0 where
-  answers : AnswersAs lane true k a marked s r
+-- an execution that is there, and what it leaves
+record Responds (lane : Lane) (k : ℕ) (a : Asked) (marked : Bool) (s : Site) (r : RequestExecution) : Type 0 where
+  answers : RequestComesToAs lane true k a marked s r
   lies : StillLies s r.left
   calm : r.left.device.failures ≡ s.device.failures
 
 io-responds : (v : Verdict) (k : ℕ) (a : Asked) (marked : Bool) (s : Site) → IsLaidOut s.world s.device.content → io_verdict s.world k a marked ≡ v
-    → AnswersIo v true k a s (io_response v k a s) × StillLies s (io_response v k a s).left × ((io_response v k a s).left.device.failures ≡ s.device.failures)
+    → IoRequestComesTo v true k a s (io_request_execution v k a s) × StillLies s (io_request_execution v k a s).left × ((io_request_execution v k a s).left.device.failures ≡ s.device.failures)
 io-responds (Denied number why) k a marked s laid is = (refl, lies-same s s refl, refl)
 io-responds (Allowed plan) k a marked s laid is =
     let p = allowed-passes s k a marked plan is in
     (served-is plan.kind k a s laid p, served-lies plan.kind k a s laid p, refl)
 
-admin-by-lies : (j : Judgement) (command : Option AdminCommand) (s : Site) (k : ℕ) (a : Asked) → StillLies s (admin_response_by j command s k a).left
+admin-by-lies : (j : Judgement) (command : Option AdminCommand) (s : Site) (k : ℕ) (a : Asked) → StillLies s (admin_request_execution_by j command s k a).left
 admin-by-lies (Err d) command s k a = lies-same s s refl
 admin-by-lies (Ok u) None s k a = lies-same s s refl
 admin-by-lies (Ok u) (Some command) s k a =
@@ -131,12 +125,12 @@ admin-by-lies (Ok u) (Some command) s k a =
     let e = kept.extents in
     record { extents = e.extents; size = omega arith }
 
-admin-lies : (s : Site) (k : ℕ) (a : Asked) → StillLies s (admin_response s k a).left
-unfolding admin_response
+admin-lies : (s : Site) (k : ℕ) (a : Asked) → StillLies s (admin_request_execution s k a).left
+unfolding admin_request_execution
 admin-lies s k a = admin-by-lies (admin_judgement s.world k a) (admin_commands.command_of (opcode (command_entry a))) s k a
 
 responds : (lane : Lane) (k : ℕ) (a : Asked) (marked : Bool) (s : Site) → IsLaidOut s.world s.device.content
-    → Responds lane k a marked s (response_as lane k a marked s)
+    → Responds lane k a marked s (request_execution_as lane k a marked s)
 responds Admin k a marked s laid = record { answers = refl; lies = admin-lies s k a; calm = admin-calm s k a }
 responds Io k a marked s laid =
     let r = io-responds (io_verdict s.world k a marked) k a marked s laid refl in
@@ -157,20 +151,20 @@ record Executes (o : Option Host) (f : Fleet) (k i : ℕ) : Type 0 where
 item-executes : (o : Option FetchedItem) (f : Fleet) (k : ℕ) (m : Mailbox) (i : ℕ) → IsLaidOut f.site.world f.site.device.content
     → ExecutesItem o true f k m i (executing_item o f k m i).reply (executing_item o f k m i).fleet
     × StillLies f.site (executing_item o f k m i).fleet.site × (failures_in (executing_item o f k m i).fleet ≡ failures_in f)
-unfolding Answers response settled
+unfolding RequestComesTo request_execution settled
 item-executes None f k m i laid = ((refl, refl), lies-same f.site f.site refl, refl)
 item-executes (Some x) f k m i laid =
     let r = responds (lane_of x.item) k x.item.asked x.marked f.site laid in
-    (record { response = response_as (lane_of x.item) k x.item.asked x.marked f.site; answers = r.answers; gives = refl; leaves = refl }, r.lies, r.calm)
+    (record { execution = request_execution_as (lane_of x.item) k x.item.asked x.marked f.site; answers = r.answers; gives = refl; leaves = refl }, r.lies, r.calm)
 
 raw-over : (o : Option QueuePair) (i : ℕ) (t : FetchedCommand) (s : Setting) → IsLaidOut s.world s.device.content
     → FinishesOver o true i t s (raw_over o i t s).executed (raw_over o i t s).left
     × StillLies (record { world = s.world; device = s.device }) (record { world = (raw_over o i t s).left.world; device = (raw_over o i t s).left.device })
     × ((raw_over o i t s).left.device.failures ≡ s.device.failures)
-unfolding machine.Answers
+unfolding CommandComesTo
 raw-over None i t s laid = ((refl, refl), lies-same _ _ refl, refl)
 raw-over (Some p) i t s laid =
-    let a = fault_free_answer (queues_of s.controller) s.controller.cntlid t (scene_in s) in
+    let a = fault_free_command_execution (queues_of s.controller) s.controller.cntlid t (scene_in s) in
     let is = machine_proofs.answers (queues_of s.controller) s.controller.cntlid t (scene_in s) laid in
     let e = answer-extents (t.queue == 0) true (queues_of s.controller) s.controller.cntlid t (scene_in s) a is in
     let z = answer-size (t.queue == 0) (queues_of s.controller) s.controller.cntlid t (scene_in s) a laid is in (

@@ -3,6 +3,7 @@ use Rattle.std.proofs.Common.{◌≡◌, ℕ, zero, suc, ◌∷◌, ◌∙◌, B
 use Rattle.std.specs.Prelude.{slice_get, replicate, if◌then◌else◌}
 use Rattle.std.proofs.lemmas.List.{length-map, length-replicate}
 use Rattle.std.proofs.lemmas.Option.{same_Some}
+use Rattle.nvme_spec.specs.Limits.{most_bytes}
 use Rattle.nvme_spec.specs.declared.config.ControllerConfig.{ControllerConfig}
 use Rattle.nvme_spec.specs.Blocks.{Device}
 use Rattle.nvme_spec.specs.Configuration.{Configuration}
@@ -35,13 +36,13 @@ sound-each (k ∷ ks) zero d c h g =
     subst (λ p. SoundBy p c) a (subst (SoundBy (opening_driver k)) b (sound-one k.raw k.cntlid))
 sound-each (k ∷ ks) (suc i) d c h g = sound-each ks i d c h g
 
-pub opened-sound : (w : World) (v : Device) (ks : List ControllerConfig) (cs : List Controller) (ds : List (Option Driver)) (buffer : List ℕ) → cs ≡ opening-controllers ks → ds ≡ map opening_driver ks → buffer ≡ replicate 131072 0
+pub opened-sound : (w : World) (v : Device) (ks : List ControllerConfig) (cs : List Controller) (ds : List (Option Driver)) (buffer : List ℕ) → cs ≡ opening-controllers ks → ds ≡ map opening_driver ks → buffer ≡ replicate most_bytes 0
     → IsSoundFleet (opened-state w v cs ds buffer)
 opened-sound w v ks cs ds buffer made driven room = record {
   pairs = ap length driven ∙ length-map ks opening_driver ∙ sym (ap length made ∙ length-map ks (λ (k : ControllerConfig). new_controller k.cntlid));
   sound = subst (λ ys. (i : ℕ) (d : Option Driver) (c : Controller) → slice_get ys i ≡ Some d → slice_get cs i ≡ Some c → SoundBy d c) (sym driven)
       (subst (λ xs. (i : ℕ) (d : Option Driver) (c : Controller) → slice_get (map opening_driver ks) i ≡ Some d → slice_get xs i ≡ Some c → SoundBy d c) (sym made) (sound-each ks));
-  room = ap length room ∙ length-replicate {A = ℕ} 131072 0;
+  room = ap length room ∙ length-replicate {A = ℕ} most_bytes 0;
   fits = omega arith;
 }
 
@@ -64,7 +65,7 @@ opened-fleet c w v cs ds buffer opened made driven =
     λ j. record { site = record { world = opened j; device = v }; hosts = hosts j }
 
 -- over a subsystem that was opened
-pub opened-over : (c : Configuration) (v : Device) (s : Subsystem) (ds : List (Option Driver)) (buffer : List ℕ) → s ≡ machine.opening c v → ds ≡ map opening_driver c.controllers → buffer ≡ replicate 131072 0
+pub opened-over : (c : Configuration) (v : Device) (s : Subsystem) (ds : List (Option Driver)) (buffer : List ℕ) → s ≡ machine.opening c v → ds ≡ map opening_driver c.controllers → buffer ≡ replicate most_bytes 0
     → IsSoundFleet (record { subsystem = s; drivers = ds; buffer = buffer; filled = 0 })
 unfolding machine.opening
 opened-over c v s ds buffer opened driven room =

@@ -6,7 +6,7 @@ use Rattle.nvme_machine.specs.Executing.{Setting, FinishesOne}
 use Rattle.nvme_driver.specs.Drivers.{Driver}
 use Rattle.nvme_event.specs.declared.seen.FleetSeen.TheVariants.{Executed as ExecutedSeen}
 use Rattle.nvme_fleet.specs.Deliveries.{plain}
-use Rattle.nvme_fleet.specs.Executions.{Answers}
+use Rattle.nvme_fleet.specs.Executions.{RequestComesTo}
 use Rattle.nvme_fleet.specs.Fleets.{Fleet, WithDriver, Completes, ExecutesItem, ExecutesAt, settled, site_of, setting_of, marks_in}
 use Rattle.nvme_fleet.specs.Sound.{mailbox}
 use Rattle.nvme_fleet.specs.Steps.{IsExecuted, ExecutionIsAFleetStep, NoExecutionIsAFleetStep}
@@ -20,8 +20,8 @@ after f k d executed left = settled f k (site_of left) (WithDriver (mailbox d le
 completes : (tells : Bool) (f : Fleet) (k : ℕ) (d : Driver) (c : Controller) (i : ℕ) (executed : Executed) (left : Setting) → c.cntlid ≡ k → (r : IsExecuted tells d i (setting_of f c) executed left)
     → Completes tells f k (mailbox d c) i r.item (plain (ExecutedSeen executed)) (after f k d executed left)
 completes tells f k d c i executed left e r = record {
-  response = r.response;
-  answers = subst (λ n. Answers tells n r.item f.site r.response) e r.answers;
+  execution = r.execution;
+  answers = subst (λ n. RequestComesTo tells n r.item f.site r.execution) e r.answers;
   gives = ap (λ x. plain (ExecutedSeen x)) r.gives;
   leaves = λ j. settled f k (record { world = r.world j; device = r.device j }) (WithDriver (r.mail j)) (marks_in (r.gives j));
 }

@@ -5,6 +5,7 @@ use Rattle.std.proofs.lemmas.Option.{slice_get-map}
 use Rattle.std.specs.Option.{option_map}
 use Rattle.nvme_wire.specs.declared.sqe.fields.SqeFields.{SqeFields}
 use Rattle.nvme_wire.specs.Submission.{cid}
+use Rattle.nvme_spec.specs.Limits.{most_bytes}
 use Rattle.nvme_spec.specs.Rules.{Rule, judgement_by, else_by, first_failing}
 use Rattle.nvme_spec.specs.DataRules.{pointer_rule, data_in}
 use Rattle.nvme_spec.proofs.Judgements.{first_failing-append}
@@ -81,7 +82,7 @@ data-same lane d c t h z =
     let u = h.suited in
     let e : (asked_in (slot_seen lane d c t) t.entry).moved - (asked_in (slot_seen lane d c t) t.entry).received ≡ (asked_in (slot_seen lane d c t) t.entry).moved = omega (arith, z) in
     m.gathers
-    ∙ sym (take-take (asked_in (slot_seen lane d c t) t.entry).moved 131072 (drop (data_area (cid t.entry)) c.window) u.most)
+    ∙ sym (take-take (asked_in (slot_seen lane d c t) t.entry).moved most_bytes (drop (data_area (cid t.entry)) c.window) u.most)
     ∙ ap (λ n. take n (area c.window (cid t.entry))) (sym e)
     ∙ ap (take ((asked_in (slot_seen lane d c t) t.entry).moved - (asked_in (slot_seen lane d c t) t.entry).received)) (sym h.bytes)
 

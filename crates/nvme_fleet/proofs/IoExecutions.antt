@@ -6,7 +6,7 @@ use Rattle.nvme_wire.specs.Submission.{opcode, nsid}
 use Rattle.nvme_wire.specs.declared.status.Status.{Status}
 use Rattle.nvme_spec.specs.declared.command.AdminCommand.{AdminCommand}
 use Rattle.nvme_spec.specs.declared.command.Command.{Command}
-use Rattle.nvme_spec.specs.declared.command.Command.TheVariants.{Flush, Write, Read, Compare, WriteZeroes, ReservationRegister, ReservationReport, ReservationAcquire, ReservationRelease}
+use Rattle.nvme_spec.specs.declared.command.Command.TheVariants.{ReservationRegister, ReservationReport, ReservationAcquire, ReservationRelease}
 use Rattle.nvme_spec.specs.declared.outcome.Outcome.{Outcome}
 use Rattle.nvme_spec.specs.declared.verdict.Verdict.{Verdict}
 use Rattle.nvme_spec.specs.declared.verdict.Verdict.TheVariants.{Allowed, Denied}
@@ -25,7 +25,7 @@ use Rattle.nvme_machine.specs.declared.fetched.FetchedCommand.{FetchedCommand}
 use Rattle.nvme_machine.specs.declared.seen.Executed.{Executed}
 use Rattle.nvme_machine.specs.declared.seen.Executed.TheVariants.{Posted}
 use Rattle.nvme_machine.specs.Controllers.{Controller, QueuePair, queues_of, open_pair}
-use Rattle.nvme_machine.specs.Answers as machine
+use Rattle.nvme_machine.specs.CommandExecutions.{CommandComesTo, CommandComesToAs, CommandExecution}
 use Rattle.nvme_machine.specs.Executing.{Setting, FinishesOne, FinishesOver, scene_in}
 use Rattle.nvme_machine.proofs.AdminWorlds.{HasSameReservations, same-reservations, admin-keeps, command-becomes, still}
 use Rattle.nvme_machine.proofs.Denials.{io-answer}
@@ -35,7 +35,7 @@ use Rattle.nvme_event.specs.declared.seen.FleetSeen.TheVariants.{Executed as Exe
 use Rattle.nvme_event.specs.Replies.{Reply}
 use Rattle.nvme_fleet.specs.Mailboxes.{FetchedItem, Mailbox, lane_of}
 use Rattle.nvme_fleet.specs.Deliveries.{plain}
-use Rattle.nvme_fleet.specs.Executions.{Site, Response, scene_at, Answers, AnswersAs, AnswersIo, io_verdict, admin_judgement, admin_response_by, admin_response, command_entry}
+use Rattle.nvme_fleet.specs.Executions.{Site, RequestExecution, scene_at, RequestComesTo, RequestComesToAs, IoRequestComesTo, io_verdict, admin_judgement, admin_request_execution_by, admin_request_execution, command_entry}
 use Rattle.nvme_fleet.specs.Fleets.{Host, WithDriver, Raw, Fleet, host_at, settled, site_of, setting_of, ExecutesItem, ExecutesRaw, ExecutesAt}
 use Rattle.nvme_fleet.specs.IoCommands.{IoCommand, asked_command, raw_command, asked_in, asked_by, sent_by, command_in, command_at, AreNumbered, IsExecutedBy, verdict_on, ExecutedAsThePolicyAllows}
 use Rattle.nvme_fleet.proofs.Sites.{Leaves, AsItWas, ByRequest, ByCommand, PowerLost, leaves}
@@ -49,19 +49,15 @@ site_left s = record { world = s.world; device = s.device }
 unseen : (tells : Bool) (command : Command) (k : ℕ) (e sent : List ℕ) (old new : Scene) (answer : Status) (returned : List ℕ) → Performs tells command k e sent old new answer returned
     → Performs tells command k e sent (scene_at (site_left old)) (scene_at (site_left new)) answer returned
 unfolding site_left
-unseen tells Flush k e sent old new answer returned h = record { world = h.world; effect = h.effect }
-unseen tells Write k e sent old new answer returned h = record { world = h.world; effect = h.effect }
-unseen tells Read k e sent old new answer returned h = record { world = h.world; effect = h.effect }
-unseen tells Compare k e sent old new answer returned h = record { world = h.world; effect = h.effect }
-unseen tells WriteZeroes k e sent old new answer returned h = record { world = h.world; effect = h.effect }
 unseen tells ReservationReport k e sent old new answer returned h = record { answered = h.answered; world = h.world; device = h.device; data_back = h.data_back }
 unseen tells ReservationRegister k e sent old new answer returned h = record { answered = h.answered; world = h.world; device = h.device; data_back = h.data_back }
 unseen tells ReservationAcquire k e sent old new answer returned h = record { answered = h.answered; world = h.world; device = h.device; data_back = h.data_back }
 unseen tells ReservationRelease k e sent old new answer returned h = record { answered = h.answered; world = h.world; device = h.device; data_back = h.data_back }
+unseen tells command k e sent old new answer returned h = record { world = h.world; effect = h.effect }
 
-request-as : (v : Verdict) (tells : Bool) (k : ℕ) (y : FetchedItem) (s : Site) (r : Response) → AnswersIo v tells k y.item.asked s r
+request-as : (v : Verdict) (tells : Bool) (k : ℕ) (y : FetchedItem) (s : Site) (r : RequestExecution) → IoRequestComesTo v tells k y.item.asked s r
     → IsExecutedBy v tells k (asked_command s.world k y) s r.outcome r.left
-request-as (Denied number why) tells k y s r h = (ap (λ (x : Response). x.outcome) h, ap (λ (x : Response). x.left) h)
+request-as (Denied number why) tells k y s r h = (ap (λ (x : RequestExecution). x.outcome) h, ap (λ (x : RequestExecution). x.left) h)
 request-as (Allowed plan) tells k y s r h = record { returned = h.returned; effect = h.effect; dw0 = h.dw0; rule = h.rule; marks = h.marks }
 
 command-as : (v : Verdict) (tells : Bool) (c : Controller) (t : FetchedCommand) (s : Site) (left : Scene) (outcome : Outcome)
@@ -94,7 +90,7 @@ moved tells old new k x y a b left same gives leaves h =
     subst (λ s. IsExecutedBy (verdict_on x) tells k x old.site b s) (sym leaves)
     (subst (λ o. IsExecutedBy (verdict_on x) tells k x old.site o left) gives (subst (λ z. IsExecutedBy (verdict_on z) tells k z old.site a left) same h))
 
-lane-does : (lane : Lane) (tells : Bool) (old new : Fleet) (k : ℕ) (y : FetchedItem) (r : Response) (x : IoCommand) (outcome : Outcome) → AnswersAs lane tells k y.item.asked y.marked old.site r
+lane-does : (lane : Lane) (tells : Bool) (old new : Fleet) (k : ℕ) (y : FetchedItem) (r : RequestExecution) (x : IoCommand) (outcome : Outcome) → RequestComesToAs lane tells k y.item.asked y.marked old.site r
     → asked_in lane old.site.world k y ≡ Some x → r.outcome ≡ outcome → new.site ≡ r.left → Does tells old k x outcome new
 lane-does Admin tells old new k y r x outcome h found gives leaves = absurd (none-some _ found)
 lane-does Io tells old new k y r x outcome h found gives leaves =
@@ -103,10 +99,10 @@ lane-does Io tells old new k y r x outcome h found gives leaves =
 
 item-does : (o : Option FetchedItem) (tells : Bool) (old new : Fleet) (k : ℕ) (m : Mailbox) (i : ℕ) (x : IoCommand) (outcome : Outcome)
     → ExecutesItem o tells old k m i (plain (ExecutedSeen (Posted outcome))) new → asked_by old.site.world k o ≡ Some x → Does tells old k x outcome new
-unfolding Answers settled
+unfolding RequestComesTo settled
 item-does None tells old new k m i x outcome h found = absurd (none-some _ found)
 item-does (Some y) tells old new k m i x outcome h found =
-    lane-does (lane_of y.item) tells old new k y h.response x outcome h.answers found (same-outcome outcome h.response.outcome h.gives) (ap (λ (f : Fleet). f.site) h.leaves)
+    lane-does (lane_of y.item) tells old new k y h.execution x outcome h.answers found (same-outcome outcome h.execution.outcome h.gives) (ap (λ (f : Fleet). f.site) h.leaves)
 
 pub is-io : (admin : Bool) (x y : IoCommand) → (if admin then None else Some y) ≡ Some x → (admin ≡ false) × (y ≡ x)
 is-io true x y h = absurd (none-some _ h)
@@ -118,7 +114,7 @@ unfolding site_left
 over-does None tells old new c i t executed left x outcome h posted leaves found = let e = sym h.0 ∙ posted in absurd (cc)
 over-does (Some p) tells old new c i t executed left x outcome h posted leaves found =
     let io = is-io (t.queue == 0) x (raw_command old.site.world c t) found in
-    let a : machine.Answer = h.answer in
+    let a : CommandExecution = h.answer in
     let answer = io-answer tells (queues_of c) c.cntlid t (scene_in (setting_of old c)) a io.0 h.answers in
     let e : Posted a.outcome ≡ Posted outcome = sym h.gives ∙ posted in
     let same : a.outcome ≡ outcome = cc in
@@ -158,15 +154,10 @@ pub record ActsOn (k : ℕ) (x : IoCommand) (old new : World) : Type 0 where
 
 performed : (tells : Bool) (command : Command) (k : ℕ) (e sent : List ℕ) (old new : Scene) (answer : Status) (returned : List ℕ) → Performs tells command k e sent old new answer returned
     → (new.world ≡ old.world) ⊎ ((is_one_of (Some command) reserving ≡ true) × (new.world ≡ world_after old.world (nsid e) (spec.reservation_outcome old.world k e sent)))
-performed tells Flush k e sent old new answer returned h = inl h.world
-performed tells Write k e sent old new answer returned h = inl h.world
-performed tells Read k e sent old new answer returned h = inl h.world
-performed tells Compare k e sent old new answer returned h = inl h.world
-performed tells WriteZeroes k e sent old new answer returned h = inl h.world
-performed tells ReservationReport k e sent old new answer returned h = inl h.world
 performed tells ReservationRegister k e sent old new answer returned h = inr (refl, h.world)
 performed tells ReservationAcquire k e sent old new answer returned h = inr (refl, h.world)
 performed tells ReservationRelease k e sent old new answer returned h = inr (refl, h.world)
+performed tells command k e sent old new answer returned h = inl h.world
 
 pub world-left : (v : Verdict) (tells : Bool) (k : ℕ) (x : IoCommand) (old new : Site) (outcome : Outcome) → verdict_on x ≡ v → IsExecutedBy v tells k x old outcome new
     → HasSameReservations old.world new.world ⊎ ActsOn k x old.world new.world
@@ -194,13 +185,13 @@ raw-at : (f : Fleet) (k i : ℕ) (c : Controller) (t : FetchedCommand) → host_
 unfolding command_at
 raw-at f k i c t at found = ap (λ o. command_in o f.site.world k i) at ∙ ap (λ o. sent_by f.site.world c o) found
 
-admin-by : (j : Judgement) (command : Option AdminCommand) (s : Site) (k : ℕ) (a : Asked) → HasSameReservations s.world (admin_response_by j command s k a).left.world
+admin-by : (j : Judgement) (command : Option AdminCommand) (s : Site) (k : ℕ) (a : Asked) → HasSameReservations s.world (admin_request_execution_by j command s k a).left.world
 admin-by (Err d) command s k a = same-reservations s.world s.world refl
 admin-by (Ok u) None s k a = same-reservations s.world s.world refl
 admin-by (Ok u) (Some command) s k a = still s.world _ (command-becomes s.world (command_entry a) a.sent command)
 
-admin-left : (s : Site) (k : ℕ) (a : Asked) → HasSameReservations s.world (admin_response s k a).left.world
-unfolding admin_response
+admin-left : (s : Site) (k : ℕ) (a : Asked) → HasSameReservations s.world (admin_request_execution s k a).left.world
+unfolding admin_request_execution
 admin-left s k a = admin-by (admin_judgement s.world k a) (admin_commands.command_of (opcode (command_entry a))) s k a
 
 rests : (old new : Fleet) (event : FleetEvent) (left : World) → new.site.world ≡ left → HasSameReservations old.site.world left → Acts old new event
@@ -212,29 +203,29 @@ reserves old new event k i number x left is found numbered leaves (inl h) = rest
 reserves old new event k i number x left is found numbered leaves (inr h) =
     Reserves k i number is x found numbered (record { is_one = h.is_one; allowed = h.allowed; leaves = leaves ∙ h.leaves })
 
-by-lane : (lane : Lane) (tells : Bool) (old new : Fleet) (event : FleetEvent) (k i : ℕ) (y : FetchedItem) (r : Response) → event ≡ Execute k i → command_at old k i ≡ asked_in lane old.site.world k y
-    → AnswersAs lane tells k y.item.asked y.marked old.site r → new.site ≡ r.left → Acts old new event
+by-lane : (lane : Lane) (tells : Bool) (old new : Fleet) (event : FleetEvent) (k i : ℕ) (y : FetchedItem) (r : RequestExecution) → event ≡ Execute k i → command_at old k i ≡ asked_in lane old.site.world k y
+    → RequestComesToAs lane tells k y.item.asked y.marked old.site r → new.site ≡ r.left → Acts old new event
 by-lane Admin tells old new event k i y r is found h leaves =
-    rests old new event r.left.world (ap (λ (s : Site). s.world) leaves) (subst (λ (z : Response). HasSameReservations old.site.world z.left.world) (sym h) (admin-left old.site k y.item.asked))
+    rests old new event r.left.world (ap (λ (s : Site). s.world) leaves) (subst (λ (z : RequestExecution). HasSameReservations old.site.world z.left.world) (sym h) (admin-left old.site k y.item.asked))
 by-lane Io tells old new event k i y r is found h leaves =
     let x : IoCommand = asked_command old.site.world k y in
     reserves old new event k i k x r.left.world is found (λ all. refl) (ap (λ (s : Site). s.world) leaves)
     (world-left (verdict_on x) tells k x old.site r.left r.outcome refl (request-as (verdict_on x) tells k y old.site r h))
 
-by-queue : (admin : Bool) (tells : Bool) (old new : Fleet) (event : FleetEvent) (k i : ℕ) (c : Controller) (t : FetchedCommand) (a : machine.Answer) → event ≡ Execute k i
+by-queue : (admin : Bool) (tells : Bool) (old new : Fleet) (event : FleetEvent) (k i : ℕ) (c : Controller) (t : FetchedCommand) (a : CommandExecution) → event ≡ Execute k i
     → command_at old k i ≡ (if admin then None else Some (raw_command old.site.world c t)) → host_at old k ≡ Some (Raw c)
-    → machine.AnswersAs admin tells (queues_of c) c.cntlid t (scene_in (setting_of old c)) a → new.site ≡ record { world = a.left.world; device = a.left.device } → Acts old new event
+    → CommandComesToAs admin tells (queues_of c) c.cntlid t (scene_in (setting_of old c)) a → new.site ≡ record { world = a.left.world; device = a.left.device } → Acts old new event
 unfolding site_left
 by-queue true tells old new event k i c t a is found at h leaves =
     rests old new event a.left.world (ap (λ (s : Site). s.world) leaves)
-    (subst (λ (z : machine.Answer). HasSameReservations old.site.world z.left.world) (sym h) (let r = admin-keeps old.site.world (queues_of c) c.cntlid c.window t.entry in r))
+    (subst (λ (z : CommandExecution). HasSameReservations old.site.world z.left.world) (sym h) (let r = admin-keeps old.site.world (queues_of c) c.cntlid c.window t.entry in r))
 by-queue false tells old new event k i c t a is found at h leaves =
     let x : IoCommand = raw_command old.site.world c t in
     reserves old new event k i c.cntlid x a.left.world is found (λ all. all k (Raw c) at) (ap (λ (s : Site). s.world) leaves)
     (world-left (verdict_on x) tells c.cntlid x old.site (site_left a.left) a.outcome refl (command-as (verdict_on x) tells c t old.site a.left a.outcome h.1))
 
 pub acts : (tells : Bool) (old new : Fleet) (event : FleetEvent) → Leaves tells old new event → Acts old new event
-unfolding Answers machine.Answers
+unfolding RequestComesTo CommandComesTo
 acts tells old new event (AsItWas e) = Rests (same-reservations old.site.world new.site.world (ap (λ (s : Site). s.world) e))
 acts tells old new event (ByRequest k i is m y r at found h leaves) = by-lane (lane_of y.item) tells old new event k i y r is (request-at old k i m y at found) h leaves
 acts tells old new event (ByCommand k i is c t a at found h leaves) = by-queue (t.queue == 0) tells old new event k i c t a is (raw-at old k i c t at found) at h leaves

@@ -35,15 +35,10 @@ keys-matter : (command : Command) (host : Option ℕ) (n : Option Namespace) (x 
     → received ≡ (if io_commands.is_one_of (Some command) (io.Read ∷ io.ReservationReport ∷ []) then m else 0) → (received ≡ 0 → keys ≡ sent)
     → outcome_in (Some command) n host x keys ≡ outcome_in (Some command) n host x sent
 unfolding action_outcome
-keys-matter io.Read (Some h) (Some n) x keys sent received m r e = refl
-keys-matter io.ReservationReport (Some h) (Some n) x keys sent received m r e = refl
-keys-matter io.Write (Some h) (Some n) x keys sent received m r e = refl
-keys-matter io.Compare (Some h) (Some n) x keys sent received m r e = refl
-keys-matter io.WriteZeroes (Some h) (Some n) x keys sent received m r e = refl
-keys-matter io.Flush (Some h) (Some n) x keys sent received m r e = refl
 keys-matter io.ReservationRegister (Some h) (Some n) x keys sent received m r e = rw (e r) refl
 keys-matter io.ReservationAcquire (Some h) (Some n) x keys sent received m r e = rw (e r) refl
 keys-matter io.ReservationRelease (Some h) (Some n) x keys sent received m r e = rw (e r) refl
+keys-matter command (Some h) (Some n) x keys sent received m r e = refl
 keys-matter command None (Some n) x keys sent received m r e = refl
 keys-matter command host None x keys sent received m r e = refl
 

@@ -67,12 +67,7 @@ unfolding action_outcome
 same-outcome x y io.ReservationRegister r host keys h = rw (same-action x y h, same-iekey x y h, same-cptpl x y h) refl
 same-outcome x y io.ReservationAcquire r host keys h = rw (same-action x y h, same-rtype x y h) refl
 same-outcome x y io.ReservationRelease r host keys h = rw (same-action x y h, same-rtype x y h) refl
-same-outcome x y io.Read r host keys h = refl
-same-outcome x y io.Write r host keys h = refl
-same-outcome x y io.Compare r host keys h = refl
-same-outcome x y io.WriteZeroes r host keys h = refl
-same-outcome x y io.Flush r host keys h = refl
-same-outcome x y io.ReservationReport r host keys h = refl
+same-outcome x y command r host keys h = refl
 
 outcome-in-same : (x y : List ℕ) (o : Option Command) (n : Option Namespace) (host : Option ℕ) (keys : List ℕ) → SameFields x y → outcome_in o n host y keys ≡ outcome_in o n host x keys
 outcome-in-same x y (Some command) (Some n) (Some host) keys h = same-outcome x y command n.reservation host keys h
@@ -89,12 +84,8 @@ pub length-same : (x y : List ℕ) (command : Command) → SameFields x y → da
 length-same x y io.Read h = ap (λ n. 512 * n) (same-count x y h)
 length-same x y io.Write h = ap (λ n. 512 * n) (same-count x y h)
 length-same x y io.Compare h = ap (λ n. 512 * n) (same-count x y h)
-length-same x y io.WriteZeroes h = refl
-length-same x y io.Flush h = refl
-length-same x y io.ReservationRegister h = refl
-length-same x y io.ReservationAcquire h = refl
-length-same x y io.ReservationRelease h = refl
 length-same x y io.ReservationReport h = same-report x y h
+length-same x y command h = refl
 
 pub count-same : (x y : List ℕ) → SameFields x y → block_count y ≡ block_count x
 count-same x y h = same-count x y h

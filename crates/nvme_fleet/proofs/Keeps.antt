@@ -44,11 +44,11 @@ enters w entry p l h b =
     }
 
 -- a new completion entry
-pub record Answers (w w' : List ℕ) (m : ℕ) (entry : List ℕ) : Type 0 where
+pub record EntersCompletion (w w' : List ℕ) (m : ℕ) (entry : List ℕ) : Type 0 where
   pub keeps : Keeps w w' 8 m
   pub last : take 16 (drop (4096 + 16 * m) w') ≡ entry
 
-pub answered : (w entry : List ℕ) (m : ℕ) → length w ≡ 8192 → m < 32 → length entry ≡ 16 → Answers w (with_bytes w (4096 + 16 * m) entry) m entry
+pub answered : (w entry : List ℕ) (m : ℕ) → length w ≡ 8192 → m < 32 → length entry ≡ 16 → EntersCompletion w (with_bytes w (4096 + 16 * m) entry) m entry
 answered w entry m l h b =
     let i : 4096 + 16 * m + length entry ≤ length w = omega (arith, l, h, b) in
     record {

@@ -4,6 +4,7 @@ use Rattle.nvme_driver.specs.Layout.{data_area}
 use Rattle.std.proofs.Common.{◌≡◌, ℕ, ◌+◌, ◌*◌, ◌<◌, ◌≤◌, List, length, ap, ◌∙◌, arith, false, eqb, take, drop, ◌⊎◌, inl, inr}
 use Rattle.std.proofs.lemmas.List.{take-take, length-drop}
 use Rattle.std.proofs.lemmas.Bool.{cases_lt, eqb-false}
+use Rattle.nvme_spec.specs.Limits.{most_bytes}
 use Rattle.nvme_spec.specs.Bytes.{with_bytes}
 use Rattle.nvme_fleet.proofs.Windows.{stored-length, stored-apart, stored-in}
 use Rattle.nvme_driver.specs.declared.lane.Lane.{Lane}
@@ -33,9 +34,9 @@ leaves-both w v u s a b =
       pages = λ lane. b.pages lane ∙ a.pages lane;
     }
 
-area-apart : (w bytes : List ℕ) (at k : ℕ) → at + length bytes ≤ length w → (data_area k + 131072 ≤ at) ⊎ (at + length bytes ≤ data_area k) → area (with_bytes w at bytes) k ≡ area w k
+area-apart : (w bytes : List ℕ) (at k : ℕ) → at + length bytes ≤ length w → (data_area k + most_bytes ≤ at) ⊎ (at + length bytes ≤ data_area k) → area (with_bytes w at bytes) k ≡ area w k
 unfolding area
-area-apart w bytes at k i h = stored-apart w bytes at (data_area k) 131072 i h
+area-apart w bytes at k i h = stored-apart w bytes at (data_area k) most_bytes i h
 
 list-apart : (w bytes : List ℕ) (at k : ℕ) → at + length bytes ≤ length w → (list_page k + 4096 ≤ at) ⊎ (at + length bytes ≤ list_page k) → listed (with_bytes w at bytes) k ≡ listed w k
 unfolding listed
@@ -49,7 +50,7 @@ pages-apart : (lane : Lane) (w bytes : List ℕ) (at : ℕ) → at + length byte
 unfolding pages_of
 pages-apart lane w bytes at i h = stored-apart w bytes at (base lane) 8192 i h
 
-apart-data : (base k s n : ℕ) → eqb k s ≡ false → n ≤ 131072 → (base + 131072 * k + 131072 ≤ base + 131072 * s) ⊎ (base + 131072 * s + n ≤ base + 131072 * k)
+apart-data : (base k s n : ℕ) → eqb k s ≡ false → n ≤ most_bytes → (base + most_bytes * k + most_bytes ≤ base + most_bytes * s) ⊎ (base + most_bytes * s + n ≤ base + most_bytes * k)
 apart-data base k s n q h =
     elim (cases_lt k s) [
       | inl l ↦ inl (omega (arith, l))
@@ -64,7 +65,7 @@ apart-list base k s n q h =
     ]
 
 -- a store in a slot's data area, or in its list
-pub leaves-data : (w bytes : List ℕ) (s : ℕ) → length w ≡ 4194304 → s < 24 → length bytes ≤ 131072 → Leaves w (with_bytes w (data_area s) bytes) s
+pub leaves-data : (w bytes : List ℕ) (s : ℕ) → length w ≡ 4194304 → s < 24 → length bytes ≤ most_bytes → Leaves w (with_bytes w (data_area s) bytes) s
 leaves-data w bytes s l h b =
     let i : data_area s + length bytes ≤ length w = omega (arith, l, h, b) in
     record {
@@ -73,7 +74,7 @@ leaves-data w bytes s l h b =
       pages = λ lane. pages-apart lane w bytes (data_area s) i (inl (omega (arith, base-small lane)));
     }
 
-pub lists-data : (w bytes : List ℕ) (s : ℕ) → length w ≡ 4194304 → s < 24 → length bytes ≤ 131072 → listed (with_bytes w (data_area s) bytes) s ≡ listed w s
+pub lists-data : (w bytes : List ℕ) (s : ℕ) → length w ≡ 4194304 → s < 24 → length bytes ≤ most_bytes → listed (with_bytes w (data_area s) bytes) s ≡ listed w s
 lists-data w bytes s l h b = list-apart w bytes (data_area s) s (omega (arith, l, h, b)) (inl (omega (arith, h)))
 
 pub leaves-list : (w bytes : List ℕ) (s : ℕ) → length w ≡ 4194304 → s < 24 → length bytes ≤ 4096 → Leaves w (with_bytes w (list_page s) bytes) s
@@ -119,9 +120,9 @@ pages lane w bytes at l p =
     }
 
 -- what was with_bytes at the front of an area, and in a list
-pub area-front : (w bytes : List ℕ) (s : ℕ) → data_area s ≤ length w → length bytes ≤ 131072 → take (length bytes) (area (with_bytes w (data_area s) bytes) s) ≡ bytes
+pub area-front : (w bytes : List ℕ) (s : ℕ) → data_area s ≤ length w → length bytes ≤ most_bytes → take (length bytes) (area (with_bytes w (data_area s) bytes) s) ≡ bytes
 unfolding area
-area-front w bytes s h b = take-take (length bytes) 131072 (drop (data_area s) (with_bytes w (data_area s) bytes)) b ∙ stored-in w bytes (data_area s) h
+area-front w bytes s h b = take-take (length bytes) most_bytes (drop (data_area s) (with_bytes w (data_area s) bytes)) b ∙ stored-in w bytes (data_area s) h
 
 pub list-front : (w bytes : List ℕ) (s : ℕ) → list_page s ≤ length w → length bytes ≤ 4096 → take (length bytes) (listed (with_bytes w (list_page s) bytes) s) ≡ bytes
 unfolding listed

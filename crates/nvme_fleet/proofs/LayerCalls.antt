@@ -21,7 +21,7 @@ use Rattle.nvme_driver.specs.Drivers.{Driver, ends, entry_fields, free_slot, lan
 use Rattle.nvme_driver.specs.Layout.{command_place, data_area, list_page}
 use Rattle.nvme_driver.specs.Pointers.{stored_list}
 use Rattle.nvme_driver.specs.Requests.{Asked, asked_of}
-use Rattle.nvme_subsys.proofs.OverMedium.{ExecutesNothing}
+use Rattle.nvme_machine.specs.EventCalls.{ExecutesNothing}
 use Rattle.nvme_event.specs.declared.event.FleetEvent.{FleetEvent}
 use Rattle.nvme_event.specs.declared.event.FleetEvent.TheVariants as fleet
 use Rattle.nvme_event.specs.declared.seen.FleetSeen.{FleetSeen}
@@ -81,16 +81,8 @@ replied step tells old new event what bytes before after mail h = record {
 -- What makes calls is a step, and a run.
 
 below-of : (tells : Bool) (old new : Layers) (event : FleetEvent) (what : FleetSeen) (calls : List MediumCall) → HappensCalling tells old event what new calls → Happens tells old event what new
-below-of tells old new (fleet.BringUp k) what calls h = h.0
-below-of tells old new (fleet.Place k request) what calls h = h.0
-below-of tells old new (fleet.Ring k) what calls h = h.0
-below-of tells old new (fleet.Fetch k q) what calls h = h.0
 below-of tells old new (fleet.Execute k i) what calls h = record { given = h.given; step = calls_are_of_a_step tells old.subsystem new.subsystem (Execute k i) h.given calls h.step; gives = h.gives; drivers = h.drivers }
-below-of tells old new (fleet.Poll k) what calls h = h.0
-below-of tells old new (fleet.Reset k) what calls h = h.0
-below-of tells old new (fleet.RawStore k address bytes) what calls h = h.0
-below-of tells old new (fleet.RawWrite32 k offset v) what calls h = h.0
-below-of tells old new fleet.PowerCycle what calls h = h.0
+below-of tells old new event what calls h = h.0
 
 pub layer_calls_are_of_a_step : LayerCallsAreOfAStep
 layer_calls_are_of_a_step tells old new event reply calls h = record { mailboxes = h.mailboxes; below = below-of tells old new event reply.seen calls h.below }

@@ -6,7 +6,7 @@ use Rattle.nvme_spec.specs.World.{World, host_of}
 use Rattle.nvme_spec.specs.Execution.{no_marks}
 use Rattle.nvme_machine.specs.Subsystems.{is_host_among}
 use Rattle.nvme_event.specs.declared.event.FleetEvent.{FleetEvent}
-use Rattle.nvme_event.specs.declared.event.FleetEvent.TheVariants.{BringUp, Place, Ring, Fetch, Execute, Poll, Reset, RawStore, RawWrite32, PowerCycle}
+use Rattle.nvme_event.specs.declared.event.FleetEvent.TheVariants.{Execute}
 use Rattle.nvme_event.specs.declared.seen.FleetSeen.{FleetSeen}
 use Rattle.nvme_event.specs.Replies.{Reply}
 use Rattle.nvme_fleet.specs.Mailboxes.{Mailbox, with_marks}
@@ -26,16 +26,8 @@ differs t w k m n e = by (is_host_among t.hosts.items (host_of w k)) e
     by false e = inl e
 
 pub others-differ : (event : FleetEvent) (k : ℕ) (m : Mailbox) (reply : Reply) (left : Site) (n : Mailbox) → OthersStep event k m reply left n → DiffersInMarks m n
-others-differ (BringUp j) k m reply left n h = inl h
-others-differ (Place j request) k m reply left n h = inl h
-others-differ (Ring j) k m reply left n h = inl h
-others-differ (Fetch j q) k m reply left n h = inl h
 others-differ (Execute j i) k m reply left n h = differs (marks_seen reply.seen) left.world k m n h
-others-differ (Poll j) k m reply left n h = inl h
-others-differ (Reset j) k m reply left n h = inl h
-others-differ (RawStore j address bytes) k m reply left n h = inl h
-others-differ (RawWrite32 j offset v) k m reply left n h = inl h
-others-differ PowerCycle k m reply left n h = inl h
+others-differ event k m reply left n h = inl h
 
 -- no marks leave it as it is
 unmarked : (w : World) (k : ℕ) (m : Mailbox) → marked_by no_marks w k m ≡ m

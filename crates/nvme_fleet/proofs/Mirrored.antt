@@ -26,12 +26,12 @@ use Rattle.nvme_machine.specs.declared.event.Event.TheVariants as event
 use Rattle.nvme_machine.specs.declared.fetched.FetchedCommand.{FetchedCommand}
 use Rattle.nvme_machine.specs.declared.seen.Seen.{Seen}
 use Rattle.nvme_machine.specs.declared.seen.Seen.TheVariants as given
-use Rattle.nvme_machine.specs.Answers as machine
+use Rattle.nvme_machine.specs.CommandExecutions.{CommandComesTo, CommandComesToAs, CommandExecution}
 use Rattle.nvme_machine.specs.Controllers.{Controller, QueuePair, Reaction, after_posting, after_store, after_write32, has_read, open_pair, queues_of, reaction, taking_effect, with_admin_queues}
 use Rattle.nvme_machine.specs.Secrecy.{over}
-use Rattle.nvme_machine.specs.Subsystems.{Completes, ExecutesAt, ExecutesOne, ExecutesOver, ReactsAs, Run, Step, Subsystem, after_answer, after_execution, after_power_cycle, controller_at, marked_from, numbered, replaced, scene_of, with_controller}
+use Rattle.nvme_machine.specs.Subsystems.{Completes, ExecutesAt, ExecutesOne, ExecutesOver, ReactsAs, Run, Step, Subsystem, after_completion, after_execution, after_power_cycle, controller_at, marked_from, numbered, replaced, scene_of, with_controller}
 use Rattle.nvme_machine.proofs.Denials.{unmarked}
-use Rattle.nvme_machine.proofs.SecretCommands.{answer_over, scene_over}
+use Rattle.nvme_machine.proofs.SecretCommands.{command_execution_over, scene_over}
 use Rattle.nvme_machine.proofs.Staying.{replaced-same}
 use Rattle.nvme_fleet.specs.Deeds.{CallStep, events_of, window_at}
 use Rattle.nvme_fleet.proofs.AdminTurns.{AreAdmin, IsAdmin, all-but-first, change-admin, enabled-admin, fetch-admin, first-of, store-admin, write-admin}
@@ -216,20 +216,20 @@ start-leaves tells k value p on (s1, h1, (s2, h2, (s3, h3, (s4, h4, (s5, h5, (s6
 
 -- Turns execute admin commands alone.
 
-answer-over : (queues : Queues) (k : ℕ) (t : FetchedCommand) (s : Scene) (a : machine.Answer) (m : Device) → IsAdmin t → machine.Answers true queues k t s a → machine.Answers true queues k t (scene_over m s) (answer_over m a)
-unfolding machine.Answers
+answer-over : (queues : Queues) (k : ℕ) (t : FetchedCommand) (s : Scene) (a : CommandExecution) (m : Device) → IsAdmin t → CommandComesTo true queues k t s a → CommandComesTo true queues k t (scene_over m s) (command_execution_over m a)
+unfolding CommandComesTo
 answer-over queues k t s a m is h =
-    let e = subst (λ b. machine.AnswersAs b true queues k t s a) is h in
-    subst (λ b. machine.AnswersAs b true queues k t (scene_over m s) (answer_over m a)) (sym is) (ap (answer_over m) e)
+    let e = subst (λ b. CommandComesToAs b true queues k t s a) is h in
+    subst (λ b. CommandComesToAs b true queues k t (scene_over m s) (command_execution_over m a)) (sym is) (ap (command_execution_over m) e)
 
-answer-quiet : (queues : Queues) (k : ℕ) (t : FetchedCommand) (s : Scene) (a : machine.Answer) → IsAdmin t → machine.Answers true queues k t s a → a.outcome.marks ≡ no_marks
-unfolding machine.Answers
+answer-quiet : (queues : Queues) (k : ℕ) (t : FetchedCommand) (s : Scene) (a : CommandExecution) → IsAdmin t → CommandComesTo true queues k t s a → a.outcome.marks ≡ no_marks
+unfolding CommandComesTo
 answer-quiet queues k t s a is h =
-    let e = subst (λ b. machine.AnswersAs b true queues k t s a) is h in
-    ap (λ (y : machine.Answer). y.outcome.marks) e
+    let e = subst (λ b. CommandComesToAs b true queues k t s a) is h in
+    ap (λ (y : CommandExecution). y.outcome.marks) e
 
-answer-admin : (t : FetchedCommand) (p : QueuePair) (a : machine.Answer) (c : Controller) → AreAdmin c → AreAdmin (after_answer 0 t p a c)
-unfolding after_answer after_posting
+answer-admin : (t : FetchedCommand) (p : QueuePair) (a : CommandExecution) (c : Controller) → AreAdmin c → AreAdmin (after_completion 0 t p a c)
+unfolding after_completion after_posting
 answer-admin t p a c h = change-admin a.change (after_posting 0 t p a.outcome.status a.outcome.dw0 (record c { window = a.left.window })) (all-but-first c.fetched h)
 
 -- an execution of an admin command over another medium, and what it leaves
@@ -238,26 +238,26 @@ record IsExecutedOver (o : Option Controller) (p q : Subsystem) (k : ℕ) (x : S
   admin : At AreAdmin k q
 
 completes-over : (p q : Subsystem) (k : ℕ) (c : Controller) (t : FetchedCommand) (pair : QueuePair) (x : Seen) (m : Device) → IsAdmin t → Completes true p k c 0 t pair x q → Completes true (over m p) k c 0 t pair x (over m q)
-unfolding after_execution after_answer
+unfolding after_execution after_completion
 completes-over p q k c t pair x m is h = record {
-  answer = answer_over m h.answer;
+  answer = command_execution_over m h.answer;
   answers = answer-over (queues_of c) k t (scene_of p c) h.answer m is h.answers;
   gives = h.gives;
   leaves = ap (over m) h.leaves ∙ same h.answer;
 }
   where
-    same : (a : machine.Answer) → over m (after_execution p k c 0 t pair a) ≡ after_execution (over m p) k c 0 t pair (answer_over m a)
+    same : (a : CommandExecution) → over m (after_execution p k c 0 t pair a) ≡ after_execution (over m p) k c 0 t pair (command_execution_over m a)
     same a = refl
 
 completes-admin : (p q : Subsystem) (k : ℕ) (c : Controller) (t : FetchedCommand) (pair : QueuePair) (x : Seen) → IsAdmin t → AreAdmin c → controller_at p k ≡ Some c → Completes true p k c 0 t pair x q → At AreAdmin k q
 unfolding after_execution controller_at
 completes-admin p q k c t pair x is all at h d there =
-    let a : machine.Answer = h.answer in
+    let a : CommandExecution = h.answer in
     let none = answer-quiet (queues_of c) k t (scene_of p c) a is h.answers in
-    let cs : q.controllers ≡ replaced p.controllers k (after_answer 0 t pair a c) =
-    ap (λ (s : Subsystem). s.controllers) h.leaves ∙ ap (λ w. marked_from a.left.world w 1 (replaced p.controllers k (after_answer 0 t pair a c))) none
-    ∙ unmarked a.left.world 1 (replaced p.controllers k (after_answer 0 t pair a c)) in
-    subst AreAdmin (same_Some _ _ (sym (replaced-same p.controllers k c (after_answer 0 t pair a c) at) ∙ ap (λ l. numbered l k) (sym cs) ∙ there)) (answer-admin t pair a c all)
+    let cs : q.controllers ≡ replaced p.controllers k (after_completion 0 t pair a c) =
+    ap (λ (s : Subsystem). s.controllers) h.leaves ∙ ap (λ w. marked_from a.left.world w 1 (replaced p.controllers k (after_completion 0 t pair a c))) none
+    ∙ unmarked a.left.world 1 (replaced p.controllers k (after_completion 0 t pair a c)) in
+    subst AreAdmin (same_Some _ _ (sym (replaced-same p.controllers k c (after_completion 0 t pair a c) at) ∙ ap (λ l. numbered l k) (sym cs) ∙ there)) (answer-admin t pair a c all)
 
 stays-at : (p q : Subsystem) (k : ℕ) → q ≡ p → At AreAdmin k p → At AreAdmin k q
 stays-at p q k e all c there = all c (ap (λ s. controller_at s k) (sym e) ∙ there)

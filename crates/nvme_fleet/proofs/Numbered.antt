@@ -9,10 +9,10 @@ use Rattle.nvme_spec.specs.declared.queues.QueueChange.TheVariants.{Keep, MakeCq
 use Rattle.nvme_spec.specs.World.{World, host_of}
 use Rattle.nvme_machine.specs.declared.fetched.FetchedCommand.{FetchedCommand}
 use Rattle.nvme_machine.specs.declared.seen.Executed.{Executed}
-use Rattle.nvme_machine.specs.Answers.{Answer}
+use Rattle.nvme_machine.specs.CommandExecutions.{CommandExecution}
 use Rattle.nvme_machine.specs.Controllers.{Controller, QueuePair, new_controller, open_pair, after_queue_change, after_posting}
 use Rattle.nvme_machine.specs.Executing.{Setting, FinishesOne, FinishesOver}
-use Rattle.nvme_machine.specs.Subsystems.{is_host_among, after_answer as after_machine_answer}
+use Rattle.nvme_machine.specs.Subsystems.{is_host_among, after_completion}
 use Rattle.nvme_subsys.proofs.Openings.{numbers}
 use Rattle.nvme_subsys.proofs.Sound.{store-id, write-id, fetch-id}
 use Rattle.nvme_event.specs.declared.event.FleetEvent.{FleetEvent}
@@ -87,8 +87,8 @@ change-id (MakeSq qid size at to) c = refl
 change-id (DropCq qid) c = refl
 change-id (DropSq qid) c = refl
 
-answer-id : (i : ℕ) (t : FetchedCommand) (p : QueuePair) (a : Answer) (c : Controller) → (after_machine_answer i t p a c).cntlid ≡ c.cntlid
-unfolding after_machine_answer after_posting
+answer-id : (i : ℕ) (t : FetchedCommand) (p : QueuePair) (a : CommandExecution) (c : Controller) → (after_completion i t p a c).cntlid ≡ c.cntlid
+unfolding after_completion after_posting
 answer-id i t p a c = change-id a.change (after_posting i t p a.outcome.status a.outcome.dw0 (record c { window = a.left.window }))
 
 over-id : (o : Option QueuePair) (tells : Bool) (i : ℕ) (t : FetchedCommand) (old : Setting) (executed : Executed) (new : Setting) → FinishesOver o tells i t old executed new
@@ -132,7 +132,7 @@ cycled f all k h at = cycled-one k (host_at f k) (all k) h (sym (cycled-at f k) 
 
 item : (o : Option FetchedItem) (tells : Bool) (old new : Fleet) (k : ℕ) (m : Mailbox) (i : ℕ) (reply : Reply) → ExecutesItem o tells old k m i reply new → AreNumbered old → AreNumbered new
 item None tells old new k m i reply h all = whole old new h.1 all
-item (Some x) tells old new k m i reply h all = whole _ new h.leaves (settles old k h.response.left _ h.response.outcome.marks all tt)
+item (Some x) tells old new k m i reply h all = whole _ new h.leaves (settles old k h.execution.left _ h.execution.outcome.marks all tt)
 
 executes : (o : Option Host) (tells : Bool) (old new : Fleet) (k i : ℕ) (reply : Reply) → host_at old k ≡ o → ExecutesAt o tells old k i reply new → AreNumbered old → AreNumbered new
 executes None tells old new k i reply at h all = whole old new h.1 all

@@ -10,7 +10,7 @@ use Rattle.nvme_spec.specs.declared.access.Hold.TheVariants.{Free, One, All}
 use Rattle.nvme_spec.specs.declared.access.Role.TheVariants.{Outsider}
 use Rattle.nvme_spec.specs.declared.access.Group.TheVariants.{Write as Writing}
 use Rattle.nvme_spec.specs.declared.command.Command.{Command}
-use Rattle.nvme_spec.specs.declared.command.Command.TheVariants.{Flush, Write, Read, Compare, WriteZeroes, ReservationRegister, ReservationReport, ReservationAcquire, ReservationRelease}
+use Rattle.nvme_spec.specs.declared.command.Command.TheVariants.{ReservationRegister, ReservationAcquire, ReservationRelease}
 use Rattle.nvme_spec.specs.Access.{Row, rights_table, is_permitted}
 use Rattle.nvme_spec.specs.Commands.{action, cptpl, iekey, rtype}
 use Rattle.nvme_spec.specs.Execution.{world_after, removed_by}
@@ -130,12 +130,7 @@ command-out ReservationAcquire r by e keys host other h =
     either (KeepsOut host) (action e == 0) _ _ (acquire-out r by (rtype e) (current_key keys) host h) (preempt-out r by (rtype e) (current_key keys) (other_key keys) host h)
 command-out ReservationRelease r by e keys host other h =
     either (KeepsOut host) (action e == 0) _ _ (release-out r by (rtype e) (current_key keys) host h) (clear-out r by (current_key keys) host)
-command-out Flush r by e keys host other h = tt
-command-out Write r by e keys host other h = tt
-command-out Read r by e keys host other h = tt
-command-out Compare r by e keys host other h = tt
-command-out WriteZeroes r by e keys host other h = tt
-command-out ReservationReport r by e keys host other h = tt
+command-out command r by e keys host other h = tt
 
 pub outcome-out : (command : Option Command) (space : Option Namespace) (sender : Option ℕ) (e keys : List ℕ) (host : ℕ)
     → (command ≡ Some ReservationRegister → sender ≢ Some host) → ((m : Namespace) → space ≡ Some m → IsOut host m.reservation)

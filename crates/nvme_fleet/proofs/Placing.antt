@@ -22,6 +22,7 @@ use Rattle.std.proofs.lemmas.Bool.{cases_Bool, lt-ltb, le-ltb, cases_lt}
 use Rattle.std.proofs.lemmas.Grind.{common_steps}
 use Rattle.std.specs.List.{position, position_or_len}
 use Rattle.std.specs.Prelude.{is_none, nat_le}
+use Rattle.nvme_spec.specs.Limits.{most_bytes}
 use Rattle.nvme_spec.specs.Bytes.{with_bytes}
 use Rattle.nvme_fleet.specs.Views.{Host, State, empty, box, Running, Resting, Holds, live_in, slot_at, total, holds, placed as placed_one, placed_state}
 use Rattle.nvme_fleet.proofs.Slots.{apart-set}
@@ -43,7 +44,7 @@ pub record Fills (lane : Lane) (w w' : List ℕ) (s p : ℕ) (bytes list entry :
   pub data_in : take (length bytes) (area w' s) ≡ bytes
   pub list_in : take (length list) (listed w' s) ≡ list
 
-pub fills : (lane : Lane) (w bytes list entry : List ℕ) (s p : ℕ) → length w ≡ 4194304 → s < 24 → p < 8 → length bytes ≤ 131072 → length list ≤ 4096 → length entry ≡ 64 →
+pub fills : (lane : Lane) (w bytes list entry : List ℕ) (s p : ℕ) → length w ≡ 4194304 → s < 24 → p < 8 → length bytes ≤ most_bytes → length list ≤ 4096 → length entry ≡ 64 →
     Fills lane w (with_bytes (with_bytes (with_bytes w (data_area s) bytes) (list_page s) list) (base lane + 64 * p) entry) s p bytes list entry
 fills lane w bytes list entry s p l a b h g e =
     let u = with_bytes w (data_area s) bytes in

@@ -264,7 +264,7 @@ len-small received why h = elim (cases_Bool (poll.is_success why)) [
   | inr t ↦ rw t (omega arith)
 ]
 
-place-small : (w : List ℕ) (k n : ℕ) → length w ≡ 4194304 → k < 24 → n ≤ 131072 → length (take n (drop (data_area k) w)) ≡ n
+place-small : (w : List ℕ) (k n : ℕ) → length w ≡ 4194304 → k < 24 → n ≤ most_bytes → length (take n (drop (data_area k) w)) ≡ n
 place-small w k n l h g =
     let d = length-drop (data_area k) w in
     length-take-le n (drop (data_area k) w) (omega (arith, d, l, h, g))

@@ -15,6 +15,7 @@ use Rattle.std.proofs.lemmas.List.{length-set, take-take}
 use Rattle.std.proofs.lemmas.Bool.{cases_Bool, cases_lt}
 use Rattle.std.proofs.lemmas.Grind.{common_steps}
 use Rattle.nvme_wire.specs.Completion.{Completion}
+use Rattle.nvme_spec.specs.Limits.{most_bytes}
 use Rattle.nvme_fleet.specs.Views.{Host, empty, slot_at, box, answer, front, heard, consumed as consumed_one, less, live_waiting, live_in, live_at as live_slot, holds, Running, Holds}
 use Rattle.nvme_fleet.proofs.Slots.{apart-set}
 use Rattle.nvme_fleet.proofs.Polls.{poll-posted, poll-box, poll-holds, none-posted, next-none, next-some, hears, front-of-lane, front-live, bare as bare_front}
@@ -229,9 +230,9 @@ poll-both lane d c h =
           (same-holds b.first _ _ _ _ (b.each (other lane)) (ap (host (other lane) (after lane d c)) (told-window lane c) ∙ consume-there lane d c.window (head-of lane d c) h.within (h.own).absent) (told-there lane c));
     }
 
-pub area-data : (w : List ℕ) (s n : ℕ) → n ≤ 131072 → take n (area w s) ≡ take n (drop (data_area s) w)
+pub area-data : (w : List ℕ) (s n : ℕ) → n ≤ most_bytes → take n (area w s) ≡ take n (drop (data_area s) w)
 unfolding area
-area-data w s n h = take-take n 131072 (drop (data_area s) w) h
+area-data w s n h = take-take n most_bytes (drop (data_area s) w) h
 
 -- the parts of the mailbox once an answer of a lane was handed up
 pub record Parts (lane : Lane) (d : HostSide) (c : DeviceSide) : Type 0 where

@@ -18,14 +18,14 @@ use Rattle.nvme_driver.specs.Drivers.{Driver, is_up}
 use Rattle.nvme_driver.specs.Polls.{waiting_at, answer_len}
 use Rattle.nvme_machine.specs.declared.fetched.FetchedCommand.{FetchedCommand}
 use Rattle.nvme_machine.specs.Controllers.{Controller, QueuePair, pair_with, open_pair, after_posting, after_queue_change, completion_at}
-use Rattle.nvme_machine.specs.Answers.{Answer}
-use Rattle.nvme_machine.specs.Subsystems.{after_answer as after_machine_answer}
+use Rattle.nvme_machine.specs.CommandExecutions.{CommandExecution}
+use Rattle.nvme_machine.specs.Subsystems.{after_completion}
 use Rattle.nvme_fleet.specs.Mailboxes.{FetchedItem, box_at, with_box, lane_of}
 use Rattle.nvme_fleet.specs.Fleets.{after_answer, with_posted}
 use Rattle.nvme_fleet.specs.Views.{Effect, Slot, slot_at, item_in, phase_of, finished, finished_bytes, received_in, lane_in, box}
 use Rattle.nvme_fleet.specs.Lanes.{DeviceSide, DeviceEnds, Both, mail, pair, next_pair, state, slots_in, whole, held_by, fetched_by, executed_at, base}
 use Rattle.nvme_fleet.specs.Sound.{Sound, IsPaired, IsOfLane, host_side, device_side, mailbox, taken_by, lane_of_queue, submission_as, completion_as}
-use Rattle.nvme_fleet.specs.Steps.{PostingIsAStep, PostingHasRoom, NothingToExecute, response_with}
+use Rattle.nvme_fleet.specs.Steps.{PostingIsAStep, PostingHasRoom, NothingToExecute, request_execution_with}
 use Rattle.nvme_fleet.proofs.PollStep.{tag-is}
 use Rattle.nvme_fleet.proofs.Totals.{map-removed}
 use Rattle.nvme_fleet.proofs.Places.{no-way}
@@ -119,11 +119,11 @@ nothing_to_execute d c i g =
 -- The completion, and what it leaves of the controller.
 
 -- an answer as its lane sees it
-abbrev pub effect_of : Answer → List ℕ → Effect
+abbrev pub effect_of : CommandExecution → List ℕ → Effect
 effect_of a bytes = record { status = a.outcome.status; dw0 = a.outcome.dw0; bytes = bytes }
 
 -- the completion as the controller spells it
-abbrev pub fields_of : FetchedCommand → QueuePair → Answer → Completion
+abbrev pub fields_of : FetchedCommand → QueuePair → CommandExecution → Completion
 fields_of t p a = record {
   dw0 = a.outcome.dw0;
   sq_head = p.submission.head.fetched;
@@ -134,10 +134,10 @@ fields_of t p a = record {
 }
 
 -- its fields, by the lane's counts
-abbrev made : Answer → FetchedCommand → ℕ → DeviceEnds → Completion
+abbrev made : CommandExecution → FetchedCommand → ℕ → DeviceEnds → Completion
 made a t q x = record { dw0 = a.outcome.dw0; sq_head = x.fetched; sq_id = q; cid = cid t.entry; phase = phase_of x.posted; status = a.outcome.status }
 
-finished-is : (lane : Lane) (c : Controller) (p : IsPaired c) (t : FetchedCommand) (a : Answer) (bytes : List ℕ) → t.queue ≡ queue_id lane → (of lane c p).posted < 64
+finished-is : (lane : Lane) (c : Controller) (p : IsPaired c) (t : FetchedCommand) (a : CommandExecution) (bytes : List ℕ) → t.queue ≡ queue_id lane → (of lane c p).posted < 64
     → fields_of t (pair_in lane c p) a ≡ finished (state lane (device_side c)) (effect_of a bytes) t.entry
 finished-is Admin c p t a bytes q h =
     let e = pair-is Admin c p in
@@ -151,20 +151,20 @@ unfolding completion_entry
 length-completion f = refl
 
 -- the bytes of the completion
-bytes-are : (lane : Lane) (c : Controller) (p : IsPaired c) (t : FetchedCommand) (a : Answer) (bytes : List ℕ) → t.queue ≡ queue_id lane → (of lane c p).posted < 64
+bytes-are : (lane : Lane) (c : Controller) (p : IsPaired c) (t : FetchedCommand) (a : CommandExecution) (bytes : List ℕ) → t.queue ≡ queue_id lane → (of lane c p).posted < 64
     → completion_entry (fields_of t (pair_in lane c p) a) ≡ finished_bytes (state lane (device_side c)) (effect_of a bytes) t.entry
 unfolding finished_bytes
 bytes-are lane c p t a bytes q h = ap completion_entry (finished-is lane c p t a bytes q h)
 
 -- the controller then
-abbrev posted_then : (lane : Lane) (c : Controller) → IsPaired c → ℕ → FetchedCommand → Answer → Controller
+abbrev posted_then : (lane : Lane) (c : Controller) → IsPaired c → ℕ → FetchedCommand → CommandExecution → Controller
 posted_then lane c p i t a = after_posting i t (pair_in lane c p) a.outcome.status a.outcome.dw0 (record c { window = a.left.window })
 
 slot-place : (lane : Lane) (n : ℕ) → completion_queue lane + 16 * (n % 32) ≡ base lane + (4096 + 16 * (n % 32))
 slot-place Admin n = omega arith
 slot-place Io n = omega arith
 
-paired-posted : (lane : Lane) (c : Controller) (p : IsPaired c) (i : ℕ) (t : FetchedCommand) (a : Answer) → IsPaired (posted_then lane c p i t a)
+paired-posted : (lane : Lane) (c : Controller) (p : IsPaired c) (i : ℕ) (t : FetchedCommand) (a : CommandExecution) → IsPaired (posted_then lane c p i t a)
 unfolding after_posting
 paired-posted Admin c p i t a = record {
   admin = next_pair p.admin;
@@ -185,7 +185,7 @@ paired-posted Io c p i t a = record {
   enabled = p.enabled;
 }
 
-side-posted : (lane : Lane) (c : Controller) (p : IsPaired c) (i : ℕ) (t : FetchedCommand) (a : Answer) (bytes : List ℕ) → t.queue ≡ queue_id lane → (of lane c p).posted < 64
+side-posted : (lane : Lane) (c : Controller) (p : IsPaired c) (i : ℕ) (t : FetchedCommand) (a : CommandExecution) (bytes : List ℕ) → t.queue ≡ queue_id lane → (of lane c p).posted < 64
     → a.left.window ≡ with_bytes c.window (data_area (cid t.entry)) bytes
     → device_side (posted_then lane c p i t a) ≡ executed_at lane (device_side c) i t.entry (effect_of a bytes)
 unfolding after_posting
@@ -226,8 +226,8 @@ unfolding item_in
 lane-of-item lane d c t q s = ap (λ l. lane_in (slot_at (slots_in l c.window 0 d.slots) (cid t.entry)).waiting) q ∙ s.of_lane
 
 -- its answer, in its lane
-box-posted : (lane : Lane) (d : Driver) (c : Controller) (t : FetchedCommand) (a : Answer) (bytes : List ℕ) → lane_of_queue t.queue ≡ lane → Seen lane d c t
-    → answered_box lane (host_side d) (device_side c) t.entry (effect_of a bytes) ≡ with_posted (box_at lane (mailbox d c)) (item_at d c t) (response_with d t a bytes)
+box-posted : (lane : Lane) (d : Driver) (c : Controller) (t : FetchedCommand) (a : CommandExecution) (bytes : List ℕ) → lane_of_queue t.queue ≡ lane → Seen lane d c t
+    → answered_box lane (host_side d) (device_side c) t.entry (effect_of a bytes) ≡ with_posted (box_at lane (mailbox d c)) (item_at d c t) (request_execution_with d t a bytes)
 unfolding item_in box
 box-posted Admin d c t a bytes q s = rw (q, s.received) refl
 box-posted Io d c t a bytes q s = rw (q, s.received) refl
@@ -245,18 +245,18 @@ some-is : (y z : QueuePair) → Some y ≡ Some z → y ≡ z
 some-is y z h = cc
 
 -- the controller, where the queues stay
-kept : (c : Controller) (i : ℕ) (t : FetchedCommand) (p : QueuePair) (a : Answer) → a.change ≡ Keep
-    → after_machine_answer i t p a c ≡ after_posting i t p a.outcome.status a.outcome.dw0 (record c { window = a.left.window })
-unfolding after_machine_answer after_queue_change
+kept : (c : Controller) (i : ℕ) (t : FetchedCommand) (p : QueuePair) (a : CommandExecution) → a.change ≡ Keep
+    → after_completion i t p a c ≡ after_posting i t p a.outcome.status a.outcome.dw0 (record c { window = a.left.window })
+unfolding after_completion after_queue_change
 kept c i t p a e = rw e refl
 
-answered : (lane : Lane) (d : Driver) (c : Controller) (i : ℕ) (t : FetchedCommand) (a : Answer) (bytes : List ℕ) → lane_of_queue t.queue ≡ lane → Seen lane d c t
+answered : (lane : Lane) (d : Driver) (c : Controller) (i : ℕ) (t : FetchedCommand) (a : CommandExecution) (bytes : List ℕ) → lane_of_queue t.queue ≡ lane → Seen lane d c t
     → with_box lane (answered_box lane (host_side d) (device_side c) t.entry (effect_of a bytes)) (record (mailbox d c) { fetched = remove (mailbox d c).fetched i })
-    ≡ after_answer i (item_at d c t) (response_with d t a bytes) (mailbox d c)
+    ≡ after_answer i (item_at d c t) (request_execution_with d t a bytes) (mailbox d c)
 unfolding after_answer
 answered lane d c i t a bytes q s =
     ap (λ b. with_box lane b (record (mailbox d c) { fetched = remove (mailbox d c).fetched i })) (box-posted lane d c t a bytes q s)
-    ∙ ap (λ l. with_box l (with_posted (box_at l (mailbox d c)) (item_at d c t) (response_with d t a bytes)) (record (mailbox d c) { fetched = remove (mailbox d c).fetched i })) (sym (lane-of-item lane d c t q s))
+    ∙ ap (λ l. with_box l (with_posted (box_at l (mailbox d c)) (item_at d c t) (request_execution_with d t a bytes)) (record (mailbox d c) { fetched = remove (mailbox d c).fetched i })) (sym (lane-of-item lane d c t q s))
 
 pub posting_is_a_step : PostingIsAStep
 posting_is_a_step d c i t p a s g queues h =
@@ -266,7 +266,7 @@ posting_is_a_step d c i t p a s g queues h =
     let bytes : List ℕ = h.bytes in
     let is-pair : p ≡ pair_in k.lane c k.paired = some-is p (pair_in k.lane c k.paired) (sym queues ∙ open-is k.lane c k.paired t k.queue k.room) in
     let small = posted-small k.lane d c k.paired s u in
-    let result : after_machine_answer i t p a c ≡ posted_then k.lane c k.paired i t a =
+    let result : after_completion i t p a c ≡ posted_then k.lane c k.paired i t a =
     kept c i t p a h.queues ∙ ap (λ x. after_posting i t x a.outcome.status a.outcome.dw0 (record c { window = a.left.window })) is-pair in
     let sight = seen k.lane d c i t k.takes in
     let b = bytes-are k.lane c k.paired t a h.bytes k.queue small in

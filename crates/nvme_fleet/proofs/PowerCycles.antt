@@ -18,7 +18,7 @@ use Rattle.nvme_machine.specs.Subsystems.{Subsystem}
 use Rattle.nvme_machine.proofs.Layouts as machine_layouts
 use Rattle.nvme_machine.proofs.PowerCycles as machine_proofs
 use Rattle.nvme_event.specs.declared.event.FleetEvent.{FleetEvent}
-use Rattle.nvme_event.specs.declared.event.FleetEvent.TheVariants.{BringUp, Place, Ring, Fetch, Execute, Poll, Reset, RawStore, RawWrite32, PowerCycle}
+use Rattle.nvme_event.specs.declared.event.FleetEvent.TheVariants.{Execute, PowerCycle}
 use Rattle.nvme_event.specs.Replies.{Reply}
 use Rattle.nvme_fleet.specs.Mailboxes.{Mailbox}
 use Rattle.nvme_fleet.specs.Deliveries.{reset}
@@ -135,16 +135,9 @@ layers_outlast_power old new other medium events replies others n regular ticket
     layers_read_the_same old new other medium events replies others n regular tickets differ (lasts-over old new events replies n p run) shut second calm quiet low
 
 left-below : (n : ℕ) (l : Layers) (e : FleetEvent) → Persists l.subsystem.world n → ReservesNothingBelow n l e → bytes.LeavesReservation n l e
-left-below n l (BringUp k) p quiet = tt
-left-below n l (Place k request) p quiet = tt
-left-below n l (Ring k) p quiet = tt
-left-below n l (Fetch k q) p quiet = tt
 left-below n l (Execute k i) p quiet = quiet
-left-below n l (Poll k) p quiet = tt
-left-below n l (Reset k) p quiet = tt
-left-below n l (RawStore k address bytes) p quiet = tt
-left-below n l (RawWrite32 k offset v) p quiet = tt
 left-below n l PowerCycle p quiet = fleeting l.subsystem.world n p
+left-below n l event p quiet = tt
 
 -- so at the subsystem
 below-so : (old new : Layers) (e : FleetEvent) (n : ℕ) → bytes.LeavesReservation n old e → Persists old.subsystem.world n → (reply : Reply) → layers.Step true old e reply new

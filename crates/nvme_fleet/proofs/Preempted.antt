@@ -5,7 +5,7 @@ use Rattle.std.proofs.lemmas.Option.{none-some, same_Some}
 use Rattle.nvme_wire.specs.Submission.{opcode, nsid}
 use Rattle.nvme_spec.specs.declared.access.Group.TheVariants.{Write as Writing}
 use Rattle.nvme_spec.specs.declared.command.Command.{Command}
-use Rattle.nvme_spec.specs.declared.command.Command.TheVariants.{Flush, Write, Read, Compare, WriteZeroes, ReservationRegister, ReservationReport, ReservationAcquire, ReservationRelease}
+use Rattle.nvme_spec.specs.declared.command.Command.TheVariants.{ReservationRegister, ReservationAcquire}
 use Rattle.nvme_spec.specs.declared.verdict.Verdict.TheVariants.{Allowed}
 use Rattle.nvme_spec.specs.Commands.{command_of, is_one_of, plan_of}
 use Rattle.nvme_spec.specs.IoData.{reservation_outcome, outcome_in}
@@ -80,15 +80,8 @@ outsiders_stay_outside tells old new (event ∷ events) (x ∷ later) n host all
 
 acquires : (o : Option Command) → is_one_of o (ReservationAcquire ∷ []) ≡ true → o ≡ Some ReservationAcquire
 acquires None h = absurd (cc)
-acquires (Some Flush) h = absurd (cc)
-acquires (Some Write) h = absurd (cc)
-acquires (Some Read) h = absurd (cc)
-acquires (Some Compare) h = absurd (cc)
-acquires (Some WriteZeroes) h = absurd (cc)
-acquires (Some ReservationRegister) h = absurd (cc)
-acquires (Some ReservationReport) h = absurd (cc)
 acquires (Some ReservationAcquire) h = refl
-acquires (Some ReservationRelease) h = absurd (cc)
+acquires (Some command) h = absurd (cc)
 
 pub preempted_is_outside : PreemptedIsOutside
 unfolding reservation_outcome

@@ -2,8 +2,9 @@
 use Rattle.std.proofs.Common.{◌≡◌, ℕ, ◌==◌, ◌≤◌, ◌<◌, ◌-◌, ◌^◌, ◌*◌, ◌%◌, ◌/◌, Bool, true, false, [], ◌∷◌, length, Option, None, Some, Ok, Err, refl, sym, ap, subst, ◌∙◌, arith}
 use Rattle.std.proofs.lemmas.Nat.{from_le_bytes-to_le_bytes_4}
 use Rattle.nvme_wire.specs.Submission.{submission_entry, opcode, cdw12}
+use Rattle.nvme_spec.specs.Limits.{most_bytes}
 use Rattle.nvme_spec.specs.declared.command.Command.{Command}
-use Rattle.nvme_spec.specs.declared.command.Command.TheVariants.{Flush, Write, Read, Compare, WriteZeroes, ReservationRegister, ReservationReport, ReservationAcquire, ReservationRelease}
+use Rattle.nvme_spec.specs.declared.command.Command.TheVariants.{Write, Compare}
 use Rattle.nvme_spec.specs.declared.command.AdminCommand.{AdminCommand}
 use Rattle.nvme_spec.specs.declared.verdict.Verdict.{Verdict}
 use Rattle.nvme_spec.specs.declared.verdict.Verdict.TheVariants.{Allowed, Denied}
@@ -19,7 +20,7 @@ use Rattle.nvme_driver.specs.declared.request.Request.{Request}
 use Rattle.nvme_driver.specs.declared.request.Request.TheVariants as request
 use Rattle.nvme_driver.specs.Requests.{Asked, asked_of, is_bad}
 use Rattle.nvme_driver.proofs.Moving.{whole}
-use Rattle.nvme_machine.specs.Answers as machine
+use Rattle.nvme_machine.specs.CommandExecutions.{CommandComesTo}
 use Rattle.nvme_machine.specs.Controllers.{queues_of}
 use Rattle.nvme_machine.specs.Executing.{scene_in}
 use Rattle.nvme_machine.proofs.Layouts.{answer-size}
@@ -27,7 +28,7 @@ use Rattle.nvme_machine.proofs.SecretCommands.{BringsItsData, performed-size}
 use Rattle.nvme_event.specs.declared.event.FleetEvent.{FleetEvent}
 use Rattle.nvme_event.specs.Replies.{Reply}
 use Rattle.nvme_fleet.specs.Mailboxes.{Item, lane_of}
-use Rattle.nvme_fleet.specs.Executions.{Answers, AnswersAs, AnswersIo, Response, Site, admin_judgement, admin_response, admin_response_by, command_entry, io_verdict, scene_at}
+use Rattle.nvme_fleet.specs.Executions.{RequestComesTo, RequestComesToAs, IoRequestComesTo, RequestExecution, Site, admin_judgement, admin_request_execution, admin_request_execution_by, command_entry, io_verdict, scene_at}
 use Rattle.nvme_fleet.specs.Fleets.{Fleet, Step, opening, setting_of}
 use Rattle.nvme_fleet.specs.Regular.{IsRegular, OpeningIsRegular, RegularityStays, WasTaken}
 use Rattle.nvme_fleet.proofs.Existing.{allowed-passes}
@@ -58,7 +59,7 @@ alike : (a : Asked) (x : Command) → command_of (opcode (command_entry a)) ≡ 
 alike a x is long command named one = long ∙ ap (λ o. data_length_of o (command_entry a)) (sym is ∙ named)
 
 -- whole blocks
-blocks-brought : (a : Asked) (n : ℕ) → length a.sent ≡ n → n % 512 ≡ 0 → n ≤ 131072 → 1 ≤ n → a.command.cdw12 ≡ n / 512 - 1 → length a.sent ≡ 512 * block_count (command_entry a)
+blocks-brought : (a : Asked) (n : ℕ) → length a.sent ≡ n → n % 512 ≡ 0 → n ≤ most_bytes → 1 ≤ n → a.command.cdw12 ≡ n / 512 - 1 → length a.sent ≡ 512 * block_count (command_entry a)
 unfolding block_count
 blocks-brought a n long parts most some word =
     let w = word-12 a (omega (arith, word, most)) in
@@ -66,7 +67,6 @@ blocks-brought a n long parts most some word =
 
 brings-own : (r : Request) → is_bad r ≡ false → BringsItsOwn (asked_of r)
 unfolding command_entry submission_entry opcode command_of
-brings-own (request.Read nsid slba blocks) good = unlike (asked_of (request.Read nsid slba blocks)) (Some Read) refl refl
 brings-own (request.Write nsid slba bytes) good =
     let w = whole bytes.now good in
     let a : Asked = asked_of (request.Write nsid slba bytes) in
@@ -75,17 +75,7 @@ brings-own (request.Compare nsid slba bytes) good =
     let w = whole bytes.now good in
     let a : Asked = asked_of (request.Compare nsid slba bytes) in
     alike a Compare refl (blocks-brought a (length bytes.now) refl w.blocks w.most w.some refl)
-brings-own (request.WriteZeroes nsid slba blocks) good = unlike (asked_of (request.WriteZeroes nsid slba blocks)) (Some WriteZeroes) refl refl
-brings-own (request.Flush nsid) good = unlike (asked_of (request.Flush nsid)) (Some Flush) refl refl
-brings-own (request.Register nsid action iekey cptpl crkey nrkey) good = unlike (asked_of (request.Register nsid action iekey cptpl crkey nrkey)) (Some ReservationRegister) refl refl
-brings-own (request.Acquire nsid action rtype crkey prkey) good = unlike (asked_of (request.Acquire nsid action rtype crkey prkey)) (Some ReservationAcquire) refl refl
-brings-own (request.Release nsid action rtype crkey) good = unlike (asked_of (request.Release nsid action rtype crkey)) (Some ReservationRelease) refl refl
-brings-own (request.Report nsid dwords) good = unlike (asked_of (request.Report nsid dwords)) (Some ReservationReport) refl refl
-brings-own (request.Identify cns nsid) good = unlike (asked_of (request.Identify cns nsid)) None refl refl
-brings-own (request.Protect nsid state) good = unlike (asked_of (request.Protect nsid state)) None refl refl
-brings-own (request.Protection nsid) good = unlike (asked_of (request.Protection nsid)) None refl refl
-brings-own (request.Attach nsid list) good = unlike (asked_of (request.Attach nsid list)) (Some ReservationRelease) refl refl
-brings-own (request.Detach nsid list) good = unlike (asked_of (request.Detach nsid list)) (Some ReservationRelease) refl refl
+brings-own r good = unlike (asked_of r) (command_of (opcode (command_entry (asked_of r)))) refl refl
 
 pub taken-brings : (i : Item) → WasTaken i → BringsItsOwn i.asked
 taken-brings i h = subst BringsItsOwn (sym h.2) (brings-own h.0 h.1)
@@ -95,27 +85,27 @@ taken-brings i h = subst BringsItsOwn (sym h.2) (brings-own h.0 h.1)
 abbrev SameSize : Site → Site → Type 0
 SameSize old new = length new.device.content ≡ length old.device.content
 
-admin-by-device : (j : Judgement) (command : Option AdminCommand) (s : Site) (k : ℕ) (a : Asked) → (admin_response_by j command s k a).left.device ≡ s.device
+admin-by-device : (j : Judgement) (command : Option AdminCommand) (s : Site) (k : ℕ) (a : Asked) → (admin_request_execution_by j command s k a).left.device ≡ s.device
 admin-by-device (Err d) command s k a = refl
 admin-by-device (Ok u) None s k a = refl
 admin-by-device (Ok u) (Some command) s k a = refl
 
-pub admin-device : (s : Site) (k : ℕ) (a : Asked) → (admin_response s k a).left.device ≡ s.device
-unfolding admin_response
+pub admin-device : (s : Site) (k : ℕ) (a : Asked) → (admin_request_execution s k a).left.device ≡ s.device
+unfolding admin_request_execution
 admin-device s k a = admin-by-device (admin_judgement s.world k a) (admin_commands.command_of (opcode (command_entry a))) s k a
 
-io-size : (v : Verdict) (k : ℕ) (a : Asked) (marked : Bool) (s : Site) (r : Response) → io_verdict s.world k a marked ≡ v → IsLaidOut s.world s.device.content → BringsItsOwn a → AnswersIo v true k a s r → SameSize s r.left
-io-size (Denied number why) k a marked s r is laid brings h = ap (λ (x : Response). length x.left.device.content) h
+io-size : (v : Verdict) (k : ℕ) (a : Asked) (marked : Bool) (s : Site) (r : RequestExecution) → io_verdict s.world k a marked ≡ v → IsLaidOut s.world s.device.content → BringsItsOwn a → IoRequestComesTo v true k a s r → SameSize s r.left
+io-size (Denied number why) k a marked s r is laid brings h = ap (λ (x : RequestExecution). length x.left.device.content) h
 io-size (Allowed plan) k a marked s r is laid brings h =
     let p = allowed-passes s k a marked plan is in
     performed-size (scene_at s) k (command_entry a) a.sent plan.kind (scene_at r.left) r.outcome.status h.returned laid p (brings plan.kind p.named) h.effect
 
-lane-size : (lane : Lane) (k : ℕ) (a : Asked) (marked : Bool) (s : Site) (r : Response) → IsLaidOut s.world s.device.content → BringsItsOwn a → AnswersAs lane true k a marked s r → SameSize s r.left
-lane-size Admin k a marked s r laid brings h = ap (λ (x : Response). length x.left.device.content) h ∙ ap (λ (d : Device). length d.content) (admin-device s k a)
+lane-size : (lane : Lane) (k : ℕ) (a : Asked) (marked : Bool) (s : Site) (r : RequestExecution) → IsLaidOut s.world s.device.content → BringsItsOwn a → RequestComesToAs lane true k a marked s r → SameSize s r.left
+lane-size Admin k a marked s r laid brings h = ap (λ (x : RequestExecution). length x.left.device.content) h ∙ ap (λ (d : Device). length d.content) (admin-device s k a)
 lane-size Io k a marked s r laid brings h = io-size (io_verdict s.world k a marked) k a marked s r refl laid brings h
 
 size-left : (old new : Fleet) (event : FleetEvent) → IsRegular old → Leaves true old new event → SameSize old.site new.site
-unfolding Answers machine.Answers
+unfolding RequestComesTo CommandComesTo
 size-left old new event regular (AsItWas e) = ap (λ (s : Site). length s.device.content) e
 size-left old new event regular (ByRequest k i is m x r at found answers leaves) =
     ap (λ (s : Site). length s.device.content) leaves

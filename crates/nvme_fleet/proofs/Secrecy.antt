@@ -16,12 +16,12 @@ use Rattle.nvme_driver.specs.declared.lane.Lane.TheVariants.{Admin, Io}
 use Rattle.nvme_driver.specs.Requests.{Asked}
 use Rattle.nvme_machine.specs.declared.fetched.FetchedCommand.{FetchedCommand}
 use Rattle.nvme_machine.specs.declared.seen.Executed.{Executed}
-use Rattle.nvme_machine.specs.Answers.{Answer}
+use Rattle.nvme_machine.specs.CommandExecutions.{CommandExecution}
 use Rattle.nvme_machine.specs.Controllers.{Controller, QueuePair, open_pair, queues_of}
 use Rattle.nvme_machine.specs.Executing.{FinishesOne, FinishesOver, Setting, scene_in}
 use Rattle.nvme_machine.specs.Secrecy.{DifferIn}
-use Rattle.nvme_machine.specs.Subsystems.{after_answer as after_machine_answer}
-use Rattle.nvme_machine.proofs.SecretCommands.{Mirrors, answer_over, answers-over, performs}
+use Rattle.nvme_machine.specs.Subsystems.{after_completion}
+use Rattle.nvme_machine.proofs.SecretCommands.{Mirrors, command_execution_over, answers-over, performs}
 use Rattle.nvme_machine.proofs.Secrecy.{differ-still}
 use Rattle.nvme_event.specs.declared.event.FleetEvent.{FleetEvent}
 use Rattle.nvme_event.specs.declared.event.FleetEvent.TheVariants.{BringUp, Place, Ring, Fetch, Execute, Poll, Reset, RawStore, RawWrite32, PowerCycle}
@@ -32,7 +32,7 @@ use Rattle.nvme_fleet.specs.Mailboxes.{FetchedItem, Mailbox, lane_of}
 use Rattle.nvme_fleet.specs.Deliveries.{MailboxReaction}
 use Rattle.nvme_fleet.specs.Bytes as bytes
 use Rattle.nvme_fleet.specs.FleetStates.{Layers, fleet_in}
-use Rattle.nvme_fleet.specs.Executions.{Answers, AnswersAs, AnswersIo, Response, Site, admin_judgement, admin_response, admin_response_by, command_entry, io_verdict, scene_at}
+use Rattle.nvme_fleet.specs.Executions.{RequestComesTo, RequestComesToAs, IoRequestComesTo, RequestExecution, Site, admin_judgement, admin_request_execution, admin_request_execution_by, command_entry, io_verdict, scene_at}
 use Rattle.nvme_fleet.specs.Fencing.{Allows, Forgets, LeavesReservation, RunWhere}
 use Rattle.nvme_fleet.specs.Fleets.{ExecutesAt, ExecutesItem, ExecutesRaw, Fleet, Host, Is, Raw, Step, WithDriver, after_answer, after_execution, after_raw, called_at, fetched_at, host_at, power_cycled, raw_at, setting_of, settled, with_host}
 use Rattle.nvme_fleet.specs.IoCommands.{command_at}
@@ -51,36 +51,36 @@ use Rattle.nvme_fleet.specs.Unique.{HaveTicketsOnce}
 
 -- What a request comes to over one medium it can come to over the other.
 
-abbrev response_over : Device → Response → Response
-response_over d r = record { outcome = r.outcome; bytes = r.bytes; left = site_over d r.left }
+abbrev request_execution_over : Device → RequestExecution → RequestExecution
+request_execution_over d r = record { outcome = r.outcome; bytes = r.bytes; left = site_over d r.left }
 
 same-device : (n : ℕ) (w : World) (old new d : Device) → DifferIn n w old d → new ≡ old → DifferIn n w new d
 same-device n w old new d differ is = subst (λ x. DifferIn n w x d) (sym is) differ
 
-admin-by-over : (j : Judgement) (command : Option AdminCommand) (s : Site) (k : ℕ) (a : Asked) (d : Device) → response_over d (admin_response_by j command s k a) ≡ admin_response_by j command (site_over d s) k a
+admin-by-over : (j : Judgement) (command : Option AdminCommand) (s : Site) (k : ℕ) (a : Asked) (d : Device) → request_execution_over d (admin_request_execution_by j command s k a) ≡ admin_request_execution_by j command (site_over d s) k a
 admin-by-over (Err e) command s k a d = refl
 admin-by-over (Ok u) None s k a d = refl
 admin-by-over (Ok u) (Some command) s k a d = refl
 
-admin-over : (s : Site) (k : ℕ) (a : Asked) (d : Device) → response_over d (admin_response s k a) ≡ admin_response (site_over d s) k a
-unfolding admin_response
+admin-over : (s : Site) (k : ℕ) (a : Asked) (d : Device) → request_execution_over d (admin_request_execution s k a) ≡ admin_request_execution (site_over d s) k a
+unfolding admin_request_execution
 admin-over s k a d = admin-by-over (admin_judgement s.world k a) (admin_commands.command_of (opcode (command_entry a))) s k a d
 
-io-over : (v : Verdict) (n k : ℕ) (a : Asked) (marked : Bool) (s : Site) (r : Response) (d : Device) → io_verdict s.world k a marked ≡ v → IsLaidOut s.world s.device.content → DifferIn n s.world s.device d
-    → may_read s.world k n ≡ false → BringsItsOwn a → AnswersIo v true k a s r
-    → Mirrors n s.world r.left.device (λ x. AnswersIo v true k a (site_over d s) (response_over x r))
+io-over : (v : Verdict) (n k : ℕ) (a : Asked) (marked : Bool) (s : Site) (r : RequestExecution) (d : Device) → io_verdict s.world k a marked ≡ v → IsLaidOut s.world s.device.content → DifferIn n s.world s.device d
+    → may_read s.world k n ≡ false → BringsItsOwn a → IoRequestComesTo v true k a s r
+    → Mirrors n s.world r.left.device (λ x. IoRequestComesTo v true k a (site_over d s) (request_execution_over x r))
 io-over (Denied number why) n k a marked s r d is laid differ fenced brings h =
-    (d, ap (response_over d) h, same-device n s.world s.device r.left.device d differ (ap (λ (x : Response). x.left.device) h))
+    (d, ap (request_execution_over d) h, same-device n s.world s.device r.left.device d differ (ap (λ (x : RequestExecution). x.left.device) h))
 io-over (Allowed plan) n k a marked s r d is laid differ fenced brings h =
     let p = allowed-passes s k a marked plan is in
     let m = performs n (scene_at s) k (command_entry a) a.sent plan.kind (scene_at r.left) d r.outcome.status h.returned laid differ fenced p (brings plan.kind p.named) h.effect in
     (m.0, record { returned = h.returned; effect = m.1; dw0 = h.dw0; rule = h.rule; marks = h.marks; data_back = h.data_back }, m.2)
 
-lane-over : (lane : Lane) (n k : ℕ) (a : Asked) (marked : Bool) (s : Site) (r : Response) (d : Device) → IsLaidOut s.world s.device.content → DifferIn n s.world s.device d
-    → may_read s.world k n ≡ false → BringsItsOwn a → AnswersAs lane true k a marked s r
-    → Mirrors n s.world r.left.device (λ x. AnswersAs lane true k a marked (site_over d s) (response_over x r))
+lane-over : (lane : Lane) (n k : ℕ) (a : Asked) (marked : Bool) (s : Site) (r : RequestExecution) (d : Device) → IsLaidOut s.world s.device.content → DifferIn n s.world s.device d
+    → may_read s.world k n ≡ false → BringsItsOwn a → RequestComesToAs lane true k a marked s r
+    → Mirrors n s.world r.left.device (λ x. RequestComesToAs lane true k a marked (site_over d s) (request_execution_over x r))
 lane-over Admin n k a marked s r d laid differ fenced brings h =
-    (d, ap (response_over d) h ∙ admin-over s k a d, same-device n s.world s.device r.left.device d differ (ap (λ (x : Response). x.left.device) h ∙ admin-device s k a))
+    (d, ap (request_execution_over d) h ∙ admin-over s k a d, same-device n s.world s.device r.left.device d differ (ap (λ (x : RequestExecution). x.left.device) h ∙ admin-device s k a))
 lane-over Io n k a marked s r d laid differ fenced brings h = io-over (io_verdict s.world k a marked) n k a marked s r d refl laid differ fenced brings h
 
 -- Events that do not reach the medium.
@@ -118,17 +118,17 @@ fetched-over (Some (Raw c)) f k q d reply new h = (h.0, ap (over d) h.1)
 item-over : (o : Option FetchedItem) (n : ℕ) (old new : Fleet) (k : ℕ) (m : Mailbox) (i : ℕ) (reply : Reply) (d : Device) → IsLaidOut old.site.world old.site.device.content
     → DifferIn n old.site.world old.site.device d → may_read old.site.world k n ≡ false → ((x : FetchedItem) → o ≡ Some x → WasTaken x.item) → ExecutesItem o true old k m i reply new
     → MirrorsStep n old new (λ x. ExecutesItem o true (over d old) k m i reply (over x new))
-unfolding Answers settled after_answer
+unfolding RequestComesTo settled after_answer
 item-over None n old new k m i reply d laid differ fenced held h = (d, (h.0, ap (over d) h.1), whole n old new d differ h.1)
 item-over (Some y) n old new k m i reply d laid differ fenced held h =
-    let r : Response = h.response in
+    let r : RequestExecution = h.execution in
     let a = lane-over (lane_of y.item) n k y.item.asked y.marked old.site r d laid differ fenced (taken-brings y.item (held y refl)) h.answers in (
       a.0,
-      record { response = response_over a.0 r; answers = a.1; gives = h.gives; leaves = ap (over a.0) h.leaves ∙ same a.0 r },
+      record { execution = request_execution_over a.0 r; answers = a.1; gives = h.gives; leaves = ap (over a.0) h.leaves ∙ same a.0 r },
       subst (λ (f : Fleet). DifferIn n old.site.world f.site.device a.0) (sym h.leaves) a.2,
     )
   where
-    same : (x : Device) (r : Response) → over x (after_execution old k m i y r) ≡ after_execution (over d old) k m i y (response_over x r)
+    same : (x : Device) (r : RequestExecution) → over x (after_execution old k m i y r) ≡ after_execution (over d old) k m i y (request_execution_over x r)
     same x r = refl
 
 abbrev setting_over : Device → Setting → Setting
@@ -137,13 +137,13 @@ setting_over d s = record { controller = s.controller; world = s.world; device =
 pair-over : (o : Option QueuePair) (n i : ℕ) (t : FetchedCommand) (old new : Setting) (executed : Executed) (d : Device) → IsLaidOut old.world old.device.content → DifferIn n old.world old.device d
     → may_read old.world old.controller.cntlid n ≡ false → FinishesOver o true i t old executed new
     → Mirrors n old.world new.device (λ x. FinishesOver o true i t (setting_over d old) executed (setting_over x new))
-unfolding after_machine_answer
+unfolding after_completion
 pair-over None n i t old new executed d laid differ fenced h = (d, (h.0, ap (setting_over d) h.1), same-device n old.world old.device new.device d differ (ap (λ (s : Setting). s.device) h.1))
 pair-over (Some p) n i t old new executed d laid differ fenced h =
-    let a : Answer = h.answer in
+    let a : CommandExecution = h.answer in
     let m = answers-over n (queues_of old.controller) old.controller.cntlid t (scene_in old) a d laid differ fenced h.answers in (
       m.0,
-      record { answer = answer_over m.0 a; answers = m.1; gives = h.gives; controller = h.controller; world = h.world; device = refl },
+      record { answer = command_execution_over m.0 a; answers = m.1; gives = h.gives; controller = h.controller; world = h.world; device = refl },
       same-device n old.world a.left.device new.device m.0 m.2 h.device,
     )
 
@@ -212,16 +212,8 @@ step-over n old new PowerCycle reply d regular differ fenced h = cycles n old ne
 
 reserves-over : (n : ℕ) (f : Fleet) (d : Device) (event : FleetEvent) → Allows reserving (over d f) event n → Allows reserving f event n
 unfolding host_at command_at
-reserves-over n f d (BringUp k) h = h
-reserves-over n f d (Place k request) h = h
-reserves-over n f d (Ring k) h = h
-reserves-over n f d (Fetch k q) h = h
 reserves-over n f d (Execute k i) h = record { command = h.command; found = h.found; is = h.is; allowed = h.allowed }
-reserves-over n f d (Poll k) h = h
-reserves-over n f d (Reset k) h = h
-reserves-over n f d (RawStore k address bytes) h = h
-reserves-over n f d (RawWrite32 k offset v) h = h
-reserves-over n f d PowerCycle h = h
+reserves-over n f d event h = h
 
 forgets-over : (n : ℕ) (f : Fleet) (d : Device) (event : FleetEvent) → Forgets (over d f) event n → Forgets f event n
 forgets-over n f d PowerCycle h = h

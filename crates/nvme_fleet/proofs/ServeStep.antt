@@ -23,7 +23,7 @@ use Rattle.nvme_driver.specs.declared.lane.Lane.TheVariants.{Io}
 use Rattle.nvme_driver.specs.Requests.{Asked}
 use Rattle.nvme_spec.specs.Transfers.{with_scattered}
 use Rattle.nvme_spec.specs.DataRules.{data_addresses}
-use Rattle.nvme_fleet.specs.Executions.{Response}
+use Rattle.nvme_fleet.specs.Executions.{RequestExecution}
 use Rattle.nvme_fleet.specs.Sound.{mailbox}
 use Rattle.nvme_driver.specs.Drivers.{Driver}
 use Rattle.nvme_machine.specs.declared.fetched.FetchedCommand.{FetchedCommand}
@@ -31,7 +31,7 @@ use Rattle.nvme_machine.specs.Controllers.{Controller}
 use Rattle.nvme_fleet.specs.Mailboxes.{FetchedItem}
 use Rattle.nvme_fleet.specs.Executions.{command_entry, action_of, IsServed, bytes_with}
 use Rattle.nvme_fleet.specs.Views.{asked_in, received_in}
-use Rattle.nvme_fleet.specs.Steps.{AllowedServesItsRequest, response_with}
+use Rattle.nvme_fleet.specs.Steps.{AllowedServesItsRequest, request_execution_with}
 use Rattle.nvme_fleet.proofs.Places.{no-way}
 use Rattle.nvme_fleet.proofs.Commands.{SameFields}
 use Rattle.nvme_fleet.proofs.Judging.{length-same, count-same, lba-same, action-same}
@@ -112,16 +112,13 @@ some-there false b h = absurd (cc (h))
 returns : (tells : Bool) (command : Command) (k : ℕ) (x keys : List ℕ) (old new : Scene) (answer : Status) (returned : List ℕ) → HasPassed old.world k x command
     → Performs tells command k x keys old new answer returned → Returns command x answer returned
 returns tells io.Read k x keys old new answer returned p h = read-back tells (medium_block old.world x) old.device new.device x answer returned h.effect
-returns tells io.Flush k x keys old new answer returned p h = let f = h.effect in none-back io.Flush x answer returned refl f.1
-returns tells io.Write k x keys old new answer returned p h = let f = h.effect in none-back io.Write x answer returned refl f.1
-returns tells io.WriteZeroes k x keys old new answer returned p h = let f = h.effect in none-back io.WriteZeroes x answer returned refl f.1
-returns tells io.Compare k x keys old new answer returned p h = let f = h.effect in none-back io.Compare x answer returned refl f.1
 returns tells io.ReservationRegister k x keys old new answer returned p h = none-back io.ReservationRegister x answer returned refl h.data_back
 returns tells io.ReservationAcquire k x keys old new answer returned p h = none-back io.ReservationAcquire x answer returned refl h.data_back
 returns tells io.ReservationRelease k x keys old new answer returned p h = none-back io.ReservationRelease x answer returned refl h.data_back
 returns tells io.ReservationReport k x keys old new answer returned p h =
     let e : length returned ≡ data_length io.ReservationReport x = ap length h.data_back ∙ report-length (namespace_of old.world (nsid x)) old.world.controllers (data_length io.ReservationReport x) (some-there _ _ p.attached) in
     record { few = omega (arith, e); done = λ t. e }
+returns tells command k x keys old new answer returned p h = let f = h.effect in none-back command x answer returned refl f.1
 
 -- the marks are the same
 marks-same : (command : Command) (x y : List ℕ) (o q : Option resv.ActionOutcome) → SameFields x y → o ≡ q → marks_of command x o ≡ marks_of command y q
@@ -163,7 +160,7 @@ allowed d c t w cntlid kind h p =
     }
 
 -- what was asked is what the mailbox's request asks
-served-by : (tells : Bool) (d : Driver) (c : Controller) (i : ℕ) (t : FetchedCommand) (x : FetchedItem) (w : World) (device : Device) (cntlid : ℕ) (kind : Command) (r : Response)
+served-by : (tells : Bool) (d : Driver) (c : Controller) (i : ℕ) (t : FetchedCommand) (x : FetchedItem) (w : World) (device : Device) (cntlid : ℕ) (kind : Command) (r : RequestExecution)
     → slice_get c.fetched i ≡ Some t → slice_get (mailbox d c).fetched i ≡ Some x → t.queue ≡ 1
     → IsServed tells kind cntlid (asked_by d c t) (record { world = w; device = device }) r → IsServed tells kind cntlid x.item.asked (record { world = w; device = device }) r
 served-by tells d c i t x w device cntlid kind r g f q h =
@@ -188,7 +185,7 @@ allowed_serves_its_request tells d c i t x w device cntlid plan a s g f q is h =
           ∙ m.scatters h.returned few;
       few = (let e = u.most in omega (arith, few, e));
       whole = enough a.outcome.status (received_in (waiting_at d.slots (cid t.entry))) h.returned done;
-      served = served-by tells d c i t x w device cntlid plan.kind (response_with d t a h.returned) g f q (record {
+      served = served-by tells d c i t x w device cntlid plan.kind (request_execution_with d t a h.returned) g f q (record {
         returned = h.returned;
         effect = performs-same tells plan.kind cntlid t.entry (command_entry (asked_by d c t)) (data_of c.window t.entry) (asked_by d c t).sent (scene w c.window device) a.left a.outcome.status h.returned
             (asked_by d c t).received (asked_by d c t).moved k.same y.received (λ z. data-is d c t k ∙ data-same Io d c t k z) o h.effect;

@@ -12,7 +12,7 @@ use Rattle.nvme_event.specs.Events.{concerns}
 use Rattle.nvme_event.specs.Replies.{Reply}
 use Rattle.nvme_fleet.specs.Mailboxes.{FetchedItem, Item, LaneBox, Mailbox, PostedAnswer, box_at, lane_of, new_mailbox, with_box, with_mark}
 use Rattle.nvme_fleet.specs.Deliveries.{MailboxReaction, brought_up, fetched, fetched_first, fetched_of, handed_up, lane_at, placed, placed_by, polled, polled_aborted, polled_admin, polled_io, refusal, reset, rung}
-use Rattle.nvme_fleet.specs.Executions.{Response, Site}
+use Rattle.nvme_fleet.specs.Executions.{RequestExecution, Site}
 use Rattle.nvme_fleet.specs.Fleets.{Fleet, Run, WithDriver, after_answer, host_at, opening}
 use Rattle.nvme_fleet.specs.Apart.{ExecutesOwn, HasMailbox, MailboxStep, OwnStep}
 use Rattle.nvme_fleet.specs.Answered.{IsClear}
@@ -137,7 +137,7 @@ rests-marked m n (inl e) h = subst Rests (sym e) h
 rests-marked m n (inr (t, e)) h =
     subst Rests (sym e) (λ down. let i = h down in record { admin = i.admin; io = i.io; fetched = ap (map (with_mark t)) i.fetched })
 
-rests-executed : (i : ℕ) (x : FetchedItem) (r : Response) (m : Mailbox) → slice_get m.fetched i ≡ Some x → Rests m → Rests (after_answer i x r m)
+rests-executed : (i : ℕ) (x : FetchedItem) (r : RequestExecution) (m : Mailbox) → slice_get m.fetched i ≡ Some x → Rests m → Rests (after_answer i x r m)
 unfolding after_answer
 rests-executed i x r m at h = λ down.
     let idle = h (sym (box-up (lane_of x.item) _ _) ∙ down) in
@@ -146,7 +146,7 @@ rests-executed i x r m at h = λ down.
 rests-own : (o : Option FetchedItem) (tells : Bool) (k : ℕ) (s left : Site) (m n : Mailbox) (i : ℕ) (reply : Reply) → slice_get m.fetched i ≡ o → ExecutesOwn o tells k s m i reply left n → Rests m → Rests n
 rests-own None tells k s left m n i reply at e h = subst Rests (sym e.1) h
 rests-own (Some x) tells k s left m n i reply at e h =
-    let r = e.response in
+    let r = e.execution in
     rests-marked (after_answer i x r m) n (differs r.outcome.marks r.left.world k (after_answer i x r m) n e.leaves) (rests-executed i x r m at h)
 
 becomes : (r : MailboxReaction) (n : Mailbox) → n ≡ r.mailbox → Rests r.mailbox → Rests n

@@ -5,23 +5,23 @@ use Rattle.nvme_spec.specs.Power.{cycled_world}
 use Rattle.nvme_machine.specs.declared.fetched.FetchedCommand.{FetchedCommand}
 use Rattle.nvme_machine.specs.declared.seen.Executed.{Executed}
 use Rattle.nvme_machine.specs.Controllers.{Controller, QueuePair, queues_of, open_pair}
-use Rattle.nvme_machine.specs.Answers as machine
+use Rattle.nvme_machine.specs.CommandExecutions.{CommandComesTo, CommandExecution}
 use Rattle.nvme_machine.specs.Executing.{Setting, FinishesOne, FinishesOver, scene_in}
 use Rattle.nvme_event.specs.declared.event.FleetEvent.{FleetEvent}
 use Rattle.nvme_event.specs.declared.event.FleetEvent.TheVariants.{BringUp, Place, Ring, Fetch, Execute, Poll, Reset, RawStore, RawWrite32, PowerCycle}
 use Rattle.nvme_event.specs.Replies.{Reply}
 use Rattle.nvme_fleet.specs.Mailboxes.{FetchedItem, Mailbox}
-use Rattle.nvme_fleet.specs.Executions.{Response, Answers}
+use Rattle.nvme_fleet.specs.Executions.{RequestExecution, RequestComesTo}
 use Rattle.nvme_fleet.specs.Fleets.{Host, WithDriver, Raw, Fleet, Moment, Is, Step, host_at, power_cycled, settled, site_of, setting_of, ExecutesItem, ExecutesRaw, ExecutesAt}
 use Rattle.nvme_fleet.proofs.Existing.{called-site, raw-site, fetched-site}
 
 -- What an event leaves: what was there, what an execution answers, or what outlasts a power cycle.
 pub data Leaves (tells : Bool) (old new : Fleet) (event : FleetEvent) : Type 0 where
   AsItWas : new.site ≡ old.site → Leaves tells old new event
-  ByRequest : (k i : ℕ) → event ≡ Execute k i → (m : Mailbox) → (x : FetchedItem) → (r : Response) → host_at old k ≡ Some (WithDriver m) → slice_get m.fetched i ≡ Some x
-      → Answers tells k x old.site r → new.site ≡ r.left → Leaves tells old new event
-  ByCommand : (k i : ℕ) → event ≡ Execute k i → (c : Controller) → (t : FetchedCommand) → (a : machine.Answer) → host_at old k ≡ Some (Raw c) → slice_get c.fetched i ≡ Some t
-      → machine.Answers tells (queues_of c) c.cntlid t (scene_in (setting_of old c)) a → new.site ≡ record { world = a.left.world; device = a.left.device } → Leaves tells old new event
+  ByRequest : (k i : ℕ) → event ≡ Execute k i → (m : Mailbox) → (x : FetchedItem) → (r : RequestExecution) → host_at old k ≡ Some (WithDriver m) → slice_get m.fetched i ≡ Some x
+      → RequestComesTo tells k x old.site r → new.site ≡ r.left → Leaves tells old new event
+  ByCommand : (k i : ℕ) → event ≡ Execute k i → (c : Controller) → (t : FetchedCommand) → (a : CommandExecution) → host_at old k ≡ Some (Raw c) → slice_get c.fetched i ≡ Some t
+      → CommandComesTo tells (queues_of c) c.cntlid t (scene_in (setting_of old c)) a → new.site ≡ record { world = a.left.world; device = a.left.device } → Leaves tells old new event
   PowerLost : event ≡ PowerCycle → new.site ≡ record { world = cycled_world old.site.world; device = old.site.device } → Leaves tells old new event
 
 whole : (tells : Bool) (old new : Fleet) (event : FleetEvent) → new ≡ old → Leaves tells old new event
@@ -34,7 +34,7 @@ item : (o : Option FetchedItem) (tells : Bool) (old new : Fleet) (k : ℕ) (m : 
     → ExecutesItem o tells old k m i reply new → Leaves tells old new (Execute k i)
 unfolding settled
 item None tells old new k m i reply at found h = whole tells old new (Execute k i) h.1
-item (Some x) tells old new k m i reply at found h = ByRequest k i refl m x h.response at found h.answers (ap (λ (f : Fleet). f.site) h.leaves)
+item (Some x) tells old new k m i reply at found h = ByRequest k i refl m x h.execution at found h.answers (ap (λ (f : Fleet). f.site) h.leaves)
 
 over : (o : Option QueuePair) (tells : Bool) (old new : Fleet) (k : ℕ) (c : Controller) (i : ℕ) (t : FetchedCommand) (executed : Executed) (left : Setting) → host_at old k ≡ Some (Raw c) → slice_get c.fetched i ≡ Some t
     → FinishesOver o tells i t (setting_of old c) executed left → new.site ≡ site_of left → Leaves tells old new (Execute k i)

@@ -7,7 +7,7 @@ use Rattle.nvme_spec.specs.Commands as io_commands
 use Rattle.nvme_fleet.specs.Views.{is_plain}
 use Rattle.nvme_fleet.proofs.Queues.{self-eqb}
 use Rattle.nvme_driver.specs.declared.request.Request.{Request}
-use Rattle.nvme_driver.specs.declared.request.Request.TheVariants.{Read, Write, Compare, WriteZeroes, Flush, Register, Acquire, Release, Report, Identify, Protect, Protection, Attach, Detach}
+use Rattle.nvme_driver.specs.declared.request.Request.TheVariants.{Read, Write, Compare, Register, Acquire, Release, Report, Attach, Detach}
 use Rattle.nvme_driver.specs.Requests.{Asked, asked_of, is_bad, key, controller_list}
 use Rattle.nvme_driver.proofs.Moving.{within, whole}
 use Rattle.nvme_driver.proofs.Spelling.{controller_list_length}
@@ -40,17 +40,13 @@ pub sizes : (request : Request) → is_bad request ≡ false → Sizes (asked_of
 sizes (Read nsid slba blocks) e = let w = within blocks 256 e in record { received = omega arith; sent = omega arith; most = omega (arith, w.1) }
 sizes (Write nsid slba bytes) e = let w = whole bytes.now e in sending-sizes (length bytes.now) bytes.now refl w.most _ refl refl refl
 sizes (Compare nsid slba bytes) e = let w = whole bytes.now e in sending-sizes (length bytes.now) bytes.now refl w.most _ refl refl refl
-sizes (WriteZeroes nsid slba blocks) e = record { received = omega arith; sent = refl; most = omega arith }
-sizes (Flush nsid) e = record { received = omega arith; sent = refl; most = omega arith }
 sizes (Register nsid action iekey cptpl crkey nrkey) e = sending-sizes 16 (key crkey ++ key nrkey) (length-keys crkey nrkey) (omega arith) _ refl refl refl
 sizes (Acquire nsid action rtype crkey prkey) e = sending-sizes 16 (key crkey ++ key prkey) (length-keys crkey prkey) (omega arith) _ refl refl refl
 sizes (Release nsid action rtype crkey) e = sending-sizes 8 (key crkey) (length-key crkey) (omega arith) _ refl refl refl
 sizes (Report nsid dwords) e = let w = within dwords 32768 e in record { received = omega arith; sent = omega arith; most = omega (arith, w.1) }
-sizes (Identify cns nsid) e = record { received = omega arith; sent = refl; most = omega arith }
-sizes (Protect nsid state) e = record { received = omega arith; sent = refl; most = omega arith }
-sizes (Protection nsid) e = record { received = omega arith; sent = refl; most = omega arith }
 sizes (Attach nsid list) e = sending-sizes 4096 (controller_list list.now) (controller_list_length list.now (few-listed (length list.now) e)) (omega arith) _ refl refl refl
 sizes (Detach nsid list) e = sending-sizes 4096 (controller_list list.now) (controller_list_length list.now (few-listed (length list.now) e)) (omega arith) _ refl refl refl
+sizes request e = record { received = omega arith; sent = refl; most = omega arith }
 
 -- what a request asks is plain
 self : (n : ℕ) → (n == n) ≡ true
@@ -59,16 +55,5 @@ self n = self-eqb n n refl
 pub plain : (request : Request) → is_plain (asked_of request) ≡ true
 unfolding is_plain io_commands.command_of
 plain (Read nsid slba blocks) = self (512 * blocks)
-plain (Write nsid slba bytes) = refl
-plain (Compare nsid slba bytes) = refl
-plain (WriteZeroes nsid slba blocks) = refl
-plain (Flush nsid) = refl
-plain (Register nsid action iekey cptpl crkey nrkey) = refl
-plain (Acquire nsid action rtype crkey prkey) = refl
-plain (Release nsid action rtype crkey) = refl
 plain (Report nsid dwords) = self (4 * dwords)
-plain (Identify cns nsid) = refl
-plain (Protect nsid state) = refl
-plain (Protection nsid) = refl
-plain (Attach nsid list) = refl
-plain (Detach nsid list) = refl
+plain request = refl

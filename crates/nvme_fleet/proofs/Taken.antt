@@ -156,7 +156,7 @@ cycled f = hosts-cycled f.hosts
 item : (o : Option FetchedItem) (tells : Bool) (old new : Fleet) (k : ℕ) (m : Mailbox) (i : ℕ) (reply : Reply) → Takes m → ExecutesItem o tells old k m i reply new → AllHold old → AllHold new
 item None tells old new k m i reply t h all = whole old new h.1 all
 item (Some x) tells old new k m i reply t h all =
-    whole _ new h.leaves (settles old k h.response.left _ h.response.outcome.marks all (answered WasTaken Any i x h.response m (λ since. tt) t))
+    whole _ new h.leaves (settles old k h.execution.left _ h.execution.outcome.marks all (answered WasTaken Any i x h.execution m (λ since. tt) t))
 
 executes : (o : Option Host) (tells : Bool) (old new : Fleet) (k i : ℕ) (reply : Reply) → host_at old k ≡ o → ExecutesAt o tells old k i reply new → AllHold old → AllHold new
 executes None tells old new k i reply at h all = whole old new h.1 all

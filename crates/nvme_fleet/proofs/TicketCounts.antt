@@ -20,7 +20,7 @@ use Rattle.nvme_event.specs.Replies.{Reply}
 use Rattle.nvme_event.specs.Events.{concerns}
 use Rattle.nvme_fleet.specs.Mailboxes.{Item, FetchedItem, PostedAnswer, LaneBox, Mailbox, box_at, with_box, lane_of, new_mailbox}
 use Rattle.nvme_fleet.specs.Deliveries.{MailboxReaction, mailbox_reaction, plain, recounted, ring_lane, brought_up, refusal, new_item, with_placed, placed_by, rung, fetched_first, lane_at, fetched_of, handed_up, polled_io, polled_admin, polled_aborted, reset}
-use Rattle.nvme_fleet.specs.Executions.{Site, Response}
+use Rattle.nvme_fleet.specs.Executions.{Site, RequestExecution}
 use Rattle.nvme_fleet.specs.Fleets.{WithDriver, Raw, Fleet, Run, host_at, after_answer, new_host, numbered, opening}
 use Rattle.nvme_fleet.proofs.MailboxMarks.{DiffersInMarks, differs, others-differ}
 use Rattle.nvme_fleet.specs.Apart.{HasMailbox, Becomes, ExecutesOwn, OwnStep, MailboxStep}
@@ -109,7 +109,7 @@ polls [] m = by m.up
     by false = none m m refl
 polls (t ∷ ts) m = none m (record m { aborted = ts }) refl
 
-answer-next : (i : ℕ) (x : FetchedItem) (r : Response) (m : Mailbox) → (after_answer i x r m).next ≡ m.next
+answer-next : (i : ℕ) (x : FetchedItem) (r : RequestExecution) (m : Mailbox) → (after_answer i x r m).next ≡ m.next
 unfolding after_answer
 answer-next i x r m = box-next (lane_of x.item) _ _
 
@@ -127,7 +127,7 @@ by-execution None tells k s left m n i reply h =
     subst (λ (x : Reply). Gives m n (given_in x.seen)) (sym h.0) (none m n (ap (λ (x : Mailbox). x.next) h.1))
 by-execution (Some x) tells k s left m n i reply h =
     subst (λ (x : Reply). Gives m n (given_in x.seen)) (sym h.gives)
-    (none m n (marks-next (after_answer i x h.response m) n (differs h.response.outcome.marks h.response.left.world k (after_answer i x h.response m) n h.leaves) ∙ answer-next i x h.response m))
+    (none m n (marks-next (after_answer i x h.execution m) n (differs h.execution.outcome.marks h.execution.left.world k (after_answer i x h.execution m) n h.leaves) ∙ answer-next i x h.execution m))
 
 by-refusal : (m n : Mailbox) (reply : Reply) → (reply ≡ plain seen.NotRaw) × (n ≡ m) → Gives m n (given_in reply.seen)
 by-refusal m n reply h = subst (λ (x : Reply). Gives m n (given_in x.seen)) (sym h.0) (none m n (ap (λ (x : Mailbox). x.next) h.1))

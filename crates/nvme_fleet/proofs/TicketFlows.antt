@@ -12,7 +12,7 @@ use Rattle.nvme_driver.specs.Requests.{asked_of}
 use Rattle.nvme_event.specs.declared.seen.FleetSeen.TheVariants.{Up, Rung, Polled}
 use Rattle.nvme_fleet.specs.Mailboxes.{Item, FetchedItem, PostedAnswer, LaneBox, Mailbox, box_at, with_box, lane_of, tickets_in, ranked, rising, open_tickets, names, with_mark, with_marks}
 use Rattle.nvme_fleet.specs.Deliveries.{MailboxReaction, mailbox_reaction, recounted, ring_lane, brought_up, refusal, new_item, with_placed, placed_by, placed, rung, fetched_first, lane_at, fetched_of, fetched, handed_up, polled_io, polled_admin, polled_aborted, polled, reset}
-use Rattle.nvme_fleet.specs.Executions.{Response}
+use Rattle.nvme_fleet.specs.Executions.{RequestExecution}
 use Rattle.nvme_fleet.specs.Fleets.{after_answer, with_posted, answer_for}
 use Rattle.nvme_fleet.specs.Views.{total}
 use Rattle.nvme_fleet.proofs.MailboxMarks.{DiffersInMarks}
@@ -241,7 +241,7 @@ resets w m =
 
 -- An execution.
 
-pub posts-answer : (w : ℕ → ℕ) (i : ℕ) (x : FetchedItem) (r : Response) (m : Mailbox) → slice_get m.fetched i ≡ Some x → Flow w m (after_answer i x r m) 0 (w x.item.ticket + 0) 0 0
+pub posts-answer : (w : ℕ → ℕ) (i : ℕ) (x : FetchedItem) (r : RequestExecution) (m : Mailbox) → slice_get m.fetched i ≡ Some x → Flow w m (after_answer i x r m) 0 (w x.item.ticket + 0) 0 0
 unfolding after_answer
 posts-answer w i x r m h = by (lane_of x.item)
   where

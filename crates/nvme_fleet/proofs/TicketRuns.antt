@@ -57,9 +57,9 @@ by-execution : (w : ℕ → ℕ) (o : Option FetchedItem) (tells : Bool) (k : �
 by-execution w None tells k s left m n i reply found h =
     subst (λ x. FlowsIn w m n x.seen []) (sym h.0) (subst (λ x. Flow w m x 0 0 0 0) (sym h.1) (stays w m m refl refl refl))
 by-execution w (Some x) tells k s left m n i reply found h =
-    let a = posts-answer w i x h.response m found in
-    let b = marks_flow w (after_answer i x h.response m) n (differs h.response.outcome.marks h.response.left.world k (after_answer i x h.response m) n h.leaves) in
-    let c = flows-on w m (after_answer i x h.response m) n 0 0 (w x.item.ticket + 0) 0 0 0 0 0 a b in
+    let a = posts-answer w i x h.execution m found in
+    let b = marks_flow w (after_answer i x h.execution m) n (differs h.execution.outcome.marks h.execution.left.world k (after_answer i x h.execution m) n h.leaves) in
+    let c = flows-on w m (after_answer i x h.execution m) n 0 0 (w x.item.ticket + 0) 0 0 0 0 0 a b in
     subst (λ y. FlowsIn w m n y.seen (x.item.ticket ∷ [])) (sym h.gives)
     (reads w m n _ 0 _ (w x.item.ticket + 0) _ 0 _ 0 c (omega arith) (omega arith) (omega arith) (omega arith))
 

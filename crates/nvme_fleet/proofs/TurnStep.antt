@@ -24,8 +24,8 @@ use Rattle.nvme_driver.specs.Polls.{consumed_ends, next_entry, is_new}
 use Rattle.nvme_driver.specs.Rises.{sent, send_calls, heard_calls, own_answer, own_of, answers_own, Creates, Hears}
 use Rattle.nvme_machine.specs.declared.fetched.FetchedCommand.{FetchedCommand}
 use Rattle.nvme_machine.specs.Controllers.{Controller, SubmissionQueue, CompletionQueue, QueuePair, queues_of, after_write32, after_fetch, fetchable, open_pair, after_posting, after_queue_change}
-use Rattle.nvme_machine.specs.Answers.{Answer, Answers, admin_answer}
-use Rattle.nvme_machine.specs.Subsystems.{after_answer}
+use Rattle.nvme_machine.specs.CommandExecutions.{CommandExecution, CommandComesTo, admin_command_execution}
+use Rattle.nvme_machine.specs.Subsystems.{after_completion}
 use Rattle.nvme_machine.specs.Executing.{Setting, setting}
 use Rattle.nvme_driver.proofs.PageLists.{part-there}
 use Rattle.nvme_fleet.specs.Steps.{after_calls}
@@ -74,18 +74,18 @@ turn-is : (tells : Bool) (k n : ℕ) (s : Option SubmissionQueue) (x : Option Co
     → LinkStep tells (setting (running k n 1 s x 0 w) world device) Turns new
     → admin_execution world (queues_of (running k n 1 s x 0 w)) k (at_head n w) w ≡ only_change change world w
     → new ≡ setting (after_queue_change change (answered_by k n s x w (at_head n w))) world device
-unfolding after_fetch fetchable open_pair Answers after_answer after_posting
+unfolding after_fetch fetchable open_pair CommandComesTo after_completion after_posting
 turn-is tells k n s x w world device change new (executed, h) adm =
     let here : Scene = record { world = world; window = w; device = device } in
-    let is : h.answer ≡ admin_answer here (only_change change world w) = h.answers ∙ ap (admin_answer here) adm in
+    let is : h.answer ≡ admin_command_execution here (only_change change world w) = h.answers ∙ ap (admin_command_execution here) adm in
     let t : FetchedCommand = record { entry = at_head n w; queue = 0; marked = false } in
     let p : QueuePair = record {
       submission = record { base = 0; cqid = 0; head = record { size = 8; fetched = (n + 1) % 8; waiting = 0 } };
       completion = record { base = 0x1000; tail = record { size = 32; posted = n; unread = 0 } };
     } in
-    let c = h.controller ∙ ap (λ (a : Answer). after_answer 0 t p a (after_fetch 0 (running k n 1 s x 0 w)).controller) is in
-    let u = h.world ∙ ap (λ (a : Answer). a.left.world) is in
-    let v = h.device ∙ ap (λ (a : Answer). a.left.device) is in
+    let c = h.controller ∙ ap (λ (a : CommandExecution). after_completion 0 t p a (after_fetch 0 (running k n 1 s x 0 w)).controller) is in
+    let u = h.world ∙ ap (λ (a : CommandExecution). a.left.world) is in
+    let v = h.device ∙ ap (λ (a : CommandExecution). a.left.device) is in
     λ i. record { controller = c i; world = u i; device = v i }
 
 -- Its completion is found.

@@ -10,7 +10,7 @@ use Rattle.nvme_driver.specs.Layout.{queue_id}
 use Rattle.nvme_wire.specs.Completion.{completion_of, phase}
 use Rattle.nvme_fleet.specs.Views.{AreOf, completion_bytes, phase_of, command_at, Host, State, Slot, slot_at, zeros, fresh_host, fresh_state, own_host, own_state, in_flight, commands, completions, commands_of, answers_of, unread, heard, steps, since, last_head, total, odd, holds, live_in, live_at, Heads, Phases, Running, Resting, Holds, next_completion, box}
 use Rattle.nvme_fleet.proofs.Windows.{stored-length}
-use Rattle.nvme_fleet.proofs.Keeps.{Enters, enters, Answers, answered}
+use Rattle.nvme_fleet.proofs.Keeps.{Enters, enters, EntersCompletion, answered}
 use Rattle.nvme_fleet.proofs.Queues.{same-entry, same-turn}
 use Rattle.nvme_fleet.proofs.Places.{no-way}
 use Rattle.nvme_fleet.proofs.Orders.{idle-age}
@@ -86,7 +86,7 @@ owns : (w entry completion : List ℕ) (p m : ℕ) → length w ≡ 8192 → p <
     Own w (with_bytes (with_bytes w (64 * p) entry) (4096 + 16 * m) completion) p m entry completion
 owns w entry completion p m l a b e f =
     let one : Enters w (with_bytes w (64 * p) entry) p entry = enters w entry p l a e in
-    let two : Answers (with_bytes w (64 * p) entry) (with_bytes (with_bytes w (64 * p) entry) (4096 + 16 * m) completion) m completion = answered (with_bytes w (64 * p) entry) completion m (one.keeps.size ∙ l) b f in
+    let two : EntersCompletion (with_bytes w (64 * p) entry) (with_bytes (with_bytes w (64 * p) entry) (4096 + 16 * m) completion) m completion = answered (with_bytes w (64 * p) entry) completion m (one.keeps.size ∙ l) b f in
     record {
       size = two.keeps.size ∙ one.keeps.size;
       completions = λ n q. two.keeps.completions n q ∙ one.keeps.completions n (never n);

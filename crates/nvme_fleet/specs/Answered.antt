@@ -12,7 +12,7 @@ use Rattle.nvme_event.specs.declared.seen.FleetSeen.TheVariants.{Placed, Execute
 use Rattle.nvme_event.specs.Replies.{Reply}
 use Rattle.nvme_fleet.specs.Mailboxes.{Item, FetchedItem, Mailbox, new_mailbox}
 use Rattle.nvme_fleet.specs.Deliveries.{plain, reset}
-use Rattle.nvme_fleet.specs.Executions.{Response, Answers}
+use Rattle.nvme_fleet.specs.Executions.{RequestExecution, RequestComesTo}
 use Rattle.nvme_fleet.specs.Fleets.{Fleet, Step, Run}
 use Rattle.nvme_fleet.specs.Apart.{HasMailbox}
 use Rattle.nvme_fleet.specs.Tickets.{waiting, posted_answers}
@@ -30,7 +30,7 @@ pub record Conclusion : Type 0 where
   pub dw0 : ℕ
   pub bytes : List ℕ
 
-abbrev pub conclusion_of : Response → Conclusion
+abbrev pub conclusion_of : RequestExecution → Conclusion
 conclusion_of r = record { status = r.outcome.status; dw0 = r.outcome.dw0; bytes = r.bytes }
 
 -- controller k executes the request, in the site of that moment, and it comes to this
@@ -43,11 +43,11 @@ pub record Executes (tells : Bool) (k : ℕ) (item : Item) (conclusion : Conclus
   pub fetched : FetchedItem
   pub found : slice_get mailbox.fetched place ≡ Some fetched
   pub item_is : fetched.item ≡ item
-  pub response : Response
-  pub answers : Answers tells k fetched old.site response
-  pub gives : reply ≡ plain (Executed (Posted response.outcome))
-  pub leaves : new.site ≡ response.left
-  pub conclusion_is : conclusion ≡ conclusion_of response
+  pub execution : RequestExecution
+  pub answers : RequestComesTo tells k fetched old.site execution
+  pub gives : reply ≡ plain (Executed (Posted execution.outcome))
+  pub leaves : new.site ≡ execution.left
+  pub conclusion_is : conclusion ≡ conclusion_of execution
 
 -- What happens in one event.
 abbrev pub Happening : Type 1

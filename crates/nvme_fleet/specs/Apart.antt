@@ -14,7 +14,7 @@ use Rattle.nvme_event.specs.Events.{concerns}
 use Rattle.nvme_event.specs.Replies.{Reply}
 use Rattle.nvme_fleet.specs.Mailboxes.{FetchedItem, Mailbox, with_marks}
 use Rattle.nvme_fleet.specs.Deliveries.{plain, MailboxReaction, brought_up, placed, rung, fetched, polled, reset}
-use Rattle.nvme_fleet.specs.Executions.{Site, Response, Answers}
+use Rattle.nvme_fleet.specs.Executions.{Site, RequestExecution, RequestComesTo}
 use Rattle.nvme_fleet.specs.Fleets.{WithDriver, Fleet, Step, host_at, after_answer, marks_in}
 
 -- controller k's host has a driver, whose mailbox this is
@@ -37,11 +37,11 @@ Becomes r reply n = (reply ≡ r.reply) × (n ≡ r.mailbox)
 -- the i-th fetched request is executed in this site, which leaves that one
 pub record Posts (tells : Bool) (k : ℕ) (s : Site) (m : Mailbox) (i : ℕ) (x : FetchedItem) (reply : Reply) (left : Site)
     (n : Mailbox) : Type 0 where
-  pub response : Response
-  pub answers : Answers tells k x s response
-  pub gives : reply ≡ plain (ExecutedSeen (Posted response.outcome))
-  pub site : left ≡ response.left
-  pub leaves : n ≡ marked_by response.outcome.marks response.left.world k (after_answer i x response m)
+  pub execution : RequestExecution
+  pub answers : RequestComesTo tells k x s execution
+  pub gives : reply ≡ plain (ExecutedSeen (Posted execution.outcome))
+  pub site : left ≡ execution.left
+  pub leaves : n ≡ marked_by execution.outcome.marks execution.left.world k (after_answer i x execution m)
 
 abbrev pub ExecutesOwn : Option FetchedItem → Bool → ℕ → Site → Mailbox → ℕ → Reply → Site → Mailbox → Type 0
 ExecutesOwn None tells k s m i reply left n = (reply ≡ plain (ExecutedSeen NoSuch)) × (n ≡ m)

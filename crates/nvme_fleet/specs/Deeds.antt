@@ -42,18 +42,18 @@ events_of k (Writes offset v) = Write32 k offset v ∷ []
 events_of k (Reads offset v) = Read32 k offset ∷ []
 events_of k Turns = Fetch k 0 ∷ Execute k 0 ∷ []
 
--- a read answers what its event gave
-abbrev pub Answers : Call → List Seen → Type 0
-Answers (Stores address bytes) given = Unit {0}
-Answers (Writes offset v) given = Unit {0}
-Answers (Reads offset v) given = given ≡ Value v ∷ []
-Answers Turns given = Unit {0}
+-- a read returns what its event gave
+abbrev pub ReturnsWhatIsSeen : Call → List Seen → Type 0
+ReturnsWhatIsSeen (Stores address bytes) given = Unit {0}
+ReturnsWhatIsSeen (Writes offset v) given = Unit {0}
+ReturnsWhatIsSeen (Reads offset v) given = given ≡ Value v ∷ []
+ReturnsWhatIsSeen Turns given = Unit {0}
 
--- a call at controller k is a run of the subsystem over exactly its events, and answers what they gave
+-- a call at controller k is a run of the subsystem over exactly its events, and returns what they gave
 pub record CallStep (tells : Bool) (k : ℕ) (old : Subsystem) (call : Call) (new : Subsystem) : Type 0 where
   pub given : List Seen
   pub run : Run tells old (events_of k call) given new
-  pub answers : Answers call given
+  pub answers : ReturnsWhatIsSeen call given
 
 -- a call over a link; the same controller is reached as before, in the same way
 pub record CallOver (tells : Bool) (old : Linked) (call : Call) (new : Linked) : Type 0 where

@@ -17,7 +17,7 @@ use Rattle.nvme_event.specs.declared.seen.FleetSeen.TheVariants as seen
 use Rattle.nvme_event.specs.Replies.{Reply}
 use Rattle.nvme_fleet.specs.Mailboxes.{FetchedItem, Mailbox, new_mailbox}
 use Rattle.nvme_fleet.specs.Deliveries as mail
-use Rattle.nvme_fleet.specs.Executions.{Response}
+use Rattle.nvme_fleet.specs.Executions.{RequestExecution}
 use Rattle.nvme_fleet.specs.Fleets.{Fleet, opening, after_answer}
 use Rattle.nvme_fleet.specs.FaultFree.{fault_free_replies, fault_free_left}
 
@@ -138,5 +138,5 @@ two_placed = (mail.placed (mail.placed (mail.brought_up (new_mailbox 1)).mailbox
 abbrev pub first_read : FetchedItem
 first_read = record { item = record { ticket = 1; asked = asked_of a_read }; marked = false }
 
-abbrev pub first_answered : Response → Mailbox
+abbrev pub first_answered : RequestExecution → Mailbox
 first_answered r = after_answer 0 first_read r (mail.fetched 1 (mail.rung two_placed).mailbox).mailbox

@@ -39,7 +39,7 @@ abbrev pub scene_at : Site → Scene
 scene_at s = scene s.world [] s.device
 
 -- What a request comes to: what its command is answered, the data that come with the answer, and what is left.
-pub record Response : Type 0 where
+pub record RequestExecution : Type 0 where
   pub outcome : Outcome
   pub bytes : List ℕ
   pub left : Site
@@ -64,8 +64,8 @@ unfoldable pub command_entry : Asked → List ℕ
 command_entry a = submission_entry (command_fields a)
 
 -- a command that was denied changes nothing
-abbrev pub denial_response : Site → ℕ → Status → Response
-denial_response s number why = record { outcome = denial_outcome number why; bytes = []; left = s }
+abbrev pub denied_request_execution : Site → ℕ → Status → RequestExecution
+denied_request_execution s number why = record { outcome = denial_outcome number why; bytes = []; left = s }
 
 -- data come with the answer where the command succeeded
 abbrev pub bytes_with : Status → List ℕ → List ℕ
@@ -86,7 +86,8 @@ io_verdict w cntlid a marked =
     conclusion (io_judgement w cntlid a marked) (io_commands.command_of (opcode (command_entry a))) (command_entry a)
 
 -- an allowed command has done its effect in the world, by its own data
-pub record IsServed (tells : Bool) (command : Command) (cntlid : ℕ) (a : Asked) (s : Site) (r : Response) : Type 0 where
+pub record IsServed (tells : Bool) (command : Command) (cntlid : ℕ) (a : Asked) (s : Site) (r : RequestExecution)
+    : Type 0 where
   pub returned : List ℕ
   pub effect :
       Performs tells command cntlid (command_entry a) a.sent (scene_at s) (scene_at r.left) r.outcome.status returned
@@ -95,9 +96,9 @@ pub record IsServed (tells : Bool) (command : Command) (cntlid : ℕ) (a : Asked
   pub marks : r.outcome.marks ≡ marks_of command (command_entry a) (action_of s.world cntlid a)
   pub data_back : r.bytes ≡ bytes_with r.outcome.status returned
 
-abbrev pub AnswersIo : Verdict → Bool → ℕ → Asked → Site → Response → Type 0
-AnswersIo (Denied number why) tells cntlid a s r = r ≡ denial_response s number why
-AnswersIo (Allowed plan) tells cntlid a s r = IsServed tells plan.kind cntlid a s r
+abbrev pub IoRequestComesTo : Verdict → Bool → ℕ → Asked → Site → RequestExecution → Type 0
+IoRequestComesTo (Denied number why) tells cntlid a s r = r ≡ denied_request_execution s number why
+IoRequestComesTo (Allowed plan) tells cntlid a s r = IsServed tells plan.kind cntlid a s r
 
 -- Of the admin lane.
 
@@ -115,7 +116,7 @@ admin_judgement w cntlid a =
     (admin_access_rules w queue_pairs cntlid entry
     ++ list_rule (admin_commands.command_of (opcode entry)) w entry a.sent ∷ [])
 
-abbrev pub admin_served : Site → ℕ → Asked → AdminCommand → Response
+abbrev pub admin_served : Site → ℕ → Asked → AdminCommand → RequestExecution
 admin_served s cntlid a command = record {
   outcome = record {
     status = status.successful_completion;
@@ -127,20 +128,20 @@ admin_served s cntlid a command = record {
   left = record { world = world_after s.world command (command_entry a) a.sent; device = s.device };
 }
 
-abbrev pub admin_response_by : Judgement → Option AdminCommand → Site → ℕ → Asked → Response
-admin_response_by (Err d) command s cntlid a = denial_response s d.rule d.status
-admin_response_by (Ok u) None s cntlid a = denial_response s 2 status.invalid_command_opcode
-admin_response_by (Ok u) (Some command) s cntlid a = admin_served s cntlid a command
+abbrev pub admin_request_execution_by : Judgement → Option AdminCommand → Site → ℕ → Asked → RequestExecution
+admin_request_execution_by (Err d) command s cntlid a = denied_request_execution s d.rule d.status
+admin_request_execution_by (Ok u) None s cntlid a = denied_request_execution s 2 status.invalid_command_opcode
+admin_request_execution_by (Ok u) (Some command) s cntlid a = admin_served s cntlid a command
 
-unfoldable pub admin_response : Site → ℕ → Asked → Response
-admin_response s cntlid a =
-    admin_response_by (admin_judgement s.world cntlid a)
+unfoldable pub admin_request_execution : Site → ℕ → Asked → RequestExecution
+admin_request_execution s cntlid a =
+    admin_request_execution_by (admin_judgement s.world cntlid a)
     (admin_commands.command_of (opcode (command_entry a))) s cntlid a
 
 -- a request of a controller that was fetched, executed now, comes to this
-abbrev pub AnswersAs : Lane → Bool → ℕ → Asked → Bool → Site → Response → Type 0
-AnswersAs Admin tells cntlid a marked s r = r ≡ admin_response s cntlid a
-AnswersAs Io tells cntlid a marked s r = AnswersIo (io_verdict s.world cntlid a marked) tells cntlid a s r
+abbrev pub RequestComesToAs : Lane → Bool → ℕ → Asked → Bool → Site → RequestExecution → Type 0
+RequestComesToAs Admin tells cntlid a marked s r = r ≡ admin_request_execution s cntlid a
+RequestComesToAs Io tells cntlid a marked s r = IoRequestComesTo (io_verdict s.world cntlid a marked) tells cntlid a s r
 
-unfoldable pub Answers : Bool → ℕ → FetchedItem → Site → Response → Type 0
-Answers tells cntlid f s r = AnswersAs (lane_of f.item) tells cntlid f.item.asked f.marked s r
+unfoldable pub RequestComesTo : Bool → ℕ → FetchedItem → Site → RequestExecution → Type 0
+RequestComesTo tells cntlid f s r = RequestComesToAs (lane_of f.item) tells cntlid f.item.asked f.marked s r

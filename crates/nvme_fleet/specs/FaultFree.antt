@@ -14,21 +14,21 @@ use Rattle.nvme_machine.specs.declared.fetched.FetchedCommand.{FetchedCommand}
 use Rattle.nvme_machine.specs.declared.seen.Executed.{Executed}
 use Rattle.nvme_machine.specs.declared.seen.Executed.TheVariants.{Posted, NoSuch, CqFull}
 use Rattle.nvme_machine.specs.Controllers.{QueuePair, queues_of, open_pair}
-use Rattle.nvme_machine.specs.Subsystems.{after_answer as after_machine_answer}
+use Rattle.nvme_machine.specs.Subsystems.{after_completion}
 use Rattle.nvme_machine.specs.Executing.{Setting, setting, scene_in}
-use Rattle.nvme_machine.specs.Answers as machine
-use Rattle.nvme_machine.specs.FaultFree.{fault_free_answer}
+use Rattle.nvme_machine.specs.CommandExecutions.{CommandExecution}
+use Rattle.nvme_machine.specs.FaultFree.{fault_free_command_execution}
 use Rattle.nvme_event.specs.declared.event.FleetEvent.{FleetEvent}
 use Rattle.nvme_event.specs.declared.event.FleetEvent.TheVariants.{BringUp, Place, Ring, Fetch, Execute, Poll, Reset, RawStore, RawWrite32, PowerCycle}
 use Rattle.nvme_event.specs.declared.seen.FleetSeen.TheVariants.{Executed as ExecutedSeen, NoController, Cycled}
 use Rattle.nvme_event.specs.Replies.{Reply}
 use Rattle.nvme_fleet.specs.Mailboxes.{FetchedItem, Mailbox, lane_of}
 use Rattle.nvme_fleet.specs.Deliveries.{plain, brought_up, placed, rung, polled, reset}
-use Rattle.nvme_fleet.specs.Executions.{Site, Response, scene_at, command_entry, denial_response, bytes_with, action_of, io_verdict, admin_response}
+use Rattle.nvme_fleet.specs.Executions.{Site, RequestExecution, scene_at, command_entry, denied_request_execution, bytes_with, action_of, io_verdict, admin_request_execution}
 use Rattle.nvme_fleet.specs.Fleets.{Host, WithDriver, Raw, Fleet, Moment, moment, host_at, called, raw_stored, raw_wrote, fetched_at, after_execution, setting_of, after_raw, power_cycled}
 
 -- an allowed I/O command, by what the definitions say of it
-abbrev pub served : Command → ℕ → Asked → Site → Performance → Response
+abbrev pub served : Command → ℕ → Asked → Site → Performance → RequestExecution
 served command cntlid a s p = record {
   outcome = record {
     status = p.status;
@@ -44,40 +44,40 @@ abbrev pub performance_of : Command → ℕ → Asked → Site → Performance
 performance_of command cntlid a s = performance_as (kind_of command) command cntlid (command_entry a) a.sent
     (scene_at s)
 
-abbrev pub io_response : Verdict → ℕ → Asked → Site → Response
-io_response (Denied number why) cntlid a s = denial_response s number why
-io_response (Allowed plan) cntlid a s = served plan.kind cntlid a s (performance_of plan.kind cntlid a s)
+abbrev pub io_request_execution : Verdict → ℕ → Asked → Site → RequestExecution
+io_request_execution (Denied number why) cntlid a s = denied_request_execution s number why
+io_request_execution (Allowed plan) cntlid a s = served plan.kind cntlid a s (performance_of plan.kind cntlid a s)
 
-abbrev pub response_as : Lane → ℕ → Asked → Bool → Site → Response
-response_as Admin cntlid a marked s = admin_response s cntlid a
-response_as Io cntlid a marked s = io_response (io_verdict s.world cntlid a marked) cntlid a s
+abbrev pub request_execution_as : Lane → ℕ → Asked → Bool → Site → RequestExecution
+request_execution_as Admin cntlid a marked s = admin_request_execution s cntlid a
+request_execution_as Io cntlid a marked s = io_request_execution (io_verdict s.world cntlid a marked) cntlid a s
 
-unfoldable pub response : ℕ → FetchedItem → Site → Response
-response cntlid f s = response_as (lane_of f.item) cntlid f.item.asked f.marked s
+unfoldable pub request_execution : ℕ → FetchedItem → Site → RequestExecution
+request_execution cntlid f s = request_execution_as (lane_of f.item) cntlid f.item.asked f.marked s
 
-abbrev pub answered : Fleet → ℕ → Mailbox → ℕ → FetchedItem → Response → Moment
+abbrev pub answered : Fleet → ℕ → Mailbox → ℕ → FetchedItem → RequestExecution → Moment
 answered f k m i x r =
     record { fleet = after_execution f k m i x r; reply = plain (ExecutedSeen (Posted r.outcome)) }
 
 abbrev pub executing_item : Option FetchedItem → Fleet → ℕ → Mailbox → ℕ → Moment
 executing_item None f k m i = moment f (ExecutedSeen NoSuch)
-executing_item (Some x) f k m i = answered f k m i x (response k x f.site)
+executing_item (Some x) f k m i = answered f k m i x (request_execution k x f.site)
 
 -- what an execution of a raw host's controller gives and leaves
 pub record RawExecution : Type 0 where
   pub executed : Executed
   pub left : Setting
 
-abbrev pub raw_answered : ℕ → FetchedCommand → QueuePair → Setting → machine.Answer → RawExecution
+abbrev pub raw_answered : ℕ → FetchedCommand → QueuePair → Setting → CommandExecution → RawExecution
 raw_answered i t p s a = record {
   executed = Posted a.outcome;
-  left = setting (after_machine_answer i t p a s.controller) a.left.world a.left.device;
+  left = setting (after_completion i t p a s.controller) a.left.world a.left.device;
 }
 
 abbrev pub raw_over : Option QueuePair → ℕ → FetchedCommand → Setting → RawExecution
 raw_over None i t s = record { executed = CqFull; left = s }
 raw_over (Some p) i t s =
-    raw_answered i t p s (fault_free_answer (queues_of s.controller) s.controller.cntlid t (scene_in s))
+    raw_answered i t p s (fault_free_command_execution (queues_of s.controller) s.controller.cntlid t (scene_in s))
 
 abbrev pub raw_one : Option FetchedCommand → ℕ → Setting → RawExecution
 raw_one None i s = record { executed = NoSuch; left = s }

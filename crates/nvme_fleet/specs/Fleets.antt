@@ -23,7 +23,7 @@ use Rattle.nvme_event.specs.declared.seen.FleetSeen.TheVariants.{Fetched as Fetc
 use Rattle.nvme_event.specs.Replies.{Reply}
 use Rattle.nvme_fleet.specs.Mailboxes.{FetchedItem, PostedAnswer, LaneBox, Mailbox, new_mailbox, box_at, with_box, lane_of, with_marks}
 use Rattle.nvme_fleet.specs.Deliveries.{plain, MailboxReaction, brought_up, placed, rung, fetched, polled, reset}
-use Rattle.nvme_fleet.specs.Executions.{Site, Response, Answers}
+use Rattle.nvme_fleet.specs.Executions.{Site, RequestExecution, RequestComesTo}
 
 -- A host with a driver, or a raw one.
 pub data Host : Type 0 where
@@ -123,7 +123,7 @@ unfoldable pub settled : Fleet → ℕ → Site → Host → Marks → Fleet
 settled f k left h marks = record { site = left; hosts = marked_from left.world marks 1 (replaced f.hosts k h) }
 
 -- the mailbox once its i-th fetched request came to this: the answer is the last of its lane
-abbrev pub answer_for : FetchedItem → Response → ℕ → PostedAnswer
+abbrev pub answer_for : FetchedItem → RequestExecution → ℕ → PostedAnswer
 answer_for x r since = record {
   ticket = x.item.ticket;
   status = r.outcome.status;
@@ -132,22 +132,22 @@ answer_for x r since = record {
   step = since;
 }
 
-abbrev pub with_posted : LaneBox → FetchedItem → Response → LaneBox
+abbrev pub with_posted : LaneBox → FetchedItem → RequestExecution → LaneBox
 with_posted b x r = record b { posted = b.posted ++ answer_for x r b.since ∷ []; since = 0 }
 
-unfoldable pub after_answer : ℕ → FetchedItem → Response → Mailbox → Mailbox
+unfoldable pub after_answer : ℕ → FetchedItem → RequestExecution → Mailbox → Mailbox
 after_answer i x r m =
     with_box (lane_of x.item) (with_posted (box_at (lane_of x.item) m) x r) (record m { fetched = remove m.fetched i })
 
-abbrev pub after_execution : Fleet → ℕ → Mailbox → ℕ → FetchedItem → Response → Fleet
+abbrev pub after_execution : Fleet → ℕ → Mailbox → ℕ → FetchedItem → RequestExecution → Fleet
 after_execution f k m i x r = settled f k r.left (WithDriver (after_answer i x r m)) r.outcome.marks
 
 pub record Completes (tells : Bool) (old : Fleet) (k : ℕ) (m : Mailbox) (i : ℕ) (x : FetchedItem) (reply : Reply)
     (new : Fleet) : Type 0 where
-  pub response : Response
-  pub answers : Answers tells k x old.site response
-  pub gives : reply ≡ plain (ExecutedSeen (Posted response.outcome))
-  pub leaves : new ≡ after_execution old k m i x response
+  pub execution : RequestExecution
+  pub answers : RequestComesTo tells k x old.site execution
+  pub gives : reply ≡ plain (ExecutedSeen (Posted execution.outcome))
+  pub leaves : new ≡ after_execution old k m i x execution
 
 abbrev pub ExecutesItem : Option FetchedItem → Bool → Fleet → ℕ → Mailbox → ℕ → Reply → Fleet → Type 0
 ExecutesItem None tells old k m i reply new = (reply ≡ plain (ExecutedSeen NoSuch)) × (new ≡ old)

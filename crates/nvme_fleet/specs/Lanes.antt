@@ -3,6 +3,7 @@
 use Rattle.std.specs.Prelude.{◌≡◌, ℕ, suc, ◌+◌, ◌-◌, ◌*◌, ◌%◌, nat_lt, Bool, true, false, ◌&&◌, cond, List, [], ◌∷◌, ◌++◌, length, map, take, drop, remove, Option, None, Some, slice_set}
 use Rattle.nvme_wire.specs.Submission.{cid}
 use Rattle.nvme_wire.specs.Completion.{Completion}
+use Rattle.nvme_spec.specs.Limits.{most_bytes}
 use Rattle.nvme_spec.specs.Bytes.{with_bytes}
 use Rattle.nvme_spec.specs.Memory.{window_size}
 use Rattle.nvme_driver.specs.declared.lane.Lane.{Lane}
@@ -90,7 +91,7 @@ pages_of lane window = take 8192 (drop (base lane) window)
 
 -- the data at a slot's place, and its list page
 unfoldable pub area : List ℕ → ℕ → List ℕ
-area window k = take 131072 (drop (data_area k) window)
+area window k = take most_bytes (drop (data_area k) window)
 
 unfoldable pub listed : List ℕ → ℕ → List ℕ
 listed window k = take 4096 (drop (list_page k) window)

@@ -18,16 +18,16 @@ use Rattle.nvme_spec.specs.Limits.{most_bytes}
 use Rattle.nvme_spec.specs.Queues.{phase_tag}
 use Rattle.nvme_driver.specs.Layout.{data_area}
 use Rattle.nvme_machine.specs.declared.fetched.FetchedCommand.{FetchedCommand}
-use Rattle.nvme_machine.specs.Answers.{Answer, admin_answer}
+use Rattle.nvme_machine.specs.CommandExecutions.{CommandExecution, admin_command_execution}
 use Rattle.nvme_machine.specs.declared.seen.Executed.{Executed}
 use Rattle.nvme_machine.specs.declared.seen.Executed.TheVariants.{Posted}
 use Rattle.nvme_machine.specs.Executing.{Setting, ExecutesNth}
-use Rattle.nvme_machine.specs.Subsystems.{after_answer as after_machine_answer}
+use Rattle.nvme_machine.specs.Subsystems.{after_completion}
 use Rattle.nvme_event.specs.declared.event.FleetEvent.TheVariants.{Execute}
 use Rattle.nvme_event.specs.declared.seen.FleetSeen.TheVariants.{Placed, Polled, Rung, Fetched, Reset, Executed as ExecutedSeen}
 use Rattle.nvme_event.specs.Replies.{Reply}
 use Rattle.nvme_fleet.specs.Mailboxes.{FetchedItem, new_mailbox, with_marks as mark_mailbox}
-use Rattle.nvme_fleet.specs.Executions.{Response, io_judgement, admin_judgement, IsServed, Answers}
+use Rattle.nvme_fleet.specs.Executions.{RequestExecution, io_judgement, admin_judgement, IsServed, RequestComesTo}
 use Rattle.nvme_fleet.specs.Views.{received_in}
 use Rattle.nvme_driver.specs.declared.request.Request.{Request}
 use Rattle.nvme_driver.specs.declared.faults.PlaceRefusal.{PlaceRefusal}
@@ -106,7 +106,7 @@ PlaceIsAStep =
 -- What an execution stores is in its request's slot: the data that come with the answer, from the slot's place on, as
 -- many as the request receives where it succeeded; the queues stay, and the completion's fields are within their width.
 pub record AnswersInItsSlot (d : driver.Driver) (c : Controller) (t : FetchedCommand) (p : QueuePair)
-    (a : Answer) : Type 0 where
+    (a : CommandExecution) : Type 0 where
   pub bytes : List ℕ
   pub queues : a.change ≡ Keep
   pub window : a.left.window ≡ with_bytes c.window (data_area (cid t.entry)) bytes
@@ -121,27 +121,27 @@ pub record AnswersInItsSlot (d : driver.Driver) (c : Controller) (t : FetchedCom
     status = a.outcome.status;
   })
 
--- the answer as the mailbox has it
-abbrev pub response_with : driver.Driver → FetchedCommand → Answer → List ℕ → Response
-response_with d t a bytes = record {
+-- what it comes to as the mailbox has it
+abbrev pub request_execution_with : driver.Driver → FetchedCommand → CommandExecution → List ℕ → RequestExecution
+request_execution_with d t a bytes = record {
   outcome = a.outcome;
   bytes = take (poll.answer_len (received_in (poll.waiting_at d.slots (cid t.entry))) a.outcome.status) bytes;
   left = record { world = a.left.world; device = a.left.device };
 }
 
-pub record IsPosted (d : driver.Driver) (c : Controller) (i : ℕ) (t : FetchedCommand) (a : Answer) (bytes : List ℕ)
-    (new : Controller) : Type 0 where
+pub record IsPosted (d : driver.Driver) (c : Controller) (i : ℕ) (t : FetchedCommand) (a : CommandExecution)
+    (bytes : List ℕ) (new : Controller) : Type 0 where
   pub item : FetchedItem
   pub found : slice_get (mailbox d c).fetched i ≡ Some item
   pub sound : Sound d new
-  pub mail : mailbox d new ≡ after_answer i item (response_with d t a bytes) (mailbox d c)
+  pub mail : mailbox d new ≡ after_answer i item (request_execution_with d t a bytes) (mailbox d c)
 
 -- An answer that is posted stands at the end of its lane in the mailbox, whatever it is; and it can be posted.
 abbrev pub PostingIsAStep : Type 0
 PostingIsAStep =
-    (d : driver.Driver) (c : Controller) (i : ℕ) (t : FetchedCommand) (p : QueuePair) (a : Answer) → Sound d c
+    (d : driver.Driver) (c : Controller) (i : ℕ) (t : FetchedCommand) (p : QueuePair) (a : CommandExecution) → Sound d c
     → slice_get c.fetched i ≡ Some t → open_pair c t ≡ Some p → (h : AnswersInItsSlot d c t p a)
-    → IsPosted d c i t a h.bytes (after_machine_answer i t p a c)
+    → IsPosted d c i t a h.bytes (after_completion i t p a c)
 
 abbrev pub PostingHasRoom : Type 0
 PostingHasRoom =
@@ -174,18 +174,18 @@ JudgedAsItsRequest =
 -- What an allowed I/O command does to the access state and the medium is what its request does; the data that come with
 -- its answer lie in the request's slot, as many as the request receives where it succeeded.
 pub record IsServedInItsSlot (tells : Bool) (d : driver.Driver) (c : Controller) (t : FetchedCommand) (x : FetchedItem)
-    (w : World) (device : Device) (cntlid : ℕ) (kind : Command) (a : Answer) : Type 0 where
+    (w : World) (device : Device) (cntlid : ℕ) (kind : Command) (a : CommandExecution) : Type 0 where
   pub bytes : List ℕ
   pub window : a.left.window ≡ with_bytes c.window (data_area (cid t.entry)) bytes
   pub few : length bytes ≤ most_bytes
   pub whole : poll.answer_len (received_in (poll.waiting_at d.slots (cid t.entry))) a.outcome.status ≤ length bytes
   pub served : IsServed tells kind cntlid x.item.asked (record { world = w; device = device })
-      (response_with d t a bytes)
+      (request_execution_with d t a bytes)
 
 abbrev pub AllowedServesItsRequest : Type 0
 AllowedServesItsRequest =
     (tells : Bool) (d : driver.Driver) (c : Controller) (i : ℕ) (t : FetchedCommand) (x : FetchedItem) (w : World)
-    (device : Device) (cntlid : ℕ) (plan : Plan) (a : Answer)
+    (device : Device) (cntlid : ℕ) (plan : Plan) (a : CommandExecution)
     → Sound d c → slice_get c.fetched i ≡ Some t → slice_get (mailbox d c).fetched i ≡ Some x → t.queue ≡ 1
     → spec.io_verdict w cntlid t.entry t.marked c.window ≡ Allowed plan
     → IsPerformed tells plan.kind cntlid t.entry (scene w c.window device) a.left a.outcome
@@ -194,17 +194,18 @@ AllowedServesItsRequest =
 -- What an I/O command may be answered, allowed or denied, its request may be answered; the data that come with the
 -- answer lie in the request's slot.
 pub record IsAnsweredInItsSlot (tells : Bool) (d : driver.Driver) (c : Controller) (t : FetchedCommand)
-    (x : FetchedItem) (w : World) (device : Device) (cntlid : ℕ) (a : Answer) : Type 0 where
+    (x : FetchedItem) (w : World) (device : Device) (cntlid : ℕ) (a : CommandExecution) : Type 0 where
   pub bytes : List ℕ
   pub window : a.left.window ≡ with_bytes c.window (data_area (cid t.entry)) bytes
   pub few : length bytes ≤ most_bytes
   pub whole : poll.answer_len (received_in (poll.waiting_at d.slots (cid t.entry))) a.outcome.status ≤ length bytes
-  pub answers : Answers tells cntlid x (record { world = w; device = device }) (response_with d t a bytes)
+  pub answers : RequestComesTo tells cntlid x (record { world = w; device = device })
+      (request_execution_with d t a bytes)
 
 abbrev pub AnswersItsRequest : Type 0
 AnswersItsRequest =
     (tells : Bool) (d : driver.Driver) (c : Controller) (i : ℕ) (t : FetchedCommand) (x : FetchedItem) (w : World)
-    (device : Device) (cntlid : ℕ) (a : Answer)
+    (device : Device) (cntlid : ℕ) (a : CommandExecution)
     → Sound d c → slice_get c.fetched i ≡ Some t → slice_get (mailbox d c).fetched i ≡ Some x → t.queue ≡ 1
     → Executes tells cntlid t.entry t.marked (scene w c.window device) a.left a.outcome
     → IsAnsweredInItsSlot tells d c t x w device cntlid a
@@ -222,9 +223,9 @@ AdminJudgedAsItsRequest =
 abbrev pub AdminAnswersItsRequest : Type 0
 AdminAnswersItsRequest =
     (tells : Bool) (d : driver.Driver) (c : Controller) (i : ℕ) (t : FetchedCommand) (x : FetchedItem) (w : World)
-    (device : Device) (cntlid : ℕ) (a : Answer)
+    (device : Device) (cntlid : ℕ) (a : CommandExecution)
     → Sound d c → slice_get c.fetched i ≡ Some t → slice_get (mailbox d c).fetched i ≡ Some x → t.queue ≡ 0
-    → a ≡ admin_answer (scene w c.window device) (admin_execution w (queues_of c) cntlid t.entry c.window)
+    → a ≡ admin_command_execution (scene w c.window device) (admin_execution w (queues_of c) cntlid t.entry c.window)
     → (a.change ≡ Keep) × IsAnsweredInItsSlot tells d c t x w device cntlid a
 
 -- An execution of an I/O command, in the world and over the medium as they are, is the step of the mailbox: the request
@@ -232,14 +233,15 @@ AdminAnswersItsRequest =
 pub record IsExecuted (tells : Bool) (d : driver.Driver) (i : ℕ) (old : Setting) (executed : Executed)
     (new : Setting) : Type 0 where
   pub item : FetchedItem
-  pub response : Response
+  pub execution : RequestExecution
   pub found : slice_get (mailbox d old.controller).fetched i ≡ Some item
-  pub answers : Answers tells old.controller.cntlid item (record { world = old.world; device = old.device }) response
-  pub gives : executed ≡ Posted response.outcome
+  pub answers : RequestComesTo tells old.controller.cntlid item (record { world = old.world; device = old.device })
+      execution
+  pub gives : executed ≡ Posted execution.outcome
   pub sound : Sound d new.controller
-  pub mail : mailbox d new.controller ≡ after_answer i item response (mailbox d old.controller)
-  pub world : new.world ≡ response.left.world
-  pub device : new.device ≡ response.left.device
+  pub mail : mailbox d new.controller ≡ after_answer i item execution (mailbox d old.controller)
+  pub world : new.world ≡ execution.left.world
+  pub device : new.device ≡ execution.left.device
 
 abbrev pub IoExecutionIsAStep : Type 0
 IoExecutionIsAStep =

@@ -2,6 +2,7 @@
 
 ghost use Rattle.std.specs.Prelude.{◌≡◌, ◌≤◌, ◌+◌, ◌-◌, length};
 ghost use Rattle.nvme_spec.specs.Limits.{most_bytes};
+ghost use Rattle.nvme_event.specs.Bare.{seen_of};
 ghost use Rattle.nvme_event.specs.Replies.{data_len};
 ghost use Rattle.nvme_fleet.specs.Deeds.{Does, DoesIfAny};
 ghost use Rattle.nvme_fleet.specs.FleetStates.{IsCalled, SoundBy, reaction_to, reply_in};
@@ -12,7 +13,7 @@ ghost use Rattle.nvme_fleet.specs.Steps.{IsStep};
 use crate::link::Link;
 use crate::member;
 use nvme_driver::{Driver, Request};
-use nvme_event::FleetSeen;
+use nvme_event::BareFleetSeen;
 use nvme_medium::Medium;
 use nvme_subsys::Subsystem;
 
@@ -38,27 +39,27 @@ fn deliver_over<M: Medium>(
     link: &mut Link<'_, M>,
     buffer: &mut [u8],
     call: DriverCall<'_>,
-) -> FleetSeen
+) -> BareFleetSeen
     requires there { Reaches link.old.state }
     requires sound { Sound driver.old (linked_controller link.old.state) }
     requires room { most_bytes ≤ length buffer.old }
     ensures step { IsStep (reaction_to call.entry (mailbox driver.old (linked_controller link.old.state))) driver.new
-        (linked_controller link.new.state) (reply_in result buffer.new) }
-    ensures below { Does M.tells (link.old.state.place + 1) call.entry driver.old link.old.state.subsystem result
-        driver.new link.new.state.subsystem }
-    ensures fits { data_len result ≤ length buffer.new }
+        (linked_controller link.new.state) (reply_in (seen_of result) buffer.new) }
+    ensures below { Does M.tells (link.old.state.place + 1) call.entry driver.old link.old.state.subsystem
+        (seen_of result) driver.new link.new.state.subsystem }
+    ensures fits { data_len (seen_of result) ≤ length buffer.new }
     ensures site { KeepsSite link.old.state link.new.state }
     ensures medium { link.new.medium ≡ link.old.medium }
     ensures name { link.new.state.name ≡ link.old.state.name }
 {
     match call {
-        DriverCall::BringUp => FleetSeen::Up(member::bring_up(driver, link)),
-        DriverCall::Place(request) => FleetSeen::Placed(member::place(driver, link, &request)),
-        DriverCall::Ring => FleetSeen::Rung(member::ring(driver, link)),
-        DriverCall::Poll => FleetSeen::Polled(member::poll(driver, link, buffer)),
+        DriverCall::BringUp => BareFleetSeen::Up(member::bring_up(driver, link)),
+        DriverCall::Place(request) => BareFleetSeen::Placed(member::place(driver, link, &request)),
+        DriverCall::Ring => BareFleetSeen::Rung(member::ring(driver, link)),
+        DriverCall::Poll => BareFleetSeen::Polled(member::poll(driver, link, buffer)),
         DriverCall::Reset => {
             member::reset(driver, link);
-            FleetSeen::Reset
+            BareFleetSeen::Reset
         }
     }
 }
@@ -71,16 +72,16 @@ fn deliver_at<M: Medium>(
     cntlid: u16,
     buffer: &mut [u8],
     call: DriverCall<'_>,
-) -> FleetSeen
+) -> BareFleetSeen
     requires there { IsThere subsystem.old.state cntlid }
     requires named { (controller_in subsystem.old.state (cntlid - 1)).cntlid ≡ cntlid }
     requires sound { Sound driver.old (controller_in subsystem.old.state (cntlid - 1)) }
     requires room { most_bytes ≤ length buffer.old }
     ensures step { IsStep (reaction_to call.entry (mailbox driver.old (controller_in subsystem.old.state (cntlid - 1))))
-        driver.new (controller_in subsystem.new.state (cntlid - 1)) (reply_in result buffer.new) }
-    ensures below { Does M.tells cntlid call.entry driver.old subsystem.old.state result driver.new
+        driver.new (controller_in subsystem.new.state (cntlid - 1)) (reply_in (seen_of result) buffer.new) }
+    ensures below { Does M.tells cntlid call.entry driver.old subsystem.old.state (seen_of result) driver.new
         subsystem.new.state }
-    ensures fits { data_len result ≤ length buffer.new }
+    ensures fits { data_len (seen_of result) ≤ length buffer.new }
     ensures world { subsystem.new.state.world ≡ subsystem.old.state.world }
     ensures device { subsystem.new.state.device ≡ subsystem.old.state.device }
     ensures medium { subsystem.new.medium ≡ subsystem.old.medium }
@@ -104,16 +105,16 @@ pub(crate) fn deliver<M: Medium>(
     cntlid: u16,
     buffer: &mut [u8],
     call: DriverCall<'_>,
-) -> FleetSeen
+) -> BareFleetSeen
     requires there { IsThere subsystem.old.state cntlid }
     requires named { (controller_in subsystem.old.state (cntlid - 1)).cntlid ≡ cntlid }
     requires sound { SoundBy driver.old (controller_in subsystem.old.state (cntlid - 1)) }
     requires room { most_bytes ≤ length buffer.old }
     ensures called { IsCalled driver.old (controller_in subsystem.old.state (cntlid - 1)) call.entry driver.new
-        (controller_in subsystem.new.state (cntlid - 1)) (reply_in result buffer.new) }
-    ensures below { DoesIfAny M.tells cntlid call.entry driver.old subsystem.old.state result driver.new
+        (controller_in subsystem.new.state (cntlid - 1)) (reply_in (seen_of result) buffer.new) }
+    ensures below { DoesIfAny M.tells cntlid call.entry driver.old subsystem.old.state (seen_of result) driver.new
         subsystem.new.state }
-    ensures fits { data_len result ≤ length buffer.new }
+    ensures fits { data_len (seen_of result) ≤ length buffer.new }
     ensures world { subsystem.new.state.world ≡ subsystem.old.state.world }
     ensures device { subsystem.new.state.device ≡ subsystem.old.state.device }
     ensures medium { subsystem.new.medium ≡ subsystem.old.medium }
@@ -121,6 +122,6 @@ pub(crate) fn deliver<M: Medium>(
 {
     match driver {
         Some(driver) => deliver_at(driver, subsystem, cntlid, buffer, call),
-        None => FleetSeen::NoDriver,
+        None => BareFleetSeen::NoDriver,
     }
 }

@@ -10,6 +10,10 @@ ghost use Rattle.nvme_spec.specs.World.{namespace_of};
 ghost use Rattle.nvme_subsys.specs.Looking.{Looks, LooksBy, place_in};
 ghost use Rattle.nvme_ns.specs.Configured.{configuration};
 ghost use Rattle.nvme_machine.specs.Subsystems.{controller_at, controller_of};
+ghost use Rattle.nvme_spec.specs.Execution.{no_marks};
+ghost use Rattle.nvme_machine.specs.Bare as machine;
+ghost use Rattle.nvme_spec.specs.declared.outcome.Marks.{Marks};
+ghost use Rattle.nvme_event.specs.Bare.{marks_by, seen_of, seen_with};
 ghost use Rattle.nvme_event.specs.Replies.{data_len};
 ghost use Rattle.nvme_event.specs.declared.seen.FleetSeen.TheVariants.{Cycled};
 ghost use Rattle.nvme_fleet.specs.FleetStates.{fleet_of, layers_of, opening_layers, data_in, reply_in, reaction_to};
@@ -24,11 +28,11 @@ use crate::opening::{fault_of, rooms_of};
 use crate::power::reset_all;
 use nvme_ctrl::Controller;
 use nvme_driver::Driver;
-use nvme_event::{FleetEvent, FleetSeen};
-use nvme_machine::{Event, Seen};
+use nvme_event::{BareFleetSeen, FleetEvent, FleetSeen};
+use nvme_machine::{BareSeen, Event};
 use nvme_medium::Medium;
 use nvme_ns::Spaces;
-use nvme_spec::{Config, MediumFault};
+use nvme_spec::{Config, Marks, MediumFault};
 use nvme_subsys::{NewFault, Subsystem};
 use nvme_wire::NoMemory;
 use std::alloc::Global;
@@ -72,17 +76,18 @@ impl<M: Medium> Model for Fleet<M> {
 
 /// What an event of the subsystem gives to see at a fleet, where no event reads a register.
 #[inline(always)]
-fn told(seen: Seen) -> FleetSeen
-    ensures { result ≡ told_of seen }
+fn told(seen: BareSeen) -> BareFleetSeen
+    ensures seen { (marks : Marks) → seen_with marks result ≡ told_of (machine.seen_with marks seen) }
+    ensures marks { (marks : Marks) → marks_by result marks ≡ machine.marks_by seen marks }
 {
     match seen {
-        Seen::Stored => FleetSeen::Stored,
-        Seen::Outside => FleetSeen::Outside,
-        Seen::Wrote | Seen::Value(_) => FleetSeen::Wrote,
-        Seen::Fetched(fetched) => FleetSeen::Fetched(fetched),
-        Seen::Executed(executed) => FleetSeen::Executed(executed),
-        Seen::Cycled => FleetSeen::Cycled,
-        Seen::NoController => FleetSeen::NoController,
+        BareSeen::Stored => BareFleetSeen::Stored,
+        BareSeen::Outside => BareFleetSeen::Outside,
+        BareSeen::Wrote | BareSeen::Value(_) => BareFleetSeen::Wrote,
+        BareSeen::Fetched(fetched) => BareFleetSeen::Fetched(fetched),
+        BareSeen::Executed(executed) => BareFleetSeen::Executed(executed),
+        BareSeen::Cycled => BareFleetSeen::Cycled,
+        BareSeen::NoController => BareFleetSeen::NoController,
     }
 }
 
@@ -149,16 +154,16 @@ impl<M: Medium> Fleet<M> {
 
     /// A call of a host's driver.
     #[inline(always)]
-    fn deliver(&mut self, cntlid: u16, call: DriverCall<'_>) -> FleetSeen
+    fn deliver(&mut self, cntlid: u16, call: DriverCall<'_>) -> BareFleetSeen
         ensures step { Is (called (fleet_of self.old.state) cntlid (reaction_to call.entry))
-            (reply_in result self.new.state.buffer) (fleet_of self.new.state) }
+            (reply_in (seen_of result) self.new.state.buffer) (fleet_of self.new.state) }
         ensures below { CallsAt (driver_at self.old.state.drivers cntlid) M.tells (layers_of self.old.state) cntlid
-            call.entry result (layers_of self.new.state) }
+            call.entry (seen_of result) (layers_of self.new.state) }
         ensures medium { self.new.medium ≡ self.old.medium }
-        ensures fits { data_len result ≤ length self.new.state.buffer }
+        ensures fits { data_len (seen_of result) ≤ length self.new.state.buffer }
     {
         let Some(place) = self.place_of(cntlid) else {
-            return FleetSeen::NoController;
+            return BareFleetSeen::NoController;
         };
         deliver(
             &mut self.drivers[place],
@@ -173,119 +178,123 @@ impl<M: Medium> Fleet<M> {
     // Not inlined, nor are raw events: the compiler drops the hint from a function that would grow very large, and
     // `happen`, which calls them, would.
     #[inline(never)]
-    fn fetch(&mut self, cntlid: u16, qid: u16) -> FleetSeen
+    fn fetch(&mut self, cntlid: u16, qid: u16) -> BareFleetSeen
         ensures step { Is (fetched_at (host_at (fleet_of self.old.state) cntlid) (fleet_of self.old.state) cntlid qid)
-            (reply_in result self.new.state.buffer) (fleet_of self.new.state) }
-        ensures below { Applies M.tells (layers_of self.old.state) (Event.Fetch cntlid qid) result
+            (reply_in (seen_of result) self.new.state.buffer) (fleet_of self.new.state) }
+        ensures below { Applies M.tells (layers_of self.old.state) (Event.Fetch cntlid qid) (seen_of result)
             (layers_of self.new.state) }
         ensures medium { self.new.medium ≡ self.old.medium }
-        ensures fits { data_len result ≤ length self.new.state.buffer }
+        ensures fits { data_len (seen_of result) ≤ length self.new.state.buffer }
     {
-        // Asked first, so that the compiler knows what a fetch may give, and carries no room for an execution's
-        // outcome.
+        // Asked first, as a step of the mailboxes does.
         let Some(_place) = self.place_of(cntlid) else {
-            return FleetSeen::NoController;
+            return BareFleetSeen::NoController;
         };
-        told(self.subsystem.apply(Event::Fetch(cntlid, qid)))
+        told(self.subsystem.react(Event::Fetch(cntlid, qid)))
     }
 
     /// An execution of a controller, and what it marks.
     #[inline(always)]
-    fn execute(&mut self, cntlid: u16, i: usize) -> FleetSeen
+    fn execute(&mut self, cntlid: u16, i: usize, marks: &mut Marks) -> BareFleetSeen
+        requires unmarked { marks.old ≡ no_marks }
         ensures step { ExecutesAt (host_at (fleet_of self.old.state) cntlid) M.tells (fleet_of self.old.state) cntlid i
-            (reply_in result self.new.state.buffer) (fleet_of self.new.state) }
-        ensures below { Applies M.tells (layers_of self.old.state) (Event.Execute cntlid i) result
+            (reply_in (seen_with marks.new result) self.new.state.buffer) (fleet_of self.new.state) }
+        ensures below { Applies M.tells (layers_of self.old.state) (Event.Execute cntlid i) (seen_with marks.new result)
             (layers_of self.new.state) }
         ensures calls { MakesCalls M.step (AppliesCalling M.tells (layers_of self.old.state) (Event.Execute cntlid i)
-            result (layers_of self.new.state)) self.old.medium self.new.medium }
-        ensures fits { data_len result ≤ length self.new.state.buffer }
+            (seen_with marks.new result) (layers_of self.new.state)) self.old.medium self.new.medium }
+        ensures marks { marks.new ≡ marks_by result marks.new }
+        ensures fits { data_len (seen_with marks.new result) ≤ length self.new.state.buffer }
     {
         let Some(_place) = self.place_of(cntlid) else {
-            return FleetSeen::NoController;
+            return BareFleetSeen::NoController;
         };
-        told(self.subsystem.apply(Event::Execute(cntlid, i)))
+        told(self.subsystem.execute_marking(cntlid, i, marks))
     }
 
     /// A store or a register write of a raw host.
     #[inline(always)]
-    fn apply_raw(&mut self, cntlid: u16, event: Event<'_>) -> FleetSeen
+    fn apply_raw(&mut self, cntlid: u16, event: Event<'_>) -> BareFleetSeen
         requires own { controller_of event ≡ cntlid }
         requires host { IsOfHost event }
-        ensures step { Is (raw_moment (fleet_of self.old.state) event.entry) (reply_in result self.new.state.buffer)
-            (fleet_of self.new.state) }
+        ensures step { Is (raw_moment (fleet_of self.old.state) event.entry)
+            (reply_in (seen_of result) self.new.state.buffer) (fleet_of self.new.state) }
         ensures below { AppliesRaw (driver_at self.old.state.drivers cntlid) M.tells (layers_of self.old.state)
-            event.entry result (layers_of self.new.state) }
+            event.entry (seen_of result) (layers_of self.new.state) }
         ensures medium { self.new.medium ≡ self.old.medium }
-        ensures fits { data_len result ≤ length self.new.state.buffer }
+        ensures fits { data_len (seen_of result) ≤ length self.new.state.buffer }
     {
         let Some(place) = self.place_of(cntlid) else {
-            return FleetSeen::NoController;
+            return BareFleetSeen::NoController;
         };
         if self.drivers[place].is_some() {
-            return FleetSeen::NotRaw;
+            return BareFleetSeen::NotRaw;
         }
-        told(self.subsystem.apply(event))
+        told(self.subsystem.react(event))
     }
 
     /// A store of a raw host.
-    // It and the next stand apart from one another, so that the compiler knows of each what the subsystem may give, and
-    // carries no room for an execution's outcome.
+    // It and the next stand apart from one another, so that the compiler knows of each what the subsystem may give.
     #[inline(never)]
-    fn store_raw(&mut self, cntlid: u16, address: u64, bytes: &[u8]) -> FleetSeen
+    fn store_raw(&mut self, cntlid: u16, address: u64, bytes: &[u8]) -> BareFleetSeen
         ensures step { Is (raw_moment (fleet_of self.old.state) (Event.Store cntlid address bytes.entry))
-            (reply_in result self.new.state.buffer) (fleet_of self.new.state) }
+            (reply_in (seen_of result) self.new.state.buffer) (fleet_of self.new.state) }
         ensures below { AppliesRaw (driver_at self.old.state.drivers cntlid) M.tells (layers_of self.old.state)
-            (Event.Store cntlid address bytes.entry) result (layers_of self.new.state) }
+            (Event.Store cntlid address bytes.entry) (seen_of result) (layers_of self.new.state) }
         ensures medium { self.new.medium ≡ self.old.medium }
-        ensures fits { data_len result ≤ length self.new.state.buffer }
+        ensures fits { data_len (seen_of result) ≤ length self.new.state.buffer }
     {
         self.apply_raw(cntlid, Event::Store(cntlid, address, bytes))
     }
 
     /// A register write of a raw host.
     #[inline(never)]
-    fn write_raw(&mut self, cntlid: u16, offset: u64, value: u32) -> FleetSeen
+    fn write_raw(&mut self, cntlid: u16, offset: u64, value: u32) -> BareFleetSeen
         ensures step { Is (raw_moment (fleet_of self.old.state) (Event.Write32 cntlid offset value))
-            (reply_in result self.new.state.buffer) (fleet_of self.new.state) }
+            (reply_in (seen_of result) self.new.state.buffer) (fleet_of self.new.state) }
         ensures below { AppliesRaw (driver_at self.old.state.drivers cntlid) M.tells (layers_of self.old.state)
-            (Event.Write32 cntlid offset value) result (layers_of self.new.state) }
+            (Event.Write32 cntlid offset value) (seen_of result) (layers_of self.new.state) }
         ensures medium { self.new.medium ≡ self.old.medium }
-        ensures fits { data_len result ≤ length self.new.state.buffer }
+        ensures fits { data_len (seen_of result) ≤ length self.new.state.buffer }
     {
         self.apply_raw(cntlid, Event::Write32(cntlid, offset, value))
     }
 
     /// Power is lost in the subsystem, and comes back; then each driver resets its controller.
     #[inline(never)]
-    fn power_cycle(&mut self) -> FleetSeen
+    fn power_cycle(&mut self) -> BareFleetSeen
         ensures step { Is (moment (power_cycled (fleet_of self.old.state)) Cycled)
-            (reply_in result self.new.state.buffer) (fleet_of self.new.state) }
-        ensures below { Cycles M.tells (layers_of self.old.state) result (layers_of self.new.state) }
+            (reply_in (seen_of result) self.new.state.buffer) (fleet_of self.new.state) }
+        ensures below { Cycles M.tells (layers_of self.old.state) (seen_of result) (layers_of self.new.state) }
         ensures medium { self.new.medium ≡ self.old.medium }
-        ensures fits { data_len result ≤ length self.new.state.buffer }
+        ensures fits { data_len (seen_of result) ≤ length self.new.state.buffer }
     {
-        self.subsystem.apply(Event::PowerCycle);
+        self.subsystem.react(Event::PowerCycle);
         reset_all(&mut self.drivers, &mut self.subsystem);
-        FleetSeen::Cycled
+        BareFleetSeen::Cycled
     }
 
     /// One event of the host that it names, or of all; where there is no such controller, or its host is of the other
     /// kind, nothing happens.
+    #[tactic(auto, using(nvme_event::proofs::Unmarked::nothing_marked))]
     #[inline(always)]
-    fn happen(&mut self, event: FleetEvent<'_>) -> FleetSeen
-        ensures step { Step M.tells (fleet_of self.old.state) event.entry (reply_in result self.new.state.buffer)
-            (fleet_of self.new.state) }
-        ensures below { Happens M.tells (layers_of self.old.state) event.entry result (layers_of self.new.state) }
-        ensures calls { MakesCalls M.step (HappensCalling M.tells (layers_of self.old.state) event.entry result
-            (layers_of self.new.state)) self.old.medium self.new.medium }
-        ensures fits { data_len result ≤ length self.new.state.buffer }
+    fn happen(&mut self, event: FleetEvent<'_>, marks: &mut Marks) -> BareFleetSeen
+        requires unmarked { marks.old ≡ no_marks }
+        ensures step { Step M.tells (fleet_of self.old.state) event.entry
+            (reply_in (seen_with marks.new result) self.new.state.buffer) (fleet_of self.new.state) }
+        ensures below { Happens M.tells (layers_of self.old.state) event.entry (seen_with marks.new result)
+            (layers_of self.new.state) }
+        ensures calls { MakesCalls M.step (HappensCalling M.tells (layers_of self.old.state) event.entry
+            (seen_with marks.new result) (layers_of self.new.state)) self.old.medium self.new.medium }
+        ensures marks { marks.new ≡ marks_by result marks.new }
+        ensures fits { data_len (seen_with marks.new result) ≤ length self.new.state.buffer }
     {
         match event {
             FleetEvent::BringUp(cntlid) => self.deliver(cntlid, DriverCall::BringUp),
             FleetEvent::Place(cntlid, request) => self.deliver(cntlid, DriverCall::Place(request)),
             FleetEvent::Ring(cntlid) => self.deliver(cntlid, DriverCall::Ring),
             FleetEvent::Fetch(cntlid, qid) => self.fetch(cntlid, qid),
-            FleetEvent::Execute(cntlid, i) => self.execute(cntlid, i),
+            FleetEvent::Execute(cntlid, i) => self.execute(cntlid, i, marks),
             FleetEvent::Poll(cntlid) => self.deliver(cntlid, DriverCall::Poll),
             FleetEvent::Reset(cntlid) => self.deliver(cntlid, DriverCall::Reset),
             FleetEvent::RawStore(cntlid, address, bytes) => {
@@ -301,7 +310,6 @@ impl<M: Medium> Fleet<M> {
     /// One event: the step of the fleet of mailboxes, and exactly these events of the subsystem. One that is refused,
     /// or finds nothing to do, leaves both layers as they were. An execution makes the calls of the medium that its
     /// command makes, and no other event makes any.
-    // Inlined, so that what an event gave, which has room for an execution's outcome, is not moved once more.
     #[inline(always)]
     pub fn apply(&mut self, event: FleetEvent<'_>) -> FleetSeen
         ensures step { Step M.tells (fleet_of self.old.state) event.entry
@@ -310,7 +318,25 @@ impl<M: Medium> Fleet<M> {
         ensures calls { MakesCalls M.step (HappensCalling M.tells (layers_of self.old.state) event.entry result
             (layers_of self.new.state)) self.old.medium self.new.medium }
     {
-        let seen = self.happen(event);
+        let mut marks = Marks::none();
+        let seen = self.apply_marking(event, &mut marks);
+        seen.with(marks)
+    }
+
+    /// One event as `apply` has it. What an execution marks comes to stand in `marks`, which is empty before: it has
+    /// room for sixteen hosts, and each move of it costs.
+    #[inline(always)]
+    pub fn apply_marking(&mut self, event: FleetEvent<'_>, marks: &mut Marks) -> BareFleetSeen
+        requires unmarked { marks.old ≡ no_marks }
+        ensures step { Step M.tells (fleet_of self.old.state) event.entry
+            (record { seen = seen_with marks.new result; bytes = data_in self.new.state }) (fleet_of self.new.state) }
+        ensures below { Happens M.tells (layers_of self.old.state) event.entry (seen_with marks.new result)
+            (layers_of self.new.state) }
+        ensures calls { MakesCalls M.step (HappensCalling M.tells (layers_of self.old.state) event.entry
+            (seen_with marks.new result) (layers_of self.new.state)) self.old.medium self.new.medium }
+        ensures marks { marks.new ≡ marks_by result marks.new }
+    {
+        let seen = self.happen(event, marks);
         self.filled = seen.data_len();
         seen
     }

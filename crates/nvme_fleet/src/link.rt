@@ -5,7 +5,7 @@ ghost use Rattle.nvme_spec.specs.Memory.{window_size};
 ghost use Rattle.nvme_fleet.specs.Linked.{linked_controller};
 
 use nvme_driver::Port;
-use nvme_machine::{Event, Seen};
+use nvme_machine::{BareSeen, Event};
 use nvme_medium::Medium;
 use nvme_mem::Window;
 use nvme_spec::Piece;
@@ -64,13 +64,13 @@ impl<M: Medium> Port for Link<'_, M> {
     #[inline(always)]
     fn store(&mut self, addr: u64, part: &[u8]) {
         self.is_whole();
-        self.subsystem.apply(Event::Store(self.cntlid, addr, part));
+        self.subsystem.react(Event::Store(self.cntlid, addr, part));
     }
 
     #[inline(always)]
     fn read32(&mut self, offset: u64) -> u32 {
-        match self.subsystem.apply(Event::Read32(self.cntlid, offset)) {
-            Seen::Value(value) => value,
+        match self.subsystem.react(Event::Read32(self.cntlid, offset)) {
+            BareSeen::Value(value) => value,
             _ => unreachable!(),
         }
     }
@@ -78,7 +78,7 @@ impl<M: Medium> Port for Link<'_, M> {
     #[inline(always)]
     fn write32(&mut self, offset: u64, value: u32) {
         self.subsystem
-            .apply(Event::Write32(self.cntlid, offset, value));
+            .react(Event::Write32(self.cntlid, offset, value));
     }
 
     fn turn(&mut self) {

@@ -2,18 +2,16 @@
 
 ghost use Rattle.std.specs.Prelude.{◌≡◌, map, replicate, IfOk, unwrap_or};
 ghost use Rattle.nvme_spec.specs.Configuration.{first_config_fault};
+ghost use Rattle.nvme_spec.specs.Limits.{most_bytes};
 ghost use Rattle.nvme_spec.specs.declared.config.ConfigFault.TheVariants.{NoMemory as WantOfMemory};
 ghost use Rattle.nvme_ns.specs.Configured.{configuration};
 ghost use Rattle.nvme_fleet.specs.FleetStates.{opening_driver};
 
 use nvme_driver::Driver;
 use nvme_ns::Spaces;
-use nvme_spec::{Config, ConfigFault, ControllerConfig};
+use nvme_spec::{Config, ConfigFault, ControllerConfig, MOST_BYTES};
 use nvme_wire::NoMemory;
 use std::alloc::Global;
-
-/// How many bytes of data a request moves at most.
-pub(crate) const MOST_BYTES: usize = 131_072;
 
 /// What a fleet asks memory for beside its subsystem: the driver of each controller's host, and room for the data of an
 /// event.
@@ -56,7 +54,7 @@ fn drivers_of(alloc: Global, configs: &[ControllerConfig]) -> Result<Vec<Option<
 /// `NoMemory` where the allocator has no room for it.
 pub(crate) fn rooms_of(alloc: Global, configs: &[ControllerConfig]) -> Result<Rooms, NoMemory>
     ensures drivers { IfOk result (λ rooms. rooms.drivers.items ≡ map opening_driver configs.now) }
-    ensures buffer { IfOk result (λ rooms. rooms.buffer.items ≡ replicate 131072 0) }
+    ensures buffer { IfOk result (λ rooms. rooms.buffer.items ≡ replicate most_bytes 0) }
 {
     Ok(Rooms {
         drivers: drivers_of(alloc, configs)?,

@@ -8,9 +8,9 @@ ghost use Rattle.nvme_fleet.specs.LayerCalls.{AreCallsOfStep};
 ghost use Rattle.nvme_fleet.specs.Running.{RunsBehind, RunsInPart, room_for};
 
 use crate::fleet::Fleet;
-use crate::opening::MOST_BYTES;
 use nvme_event::{FleetEvent, Reply};
 use nvme_medium::Medium;
+use nvme_spec::MOST_BYTES;
 use nvme_wire::NoMemory;
 use std::alloc::Global;
 

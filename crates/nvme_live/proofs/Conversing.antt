@@ -19,7 +19,7 @@ use Rattle.nvme_live.specs.declared.asking.Asked.{Asked}
 use Rattle.nvme_live.specs.declared.asking.Asked.TheVariants.{Fails, Sets}
 use Rattle.nvme_live.specs.declared.setting.Settled.{Settled}
 use Rattle.nvme_live.specs.declared.setting.Settled.TheVariants as settled
-use Rattle.nvme_live.specs.Answers.{Answers, Answered}
+use Rattle.nvme_live.specs.Answers.{Sends, AnswersLine}
 use Rattle.nvme_live.specs.Asking.{asked}
 use Rattle.nvme_live.specs.Saying.{Breaks, with_feed}
 use Rattle.nvme_live.specs.Settling.{Comes, SettlesAlike}
@@ -140,24 +140,24 @@ module _ (tells : Bool) (blocks : ℕ) (d : Device) (k : ℕ) (c0 c1 c2 : SetUp)
   came-to-fault Read q = absurd q
 
 -- A line behind it.
-said-from : {T E : Type 0} (r : Result T E) (Of : List ℕ → Type 0) (y z : Option (List ℕ)) → is_err r ≡ false → Answers r Of y z → (answer : List ℕ) × Of answer × Appends y z answer
+said-from : {T E : Type 0} (r : Result T E) (Of : List ℕ → Type 0) (y z : Option (List ℕ)) → is_err r ≡ false → Sends r Of y z → (answer : List ℕ) × Of answer × Appends y z answer
 said-from (Ok x) Of y z e h = h
 said-from (Err x) Of y z e h = absurd (false≢true (sym e))
 
-broke-from : {T E : Type 0} (r : Result T E) (Of : List ℕ → Type 0) (y z : Option (List ℕ)) → is_err r ≡ true → Answers r Of y z → (answer : List ℕ) × Of answer × Breaks y z answer
+broke-from : {T E : Type 0} (r : Result T E) (Of : List ℕ → Type 0) (y z : Option (List ℕ)) → is_err r ≡ true → Sends r Of y z → (answer : List ℕ) × Of answer × Breaks y z answer
 broke-from (Ok x) Of y z e h = absurd (false≢true e)
 broke-from (Err x) Of y z e h = h
 
 module _ {T E : Type 0} (r : Result T E) (tells : Bool) (blocks : ℕ) (d : Device) (first k : ℕ) (l0 l1 l2 : Layers) (u v x y : Option (List ℕ)) (h : Converses tells blocks d first (Running l0) k (Running l1) u v x y)
-    (w z : Option (List ℕ)) (line : List ℕ) (asks : Asked) (reads : ReadsLine true v w line) (is : asks ≡ asked line) (answers : Answers r (λ answer. Answered tells k asks l1 answer l2) y z) where
+    (w z : Option (List ℕ)) (line : List ℕ) (asks : Asked) (reads : ReadsLine true v w line) (is : asks ≡ asked line) (answers : Sends r (λ answer. AnswersLine tells k asks l1 answer l2) y z) where
   pub ran-answered : is_err r ≡ false → Converses tells blocks d first (Running l0) (k + 1) (Running l2) u w x z
   ran-answered ok =
-      let said = said-from r (λ answer. Answered tells k asks l1 answer l2) y z ok answers in
+      let said = said-from r (λ answer. AnswersLine tells k asks l1 answer l2) y z ok answers in
       line-more tells blocks d (Running l0) (Running l1) first k u v x y h w z line asks reads is (Running l2) said.0 (l2, said.1, refl) said.2
 
   pub ran-broken : is_err r ≡ true → BreaksOff tells blocks d first (Running l0) (Running l2) u w x z
   ran-broken err =
-      let broke = broke-from r (λ answer. Answered tells k asks l1 answer l2) y z err answers in
+      let broke = broke-from r (λ answer. AnswersLine tells k asks l1 answer l2) y z err answers in
       line-broke tells blocks d (Running l0) (Running l1) first k u v x y h w z line asks reads is (Running l2) broke.0 (l2, broke.1, refl) broke.2
 
 -- a fault of reading

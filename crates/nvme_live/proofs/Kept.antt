@@ -21,7 +21,7 @@ use Rattle.live_text.specs.declared.looking.Looking.TheVariants as look
 use Rattle.live_text.specs.declared.fault.Why.TheVariants.{TooLong, MediumFailed}
 use Rattle.nvme_live.specs.declared.asking.Asked.{Asked}
 use Rattle.nvme_live.specs.declared.asking.Asked.TheVariants.{Fails, Nothing, Looks, Sets, Does}
-use Rattle.nvme_live.specs.Answers.{Answered, Shows, ShowsBlocks, place_of}
+use Rattle.nvme_live.specs.Answers.{AnswersLine, Shows, ShowsBlocks, place_of}
 use Rattle.nvme_live.specs.Asking.{asked, line_asked, look_asked}
 use Rattle.nvme_live.specs.Standings.{Standing, Running, Session}
 use Rattle.nvme_live.specs.Keeping.{Looked, LooksWell, RunsOn, KeptLinesRunAmidLooks, KeptLinesAreARun, KeptLinesTranscribe, bytes_if, event_answers, is_block_look, is_event, is_kept, is_refusal, kept_lines, line_if, LookWell, RunAmidLooks}
@@ -255,7 +255,7 @@ module _ (tells : Bool) (Ran : Layers → List FleetEvent → List Reply → Lay
   look-ran n line answer (look.Fetched k) old new e fine h = same-ran old new h.1
   look-ran n line answer (look.Blocks m slba count) old new e fine h = is.glance n line answer m slba count old new e fine h
 
-  line-adds : (n : ℕ) (old : Layers) (line answer : List ℕ) (new : Layers) (q : Asked) → asked line ≡ q → Fine n line answer → Answered tells n q old answer new → AddsNothing Ran old line answer new ⊎ AddsEvent Ran old line answer new
+  line-adds : (n : ℕ) (old : Layers) (line answer : List ℕ) (new : Layers) (q : Asked) → asked line ≡ q → Fine n line answer → AnswersLine tells n q old answer new → AddsNothing Ran old line answer new ⊎ AddsEvent Ran old line answer new
   line-adds n old line answer new (Fails why) e fine h = inl (record { ran = same-ran old new h.1; which = inl (refused-line line answer (ap is_refusal h.0)) })
   line-adds n old line answer new Nothing e fine h = inl (record { ran = same-ran old new h.1; which = silent-line line answer e (ap is_refusal h.0) })
   line-adds n old line answer new (Looks looking) e fine h = inl (record { ran = look-ran n line answer looking old new e fine h; which = inl (looking-line line answer (looks-look line looking e)) })

@@ -26,7 +26,7 @@ use Rattle.live_text.specs.declared.looking.Looking.{Looking}
 use Rattle.live_text.specs.declared.looking.Looking.TheVariants as look
 use Rattle.nvme_live.specs.declared.asking.Asked.{Asked}
 use Rattle.nvme_live.specs.declared.asking.Asked.TheVariants.{Fails, Nothing, Looks, Sets, Does}
-use Rattle.nvme_live.specs.Answers.{Answered, LooksAtBlocks, Shows, ShowsBlocks, place_of}
+use Rattle.nvme_live.specs.Answers.{AnswersLine, LooksAtBlocks, Shows, ShowsBlocks, place_of}
 use Rattle.nvme_live.specs.Asking.{asked}
 use Rattle.nvme_live.specs.Keeping.{is_block_look}
 use Rattle.nvme_live.specs.Saying.{with_feed}
@@ -67,7 +67,7 @@ shows-rises tells n (look.Queues k) old new answer h = same-rises _ _ (ap failin
 shows-rises tells n (look.Fetched k) old new answer h = same-rises _ _ (ap failing h.1)
 shows-rises tells n (look.Blocks m slba count) old new answer h = (looked-at tells n m slba count old new answer (place_of m slba count old) h).count
 
-answered-rises : (tells : Bool) (n : ℕ) (q : Asked) (old new : Layers) (answer : List ℕ) → Answered tells n q old answer new → old.subsystem.device.failures ≤ new.subsystem.device.failures
+answered-rises : (tells : Bool) (n : ℕ) (q : Asked) (old new : Layers) (answer : List ℕ) → AnswersLine tells n q old answer new → old.subsystem.device.failures ≤ new.subsystem.device.failures
 answered-rises tells n (Fails why) old new answer h = same-rises _ _ (ap failing h.1)
 answered-rises tells n Nothing old new answer h = same-rises _ _ (ap failing h.1)
 answered-rises tells n (Looks looking) old new answer h = shows-rises tells n looking old new answer h
@@ -147,7 +147,7 @@ module _ (n : ℕ) (old new other : Layers) (a b : List ℕ) (x : new.subsystem.
   shows-alike (look.Fetched i) h k = alike a b _ new other old h k
   shows-alike (look.Blocks m slba count) h k = blocks-alike m slba count (place_of m slba count old) h k
 
-  answered-alike : HaveTicketsOnce old → (q : Asked) → Answered true n q old a new → Answered true n q old b other → Alike a b new other
+  answered-alike : HaveTicketsOnce old → (q : Asked) → AnswersLine true n q old a new → AnswersLine true n q old b other → Alike a b new other
   answered-alike once (Fails why) h k = alike a b _ new other old h k
   answered-alike once Nothing h k = alike a b _ new other old h k
   answered-alike once (Looks looking) h k = shows-alike looking h k
@@ -202,7 +202,7 @@ shows-same n old new answer x below (look.Blocks m slba count) h = by (place_of 
     by None k = k.1
     by (Some first) k = (read-well n old new new answer answer x x below m slba count first new answer x k).1
 
-answered-once : (n : ℕ) (q : Asked) (old new : Layers) (answer : List ℕ) → Answered true n q old answer new → new.subsystem.device.failures ≡ old.subsystem.device.failures → old.subsystem.device.failures < 2 ^ 64 - 1 → HaveTicketsOnce old → HaveTicketsOnce new
+answered-once : (n : ℕ) (q : Asked) (old new : Layers) (answer : List ℕ) → AnswersLine true n q old answer new → new.subsystem.device.failures ≡ old.subsystem.device.failures → old.subsystem.device.failures < 2 ^ 64 - 1 → HaveTicketsOnce old → HaveTicketsOnce new
 answered-once n (Fails why) old new answer h x below once = subst HaveTicketsOnce (sym h.1) once
 answered-once n Nothing old new answer h x below once = subst HaveTicketsOnce (sym h.1) once
 answered-once n (Looks looking) old new answer h x below once = subst HaveTicketsOnce (sym (shows-same n old new answer x below looking h)) once
@@ -336,8 +336,8 @@ shows-somehow tells n (look.Fetched k) l none = (with_feed (shown_text n (look.F
 shows-somehow tells n (look.Blocks m slba count) l none = absurd (false≢true (sym none))
 
 module _ (tells : Bool) (blocks : ℕ) (d : Device) (n : ℕ) (old last : Layers) (line : List ℕ) (lines : List (List ℕ)) where
-  silently : (later : IsAnswered tells blocks d (n + 1) (Running old) lines (Running last)) (q : Asked) → asked line ≡ q → (answer : List ℕ) → Answered tells n q old answer old → IsAnswered tells blocks d n (Running old) (line ∷ lines) (Running last)
-  silently (answers, rest) q e answer h = (answer ∷ answers, (Running old, (old, subst (λ (r : Asked). Answered tells n r old answer old) (sym e) h, refl), rest))
+  silently : (later : IsAnswered tells blocks d (n + 1) (Running old) lines (Running last)) (q : Asked) → asked line ≡ q → (answer : List ℕ) → AnswersLine tells n q old answer old → IsAnswered tells blocks d n (Running old) (line ∷ lines) (Running last)
+  silently (answers, rest) q e answer h = (answer ∷ answers, (Running old, (old, subst (λ (r : Asked). AnswersLine tells n r old answer old) (sym e) h, refl), rest))
 
 -- a line before others, by what it asks
 module _ (tells : Bool) (blocks : ℕ) (d : Device) (n : ℕ) (last : Layers) (line : List ℕ) (lines : List (List ℕ))
@@ -352,7 +352,7 @@ module _ (tells : Bool) (blocks : ℕ) (d : Device) (n : ℕ) (last : Layers) (l
   asked-somehow old (Does event) e [] plain ran = absurd ran
   asked-somehow old (Does event) e (reply ∷ replies) plain (mid, step, rest) =
       let more = later mid replies rest in
-      (line_of event reply ∷ more.0, (Running mid, (mid, subst (λ (q : Asked). Answered tells n q old (line_of event reply) mid) (sym e) (record { reply = reply; step = step; says = refl }), refl), more.1))
+      (line_of event reply ∷ more.0, (Running mid, (mid, subst (λ (q : Asked). AnswersLine tells n q old (line_of event reply) mid) (sym e) (record { reply = reply; step = step; says = refl }), refl), more.1))
 
 pub lines_of_a_run_are_answered : LinesOfARunAreAnswered
 lines_of_a_run_are_answered tells blocks d n old last [] [] none ran = ([], ap Running ran)

@@ -9,17 +9,17 @@ use Rattle.std.specs.Io.KnownBytes.{Appends}
 use Rattle.nvme_fleet.specs.FleetStates.{Layers}
 use Rattle.live_text.specs.declared.looking.Looking.{Looking}
 use Rattle.live_text.specs.declared.looking.Looking.TheVariants as look
-use Rattle.nvme_live.specs.Answers.{Answers, Shows, ShowsBlocks, place_of}
+use Rattle.nvme_live.specs.Answers.{Sends, Shows, ShowsBlocks, place_of}
 use Rattle.nvme_live.specs.Saying.{Breaks, with_feed}
 use Rattle.nvme_live.specs.Showing.{read_text, shown_text}
 
 pub answers-by : {T E : Type 0} (result : Result T E) (Of : List ℕ → Type 0) (answer : List ℕ) (before after : Option (List ℕ))
-    → Of answer → OnOk result (Appends before after answer) → OnErr result (Breaks before after answer) → Answers result Of before after
+    → Of answer → OnOk result (Appends before after answer) → OnErr result (Breaks before after answer) → Sends result Of before after
 answers-by (Ok x) Of answer before after of ok err = (answer, of, ok)
 answers-by (Err e) Of answer before after of ok err = (answer, of, err)
 
 pub answers-map : {T E : Type 0} (result : Result T E) (Of Then : List ℕ → Type 0) (before after : Option (List ℕ))
-    → ((answer : List ℕ) → Of answer → Then answer) → Answers result Of before after → Answers result Then before after
+    → ((answer : List ℕ) → Of answer → Then answer) → Sends result Of before after → Sends result Then before after
 answers-map (Ok x) Of Then before after f (answer, of, wrote) = (answer, f answer of, wrote)
 answers-map (Err e) Of Then before after f (answer, of, broke) = (answer, f answer of, broke)
 

@@ -53,15 +53,15 @@ Shows tells n (look.Blocks m slba count) old answer new =
 Shows tells n looking old answer new = (answer ≡ with_feed (shown_text n looking old)) × (new ≡ old)
 
 -- what the n-th line is answered, and what it leaves
-abbrev pub Answered : Bool → ℕ → Asked → Layers → List ℕ → Layers → Type 0
-Answered tells n (Fails why) old answer new = (answer ≡ with_feed (refusal n why)) × (new ≡ old)
-Answered tells n Nothing old answer new = (answer ≡ with_feed (codes "ok")) × (new ≡ old)
-Answered tells n (Looks looking) old answer new = Shows tells n looking old answer new
-Answered tells n (Sets line) old answer new = (answer ≡ with_feed (refusal n BeforeStart)) × (new ≡ old)
-Answered tells n (Does event) old answer new = Happens tells old event answer new
+abbrev pub AnswersLine : Bool → ℕ → Asked → Layers → List ℕ → Layers → Type 0
+AnswersLine tells n (Fails why) old answer new = (answer ≡ with_feed (refusal n why)) × (new ≡ old)
+AnswersLine tells n Nothing old answer new = (answer ≡ with_feed (codes "ok")) × (new ≡ old)
+AnswersLine tells n (Looks looking) old answer new = Shows tells n looking old answer new
+AnswersLine tells n (Sets line) old answer new = (answer ≡ with_feed (refusal n BeforeStart)) × (new ≡ old)
+AnswersLine tells n (Does event) old answer new = Happens tells old event answer new
 
--- An answer of which something is said was written whole and flushed, or else in part.
-abbrev pub Answers : {T E : Type 0} → Result T E → (List ℕ → Type 0) → Option (List ℕ) → Option (List ℕ) → Type 0
-Answers result Of before after =
+-- An answer of which this is said was sent: it was written whole and flushed, or else in part.
+abbrev pub Sends : {T E : Type 0} → Result T E → (List ℕ → Type 0) → Option (List ℕ) → Option (List ℕ) → Type 0
+Sends result Of before after =
     MatchResult result (λ _. (answer : List ℕ) × Of answer × Appends before after answer)
     (λ _. (answer : List ℕ) × Of answer × Breaks before after answer)

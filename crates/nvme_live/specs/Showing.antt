@@ -5,6 +5,7 @@ use Rattle.std.specs.Option.{option_flatten}
 use Rattle.std.specs.Fmt.{decimal, digits, padded_integral, format_spec}
 use Rattle.script_text.specs.HexText.{hex_or_dash, without_trailing_zeros}
 use Rattle.nvme_wire.specs.Submission.{opcode, cid, nsid}
+use Rattle.nvme_spec.specs.Limits.{most_bytes}
 use Rattle.nvme_spec.specs.Memory.{window_size}
 use Rattle.nvme_spec.specs.Queues.{slot_of, ahead, phase_tag}
 use Rattle.nvme_spec.specs.Registers.{Registers, value_at}
@@ -35,7 +36,7 @@ use Rattle.live_text.specs.declared.looking.Looking.TheVariants as look
 
 -- the most bytes of a window that a line shows
 abbrev pub most_shown : ℕ
-most_shown = 131072
+most_shown = most_bytes
 
 -- a bit
 abbrev pub bit_text : Bool → List ℕ

@@ -14,7 +14,7 @@ use Rattle.live_text.specs.Faults.{refusal}
 use Rattle.live_text.specs.declared.fault.Why.TheVariants.{BehindStart}
 use Rattle.nvme_live.specs.declared.asking.Asked.{Asked}
 use Rattle.nvme_live.specs.declared.asking.Asked.TheVariants.{Fails, Nothing, Looks, Sets, Does}
-use Rattle.nvme_live.specs.Answers.{Answered}
+use Rattle.nvme_live.specs.Answers.{AnswersLine}
 use Rattle.nvme_live.specs.Asking.{asked}
 use Rattle.nvme_live.specs.Saying.{with_feed}
 use Rattle.nvme_live.specs.SetUps.{SetUp, numbered_reason, with_line}
@@ -72,7 +72,7 @@ Settles blocks d n s (Does event) answer new = (answer ≡ with_feed (refusal n 
 abbrev pub Turn : Bool → ℕ → Device → ℕ → Standing → Asked → List ℕ → Standing → Type 0
 Turn tells blocks d n (Setting s) asks answer new = Settles blocks d n s asks answer new
 Turn tells blocks d n (Running old) asks answer new =
-    (later : Layers) × Answered tells n asks old answer later × (new ≡ Running later)
+    (later : Layers) × AnswersLine tells n asks old answer later × (new ≡ Running later)
 Turn tells blocks d n (Over k fault) asks answer new = ⊥
 
 -- Lines from the n-th on, one after the other, and the answer of each. Between two lines the session stands in one way.

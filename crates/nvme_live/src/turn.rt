@@ -6,7 +6,7 @@ ghost use Rattle.live_text.specs.Faults.{refusal, why_by_value};
 ghost use Rattle.nvme_grammar.specs.Lent.{event_by_value};
 ghost use Rattle.nvme_fleet.specs.FleetStates.{layers_of};
 ghost use Rattle.nvme_live.specs.Asking.{asked_by_value};
-ghost use Rattle.nvme_live.specs.Answers.{Answered, Answers, Happens, Shows, ShowsBlocks, place_of};
+ghost use Rattle.nvme_live.specs.Answers.{AnswersLine, Sends, Happens, Shows, ShowsBlocks, place_of};
 ghost use Rattle.nvme_live.specs.Saying.{Breaks, with_feed};
 
 use crate::asking::Asked;
@@ -15,6 +15,7 @@ use crate::views::{BlocksText, shown_of};
 use live_text::{Looking, Refusal, Why};
 use nvme_fleet::{Fleet, FleetEvent};
 use nvme_medium::Medium;
+use nvme_spec::Marks;
 use nvme_transcript::TranscriptLine;
 use std::io;
 use std::io::Write;
@@ -40,10 +41,11 @@ fn apply<W: Write, M: Medium>(
     text: &mut String,
     writer: &mut W,
 ) -> io::Result<()>
-    ensures { Answers result (λ answer. Happens M.tells (layers_of fleet.old.state) (event_by_value event.entry) answer
+    ensures { Sends result (λ answer. Happens M.tells (layers_of fleet.old.state) (event_by_value event.entry) answer
         (layers_of fleet.new.state)) (W.contents writer.old) (W.contents writer.new) }
 {
-    let seen = fleet.apply(event);
+    let mut marks = Marks::none();
+    let seen = fleet.apply_marking(event, &mut marks);
     let data = fleet.data();
     let shown = TranscriptLine {
         event,
@@ -63,7 +65,7 @@ fn look_at_blocks<W: Write, M: Medium>(
     writer: &mut W,
 ) -> io::Result<()>
     requires { length blocks.old ≡ 2097153 }
-    ensures { Answers result (λ answer.
+    ensures { Sends result (λ answer.
         ShowsBlocks (place_of place.0 place.1 place.2 (layers_of fleet.old.state)) M.tells number place.0 place.1
         place.2 (layers_of fleet.old.state) answer (layers_of fleet.new.state))
         (W.contents writer.old) (W.contents writer.new) }
@@ -99,7 +101,7 @@ fn look<W: Write, M: Medium>(
     writer: &mut W,
 ) -> io::Result<()>
     requires { length blocks.old ≡ 2097153 }
-    ensures { Answers result (λ answer. Shows M.tells number looking (layers_of fleet.old.state) answer
+    ensures { Sends result (λ answer. Shows M.tells number looking (layers_of fleet.old.state) answer
         (layers_of fleet.new.state)) (W.contents writer.old) (W.contents writer.new) }
 {
     match looking {
@@ -120,7 +122,7 @@ pub fn answer<W: Write, M: Medium>(
     writer: &mut W,
 ) -> io::Result<()>
     requires { length blocks.old ≡ 2097153 }
-    ensures { Answers result (λ answer. Answered M.tells number (asked_by_value asked.entry)
+    ensures { Sends result (λ answer. AnswersLine M.tells number (asked_by_value asked.entry)
         (layers_of fleet.old.state) answer (layers_of fleet.new.state)) (W.contents writer.old) (W.contents writer.new) }
 {
     match asked {

@@ -5,7 +5,7 @@ use Rattle.std.specs.List.{AllByRecursion}
 use Rattle.nvme_wire.specs.Submission.{opcode, nsid}
 use Rattle.nvme_spec.specs.declared.access.Protection.{Protection}
 use Rattle.nvme_spec.specs.declared.command.AdminCommand.{AdminCommand}
-use Rattle.nvme_spec.specs.declared.command.AdminCommand.TheVariants.{DeleteSubmissionQueue, CreateSubmissionQueue, DeleteCompletionQueue, CreateCompletionQueue, Identify, SetFeatures, GetFeatures, NamespaceAttachment}
+use Rattle.nvme_spec.specs.declared.command.AdminCommand.TheVariants.{SetFeatures, NamespaceAttachment}
 use Rattle.nvme_spec.specs.declared.queues.Queues.{Queues}
 use Rattle.nvme_spec.specs.Rules.{Judgement}
 use Rattle.nvme_spec.specs.World.{World, Namespace, host_of, namespace_of, with_namespace, with_protection}
@@ -59,12 +59,6 @@ unless-becomes w (Some why) list = Same _ refl
 
 pub command-becomes : (w : World) (e sent : List ℕ) (command : AdminCommand) → Becomes w (world_after w command e sent)
 unfolding world_after attach detach
-command-becomes w e sent DeleteSubmissionQueue = Same _ refl
-command-becomes w e sent CreateSubmissionQueue = Same _ refl
-command-becomes w e sent DeleteCompletionQueue = Same _ refl
-command-becomes w e sent CreateCompletionQueue = Same _ refl
-command-becomes w e sent Identify = Same _ refl
-command-becomes w e sent GetFeatures = Same _ refl
 command-becomes w e sent NamespaceAttachment =
     elim (sel e == 0) as (λ b. Becomes w (world_of w (if b then attach w (nsid e) (listed_controllers sent) else detach w (nsid e) (listed_controllers sent)))) [
       | true ↦ unless-becomes w _ _
@@ -75,6 +69,7 @@ command-becomes w e sent SetFeatures =
       | true ↦ Protected _ (nsid e) (protection_of (wps e)) refl
       | false ↦ Same _ refl
     ]
+command-becomes w e sent command = Same _ refl
 
 executed : (w : World) (k : ℕ) (window e : List ℕ) (j : Judgement) (command : Option AdminCommand) → Becomes w (execution_by j command w k e window).world
 executed w k window e (Err d) command = Same _ refl

@@ -24,7 +24,7 @@ use Rattle.nvme_machine.specs.declared.event.Event.{Event}
 use Rattle.nvme_machine.specs.declared.event.Event.TheVariants.{Store, Write32, Read32, Fetch, Execute, PowerCycle}
 use Rattle.nvme_machine.specs.declared.fetched.FetchedCommand.{FetchedCommand}
 use Rattle.nvme_machine.specs.declared.seen.Seen.{Seen}
-use Rattle.nvme_machine.specs.Answers.{Answer}
+use Rattle.nvme_machine.specs.CommandExecutions.{CommandExecution}
 use Rattle.nvme_machine.specs.Calling.{AreCallsAs, AreCallsOfAnswer}
 use Rattle.nvme_machine.specs.Controllers.{Controller, QueuePair, names, open_pair}
 use Rattle.nvme_machine.specs.EventCalls.{CallingOver, CallingOne, CallingAt, AreCallsOfStep}
@@ -166,7 +166,7 @@ module _ (s : Subsystem) (k i : ℕ) (c : Controller) (t : FetchedCommand) (at :
   of-verdict (Allowed plan) answered after calls is h =
       of-command plan is plan.kind _ answered calls refl (has-passed s.world k t.entry t.marked c.window plan is) h
 
-of-answer : (admin : Bool) (s : Subsystem) (k i : ℕ) (c : Controller) (t : FetchedCommand) (a : Answer) (calls : List MediumCall) → controller_at s k ≡ Some c → slice_get c.fetched i ≡ Some t → (t.queue == 0) ≡ admin
+of-answer : (admin : Bool) (s : Subsystem) (k i : ℕ) (c : Controller) (t : FetchedCommand) (a : CommandExecution) (calls : List MediumCall) → controller_at s k ≡ Some c → slice_get c.fetched i ≡ Some t → (t.queue == 0) ≡ admin
     → AreCallsAs admin k t (scene_of s c) a calls → AllByRecursion (IsCallOf s k i) calls
 of-answer true s k i c t a calls at found io h = all-of-none (IsCallOf s k i) calls h
 of-answer false s k i c t a calls at found io h =

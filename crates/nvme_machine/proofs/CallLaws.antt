@@ -29,12 +29,12 @@ use Rattle.nvme_machine.specs.declared.fetched.FetchedCommand.{FetchedCommand}
 use Rattle.nvme_machine.specs.declared.seen.Executed.TheVariants.{Posted}
 use Rattle.nvme_machine.specs.declared.seen.Seen.{Seen}
 use Rattle.nvme_machine.specs.declared.seen.Seen.TheVariants.{Executed}
-use Rattle.nvme_machine.specs.Answers.{Answer, Answers, AnswersAs, admin_answer, judgement}
+use Rattle.nvme_machine.specs.CommandExecutions.{CommandExecution, CommandComesTo, CommandComesToAs, admin_command_execution, judgement}
 use Rattle.nvme_machine.specs.CallLaws.{StepsHaveCalls, RunsHaveCalls, StepCallsAreUnique, RunCallsAreUnique, StepCallsAreComputed, RunCallsAreComputed, RunCallsExist, DeniedIsNoSuccess, FlushedIsOneFlush}
 use Rattle.nvme_machine.specs.Calling.{AreCallsAs, AreCallsOfAnswer}
 use Rattle.nvme_machine.specs.Controllers.{Controller, QueuePair, Reaction, queues_of, open_pair}
 use Rattle.nvme_machine.specs.EventCalls.{CallingOver, CallingOne, CallingAt, AreCallsOfStep, AreCallsOfRun}
-use Rattle.nvme_machine.specs.FaultFree.{fault_free_answer, fault_free_step, io_answer, reacting, executing, executing_one, executing_over}
+use Rattle.nvme_machine.specs.FaultFree.{fault_free_command_execution, fault_free_step, io_command_execution, reacting, executing, executing_one, executing_over}
 use Rattle.nvme_machine.specs.FaultFreeCalls.{calls_as, calls_over, calls_one, calls_at, event_calls, fault_free_calls}
 use Rattle.nvme_machine.specs.Subsystems.{Subsystem, ExecutesOver, ExecutesOne, ExecutesAt, controller_at, with_controller, scene_of, after_execution, after_power_cycle}
 use Rattle.nvme_machine.proofs.Denials.{denied_changes_its_entry_alone}
@@ -44,14 +44,14 @@ use Rattle.nvme_machine.proofs.Layouts.{layout_stays}
 
 -- Each step has calls.
 
-as-some : (admin : Bool) (tells : Bool) (queues : Queues) (k : ℕ) (t : FetchedCommand) (s : Scene) (a : Answer) → AnswersAs admin tells queues k t s a
+as-some : (admin : Bool) (tells : Bool) (queues : Queues) (k : ℕ) (t : FetchedCommand) (s : Scene) (a : CommandExecution) → CommandComesToAs admin tells queues k t s a
     → (calls : List MediumCall) × AreCallsAs admin k t s a calls
 as-some true tells queues k t s a h = ([], refl)
 as-some false tells queues k t s a h = spec.executions_have_calls tells k t.entry t.marked s a.left a.outcome h.1
 
 over-some : (o : Option QueuePair) (tells : Bool) (old new : Subsystem) (k : ℕ) (c : Controller) (i : ℕ) (t : FetchedCommand) (seen : Seen) → ExecutesOver o tells old k c i t seen new
     → (calls : List MediumCall) × CallingOver o tells old k c i t seen new calls
-unfolding Answers AreCallsOfAnswer
+unfolding CommandComesTo AreCallsOfAnswer
 over-some None tells old new k c i t seen h = ([], (h.0, h.1, refl))
 over-some (Some p) tells old new k c i t seen h =
     let some = as-some (t.queue == 0) tells (queues_of c) k t (scene_of old c) h.answer h.answers in
@@ -86,7 +86,7 @@ runs_have_calls tells old new (event ∷ events) (seen ∷ later) h =
 
 -- Two lists of one step, passed by media of one content, are one.
 
-two-as : (admin : Bool) (k : ℕ) (t : FetchedCommand) (s : Scene) (a b : Answer) (calls these : List MediumCall) (content left right : List ℕ) → AreCallsAs admin k t s a calls → AreCallsAs admin k t s b these
+two-as : (admin : Bool) (k : ℕ) (t : FetchedCommand) (s : Scene) (a b : CommandExecution) (calls these : List MediumCall) (content left right : List ℕ) → AreCallsAs admin k t s a calls → AreCallsAs admin k t s b these
     → Calls content_step content calls left → Calls content_step content these right → these ≡ calls
 two-as true k t s a b calls these content left right h g made also = g ∙ sym h
 two-as false k t s a b calls these content left right h g made also =
@@ -151,7 +151,7 @@ run_calls_are_unique old new other (event ∷ events) (x ∷ seen) (y ∷ others
 
 -- Over the content of the subsystem they are what the function computes.
 
-as-alone : (admin : Bool) (k : ℕ) (t : FetchedCommand) (s : Scene) (a : Answer) (calls : List MediumCall) (left : List ℕ) → AreCallsAs admin k t s a calls
+as-alone : (admin : Bool) (k : ℕ) (t : FetchedCommand) (s : Scene) (a : CommandExecution) (calls : List MediumCall) (left : List ℕ) → AreCallsAs admin k t s a calls
     → Calls content_step s.device.content calls left → calls ≡ calls_as admin k t s
 as-alone true k t s a calls left h made = h
 as-alone false k t s a calls left h made = spec.passing_calls_are_unique k t.entry t.marked s a.outcome.status a.left.window calls left h made
@@ -187,17 +187,17 @@ abbrev AreMade : Subsystem → List MediumCall → Subsystem → Type 0
 AreMade s calls new = Calls content_step s.device.content calls new.device.content
 
 -- calls of an answer, and what they leave
-record Serve (admin : Bool) (k : ℕ) (t : FetchedCommand) (s : Scene) (a : Answer) (calls : List MediumCall) : Type 0 where
+record Serve (admin : Bool) (k : ℕ) (t : FetchedCommand) (s : Scene) (a : CommandExecution) (calls : List MediumCall) : Type 0 where
   are : AreCallsAs admin k t s a calls
   made : Calls content_step s.device.content calls a.left.device.content
 
 as-serve : (admin : Bool) (queues : Queues) (k : ℕ) (t : FetchedCommand) (s : Scene) → IsLaidOut s.world s.device.content
-    → Serve admin k t s (if admin then admin_answer s (admin_execution s.world queues k t.entry s.window) else io_answer (fault_free_execution k t.entry t.marked s)) (calls_as admin k t s)
+    → Serve admin k t s (if admin then admin_command_execution s (admin_execution s.world queues k t.entry s.window) else io_command_execution (fault_free_execution k t.entry t.marked s)) (calls_as admin k t s)
 as-serve true queues k t s laid = record { are = refl; made = refl }
 as-serve false queues k t s laid = let both = spec.passing_calls_exist k t.entry t.marked s laid in record { are = both.0; made = both.1 }
 
-answer-serves : (queues : Queues) (k : ℕ) (t : FetchedCommand) (s : Scene) → IsLaidOut s.world s.device.content → Serve (t.queue == 0) k t s (fault_free_answer queues k t s) (calls_as (t.queue == 0) k t s)
-unfolding fault_free_answer
+answer-serves : (queues : Queues) (k : ℕ) (t : FetchedCommand) (s : Scene) → IsLaidOut s.world s.device.content → Serve (t.queue == 0) k t s (fault_free_command_execution queues k t s) (calls_as (t.queue == 0) k t s)
+unfolding fault_free_command_execution
 answer-serves queues k t s laid = as-serve (t.queue == 0) queues k t s laid
 
 over-made : (o : Option QueuePair) (s : Subsystem) (k : ℕ) (c : Controller) (i : ℕ) (t : FetchedCommand) → IsLaidOut s.world s.device.content
@@ -207,7 +207,7 @@ over-made None s k c i t laid = ((refl, refl, refl), refl)
 over-made (Some p) s k c i t laid =
     let serve = answer-serves (queues_of c) k t (scene_of s c) laid in (
       record {
-        completes = record { answer = fault_free_answer (queues_of c) k t (scene_of s c); answers = answers (queues_of c) k t (scene_of s c) laid; gives = refl; leaves = refl };
+        completes = record { answer = fault_free_command_execution (queues_of c) k t (scene_of s c); answers = answers (queues_of c) k t (scene_of s c) laid; gives = refl; leaves = refl };
         are = serve.are;
       },
       serve.made,
@@ -299,19 +299,19 @@ denied_is_no_success tells old new k i c t p denial outcome step waits denied ok
     let is : denial.status ≡ status.successful_completion = sym (ap (λ (x : Outcome). x.status) (posted-one outcome _ posted)) ∙ ok in
     false≢true (of-each (λ x. not (is_same x status.successful_completion)) denials status.successful_completion refl (subst Refuses is why))
 
-flush-as : (tells : Bool) (queues : Queues) (k : ℕ) (t : FetchedCommand) (s : Scene) (a : Answer) (calls : List MediumCall) → AnswersAs false tells queues k t s a → AreCallsAs false k t s a calls
+flush-as : (tells : Bool) (queues : Queues) (k : ℕ) (t : FetchedCommand) (s : Scene) (a : CommandExecution) (calls : List MediumCall) → CommandComesToAs false tells queues k t s a → AreCallsAs false k t s a calls
     → opcode t.entry ≡ opcode_of Flush → a.outcome.status ≡ status.successful_completion → calls ≡ Flushes (Ok tt) ∷ []
 flush-as tells queues k t s a calls answers are is ok = spec.flushed_is_one_flush tells k t.entry t.marked s a.left a.outcome calls answers.1 are is ok
 
 flush-over : (o : Option QueuePair) (tells : Bool) (old new : Subsystem) (k : ℕ) (c : Controller) (i : ℕ) (t : FetchedCommand) (outcome : Outcome) (calls : List MediumCall)
     → CallingOver o tells old k c i t (Executed (Posted outcome)) new calls → (t.queue == 0) ≡ false → opcode t.entry ≡ opcode_of Flush → outcome.status ≡ status.successful_completion
     → calls ≡ Flushes (Ok tt) ∷ []
-unfolding Answers AreCallsOfAnswer
+unfolding CommandComesTo AreCallsOfAnswer
 flush-over None tells old new k c i t outcome calls h io is ok = let no = h.0 in absurd (cc)
 flush-over (Some p) tells old new k c i t outcome calls h io is ok =
     let a = h.completes.answer in
     let own : a.outcome.status ≡ status.successful_completion = sym (ap (λ (x : Outcome). x.status) (posted-one outcome a.outcome h.completes.gives)) ∙ ok in
-    flush-as tells (queues_of c) k t (scene_of old c) a calls (subst (λ b. AnswersAs b tells (queues_of c) k t (scene_of old c) a) io h.completes.answers)
+    flush-as tells (queues_of c) k t (scene_of old c) a calls (subst (λ b. CommandComesToAs b tells (queues_of c) k t (scene_of old c) a) io h.completes.answers)
     (subst (λ b. AreCallsAs b k t (scene_of old c) a calls) io h.are) is own
 
 pub flushed_is_one_flush : FlushedIsOneFlush

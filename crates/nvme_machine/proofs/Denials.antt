@@ -25,8 +25,8 @@ use Rattle.nvme_machine.specs.declared.seen.Executed.TheVariants.{Posted}
 use Rattle.nvme_machine.specs.declared.seen.Seen.{Seen}
 use Rattle.nvme_machine.specs.declared.seen.Seen.TheVariants.{Executed}
 use Rattle.nvme_machine.specs.Controllers.{Controller, QueuePair, queues_of, after_posting, after_queue_change}
-use Rattle.nvme_machine.specs.Answers.{Answer, Answers, AnswersAs, AnswersIo, admin_answer, judgement, denial_answer}
-use Rattle.nvme_machine.specs.Subsystems.{Subsystem, Step, Completes, ExecutesAt, ExecutesOne, ExecutesOver, with_controller, scene_of, is_host_among, marked_from, replaced, after_answer, after_execution}
+use Rattle.nvme_machine.specs.CommandExecutions.{CommandExecution, CommandComesTo, CommandComesToAs, IoCommandComesTo, admin_command_execution, judgement, denied_command_execution}
+use Rattle.nvme_machine.specs.Subsystems.{Subsystem, Step, Completes, ExecutesAt, ExecutesOne, ExecutesOver, with_controller, scene_of, is_host_among, marked_from, replaced, after_completion, after_execution}
 use Rattle.nvme_machine.specs.Runs.{Waits, DeniedChangesItsEntryAlone, AllowedDoesItsEffect}
 
 -- no hosts, no marks
@@ -39,9 +39,9 @@ unmarked w k [] = refl
 unmarked w k (c ∷ cs) = rw (not_one (host_of w k)) (ap (λ rest. c ∷ rest) (unmarked w (k + 1) cs))
 
 admin-denied : (s : Scene) (j : Judgement) (command : Option AdminCommand) (cntlid : ℕ) (e : List ℕ) (d : Denial)
-    → j ≡ Err d → admin_answer s (execution_by j command s.world cntlid e s.window) ≡ denial_answer s d
+    → j ≡ Err d → admin_command_execution s (execution_by j command s.world cntlid e s.window) ≡ denied_command_execution s d
 admin-denied s (Ok u) command cntlid e d h = absurd (cc)
-admin-denied s (Err x) command cntlid e d h = let same : x ≡ d = cc in ap (λ (y : Denial). denial_answer s y) same
+admin-denied s (Err x) command cntlid e d h = let same : x ≡ d = cc in ap (λ (y : Denial). denied_command_execution s y) same
 
 pub denied-verdict : (j : Judgement) (command : Option Command) (e : List ℕ) (d : Denial) → j ≡ Err d → conclusion j command e ≡ Denied d.rule d.status
 denied-verdict (Ok u) command e d h = absurd (cc)
@@ -52,26 +52,26 @@ io-denied : (tells : Bool) (s left : Scene) (cntlid : ℕ) (e : List ℕ) (v : V
 io-denied tells s left cntlid e v d o h is = subst (λ x. ExecutesBy x tells cntlid e s left o) is h
 
 -- an answer by its parts
-pub same-answer : (a b : Answer) → a.outcome ≡ b.outcome → a.change ≡ b.change → a.left ≡ b.left → a ≡ b
+pub same-answer : (a b : CommandExecution) → a.outcome ≡ b.outcome → a.change ≡ b.change → a.left ≡ b.left → a ≡ b
 same-answer a b o c l = λ i. record { outcome = o i; change = c i; left = l i }
 
 -- a command that a rule denies has one answer
-pub denied-answer : (tells : Bool) (s : Scene) (queues : Queues) (k : ℕ) (t : FetchedCommand) (d : Denial) (a : Answer)
-    → Answers tells queues k t s a → judgement queues k t s ≡ Err d → a ≡ denial_answer s d
-unfolding Answers judgement admin_execution
+pub denied-answer : (tells : Bool) (s : Scene) (queues : Queues) (k : ℕ) (t : FetchedCommand) (d : Denial) (a : CommandExecution)
+    → CommandComesTo tells queues k t s a → judgement queues k t s ≡ Err d → a ≡ denied_command_execution s d
+unfolding CommandComesTo judgement admin_execution
 denied-answer tells s queues k t d a h f =
-    elim (t.queue == 0) as (λ b. AnswersAs b tells queues k t s a
+    elim (t.queue == 0) as (λ b. CommandComesToAs b tells queues k t s a
     → (if b then admin_judgement s.world queues k t.entry s.window else io_judgement s.world k t.entry t.marked s.window) ≡ Err d
-    → a ≡ denial_answer s d) [
+    → a ≡ denied_command_execution s d) [
       | true ↦ λ x y. x ∙ admin-denied s (admin_judgement s.world queues k t.entry s.window) (command_of (opcode t.entry)) k t.entry d y
       | false ↦ λ x y. (let r = io-denied tells s a.left k t.entry (io_verdict s.world k t.entry t.marked s.window) d a.outcome x.1
           (denied-verdict (io_judgement s.world k t.entry t.marked s.window) (io.command_of (opcode t.entry)) t.entry d y) in
-          same-answer a (denial_answer s d) r.1 x.0 r.0)
+          same-answer a (denied_command_execution s d) r.1 x.0 r.0)
     ] h f
 
 pub after-denied : (old : Subsystem) (k : ℕ) (c : Controller) (i : ℕ) (t : FetchedCommand) (p : QueuePair) (d : Denial)
-    → after_execution old k c i t p (denial_answer (scene_of old c) d) ≡ with_controller old k (after_posting i t p d.status 0 c)
-unfolding after_execution with_controller after_queue_change after_answer
+    → after_execution old k c i t p (denied_command_execution (scene_of old c) d) ≡ with_controller old k (after_posting i t p d.status 0 c)
+unfolding after_execution with_controller after_queue_change after_completion
 after-denied old k c i t p d =
     ap (λ cs. record old { controllers = cs }) (unmarked old.world 1 (replaced old.controllers k (after_posting i t p d.status 0 c)))
 
@@ -87,19 +87,19 @@ pub denied_changes_its_entry_alone : DeniedChangesItsEntryAlone
 denied_changes_its_entry_alone tells old new k i c t p denial seen step waits refused =
     let done = completion tells old new k i c t p seen step waits in
     let same = denied-answer tells (scene_of old c) (queues_of c) k t denial done.answer done.answers refused in (
-      done.gives ∙ ap (λ (a : Answer). Executed (Posted a.outcome)) same,
+      done.gives ∙ ap (λ (a : CommandExecution). Executed (Posted a.outcome)) same,
       done.leaves ∙ ap (λ a. after_execution old k c i t p a) same ∙ after-denied old k c i t p denial,
     )
 
 -- the answer of an I/O command
-pub io-answer : (tells : Bool) (queues : Queues) (k : ℕ) (t : FetchedCommand) (s : Scene) (a : Answer) → (t.queue == 0) ≡ false → Answers tells queues k t s a → AnswersIo tells k t s a
-unfolding Answers
-io-answer tells queues k t s a io h = subst (λ b. AnswersAs b tells queues k t s a) io h
+pub io-answer : (tells : Bool) (queues : Queues) (k : ℕ) (t : FetchedCommand) (s : Scene) (a : CommandExecution) → (t.queue == 0) ≡ false → CommandComesTo tells queues k t s a → IoCommandComesTo tells k t s a
+unfolding CommandComesTo
+io-answer tells queues k t s a io h = subst (λ b. CommandComesToAs b tells queues k t s a) io h
 
 pub allowed_does_its_effect : AllowedDoesItsEffect
 allowed_does_its_effect tells old new k i c t p plan seen step waits io allowed =
     let done = completion tells old new k i c t p seen step waits in
-    let a : Answer = done.answer in
+    let a : CommandExecution = done.answer in
     let answer = io-answer tells (queues_of c) k t (scene_of old c) a io done.answers in
     record {
       outcome = a.outcome;

@@ -14,18 +14,18 @@ use Rattle.nvme_machine.specs.declared.seen.Executed.TheVariants.{Posted}
 use Rattle.nvme_machine.specs.declared.seen.Seen.{Seen}
 use Rattle.nvme_machine.specs.declared.seen.Seen.TheVariants.{Executed}
 use Rattle.nvme_machine.specs.Controllers.{Controller, QueuePair, Reaction, queues_of, open_pair}
-use Rattle.nvme_machine.specs.Answers.{Answer, Answers, AnswersAs, admin_answer}
+use Rattle.nvme_machine.specs.CommandExecutions.{CommandExecution, CommandComesTo, CommandComesToAs, admin_command_execution}
 use Rattle.nvme_machine.specs.Subsystems.{Subsystem, Step, ReactsAs, ExecutesAt, ExecutesOne, ExecutesOver, controller_at, with_controller, scene_of, after_execution, after_power_cycle}
-use Rattle.nvme_machine.specs.FaultFree.{Aftermath, fault_free_answer, fault_free_step, fault_free_seen, fault_free_left, io_answer, reacting, executing, executing_one, executing_over}
+use Rattle.nvme_machine.specs.FaultFree.{Aftermath, fault_free_command_execution, fault_free_step, fault_free_seen, fault_free_left, io_command_execution, reacting, executing, executing_one, executing_over}
 use Rattle.nvme_machine.specs.Runs.{FailuresNeverFall, RunExists, RunIsUnique}
 use Rattle.nvme_machine.proofs.Denials.{same-answer}
 use Rattle.nvme_machine.proofs.Layouts.{layout_stays}
 
 -- The count of failures never falls.
 
-pub answer-counts : (admin : Bool) (tells : Bool) (queues : Queues) (k : ℕ) (t : FetchedCommand) (s : Scene) (a : Answer) → AnswersAs admin tells queues k t s a
+pub answer-counts : (admin : Bool) (tells : Bool) (queues : Queues) (k : ℕ) (t : FetchedCommand) (s : Scene) (a : CommandExecution) → CommandComesToAs admin tells queues k t s a
     → s.device.failures ≤ a.left.device.failures
-answer-counts true tells queues k t s a h = let e = ap (λ (x : Answer). x.left.device.failures) h in omega (arith, e)
+answer-counts true tells queues k t s a h = let e = ap (λ (x : CommandExecution). x.left.device.failures) h in omega (arith, e)
 answer-counts false tells queues k t s a h = spec.failures_never_fall tells k t.entry t.marked s a.left a.outcome h.1
 
 whole-counts : (old new : Subsystem) → new ≡ old → old.device.failures ≤ new.device.failures
@@ -33,7 +33,7 @@ whole-counts old new e = let f = ap (λ (s : Subsystem). s.device.failures) e in
 
 over-counts : (o : Option QueuePair) (tells : Bool) (old new : Subsystem) (k : ℕ) (c : Controller) (i : ℕ) (t : FetchedCommand) (seen : Seen)
     → ExecutesOver o tells old k c i t seen new → old.device.failures ≤ new.device.failures
-unfolding Answers after_execution
+unfolding CommandComesTo after_execution
 over-counts None tells old new k c i t seen h = whole-counts old new h.1
 over-counts (Some p) tells old new k c i t seen h =
     let e = ap (λ (s : Subsystem). s.device.failures) h.leaves in
@@ -79,17 +79,17 @@ failures_never_fall tells old new (event ∷ events) (x ∷ later) run =
 
 -- Without a fault an answer is as the function says.
 
-as-alone : (admin : Bool) (queues : Queues) (k : ℕ) (t : FetchedCommand) (s : Scene) (a : Answer) → AnswersAs admin true queues k t s a
+as-alone : (admin : Bool) (queues : Queues) (k : ℕ) (t : FetchedCommand) (s : Scene) (a : CommandExecution) → CommandComesToAs admin true queues k t s a
     → a.left.device.failures ≡ s.device.failures → s.device.failures < 2 ^ 64 - 1
-    → a ≡ (if admin then admin_answer s (admin_execution s.world queues k t.entry s.window) else io_answer (fault_free_execution k t.entry t.marked s))
+    → a ≡ (if admin then admin_command_execution s (admin_execution s.world queues k t.entry s.window) else io_command_execution (fault_free_execution k t.entry t.marked s))
 as-alone true queues k t s a h f below = h
 as-alone false queues k t s a h f below =
     let r = spec.executes_alone k t.entry t.marked s a.left a.outcome h.1 f below in
-    same-answer a (io_answer (fault_free_execution k t.entry t.marked s)) r.1 h.0 r.0
+    same-answer a (io_command_execution (fault_free_execution k t.entry t.marked s)) r.1 h.0 r.0
 
-pub answer-alone : (queues : Queues) (k : ℕ) (t : FetchedCommand) (s : Scene) (a : Answer) → Answers true queues k t s a
-    → a.left.device.failures ≡ s.device.failures → s.device.failures < 2 ^ 64 - 1 → a ≡ fault_free_answer queues k t s
-unfolding Answers fault_free_answer
+pub answer-alone : (queues : Queues) (k : ℕ) (t : FetchedCommand) (s : Scene) (a : CommandExecution) → CommandComesTo true queues k t s a
+    → a.left.device.failures ≡ s.device.failures → s.device.failures < 2 ^ 64 - 1 → a ≡ fault_free_command_execution queues k t s
+unfolding CommandComesTo fault_free_command_execution
 answer-alone queues k t s a h f below = as-alone (t.queue == 0) queues k t s a h f below
 
 -- what was seen and left is what the function says
@@ -103,7 +103,7 @@ over-alone None old new k c i t seen h f below = h
 over-alone (Some p) old new k c i t seen h f below =
     let calm : h.answer.left.device.failures ≡ old.device.failures = sym (ap (λ (s : Subsystem). s.device.failures) h.leaves) ∙ f in
     let same = answer-alone (queues_of c) k t (scene_of old c) h.answer h.answers calm below in
-    (h.gives ∙ ap (λ (a : Answer). Executed (Posted a.outcome)) same, h.leaves ∙ ap (λ a. after_execution old k c i t p a) same)
+    (h.gives ∙ ap (λ (a : CommandExecution). Executed (Posted a.outcome)) same, h.leaves ∙ ap (λ a. after_execution old k c i t p a) same)
 
 one-alone : (o : Option FetchedCommand) (old new : Subsystem) (k : ℕ) (c : Controller) (i : ℕ) (seen : Seen) → ExecutesOne o true old k c i seen new
     → new.device.failures ≡ old.device.failures → old.device.failures < 2 ^ 64 - 1 → Is seen new (executing_one o old k c i)
@@ -145,18 +145,18 @@ run_is_unique old new (event ∷ events) (s ∷ seen) run f below =
 -- And so there is one.
 
 answers-as : (admin : Bool) (queues : Queues) (k : ℕ) (t : FetchedCommand) (s : Scene) → IsLaidOut s.world s.device.content
-    → AnswersAs admin true queues k t s (if admin then admin_answer s (admin_execution s.world queues k t.entry s.window) else io_answer (fault_free_execution k t.entry t.marked s))
+    → CommandComesToAs admin true queues k t s (if admin then admin_command_execution s (admin_execution s.world queues k t.entry s.window) else io_command_execution (fault_free_execution k t.entry t.marked s))
 answers-as true queues k t s laid = refl
 answers-as false queues k t s laid = (refl, spec.fault_free_executes k t.entry t.marked s laid)
 
-pub answers : (queues : Queues) (k : ℕ) (t : FetchedCommand) (s : Scene) → IsLaidOut s.world s.device.content → Answers true queues k t s (fault_free_answer queues k t s)
-unfolding Answers fault_free_answer
+pub answers : (queues : Queues) (k : ℕ) (t : FetchedCommand) (s : Scene) → IsLaidOut s.world s.device.content → CommandComesTo true queues k t s (fault_free_command_execution queues k t s)
+unfolding CommandComesTo fault_free_command_execution
 answers queues k t s laid = answers-as (t.queue == 0) queues k t s laid
 
 over : (o : Option QueuePair) (s : Subsystem) (k : ℕ) (c : Controller) (i : ℕ) (t : FetchedCommand) → IsLaidOut s.world s.device.content
     → ExecutesOver o true s k c i t (executing_over o s k c i t).seen (executing_over o s k c i t).left
 over None s k c i t laid = (refl, refl)
-over (Some p) s k c i t laid = record { answer = fault_free_answer (queues_of c) k t (scene_of s c); answers = answers (queues_of c) k t (scene_of s c) laid; gives = refl; leaves = refl }
+over (Some p) s k c i t laid = record { answer = fault_free_command_execution (queues_of c) k t (scene_of s c); answers = answers (queues_of c) k t (scene_of s c) laid; gives = refl; leaves = refl }
 
 one : (o : Option FetchedCommand) (s : Subsystem) (k : ℕ) (c : Controller) (i : ℕ) → IsLaidOut s.world s.device.content
     → ExecutesOne o true s k c i (executing_one o s k c i).seen (executing_one o s k c i).left
@@ -174,12 +174,12 @@ reacts (Some c) s k f = (refl, refl)
 -- it counts no failure
 
 calm-as : (admin : Bool) (queues : Queues) (k : ℕ) (t : FetchedCommand) (s : Scene)
-    → (if admin then admin_answer s (admin_execution s.world queues k t.entry s.window) else io_answer (fault_free_execution k t.entry t.marked s)).left.device.failures ≡ s.device.failures
+    → (if admin then admin_command_execution s (admin_execution s.world queues k t.entry s.window) else io_command_execution (fault_free_execution k t.entry t.marked s)).left.device.failures ≡ s.device.failures
 calm-as true queues k t s = refl
 calm-as false queues k t s = spec.calm-execution k t.entry t.marked s
 
-pub calm-answer : (queues : Queues) (k : ℕ) (t : FetchedCommand) (s : Scene) → (fault_free_answer queues k t s).left.device.failures ≡ s.device.failures
-unfolding fault_free_answer
+pub calm-answer : (queues : Queues) (k : ℕ) (t : FetchedCommand) (s : Scene) → (fault_free_command_execution queues k t s).left.device.failures ≡ s.device.failures
+unfolding fault_free_command_execution
 calm-answer queues k t s = calm-as (t.queue == 0) queues k t s
 
 calm-over : (o : Option QueuePair) (s : Subsystem) (k : ℕ) (c : Controller) (i : ℕ) (t : FetchedCommand) → (executing_over o s k c i t).left.device.failures ≡ s.device.failures

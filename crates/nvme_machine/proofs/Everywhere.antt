@@ -10,8 +10,8 @@ use Rattle.nvme_machine.specs.declared.event.Event.TheVariants.{Store, Write32, 
 use Rattle.nvme_machine.specs.declared.fetched.FetchedCommand.{FetchedCommand}
 use Rattle.nvme_machine.specs.declared.seen.Seen.{Seen}
 use Rattle.nvme_machine.specs.Controllers.{Controller, QueuePair, Reaction, power_cycled, queues_of, open_pair, with_marks, after_store, after_write32, wrote, has_read, after_fetch}
-use Rattle.nvme_machine.specs.Answers.{Answer, Answers}
-use Rattle.nvme_machine.specs.Subsystems.{Subsystem, Step, Run, ReactsAs, Completes, ExecutesAt, ExecutesOne, ExecutesOver, controller_at, with_controller, after_answer, after_execution, after_power_cycle, numbered, replaced, marked_from}
+use Rattle.nvme_machine.specs.CommandExecutions.{CommandExecution, CommandComesTo}
+use Rattle.nvme_machine.specs.Subsystems.{Subsystem, Step, Run, ReactsAs, Completes, ExecutesAt, ExecutesOne, ExecutesOver, controller_at, with_controller, after_completion, after_execution, after_power_cycle, numbered, replaced, marked_from}
 use Rattle.nvme_machine.proofs.Others.{marks-numbered, cycled-at}
 
 -- what every action on a controller keeps
@@ -21,8 +21,8 @@ pub record Keeps (P : Controller → Type 0) : Type 0 where
   pub write : (offset v : ℕ) → (c : Controller) → P c → P (after_write32 offset v c)
   pub fetch : (q : ℕ) → (c : Controller) → P c → P (after_fetch q c).controller
   pub cycle : (c : Controller) → P c → P (power_cycled c)
-  pub finish : (tells : Bool) → (w : World) → (d : Device) → (k i : ℕ) → (c : Controller) → (t : FetchedCommand) → (p : QueuePair) → (a : Answer) → open_pair c t ≡ Some p
-      → Answers tells (queues_of c) k t (record { world = w; window = c.window; device = d }) a → P c → P (after_answer i t p a c)
+  pub finish : (tells : Bool) → (w : World) → (d : Device) → (k i : ℕ) → (c : Controller) → (t : FetchedCommand) → (p : QueuePair) → (a : CommandExecution) → open_pair c t ≡ Some p
+      → CommandComesTo tells (queues_of c) k t (record { world = w; window = c.window; device = d }) a → P c → P (after_completion i t p a c)
 
 abbrev All : (Controller → Type 0) → List Controller → Type 0
 All P cs = (k : ℕ) → (c : Controller) → numbered cs k ≡ Some c → P c
@@ -66,9 +66,9 @@ completes : (P : Controller → Type 0) → Keeps P → (tells : Bool) (old new 
     → open_pair c t ≡ Some p → Completes tells old k c i t p seen new → Everywhere P old → Everywhere P new
 unfolding after_execution controller_at
 completes P keeps tells old new k c i t p seen at room h all =
-    let a : Answer = h.answer in
-    subst (Everywhere P) (sym h.leaves) (all-marked P keeps a.left.world a.outcome.marks (replaced old.controllers k (after_answer i t p a c))
-    (all-replaced P old.controllers k (after_answer i t p a c) all (keeps.finish tells old.world old.device k i c t p a room h.answers (all k c at))))
+    let a : CommandExecution = h.answer in
+    subst (Everywhere P) (sym h.leaves) (all-marked P keeps a.left.world a.outcome.marks (replaced old.controllers k (after_completion i t p a c))
+    (all-replaced P old.controllers k (after_completion i t p a c) all (keeps.finish tells old.world old.device k i c t p a room h.answers (all k c at))))
 
 over : (P : Controller → Type 0) → Keeps P → (o : Option QueuePair) (tells : Bool) (old new : Subsystem) (k : ℕ) (c : Controller) (i : ℕ) (t : FetchedCommand) (seen : Seen) → controller_at old k ≡ Some c
     → open_pair c t ≡ o → ExecutesOver o tells old k c i t seen new → Everywhere P old → Everywhere P new

@@ -19,7 +19,7 @@ use Rattle.nvme_machine.specs.declared.event.Event.TheVariants.{Store, Write32, 
 use Rattle.nvme_machine.specs.declared.fetched.FetchedCommand.{FetchedCommand}
 use Rattle.nvme_machine.specs.declared.seen.Seen.{Seen}
 use Rattle.nvme_machine.specs.Controllers.{Controller, QueuePair, Reaction, names, queues_of, open_pair}
-use Rattle.nvme_machine.specs.Answers.{Answer, Answers, AnswersAs}
+use Rattle.nvme_machine.specs.CommandExecutions.{CommandExecution, CommandComesTo, CommandComesToAs}
 use Rattle.nvme_machine.specs.Subsystems.{Subsystem, Step, ReactsAs, ExecutesAt, ExecutesOne, ExecutesOver, OfItsController, controller_at, with_controller, scene_of, after_execution, after_power_cycle}
 use Rattle.nvme_machine.specs.Fencing.{namespace_bytes, IsAllowedAt, Allows, IsFleeting, Forgets, OnlyAllowedWritesWrite, OnlyAllowedActionsReserve, LayoutStays, FencedEventsWriteNothing}
 use Rattle.nvme_machine.proofs.AdminWorlds.{HasSameExtents, same-extents, admin-keeps}
@@ -34,28 +34,28 @@ pub record AllowsOne (commands : List Command) (k : ℕ) (t : FetchedCommand) (s
 named-so : (n : ℕ) (t : FetchedCommand) → (t.queue == 0) ≡ false → nsid t.entry ≡ n → names n t ≡ true
 named-so n t io is = ap (λ b. not b && (nsid t.entry == n)) io ∙ eq-eqb (nsid t.entry) n is
 
-pub answer-extents : (admin : Bool) (tells : Bool) (queues : Queues) (k : ℕ) (t : FetchedCommand) (s : Scene) (a : Answer) → AnswersAs admin tells queues k t s a → HasSameExtents s.world a.left.world
+pub answer-extents : (admin : Bool) (tells : Bool) (queues : Queues) (k : ℕ) (t : FetchedCommand) (s : Scene) (a : CommandExecution) → CommandComesToAs admin tells queues k t s a → HasSameExtents s.world a.left.world
 answer-extents true tells queues k t s a h =
     let kept = admin-keeps s.world queues k s.window t.entry in
-    subst (λ (x : Answer). HasSameExtents s.world x.left.world) (sym h) kept.extents
+    subst (λ (x : CommandExecution). HasSameExtents s.world x.left.world) (sym h) kept.extents
 answer-extents false tells queues k t s a h =
     let r = spec.execution_keeps_the_rest tells k t.entry t.marked s a.left a.outcome h.1 in
     let l = r.layout in
     record { hosts = l.hosts; extents = l.extents }
 
-pub answer-size : (admin : Bool) (queues : Queues) (k : ℕ) (t : FetchedCommand) (s : Scene) (a : Answer) → IsLaidOut s.world s.device.content → AnswersAs admin true queues k t s a
+pub answer-size : (admin : Bool) (queues : Queues) (k : ℕ) (t : FetchedCommand) (s : Scene) (a : CommandExecution) → IsLaidOut s.world s.device.content → CommandComesToAs admin true queues k t s a
     → length a.left.device.content ≡ length s.device.content
-answer-size true queues k t s a laid h = ap (λ (x : Answer). length x.left.device.content) h
+answer-size true queues k t s a laid h = ap (λ (x : CommandExecution). length x.left.device.content) h
 answer-size false queues k t s a laid h = let r = spec.layout_stays k t.entry t.marked s a.left a.outcome laid h.1 in r.0
 
 -- an admin command changes no byte
-pub admin-bytes : (queues : Queues) (k : ℕ) (t : FetchedCommand) (s : Scene) (a : Answer) (n : ℕ) → AnswersAs true true queues k t s a
+pub admin-bytes : (queues : Queues) (k : ℕ) (t : FetchedCommand) (s : Scene) (a : CommandExecution) (n : ℕ) → CommandComesToAs true true queues k t s a
     → bytes_of a.left.world a.left.device.content n ≡ bytes_of s.world s.device.content n
 admin-bytes queues k t s a n h =
     let kept = answer-extents true true queues k t s a h in
-    ap (λ x. bytes_at a.left.device.content x) (kept.extents n) ∙ ap (λ (x : Answer). bytes_at x.left.device.content (extent_of s.world n)) h
+    ap (λ x. bytes_at a.left.device.content x) (kept.extents n) ∙ ap (λ (x : CommandExecution). bytes_at x.left.device.content (extent_of s.world n)) h
 
-answer-bytes : (admin : Bool) (queues : Queues) (k : ℕ) (t : FetchedCommand) (s : Scene) (a : Answer) (n : ℕ) → (t.queue == 0) ≡ admin → IsLaidOut s.world s.device.content → AnswersAs admin true queues k t s a
+answer-bytes : (admin : Bool) (queues : Queues) (k : ℕ) (t : FetchedCommand) (s : Scene) (a : CommandExecution) (n : ℕ) → (t.queue == 0) ≡ admin → IsLaidOut s.world s.device.content → CommandComesToAs admin true queues k t s a
     → (bytes_of a.left.world a.left.device.content n ≡ bytes_of s.world s.device.content n) ⊎ AllowsOne altering k t s n
 answer-bytes true queues k t s a n io laid h = inl (admin-bytes queues k t s a n h)
 answer-bytes false queues k t s a n io laid h = elim (spec.only_allowed_writes_write k t.entry t.marked s a.left a.outcome n laid h.1) [
@@ -63,16 +63,16 @@ answer-bytes false queues k t s a n io laid h = elim (spec.only_allowed_writes_w
   | inr x ↦ inr (record { named = named-so n t io x.0; allowed = x.1 })
 ]
 
-answer-fenced : (admin : Bool) (queues : Queues) (k : ℕ) (t : FetchedCommand) (s : Scene) (a : Answer) (n : ℕ) → IsLaidOut s.world s.device.content → AnswersAs admin true queues k t s a
+answer-fenced : (admin : Bool) (queues : Queues) (k : ℕ) (t : FetchedCommand) (s : Scene) (a : CommandExecution) (n : ℕ) → IsLaidOut s.world s.device.content → CommandComesToAs admin true queues k t s a
     → may_write s.world k n ≡ false → bytes_of a.left.world a.left.device.content n ≡ bytes_of s.world s.device.content n
 answer-fenced true queues k t s a n laid h fenced = admin-bytes queues k t s a n h
 answer-fenced false queues k t s a n laid h fenced = spec.fenced_commands_write_nothing k t.entry t.marked s a.left a.outcome n laid h.1 fenced
 
-answer-reserves : (admin : Bool) (tells : Bool) (queues : Queues) (k : ℕ) (t : FetchedCommand) (s : Scene) (a : Answer) (n : ℕ) → (t.queue == 0) ≡ admin → AnswersAs admin tells queues k t s a
+answer-reserves : (admin : Bool) (tells : Bool) (queues : Queues) (k : ℕ) (t : FetchedCommand) (s : Scene) (a : CommandExecution) (n : ℕ) → (t.queue == 0) ≡ admin → CommandComesToAs admin tells queues k t s a
     → (reservation_of a.left.world n ≡ reservation_of s.world n) ⊎ AllowsOne reserving k t s n
 answer-reserves true tells queues k t s a n io h =
     let kept = admin-keeps s.world queues k s.window t.entry in
-    inl (ap (λ (x : Answer). reservation_of x.left.world n) h ∙ kept.reservations n)
+    inl (ap (λ (x : CommandExecution). reservation_of x.left.world n) h ∙ kept.reservations n)
 answer-reserves false tells queues k t s a n io h = elim (spec.only_allowed_actions_reserve tells k t.entry t.marked s a.left a.outcome n h.1) [
   | inl same ↦ inl same
   | inr x ↦ inr (record { named = named-so n t io x.0; allowed = x.1 })
@@ -81,8 +81,8 @@ answer-reserves false tells queues k t s a n io h = elim (spec.only_allowed_acti
 -- What an event leaves: the answer of the command that it executes, what a power cycle leaves, or what was there.
 pub data Leaves (tells : Bool) (old new : Subsystem) (event : Event) : Type 0 where
   AsItWas : new.world ≡ old.world → new.device ≡ old.device → Leaves tells old new event
-  Answered : (k i : ℕ) → event ≡ Execute k i → (c : Controller) → (t : FetchedCommand) → (a : Answer) → controller_at old k ≡ Some c → slice_get c.fetched i ≡ Some t
-      → Answers tells (queues_of c) k t (scene_of old c) a → new.world ≡ a.left.world → new.device ≡ a.left.device → Leaves tells old new event
+  AfterExecution : (k i : ℕ) → event ≡ Execute k i → (c : Controller) → (t : FetchedCommand) → (a : CommandExecution) → controller_at old k ≡ Some c → slice_get c.fetched i ≡ Some t
+      → CommandComesTo tells (queues_of c) k t (scene_of old c) a → new.world ≡ a.left.world → new.device ≡ a.left.device → Leaves tells old new event
   PowerLost : event ≡ PowerCycle → new.world ≡ cycled_world old.world → new.device ≡ old.device → Leaves tells old new event
 
 whole : (tells : Bool) (old new : Subsystem) (event : Event) → new ≡ old → Leaves tells old new event
@@ -98,7 +98,7 @@ over : (o : Option QueuePair) (tells : Bool) (old new : Subsystem) (k : ℕ) (c 
 unfolding after_execution
 over None tells old new k c i t seen at found h = whole tells old new (Execute k i) h.1
 over (Some p) tells old new k c i t seen at found h =
-    Answered k i refl c t h.answer at found h.answers (ap (λ (s : Subsystem). s.world) h.leaves) (ap (λ (s : Subsystem). s.device) h.leaves)
+    AfterExecution k i refl c t h.answer at found h.answers (ap (λ (s : Subsystem). s.world) h.leaves) (ap (λ (s : Subsystem). s.device) h.leaves)
 
 one : (o : Option FetchedCommand) (tells : Bool) (old new : Subsystem) (k : ℕ) (c : Controller) (i : ℕ) (seen : Seen) → controller_at old k ≡ Some c → slice_get c.fetched i ≡ o
     → ExecutesOne o tells old k c i seen new → Leaves tells old new (Execute k i)
@@ -127,9 +127,9 @@ cycled-extents w =
     record { hosts = places.hosts; extents = places.extents }
 
 extents-left : (tells : Bool) (old new : Subsystem) (event : Event) → Leaves tells old new event → HasSameExtents old.world new.world
-unfolding Answers
+unfolding CommandComesTo
 extents-left tells old new event (AsItWas world device) = same-extents old.world new.world world
-extents-left tells old new event (Answered k i is c t a at found answers world device) =
+extents-left tells old new event (AfterExecution k i is c t a at found answers world device) =
     subst (λ w. HasSameExtents old.world w) (sym world) (answer-extents (t.queue == 0) tells (queues_of c) k t (scene_of old c) a answers)
 extents-left tells old new event (PowerLost is world device) = subst (λ w. HasSameExtents old.world w) (sym world) (cycled-extents old.world)
 
@@ -137,9 +137,9 @@ pub step-extents : (tells : Bool) (old new : Subsystem) (event : Event) (seen : 
 step-extents tells old new event seen h = extents-left tells old new event (leaves tells old new event seen h)
 
 size-left : (old new : Subsystem) (event : Event) → IsLaidOut old.world old.device.content → Leaves true old new event → length new.device.content ≡ length old.device.content
-unfolding Answers
+unfolding CommandComesTo
 size-left old new event laid (AsItWas world device) = ap (λ d. length d.content) device
-size-left old new event laid (Answered k i is c t a at found answers world device) =
+size-left old new event laid (AfterExecution k i is c t a at found answers world device) =
     ap (λ d. length d.content) device ∙ answer-size (t.queue == 0) (queues_of c) k t (scene_of old c) a laid answers
 size-left old new event laid (PowerLost is world device) = ap (λ d. length d.content) device
 
@@ -153,7 +153,7 @@ layout_stays old new event seen laid step =
     }
 
 -- the bytes of a namespace as an answer leaves them
-pub same-bytes : (new : Subsystem) (a : Answer) (n : ℕ) → new.world ≡ a.left.world → new.device ≡ a.left.device → namespace_bytes new n ≡ bytes_of a.left.world a.left.device.content n
+pub same-bytes : (new : Subsystem) (a : CommandExecution) (n : ℕ) → new.world ≡ a.left.world → new.device ≡ a.left.device → namespace_bytes new n ≡ bytes_of a.left.world a.left.device.content n
 same-bytes new a n world device = ap (λ w. bytes_of w new.device.content n) world ∙ ap (λ d. bytes_of a.left.world d.content n) device
 
 unchanged : (old new : Subsystem) (n : ℕ) → new.world ≡ old.world → new.device ≡ old.device → namespace_bytes new n ≡ namespace_bytes old n
@@ -170,9 +170,9 @@ allows commands old event n k i is h = subst (λ e. Allows commands old e n) (sy
 
 writes-left : (old new : Subsystem) (event : Event) (n : ℕ) → IsLaidOut old.world old.device.content → Leaves true old new event
     → (namespace_bytes new n ≡ namespace_bytes old n) ⊎ Allows altering old event n
-unfolding Answers
+unfolding CommandComesTo
 writes-left old new event n laid (AsItWas world device) = inl (unchanged old new n world device)
-writes-left old new event n laid (Answered k i is c t a at found answers world device) =
+writes-left old new event n laid (AfterExecution k i is c t a at found answers world device) =
     elim (answer-bytes (t.queue == 0) (queues_of c) k t (scene_of old c) a n refl laid answers) [
       | inl same ↦ inl (same-bytes new a n world device ∙ same)
       | inr x ↦ inr (allows altering old event n k i is (record { controller = c; command = t; at = at; found = found; named = x.named; allowed = x.allowed }))
@@ -196,9 +196,9 @@ forgets old event n is h = subst (λ e. Forgets old e n) (sym is) h
 
 reserves-left : (tells : Bool) (old new : Subsystem) (event : Event) (n : ℕ) → Leaves tells old new event
     → (reservation_of new.world n ≡ reservation_of old.world n) ⊎ Allows reserving old event n ⊎ Forgets old event n
-unfolding Answers
+unfolding CommandComesTo
 reserves-left tells old new event n (AsItWas world device) = inl (ap (λ w. reservation_of w n) world)
-reserves-left tells old new event n (Answered k i is c t a at found answers world device) =
+reserves-left tells old new event n (AfterExecution k i is c t a at found answers world device) =
     elim (answer-reserves (t.queue == 0) tells (queues_of c) k t (scene_of old c) a n refl answers) [
       | inl same ↦ inl (ap (λ w. reservation_of w n) world ∙ same)
       | inr x ↦ inr (inl (allows reserving old event n k i is (record { controller = c; command = t; at = at; found = found; named = x.named; allowed = x.allowed })))
@@ -213,9 +213,9 @@ only_allowed_actions_reserve tells old new event seen n step = reserves-left tel
 
 fenced-left : (old new : Subsystem) (event : Event) (n : ℕ) → IsLaidOut old.world old.device.content → OfItsController (λ k. may_write old.world k n ≡ false) event → Leaves true old new event
     → namespace_bytes new n ≡ namespace_bytes old n
-unfolding Answers
+unfolding CommandComesTo
 fenced-left old new event n laid fenced (AsItWas world device) = unchanged old new n world device
-fenced-left old new event n laid fenced (Answered k i is c t a at found answers world device) =
+fenced-left old new event n laid fenced (AfterExecution k i is c t a at found answers world device) =
     same-bytes new a n world device
     ∙ answer-fenced (t.queue == 0) (queues_of c) k t (scene_of old c) a n laid answers (subst (OfItsController (λ x. may_write old.world x n ≡ false)) is fenced)
 fenced-left old new event n laid fenced (PowerLost is world device) = cycled-bytes old new n world device

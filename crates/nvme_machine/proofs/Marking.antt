@@ -22,8 +22,8 @@ use Rattle.nvme_spec.specs.Execution.{Scene, ExecutesBy, marks_on, marks_of, rem
 use Rattle.nvme_spec.proofs.Passing.{has-passed}
 use Rattle.nvme_machine.specs.declared.fetched.FetchedCommand.{FetchedCommand}
 use Rattle.nvme_machine.specs.Controllers.{Controller, names, with_mark, with_marks, queues_of}
-use Rattle.nvme_machine.specs.Answers.{Answer, judgement}
-use Rattle.nvme_machine.specs.Subsystems.{Subsystem, controller_at, scene_of, after_answer, after_execution, marked_from, is_host_among, numbered, replaced}
+use Rattle.nvme_machine.specs.CommandExecutions.{CommandExecution, judgement}
+use Rattle.nvme_machine.specs.Subsystems.{Subsystem, controller_at, scene_of, after_completion, after_execution, marked_from, is_host_among, numbered, replaced}
 use Rattle.nvme_machine.specs.Marking.{MarkedIsAborted, AllMarked, PreemptedCommandsAreMarked}
 use Rattle.nvme_machine.proofs.Denials.{completion, io-answer, denied_changes_its_entry_alone}
 
@@ -110,7 +110,7 @@ pub preempted_commands_are_marked : PreemptedCommandsAreMarked
 unfolding after_execution controller_at
 preempted_commands_are_marked tells old new k i n c t p seen step waits named command two allowed other d there removed =
     let done = completion tells old new k i c t p seen step waits in
-    let a : Answer = done.answer in
+    let a : CommandExecution = done.answer in
     let s : Scene = scene_of old c in
     let io = io_name n t named in
     let world : new.world ≡ a.left.world = ap (λ (x : Subsystem). x.world) done.leaves in
@@ -123,7 +123,7 @@ preempted_commands_are_marked tells old new k i n c t p seen step waits named co
     let one : is_host_among a.outcome.marks.hosts.items (host_of a.left.world other) ≡ true =
     ap (λ w. is_host_among a.outcome.marks.hosts.items (host_of w other)) (sym world)
     ∙ ap (λ (m : Marks). is_host_among m.hosts.items (host_of new.world other)) are ∙ named_all.0 in
-    let placed : numbered (marked_from a.left.world a.outcome.marks 1 (replaced old.controllers k (after_answer i t p a c))) other ≡ Some d =
+    let placed : numbered (marked_from a.left.world a.outcome.marks 1 (replaced old.controllers k (after_completion i t p a c))) other ≡ Some d =
     ap (λ (x : Subsystem). controller_at x other) (sym done.leaves) ∙ there in
     subst (λ x. AllMarked x d) (ap (λ (m : Marks). m.nsid) are ∙ named_all.1 ∙ io.1)
-    (mark-numbered a.left.world a.outcome.marks (replaced old.controllers k (after_answer i t p a c)) other d placed one)
+    (mark-numbered a.left.world a.outcome.marks (replaced old.controllers k (after_completion i t p a c)) other d placed one)

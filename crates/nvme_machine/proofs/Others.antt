@@ -9,8 +9,8 @@ use Rattle.nvme_machine.specs.declared.event.Event.TheVariants.{Store, Write32, 
 use Rattle.nvme_machine.specs.declared.fetched.FetchedCommand.{FetchedCommand}
 use Rattle.nvme_machine.specs.declared.seen.Seen.{Seen}
 use Rattle.nvme_machine.specs.Controllers.{Controller, QueuePair, Reaction, power_cycled, with_marks, open_pair}
-use Rattle.nvme_machine.specs.Answers.{Answer}
-use Rattle.nvme_machine.specs.Subsystems.{Subsystem, Step, ReactsAs, Completes, ExecutesAt, ExecutesOne, ExecutesOver, controller_at, controller_of, with_controller, after_answer, after_execution, after_power_cycle, numbered, replaced, marked_from, is_host_among}
+use Rattle.nvme_machine.specs.CommandExecutions.{CommandExecution}
+use Rattle.nvme_machine.specs.Subsystems.{Subsystem, Step, ReactsAs, Completes, ExecutesAt, ExecutesOne, ExecutesOver, controller_at, controller_of, with_controller, after_completion, after_execution, after_power_cycle, numbered, replaced, marked_from, is_host_among}
 use Rattle.nvme_machine.specs.Runs.{IsMarkedBy, OthersChangeInMarksAlone}
 
 -- what marking may have made of controller k
@@ -64,8 +64,8 @@ reacts (Some c) old new k f seen h other apart =
     inl (ap (λ s. controller_at s other) h.1 ∙ (let a : Reaction = f c in replaced-other old.controllers k other a.controller apart))
 
 -- the k-th controller after an execution
-pub executed-at : (old new : Subsystem) (k : ℕ) (c : Controller) (i : ℕ) (t : FetchedCommand) (p : QueuePair) (a : Answer) (other : ℕ) → new ≡ after_execution old k c i t p a
-    → controller_at new other ≡ numbered (marked_from a.left.world a.outcome.marks 1 (replaced old.controllers k (after_answer i t p a c))) other
+pub executed-at : (old new : Subsystem) (k : ℕ) (c : Controller) (i : ℕ) (t : FetchedCommand) (p : QueuePair) (a : CommandExecution) (other : ℕ) → new ≡ after_execution old k c i t p a
+    → controller_at new other ≡ numbered (marked_from a.left.world a.outcome.marks 1 (replaced old.controllers k (after_completion i t p a c))) other
 unfolding after_execution controller_at
 executed-at old new k c i t p a other e = ap (λ s. controller_at s other) e
 
@@ -73,11 +73,11 @@ completes : (tells : Bool) (old new : Subsystem) (k : ℕ) (c : Controller) (i :
     → Keeps old new seen other
 unfolding after_execution controller_at
 completes tells old new k c i t p seen h other apart =
-    let a : Answer = h.answer in
+    let a : CommandExecution = h.answer in
     let new_at = executed-at old new k c i t p a other h.leaves in
-    let same = replaced-other old.controllers k other (after_answer i t p a c) apart in
+    let same = replaced-other old.controllers k other (after_completion i t p a c) apart in
     let world : a.left.world ≡ new.world = sym (ap (λ (s : Subsystem). s.world) h.leaves) in
-    elim (marks-numbered a.left.world a.outcome.marks (replaced old.controllers k (after_answer i t p a c)) other) [
+    elim (marks-numbered a.left.world a.outcome.marks (replaced old.controllers k (after_completion i t p a c)) other) [
       | inl kept ↦ inl (new_at ∙ kept ∙ same)
       | inr m ↦ inr (record {
         outcome = a.outcome;

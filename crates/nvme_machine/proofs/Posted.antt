@@ -38,8 +38,8 @@ use Rattle.nvme_machine.specs.declared.seen.Executed.TheVariants.{Posted}
 use Rattle.nvme_machine.specs.declared.seen.Seen.{Seen}
 use Rattle.nvme_machine.specs.declared.seen.Seen.TheVariants.{Stored, Outside, Executed}
 use Rattle.nvme_machine.specs.Controllers.{Controller, SubmissionQueue, CompletionQueue, QueuePair, Reaction, queues_of, completion_at, open_pair, with_head, with_marks, fetchable, fetched_from, reaction, taking_effect, after_store, after_write32, wrote, has_read, after_fetch, after_posting, after_queue_change, completion_slot, completion_of}
-use Rattle.nvme_machine.specs.Answers.{Answer, Answers, AnswersAs}
-use Rattle.nvme_machine.specs.Subsystems.{Subsystem, Step, ReactsAs, ExecutesAt, ExecutesOne, ExecutesOver, controller_at, controller_of, with_controller, scene_of, after_answer, after_execution, numbered, replaced}
+use Rattle.nvme_machine.specs.CommandExecutions.{CommandExecution, CommandComesTo, CommandComesToAs}
+use Rattle.nvme_machine.specs.Subsystems.{Subsystem, Step, ReactsAs, ExecutesAt, ExecutesOne, ExecutesOver, controller_at, controller_of, with_controller, scene_of, after_completion, after_execution, numbered, replaced}
 use Rattle.nvme_machine.specs.Preempted.{change_of}
 use Rattle.nvme_machine.specs.Windows.{HasItsWindow}
 use Rattle.nvme_machine.specs.Posted.{IsUnread, PostedEntry, entry_address, StandsUnread, PostedIsUnread, Overlaps, is_touched, addresses_of, TakesByExecution, TakesByWrite, UnreadStands, UnreadStandsOverRuns}
@@ -188,18 +188,18 @@ io-apart (Allowed plan) tells k t s left o x is h clear fits =
     ap (λ w. slice_range w (entry_address x) (entry_address x + 16)) h.window
     ∙ scattered-apart s.window places h.returned x (untouched-take (data_addresses (io.data_length plan.kind t.entry) s.window t.entry) (length h.returned) x own) fits
 
-data-apart : (tells : Bool) (w : World) (d : Device) (k : ℕ) (c : Controller) (t : FetchedCommand) (a : Answer) (x : PostedEntry) → Answers tells (queues_of c) k t (record { world = w; window = c.window; device = d }) a
+data-apart : (tells : Bool) (w : World) (d : Device) (k : ℕ) (c : Controller) (t : FetchedCommand) (a : CommandExecution) (x : PostedEntry) → CommandComesTo tells (queues_of c) k t (record { world = w; window = c.window; device = d }) a
     → is_touched (addresses_of c t) x ≡ false → entry_address x + 16 ≤ length c.window
     → slice_range a.left.window (entry_address x) (entry_address x + 16) ≡ slice_range c.window (entry_address x) (entry_address x + 16)
-unfolding Answers admin_execution
+unfolding CommandComesTo admin_execution
 data-apart tells w d k c t a x h clear fits = by (t.queue == 0) h clear
   where
-    by : (b : Bool) → AnswersAs b tells (queues_of c) k t (record { world = w; window = c.window; device = d }) a
+    by : (b : Bool) → CommandComesToAs b tells (queues_of c) k t (record { world = w; window = c.window; device = d }) a
         → is_touched (if b then data_addresses (admin.data_length_of (admin.command_of (opcode t.entry)) t.entry) c.window t.entry
         else data_addresses (io.data_length_of (io.command_of (opcode t.entry)) t.entry) c.window t.entry) x ≡ false
         → slice_range a.left.window (entry_address x) (entry_address x + 16) ≡ slice_range c.window (entry_address x) (entry_address x + 16)
     by true g free =
-        ap (λ (y : Answer). slice_range y.left.window (entry_address x) (entry_address x + 16)) g
+        ap (λ (y : CommandExecution). slice_range y.left.window (entry_address x) (entry_address x + 16)) g
         ∙ admin-apart w k t.entry c.window (admin_judgement w (queues_of c) k t.entry c.window) (admin.command_of (opcode t.entry)) x free fits
     by false g free =
         io-apart (io_verdict w k t.entry t.marked c.window) tells k t (record { world = w; window = c.window; device = d }) a.left a.outcome x refl g.1 free fits
@@ -296,9 +296,9 @@ has-window-over c window size p = record { window = size ∙ p.window; registers
 abbrev Takes : Subsystem → ℕ → Controller → FetchedCommand → QueuePair → PostedEntry → Type 0
 Takes s k c t p e = (is_touched (addresses_of c t) e ≡ true) ⊎ ((p.submission.cqid ≢ e.queue) × Overlaps (completion_slot p.completion) 16 e) ⊎ (change_of s k c t ≡ DropCq e.queue)
 
-finishes : (tells : Bool) (s : Subsystem) (k i : ℕ) (c : Controller) (t : FetchedCommand) (p : QueuePair) (a : Answer) (e : PostedEntry) → open_pair c t ≡ Some p
-    → Answers tells (queues_of c) k t (scene_of s c) a → HasItsWindow c → StandsUnread e c → StandsUnread e (after_answer i t p a c) ⊎ Takes s k c t p e
-unfolding after_answer
+finishes : (tells : Bool) (s : Subsystem) (k i : ℕ) (c : Controller) (t : FetchedCommand) (p : QueuePair) (a : CommandExecution) (e : PostedEntry) → open_pair c t ≡ Some p
+    → CommandComesTo tells (queues_of c) k t (scene_of s c) a → HasItsWindow c → StandsUnread e c → StandsUnread e (after_completion i t p a c) ⊎ Takes s k c t p e
+unfolding after_completion
 finishes tells s k i c t p a e room answers placed u = elim (cases_Bool (is_touched (addresses_of c t) e)) [
   | inl touched ↦ inr (inl touched)
   | inr clear ↦ (
@@ -318,11 +318,11 @@ finishes tells s k i c t p a e room answers placed u = elim (cases_Bool (is_touc
 
 -- Steps.
 
-at-new : (old new : Subsystem) (k : ℕ) (c : Controller) (i : ℕ) (t : FetchedCommand) (p : QueuePair) (a : Answer) (e : PostedEntry) → new ≡ after_execution old k c i t p a → controller_at old k ≡ Some c
-    → StandsUnread e (after_answer i t p a c) → Stands e (controller_at new k)
+at-new : (old new : Subsystem) (k : ℕ) (c : Controller) (i : ℕ) (t : FetchedCommand) (p : QueuePair) (a : CommandExecution) (e : PostedEntry) → new ≡ after_execution old k c i t p a → controller_at old k ≡ Some c
+    → StandsUnread e (after_completion i t p a c) → Stands e (controller_at new k)
 unfolding controller_at
 at-new old new k c i t p a e leaves at u =
-    let end : Controller = after_answer i t p a c in
+    let end : Controller = after_completion i t p a c in
     let new_at = executed-at old new k c i t p a k leaves in
     let stood : Stands e (numbered (replaced old.controllers k end) k) = (end, replaced-same old.controllers k c end at, u) in
     elim (marks-numbered a.left.world a.outcome.marks (replaced old.controllers k end) k) [
@@ -417,7 +417,7 @@ unread_stands_over_runs tells old new (event ∷ events) (x ∷ later) j e run p
 
 -- What is posted.
 
-used : (c : Controller) (t : FetchedCommand) (p : QueuePair) (a : Answer) → IsOpen c t p → Suits (queues_of c) a.change → a.change ≡ DropCq p.submission.cqid → ⊥
+used : (c : Controller) (t : FetchedCommand) (p : QueuePair) (a : CommandExecution) → IsOpen c t p → Suits (queues_of c) a.change → a.change ≡ DropCq p.submission.cqid → ⊥
 used c t p a opened suits drops =
     let s : Suits (queues_of c) (DropCq p.submission.cqid) = subst (Suits (queues_of c)) drops suits in
     eqb-false p.submission.cqid p.submission.cqid (unused-at p.submission.cqid c.submission t.queue p.submission s.2 opened.submission) refl
@@ -438,10 +438,10 @@ new-entry i t p why first c placed opened =
     }
 
 pub posted_is_unread : PostedIsUnread
-unfolding after_answer
+unfolding after_completion
 posted_is_unread tells old new k i c t p outcome step waits placed =
     let done = completion tells old new k i c t p (Executed (Posted outcome)) step waits in
-    let a : Answer = done.answer in
+    let a : CommandExecution = done.answer in
     let gives : Executed (Posted outcome) ≡ Executed (Posted a.outcome) = done.gives in
     let same : a.outcome ≡ outcome = cc in
     let whole = placed k c waits.at in

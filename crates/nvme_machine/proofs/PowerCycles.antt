@@ -17,12 +17,12 @@ use Rattle.nvme_machine.specs.declared.event.Event.TheVariants.{Store, Write32, 
 use Rattle.nvme_machine.specs.declared.fetched.FetchedCommand.{FetchedCommand}
 use Rattle.nvme_machine.specs.declared.seen.Seen.{Seen}
 use Rattle.nvme_machine.specs.Controllers.{Controller, power_cycled, queues_of}
-use Rattle.nvme_machine.specs.Answers.{Answer, Answers, AnswersAs}
+use Rattle.nvme_machine.specs.CommandExecutions.{CommandExecution, CommandComesTo, CommandComesToAs}
 use Rattle.nvme_machine.specs.Subsystems.{Subsystem, Step, controller_at, scene_of, after_power_cycle}
 use Rattle.nvme_machine.specs.Fencing.{namespace_bytes, Forgets, IsFleeting, LeavesReservation, ReservesNothing}
 use Rattle.nvme_machine.specs.PowerCycles.{Persists, IsUnused, PowerTakes, PersistenceLasts, FencingOutlastsPower, SecrecyOutlastsPower, ProtectedUntilPower}
 use Rattle.nvme_machine.proofs.Others.{cycled-at}
-use Rattle.nvme_machine.proofs.Layouts.{Leaves, AsItWas, Answered, PowerLost, admin-bytes, same-bytes, leaves, layout_stays, only_allowed_actions_reserve}
+use Rattle.nvme_machine.proofs.Layouts.{Leaves, AsItWas, AfterExecution, PowerLost, admin-bytes, same-bytes, leaves, layout_stays, only_allowed_actions_reserve}
 use Rattle.nvme_machine.proofs.Fencing.{fencing_holds}
 use Rattle.nvme_machine.proofs.Secrecy.{fenced_reading}
 
@@ -114,10 +114,10 @@ secrecy_outlasts_power old new medium events seen n laid differ p run fenced =
 abbrev KeepsProtected : ℕ → Scene → Scene → Type 0
 KeepsProtected n s left = (bytes_of left.world left.device.content n ≡ bytes_of s.world s.device.content n) × (protection_at left.world n ≡ Some UntilCycle)
 
-answer-protected : (admin : Bool) (queues : Queues) (k : ℕ) (t : FetchedCommand) (s : Scene) (a : Answer) (n : ℕ) → IsLaidOut s.world s.device.content → AnswersAs admin true queues k t s a
+answer-protected : (admin : Bool) (queues : Queues) (k : ℕ) (t : FetchedCommand) (s : Scene) (a : CommandExecution) (n : ℕ) → IsLaidOut s.world s.device.content → CommandComesToAs admin true queues k t s a
     → protection_at s.world n ≡ Some UntilCycle → KeepsProtected n s a.left
 answer-protected true queues k t s a n laid h is =
-    (admin-bytes queues k t s a n h, ap (λ (x : Answer). protection_at x.left.world n) h ∙ protection_outlasts_commands s.world queues k t.entry s.window n is)
+    (admin-bytes queues k t s a n h, ap (λ (x : CommandExecution). protection_at x.left.world n) h ∙ protection_outlasts_commands s.world queues k t.entry s.window n is)
 answer-protected false queues k t s a n laid h is = (
   protected_commands_write_nothing k t.entry t.marked s a.left a.outcome n UntilCycle laid h.1 is refl,
   commands_keep_protection true k t.entry t.marked s a.left a.outcome n h.1 ∙ is,
@@ -127,11 +127,11 @@ abbrev StaysProtected : ℕ → Subsystem → Subsystem → Type 0
 StaysProtected n old new = (namespace_bytes new n ≡ namespace_bytes old n) × (protection_at new.world n ≡ Some UntilCycle)
 
 protected-left : (old new : Subsystem) (event : Event) (n : ℕ) → IsLaidOut old.world old.device.content → protection_at old.world n ≡ Some UntilCycle → event ≢ PowerCycle → Leaves true old new event → StaysProtected n old new
-unfolding Answers
+unfolding CommandComesTo
 protected-left old new event n laid is powered (AsItWas world device) =
     (ap (λ w. bytes_of w new.device.content n) world ∙ ap (λ d. bytes_of old.world d.content n) device, ap (λ w. protection_at w n) world ∙ is)
 protected-left old new event n laid is powered (PowerLost lost world device) = absurd (powered lost)
-protected-left old new event n laid is powered (Answered k i executes c t a at found answers world device) =
+protected-left old new event n laid is powered (AfterExecution k i executes c t a at found answers world device) =
     let left = answer-protected (t.queue == 0) (queues_of c) k t (scene_of old c) a n laid answers is in
     (same-bytes new a n world device ∙ left.0, ap (λ w. protection_at w n) world ∙ left.1)
 

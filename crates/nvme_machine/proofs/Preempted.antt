@@ -17,8 +17,8 @@ use Rattle.nvme_machine.specs.declared.fetched.FetchedCommand.{FetchedCommand}
 use Rattle.nvme_machine.specs.declared.seen.Seen.{Seen}
 use Rattle.nvme_machine.specs.declared.seen.Seen.TheVariants.{Stored, Outside}
 use Rattle.nvme_machine.specs.Controllers.{Controller, SubmissionQueue, QueuePair, Reaction, with_mark, with_marks, queues_of, open_pair, after_store, after_write32, wrote, has_read, after_fetch, fetched_from, fetchable, taking_effect, after_queue_change, after_posting, reaction}
-use Rattle.nvme_machine.specs.Answers.{Answer, Answers, AnswersAs}
-use Rattle.nvme_machine.specs.Subsystems.{Subsystem, Step, ReactsAs, Completes, ExecutesAt, ExecutesOne, ExecutesOver, controller_at, controller_of, with_controller, after_answer, numbered, replaced, scene_of}
+use Rattle.nvme_machine.specs.CommandExecutions.{CommandExecution, CommandComesTo, CommandComesToAs}
+use Rattle.nvme_machine.specs.Subsystems.{Subsystem, Step, ReactsAs, Completes, ExecutesAt, ExecutesOne, ExecutesOver, controller_at, controller_of, with_controller, after_completion, numbered, replaced, scene_of}
 use Rattle.nvme_machine.specs.Runs.{IsStill}
 use Rattle.nvme_machine.specs.Preempted.{empties, is_emptied, change_of, is_dropped, moved_up, place_posted, place_over, place_one, place_executed, place_after, StandsAt, CommandsAreFollowed, RunKeeping, PreemptedStaysOut}
 use Rattle.nvme_machine.proofs.Others.{marks-numbered, executed-at, NamesOne, others-keep}
@@ -84,9 +84,9 @@ unless true d x l h = absurd (none-some _ h)
 unless false true x l h = absurd (none-some _ h)
 unless false false x l h = (refl, refl, same_Some _ _ h)
 
-posted-at : (change : QueueChange) (i m l : ℕ) (t u : FetchedCommand) (p : QueuePair) (a : Answer) (c : Controller) → a.change ≡ change → slice_get c.fetched m ≡ Some t → place_posted change i c.fetched m ≡ Some l
-    → slice_get (after_answer i u p a c).fetched l ≡ Some t
-unfolding after_answer after_posting
+posted-at : (change : QueueChange) (i m l : ℕ) (t u : FetchedCommand) (p : QueuePair) (a : CommandExecution) (c : Controller) → a.change ≡ change → slice_get c.fetched m ≡ Some t → place_posted change i c.fetched m ≡ Some l
+    → slice_get (after_completion i u p a c).fetched l ≡ Some t
+unfolding after_completion after_posting
 posted-at change i m l t u p a c is found place =
     let r = unless (m == i) (is_dropped change (slice_get c.fetched m)) _ l place in
     let other : i ≢ m = λ e. eqb-false m i r.0 (sym e) in
@@ -96,12 +96,12 @@ posted-at change i m l t u p a c is found place =
     ap (λ x. slice_get (after_queue_change x before).fetched l) is
     ∙ ap (λ x. slice_get (after_queue_change change before).fetched x) (sym r.2) ∙ done
 
-pub change-is : (tells : Bool) (s : Subsystem) (k : ℕ) (c : Controller) (u : FetchedCommand) (a : Answer) → Answers tells (queues_of c) k u (scene_of s c) a → a.change ≡ change_of s k c u
-unfolding Answers
+pub change-is : (tells : Bool) (s : Subsystem) (k : ℕ) (c : Controller) (u : FetchedCommand) (a : CommandExecution) → CommandComesTo tells (queues_of c) k u (scene_of s c) a → a.change ≡ change_of s k c u
+unfolding CommandComesTo
 change-is tells s k c u a h = by (u.queue == 0) h
   where
-    by : (b : Bool) → AnswersAs b tells (queues_of c) k u (scene_of s c) a → a.change ≡ (if b then (admin_execution s.world (queues_of c) k u.entry c.window).change else Keep)
-    by true g = ap (λ (x : Answer). x.change) g
+    by : (b : Bool) → CommandComesToAs b tells (queues_of c) k u (scene_of s c) a → a.change ≡ (if b then (admin_execution s.world (queues_of c) k u.entry c.window).change else Keep)
+    by true g = ap (λ (x : CommandExecution). x.change) g
     by false g = g.0
 
 -- marks leave it at its place
@@ -119,8 +119,8 @@ completed : (tells : Bool) (old new : Subsystem) (k : ℕ) (c : Controller) (i m
     → slice_get c.fetched m ≡ Some t → place_posted (change_of old k c u) i c.fetched m ≡ Some l → AtOf (controller_at new k) t l
 unfolding controller_at
 completed tells old new k c i m l u t p seen h at found place =
-    let a : Answer = h.answer in
-    let end : Controller = after_answer i u p a c in
+    let a : CommandExecution = h.answer in
+    let end : Controller = after_completion i u p a c in
     let new_at = executed-at old new k c i u p a k h.leaves in
     let stood : AtOf (numbered (replaced old.controllers k end) k) t l =
     (end, replaced-same old.controllers k c end at, as-it-is t end.fetched l (posted-at (change_of old k c u) i m l t u p a c (change-is tells old k c u a h.answers) found place)) in

@@ -10,15 +10,15 @@ use Rattle.nvme_machine.specs.declared.event.Event.TheVariants.{Store, Write32, 
 use Rattle.nvme_machine.specs.declared.fetched.FetchedCommand.{FetchedCommand}
 use Rattle.nvme_machine.specs.declared.seen.Seen.{Seen}
 use Rattle.nvme_machine.specs.Controllers.{Controller, QueuePair, Reaction, queues_of, open_pair}
-use Rattle.nvme_machine.specs.Answers.{Answer}
-use Rattle.nvme_machine.specs.Subsystems.{Subsystem, Step, Run, ReactsAs, Completes as Finishes, ExecutesAt, ExecutesOne, ExecutesOver, OfItsController, controller_at, with_controller, scene_of, after_answer, after_execution, after_power_cycle}
+use Rattle.nvme_machine.specs.CommandExecutions.{CommandExecution}
+use Rattle.nvme_machine.specs.Subsystems.{Subsystem, Step, Run, ReactsAs, Completes as Finishes, ExecutesAt, ExecutesOne, ExecutesOver, OfItsController, controller_at, with_controller, scene_of, after_completion, after_execution, after_power_cycle}
 use Rattle.nvme_machine.specs.Fencing.{RunWhere, Allows, Forgets, LeavesReservation}
 use Rattle.nvme_machine.specs.Secrecy.{over, DifferIn, MayNotRead, FencedReading, FencedReadingIsSame}
 use Rattle.nvme_machine.proofs.AdminWorlds.{HasSameExtents}
 use Rattle.nvme_machine.proofs.Determined.{run_is_unique}
 use Rattle.nvme_machine.proofs.Fencing.{reading-stays, of-each}
 use Rattle.nvme_machine.proofs.Layouts.{step-extents, layout_stays}
-use Rattle.nvme_machine.proofs.SecretCommands.{Mirrors, answer_over, answers-over}
+use Rattle.nvme_machine.proofs.SecretCommands.{Mirrors, command_execution_over, answers-over}
 
 -- Steps.
 
@@ -38,16 +38,16 @@ reacts (Some c) n old new k f seen d differ h =
 completes-over : (n : ℕ) (old new : Subsystem) (k : ℕ) (c : Controller) (i : ℕ) (t : FetchedCommand) (p : QueuePair) (seen : Seen) (d : Device) → IsLaidOut old.world old.device.content
     → DifferIn n old.world old.device d → may_read old.world k n ≡ false → Finishes true old k c i t p seen new
     → MirrorsStep n old new (λ x. Finishes true (over d old) k c i t p seen (over x new))
-unfolding after_execution after_answer
+unfolding after_execution after_completion
 completes-over n old new k c i t p seen d laid differ fenced h =
-    let a : Answer = h.answer in
+    let a : CommandExecution = h.answer in
     let m = answers-over n (queues_of c) k t (scene_of old c) a d laid differ fenced h.answers in (
       m.0,
-      record { answer = answer_over m.0 a; answers = m.1; gives = h.gives; leaves = ap (over m.0) h.leaves ∙ same m.0 a },
+      record { answer = command_execution_over m.0 a; answers = m.1; gives = h.gives; leaves = ap (over m.0) h.leaves ∙ same m.0 a },
       subst (λ x. DifferIn n old.world x m.0) (sym (ap (λ (s : Subsystem). s.device) h.leaves)) m.2,
     )
   where
-    same : (x : Device) (a : Answer) → over x (after_execution old k c i t p a) ≡ after_execution (over d old) k c i t p (answer_over x a)
+    same : (x : Device) (a : CommandExecution) → over x (after_execution old k c i t p a) ≡ after_execution (over d old) k c i t p (command_execution_over x a)
     same x a = refl
 
 over-one : (o : Option QueuePair) (n : ℕ) (old new : Subsystem) (k : ℕ) (c : Controller) (i : ℕ) (t : FetchedCommand) (seen : Seen) (d : Device) → IsLaidOut old.world old.device.content

@@ -32,7 +32,7 @@ use Rattle.nvme_spec.proofs.Splices.{length-with_bytes}
 use Rattle.nvme_spec.proofs.FaultFree.{extent-known}
 use Rattle.nvme_spec.proofs.Passing.{HasPassed, has-passed, not_false, some_of}
 use Rattle.nvme_machine.specs.declared.fetched.FetchedCommand.{FetchedCommand}
-use Rattle.nvme_machine.specs.Answers.{Answer, Answers, AnswersAs}
+use Rattle.nvme_machine.specs.CommandExecutions.{CommandExecution, CommandComesTo, CommandComesToAs}
 use Rattle.nvme_machine.specs.Secrecy.{DifferIn}
 use Rattle.nvme_machine.proofs.Agreeing.{Agree, same-read, both-written}
 
@@ -337,9 +337,7 @@ performs n s k e sent ReservationReport new d answer returned laid differ fenced
 pub performed-size : (s : Scene) (k : ℕ) (e sent : List ℕ) (command : Command) (new : Scene) (answer : Status) (returned : List ℕ) → IsLaidOut s.world s.device.content
     → HasPassed s.world k e command → BringsItsData command e sent → Performs true command k e sent s new answer returned
     → length new.device.content ≡ length s.device.content
-performed-size s k e sent Flush new answer returned laid p brings h = let f = h.effect in ap length (f.0.0 refl)
 performed-size s k e sent Read new answer returned laid p brings h = let f = h.effect in ap length (f.0 refl)
-performed-size s k e sent Compare new answer returned laid p brings h = let f = h.effect in ap length (f.0.0 refl)
 performed-size s k e sent Write new answer returned laid p brings h =
     let f = h.effect in
     let l = lies s.world k e p.attached p.fits in
@@ -352,6 +350,7 @@ performed-size s k e sent ReservationRegister new answer returned laid p brings 
 performed-size s k e sent ReservationAcquire new answer returned laid p brings h = ap (λ (d : Device). length d.content) h.device
 performed-size s k e sent ReservationRelease new answer returned laid p brings h = ap (λ (d : Device). length d.content) h.device
 performed-size s k e sent ReservationReport new answer returned laid p brings h = ap (λ (d : Device). length d.content) h.device
+performed-size s k e sent command new answer returned laid p brings h = let f = h.effect in ap length (f.0.0 refl)
 
 by-verdict : (v : Verdict) (n k : ℕ) (e : List ℕ) (marked : Bool) (s new : Scene) (d : Device) (o : Outcome) → io_verdict s.world k e marked s.window ≡ v → IsLaidOut s.world s.device.content
     → DifferIn n s.world s.device d → may_read s.world k n ≡ false → ExecutesBy v true k e s new o
@@ -364,20 +363,20 @@ by-verdict (Allowed plan) n k e marked s new d o is laid differ fenced h =
     (m.0, record { returned = h.returned; effect = m.1; window = h.window; dw0 = h.dw0; rule = h.rule; marks = h.marks }, m.2)
 
 -- the answer to a command over another medium
-abbrev pub answer_over : Device → Answer → Answer
-answer_over d a = record { outcome = a.outcome; change = a.change; left = scene_over d a.left }
+abbrev pub command_execution_over : Device → CommandExecution → CommandExecution
+command_execution_over d a = record { outcome = a.outcome; change = a.change; left = scene_over d a.left }
 
-answers-as : (admin : Bool) (n : ℕ) (queues : Queues) (k : ℕ) (t : FetchedCommand) (s : Scene) (a : Answer) (d : Device) → IsLaidOut s.world s.device.content → DifferIn n s.world s.device d
-    → may_read s.world k n ≡ false → AnswersAs admin true queues k t s a
-    → Mirrors n s.world a.left.device (λ x. AnswersAs admin true queues k t (scene_over d s) (answer_over x a))
+answers-as : (admin : Bool) (n : ℕ) (queues : Queues) (k : ℕ) (t : FetchedCommand) (s : Scene) (a : CommandExecution) (d : Device) → IsLaidOut s.world s.device.content → DifferIn n s.world s.device d
+    → may_read s.world k n ≡ false → CommandComesToAs admin true queues k t s a
+    → Mirrors n s.world a.left.device (λ x. CommandComesToAs admin true queues k t (scene_over d s) (command_execution_over x a))
 answers-as true n queues k t s a d laid differ fenced h =
-    (d, ap (answer_over d) h, same-device n s a.left d differ (ap (λ (y : Answer). y.left.device) h))
+    (d, ap (command_execution_over d) h, same-device n s a.left d differ (ap (λ (y : CommandExecution). y.left.device) h))
 answers-as false n queues k t s a d laid differ fenced h =
     let m = by-verdict (io_verdict s.world k t.entry t.marked s.window) n k t.entry t.marked s a.left d a.outcome refl laid differ fenced h.1 in
     (m.0, (h.0, m.1), m.2)
 
-pub answers-over : (n : ℕ) (queues : Queues) (k : ℕ) (t : FetchedCommand) (s : Scene) (a : Answer) (d : Device) → IsLaidOut s.world s.device.content → DifferIn n s.world s.device d
-    → may_read s.world k n ≡ false → Answers true queues k t s a
-    → Mirrors n s.world a.left.device (λ x. Answers true queues k t (scene_over d s) (answer_over x a))
-unfolding Answers
+pub answers-over : (n : ℕ) (queues : Queues) (k : ℕ) (t : FetchedCommand) (s : Scene) (a : CommandExecution) (d : Device) → IsLaidOut s.world s.device.content → DifferIn n s.world s.device d
+    → may_read s.world k n ≡ false → CommandComesTo true queues k t s a
+    → Mirrors n s.world a.left.device (λ x. CommandComesTo true queues k t (scene_over d s) (command_execution_over x a))
+unfolding CommandComesTo
 answers-over n queues k t s a d laid differ fenced h = answers-as (t.queue == 0) n queues k t s a d laid differ fenced h

@@ -18,8 +18,8 @@ use Rattle.nvme_machine.specs.declared.fetched.FetchedCommand.{FetchedCommand}
 use Rattle.nvme_machine.specs.declared.seen.Seen.{Seen}
 use Rattle.nvme_machine.specs.declared.seen.Seen.TheVariants.{Stored, Outside}
 use Rattle.nvme_machine.specs.Controllers.{Controller, SubmissionQueue, QueuePair, Reaction, names, with_mark, with_marks, queues_of, open_pair, after_store, after_write32, wrote as wrote_register, has_read, after_fetch, fetched_from, fetchable, taking_effect, after_queue_change, after_posting, reaction}
-use Rattle.nvme_machine.specs.Answers.{Answer, Answers, AnswersAs}
-use Rattle.nvme_machine.specs.Subsystems.{Subsystem, Step, ReactsAs, Completes, ExecutesAt, ExecutesOne, ExecutesOver, controller_at, controller_of, with_controller, after_answer, numbered, replaced, scene_of}
+use Rattle.nvme_machine.specs.CommandExecutions.{CommandExecution, CommandComesTo, CommandComesToAs}
+use Rattle.nvme_machine.specs.Subsystems.{Subsystem, Step, ReactsAs, Completes, ExecutesAt, ExecutesOne, ExecutesOver, controller_at, controller_of, with_controller, after_completion, numbered, replaced, scene_of}
 use Rattle.nvme_machine.specs.Runs.{IsStill, StandsIn, Deletes, IsReset, FetchedStays}
 use Rattle.nvme_machine.proofs.Others.{marks-numbered, executed-at, NamesOne, others-keep}
 
@@ -142,18 +142,18 @@ changes-queues (DropSq qid) c t m found = by (t.queue == qid) refl
         let r = got-filtered (λ (u : FetchedCommand). not (u.queue == qid)) c.fetched m t (ap not e) found in
         inl (stands t _ r.0 r.1)
 
-pub changing : (tells : Bool) (s : Scene) (queues : Queues) (k : ℕ) (u : FetchedCommand) (a : Answer) → Answers tells queues k u s a
+pub changing : (tells : Bool) (s : Scene) (queues : Queues) (k : ℕ) (u : FetchedCommand) (a : CommandExecution) → CommandComesTo tells queues k u s a
     → (a.change ≡ Keep) ⊎ (((u.queue == 0) ≡ true) × (a.change ≡ (admin_execution s.world queues k u.entry s.window).change))
-unfolding Answers
+unfolding CommandComesTo
 changing tells s queues k u a h = by (u.queue == 0) refl h
   where
-    by : (b : Bool) → (u.queue == 0) ≡ b → AnswersAs b tells queues k u s a → (a.change ≡ Keep) ⊎ (((u.queue == 0) ≡ true) × (a.change ≡ (admin_execution s.world queues k u.entry s.window).change))
-    by true e g = inr (e, ap (λ (x : Answer). x.change) g)
+    by : (b : Bool) → (u.queue == 0) ≡ b → CommandComesToAs b tells queues k u s a → (a.change ≡ Keep) ⊎ (((u.queue == 0) ≡ true) × (a.change ≡ (admin_execution s.world queues k u.entry s.window).change))
+    by true e g = inr (e, ap (λ (x : CommandExecution). x.change) g)
     by false e g = inl g.0
 
-finishes : (tells : Bool) (s : Scene) (k : ℕ) (c : Controller) (i m : ℕ) (u t : FetchedCommand) (p : QueuePair) (a : Answer) → Answers tells (queues_of c) k u s a → slice_get c.fetched i ≡ Some u → slice_get c.fetched m ≡ Some t → i ≢ m
-    → StandsIn t (after_answer i u p a c) ⊎ Deletes s c k i t.queue
-unfolding after_posting after_answer
+finishes : (tells : Bool) (s : Scene) (k : ℕ) (c : Controller) (i m : ℕ) (u t : FetchedCommand) (p : QueuePair) (a : CommandExecution) → CommandComesTo tells (queues_of c) k u s a → slice_get c.fetched i ≡ Some u → slice_get c.fetched m ≡ Some t → i ≢ m
+    → StandsIn t (after_completion i u p a c) ⊎ Deletes s c k i t.queue
+unfolding after_posting after_completion
 finishes tells s k c i m u t p a answers here found other =
     let r = got-removed c.fetched i m t other found in
     elim (changes-queues a.change (after_posting i u p a.outcome.status a.outcome.dw0 (record c { window = a.left.window })) t r.0 r.1) [
@@ -175,8 +175,8 @@ completed : (tells : Bool) (old new : Subsystem) (k : ℕ) (c : Controller) (i m
     → slice_get c.fetched i ≡ Some u → slice_get c.fetched m ≡ Some t → i ≢ m → Stands new k t ⊎ Deletes (scene_of old c) c k i t.queue
 unfolding controller_at
 completed tells old new k c i m u t p seen h at here found other =
-    let a : Answer = h.answer in
-    let end : Controller = after_answer i u p a c in
+    let a : CommandExecution = h.answer in
+    let end : Controller = after_completion i u p a c in
     let new_at = executed-at old new k c i u p a k h.leaves in
     let end_at = replaced-same old.controllers k c end at in
     elim (finishes tells (scene_of old c) k c i m u t p a h.answers here found other) [

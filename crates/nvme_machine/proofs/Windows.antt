@@ -37,8 +37,8 @@ use Rattle.nvme_spec.proofs.TransferLaws.{length-with_scattered}
 use Rattle.nvme_machine.specs.declared.fetched.FetchedCommand.{FetchedCommand}
 use Rattle.nvme_machine.specs.declared.seen.Seen.TheVariants.{Stored, Outside}
 use Rattle.nvme_machine.specs.Controllers.{Controller, SubmissionQueue, CompletionQueue, QueuePair, new_controller, no_submission_queues, no_completion_queues, queues_of, completion_at, submission_at, pair_of, if_room, open_pair, with_tail, with_head, with_admin_queues, admin_submission_queue, admin_completion_queue, taking_effect, fetchable, fetched_from, reaction, after_store, after_write32, after_fetch, after_posting, after_queue_change, completion_slot, completion_of, with_marks}
-use Rattle.nvme_machine.specs.Answers.{Answer, Answers, AnswersAs}
-use Rattle.nvme_machine.specs.Subsystems.{opening, controller_at, after_answer}
+use Rattle.nvme_machine.specs.CommandExecutions.{CommandExecution, CommandComesTo, CommandComesToAs}
+use Rattle.nvme_machine.specs.Subsystems.{opening, controller_at, after_completion}
 use Rattle.nvme_machine.specs.Windows.{SubmitsInside, LiesInside, HasItsWindow, OpeningHasItsWindows, WindowsKeepTheirLength}
 use Rattle.nvme_machine.proofs.Everywhere.{Keeps, run-keeps}
 use Rattle.nvme_machine.proofs.Staying.{changing}
@@ -177,16 +177,16 @@ admin-window w k e window (Err d) o = refl
 admin-window w k e window (Ok u) None = refl
 admin-window w k e window (Ok u) (Some command) = length-with_scattered window _ _
 
-pub answer-window : (tells : Bool) (queues : Queues) (k : ℕ) (t : FetchedCommand) (s : Scene) (a : Answer) → Answers tells queues k t s a → length a.left.window ≡ length s.window
-unfolding Answers admin_execution
+pub answer-window : (tells : Bool) (queues : Queues) (k : ℕ) (t : FetchedCommand) (s : Scene) (a : CommandExecution) → CommandComesTo tells queues k t s a → length a.left.window ≡ length s.window
+unfolding CommandComesTo admin_execution
 answer-window tells queues k t s a h = by (t.queue == 0) h
   where
-    by : (b : Bool) → AnswersAs b tells queues k t s a → length a.left.window ≡ length s.window
-    by true g = ap (λ (x : Answer). length x.left.window) g ∙ admin-window s.world k t.entry s.window (admin_judgement s.world queues k t.entry s.window) (command_of (opcode t.entry))
+    by : (b : Bool) → CommandComesToAs b tells queues k t s a → length a.left.window ≡ length s.window
+    by true g = ap (λ (x : CommandExecution). length x.left.window) g ∙ admin-window s.world k t.entry s.window (admin_judgement s.world queues k t.entry s.window) (command_of (opcode t.entry))
     by false g = let r = execution_keeps_the_rest tells k t.entry t.marked s a.left a.outcome g.1 in r.window
 
 -- what is known of a change of the queues
-pub change-suits : (tells : Bool) (w : World) (d : Device) (k : ℕ) (c : Controller) (t : FetchedCommand) (a : Answer) → Answers tells (queues_of c) k t (record { world = w; window = c.window; device = d }) a
+pub change-suits : (tells : Bool) (w : World) (d : Device) (k : ℕ) (c : Controller) (t : FetchedCommand) (a : CommandExecution) → CommandComesTo tells (queues_of c) k t (record { world = w; window = c.window; device = d }) a
     → Suits (queues_of c) a.change
 change-suits tells w d k c t a h = elim (changing tells (record { world = w; window = c.window; device = d }) (queues_of c) k t a h) [
   | inl keeps ↦ subst (Suits (queues_of c)) (sym keeps) tt
@@ -298,9 +298,9 @@ over-window c window size p = same-queues c (record c { window = window }) (size
 open-over : (c : Controller) (window : List ℕ) (t : FetchedCommand) (p : QueuePair) → IsOpen c t p → IsOpen (record c { window = window }) t p
 open-over c window t p o = record { submission = o.submission; completion = o.completion; room = o.room }
 
-finishes : (tells : Bool) (w : World) (d : Device) (k i : ℕ) (c : Controller) (t : FetchedCommand) (p : QueuePair) (a : Answer) → open_pair c t ≡ Some p
-    → Answers tells (queues_of c) k t (record { world = w; window = c.window; device = d }) a → HasItsWindow c → HasItsWindow (after_answer i t p a c)
-unfolding after_answer
+finishes : (tells : Bool) (w : World) (d : Device) (k i : ℕ) (c : Controller) (t : FetchedCommand) (p : QueuePair) (a : CommandExecution) → open_pair c t ≡ Some p
+    → CommandComesTo tells (queues_of c) k t (record { world = w; window = c.window; device = d }) a → HasItsWindow c → HasItsWindow (after_completion i t p a c)
+unfolding after_completion
 finishes tells w d k i c t p a room answers placed =
     let size = answer-window tells (queues_of c) k t (record { world = w; window = c.window; device = d }) a answers in
     changes a.change (queues_of c) (after_posting i t p a.outcome.status a.outcome.dw0 (record c { window = a.left.window })) (change-suits tells w d k c t a answers)

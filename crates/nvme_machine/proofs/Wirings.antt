@@ -24,8 +24,8 @@ use Rattle.nvme_spec.specs.Execution.{Scene}
 use Rattle.nvme_spec.proofs.QueueChanges.{admin_changes_suit}
 use Rattle.nvme_machine.specs.declared.fetched.FetchedCommand.{FetchedCommand}
 use Rattle.nvme_machine.specs.declared.seen.Seen.TheVariants.{Stored, Outside}
-use Rattle.nvme_machine.specs.Answers.{Answer, Answers}
-use Rattle.nvme_machine.specs.Subsystems.{opening, after_answer, controller_at}
+use Rattle.nvme_machine.specs.CommandExecutions.{CommandExecution, CommandComesTo}
+use Rattle.nvme_machine.specs.Subsystems.{opening, after_completion, controller_at}
 use Rattle.nvme_machine.specs.Controllers.{new_controller, no_submission_queues, without_queues, admin_submission_queue, admin_completion_queue, with_admin_queues, with_tail, with_head, taking_effect, fetchable, may_fetch, if_waiting, fetched_from, head_entry, reaction, after_store, after_write32, has_read, after_fetch, Controller, SubmissionQueue, CompletionQueue, QueuePair, names, with_mark, with_marks, queues_of, submission_at, completion_at, pair_of, if_room, open_pair, after_queue_change, after_posting}
 use Rattle.nvme_machine.specs.Wiring.{IsWired, OpeningIsWired, WiringStays, WaitsWhereFull}
 use Rattle.nvme_machine.proofs.Everywhere.{Keeps, step-keeps}
@@ -225,12 +225,12 @@ allows-window (DropSq qid) c window a = tt
 with-window : (c : Controller) (window : List ℕ) → IsWired c → IsWired (record c { window = window })
 with-window c window w = record { fetched = w.fetched; completes = w.completes }
 
-allows-answer : (tells : Bool) (s : Scene) (k : ℕ) (c : Controller) (u : FetchedCommand) (a : Answer) → (a.change ≡ Keep) ⊎ (((u.queue == 0) ≡ true) × (a.change ≡ (admin_execution s.world (queues_of c) k u.entry s.window).change)) → Allows c a.change
+allows-answer : (tells : Bool) (s : Scene) (k : ℕ) (c : Controller) (u : FetchedCommand) (a : CommandExecution) → (a.change ≡ Keep) ⊎ (((u.queue == 0) ≡ true) × (a.change ≡ (admin_execution s.world (queues_of c) k u.entry s.window).change)) → Allows c a.change
 allows-answer tells s k c u a (inl keeps) = subst (Allows c) (sym keeps) tt
 allows-answer tells s k c u a (inr admin) = subst (Allows c) (sym admin.1) (admin-allowed s.world k c u.entry s.window)
 
-finishes : (tells : Bool) (s : Scene) (k : ℕ) (c : Controller) (i : ℕ) (u : FetchedCommand) (p : QueuePair) (a : Answer) → Answers tells (queues_of c) k u s a → IsWired c → IsWired (after_answer i u p a c)
-unfolding after_answer
+finishes : (tells : Bool) (s : Scene) (k : ℕ) (c : Controller) (i : ℕ) (u : FetchedCommand) (p : QueuePair) (a : CommandExecution) → CommandComesTo tells (queues_of c) k u s a → IsWired c → IsWired (after_completion i u p a c)
+unfolding after_completion
 finishes tells s k c i u p a answers w =
     let allows = allows-answer tells s k c u a (changing tells s (queues_of c) k u a answers) in
     let d : Controller = record c { window = a.left.window } in

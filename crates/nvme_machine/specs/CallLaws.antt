@@ -17,7 +17,7 @@ use Rattle.nvme_machine.specs.declared.fetched.FetchedCommand.{FetchedCommand}
 use Rattle.nvme_machine.specs.declared.seen.Executed.TheVariants.{Posted}
 use Rattle.nvme_machine.specs.declared.seen.Seen.{Seen}
 use Rattle.nvme_machine.specs.declared.seen.Seen.TheVariants.{Executed}
-use Rattle.nvme_machine.specs.Answers.{judgement}
+use Rattle.nvme_machine.specs.CommandExecutions.{judgement}
 use Rattle.nvme_machine.specs.Controllers.{Controller, QueuePair, queues_of}
 use Rattle.nvme_machine.specs.EventCalls.{AreCallsOfStep, AreCallsOfRun}
 use Rattle.nvme_machine.specs.FaultFree.{fault_free_seen, fault_free_left}

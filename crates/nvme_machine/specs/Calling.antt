@@ -10,18 +10,18 @@ use Rattle.nvme_machine.specs.declared.fetched.FetchedCommand.{FetchedCommand}
 use Rattle.nvme_machine.specs.declared.seen.Executed.{Executed}
 use Rattle.nvme_machine.specs.declared.seen.Executed.TheVariants.{NoSuch, CqFull}
 use Rattle.nvme_machine.specs.Controllers.{QueuePair, queues_of, open_pair}
-use Rattle.nvme_machine.specs.Answers.{Answer, judgement}
+use Rattle.nvme_machine.specs.CommandExecutions.{CommandExecution, judgement}
 use Rattle.nvme_machine.specs.Executing.{Setting, scene_in, Finishes, ExecutesNth}
 
 -- by whether it came from the admin queue: such a command makes no call
-abbrev pub AreCallsAs : Bool → ℕ → FetchedCommand → Scene → Answer → List MediumCall → Type 0
+abbrev pub AreCallsAs : Bool → ℕ → FetchedCommand → Scene → CommandExecution → List MediumCall → Type 0
 AreCallsAs true cntlid t s a calls = calls ≡ []
 AreCallsAs false cntlid t s a calls =
     AreCallsBy (io_verdict s.world cntlid t.entry t.marked s.window) s.world s.window t.entry a.outcome.status
     a.left.window calls
 
 -- a fetched command of a controller, executed now with this answer, makes these calls
-unfoldable pub AreCallsOfAnswer : ℕ → FetchedCommand → Scene → Answer → List MediumCall → Type 0
+unfoldable pub AreCallsOfAnswer : ℕ → FetchedCommand → Scene → CommandExecution → List MediumCall → Type 0
 AreCallsOfAnswer cntlid t s a calls = AreCallsAs (t.queue == 0) cntlid t s a calls
 
 -- The i-th command has an answer, all is as that says, and it has made the calls of that answer.

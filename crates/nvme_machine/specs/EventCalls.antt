@@ -44,6 +44,15 @@ AreCallsOfStep tells old (Execute k i) seen new calls = CallingAt (controller_at
 AreCallsOfStep tells old PowerCycle seen new calls =
     (seen ≡ Cycled) × (new ≡ after_power_cycle old) × (calls ≡ [])
 
+-- an event that is no execution
+abbrev pub ExecutesNothing : Event → Type 0
+ExecutesNothing (Store k address bytes) = Unit {0}
+ExecutesNothing (Write32 k offset v) = Unit {0}
+ExecutesNothing (Read32 k offset) = Unit {0}
+ExecutesNothing (Fetch k q) = Unit {0}
+ExecutesNothing (Execute k i) = ⊥
+ExecutesNothing PowerCycle = Unit {0}
+
 -- Events, one after the other, and the calls that they make, one after the other. Between two events there is one
 -- state, and the calls of the first come before those of the second.
 abbrev pub AreCallsOfRun : Bool → Subsystem → List Event → List Seen → Subsystem → List MediumCall → Type 0

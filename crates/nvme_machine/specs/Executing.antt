@@ -8,8 +8,8 @@ use Rattle.nvme_machine.specs.declared.fetched.FetchedCommand.{FetchedCommand}
 use Rattle.nvme_machine.specs.declared.seen.Executed.{Executed}
 use Rattle.nvme_machine.specs.declared.seen.Executed.TheVariants.{Posted, NoSuch, CqFull}
 use Rattle.nvme_machine.specs.Controllers.{Controller, QueuePair, queues_of, open_pair}
-use Rattle.nvme_machine.specs.Answers.{Answer, Answers}
-use Rattle.nvme_machine.specs.Subsystems.{after_answer}
+use Rattle.nvme_machine.specs.CommandExecutions.{CommandExecution, CommandComesTo}
+use Rattle.nvme_machine.specs.Subsystems.{after_completion}
 
 -- a controller, with what its commands may change besides
 pub record Setting : Type 0 where
@@ -26,10 +26,10 @@ scene_in s = record { world = s.world; window = s.controller.window; device = s.
 -- the i-th command has an answer, and all is as that says
 pub record Finishes (tells : Bool) (i : ℕ) (t : FetchedCommand) (p : QueuePair) (old : Setting) (executed : Executed)
     (new : Setting) : Type 0 where
-  pub answer : Answer
-  pub answers : Answers tells (queues_of old.controller) old.controller.cntlid t (scene_in old) answer
+  pub answer : CommandExecution
+  pub answers : CommandComesTo tells (queues_of old.controller) old.controller.cntlid t (scene_in old) answer
   pub gives : executed ≡ Posted answer.outcome
-  pub controller : new.controller ≡ after_answer i t p answer old.controller
+  pub controller : new.controller ≡ after_completion i t p answer old.controller
   pub world : new.world ≡ answer.left.world
   pub device : new.device ≡ answer.left.device
 

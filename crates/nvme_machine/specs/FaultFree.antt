@@ -12,17 +12,17 @@ use Rattle.nvme_machine.specs.declared.seen.Executed.TheVariants.{Posted, NoSuch
 use Rattle.nvme_machine.specs.declared.seen.Seen.{Seen}
 use Rattle.nvme_machine.specs.declared.seen.Seen.TheVariants.{Executed, Cycled, NoController}
 use Rattle.nvme_machine.specs.Controllers.{Controller, QueuePair, Reaction, queues_of, after_store, wrote, has_read, after_fetch, open_pair}
-use Rattle.nvme_machine.specs.Answers.{Answer, admin_answer}
+use Rattle.nvme_machine.specs.CommandExecutions.{CommandExecution, admin_command_execution}
 use Rattle.nvme_machine.specs.Subsystems.{Subsystem, controller_at, with_controller, scene_of, after_execution, after_power_cycle}
 
-abbrev pub io_answer : Execution → Answer
-io_answer x = record { outcome = x.outcome; change = Keep; left = x.left }
+abbrev pub io_command_execution : Execution → CommandExecution
+io_command_execution x = record { outcome = x.outcome; change = Keep; left = x.left }
 
-unfoldable pub fault_free_answer : Queues → ℕ → FetchedCommand → Scene → Answer
-fault_free_answer queues cntlid t s =
+unfoldable pub fault_free_command_execution : Queues → ℕ → FetchedCommand → Scene → CommandExecution
+fault_free_command_execution queues cntlid t s =
     if t.queue == 0
-    then admin_answer s (admin_execution s.world queues cntlid t.entry s.window)
-    else io_answer (fault_free_execution cntlid t.entry t.marked s)
+    then admin_command_execution s (admin_execution s.world queues cntlid t.entry s.window)
+    else io_command_execution (fault_free_execution cntlid t.entry t.marked s)
 
 -- What an event gives, and the subsystem after it.
 pub record Aftermath : Type 0 where
@@ -36,12 +36,12 @@ abbrev pub reacting : Option Controller → Subsystem → ℕ → (Controller �
 reacting None s k f = aftermath NoController s
 reacting (Some c) s k f = aftermath (f c).seen (with_controller s k (f c).controller)
 
-abbrev pub answered : Subsystem → ℕ → Controller → ℕ → FetchedCommand → QueuePair → Answer → Aftermath
+abbrev pub answered : Subsystem → ℕ → Controller → ℕ → FetchedCommand → QueuePair → CommandExecution → Aftermath
 answered s k c i t p a = aftermath (Executed (Posted a.outcome)) (after_execution s k c i t p a)
 
 abbrev pub executing_over : Option QueuePair → Subsystem → ℕ → Controller → ℕ → FetchedCommand → Aftermath
 executing_over None s k c i t = aftermath (Executed CqFull) s
-executing_over (Some p) s k c i t = answered s k c i t p (fault_free_answer (queues_of c) k t (scene_of s c))
+executing_over (Some p) s k c i t = answered s k c i t p (fault_free_command_execution (queues_of c) k t (scene_of s c))
 
 abbrev pub executing_one : Option FetchedCommand → Subsystem → ℕ → Controller → ℕ → Aftermath
 executing_one None s k c i = aftermath (Executed NoSuch) s

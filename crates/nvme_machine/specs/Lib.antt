@@ -1,6 +1,7 @@
 pub mod Controllers
-pub mod Answers
+pub mod CommandExecutions
 pub mod Subsystems
+pub mod Bare
 pub mod FaultFree
 pub mod Runs
 pub mod Fencing

@@ -22,7 +22,7 @@ use Rattle.nvme_machine.specs.declared.seen.Executed.TheVariants.{Posted}
 use Rattle.nvme_machine.specs.declared.seen.Seen.{Seen}
 use Rattle.nvme_machine.specs.declared.seen.Seen.TheVariants.{Executed}
 use Rattle.nvme_machine.specs.Controllers.{Controller, QueuePair, names, queues_of, open_pair, without_queue, after_posting}
-use Rattle.nvme_machine.specs.Answers.{judgement}
+use Rattle.nvme_machine.specs.CommandExecutions.{judgement}
 use Rattle.nvme_machine.specs.Subsystems.{Subsystem, Step, controller_at, with_controller, scene_of, is_host_among}
 use Rattle.nvme_machine.specs.Runs.{Waits, IsStill}
 

@@ -20,7 +20,7 @@ use Rattle.nvme_machine.specs.declared.seen.Executed.TheVariants.{Posted}
 use Rattle.nvme_machine.specs.declared.seen.Seen.{Seen}
 use Rattle.nvme_machine.specs.declared.seen.Seen.TheVariants.{Executed}
 use Rattle.nvme_machine.specs.Controllers.{Controller, QueuePair, queues_of, open_pair, after_posting, with_marks, power_cycled}
-use Rattle.nvme_machine.specs.Answers.{judgement}
+use Rattle.nvme_machine.specs.CommandExecutions.{judgement}
 use Rattle.nvme_machine.specs.Subsystems.{Subsystem, Step, Run, controller_at, controller_of, with_controller, scene_of, is_host_among, after_execution}
 use Rattle.nvme_machine.specs.FaultFree.{fault_free_seen, fault_free_left}
 

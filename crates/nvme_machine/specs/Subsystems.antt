@@ -17,7 +17,7 @@ use Rattle.nvme_machine.specs.declared.seen.Executed.TheVariants.{Posted, NoSuch
 use Rattle.nvme_machine.specs.declared.seen.Seen.{Seen}
 use Rattle.nvme_machine.specs.declared.seen.Seen.TheVariants.{Executed, Cycled, NoController}
 use Rattle.nvme_machine.specs.Controllers.{Controller, QueuePair, Reaction, new_controller, power_cycled, queues_of, after_store, wrote, has_read, after_fetch, open_pair, after_posting, after_queue_change, with_marks}
-use Rattle.nvme_machine.specs.Answers.{Answer, Answers}
+use Rattle.nvme_machine.specs.CommandExecutions.{CommandExecution, CommandComesTo}
 
 -- Controller k stands at place k - 1.
 pub record Subsystem : Type 0 where
@@ -90,24 +90,25 @@ marked_from w m k (c ∷ rest) =
     (if is_host_among m.hosts.items (host_of w k) then with_marks m.nsid c else c) ∷ marked_from w m (k + 1) rest
 
 -- its controller, once the i-th command has been answered so: the data stand in the window first, then the completion
-unfoldable pub after_answer : ℕ → FetchedCommand → QueuePair → Answer → Controller → Controller
-after_answer i t p a c =
+unfoldable pub after_completion : ℕ → FetchedCommand → QueuePair → CommandExecution → Controller → Controller
+after_completion i t p a c =
     after_queue_change a.change
     (after_posting i t p a.outcome.status a.outcome.dw0 (record c { window = a.left.window }))
 
 -- the subsystem then
-unfoldable pub after_execution : Subsystem → ℕ → Controller → ℕ → FetchedCommand → QueuePair → Answer → Subsystem
+unfoldable pub after_execution : Subsystem → ℕ → Controller → ℕ → FetchedCommand → QueuePair → CommandExecution
+    → Subsystem
 after_execution s k c i t p a = record {
   world = a.left.world;
   device = a.left.device;
-  controllers = marked_from a.left.world a.outcome.marks 1 (replaced s.controllers k (after_answer i t p a c));
+  controllers = marked_from a.left.world a.outcome.marks 1 (replaced s.controllers k (after_completion i t p a c));
 }
 
--- A command is executed: it has an answer, and all is as that says.
+-- A command is executed: it comes to this, and all is as that says.
 pub record Completes (tells : Bool) (old : Subsystem) (k : ℕ) (c : Controller) (i : ℕ) (t : FetchedCommand)
     (p : QueuePair) (seen : Seen) (new : Subsystem) : Type 0 where
-  pub answer : Answer
-  pub answers : Answers tells (queues_of c) k t (scene_of old c) answer
+  pub answer : CommandExecution
+  pub answers : CommandComesTo tells (queues_of c) k t (scene_of old c) answer
   pub gives : seen ≡ Executed (Posted answer.outcome)
   pub leaves : new ≡ after_execution old k c i t p answer
 

@@ -4,12 +4,14 @@
 //! beside them stand the plain types that both speak of.
 #![tactic(auto)]
 
+mod bare;
 mod event;
 mod examples;
 mod fetched;
 pub mod laws;
 mod seen;
 
+pub use bare::{BareExecuted, BareOutcome, BareSeen};
 pub use event::Event;
 pub use fetched::FetchedCommand;
 pub use seen::{Executed, Fetched, Seen};

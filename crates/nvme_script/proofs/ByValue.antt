@@ -5,7 +5,7 @@ use Rattle.nvme_driver.specs.declared.request.Request.{Request}
 use Rattle.nvme_driver.specs.declared.request.Request.TheVariants as request
 use Rattle.nvme_driver.specs.declared.faults.PlaceRefusal.{PlaceRefusal}
 use Rattle.nvme_event.specs.declared.event.FleetEvent.{FleetEvent}
-use Rattle.nvme_event.specs.declared.event.FleetEvent.TheVariants.{BringUp, Place, Ring, Fetch, Execute, Poll, Reset, RawStore, RawWrite32, PowerCycle}
+use Rattle.nvme_event.specs.declared.event.FleetEvent.TheVariants.{Place, RawStore}
 use Rattle.nvme_event.specs.Replies.{Reply}
 use Rattle.nvme_fleet.specs.Mailboxes.{Mailbox}
 use Rattle.nvme_fleet.specs.Deliveries.{MailboxReaction, placed, placed_by, refusal}
@@ -25,7 +25,6 @@ use Rattle.nvme_grammar.specs.Lent.{request_by_value, event_by_value}
 
 -- a request is placed by what it asks
 placed-by_value : (m : Mailbox) (r : Request) → placed m (request_by_value r) ≡ placed m r
-placed-by_value m (request.Read nsid slba blocks) = refl
 placed-by_value m (request.Write nsid slba bytes) = by (refusal m (request.Write nsid slba bytes))
   where
     by : (o : Option PlaceRefusal) → placed_by o m (request_by_value (request.Write nsid slba bytes)) ≡ placed_by o m (request.Write nsid slba bytes)
@@ -36,15 +35,6 @@ placed-by_value m (request.Compare nsid slba bytes) = by (refusal m (request.Com
     by : (o : Option PlaceRefusal) → placed_by o m (request_by_value (request.Compare nsid slba bytes)) ≡ placed_by o m (request.Compare nsid slba bytes)
     by None = refl
     by (Some why) = refl
-placed-by_value m (request.WriteZeroes nsid slba blocks) = refl
-placed-by_value m (request.Flush nsid) = refl
-placed-by_value m (request.Register nsid action iekey cptpl crkey nrkey) = refl
-placed-by_value m (request.Acquire nsid action rtype crkey prkey) = refl
-placed-by_value m (request.Release nsid action rtype crkey) = refl
-placed-by_value m (request.Report nsid dwords) = refl
-placed-by_value m (request.Identify cns nsid) = refl
-placed-by_value m (request.Protect nsid state) = refl
-placed-by_value m (request.Protection nsid) = refl
 placed-by_value m (request.Attach nsid list) = by (refusal m (request.Attach nsid list))
   where
     by : (o : Option PlaceRefusal) → placed_by o m (request_by_value (request.Attach nsid list)) ≡ placed_by o m (request.Attach nsid list)
@@ -55,6 +45,7 @@ placed-by_value m (request.Detach nsid list) = by (refusal m (request.Detach nsi
     by : (o : Option PlaceRefusal) → placed_by o m (request_by_value (request.Detach nsid list)) ≡ placed_by o m (request.Detach nsid list)
     by None = refl
     by (Some why) = refl
+placed-by_value m r = refl
 
 called-same : (h : Option Host) (f : Fleet) (k : ℕ) (a b : Mailbox → MailboxReaction) → ((m : Mailbox) → a m ≡ b m) → called_at h f k a ≡ called_at h f k b
 called-same None f k a b same = refl
@@ -62,66 +53,26 @@ called-same (Some (WithDriver m)) f k a b same = rw (same m) refl
 called-same (Some (Raw c)) f k a b same = refl
 
 pub Step-by_value : (tells : Bool) (old : Fleet) (event : FleetEvent) (reply : Reply) (new : Fleet) → Step tells old event reply new → Step tells old (event_by_value event) reply new
-Step-by_value tells old (BringUp k) reply new s = s
 Step-by_value tells old (Place k r) reply new s =
     subst (λ (x : Moment). Is x reply new) (sym (called-same (host_at old k) old k (λ m. placed m (request_by_value r)) (λ m. placed m r) (λ m. placed-by_value m r))) s
-Step-by_value tells old (Ring k) reply new s = s
-Step-by_value tells old (Fetch k q) reply new s = s
-Step-by_value tells old (Execute k i) reply new s = s
-Step-by_value tells old (Poll k) reply new s = s
-Step-by_value tells old (Reset k) reply new s = s
-Step-by_value tells old (RawStore k address bytes) reply new s = s
-Step-by_value tells old (RawWrite32 k offset v) reply new s = s
-Step-by_value tells old PowerCycle reply new s = s
+Step-by_value tells old event reply new s = s
 
 -- the line of an event is the same
 pub line-by_value : (event : FleetEvent) (reply : Reply) → line_of (event_by_value event) reply ≡ line_of event reply
-line-by_value (BringUp k) reply = refl
 line-by_value (Place k r) reply = placed-line k r reply
   where
     placed-line : (k : ℕ) (r : Request) (reply : Reply) → line_of (Place k (request_by_value r)) reply ≡ line_of (Place k r) reply
     placed-line k r reply = refl
-line-by_value (Ring k) reply = refl
-line-by_value (Fetch k q) reply = refl
-line-by_value (Execute k i) reply = refl
-line-by_value (Poll k) reply = refl
-line-by_value (Reset k) reply = refl
-line-by_value (RawStore k address bytes) reply = refl
-line-by_value (RawWrite32 k offset v) reply = refl
-line-by_value PowerCycle reply = refl
+line-by_value event reply = refl
 
 -- What it asks is the same.
 lane-by_value : (r : Request) → lane_of (request_by_value r) ≡ lane_of r
 lane-by_value (request.Read nsid slba blocks) = refl
-lane-by_value (request.Write nsid slba bytes) = refl
-lane-by_value (request.Compare nsid slba bytes) = refl
-lane-by_value (request.WriteZeroes nsid slba blocks) = refl
-lane-by_value (request.Flush nsid) = refl
-lane-by_value (request.Register nsid action iekey cptpl crkey nrkey) = refl
-lane-by_value (request.Acquire nsid action rtype crkey prkey) = refl
-lane-by_value (request.Release nsid action rtype crkey) = refl
-lane-by_value (request.Report nsid dwords) = refl
-lane-by_value (request.Identify cns nsid) = refl
-lane-by_value (request.Protect nsid state) = refl
-lane-by_value (request.Protection nsid) = refl
-lane-by_value (request.Attach nsid list) = refl
-lane-by_value (request.Detach nsid list) = refl
+lane-by_value r = refl
 
 asked-by_value : (r : Request) → asked_of (request_by_value r) ≡ asked_of r
 asked-by_value (request.Read nsid slba blocks) = refl
-asked-by_value (request.Write nsid slba bytes) = refl
-asked-by_value (request.Compare nsid slba bytes) = refl
-asked-by_value (request.WriteZeroes nsid slba blocks) = refl
-asked-by_value (request.Flush nsid) = refl
-asked-by_value (request.Register nsid action iekey cptpl crkey nrkey) = refl
-asked-by_value (request.Acquire nsid action rtype crkey prkey) = refl
-asked-by_value (request.Release nsid action rtype crkey) = refl
-asked-by_value (request.Report nsid dwords) = refl
-asked-by_value (request.Identify cns nsid) = refl
-asked-by_value (request.Protect nsid state) = refl
-asked-by_value (request.Protection nsid) = refl
-asked-by_value (request.Attach nsid list) = refl
-asked-by_value (request.Detach nsid list) = refl
+asked-by_value r = refl
 
 stored-by_value : (o : Option (Option Driver)) (tells : Bool) (old : Layers) (k address : ℕ) (bytes : Bor (List ℕ)) (what : FleetSeen) (new : Layers)
     → AppliesRaw o tells old (Store k address bytes) what new → AppliesRaw o tells old (Store k address (lent bytes.now)) what new
@@ -130,16 +81,9 @@ stored-by_value (Some None) tells old k address bytes what new h = record { give
 stored-by_value (Some (Some d)) tells old k address bytes what new h = h
 
 below-by_value : (tells : Bool) (old new : Layers) (event : FleetEvent) (what : FleetSeen) (calls : List MediumCall) → HappensCalling tells old event what new calls → HappensCalling tells old (event_by_value event) what new calls
-below-by_value tells old new (BringUp k) what calls h = h
 below-by_value tells old new (Place k r) what calls h = (placed-alike tells old new k r (request_by_value r) what (lane-by_value r) (asked-by_value r) h.0, h.1)
-below-by_value tells old new (Ring k) what calls h = h
-below-by_value tells old new (Fetch k q) what calls h = h
-below-by_value tells old new (Execute k i) what calls h = h
-below-by_value tells old new (Poll k) what calls h = h
-below-by_value tells old new (Reset k) what calls h = h
 below-by_value tells old new (RawStore k address bytes) what calls h = (stored-by_value (driver_at old.drivers k) tells old k address bytes what new h.0, h.1)
-below-by_value tells old new (RawWrite32 k offset v) what calls h = h
-below-by_value tells old new PowerCycle what calls h = h
+below-by_value tells old new event what calls h = h
 
 -- and the calls of an event
 pub calls-by_value : (tells : Bool) (old new : Layers) (event : FleetEvent) (reply : Reply) (calls : List MediumCall) → AreCallsOfStep tells old event reply new calls → AreCallsOfStep tells old (event_by_value event) reply new calls

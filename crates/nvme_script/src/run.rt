@@ -15,7 +15,7 @@ ghost use Rattle.nvme_script.specs.declared.run.ScriptFault.TheVariants.{NoMemor
 use nvme_fleet::{Fleet, NewFault};
 use nvme_grammar::{Buffers, Line, ParseFault, Script, parse, parse_line};
 use nvme_medium::Medium;
-use nvme_spec::ConfigFault;
+use nvme_spec::{ConfigFault, Marks};
 use nvme_transcript::{LONGEST_LINE, TranscriptLine, write_line};
 use script_text::{ReadFault, Source, front_line, read_text};
 use std::alloc::{AllocError, Global};
@@ -140,7 +140,8 @@ fn run_line<W: Write, M: Medium>(
     let Some(Line::Event(event)) = parse_line(raw, bytes, identifiers) else {
         return Ok(());
     };
-    let seen = fleet.apply(event);
+    let mut marks = Marks::none();
+    let seen = fleet.apply_marking(event, &mut marks);
     let data = fleet.data();
     let shown = TranscriptLine {
         event,

@@ -7,7 +7,7 @@ use Rattle.nvme_machine.specs.declared.event.Event.TheVariants.{Store, Write32, 
 use Rattle.nvme_machine.specs.declared.fetched.FetchedCommand.{FetchedCommand}
 use Rattle.nvme_machine.specs.declared.seen.Seen.{Seen}
 use Rattle.nvme_machine.specs.Controllers.{Controller, QueuePair, Reaction, open_pair, power_cycled}
-use Rattle.nvme_machine.specs.Subsystems.{Subsystem, Step, ReactsAs, ExecutesAt, ExecutesOne, ExecutesOver, controller_at, with_controller, after_answer, after_execution, after_power_cycle, replaced}
+use Rattle.nvme_machine.specs.Subsystems.{Subsystem, Step, ReactsAs, ExecutesAt, ExecutesOne, ExecutesOver, controller_at, with_controller, after_completion, after_execution, after_power_cycle, replaced}
 use Rattle.nvme_subsys.proofs.Sound.{length-marked}
 
 length-replaced : (cs : List Controller) (k : ℕ) (c : Controller) → length (replaced cs k c) ≡ length cs
@@ -24,8 +24,8 @@ unfolding after_execution
 over-count None tells old new k c i t seen h = ap (λ (s : Subsystem). length s.controllers) h.1
 over-count (Some p) tells old new k c i t seen h =
     ap (λ (s : Subsystem). length s.controllers) h.leaves
-    ∙ length-marked h.answer.left.world h.answer.outcome.marks 1 (replaced old.controllers k (after_answer i t p h.answer c))
-    ∙ length-replaced old.controllers k (after_answer i t p h.answer c)
+    ∙ length-marked h.answer.left.world h.answer.outcome.marks 1 (replaced old.controllers k (after_completion i t p h.answer c))
+    ∙ length-replaced old.controllers k (after_completion i t p h.answer c)
 
 one-count : (o : Option FetchedCommand) (tells : Bool) (old new : Subsystem) (k : ℕ) (c : Controller) (i : ℕ) (seen : Seen) → ExecutesOne o tells old k c i seen new → length new.controllers ≡ length old.controllers
 one-count None tells old new k c i seen h = ap (λ (s : Subsystem). length s.controllers) h.1

@@ -12,8 +12,8 @@ use Rattle.nvme_machine.specs.declared.seen.Executed.TheVariants.{Posted, NoSuch
 use Rattle.nvme_machine.specs.declared.seen.Seen.{Seen}
 use Rattle.nvme_machine.specs.declared.seen.Seen.TheVariants.{NoController, Executed}
 use Rattle.nvme_machine.specs.Controllers.{Controller, QueuePair, queues_of, Reaction, reaction, open_pair}
-use Rattle.nvme_machine.specs.Answers.{Answers}
-use Rattle.nvme_machine.specs.Subsystems.{Subsystem, numbered, replaced, controller_at, with_controller, marked_from, after_answer, after_execution, scene_of, ReactsAs, Reacts, ExecutesAt, ExecutesOne, ExecutesOver}
+use Rattle.nvme_machine.specs.CommandExecutions.{CommandComesTo}
+use Rattle.nvme_machine.specs.Subsystems.{Subsystem, numbered, replaced, controller_at, with_controller, marked_from, after_completion, after_execution, scene_of, ReactsAs, Reacts, ExecutesAt, ExecutesOne, ExecutesOver}
 use Rattle.nvme_machine.specs.Executing.{Setting, setting, FinishesOver, FinishesOne, ExecutesNth}
 use Rattle.nvme_machine.specs.Calling.{AreCallsOfAnswer, AreCallsOver, AreCallsOne, AreCallsNth}
 use Rattle.nvme_machine.specs.EventCalls.{CallingOver, CallingOne, CallingAt}
@@ -108,14 +108,14 @@ unfolding after_execution
 over None tells old k place c i t x s at found named h = (ap Executed h.0, stays old place c x s found h.1 CqFull h.0 (whole old place c found))
 over (Some p) tells old k place c i t x s at found named h = record {
   answer = h.answer;
-  answers = subst (λ n. Answers tells (queues_of c) n t (scene_of old c) h.answer) named h.answers;
+  answers = subst (λ n. CommandComesTo tells (queues_of c) n t (scene_of old c) h.answer) named h.answers;
   gives = ap Executed h.gives;
   leaves =
       ap (λ y. with_outcome y (after-set old place s)) h.gives
       ∙ (λ j. record {
         world = h.world j;
         device = h.device j;
-        controllers = marked_from (h.world j) h.answer.outcome.marks 1 ((ap (λ d. slice_set old.controllers place d) h.controller ∙ sym (replaced-at old.controllers k place (after_answer i t p h.answer c) at)) j);
+        controllers = marked_from (h.world j) h.answer.outcome.marks 1 ((ap (λ d. slice_set old.controllers place d) h.controller ∙ sym (replaced-at old.controllers k place (after_completion i t p h.answer c) at)) j);
       });
 }
 
@@ -187,11 +187,11 @@ over-back None tells old k place c i t seen new at found named h = record {
 }
 over-back (Some p) tells old k place c i t seen new at found named h = record {
   executed = Posted h.answer.outcome;
-  left = setting (after_answer i t p h.answer c) h.answer.left.world h.answer.left.device;
+  left = setting (after_completion i t p h.answer c) h.answer.left.world h.answer.left.device;
   gives = h.gives;
   executes = record {
     answer = h.answer;
-    answers = subst (λ n. Answers tells (queues_of c) n t (scene_of old c) h.answer) (sym named) h.answers;
+    answers = subst (λ n. CommandComesTo tells (queues_of c) n t (scene_of old c) h.answer) (sym named) h.answers;
     gives = refl;
     controller = refl;
     world = refl;
@@ -199,7 +199,7 @@ over-back (Some p) tells old k place c i t seen new at found named h = record {
   };
   leaves = h.leaves
       ∙ ap (λ cs. (let b : Subsystem = record { world = h.answer.left.world; device = h.answer.left.device; controllers = marked_from h.answer.left.world h.answer.outcome.marks 1 cs } in b))
-      (replaced-at old.controllers k place (after_answer i t p h.answer c) at);
+      (replaced-at old.controllers k place (after_completion i t p h.answer c) at);
 }
 
 one-back : (o : Option FetchedCommand) (tells : Bool) (old : Subsystem) (k place : ℕ) (c : Controller) (i : ℕ) (seen : Seen) (new : Subsystem) → k ≡ place + 1 → slice_get old.controllers place ≡ Some c → c.cntlid ≡ k

@@ -4,7 +4,7 @@ use Rattle.nvme_spec.specs.MediumCalls.{MediumCall, MakesCalls, Calls}
 use Rattle.nvme_machine.specs.declared.event.Event.{Event}
 use Rattle.nvme_machine.specs.declared.event.Event.TheVariants.{Store, Write32, Read32, Fetch, Execute, PowerCycle}
 use Rattle.nvme_machine.specs.declared.seen.Seen.{Seen}
-use Rattle.nvme_machine.specs.EventCalls.{AreCallsOfStep}
+use Rattle.nvme_machine.specs.EventCalls.{AreCallsOfStep, ExecutesNothing}
 use Rattle.nvme_machine.specs.Subsystems.{Subsystem}
 use Rattle.nvme_subsys.specs.OverMedium.{OverMedium}
 
@@ -15,14 +15,6 @@ pub medium-is : {S M : Type 0} {a b : OverMedium S M} → a ≡ b → a.medium �
 medium-is {S} {M} e = ap (λ (x : OverMedium S M). x.medium) e
 
 -- What executes nothing makes no call, and leaves the medium.
-abbrev pub ExecutesNothing : Event → Type 0
-ExecutesNothing (Store k address bytes) = Unit {0}
-ExecutesNothing (Write32 k offset v) = Unit {0}
-ExecutesNothing (Read32 k offset) = Unit {0}
-ExecutesNothing (Fetch k q) = Unit {0}
-ExecutesNothing (Execute k i) = ⊥
-ExecutesNothing PowerCycle = Unit {0}
-
 pub medium-kept : {M : Type 0} (step : M → MediumCall → M → Type 0) (tells : Bool) (old new : Subsystem) (event : Event) (seen : Seen) (before after : M) → ExecutesNothing event
     → MakesCalls step (AreCallsOfStep tells old event seen new) before after → after ≡ before
 medium-kept step tells old new (Store k address bytes) seen before after quiet h = subst (λ cs. Calls step before cs after) h.are.1 h.made

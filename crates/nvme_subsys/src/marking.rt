@@ -2,11 +2,12 @@
 
 ghost use Rattle.std.specs.Prelude.{◌≡◌, ◌==◌, ◌≤◌, length};
 ghost use Rattle.std.specs.List.{list_any};
+ghost use Rattle.nvme_machine.specs.Bare.{executed_with};
 ghost use Rattle.nvme_machine.specs.Subsystems.{is_host_among, marked_from};
 ghost use Rattle.nvme_subsys.specs.Marked.{marked_for, marks_after};
 
 use nvme_ctrl::Controller;
-use nvme_machine::Executed;
+use nvme_machine::BareExecuted;
 use nvme_ns::Spaces;
 use nvme_spec::{HostId, Marks};
 
@@ -63,12 +64,17 @@ fn mark_removed(controllers: &mut [Controller], spaces: &Spaces, marks: &Marks)
 
 /// Marks what an execution says.
 #[inline(always)]
-pub fn mark_after(controllers: &mut [Controller], spaces: &Spaces, executed: &Executed)
+pub fn mark_after(
+    controllers: &mut [Controller],
+    spaces: &Spaces,
+    executed: BareExecuted,
+    marks: &Marks,
+)
     requires { length controllers.old ≤ 16 }
-    ensures { controllers.new ≡ marks_after spaces.now executed.now controllers.old }
+    ensures { controllers.new ≡ marks_after spaces.now (executed_with marks.now executed) controllers.old }
 {
     match executed {
-        Executed::Posted(outcome) => mark_removed(controllers, spaces, &outcome.marks),
-        Executed::NoSuch | Executed::CqFull => {}
+        BareExecuted::Posted(_) => mark_removed(controllers, spaces, marks),
+        BareExecuted::NoSuch | BareExecuted::CqFull => {}
     }
 }

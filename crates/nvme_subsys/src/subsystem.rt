@@ -7,10 +7,12 @@ ghost use Rattle.nvme_spec.specs.MediumCalls.{MakesCalls};
 ghost use Rattle.nvme_ns.specs.Configured.{configuration};
 ghost use Rattle.nvme_spec.specs.World.{namespace_of};
 ghost use Rattle.nvme_subsys.specs.Looking.{Looks, LooksBy, place_in};
+ghost use Rattle.nvme_spec.specs.Execution.{no_marks};
+ghost use Rattle.nvme_machine.specs.Bare.{executed_with, marks_by, marks_by_executed, seen_of, seen_with};
 ghost use Rattle.nvme_machine.specs.Controllers.{after_store, wrote, has_read, after_fetch};
 ghost use Rattle.nvme_machine.specs.Subsystems.{opening, controller_at, Reacts, ExecutesAt, Step, Run, after_power_cycle};
 ghost use Rattle.nvme_machine.specs.declared.seen.Seen.TheVariants.{Cycled};
-ghost use Rattle.nvme_machine.specs.EventCalls.{CallingAt, AreCallsOfStep, AreCallsOfRun};
+ghost use Rattle.nvme_machine.specs.EventCalls.{CallingAt, AreCallsOfStep, AreCallsOfRun, ExecutesNothing};
 ghost use Rattle.nvme_subsys.specs.OverMedium.{over};
 
 use crate::looking::place_in;
@@ -19,10 +21,10 @@ use crate::opening::{NewFault, controllers_of};
 use crate::power::power_cycle_all;
 use crate::reacting;
 use nvme_ctrl::Controller;
-use nvme_machine::{Event, Executed, Seen};
+use nvme_machine::{BareExecuted, BareSeen, Event, Seen};
 use nvme_medium::{Medium, MediumFault, read_blocks};
 use nvme_ns::Spaces;
-use nvme_spec::{Config, ConfigFault};
+use nvme_spec::{Config, ConfigFault, Marks};
 use nvme_wire::NoMemory;
 use std::alloc::Global;
 use std::marker::Model;
@@ -166,58 +168,29 @@ impl<M: Medium> Subsystem<M> {
             (AreCallsOfStep M.tells self.old.state event.entry result self.new.state) self.old.medium self.new.medium }
     {
         match event {
+            Event::Execute(cntlid, i) => self.execute(cntlid, i),
+            _ => self.react(event).with(Marks::none()),
+        }
+    }
+
+    /// An event that is no execution, as `apply` has it. It makes no call of the medium and marks nothing.
+    #[inline(always)]
+    pub fn react(&mut self, event: Event) -> BareSeen
+        requires quiet { ExecutesNothing event }
+        ensures step { Step M.tells self.old.state event.entry (seen_of result) self.new.state }
+        ensures medium { self.new.medium ≡ self.old.medium }
+    {
+        match event {
             Event::Store(cntlid, address, bytes) => self.store(cntlid, address, bytes),
             Event::Write32(cntlid, offset, value) => self.write32(cntlid, offset, value),
             Event::Read32(cntlid, offset) => self.read32(cntlid, offset),
             Event::Fetch(cntlid, qid) => self.fetch(cntlid, qid),
-            Event::Execute(cntlid, i) => self.execute(cntlid, i),
+            Event::Execute(_, _) => unreachable!(),
             Event::PowerCycle => self.power_cycle(),
         }
     }
 
-    #[inline(always)]
-    fn store(&mut self, cntlid: u16, address: u64, bytes: &[u8]) -> Seen
-        ensures reacts { Reacts self.old.state cntlid (after_store address bytes.now) result self.new.state }
-        ensures medium { self.new.medium ≡ self.old.medium }
-    {
-        let Some(place) = self.place_of(cntlid) else {
-            return Seen::NoController;
-        };
-        reacting::store(&mut self.controllers[place], address, bytes)
-    }
-
-    #[inline(always)]
-    fn write32(&mut self, cntlid: u16, offset: u64, value: u32) -> Seen
-        ensures reacts { Reacts self.old.state cntlid (wrote offset value) result self.new.state }
-        ensures medium { self.new.medium ≡ self.old.medium }
-    {
-        let Some(place) = self.place_of(cntlid) else {
-            return Seen::NoController;
-        };
-        reacting::write32(&mut self.controllers[place], offset, value)
-    }
-
-    #[inline(always)]
-    fn read32(&self, cntlid: u16, offset: u64) -> Seen
-        ensures { Reacts self.now.state cntlid (has_read offset) result self.now.state }
-    {
-        let Some(place) = self.place_of(cntlid) else {
-            return Seen::NoController;
-        };
-        reacting::read32(&self.controllers[place], offset)
-    }
-
-    #[inline(always)]
-    fn fetch(&mut self, cntlid: u16, qid: u16) -> Seen
-        ensures reacts { Reacts self.old.state cntlid (after_fetch qid) result self.new.state }
-        ensures medium { self.new.medium ≡ self.old.medium }
-    {
-        let Some(place) = self.place_of(cntlid) else {
-            return Seen::NoController;
-        };
-        reacting::fetch(&mut self.controllers[place], qid)
-    }
-
+    /// An execution, as `apply` has it.
     #[inline(always)]
     fn execute(&mut self, cntlid: u16, i: usize) -> Seen
         ensures executes { ExecutesAt (controller_at self.old.state cntlid) M.tells self.old.state cntlid i result
@@ -226,37 +199,103 @@ impl<M: Medium> Subsystem<M> {
             (CallingAt (controller_at self.old.state cntlid) M.tells self.old.state cntlid i result self.new.state)
             self.old.medium self.new.medium }
     {
+        let mut marks = Marks::none();
+        let seen = self.execute_marking(cntlid, i, &mut marks);
+        seen.with(marks)
+    }
+
+    #[inline(always)]
+    fn store(&mut self, cntlid: u16, address: u64, bytes: &[u8]) -> BareSeen
+        ensures reacts { Reacts self.old.state cntlid (after_store address bytes.now) (seen_of result) self.new.state }
+        ensures medium { self.new.medium ≡ self.old.medium }
+    {
         let Some(place) = self.place_of(cntlid) else {
-            return Seen::NoController;
+            return BareSeen::NoController;
         };
-        Seen::Executed(self.execute_at(place, i))
+        reacting::store(&mut self.controllers[place], address, bytes)
+    }
+
+    #[inline(always)]
+    fn write32(&mut self, cntlid: u16, offset: u64, value: u32) -> BareSeen
+        ensures reacts { Reacts self.old.state cntlid (wrote offset value) (seen_of result) self.new.state }
+        ensures medium { self.new.medium ≡ self.old.medium }
+    {
+        let Some(place) = self.place_of(cntlid) else {
+            return BareSeen::NoController;
+        };
+        reacting::write32(&mut self.controllers[place], offset, value)
+    }
+
+    #[inline(always)]
+    fn read32(&self, cntlid: u16, offset: u64) -> BareSeen
+        ensures { Reacts self.now.state cntlid (has_read offset) (seen_of result) self.now.state }
+    {
+        let Some(place) = self.place_of(cntlid) else {
+            return BareSeen::NoController;
+        };
+        reacting::read32(&self.controllers[place], offset)
+    }
+
+    #[inline(always)]
+    fn fetch(&mut self, cntlid: u16, qid: u16) -> BareSeen
+        ensures reacts { Reacts self.old.state cntlid (after_fetch qid) (seen_of result) self.new.state }
+        ensures medium { self.new.medium ≡ self.old.medium }
+    {
+        let Some(place) = self.place_of(cntlid) else {
+            return BareSeen::NoController;
+        };
+        reacting::fetch(&mut self.controllers[place], qid)
+    }
+
+    /// An execution, as `apply` has it. What it marks comes to stand in `marks`, which is empty before: it has room for
+    /// sixteen hosts, and each move of it costs.
+    #[inline(always)]
+    pub fn execute_marking(&mut self, cntlid: u16, i: usize, marks: &mut Marks) -> BareSeen
+        requires unmarked { marks.old ≡ no_marks }
+        ensures executes { ExecutesAt (controller_at self.old.state cntlid) M.tells self.old.state cntlid i
+            (seen_with marks.new result) self.new.state }
+        ensures calls { MakesCalls M.step (CallingAt (controller_at self.old.state cntlid) M.tells self.old.state
+            cntlid i (seen_with marks.new result) self.new.state) self.old.medium self.new.medium }
+        ensures marks { marks.new ≡ marks_by result marks.new }
+    {
+        let Some(place) = self.place_of(cntlid) else {
+            return BareSeen::NoController;
+        };
+        BareSeen::Executed(self.execute_at(place, i, marks))
     }
 
     /// Power is lost, and comes back.
     #[tactic(auto, unfolding(nvme_machine::specs::Subsystems::after_power_cycle))]
     #[inline(never)]
-    fn power_cycle(&mut self) -> Seen
-        ensures cycled { result ≡ Cycled }
+    fn power_cycle(&mut self) -> BareSeen
+        ensures cycled { seen_of result ≡ Cycled }
         ensures state { self.new.state ≡ after_power_cycle self.old.state }
         ensures medium { self.new.medium ≡ self.old.medium }
     {
         self.spaces.power_cycle();
         power_cycle_all(&mut self.controllers);
-        Seen::Cycled
+        BareSeen::Cycled
     }
 
     /// The controller at a place executes a command, and the controllers of the hosts that this removes are marked.
     #[inline(always)]
-    fn execute_at(&mut self, place: usize, i: usize) -> Executed
-        requires { place < length self.old.state.controllers }
+    fn execute_at(&mut self, place: usize, i: usize, marks: &mut Marks) -> BareExecuted
+        requires there { place < length self.old.state.controllers }
+        requires unmarked { marks.old ≡ no_marks }
         ensures executes { ExecutesAt (controller_at self.old.state (place + 1)) M.tells self.old.state (place + 1) i
-            (Seen.Executed result) self.new.state }
+            (Seen.Executed (executed_with marks.new result)) self.new.state }
         ensures calls { MakesCalls M.step
             (CallingAt (controller_at self.old.state (place + 1)) M.tells self.old.state (place + 1) i
-            (Seen.Executed result) self.new.state) self.old.medium self.new.medium }
+            (Seen.Executed (executed_with marks.new result)) self.new.state) self.old.medium self.new.medium }
+        ensures marks { marks.new ≡ marks_by_executed result marks.new }
     {
-        let executed = self.controllers[place].execute(i, &mut self.spaces, &mut self.medium);
-        mark_after(&mut self.controllers, &self.spaces, &executed);
+        let executed = self.controllers[place].execute_marking(
+            i,
+            &mut self.spaces,
+            &mut self.medium,
+            marks,
+        );
+        mark_after(&mut self.controllers, &self.spaces, executed, marks);
         executed
     }
 }

@@ -1,2 +1,3 @@
 pub mod OnLiterals
 mod ShortLemmas
+pub mod Unmarked

@@ -1,11 +1,13 @@
 //! How the transcript shows what an event gave.
 
 ghost use Rattle.std.specs.Prelude.{Some};
+ghost use Rattle.nvme_machine.specs.Bare.{executed_of};
+ghost use Rattle.nvme_event.specs.Bare.{seen_of};
 ghost use Rattle.nvme_transcript.specs.Transcript.{answer_text, data_text, event_text, executed_text, fetched_text, polled_text, subject_text, up_text};
 
 use nvme_driver::{Answer, PollFault, UpFault};
-use nvme_event::{FleetEvent, FleetSeen};
-use nvme_machine::{Executed, Fetched};
+use nvme_event::{BareFleetSeen, FleetEvent};
+use nvme_machine::{BareExecuted, Fetched};
 use script_text::HexText;
 use std::fmt;
 
@@ -13,38 +15,42 @@ use std::fmt;
 #[derive(Clone, Copy)]
 pub struct TranscriptLine<'a> {
     pub event: FleetEvent<'a>,
-    pub seen: &'a FleetSeen,
+    pub seen: &'a BareFleetSeen,
     pub bytes: &'a [u8],
 }
 
 impl fmt::Display for TranscriptLine<'_> {
-    ghost output = { λ line. Some (event_text line.event line.seen.now line.bytes.now) };
+    ghost output = { λ line. Some (event_text line.event (seen_of line.seen.now) line.bytes.now) };
 
     fn fmt<W: fmt::Write>(&self, f: &mut fmt::Formatter<W>) -> fmt::Result {
         let cntlid = self.event.cntlid();
         let subject = Subject(self.event);
         match self.seen {
-            FleetSeen::Up(up) => write!(f, "up {cntlid} {}", UpText(up)),
-            FleetSeen::Placed(Ok(ticket)) => write!(f, "placed {cntlid} {}", ticket.0),
-            FleetSeen::Placed(Err(refusal)) => write!(f, "refused {cntlid} {refusal}"),
-            FleetSeen::Rung(Ok(())) => write!(f, "rung {cntlid}"),
-            FleetSeen::Rung(Err(fault)) => write!(f, "rung {cntlid} {fault}"),
-            FleetSeen::Fetched(fetched) => write!(f, "fetch {subject} {}", FetchedText(fetched)),
-            FleetSeen::Executed(executed) => {
+            BareFleetSeen::Up(up) => write!(f, "up {cntlid} {}", UpText(up)),
+            BareFleetSeen::Placed(Ok(ticket)) => write!(f, "placed {cntlid} {}", ticket.0),
+            BareFleetSeen::Placed(Err(refusal)) => write!(f, "refused {cntlid} {refusal}"),
+            BareFleetSeen::Rung(Ok(())) => write!(f, "rung {cntlid}"),
+            BareFleetSeen::Rung(Err(fault)) => write!(f, "rung {cntlid} {fault}"),
+            BareFleetSeen::Fetched(fetched) => write!(
+                f,
+                "fetch {subject} {}",
+                FetchedText(fetched)
+            ),
+            BareFleetSeen::Executed(executed) => {
                 write!(f, "execute {subject} {}", ExecutedText(executed))
             }
-            FleetSeen::Polled(polled) => {
+            BareFleetSeen::Polled(polled) => {
                 let bytes = self.bytes;
                 write!(f, "poll {cntlid} {}", PolledText { polled, bytes })
             }
-            FleetSeen::Reset => write!(f, "reset {cntlid}"),
-            FleetSeen::Stored => write!(f, "stored {cntlid}"),
-            FleetSeen::Outside => write!(f, "outside {cntlid}"),
-            FleetSeen::Wrote => write!(f, "wrote32 {cntlid}"),
-            FleetSeen::Cycled => write!(f, "powercycle"),
-            FleetSeen::NoController => write!(f, "nocontroller {cntlid}"),
-            FleetSeen::NoDriver => write!(f, "nodriver {cntlid}"),
-            FleetSeen::NotRaw => write!(f, "notraw {cntlid}"),
+            BareFleetSeen::Reset => write!(f, "reset {cntlid}"),
+            BareFleetSeen::Stored => write!(f, "stored {cntlid}"),
+            BareFleetSeen::Outside => write!(f, "outside {cntlid}"),
+            BareFleetSeen::Wrote => write!(f, "wrote32 {cntlid}"),
+            BareFleetSeen::Cycled => write!(f, "powercycle"),
+            BareFleetSeen::NoController => write!(f, "nocontroller {cntlid}"),
+            BareFleetSeen::NoDriver => write!(f, "nodriver {cntlid}"),
+            BareFleetSeen::NotRaw => write!(f, "notraw {cntlid}"),
         }
     }
 }
@@ -97,16 +103,20 @@ impl fmt::Display for FetchedText<'_> {
 
 /// What came of an execution.
 #[derive(Clone, Copy)]
-struct ExecutedText<'a>(&'a Executed);
+struct ExecutedText<'a>(&'a BareExecuted);
 
 impl fmt::Display for ExecutedText<'_> {
-    ghost output = { λ text. Some (executed_text text.0.now) };
+    ghost output = { λ text. Some (executed_text (executed_of text.0.now)) };
 
     fn fmt<W: fmt::Write>(&self, f: &mut fmt::Formatter<W>) -> fmt::Result {
         match self.0 {
-            Executed::Posted(outcome) => write!(f, "posted {} {}", outcome.status, outcome.rule),
-            Executed::NoSuch => write!(f, "none"),
-            Executed::CqFull => write!(f, "full"),
+            BareExecuted::Posted(outcome) => write!(
+                f,
+                "posted {} {}",
+                outcome.status, outcome.rule
+            ),
+            BareExecuted::NoSuch => write!(f, "none"),
+            BareExecuted::CqFull => write!(f, "full"),
         }
     }
 }

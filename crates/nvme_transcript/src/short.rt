@@ -3,14 +3,16 @@
 ghost use Rattle.std.specs.Prelude.{◌≡◌, ◌+◌, ◌≤◌, ◌++◌, [], true, length, codes, decimal, IsTrue, IfSome};
 ghost use Rattle.arrayvec.specs.ArrayString.{array_string_len};
 ghost use Rattle.nvme_wire.specs.StatusNames.{status_text};
+ghost use Rattle.nvme_machine.specs.Bare.{executed_of};
+ghost use Rattle.nvme_event.specs.Bare.{seen_of};
 ghost use Rattle.nvme_transcript.specs.Transcript.{answer_text, event_text, executed_text, fetched_text, polled_text, subject_text};
 
 use crate::line::TranscriptLine;
 use arrayvec::ArrayString;
 use itoa::Buffer;
 use nvme_driver::{Answer, PollFault};
-use nvme_event::{FleetEvent, FleetSeen};
-use nvme_machine::{Executed, Fetched};
+use nvme_event::{BareFleetSeen, FleetEvent};
+use nvme_machine::{BareExecuted, Fetched};
 use nvme_wire::Status;
 
 /// How many bytes a line has at most that is put together by hand, and a few more.
@@ -102,21 +104,21 @@ fn is_success(status: Status) -> bool
 
 /// Appends what came of an execution, where its status is that of success; else nothing.
 #[inline(always)]
-fn put_executed(text: &mut Short, executed: &Executed) -> bool
+fn put_executed(text: &mut Short, executed: &BareExecuted) -> bool
     requires room { array_string_len text.old + 20 ≤ 96 }
-    ensures bytes { IsTrue result → text.new.bytes ≡ text.old.bytes ++ executed_text executed.now }
+    ensures bytes { IsTrue result → text.new.bytes ≡ text.old.bytes ++ executed_text (executed_of executed.now) }
     ensures short { array_string_len text.new ≤ array_string_len text.old + 20 }
 {
     match executed {
-        Executed::Posted(outcome) => {
+        BareExecuted::Posted(outcome) => {
             if !is_success(outcome.status) {
                 return false;
             }
             text.push_str("posted 0:00 ");
             put_u16(text, u16::from(outcome.rule));
         }
-        Executed::NoSuch => text.push_str("none"),
-        Executed::CqFull => text.push_str("full"),
+        BareExecuted::NoSuch => text.push_str("none"),
+        BareExecuted::CqFull => text.push_str("full"),
     }
     true
 }
@@ -178,18 +180,19 @@ fn put_named(text: &mut Short, word: &str, cntlid: u16)
 #[inline(always)]
 pub fn put_line(text: &mut Short, line: &TranscriptLine<'_>) -> bool
     requires empty { text.old.bytes ≡ [] }
-    ensures bytes { IsTrue result → text.new.bytes ≡ event_text line.now.event line.now.seen.now line.now.bytes.now }
+    ensures bytes { IsTrue result
+        → text.new.bytes ≡ event_text line.now.event (seen_of line.now.seen.now) line.now.bytes.now }
     ensures short { array_string_len text.new ≤ 95 }
 {
     let cntlid = line.event.cntlid();
     match line.seen {
-        FleetSeen::Placed(Ok(ticket)) => {
+        BareFleetSeen::Placed(Ok(ticket)) => {
             put_named(text, "placed ", cntlid);
             text.push_str(" ");
             put_u64(text, ticket.0);
         }
-        FleetSeen::Rung(Ok(())) => put_named(text, "rung ", cntlid),
-        FleetSeen::Fetched(fetched) => {
+        BareFleetSeen::Rung(Ok(())) => put_named(text, "rung ", cntlid),
+        BareFleetSeen::Fetched(fetched) => {
             text.push_str("fetch ");
             put_subject(text, &line.event);
             text.push_str(match fetched {
@@ -197,19 +200,19 @@ pub fn put_line(text: &mut Short, line: &TranscriptLine<'_>) -> bool
                 Fetched::Idle => " idle",
             });
         }
-        FleetSeen::Executed(executed) => {
+        BareFleetSeen::Executed(executed) => {
             text.push_str("execute ");
             put_subject(text, &line.event);
             text.push_str(" ");
             return put_executed(text, executed);
         }
-        FleetSeen::Polled(polled) => {
+        BareFleetSeen::Polled(polled) => {
             put_named(text, "poll ", cntlid);
             text.push_str(" ");
             return put_polled(text, polled, line.bytes);
         }
-        FleetSeen::Reset => put_named(text, "reset ", cntlid),
-        FleetSeen::Stored => put_named(text, "stored ", cntlid),
+        BareFleetSeen::Reset => put_named(text, "reset ", cntlid),
+        BareFleetSeen::Stored => put_named(text, "stored ", cntlid),
         _ => return false,
     }
     true

@@ -16,10 +16,8 @@ use live_text::{Form, Looking, Refusal, Why};
 use nvme_fleet::{Controller, Fleet};
 use nvme_medium::Medium;
 use nvme_ns::Spaces;
+use nvme_spec::MOST_BYTES;
 use std::fmt;
-
-/// How many bytes of a window a line shows at most.
-const MOST_BYTES: u32 = 131_072;
 
 /// The first words of all lines of a session.
 const ALL_LINES: &str =
@@ -91,7 +89,7 @@ fn window_of(number: u64, place: (u16, u64, u32), controller: &Controller) -> Sh
     ensures { shown_by result ≡ window_shown number place.0 place.1 place.2 controller.now }
 {
     let (cntlid, address, len) = place;
-    if len > MOST_BYTES {
+    if len > MOST_BYTES as u32 {
         return nothing(number, Why::OutsideWindow);
     }
     match controller.window().piece(address, u64::from(len)) {

@@ -1,4 +1,6 @@
 use Rattle.std.proofs.Common.{sym, ap, ◌∙◌}
+use Rattle.nvme_event.specs.Bare.{seen_of, seen_with}
+use Rattle.nvme_transcript.proofs.Unmarked.{line-unmarked}
 use Rattle.nvme_event.specs.Replies.{Reply}
 use Rattle.nvme_transcript.specs.Transcript.{seen_line}
 use Rattle.nvme_fleet.specs.FleetStates.{data_in, layers_of}
@@ -14,14 +16,15 @@ returns g c =
     let tells = g.M.Medium.tells in
     let event = c.args.event in
     let old = layers_of c.args.fleet.now.state in
-    let new = layers_of c.apply-seen.new.self.state in
-    let reply : Reply = record { seen = c.apply-seen.result; bytes = data_in c.apply-seen.new.self.state } in
-    let called = replied g.M.Medium.step tells old new event c.apply-seen.result (data_in c.apply-seen.new.self.state) c.args.fleet.now.medium c.apply-seen.new.self.medium c.apply-seen.ensures.step c.apply-seen.ensures.calls in
+    let new = layers_of c.apply_marking-seen.new.self.state in
+    let reply : Reply = record { seen = (seen_with c.apply_marking-seen.new.marks c.apply_marking-seen.result); bytes = data_in c.apply_marking-seen.new.self.state } in
+    let called = replied g.M.Medium.step tells old new event (seen_with c.apply_marking-seen.new.marks c.apply_marking-seen.result) (data_in c.apply_marking-seen.new.self.state) c.args.fleet.now.medium c.apply_marking-seen.new.self.medium c.apply_marking-seen.ensures.step c.apply_marking-seen.ensures.calls in
     let step = layer_calls_are_of_a_step tells old new (event_by_value event) reply called.calls (calls-by_value tells old new event reply called.calls called.are) in
-    let happens : Happens tells old (event_by_value event) (seen_line event c.apply-seen.result c.data-data.result.now) new = record {
+    let happens : Happens tells old (event_by_value event) (seen_line event (seen_of c.apply_marking-seen.result) c.data-data.result.now) new = record {
       reply = reply;
       step = step;
-      says = ap (λ bytes. seen_line event c.apply-seen.result bytes) c.data-data.ensures.value ∙ sym (line-by_value event reply);
+      says = ap (λ bytes. seen_line event (seen_of c.apply_marking-seen.result) bytes) c.data-data.ensures.value
+          ∙ sym (line-unmarked c.apply_marking-seen.new.marks event c.apply_marking-seen.result (data_in c.apply_marking-seen.new.self.state)) ∙ sym (line-by_value event reply);
     } in
-    answers-by c.say.result (λ answer. Happens tells old (event_by_value event) answer new) (seen_line event c.apply-seen.result c.data-data.result.now)
+    answers-by c.say.result (λ answer. Happens tells old (event_by_value event) answer new) (seen_line event (seen_of c.apply_marking-seen.result) c.data-data.result.now)
     (g.W.Write.contents c.args.writer.now) (g.W.Write.contents c.say.new.writer) happens c.say.ensures.ok c.say.ensures.err

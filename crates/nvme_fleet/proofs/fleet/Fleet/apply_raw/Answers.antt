@@ -1,11 +1,14 @@
 use Rattle.std.proofs.Common.{◌≡◌, ◌-◌, None, get_or, sym, subst, ◌∙◌}
+use Rattle.nvme_machine.specs.Bare as machine
+use Rattle.nvme_spec.specs.Execution.{no_marks}
+use Rattle.nvme_event.specs.Bare.{seen_of}
 use Rattle.nvme_machine.specs.Subsystems.{controller_at}
 use Rattle.nvme_event.specs.declared.seen.FleetSeen.TheVariants as seen
 use Rattle.nvme_fleet.specs.FleetStates.{FleetState, layers_of}
 use Rattle.nvme_fleet.specs.Layers.{AppliesRaw, driver_at}
 use Rattle.nvme_fleet.specs.Linked.{IsThere}
 use Rattle.nvme_fleet.proofs.Happening.{applied-below, applied-raw, driver-none, driver-there, missed-below, refused-below, refused-raw}
-use Rattle.nvme_subsys.proofs.OverMedium.{medium-is, medium-kept, state-is}
+use Rattle.nvme_subsys.proofs.OverMedium.{medium-is, state-is}
 use Rattle.nvme_fleet.proofs.LayerCalls.{hosts-execute-nothing}
 use Rattle.nvme_fleet.proofs.fleet.Fleet.apply_raw.Goals as goal
 
@@ -39,7 +42,7 @@ invariant_of-self g c =
     let there = subst (λ (t : FleetState). IsThere t.subsystem c.args.cntlid) (sym (state-is c.self.view_is)) c.in-Some.ensures.some.1 in
     let is : c.index.result.now ≡ get_or c.self.inside.drivers.items (c.args.cntlid - 1) c.index.result.now =
     subst (λ n. c.index.result.now ≡ get_or c.self.inside.drivers.items n c.index.result.now) c.in-Some.ensures.some.0 c.index.ensures in
-    (applied-raw g.M.Medium.tells a c.apply.new.self.state c.args.cntlid c.index.result.now c.args.event c.apply.result c.self.invariant there is (sym c.is_some.ensures ∙ c.if-is_some.false) c.requires.own c.requires.host c.apply.ensures.step).sound
+    (applied-raw g.M.Medium.tells a c.react.new.self.state c.args.cntlid c.index.result.now c.args.event (machine.seen_of c.react.result) c.self.invariant there is (sym c.is_some.ensures ∙ c.if-is_some.false) c.requires.own c.requires.host c.react.ensures.step).sound
 
 pub returns-clause-step : goal.returns-clause-step
 returns-clause-step g c =
@@ -47,7 +50,7 @@ returns-clause-step g c =
     let there = subst (λ (t : FleetState). IsThere t.subsystem c.args.cntlid) (sym (state-is c.self.view_is)) c.in-Some.ensures.some.1 in
     let is : c.index.result.now ≡ get_or c.self.inside.drivers.items (c.args.cntlid - 1) c.index.result.now =
     subst (λ n. c.index.result.now ≡ get_or c.self.inside.drivers.items n c.index.result.now) c.in-Some.ensures.some.0 c.index.ensures in
-    rw (← c.self.view_is, c.told.ensures) ((applied-raw g.M.Medium.tells a c.apply.new.self.state c.args.cntlid c.index.result.now c.args.event c.apply.result c.self.invariant there is (sym c.is_some.ensures ∙ c.if-is_some.false) c.requires.own c.requires.host c.apply.ensures.step).step)
+    rw (← c.self.view_is, (c.told.ensures.seen no_marks)) ((applied-raw g.M.Medium.tells a c.react.new.self.state c.args.cntlid c.index.result.now c.args.event (machine.seen_of c.react.result) c.self.invariant there is (sym c.is_some.ensures ∙ c.if-is_some.false) c.requires.own c.requires.host c.react.ensures.step).step)
 
 pub returns-clause-below : goal.returns-clause-below
 returns-clause-below g c =
@@ -55,9 +58,11 @@ returns-clause-below g c =
     let there = subst (λ (t : FleetState). IsThere t.subsystem c.args.cntlid) (sym (state-is c.self.view_is)) c.in-Some.ensures.some.1 in
     let is : c.index.result.now ≡ get_or c.self.inside.drivers.items (c.args.cntlid - 1) c.index.result.now =
     subst (λ n. c.index.result.now ≡ get_or c.self.inside.drivers.items n c.index.result.now) c.in-Some.ensures.some.0 c.index.ensures in
-    subst (λ (t : FleetState). AppliesRaw (driver_at t.drivers c.args.cntlid) g.M.Medium.tells (layers_of t) c.args.event c.told.result (record { subsystem = c.apply.new.self.state; drivers = c.self.inside.drivers.items })) (state-is c.self.view_is)
-    (applied-below g.M.Medium.tells a c.apply.new.self.state c.args.cntlid c.index.result.now c.args.event c.apply.result c.told.result (driver-there a c.args.cntlid c.index.result.now c.self.invariant there is) (sym c.is_some.ensures ∙ c.if-is_some.false) c.apply.ensures.step c.told.ensures)
+    subst (λ (t : FleetState). AppliesRaw (driver_at t.drivers c.args.cntlid) g.M.Medium.tells (layers_of t) c.args.event (seen_of c.told.result) (record { subsystem = c.react.new.self.state; drivers = c.self.inside.drivers.items })) (state-is c.self.view_is)
+    (applied-below g.M.Medium.tells a c.react.new.self.state c.args.cntlid c.index.result.now c.args.event (machine.seen_of c.react.result) (seen_of c.told.result) (driver-there a c.args.cntlid c.index.result.now c.self.invariant there is) (sym c.is_some.ensures ∙ c.if-is_some.false) c.react.ensures.step (c.told.ensures.seen no_marks))
 
 pub returns-clause-medium : goal.returns-clause-medium
-returns-clause-medium g c =
-    medium-kept g.M.Medium.step g.M.Medium.tells _ _ c.args.event c.apply.result _ _ (hosts-execute-nothing c.args.event c.requires.host) c.apply.ensures.calls ∙ medium-is c.self.view_is
+returns-clause-medium g c = c.react.ensures.medium ∙ medium-is c.self.view_is
+
+pub react-requires : goal.react-requires
+react-requires g c = record { quiet = hosts-execute-nothing c.args.event c.requires.host }

@@ -1,4 +1,6 @@
 use Rattle.std.proofs.Common.{◌≡◌, ◌-◌, refl, sym, subst}
+use Rattle.nvme_machine.specs.Bare as machine
+use Rattle.nvme_event.specs.Bare.{seen_with}
 use Rattle.nvme_machine.specs.declared.seen.Seen.TheVariants as given
 use Rattle.nvme_machine.specs.declared.event.Event.TheVariants.{Execute}
 use Rattle.nvme_subsys.proofs.Numbers.{none-calling, none-executes}
@@ -27,18 +29,18 @@ invariant_of-self g c =
     let a : FleetState = record { subsystem = c.self.inside.subsystem.state; drivers = c.self.inside.drivers.items; buffer = c.self.inside.buffer.items; filled = c.self.inside.filled } in
     let there = subst (λ (t : FleetState). IsThere t.subsystem c.args.cntlid) (sym (state-is c.self.view_is)) c.in-Some.ensures.some.1 in
     let named = subst (λ (t : FleetState). (controller_in t.subsystem (c.args.cntlid - 1)).cntlid ≡ c.args.cntlid) (sym (state-is c.self.view_is)) c.in-Some.ensures.named in
-    (executed-there g.M.Medium.tells a c.apply.new.self.state c.args.cntlid c.args.i c.apply.result c.self.invariant there named c.apply.ensures.step).sound
+    (executed-there g.M.Medium.tells a c.execute_marking.new.self.state c.args.cntlid c.args.i (machine.seen_with c.execute_marking.new.marks c.execute_marking.result) c.self.invariant there named c.execute_marking.ensures.executes).sound
 
 pub returns-clause-step : goal.returns-clause-step
 returns-clause-step g c =
     let a : FleetState = record { subsystem = c.self.inside.subsystem.state; drivers = c.self.inside.drivers.items; buffer = c.self.inside.buffer.items; filled = c.self.inside.filled } in
     let there = subst (λ (t : FleetState). IsThere t.subsystem c.args.cntlid) (sym (state-is c.self.view_is)) c.in-Some.ensures.some.1 in
     let named = subst (λ (t : FleetState). (controller_in t.subsystem (c.args.cntlid - 1)).cntlid ≡ c.args.cntlid) (sym (state-is c.self.view_is)) c.in-Some.ensures.named in
-    rw (← c.self.view_is, c.told.ensures) ((executed-there g.M.Medium.tells a c.apply.new.self.state c.args.cntlid c.args.i c.apply.result c.self.invariant there named c.apply.ensures.step).step)
+    rw (← c.self.view_is, (c.told.ensures.seen c.execute_marking.new.marks)) ((executed-there g.M.Medium.tells a c.execute_marking.new.self.state c.args.cntlid c.args.i (machine.seen_with c.execute_marking.new.marks c.execute_marking.result) c.self.invariant there named c.execute_marking.ensures.executes).step)
 
 pub returns-clause-calls : goal.returns-clause-calls
 returns-clause-calls g c =
     let a : FleetState = record { subsystem = c.self.inside.subsystem.state; drivers = c.self.inside.drivers.items; buffer = c.self.inside.buffer.items; filled = c.self.inside.filled } in
-    let b : Layers = record { subsystem = c.apply.new.self.state; drivers = c.self.inside.drivers.items } in
+    let b : Layers = record { subsystem = c.execute_marking.new.self.state; drivers = c.self.inside.drivers.items } in
     rw (← c.self.view_is)
-    (applies-calling g.M.Medium.step g.M.Medium.tells (layers_of a) b (Execute c.args.cntlid c.args.i) c.apply.result c.told.result c.self.inside.subsystem.medium c.apply.new.self.medium refl c.told.ensures c.apply.ensures.calls)
+    (applies-calling g.M.Medium.step g.M.Medium.tells (layers_of a) b (Execute c.args.cntlid c.args.i) (machine.seen_with c.execute_marking.new.marks c.execute_marking.result) (seen_with c.execute_marking.new.marks c.told.result) c.self.inside.subsystem.medium c.execute_marking.new.self.medium refl (c.told.ensures.seen c.execute_marking.new.marks) c.execute_marking.ensures.calls)

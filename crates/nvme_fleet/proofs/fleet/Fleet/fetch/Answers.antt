@@ -1,9 +1,10 @@
 use Rattle.std.proofs.Common.{◌∙◌, refl}
-use Rattle.nvme_machine.specs.declared.event.Event.TheVariants.{Fetch}
 use Rattle.nvme_machine.specs.declared.seen.Seen.TheVariants as given
+use Rattle.nvme_machine.specs.Bare as machine
+use Rattle.nvme_spec.specs.Execution.{no_marks}
 use Rattle.nvme_machine.specs.Controllers.{after_fetch}
 use Rattle.nvme_subsys.proofs.Numbers.{misses}
-use Rattle.nvme_subsys.proofs.OverMedium.{medium-is, medium-kept}
+use Rattle.nvme_subsys.proofs.OverMedium.{medium-is}
 use Rattle.nvme_fleet.specs.FleetStates.{FleetState}
 use Rattle.nvme_fleet.proofs.Happening.{fetched-there}
 use Rattle.nvme_fleet.proofs.fleet.Fleet.fetch.Goals as goal
@@ -19,13 +20,12 @@ returns-in_default-clause-below g c = record {
 pub invariant_of-self : goal.invariant_of-self
 invariant_of-self g c =
     let a : FleetState = record { subsystem = c.self.inside.subsystem.state; drivers = c.self.inside.drivers.items; buffer = c.self.inside.buffer.items; filled = c.self.inside.filled } in
-    (fetched-there a c.apply.new.self.state c.args.cntlid c.args.qid c.apply.result c.self.invariant c.apply.ensures.step).sound
+    (fetched-there a c.react.new.self.state c.args.cntlid c.args.qid (machine.seen_of c.react.result) c.self.invariant c.react.ensures.step).sound
 
 pub returns-clause-step : goal.returns-clause-step
 returns-clause-step g c =
     let a : FleetState = record { subsystem = c.self.inside.subsystem.state; drivers = c.self.inside.drivers.items; buffer = c.self.inside.buffer.items; filled = c.self.inside.filled } in
-    rw (← c.self.view_is, c.told.ensures) ((fetched-there a c.apply.new.self.state c.args.cntlid c.args.qid c.apply.result c.self.invariant c.apply.ensures.step).step)
+    rw (← c.self.view_is, c.told.ensures.seen no_marks) ((fetched-there a c.react.new.self.state c.args.cntlid c.args.qid (machine.seen_of c.react.result) c.self.invariant c.react.ensures.step).step)
 
 pub returns-clause-medium : goal.returns-clause-medium
-returns-clause-medium g c =
-    medium-kept g.M.Medium.step g.M.Medium.tells _ _ (Fetch c.args.cntlid c.args.qid) c.apply.result _ _ tt c.apply.ensures.calls ∙ medium-is c.self.view_is
+returns-clause-medium g c = c.react.ensures.medium ∙ medium-is c.self.view_is

@@ -1,6 +1,7 @@
 use Rattle.std.proofs.Common.{◌≡◌, ◌++◌, ◌∙◌, length, map, take, drop, sym, ap, subst, refl, arith}
 use Rattle.std.specs.Prelude.{option_map}
 use Rattle.nvme_driver.specs.Drivers.{after_reset}
+use Rattle.nvme_machine.specs.Bare as machine
 use Rattle.nvme_machine.specs.declared.event.Event.TheVariants.{PowerCycle}
 use Rattle.nvme_event.specs.declared.seen.FleetSeen.TheVariants.{Cycled}
 use Rattle.nvme_subsys.proofs.Counts.{step-count}
@@ -16,10 +17,10 @@ use Rattle.nvme_fleet.proofs.fleet.Fleet.power_cycle.Goals as goal
 pub reset_all-requires-clause-pairs : goal.reset_all-requires-clause-pairs
 reset_all-requires-clause-pairs g c =
     ap length c.deref_mut.ensures.value ∙ c.self.invariant.pairs
-    ∙ sym (step-count g.M.Medium.tells c.self.inside.subsystem.state c.apply.new.self.state PowerCycle c.apply.result c.apply.ensures.step)
+    ∙ sym (step-count g.M.Medium.tells c.self.inside.subsystem.state c.react.new.self.state PowerCycle (machine.seen_of c.react.result) c.react.ensures.step)
 
 pub reset_all-requires-clause-cycled : goal.reset_all-requires-clause-cycled
-reset_all-requires-clause-cycled g c = subst AreCycled (sym c.apply.ensures.step.1) (are-cycled c.self.inside.subsystem.state)
+reset_all-requires-clause-cycled g c = subst AreCycled (sym c.react.ensures.step.1) (are-cycled c.self.inside.subsystem.state)
 
 pub invariant_of-self : goal.invariant_of-self
 invariant_of-self g c =
@@ -27,7 +28,7 @@ invariant_of-self g c =
     let drivers : c.reset_all.new.drivers ≡ map (option_map after_reset) c.self.inside.drivers.items = rw c.deref_mut.ensures.value at c.reset_all.ensures.drivers in
     let whole : take c.self.inside.drivers.len (c.reset_all.new.drivers ++ drop (length c.reset_all.new.drivers) c.self.inside.drivers.items) ≡ c.reset_all.new.drivers =
     refill-all c.self.inside.drivers.len _ c.reset_all.new.drivers (omega (arith, c.deref_mut.ensures.len, c.reset_all.auto.drivers)) in
-    let state = c.reset_all.ensures.state ∙ c.apply.ensures.step.1 in
+    let state = c.reset_all.ensures.state ∙ c.react.ensures.step.1 in
     let items = whole ∙ drivers in
     let r = is-cycled g.M.Medium.tells a c.self.invariant in
     subst IsSoundFleet (sym (λ j. (let s : FleetState = record { subsystem = state j; drivers = items j; buffer = c.self.inside.buffer.items; filled = c.self.inside.filled } in s))) r.sound
@@ -38,7 +39,7 @@ returns-clause-step g c =
     let drivers : c.reset_all.new.drivers ≡ map (option_map after_reset) c.self.inside.drivers.items = rw c.deref_mut.ensures.value at c.reset_all.ensures.drivers in
     let whole : take c.self.inside.drivers.len (c.reset_all.new.drivers ++ drop (length c.reset_all.new.drivers) c.self.inside.drivers.items) ≡ c.reset_all.new.drivers =
     refill-all c.self.inside.drivers.len _ c.reset_all.new.drivers (omega (arith, c.deref_mut.ensures.len, c.reset_all.auto.drivers)) in
-    let state = c.reset_all.ensures.state ∙ c.apply.ensures.step.1 in
+    let state = c.reset_all.ensures.state ∙ c.react.ensures.step.1 in
     let items = whole ∙ drivers in
     let r = is-cycled g.M.Medium.tells a c.self.invariant in
     rw (← c.self.view_is) (
@@ -52,7 +53,7 @@ returns-clause-below g c =
     let drivers : c.reset_all.new.drivers ≡ map (option_map after_reset) c.self.inside.drivers.items = rw c.deref_mut.ensures.value at c.reset_all.ensures.drivers in
     let whole : take c.self.inside.drivers.len (c.reset_all.new.drivers ++ drop (length c.reset_all.new.drivers) c.self.inside.drivers.items) ≡ c.reset_all.new.drivers =
     refill-all c.self.inside.drivers.len _ c.reset_all.new.drivers (omega (arith, c.deref_mut.ensures.len, c.reset_all.auto.drivers)) in
-    let state = c.reset_all.ensures.state ∙ c.apply.ensures.step.1 in
+    let state = c.reset_all.ensures.state ∙ c.react.ensures.step.1 in
     let items = whole ∙ drivers in
     let r = is-cycled g.M.Medium.tells a c.self.invariant in
     rw (← c.self.view_is)

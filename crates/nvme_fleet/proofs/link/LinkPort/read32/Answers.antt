@@ -1,4 +1,8 @@
-use Rattle.std.proofs.Common.{◌-◌}
+use Rattle.std.proofs.Common.{◌≡◌, ◌-◌, ℕ, ap}
+use Rattle.nvme_machine.specs.Bare.{seen_of}
+use Rattle.nvme_machine.specs.declared.bare.BareSeen.{BareSeen}
+use Rattle.nvme_machine.specs.declared.bare.BareSeen.TheVariants as bare
+use Rattle.nvme_machine.specs.declared.seen.Seen.TheVariants as given
 use Rattle.nvme_machine.specs.Controllers.{has_read}
 use Rattle.nvme_machine.specs.declared.event.Event.TheVariants.{Read32}
 use Rattle.nvme_fleet.proofs.Happening.{place-below, place-is}
@@ -6,13 +10,24 @@ use Rattle.nvme_fleet.proofs.Links.{there-after}
 use Rattle.nvme_fleet.proofs.Reaching.{reacted-as}
 use Rattle.nvme_fleet.proofs.link.LinkPort.read32.Goals as goal
 
+-- a register's value is told as one
+read-bare : (v : ℕ) (seen : BareSeen) → seen_of seen ≡ given.Value v → seen ≡ bare.Value v
+read-bare v bare.Stored e = absurd (cc)
+read-bare v bare.Outside e = absurd (cc)
+read-bare v bare.Wrote e = absurd (cc)
+read-bare v (bare.Value w) e = let same : w ≡ v = cc in ap bare.Value same
+read-bare v (bare.Fetched f) e = absurd (cc)
+read-bare v (bare.Executed x) e = absurd (cc)
+read-bare v bare.Cycled e = absurd (cc)
+read-bare v bare.NoController e = absurd (cc)
+
 pub invariant_of-self : goal.invariant_of-self
-invariant_of-self g c = there-after g.M.Medium.tells _ _ (Read32 c.self.inside.cntlid c.args.offset) c.apply.result c.self.inside.cntlid c.apply.ensures.step c.self.invariant
+invariant_of-self g c = there-after g.M.Medium.tells _ _ (Read32 c.self.inside.cntlid c.args.offset) (seen_of c.react.result) c.self.inside.cntlid c.react.ensures.step c.self.invariant
 
 pub unreachable-requires : goal.unreachable-requires
 unreachable-requires g c =
     let s = c.self.inside.subsystem.now.state in
     let k = c.self.inside.cntlid in
     let there = c.self.invariant in
-    let r = reacted-as s c.apply.new.self.state k (k - 1) (has_read c.args.offset) c.apply.result (place-is k there.0) (place-below s k there) c.apply.ensures.step in
-    c.in_default.not-Value _ r.gives
+    let r = reacted-as s c.react.new.self.state k (k - 1) (has_read c.args.offset) (seen_of c.react.result) (place-is k there.0) (place-below s k there) c.react.ensures.step in
+    c.in_default.not-Value _ (read-bare _ c.react.result r.gives)

@@ -1,4 +1,5 @@
 use Rattle.std.proofs.Common.{◌∙◌, sym, ap}
+use Rattle.nvme_machine.specs.Bare.{seen_of}
 use Rattle.nvme_machine.specs.Controllers.{Reaction, after_store}
 use Rattle.nvme_subsys.proofs.Numbers.{reacts, found-at}
 use Rattle.nvme_subsys.proofs.Sound.{sound-set, store-id}
@@ -18,4 +19,4 @@ returns-clause-reacts g c =
     let found = found-at _ _ items c.args.self.now.state c.in-Some.place c.index_mut.result.now (state-is c.self.view_is) c.in-Some.ensures.some.1 c.index_mut.ensures.value in
     rw (← c.self.view_is)
     (reacts (record { world = c.self.inside.spaces; device = g.M.Medium.device c.self.inside.medium; controllers = items }) c.args.cntlid c.in-Some.place c.index_mut.result.now c.store.new.controller
-    (after_store c.args.address c.args.bytes.now) c.store.result c.in-Some.ensures.some.0 found c.store.ensures)
+    (after_store c.args.address c.args.bytes.now) (seen_of c.store.result) c.in-Some.ensures.some.0 found c.store.ensures)

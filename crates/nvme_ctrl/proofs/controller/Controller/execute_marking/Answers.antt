@@ -3,9 +3,9 @@ use Rattle.std.specs.Prelude.{slice_get}
 use Rattle.nvme_spec.specs.Execution.{scene}
 use Rattle.nvme_machine.specs.Controllers.{Controller, open_pair}
 use Rattle.nvme_machine.specs.Executing.{setting}
-use Rattle.nvme_ctrl.specs.Executions.{answer_of}
+use Rattle.nvme_ctrl.specs.Executions.{execution_of}
 use Rattle.nvme_ctrl.proofs.Executions.{executes-nth, calls-nth, is-there, posting-cntlid}
-use Rattle.nvme_ctrl.proofs.controller.Controller.execute.Goals as goal
+use Rattle.nvme_ctrl.proofs.controller.Controller.execute_marking.Goals as goal
 
 pub post-requires-clause-there : goal.post-requires-clause-there
 post-requires-clause-there g c =
@@ -25,7 +25,7 @@ returns-clause-executed g c =
     (setting c.args.self.now c.args.spaces.now (g.M.Medium.device c.args.medium.now))
     (setting c.change_queues.new.self c.perform-answered.new.spaces (g.M.Medium.device c.perform-answered.new.medium))
     c.in-Some.command c.in-Some-open_pair.pair
-    (answer_of c.perform-answered.result c.perform-answered.new.marks (scene c.perform-answered.new.spaces c.perform-answered.new.self.window (g.M.Medium.device c.perform-answered.new.medium)))
+    (execution_of c.perform-answered.result c.perform-answered.new.marks (scene c.perform-answered.new.spaces c.perform-answered.new.self.window (g.M.Medium.device c.perform-answered.new.medium)))
     c.perform-answered.new.self c.post.new.self
     found pair c.perform-answered.ensures.answers c.perform-answered.ensures.rest c.post.ensures c.change_queues.ensures refl refl
 
@@ -39,7 +39,7 @@ returns-clause-calls g c =
     (setting c.args.self.now c.args.spaces.now (g.M.Medium.device c.args.medium.now))
     (setting c.change_queues.new.self c.perform-answered.new.spaces (g.M.Medium.device c.perform-answered.new.medium))
     c.in-Some.command c.in-Some-open_pair.pair
-    (answer_of c.perform-answered.result c.perform-answered.new.marks (scene c.perform-answered.new.spaces c.perform-answered.new.self.window (g.M.Medium.device c.perform-answered.new.medium)))
+    (execution_of c.perform-answered.result c.perform-answered.new.marks (scene c.perform-answered.new.spaces c.perform-answered.new.self.window (g.M.Medium.device c.perform-answered.new.medium)))
     c.perform-answered.new.self c.post.new.self
     found pair c.perform-answered.ensures.answers c.perform-answered.ensures.rest c.post.ensures c.change_queues.ensures refl refl
     c.perform-answered.ensures.calls

@@ -1,0 +1,99 @@
+//! What events give, but for what an execution marks: that has room for sixteen hosts, and each move of it costs.
+
+ghost use Rattle.std.specs.Prelude.{◌≡◌};
+ghost use Rattle.nvme_machine.specs.Bare.{outcome_with, executed_with, seen_with};
+
+use crate::seen::{Executed, Fetched, Seen};
+use nvme_spec::{Marks, Outcome};
+use nvme_wire::Status;
+
+/// What the execution of a command answers, but for what it marks.
+#[derive(Clone, Copy, Debug, PartialEq, Eq)]
+pub struct BareOutcome {
+    /// The status of the completion queue entry.
+    pub status: Status,
+    /// Double word 0 of the completion queue entry.
+    pub dw0: u32,
+    /// The number of the rule that denied the command, or 0 where it was allowed.
+    pub rule: u8,
+}
+
+impl BareOutcome {
+    /// The same, with what is marked.
+    #[inline(always)]
+    pub fn with(self, marks: Marks) -> Outcome
+        ensures { result ≡ outcome_with marks self }
+    {
+        Outcome {
+            status: self.status,
+            dw0: self.dw0,
+            rule: self.rule,
+            marks,
+        }
+    }
+}
+
+/// What came of an execution, but for what it marks.
+#[derive(Clone, Copy, Debug, PartialEq, Eq)]
+pub enum BareExecuted {
+    /// The command was executed, and its completion posted.
+    Posted(BareOutcome),
+    /// There is no such command.
+    NoSuch,
+    /// The completion queue has no room; the command waits.
+    CqFull,
+}
+
+impl BareExecuted {
+    /// The same, with what is marked.
+    #[inline(always)]
+    pub fn with(self, marks: Marks) -> Executed
+        ensures { result ≡ executed_with marks self }
+    {
+        match self {
+            BareExecuted::Posted(outcome) => Executed::Posted(outcome.with(marks)),
+            BareExecuted::NoSuch => Executed::NoSuch,
+            BareExecuted::CqFull => Executed::CqFull,
+        }
+    }
+}
+
+/// What an event gave, but for what an execution marks.
+#[derive(Clone, Copy, Debug, PartialEq, Eq)]
+pub enum BareSeen {
+    /// The bytes are stored.
+    Stored,
+    /// They do not all lie in the memory; nothing is stored.
+    Outside,
+    /// The register is written.
+    Wrote,
+    /// The value of the register.
+    Value(u32),
+    /// What came of the fetch.
+    Fetched(Fetched),
+    /// What came of the execution.
+    Executed(BareExecuted),
+    /// Power was lost, and came back.
+    Cycled,
+    /// There is no such controller.
+    NoController,
+}
+
+impl BareSeen {
+    /// The same, with what is marked.
+    #[inline(always)]
+    pub fn with(self, marks: Marks) -> Seen
+        ensures { result ≡ seen_with marks self }
+    {
+        match self {
+            BareSeen::Stored => Seen::Stored,
+            BareSeen::Outside => Seen::Outside,
+            BareSeen::Wrote => Seen::Wrote,
+            BareSeen::Value(value) => Seen::Value(value),
+            BareSeen::Fetched(fetched) => Seen::Fetched(fetched),
+            BareSeen::Executed(executed) => Seen::Executed(executed.with(marks)),
+            BareSeen::Cycled => Seen::Cycled,
+            BareSeen::NoController => Seen::NoController,
+        }
+    }
+}
