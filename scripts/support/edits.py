@@ -126,13 +126,14 @@ def orphans(root, crates):
 
 def are_apart(one, other):
     """Whether two wrong bodies can share a check: as copies; or in the place of their functions, where these are two
-    and neither of them names the other; or one in its place and one as a copy, where the latter's function does not
-    name the former's."""
+    and neither of them names the other. A copy stands beside none that is in its function's place, since what calls
+    that function, by whatever way, is not proved there."""
     def names(edit, function):
         return edit.function.name == function.name or re.search(rf"\b{function.word}\b", edit.body)
 
-    return ((one.is_copied or not names(other, one.function))
-            and (other.is_copied or not names(one, other.function)))
+    if one.is_copied or other.is_copied:
+        return one.is_copied and other.is_copied
+    return not names(other, one.function) and not names(one, other.function)
 
 
 def batches_of(edits, most):
