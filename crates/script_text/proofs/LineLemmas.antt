@@ -1,7 +1,8 @@
 -- A text taken apart at its first line feed.
-use Rattle.std.proofs.Common.{◌≡◌, ℕ, suc, ◌+◌, List, [], ◌∷◌, length, take, drop, get_or, not, true, false, Bool, refl, sym, ap, arith}
+use Rattle.std.proofs.Common.{◌≡◌, ℕ, suc, ◌+◌, ◌-◌, List, [], ◌∷◌, length, length-drop, take, drop, get_or, not, true, false, Bool, refl, sym, ap, ◌∙◌, arith}
 use Rattle.std.specs.Prelude.{◌==◌}
 use Rattle.std.specs.List.{prefix_len}
+use Rattle.std.proofs.lemmas.List.{drop-drop}
 use Rattle.std.proofs.lemmas.List.Sums.{prefix_len_is}
 use Rattle.memchr.specs.Find.{Nowhere, NoneBefore, Passes, is_byte}
 use Rattle.script_text.specs.Lines.{text_lines, is_of_line}
@@ -43,3 +44,10 @@ line-found text place h =
 pub line-not_found : (text : List ℕ) → Nowhere (Passes (is_byte 10) text) 0 (length text) → length text ≡ prefix_len is_of_line text
 line-not_found text h =
     sym (prefix_len_is is_of_line text (length text) 0 (omega arith) (λ k l. other (get_or text k 0) (h k (omega arith) l)) (λ l. absurd (omega (arith, l))))
+
+-- what stands behind a byte of a text is its end
+pub rest-is-end : (text : List ℕ) (n b : ℕ) (rest : List ℕ) → drop n text ≡ b ∷ rest → rest ≡ drop (length text - length rest) text
+rest-is-end text n b rest h =
+    let long : length (drop n text) ≡ length rest + 1 = ap length h ∙ omega arith in
+    let place : n + 1 ≡ length text - length rest = omega (arith, long, length-drop n text) in
+    sym (ap (drop 1) h) ∙ drop-drop 1 n text ∙ ap (λ k. drop k text) place

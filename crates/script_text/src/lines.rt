@@ -1,6 +1,6 @@
 //! The lines of a text, one after the other.
 
-ghost use Rattle.std.specs.Prelude.{◌≡◌, ◌<◌, ◌≤◌, ◌∷◌, length, IfSome};
+ghost use Rattle.std.specs.Prelude.{◌≡◌, ◌-◌, ◌<◌, ◌≤◌, ◌∷◌, drop, length, IfSome};
 ghost use Rattle.std.specs.List.{prefix_len};
 ghost use Rattle.script_text.specs.Lines.{text_lines, is_of_line, lines_left};
 
@@ -26,6 +26,7 @@ pub fn front_line(text: &[u8]) -> (&[u8], Option<&[u8]>)
     ensures lines { text_lines text.now ≡ result.0.now ∷ lines_left result.1 }
     ensures short { length result.0.now ≤ length text.now }
     ensures shorter { IfSome result.1 (λ rest. length rest.now < length text.now) }
+    ensures end { IfSome result.1 (λ rest. rest.now ≡ drop (length text.now - length rest.now) text.now) }
 {
     let (line, behind) = text.split_at(line_len(text));
     match behind.split_first() {

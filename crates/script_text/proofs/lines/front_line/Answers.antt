@@ -2,7 +2,7 @@ use Rattle.std.proofs.Common.{◌≡◌, ◌∷◌, length, take, drop, sym, ap,
 use Rattle.std.specs.List.{prefix_len}
 use Rattle.std.proofs.lemmas.List.Sums.{prefix_len-le-length}
 use Rattle.script_text.specs.Lines.{is_of_line}
-use Rattle.script_text.proofs.LineLemmas.{first_line, lines_behind, no-lines}
+use Rattle.script_text.proofs.LineLemmas.{first_line, lines_behind, no-lines, rest-is-end}
 use Rattle.script_text.proofs.lines.front_line.Goals as goal
 
 pub split_at-requires : goal.split_at-requires
@@ -26,3 +26,11 @@ returns-in-None-clause-lines c =
     let none : length c.split_at.result.1.now ≡ 0 = search rules in
     first_line text ∙ ap (λ t. t ∷ lines_behind (drop n text)) (sym front)
     ∙ ap (λ ls. c.split_at.result.0.now ∷ ls) (ap lines_behind (sym back) ∙ no-lines c.split_at.result.1.now none)
+
+pub returns-in-Some-clause-end : goal.returns-in-Some-clause-end
+returns-in-Some-clause-end c =
+    let text = c.args.text.now in
+    let n = c.line_len.result in
+    let parts : c.split_at.result.1.now ≡ c.in-Some.field-0-0.now ∷ c.in-Some.rest.now = search rules in
+    let whole : drop n text ≡ c.in-Some.field-0-0.now ∷ c.in-Some.rest.now = sym c.split_at.ensures.back ∙ parts in
+    rest-is-end text n c.in-Some.field-0-0.now c.in-Some.rest.now whole
