@@ -1,6 +1,7 @@
 mod ArityLemmas
 mod IdentifierLemmas
 mod JudgedLemmas
+mod KeptLemmas
 pub mod LawLemmas
 mod LongLines
 pub mod OnLiterals

@@ -5,6 +5,7 @@ pub mod Requests
 pub mod Events
 pub mod Line
 pub mod Script
+pub mod Kept
 pub mod Example
 pub mod Reading
 pub mod Room

@@ -1,8 +1,11 @@
 -- A script while it is read, as this crate's own functions see it.
-use Rattle.std.specs.Prelude.{◌≡◌, List}
+use Rattle.std.specs.Prelude.{◌≡◌, ℕ, List, [], ◌∷◌}
 use Rattle.std.specs.List.{filter_map}
 use Rattle.nvme_grammar.specs.Script.{controller_in, namespace_in, attachment_in, start_in}
-use Rattle.nvme_event.specs.declared.event.FleetEvent.TheVariants.{PowerCycle}
+use Rattle.nvme_event.specs.declared.event.FleetEvent.{FleetEvent}
+use Rattle.nvme_event.specs.declared.event.FleetEvent.TheVariants.{BringUp, Ring, Fetch, Execute, Poll, Reset, PowerCycle}
+use Rattle.nvme_grammar.specs.Kept.{kept_as}
+use Rattle.nvme_grammar.specs.declared.kept.KeptEvent.{KeptEvent}
 use Rattle.nvme_grammar.specs.declared.line.Line.{Line}
 use Rattle.nvme_grammar.specs.declared.line.Line.TheVariants.{Event}
 use Rattle.nvme_grammar.specs.declared.script.Script.{Script}
@@ -14,7 +17,22 @@ pub record Reads (script : Script) (lines : List Line) : Type 0 where
   pub attached : script.config.attached.items ≡ filter_map attachment_in lines
   pub start : script.start ≡ start_in lines
 
--- a line, but for which event it is
-abbrev pub event_aside : Line → Line
-event_aside (Event event) = Event PowerCycle
-event_aside line = line
+-- an event, but for which it is of those whose lines are parsed again
+abbrev pub event_aside : FleetEvent → FleetEvent
+event_aside (BringUp cntlid) = BringUp cntlid
+event_aside (Ring cntlid) = Ring cntlid
+event_aside (Fetch cntlid queue) = Fetch cntlid queue
+event_aside (Execute cntlid index) = Execute cntlid index
+event_aside (Poll cntlid) = Poll cntlid
+event_aside (Reset cntlid) = Reset cntlid
+event_aside event = PowerCycle
+
+-- a line, but for that of its event
+abbrev pub line_aside : Line → Line
+line_aside (Event event) = Event (event_aside event)
+line_aside line = line
+
+-- how the event of a line is kept that begins behind so many bytes, if it is one
+abbrev pub kept_of_line : ℕ → Line → List KeptEvent
+kept_of_line before (Event event) = kept_as before event ∷ []
+kept_of_line before line = []

@@ -1,7 +1,7 @@
 //! Lines of a keyword and numbers, and of Writes, Compares and stores, as most lines of a script are: they need no table
 //! of words.
 
-ghost use Rattle.std.specs.Prelude.{◌≡◌, ◌≤◌, ◌*◌, ◌<◌, ◌∷◌, [], List, ℕ, true, length, option_map, is_some, IfSome};
+ghost use Rattle.std.specs.Prelude.{◌≡◌, ◌≤◌, ◌*◌, ◌<◌, ◌∷◌, [], List, ℕ, true, length, option_map, is_some, IfSome, Some};
 ghost use Rattle.nvme_spec.specs.Limits.{most_bytes};
 ghost use Rattle.nvme_driver.specs.declared.request.Request.TheVariants.{Write as WriteOf, Compare as CompareOf};
 ghost use Rattle.script_text.specs.Words.{is_line_text, line_words, starts_apart};
@@ -9,6 +9,8 @@ ghost use Rattle.nvme_grammar.specs.Brief.{Numbers, IsStoreLine, IsTransfer, IsW
 ghost use Rattle.nvme_grammar.specs.Keywords.{keyword_text};
 ghost use Rattle.nvme_grammar.specs.Lent.{line_by_value};
 ghost use Rattle.nvme_grammar.specs.Line.{sentence};
+ghost use Rattle.nvme_grammar.specs.Reading.{line_aside};
+ghost use Rattle.nvme_grammar.specs.declared.line.Line.TheVariants.{Event as LineEvent};
 
 use super::keyword::Keyword;
 use super::line::Line;
@@ -102,7 +104,7 @@ pub fn line_of<'a>(brief: Brief<'_>, bytes: &'a mut [u8]) -> Option<Line<'a>>
 /// Whether there is a line of these data: whether their word spells some, and no more than the blocks have room for. The
 /// buffer is overwritten, but not filled.
 #[inline(always)]
-pub fn has_data(brief: Brief<'_>, bytes: &mut [u8]) -> bool
+fn has_data(brief: Brief<'_>, bytes: &mut [u8]) -> bool
     requires digits_room { IsWithin brief (2 * length bytes.old) }
     ensures { result ≡ is_some (brief_line brief.entry) }
 {
@@ -112,6 +114,31 @@ pub fn has_data(brief: Brief<'_>, bytes: &mut [u8]) -> bool
         Brief::Compare(transfer) => is_data(transfer.word, transfer.blocks, bytes),
         Brief::Store(stored) => bytes_in(stored.word, bytes).is_some(),
     }
+}
+
+/// The event that a line says, where there is one and it has no data; any that is parsed again stands for one with data.
+#[inline(always)]
+fn event_aside(brief: Brief<'_>) -> FleetEvent<'static>
+    ensures { is_some (brief_line brief.entry) ≡ true
+        → Some (line_aside (LineEvent result)) ≡ option_map line_aside (brief_line brief.entry) }
+{
+    match brief {
+        Brief::Event(event) => event,
+        Brief::Write(_) | Brief::Compare(_) | Brief::Store(_) => FleetEvent::PowerCycle,
+    }
+}
+
+/// What a line says, but for its event where that is parsed again. `None` where there is no line of its data. The buffer
+/// is overwritten, but not filled.
+#[inline(always)]
+pub fn judged<'a>(brief: Brief<'_>, bytes: &mut [u8]) -> Option<Line<'a>>
+    requires digits_room { IsWithin brief (2 * length bytes.old) }
+    ensures { option_map line_aside result ≡ option_map line_aside (brief_line brief.entry) }
+{
+    if !has_data(brief, bytes) {
+        return None;
+    }
+    Some(Line::Event(event_aside(brief)))
 }
 
 /// Puts the numbers at the front of a line into a table, and gives the line behind them: from the first word on that is

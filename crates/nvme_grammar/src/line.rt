@@ -6,11 +6,11 @@ ghost use Rattle.nvme_spec.specs.Limits.{most_bytes};
 ghost use Rattle.script_text.specs.Words.{most_words, starts_apart, is_line_text, line_words};
 ghost use Rattle.nvme_grammar.specs.Lent.{line_by_value};
 ghost use Rattle.nvme_grammar.specs.Line.{sentence, is_comment, line_at};
-ghost use Rattle.nvme_grammar.specs.Reading.{event_aside};
+ghost use Rattle.nvme_grammar.specs.Reading.{line_aside};
 ghost use Rattle.nvme_grammar.specs.Room.{HasBytesRoom};
 ghost use Rattle.nvme_grammar.specs.Lists.{long_line};
 
-use super::brief::{brief_of, has_data, line_of};
+use super::brief::{brief_of, judged, line_of};
 use super::configuration::{attached_of, controller_of, namespace_of, start_of};
 use super::event::{event_of, list_event_of};
 use super::identifiers::long_list_of;
@@ -130,8 +130,8 @@ pub fn parse_line<'a>(
     }
 }
 
-/// What a line says, as `parse_line` does, but for which event it is: any event stands for one. A script is judged by it,
-/// so that most events and their data are not put together.
+/// What a line says, as `parse_line` does, but for its event where it is parsed again before it happens: any such event
+/// stands for that. A script is judged by it, so that data are not put together.
 #[tactic(auto, unfolding(crate::specs::Line::line_at))]
 pub fn judged_line<'a>(
     line: &[u8],
@@ -140,7 +140,7 @@ pub fn judged_line<'a>(
 ) -> Option<Line<'a>>
     requires bytes_room { HasBytesRoom line.now bytes.old }
     requires identifiers_room { most_words line.now ≤ length identifiers.old }
-    ensures line { option_map event_aside result ≡ option_map event_aside (line_at line.now) }
+    ensures line { option_map line_aside result ≡ option_map line_aside (line_at line.now) }
 {
     if line.is_empty() {
         return Some(Line::Blank);
@@ -149,8 +149,7 @@ pub fn judged_line<'a>(
         return Some(Line::Blank);
     }
     match brief_of(line) {
-        Some(brief) if has_data(brief, bytes) => Some(Line::Event(FleetEvent::PowerCycle)),
-        Some(_) => None,
+        Some(brief) => judged(brief, bytes),
         None => parse_words(line, bytes, identifiers),
     }
 }

@@ -5,18 +5,20 @@ ghost use Rattle.script_text.specs.Words.{most_words};
 ghost use Rattle.script_text.specs.Lines.{text_lines};
 ghost use Rattle.nvme_grammar.specs.Lent.{line_by_value};
 ghost use Rattle.nvme_grammar.specs.Room.{HasBytesRoom};
-ghost use Rattle.nvme_grammar.specs.Script.{said, fits_behind, Begins, Says, IsParseFault};
-ghost use Rattle.nvme_grammar.specs.Reading.{Reads};
+ghost use Rattle.nvme_grammar.specs.Script.{said, events_of, fits_behind, Begins, Says, IsParseFault};
+ghost use Rattle.nvme_grammar.specs.Kept.{kept_events};
+ghost use Rattle.nvme_grammar.specs.Reading.{Reads, kept_of_line};
 ghost use Rattle.nvme_grammar.specs.declared.line.Line.{Line};
 ghost use Rattle.nvme_grammar.specs.declared.script.ParseFault.TheVariants.{NoMemory as MemoryRefused};
 
+use super::kept::KeptEvent;
 use super::line::{Line, judged_line};
 use nvme_spec::Config;
 use script_text::front_line;
 use std::alloc::{AllocError, Global};
 
-/// What a script sets up. Its events stay in its text: whoever runs them parses the lines behind `start` again, one
-/// after the other, so that no memory is kept for them.
+/// What a script sets up, and its events. Most of these are kept as they are; the others stay in its text, of which
+/// whoever runs them parses their lines again, one after the other, so that no memory is kept for data.
 #[derive(Drop)]
 pub struct Script {
     /// What the lines before `start` set up, in their order; nothing where there is no `start`. Nothing about
@@ -24,6 +26,8 @@ pub struct Script {
     pub config: Config,
     /// The number of the line `start`, counted from 1.
     pub start: Option<usize>,
+    /// The events of the text, in their order.
+    pub events: Vec<KeptEvent>,
 }
 
 /// Why a text gives no script.
@@ -31,7 +35,7 @@ pub struct Script {
 pub enum ParseFault {
     /// The first line that is outside the grammar, counted from 1.
     Syntax(usize),
-    /// Memory was refused.
+    /// Memory was refused, or a line begins behind more than 4,294,967,295 bytes.
     NoMemory,
 }
 
@@ -44,18 +48,20 @@ impl From<AllocError> for ParseFault {
 }
 
 impl Script {
-    /// Nothing was read yet.
-    fn new(alloc: Global) -> Script
-        ensures { Reads result [] }
+    /// Nothing was read yet of a text of so many bytes. There is room for its events: the shortest line of one is `up 1`.
+    fn new(alloc: Global, text_len: usize) -> Result<Script, AllocError>
+        ensures read { IfOk result (λ script. Reads script []) }
+        ensures events { IfOk result (λ script. script.events.items ≡ []) }
     {
-        Script {
+        Ok(Script {
             config: Config {
                 controllers: Vec::new(alloc),
                 namespaces: Vec::new(alloc),
                 attached: Vec::new(alloc),
             },
             start: None,
-        }
+            events: Vec::with_capacity(alloc, text_len / 5 + 1)?,
+        })
     }
 
     /// Whether a line may stand behind those that were read.
@@ -71,17 +77,19 @@ impl Script {
         }
     }
 
-    /// Takes the next line, which has this number. It is lent, since to move it is much of what an event's line costs
-    /// here.
+    /// Takes the next line, which has this number and begins behind so many bytes. It is lent, since to move it is much
+    /// of what an event's line costs here.
     #[inline(always)]
-    fn take(&mut self, number: usize, line: &Line) -> Result<(), AllocError>
-        ensures { OnOk result ((lines : List Line) → Reads self.old lines → number ≡ length lines + 1
+    fn take(&mut self, number: usize, before: u32, line: &Line) -> Result<(), AllocError>
+        ensures read { OnOk result ((lines : List Line) → Reads self.old lines → number ≡ length lines + 1
             → fits_behind lines (line_by_value line.now) ≡ true
             → Reads self.new (lines ++ line_by_value line.now ∷ [])) }
+        ensures events { OnOk result
+            (self.new.events.items ≡ self.old.events.items ++ kept_of_line before line.now) }
     {
         match line {
             Line::Blank => {}
-            Line::Event(_) => {}
+            Line::Event(event) => self.events.push(KeptEvent::of(event, before))?,
             Line::Controller(controller) => self.config.controllers.push(*controller)?,
             Line::Namespace(namespace) => self.config.namespaces.push(*namespace)?,
             Line::Attached { cntlid, nsid } => self.config.attached.push((*cntlid, *nsid))?,
@@ -92,7 +100,8 @@ impl Script {
 
     /// The script, once all lines were read: without a start nothing is set up.
     fn finished(self) -> Script
-        ensures { (lines : List Line) → Reads self lines → Says lines result }
+        ensures says { (lines : List Line) → Reads self lines → Says lines result }
+        ensures events { result.events.items ≡ self.events.items }
     {
         let mut script = self;
         if script.start.is_some() {
@@ -106,11 +115,11 @@ impl Script {
 }
 
 /// The script that a text spells. A line feed ends a line; the last line may lack it. The buffers need room for what
-/// any of its lines says.
+/// any of its lines says. Memory is taken for its events, eight bytes for every five of the text.
 ///
 /// `Syntax` bears the number of the first line that is outside the grammar: one that says nothing the grammar
 /// has, a configuration line or a second `start` behind `start`, or an event before it. `NoMemory` where memory is
-/// refused.
+/// refused, or a line begins behind more than 4,294,967,295 bytes.
 ///
 /// The lines are read one after the other, in time linear in the text.
 pub fn parse(
@@ -123,9 +132,12 @@ pub fn parse(
     requires identifiers_room { most_words text.now ≤ length identifiers.old }
     ensures grammar { IfOk result (λ _. Begins (text_lines text.now)) }
     ensures says { IfOk result (λ script. Says (said (text_lines text.now)) script) }
+    // What is kept of the text are its events, all of them and no other.
+    ensures events { IfOk result (λ script.
+        kept_events text.now script.events.items ≡ events_of (text_lines text.now)) }
     ensures fault { IfErr result (λ fault. IsParseFault (text_lines text.now) fault) }
 {
-    let mut script = Script::new(alloc);
+    let mut script = Script::new(alloc, text.len())?;
     let mut before = 0;
     let mut rest = Some(text);
     while let Some(lines) = rest {
@@ -137,8 +149,11 @@ pub fn parse(
         if !script.allows(line) {
             return Err(ParseFault::Syntax(before + 1));
         }
+        let Ok(place) = u32::try_from(text.len() - lines.len()) else {
+            return Err(ParseFault::NoMemory);
+        };
         before += 1;
-        script.take(before, line)?;
+        script.take(before, place, line)?;
         rest = behind;
     }
     Ok(script.finished())

@@ -1,13 +1,15 @@
 //! A session from the script that is run first to its end.
 
-ghost use Rattle.std.specs.Prelude.{◌≡◌, ◌<◌, ◌-◌, ◌^◌, ℕ, List, Option, IfErr, IfOk, None, Ok, Some, length};
+ghost use Rattle.std.specs.Prelude.{◌≡◌, ◌<◌, ◌-◌, ◌^◌, ℕ, List, Option, IfErr, IfOk, None, Ok, OnErr, OnOk, Some, length};
 ghost use Rattle.std.specs.Io.KnownBytes.{Appends};
 ghost use Rattle.script_text.specs.Reading.{IsRead};
 ghost use Rattle.nvme_spec.specs.Configuration.{first_config_fault};
 ghost use Rattle.nvme_ns.specs.Configured.{configuration};
 ghost use Rattle.nvme_fleet.specs.FleetStates.{layers_of, opening_layers};
 ghost use Rattle.nvme_grammar.specs.declared.line.Line.TheVariants.{Start};
-ghost use Rattle.nvme_script.specs.Faults.{IsReady, IsScript, ReadsThen, of_opening};
+ghost use Rattle.nvme_script.specs.Faults.{IsReady, IsScript, ReadsThen, StopsAt, Transcribes, events_in, of_opening};
+ghost use Rattle.nvme_script.specs.ScriptCalls.{RanCalling};
+ghost use Rattle.nvme_subsys.specs.OverMedium.{over};
 ghost use Rattle.nvme_live.specs.Asking.{asked};
 ghost use Rattle.nvme_live.specs.declared.asking.Asked.TheVariants.{Sets};
 ghost use Rattle.nvme_live.specs.Conversations.{Ends, EndsBy};
@@ -29,8 +31,8 @@ use nvme_script::{BrokenRule, ScriptFault, run_events};
 use nvme_spec::{Config, ConfigFault};
 use script_text::Source;
 use std::alloc::Global;
-use std::fmt;
 use std::io::{BufRead, Write};
+use std::{fmt, io};
 
 /// The answer to `start`, which has this number, where the configuration is refused: the fault, and the line that is at
 /// fault, by its number, with the rule that it breaks.
@@ -206,6 +208,36 @@ fn run_from_setting<R: BufRead, W: Write, M: Medium>(
     }
 }
 
+/// Lets the events of the script happen that is run first.
+fn run_events_of<W: Write, M: Medium>(
+    opening: &mut Opening,
+    fleet: &mut Fleet<M>,
+    writer: &mut W,
+) -> io::Result<()>
+    requires ready { IsReady opening.old.text.items opening.old.script }
+    requires bytes_room { length opening.old.rooms.bytes.items ≡ 2097153 }
+    requires identifiers_room { length opening.old.rooms.identifiers.items ≡ 2097153 }
+    ensures bytes { length opening.new.rooms.bytes.items ≡ 2097153 }
+    ensures identifiers { length opening.new.rooms.identifiers.items ≡ 2097153 }
+    ensures blocks { length opening.new.rooms.blocks.items ≡ length opening.old.rooms.blocks.items }
+    ensures calls { OnOk result (Transcribes (RanCalling M.step M.tells)
+        (over (layers_of fleet.old.state) fleet.old.medium) (events_in opening.old.text.items)
+        (over (layers_of fleet.new.state) fleet.new.medium) (W.contents writer.old) (W.contents writer.new)) }
+    ensures stopped { OnErr result (StopsAt (RanCalling M.step M.tells)
+        (over (layers_of fleet.old.state) fleet.old.medium) (events_in opening.old.text.items)
+        (over (layers_of fleet.new.state) fleet.new.medium) (W.contents writer.old) (W.contents writer.new)) }
+{
+    run_events(
+        opening.text.as_slice(),
+        opening.script.events.as_slice(),
+        fleet,
+        &mut opening.rooms.bytes,
+        &mut opening.rooms.identifiers,
+        &mut opening.rooms.text,
+        writer,
+    )
+}
+
 /// Opens the fleet of a script that has started, and runs its events.
 fn run_first<W: Write, M: Medium>(
     alloc: Global,
@@ -231,14 +263,7 @@ fn run_first<W: Write, M: Medium>(
         Ok(fleet) => fleet,
         Err(NewFault { fault, medium }) => return Err((refused_at(start, fault), medium)),
     };
-    let ran = run_events(
-        opening.text.as_slice(),
-        &mut fleet,
-        &mut opening.rooms.bytes,
-        &mut opening.rooms.identifiers,
-        &mut opening.rooms.text,
-        writer,
-    );
+    let ran = run_events_of(opening, &mut fleet, writer);
     if ran.is_err() || writer.flush().is_err() {
         return Err((ScriptFault::Write, fleet.into_medium()));
     }

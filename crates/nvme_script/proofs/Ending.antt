@@ -1,5 +1,5 @@
 -- What the end of a script's run says of its text.
-use Rattle.std.proofs.Common.{◌≡◌, ℕ, Bool, List, Option, Some, None, Ok, Err, ◌∙◌, sym, ap, subst}
+use Rattle.std.proofs.Common.{◌≡◌, ℕ, Bool, List, Option, None, Ok, Err, ◌∙◌, sym, ap, subst}
 use Rattle.std.specs.Prelude.{Result, MatchResult}
 use Rattle.script_text.specs.Streams.{ReadCall}
 use Rattle.script_text.specs.declared.reading.ReadFault.{ReadFault}

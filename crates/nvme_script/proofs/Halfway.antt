@@ -1,57 +1,49 @@
--- A text that was run as far as some line.
-use Rattle.std.proofs.Common.{◌≡◌, ◌≤◌, ◌<◌, ◌+◌, ℕ, List, [], ◌∷◌, ◌++◌, length, Option, Some, None, Bor, refl, sym, ap, ◌∙◌, subst, append_assoc, arith}
-use Rattle.std.specs.Prelude.{IfSome}
-use Rattle.std.proofs.lemmas.List.{append-nil}
+-- Events that were kept of a text, of which some have run.
+use Rattle.std.proofs.Common.{◌≡◌, ◌<◌, ◌≤◌, ◌+◌, ℕ, List, [], ◌∷◌, ◌++◌, length, take, take_all, drop, get_or, Option, Some, None, refl, sym, ap, ◌∙◌, subst, take-append-drop}
+use Rattle.std.specs.Prelude.{option_map}
+use Rattle.std.proofs.lemmas.List.{take_more}
+use Rattle.std.proofs.lemmas.List.Elements.{filter_map-append}
 use Rattle.nvme_event.specs.declared.event.FleetEvent.{FleetEvent}
 use Rattle.nvme_event.specs.Replies.{Reply}
-use Rattle.script_text.specs.Lines.{text_lines, lines_left}
-use Rattle.nvme_grammar.specs.Script.{events_of}
-use Rattle.nvme_script.specs.Faults.{Transcribes, StopsAt, events_in}
-use Rattle.nvme_script.proofs.Texts.{events-append}
-use Rattle.nvme_script.proofs.Running.{IsRun, Transcribes-none, Transcribes-append, StopsAt-behind}
+use Rattle.nvme_grammar.specs.Kept.{kept_event, kept_events}
+use Rattle.nvme_grammar.specs.Lent.{event_by_value}
+use Rattle.nvme_grammar.specs.declared.kept.KeptEvent.{KeptEvent}
+use Rattle.nvme_script.specs.Faults.{Transcribes, StopsAt}
+use Rattle.nvme_script.proofs.Running.{IsRun, Transcribes-append, StopsAt-behind}
 
--- the events before what is left of a text have run
-pub record Halfway {S : Type 0} (Ran : S → List FleetEvent → List Reply → S → Type 0) (text : List ℕ) (old : S) (rest : Option (Bor (List ℕ))) (now : S) (before after : Option (List ℕ)) : Type 0 where
-  pub front : List FleetEvent
-  pub all : events_in text ≡ front ++ events_of (lines_left rest)
-  pub transcribed : Transcribes Ran old front now before after
+-- the event of what is kept, and none
+pub one-event : (text : List ℕ) (kept : KeptEvent) (given : Option FleetEvent) (event : FleetEvent) → option_map event_by_value given ≡ kept_event text kept → given ≡ Some event
+    → kept_events text (kept ∷ []) ≡ event_by_value event ∷ []
+one-event text kept given event is e = one (kept_event text kept) refl (sym is ∙ ap (option_map event_by_value) e)
+  where
+    one : (o : Option FleetEvent) → kept_event text kept ≡ o → o ≡ Some (event_by_value event) → kept_events text (kept ∷ []) ≡ event_by_value event ∷ []
+    one o at h = rw (at, h) refl
 
-abbrev pub left_length : Option (Bor (List ℕ)) → ℕ
-left_length None = 0
-left_length (Some rest) = length rest.now + 1
+pub no-event : (text : List ℕ) (kept : KeptEvent) → None ≡ kept_event text kept → kept_events text (kept ∷ []) ≡ []
+no-event text kept is = rw (← is) refl
 
-abbrev pub IsWithin : Option (Bor (List ℕ)) → ℕ → Type 0
-IsWithin rest n = IfSome rest (λ r. length r.now ≤ n)
+kept-append : (text : List ℕ) (a b : List KeptEvent) → kept_events text (a ++ b) ≡ kept_events text a ++ kept_events text b
+kept-append text a b = filter_map-append (kept_event text) a b
 
-pub within-none : (r : Option (Bor (List ℕ))) (n : ℕ) → IfSome r (λ rest. length rest.now < n) → (m : ℕ) → n ≤ m → IsWithin r m
-within-none None n h m le = tt
-within-none (Some rest) n h m le = omega (arith, h, le)
+module _ {S : Type 0} (Ran : S → List FleetEvent → List Reply → S → Type 0) (is : IsRun Ran) (text : List ℕ) (events : List KeptEvent) (i : ℕ) (d : KeptEvent) (inside : i < length events)
+    (old mid new : S) (x y z : Option (List ℕ)) (half : Transcribes Ran old (kept_events text (take i events)) mid x y) where
+  next : kept_events text (take (i + 1) events) ≡ kept_events text (take i events) ++ kept_events text (get_or events i d ∷ [])
+  next = ap (kept_events text) (take_more events i d inside) ∙ kept-append text (take i events) (get_or events i d ∷ [])
 
-pub smaller : (r : Option (Bor (List ℕ))) (n : ℕ) → IfSome r (λ rest. length rest.now < n) → left_length r < n + 1
-smaller None n h = omega arith
-smaller (Some rest) n h = omega (arith, h)
-
-pub begun : {S : Type 0} (Ran : S → List FleetEvent → List Reply → S → Type 0) → IsRun Ran → (text : Bor (List ℕ)) (old : S) (before : Option (List ℕ)) → Halfway Ran text.now old (Some text) old before before
-begun Ran is text old before = record { front = []; all = refl; transcribed = Transcribes-none Ran is old before }
-
-module _ {S : Type 0} (Ran : S → List FleetEvent → List Reply → S → Type 0) (is : IsRun Ran) (text : List ℕ) (old : S) (lines raw : Bor (List ℕ)) (behind : Option (Bor (List ℕ))) (mid new : S) (x y z : Option (List ℕ))
-    (half : Halfway Ran text old (Some lines) mid x y) (cut : text_lines lines.now ≡ raw.now ∷ lines_left behind) where
-  parted : events_in text ≡ half.front ++ events_of (raw.now ∷ []) ++ events_of (lines_left behind)
+  parted : kept_events text events ≡ kept_events text (take i events) ++ kept_events text (get_or events i d ∷ []) ++ kept_events text (drop (i + 1) events)
   parted =
-      half.all ∙ ap (λ ls. half.front ++ events_of ls) cut ∙ ap (λ es. half.front ++ es) (events-append (raw.now ∷ []) (lines_left behind))
-      ∙ sym (append_assoc half.front (events_of (raw.now ∷ [])) (events_of (lines_left behind)))
+      ap (kept_events text) (sym (take-append-drop (i + 1) events)) ∙ kept-append text (take (i + 1) events) (drop (i + 1) events)
+      ∙ ap (λ t. t ++ kept_events text (drop (i + 1) events)) next
 
-  pub half-next : Transcribes Ran mid (events_of (raw.now ∷ [])) new y z → Halfway Ran text old behind new x z
-  half-next more = record {
-    front = half.front ++ events_of (raw.now ∷ []);
-    all = parted;
-    transcribed = Transcribes-append Ran is half.front (events_of (raw.now ∷ [])) old mid new x y z half.transcribed more;
-  }
+  pub half-next : Transcribes Ran mid (kept_events text (get_or events i d ∷ [])) new y z → Transcribes Ran old (kept_events text (take (i + 1) events)) new x z
+  half-next more = subst (λ (es : List FleetEvent). Transcribes Ran old es new x z) (sym next)
+      (Transcribes-append Ran is (kept_events text (take i events)) (kept_events text (get_or events i d ∷ [])) old mid new x y z half more)
 
-  pub half-stops : StopsAt Ran mid (events_of (raw.now ∷ [])) new y z → StopsAt Ran old (events_in text) new x z
-  half-stops stops =
-      subst (λ (es : List FleetEvent). StopsAt Ran old es new x z) (sym parted)
-      (StopsAt-behind Ran is half.front (events_of (raw.now ∷ [])) (events_of (lines_left behind)) old mid new x y z half.transcribed stops)
+  pub half-stops : StopsAt Ran mid (kept_events text (get_or events i d ∷ [])) new y z → StopsAt Ran old (kept_events text events) new x z
+  half-stops stops = subst (λ (es : List FleetEvent). StopsAt Ran old es new x z) (sym parted)
+      (StopsAt-behind Ran is (kept_events text (take i events)) (kept_events text (get_or events i d ∷ [])) (kept_events text (drop (i + 1) events)) old mid new x y z half stops)
 
-pub half-whole : {S : Type 0} (Ran : S → List FleetEvent → List Reply → S → Type 0) (text : List ℕ) (old now : S) (x y : Option (List ℕ)) → Halfway Ran text old None now x y → Transcribes Ran old (events_in text) now x y
-half-whole Ran text old now x y half = subst (λ (es : List FleetEvent). Transcribes Ran old es now x y) (sym (half.all ∙ append-nil half.front)) half.transcribed
+-- all have run
+pub half-whole : {S : Type 0} (Ran : S → List FleetEvent → List Reply → S → Type 0) (text : List ℕ) (events : List KeptEvent) (i : ℕ) (old now : S) (x y : Option (List ℕ)) → length events ≤ i
+    → Transcribes Ran old (kept_events text (take i events)) now x y → Transcribes Ran old (kept_events text events) now x y
+half-whole Ran text events i old now x y all half = subst (λ (es : List KeptEvent). Transcribes Ran old (kept_events text es) now x y) (take_all i events all) half

@@ -1,6 +1,6 @@
 pub mod ByValue
 pub mod Texts
-pub mod Lining
+pub mod Left
 pub mod Halfway
 pub mod Running
 pub mod Preparing

@@ -1,9 +1,7 @@
 -- What a script that was read opens, and what the refusal of its configuration says.
-use Rattle.std.proofs.Common.{◌≡◌, ℕ, false, List, ◌++◌, Option, Some, None, refl, sym, ap, ◌∙◌, arith}
-use Rattle.std.specs.Prelude.{IfSome, unwrap_or, is_some}
+use Rattle.std.proofs.Common.{◌≡◌, ℕ, false, List, Option, Some, None, refl, sym, ap, arith}
+use Rattle.std.specs.Prelude.{unwrap_or, is_some}
 use Rattle.std.specs.List.{list_any}
-use Rattle.std.specs.Io.KnownBytes.{Consumes, IsAtEnd}
-use Rattle.std.proofs.lemmas.List.{append-nil}
 use Rattle.std.proofs.lemmas.Bool.{le-ltb}
 use Rattle.nvme_spec.specs.declared.config.ConfigFault.{ConfigFault}
 use Rattle.nvme_spec.specs.Configuration.{empty_configuration, first_config_fault}

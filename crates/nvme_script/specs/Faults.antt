@@ -15,6 +15,7 @@ use Rattle.script_text.specs.declared.reading.ReadFault.{ReadFault}
 use Rattle.script_text.specs.declared.reading.ReadFault.TheVariants as reading
 use Rattle.nvme_transcript.specs.Transcript.{line_of, transcript}
 use Rattle.nvme_grammar.specs.declared.script.Script.{Script}
+use Rattle.nvme_grammar.specs.Kept.{kept_events}
 use Rattle.nvme_grammar.specs.Script.{said, Begins, Says, IsFirstOutside, configuration_of, start_of, events_of}
 use Rattle.nvme_grammar.specs.declared.script.ParseFault.{ParseFault}
 use Rattle.nvme_grammar.specs.declared.script.ParseFault.TheVariants as grammar
@@ -86,11 +87,12 @@ abbrev pub of_opening : Option ℕ → ConfigFault → ScriptFault
 of_opening start WantOfMemory = NoMemory
 of_opening start fault = Config (unwrap_or start 0) fault
 
--- a script that was read: its text, and what that says
+-- a script that was read: its text, what that says, and its events as they are kept
 pub record IsReady (text : List ℕ) (script : Script) : Type 0 where
   pub short : length text ≤ longest
   pub grammar : Begins (text_lines text)
   pub says : Says (said (text_lines text)) script
+  pub events : kept_events text script.events.items ≡ events_in text
 
 -- what a fault says of a text that was read, where it comes before the first event
 abbrev pub IsEarlyFault : ScriptFault → List ℕ → ℕ → Type 0

@@ -7,17 +7,17 @@ ghost use Rattle.nvme_grammar.specs.Room.{HasBytesRoom};
 ghost use Rattle.nvme_fleet.specs.Fleets.{Run};
 ghost use Rattle.nvme_fleet.specs.FleetStates.{fleet_of, layers_of};
 ghost use Rattle.nvme_subsys.specs.OverMedium.{over};
-ghost use Rattle.nvme_grammar.specs.Script.{events_of};
-ghost use Rattle.nvme_script.specs.Faults.{IsScript, IsReady, Transcribes, StopsAt, Runs, IsEarlyFault, IsFault, IsWrite, ReadsThen, events_in, of_reading, of_grammar, of_opening};
+ghost use Rattle.nvme_grammar.specs.Kept.{kept_events};
+ghost use Rattle.nvme_script.specs.Faults.{IsScript, IsReady, Transcribes, StopsAt, Runs, IsEarlyFault, IsFault, IsWrite, ReadsThen, of_reading, of_grammar, of_opening};
 ghost use Rattle.nvme_script.specs.ScriptCalls.{RanCalling, RunsCalling, StopsCalling};
 ghost use Rattle.nvme_script.specs.declared.run.ScriptFault.TheVariants.{NoMemory as MemoryRefused};
 
 use nvme_fleet::{Fleet, NewFault};
-use nvme_grammar::{Buffers, Line, ParseFault, Script, parse, parse_line};
+use nvme_grammar::{Buffers, KeptEvent, ParseFault, Script, parse};
 use nvme_medium::Medium;
 use nvme_spec::{ConfigFault, Marks};
 use nvme_transcript::{LONGEST_LINE, TranscriptLine, write_line};
-use script_text::{ReadFault, Source, front_line, read_text};
+use script_text::{ReadFault, Source, read_text};
 use std::alloc::{AllocError, Global};
 use std::io;
 use std::io::Write;
@@ -115,29 +115,33 @@ fn refused_at(start: Option<usize>, fault: ConfigFault) -> ScriptFault
     }
 }
 
-/// Runs the event of a line, if it is one, and writes its line of the transcript, which has room in what is lent.
-fn run_line<W: Write, M: Medium>(
-    raw: &[u8],
+/// Lets an event happen that was kept of a text, and writes its line of the transcript, which has room in what is lent.
+/// Nothing happens where the line that it is kept as says no event.
+fn run_event<W: Write, M: Medium>(
+    text: &[u8],
+    kept: KeptEvent,
     fleet: &mut Fleet<M>,
     bytes: &mut [u8],
     identifiers: &mut [u16],
     line: &mut String,
     writer: &mut W,
 ) -> io::Result<()>
-    requires bytes_room { HasBytesRoom raw.now bytes.old }
-    requires identifiers_room { most_words raw.now ≤ length identifiers.old }
-    ensures ok { OnOk result (Transcribes (Run M.tells) (fleet_of fleet.old.state) (events_of (raw.now ∷ []))
-        (fleet_of fleet.new.state) (W.contents writer.old) (W.contents writer.new)) }
-    ensures err { OnErr result (StopsAt (Run M.tells) (fleet_of fleet.old.state) (events_of (raw.now ∷ []))
-        (fleet_of fleet.new.state) (W.contents writer.old) (W.contents writer.new)) }
+    requires bytes_room { HasBytesRoom text.now bytes.old }
+    requires identifiers_room { most_words text.now ≤ length identifiers.old }
+    ensures ok { OnOk result (Transcribes (Run M.tells) (fleet_of fleet.old.state)
+        (kept_events text.now (kept ∷ [])) (fleet_of fleet.new.state) (W.contents writer.old)
+        (W.contents writer.new)) }
+    ensures err { OnErr result (StopsAt (Run M.tells) (fleet_of fleet.old.state)
+        (kept_events text.now (kept ∷ [])) (fleet_of fleet.new.state) (W.contents writer.old)
+        (W.contents writer.new)) }
     ensures calls { OnOk result (Transcribes (RanCalling M.step M.tells)
-        (over (layers_of fleet.old.state) fleet.old.medium) (events_of (raw.now ∷ []))
+        (over (layers_of fleet.old.state) fleet.old.medium) (kept_events text.now (kept ∷ []))
         (over (layers_of fleet.new.state) fleet.new.medium) (W.contents writer.old) (W.contents writer.new)) }
     ensures stopped { OnErr result (StopsAt (RanCalling M.step M.tells)
-        (over (layers_of fleet.old.state) fleet.old.medium) (events_of (raw.now ∷ []))
+        (over (layers_of fleet.old.state) fleet.old.medium) (kept_events text.now (kept ∷ []))
         (over (layers_of fleet.new.state) fleet.new.medium) (W.contents writer.old) (W.contents writer.new)) }
 {
-    let Some(Line::Event(event)) = parse_line(raw, bytes, identifiers) else {
+    let Some(event) = kept.event(text, bytes, identifiers) else {
         return Ok(());
     };
     let mut marks = Marks::none();
@@ -151,9 +155,10 @@ fn run_line<W: Write, M: Medium>(
     write_line(writer, line, &shown)
 }
 
-/// Runs the events of a text in their order, and writes the line of each before the next one.
+/// Lets the events happen that were kept of a text, in their order, and writes the line of each before the next one.
 pub fn run_events<W: Write, M: Medium>(
     text: &[u8],
+    events: &[KeptEvent],
     fleet: &mut Fleet<M>,
     bytes: &mut [u8],
     identifiers: &mut [u16],
@@ -162,22 +167,21 @@ pub fn run_events<W: Write, M: Medium>(
 ) -> io::Result<()>
     requires bytes_room { HasBytesRoom text.now bytes.old }
     requires identifiers_room { most_words text.now ≤ length identifiers.old }
-    ensures ok { OnOk result (Transcribes (Run M.tells) (fleet_of fleet.old.state) (events_in text.now)
-        (fleet_of fleet.new.state) (W.contents writer.old) (W.contents writer.new)) }
-    ensures err { OnErr result (StopsAt (Run M.tells) (fleet_of fleet.old.state) (events_in text.now)
-        (fleet_of fleet.new.state) (W.contents writer.old) (W.contents writer.new)) }
+    ensures ok { OnOk result (Transcribes (Run M.tells) (fleet_of fleet.old.state)
+        (kept_events text.now events.now) (fleet_of fleet.new.state) (W.contents writer.old)
+        (W.contents writer.new)) }
+    ensures err { OnErr result (StopsAt (Run M.tells) (fleet_of fleet.old.state)
+        (kept_events text.now events.now) (fleet_of fleet.new.state) (W.contents writer.old)
+        (W.contents writer.new)) }
     ensures calls { OnOk result (Transcribes (RanCalling M.step M.tells)
-        (over (layers_of fleet.old.state) fleet.old.medium) (events_in text.now)
+        (over (layers_of fleet.old.state) fleet.old.medium) (kept_events text.now events.now)
         (over (layers_of fleet.new.state) fleet.new.medium) (W.contents writer.old) (W.contents writer.new)) }
     ensures stopped { OnErr result (StopsAt (RanCalling M.step M.tells)
-        (over (layers_of fleet.old.state) fleet.old.medium) (events_in text.now)
+        (over (layers_of fleet.old.state) fleet.old.medium) (kept_events text.now events.now)
         (over (layers_of fleet.new.state) fleet.new.medium) (W.contents writer.old) (W.contents writer.new)) }
 {
-    let mut rest = Some(text);
-    while let Some(lines) = rest {
-        let (raw, behind) = front_line(lines);
-        run_line(raw, fleet, bytes, identifiers, line, writer)?;
-        rest = behind;
+    for kept in events {
+        run_event(text, *kept, fleet, bytes, identifiers, line, writer)?;
     }
     Ok(())
 }
@@ -213,6 +217,7 @@ fn run_ready<W: Write, M: Medium>(
     };
     let outcome = run_events(
         text,
+        ready.script.events.as_slice(),
         &mut fleet,
         &mut ready.buffers.bytes,
         &mut ready.buffers.identifiers,

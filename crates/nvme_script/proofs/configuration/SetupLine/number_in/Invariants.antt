@@ -4,7 +4,7 @@ use Rattle.script_text.specs.Lines.{lines_left, text_lines}
 use Rattle.script_text.specs.Words.{most_words}
 use Rattle.nvme_grammar.specs.Room.{HasBytesRoom}
 use Rattle.nvme_script.specs.SetupLines.{number_in, numbers_of_kind}
-use Rattle.nvme_script.proofs.Halfway.{left_length, IsWithin}
+use Rattle.nvme_script.proofs.Left.{left_length, IsWithin}
 use Rattle.nvme_script.proofs.configuration.SetupLine.number_in.Given as goal
 
 -- what is left decides, of the lines from this number on

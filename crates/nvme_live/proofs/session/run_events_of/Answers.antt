@@ -1,0 +1,22 @@
+use Rattle.std.proofs.Common.{◌≡◌, ◌∙◌, ap, rules, subst}
+use Rattle.std.specs.Prelude.{OnErr, OnOk}
+use Rattle.nvme_fleet.specs.FleetStates.{layers_of}
+use Rattle.nvme_grammar.specs.Kept.{kept_events}
+use Rattle.nvme_subsys.specs.OverMedium.{over}
+use Rattle.nvme_script.specs.Faults.{StopsAt, Transcribes, events_in}
+use Rattle.nvme_script.specs.ScriptCalls.{RanCalling}
+use Rattle.nvme_live.proofs.session.run_events_of.Goals as goal
+
+pub returns-clause-calls : goal.returns-clause-calls
+returns-clause-calls g c =
+    let events : kept_events c.as_slice.result.now c.as_slice-2.result.now ≡ events_in c.args.opening.now.text.items =
+    ap (λ t. kept_events t c.as_slice-2.result.now) (search rules) ∙ ap (kept_events c.args.opening.now.text.items) (search rules) ∙ c.requires.ready.events in
+    subst (λ es. OnOk c.run_events.result (Transcribes (RanCalling g.M.Medium.step g.M.Medium.tells) (over (layers_of c.args.fleet.now.state) c.args.fleet.now.medium) es
+    (over (layers_of c.run_events.new.fleet.state) c.run_events.new.fleet.medium) (g.W.Write.contents c.args.writer.now) (g.W.Write.contents c.run_events.new.writer))) events c.run_events.ensures.calls
+
+pub returns-clause-stopped : goal.returns-clause-stopped
+returns-clause-stopped g c =
+    let events : kept_events c.as_slice.result.now c.as_slice-2.result.now ≡ events_in c.args.opening.now.text.items =
+    ap (λ t. kept_events t c.as_slice-2.result.now) (search rules) ∙ ap (kept_events c.args.opening.now.text.items) (search rules) ∙ c.requires.ready.events in
+    subst (λ es. OnErr c.run_events.result (StopsAt (RanCalling g.M.Medium.step g.M.Medium.tells) (over (layers_of c.args.fleet.now.state) c.args.fleet.now.medium) es
+    (over (layers_of c.run_events.new.fleet.state) c.run_events.new.fleet.medium) (g.W.Write.contents c.args.writer.now) (g.W.Write.contents c.run_events.new.writer))) events c.run_events.ensures.stopped
