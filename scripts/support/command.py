@@ -8,7 +8,7 @@ from dataclasses import dataclass, field
 from support import choosing, edits, proving, record, toolchain, trial
 from support.proving import say
 
-MOST = 20
+MOST = 60
 USAGE = """Tries wrong bodies, over kept work where there is some: the prover must refuse each.
 
 A wrong body is a file NAME.edit in crates/CRATE/must-fail or crates/CRATE/wrong-bodies. Without names, those are tried

@@ -5,10 +5,11 @@ import shutil
 import subprocess
 import tempfile
 import threading
-from dataclasses import dataclass, field
+from dataclasses import dataclass, field, replace
 from pathlib import Path
 from types import SimpleNamespace
 
+from support import proving
 from support.placing import texts_of
 from support.witnesses import witnesses_of
 
@@ -67,11 +68,12 @@ class Said:
         found.pop("search", None)
         return found
 
+    def proves(self, crate, functions):
+        """Whether each of these functions is proved."""
+        return all(self.verdicts(crate, it.name) == ["proved"] for it in functions)
+
     def refuses(self, edit):
-        """Whether the edited function is refused, for the sake of a goal of its own; and where it is a copy, whether
-        the function that it is a copy of is proved."""
-        if edit.copied and self.verdicts(edit.crate, edit.copied.name) != ["proved"]:
-            return False
+        """Whether the edited function is refused, for the sake of a goal of its own."""
         return self.is_not_proved(edit.crate, edit.function.name) and bool(self.own_goals(edit))
 
 
@@ -114,13 +116,22 @@ def linked(folder, to):
     shutil.copytree(folder, to, copy_function=copy)
 
 
+def plain_copy(batch):
+    """Of the functions that copies in a check are of, the shortest, to be copied unchanged."""
+    copied = [it for it in batch if it.is_copied]
+    shortest = min(copied, key=lambda it: (it.function.last - it.function.first, it.label), default=None)
+    return [replace(shortest, changes=())] if shortest else []
+
+
 class Bench:
     """A crate, and the folder that the checks of its wrong bodies keep their work in. It begins with a copy of the
-    crate's kept work, or with nothing: then the first check proves the functions that it asks for as they stand, with
-    what they call and the lemmas that they cite, and the next checks take that."""
+    crate's kept work, or with nothing: then the first check proves what it asks for, with the lemmas that this cites,
+    and the next checks take that. Where `rt ci` has just proved the crate as it stands, a check does not prove again
+    the functions that its copies are of, but a copy of one that is unchanged."""
 
     def __init__(self, rt, crate):
         self.rt, self.crate = rt, crate
+        self.is_proved = proving.is_left_by_ci(crate)
         self.folder = Path(crate.folder)
         self.room = tempfile.mkdtemp(prefix="wrong-bodies-")
         self.kept = f"{self.room}/kept"
@@ -157,21 +168,31 @@ class Bench:
         is_unread = any(self.rt.unread(line, changed) for line in said.lines)
         return is_unread or said.status != 1 or not any(it.startswith("only=") for it in said.lines)
 
+    def placed(self, batch):
+        """The text of a check of these wrong bodies, and where each of them stands in it, with what that check has to
+        prove for its sake: the function that it is a copy of, or one copy that is unchanged, for all of them."""
+        is_shared = len(batch) > 1
+        plain = plain_copy(batch) if is_shared and self.is_proved else []
+        texts, found = texts_of(self.folder, [*batch, *plain], lambda it: is_shared and it.is_copied)
+        right = [it.function for it in found if it.edit in plain]
+        wrong = [it for it in found if it.edit not in plain]
+        return texts, {it: right or [it.copied] if it.copied else [] for it in wrong}
+
     def try_batch(self, batch):
         """Tries wrong bodies in one check, and each that is not refused there for its own sake alone; where the check
         comes to nothing, as by one that can't be read, each half of them."""
-        is_shared = len(batch) > 1
-        texts, placed = texts_of(self.folder, batch, lambda it: is_shared and it.is_copied)
-        only = [word for it in placed for word in (it.function, it.copied) if word]
+        texts, placed = self.placed(batch)
+        only = [*(function for right in placed.values() for function in right), *(it.function for it in placed)]
         said = self.check(texts, dict.fromkeys(it.name for it in only), self.kept)
+        is_shared = len(batch) > 1
         how = f"with {len(batch) - 1} others" if is_shared else "alone"
         is_spoiled = self.is_spoiled(said, texts)
         if is_spoiled and is_shared:
             yield from self.try_batch(batch[:len(batch) // 2])
             yield from self.try_batch(batch[len(batch) // 2:])
             return
-        for it in placed:
-            if not is_spoiled and said.refuses(it):
+        for it, right in placed.items():
+            if not is_spoiled and said.proves(it.crate, right) and said.refuses(it):
                 self.tried |= set() if it.copied else {it.function.name}
                 yield Result(it.edit, True, how, told(said.own_goals(it), self.clauses(it.edit)))
             elif is_shared:
