@@ -1,7 +1,16 @@
 -- Room for what a line says.
 use Rattle.std.specs.Prelude.{ℕ, ◌*◌, ◌≤◌, List, length}
 use Rattle.nvme_spec.specs.Limits.{most_bytes}
+use Rattle.script_text.specs.Lines.{longest_line}
 
 -- room for the data of any transfer, and for the bytes that a line spells: a byte takes two digits
 abbrev pub HasBytesRoom : List ℕ → List ℕ → Type 0
 HasBytesRoom line bytes = (most_bytes ≤ length bytes) × (length line ≤ 2 * length bytes)
+
+-- the same for any line of a text
+abbrev pub HasTextRoom : List ℕ → List ℕ → Type 0
+HasTextRoom text bytes = (most_bytes ≤ length bytes) × (longest_line text ≤ 2 * length bytes)
+
+-- room for the words of any line of a text: each but the last has a separator behind it
+abbrev pub HasWordsRoom : List ℕ → List ℕ → Type 0
+HasWordsRoom text identifiers = longest_line text ≤ 2 * length identifiers

@@ -1,10 +1,10 @@
 //! Where the bytes and the identifiers of a script's events lie.
 
-ghost use Rattle.std.specs.Prelude.{◌≡◌, ◌≤◌, length, IfOk};
-ghost use Rattle.script_text.specs.Words.{most_words};
-ghost use Rattle.nvme_grammar.specs.Room.{HasBytesRoom};
+ghost use Rattle.std.specs.Prelude.{IfOk};
+ghost use Rattle.nvme_grammar.specs.Room.{HasTextRoom, HasWordsRoom};
 
 use nvme_spec::MOST_BYTES;
+use script_text::line_bound;
 use std::alloc::{AllocError, Global};
 
 /// Memory for what one event of a script holds. The same is used for each line, one after the other.
@@ -17,13 +17,14 @@ pub struct Buffers {
 }
 
 impl Buffers {
-    /// Room for each line of a text: 131,072 bytes, or one byte for each two bytes of the text where that is more, and
-    /// one identifier for each two bytes of the text. `AllocError` where memory is refused.
+    /// Room for each line of a text: 131,072 bytes, or one byte for each two bytes of its longest line where that is
+    /// more, and one identifier for each two bytes of that line; 2,049 more of either, at most. `AllocError` where memory
+    /// is refused.
     pub fn for_text(alloc: Global, text: &[u8]) -> Result<Buffers, AllocError>
-        ensures bytes { IfOk result (λ buffers. HasBytesRoom text.now buffers.bytes.items) }
-        ensures identifiers { IfOk result (λ buffers. most_words text.now ≤ length buffers.identifiers.items) }
+        ensures bytes { IfOk result (λ buffers. HasTextRoom text.now buffers.bytes.items) }
+        ensures identifiers { IfOk result (λ buffers. HasWordsRoom text.now buffers.identifiers.items) }
     {
-        let half = text.len() / 2 + 1;
+        let half = line_bound(text) / 2 + 1;
         Ok(Buffers {
             bytes: vec![in alloc; 0; half.max(MOST_BYTES)]?,
             identifiers: vec![in alloc; 0; half]?,

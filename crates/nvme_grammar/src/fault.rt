@@ -4,7 +4,7 @@ ghost use Rattle.std.specs.Prelude.{◌≡◌, ◌↔◌, ◌<◌, ◌≤◌, �
 ghost use Rattle.script_text.specs.Words.{line_words, is_line_text, starts_apart, from_word, most_words};
 ghost use Rattle.script_text.specs.Lines.{text_lines};
 ghost use Rattle.nvme_grammar.specs.Line.{line_at};
-ghost use Rattle.nvme_grammar.specs.Room.{HasBytesRoom};
+ghost use Rattle.nvme_grammar.specs.Room.{HasBytesRoom, HasTextRoom, HasWordsRoom};
 ghost use Rattle.nvme_grammar.specs.LineFaults.{IsAllowed, fault_of, fault_by_value, foreign_fault, misfit, misplaced, keyword_fault, fault_in, is_start_line, word_number};
 
 use super::keyword::Keyword;
@@ -249,8 +249,8 @@ pub fn fault_at<'a>(
     identifiers: &mut [u16],
 ) -> Option<LineFault<'a>>
     requires counted { 0 < number }
-    requires bytes_room { HasBytesRoom text.now bytes.old }
-    requires identifiers_room { most_words text.now ≤ length identifiers.old }
+    requires bytes_room { HasTextRoom text.now bytes.old }
+    requires identifiers_room { HasWordsRoom text.now identifiers.old }
     ensures { option_map fault_by_value result ≡ fault_in false (number - 1) (text_lines text.now) }
 {
     let mut before = number - 1;

@@ -4,7 +4,7 @@ ghost use Rattle.std.specs.Prelude.{◌≡◌, ◌≤◌, length, option_map};
 ghost use Rattle.script_text.specs.Words.{most_words};
 ghost use Rattle.nvme_grammar.specs.Kept.{kept_as, kept_event, line_event};
 ghost use Rattle.nvme_grammar.specs.Lent.{event_by_value};
-ghost use Rattle.nvme_grammar.specs.Room.{HasBytesRoom};
+ghost use Rattle.nvme_grammar.specs.Room.{HasBytesRoom, HasTextRoom, HasWordsRoom};
 
 use super::line::{Line, parse_line};
 use nvme_event::FleetEvent;
@@ -53,8 +53,8 @@ impl KeptEvent {
         bytes: &'a mut [u8],
         identifiers: &'a mut [u16],
     ) -> Option<FleetEvent<'a>>
-        requires bytes_room { HasBytesRoom text.now bytes.old }
-        requires identifiers_room { most_words text.now ≤ length identifiers.old }
+        requires bytes_room { HasTextRoom text.now bytes.old }
+        requires identifiers_room { HasWordsRoom text.now identifiers.old }
         ensures { option_map event_by_value result ≡ kept_event text.now self }
     {
         match self {

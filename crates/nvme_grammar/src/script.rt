@@ -1,10 +1,9 @@
 //! The script that a text spells.
 
-ghost use Rattle.std.specs.Prelude.{◌≡◌, ◌+◌, ◌≤◌, ◌++◌, ◌∷◌, [], List, true, length, IfOk, IfErr, OnOk};
-ghost use Rattle.script_text.specs.Words.{most_words};
+ghost use Rattle.std.specs.Prelude.{◌≡◌, ◌+◌, ◌++◌, ◌∷◌, [], List, true, length, IfOk, IfErr, OnOk};
 ghost use Rattle.script_text.specs.Lines.{text_lines};
 ghost use Rattle.nvme_grammar.specs.Lent.{line_by_value};
-ghost use Rattle.nvme_grammar.specs.Room.{HasBytesRoom};
+ghost use Rattle.nvme_grammar.specs.Room.{HasTextRoom, HasWordsRoom};
 ghost use Rattle.nvme_grammar.specs.Script.{said, events_of, fits_behind, Begins, Says, IsParseFault};
 ghost use Rattle.nvme_grammar.specs.Kept.{kept_events};
 ghost use Rattle.nvme_grammar.specs.Reading.{Reads, kept_of_line};
@@ -128,8 +127,8 @@ pub fn parse(
     bytes: &mut [u8],
     identifiers: &mut [u16],
 ) -> Result<Script, ParseFault>
-    requires bytes_room { HasBytesRoom text.now bytes.old }
-    requires identifiers_room { most_words text.now ≤ length identifiers.old }
+    requires bytes_room { HasTextRoom text.now bytes.old }
+    requires identifiers_room { HasWordsRoom text.now identifiers.old }
     ensures grammar { IfOk result (λ _. Begins (text_lines text.now)) }
     ensures says { IfOk result (λ script. Says (said (text_lines text.now)) script) }
     // What is kept of the text are its events, all of them and no other.

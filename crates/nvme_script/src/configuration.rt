@@ -5,7 +5,7 @@ ghost use Rattle.std.specs.List.{list_any};
 ghost use Rattle.script_text.specs.Lines.{text_lines};
 ghost use Rattle.script_text.specs.Words.{most_words};
 ghost use Rattle.nvme_grammar.specs.Line.{line_at};
-ghost use Rattle.nvme_grammar.specs.Room.{HasBytesRoom};
+ghost use Rattle.nvme_grammar.specs.Room.{HasBytesRoom, HasTextRoom, HasWordsRoom};
 ghost use Rattle.nvme_spec.specs.Configuration.{is_private};
 ghost use Rattle.nvme_ns.specs.Configured.{configuration};
 ghost use Rattle.nvme_script.specs.Reasons as spec;
@@ -303,8 +303,8 @@ impl SetupLine {
 
     /// Its number among all lines of a text, from 1, if it is there. The buffers need room for what any line says.
     pub fn number_in(self, text: &[u8], bytes: &mut [u8], identifiers: &mut [u16]) -> Option<usize>
-        requires bytes_room { HasBytesRoom text.now bytes.old }
-        requires identifiers_room { most_words text.now ≤ length identifiers.old }
+        requires bytes_room { HasTextRoom text.now bytes.old }
+        requires identifiers_room { HasWordsRoom text.now identifiers.old }
         ensures { result ≡ number_in self (text_lines text.now) }
     {
         let mut left = self.place();

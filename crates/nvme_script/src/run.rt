@@ -1,9 +1,8 @@
 //! A script from its text to its transcript.
 
-ghost use Rattle.std.specs.Prelude.{◌≡◌, ◌≤◌, ◌⊎◌, ◌∷◌, [], ℕ, List, IfOk, IfErr, OnOk, OnErr, Ok, length, vec_len};
+ghost use Rattle.std.specs.Prelude.{◌≡◌, ◌≤◌, ◌⊎◌, ◌∷◌, [], ℕ, List, IfOk, IfErr, OnOk, OnErr, Ok, length};
 ghost use Rattle.script_text.specs.Reading.{IsRead, longest};
-ghost use Rattle.script_text.specs.Words.{most_words};
-ghost use Rattle.nvme_grammar.specs.Room.{HasBytesRoom};
+ghost use Rattle.nvme_grammar.specs.Room.{HasTextRoom, HasWordsRoom};
 ghost use Rattle.nvme_fleet.specs.Fleets.{Run};
 ghost use Rattle.nvme_fleet.specs.FleetStates.{fleet_of, layers_of};
 ghost use Rattle.nvme_subsys.specs.OverMedium.{over};
@@ -90,8 +89,8 @@ struct Ready {
 fn prepare(alloc: Global, text: &[u8]) -> Result<Ready, ScriptFault>
     requires short { length text.now ≤ longest }
     ensures script { IfOk result (λ ready. IsReady text.now ready.script) }
-    ensures bytes_room { IfOk result (λ ready. HasBytesRoom text.now ready.buffers.bytes.items) }
-    ensures identifiers_room { IfOk result (λ ready. most_words text.now ≤ vec_len ready.buffers.identifiers) }
+    ensures bytes_room { IfOk result (λ ready. HasTextRoom text.now ready.buffers.bytes.items) }
+    ensures identifiers_room { IfOk result (λ ready. HasWordsRoom text.now ready.buffers.identifiers.items) }
     ensures fault { IfErr result (λ fault. (size : ℕ) → IsEarlyFault fault text.now size) }
     ensures early { IfErr result (λ fault. ¬ IsWrite fault) }
 {
@@ -126,8 +125,8 @@ fn run_event<W: Write, M: Medium>(
     line: &mut String,
     writer: &mut W,
 ) -> io::Result<()>
-    requires bytes_room { HasBytesRoom text.now bytes.old }
-    requires identifiers_room { most_words text.now ≤ length identifiers.old }
+    requires bytes_room { HasTextRoom text.now bytes.old }
+    requires identifiers_room { HasWordsRoom text.now identifiers.old }
     ensures ok { OnOk result (Transcribes (Run M.tells) (fleet_of fleet.old.state)
         (kept_events text.now (kept ∷ [])) (fleet_of fleet.new.state) (W.contents writer.old)
         (W.contents writer.new)) }
@@ -165,8 +164,8 @@ pub fn run_events<W: Write, M: Medium>(
     line: &mut String,
     writer: &mut W,
 ) -> io::Result<()>
-    requires bytes_room { HasBytesRoom text.now bytes.old }
-    requires identifiers_room { most_words text.now ≤ length identifiers.old }
+    requires bytes_room { HasTextRoom text.now bytes.old }
+    requires identifiers_room { HasWordsRoom text.now identifiers.old }
     ensures ok { OnOk result (Transcribes (Run M.tells) (fleet_of fleet.old.state)
         (kept_events text.now events.now) (fleet_of fleet.new.state) (W.contents writer.old)
         (W.contents writer.new)) }
@@ -195,8 +194,8 @@ fn run_ready<W: Write, M: Medium>(
     medium: M,
 ) -> Result<M, (ScriptFault, M)>
     requires script { IsReady text.now ready.old.script }
-    requires bytes_room { HasBytesRoom text.now ready.old.buffers.bytes.items }
-    requires identifiers_room { most_words text.now ≤ vec_len ready.old.buffers.identifiers }
+    requires bytes_room { HasTextRoom text.now ready.old.buffers.bytes.items }
+    requires identifiers_room { HasWordsRoom text.now ready.old.buffers.identifiers.items }
     ensures ok { IfOk result (λ after. IsScript text.now (M.size medium)
         × Runs M.tells text.now (M.device medium) (M.device after) (W.contents writer.old)
         (W.contents writer.new)) }

@@ -3,6 +3,7 @@ mod FillLemmas
 mod FrontLemmas
 mod HexTextLemmas
 mod LineLemmas
+pub mod LineLengths
 pub mod OnLiterals
 mod NumberLemmas
 mod ReadingLemmas

@@ -19,7 +19,7 @@ mod writing;
 pub use data::{bytes_in, data_in, is_data};
 pub use front::{FrontNumber, front_number};
 pub use hex_text::HexText;
-pub use lines::front_line;
+pub use lines::{front_line, line_bound};
 pub use number::{number_u8, number_u16, number_u32, number_u64, number_u128};
 pub use reading::{ReadFault, read_text};
 pub use stream::{Sink, Source};

@@ -19,6 +19,7 @@ loop-rest-init c = record {
   read = search rules;
   events = ap (kept_events c.args.text.now) c.in_ok-script.ensures.events;
   end = whole-end c.args.text.now;
+  longest = omega arith;
   within = omega arith;
 }
 
@@ -64,6 +65,7 @@ loop-rest-preserved c =
           (ap (λ n. text_lines (drop n c.args.text.now)) place ∙ ap text_lines (sym ending) ∙ c.front_line.ensures.lines) c.loop-rest.script.events.items (said (take i raw)) c.in-Some-said.line real.0 real.2 real.1 kept.events
           ∙ ap (filter_map event_in) (sym (said-next raw i c.front_line.result.0.now here.0 here.1 kept.begun real.0 real.1));
       end = end-next c.args.text.now c.in-Some.lines.now c.front_line.result.1 (omega (arith, within)) ending c.front_line.ensures.shorter c.front_line.ensures.end;
+      longest = search rules;
       within = omega (arith, within, lines_shorter c.front_line.result.1 _ c.front_line.ensures.shorter);
     }
 

@@ -1,5 +1,6 @@
 use Rattle.std.proofs.Common.{◌≡◌, ◌+◌, ◌≤◌, drop, length, take}
-use Rattle.script_text.specs.Lines.{text_lines, lines_left}
+use Rattle.std.specs.Prelude.{IfSome}
+use Rattle.script_text.specs.Lines.{text_lines, lines_left, longest_line}
 use Rattle.nvme_grammar.specs.Script.{said, events_of}
 use Rattle.nvme_grammar.specs.Kept.{kept_events}
 use Rattle.nvme_grammar.specs.Reading.{Reads}
@@ -14,6 +15,7 @@ invariant-loop-rest l = record {
   read : Reads l.script (said (take l.before (text_lines l.text)));
   events : kept_events l.text l.script.events.items ≡ events_of (take l.before (text_lines l.text));
   end : IsEnd l.text l.rest;
+  longest : IfSome l.rest (λ rest. longest_line rest.now ≤ longest_line l.text);
   within : l.before + lines_length l.rest ≤ length l.text + 1;
 }
 

@@ -5,7 +5,14 @@ use Rattle.nvme_grammar.specs.Kept.{kept_events}
 use Rattle.nvme_subsys.specs.OverMedium.{over}
 use Rattle.nvme_script.specs.Faults.{StopsAt, Transcribes, events_in}
 use Rattle.nvme_script.specs.ScriptCalls.{RanCalling}
+use Rattle.script_text.proofs.LineLengths.{longest-length}
 use Rattle.nvme_live.proofs.session.run_events_of.Goals as goal
+
+pub run_events-requires-clause-bytes_room : goal.run_events-requires-clause-bytes_room
+run_events-requires-clause-bytes_room g c = search (rules, longest-length c.as_slice.result.now)
+
+pub run_events-requires-clause-identifiers_room : goal.run_events-requires-clause-identifiers_room
+run_events-requires-clause-identifiers_room g c = search (rules, longest-length c.as_slice.result.now)
 
 pub returns-clause-calls : goal.returns-clause-calls
 returns-clause-calls g c =
