@@ -1,18 +1,22 @@
 //! The PRP list of a slot.
 
-ghost use Rattle.std.specs.Prelude.{◌≡◌, ◌+◌, ◌-◌, ◌*◌, ◌++◌, ◌^◌, ◌≤◌, ◌<◌, replicate};
+ghost use Rattle.std.specs.Prelude.{◌≡◌, ◌+◌, ◌-◌, ◌*◌, ◌++◌, ◌^◌, ◌≤◌, ◌<◌, length, replicate};
+ghost use Rattle.nvme_spec.specs.Bytes.{with_bytes};
 ghost use Rattle.nvme_spec.specs.Limits.{most_bytes};
-ghost use Rattle.nvme_driver.specs.Layout.{slot_count};
+ghost use Rattle.nvme_spec.specs.Memory.{window_size};
+ghost use Rattle.nvme_driver.specs.Calls.{Stores};
+ghost use Rattle.nvme_driver.specs.Layout.{slot_count, list_page as page_of_list};
 ghost use Rattle.nvme_driver.specs.Pointers.{page_entries, listed_pages as pages_listed, stored_list};
 
 use crate::bytes::put_bytes;
-use crate::layout::{PAGE, data_area};
+use crate::layout::{PAGE, data_area, list_page};
+use crate::port::Port;
 use std::marker::Model;
 
 /// A PRP list: the addresses of the second and the later pages of a slot's data, or no bytes where PRP entry 2 does
 /// not name a list. Contracts see its bytes.
 #[derive(Drop)]
-pub struct PageList {
+struct PageList {
     bytes: [u8; 248],
     len: usize,
 }
@@ -56,7 +60,7 @@ fn spell(first: u64, pages: usize) -> [u8; 248]
 
 impl PageList {
     /// The list of a slot for so many bytes.
-    pub fn new(slot: usize, moved: usize) -> PageList
+    fn new(slot: usize, moved: usize) -> PageList
         requires slot { slot < slot_count }
         requires moved { moved ≤ most_bytes }
         ensures { result ≡ stored_list slot moved }
@@ -69,9 +73,38 @@ impl PageList {
     }
 
     /// The bytes of the list.
-    pub fn as_slice(&self) -> &[u8]
+    fn as_slice(&self) -> &[u8]
         ensures { result.now ≡ self.now }
     {
         &self.bytes[..self.len]
     }
+}
+
+/// Stores the list of a slot for so many bytes in the page of its list: no bytes where PRP entry 2 does not name a list.
+#[tactic(auto, unfolding(crate::specs::Pointers::page_entries))]
+pub fn store_page_list<P: Port>(port: &mut P, slot: usize, moved: usize)
+    requires slot { slot < slot_count }
+    requires moved { moved ≤ most_bytes }
+    ensures step { P.step port.old (Stores (page_of_list slot) (stored_list slot moved)) port.new }
+    ensures bytes { P.bytes port.new ≡ with_bytes (P.bytes port.old) (page_of_list slot) (stored_list slot moved) }
+    ensures links { P.links port.new ≡ P.links port.old }
+{
+    if listed_pages(moved) == 0 {
+        port.store(list_page(slot), &[]);
+    } else {
+        store_pages(port, slot, moved);
+    }
+}
+
+/// Stores a list that names pages.
+// Not inlined, so that the requests whose data have a page or two do not pay for the room of a list.
+#[inline(never)]
+fn store_pages<P: Port>(port: &mut P, slot: usize, moved: usize)
+    requires slot { slot < slot_count }
+    requires moved { moved ≤ most_bytes }
+    ensures step { P.step port.old (Stores (page_of_list slot) (stored_list slot moved)) port.new }
+    ensures bytes { P.bytes port.new ≡ with_bytes (P.bytes port.old) (page_of_list slot) (stored_list slot moved) }
+    ensures links { P.links port.new ≡ P.links port.old }
+{
+    port.store(list_page(slot), PageList::new(slot, moved).as_slice());
 }

@@ -1,6 +1,6 @@
 //! The data that go to the controller with a request.
 
-ghost use Rattle.std.specs.Prelude.{◌≡◌, ◌+◌, ◌++◌, ◌≤◌, false, length};
+ghost use Rattle.std.specs.Prelude.{◌≡◌, ◌+◌, ◌++◌, ◌≤◌, false, length, replicate};
 ghost use Rattle.nvme_spec.specs.Bytes.{with_bytes};
 ghost use Rattle.nvme_spec.specs.Limits.{most_bytes};
 ghost use Rattle.nvme_spec.specs.Memory.{window_size};
@@ -58,7 +58,9 @@ fn store_list<P: Port>(port: &mut P, addr: u64, list: &[u16])
     ensures bytes { P.bytes port.new ≡ with_bytes (P.bytes port.old) addr (list_bytes list.now) }
     ensures links { P.links port.new ≡ P.links port.old }
 {
-    port.store(addr, &controller_list(list));
+    let mut page = [0; 4096];
+    spell_list(&mut page, list);
+    port.store(addr, &page);
 }
 
 /// Two reservation keys, one after the other.
@@ -71,17 +73,16 @@ fn keys(first: u64, second: u64) -> [u8; 16]
     bytes
 }
 
-/// A Controller List of at most 2,047 identifiers.
-fn controller_list(list: &[u16]) -> [u8; 4096]
-    requires { length list.now ≤ 2047 }
-    ensures { result ≡ list_bytes list.now }
+/// Spells a Controller List of at most 2,047 identifiers in a page of zeros.
+fn spell_list(page: &mut [u8], list: &[u16])
+    requires zeros { page.old ≡ replicate 4096 0 }
+    requires short { length list.now ≤ 2047 }
+    ensures { page.new ≡ list_bytes list.now }
 {
-    let mut page = [0; 4096];
-    put_bytes(&mut page, 0, &(list.len() as u16).to_le_bytes());
+    put_bytes(page, 0, &(list.len() as u16).to_le_bytes());
     for index in 0..list.len() {
-        put_bytes(&mut page, 2 + 2 * index, &list[index].to_le_bytes());
+        put_bytes(page, 2 + 2 * index, &list[index].to_le_bytes());
     }
-    page
 }
 
 impl<'a> Request<'a> {

@@ -14,7 +14,7 @@ use super::Driver;
 use crate::faults::PlaceRefusal;
 use crate::layout::{PAGE, data_area, list_page};
 use crate::length::Length;
-use crate::page_list::PageList;
+use crate::page_list::store_page_list;
 use crate::port::Port;
 use crate::request::Request;
 use crate::slots::{Waiting, lowest_free};
@@ -122,10 +122,7 @@ impl Driver {
         let mut ends = self.ends(lane);
         let entry_place = lane.submission_queue() + 64 * u64::from(ends.tail());
         request.payload().store(port, data_area(slot));
-        port.store(
-            list_page(slot),
-            PageList::new(slot, request.moved()).as_slice(),
-        );
+        store_page_list(port, slot, request.moved());
         port.store(entry_place, &entry(request, slot).to_bytes());
         ends.put();
         self.slots[slot] = Some(Waiting {

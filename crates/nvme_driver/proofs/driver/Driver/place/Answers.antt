@@ -1,4 +1,4 @@
-use Rattle.std.proofs.Common.{rules, ◌+◌, ◌*◌}
+use Rattle.std.proofs.Common.{rules, refl, ◌+◌, ◌*◌}
 use Rattle.nvme_driver.proofs.Placing.{holds}
 use Rattle.nvme_driver.proofs.driver.Driver.place.Goals as goal
 
@@ -7,6 +7,6 @@ returns-clause-holds g c = (
   c.in_ok-slot.slot,
   search rules,
   holds c.args.self.now _ _ _ _ _ _ _ c.args.request.now c.in_ok-slot.slot _ _ (c.submission_queue.result + 64 * c.from.result) c.store.ensures.whole (search rules)
-      (search rules) (search rules) c.data_area.ensures c.payload.ensures.bytes c.list_page.ensures
-      (search rules) (search rules) (search rules) c.store.ensures.bytes c.store-2.ensures.bytes c.store-3.ensures.bytes c.entry.ensures.says,
+      (search rules) (search rules) c.data_area.ensures c.payload.ensures.bytes refl
+      (search rules) (search rules) (search rules) c.store.ensures.bytes c.store_page_list.ensures.bytes c.store-2.ensures.bytes c.entry.ensures.says,
 )

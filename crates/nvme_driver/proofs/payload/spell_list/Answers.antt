@@ -1,9 +1,10 @@
-use Rattle.std.proofs.Common.{length, arith, refl}
+use Rattle.std.proofs.Common.{length, ap, arith, refl, ◌∙◌}
+use Rattle.nvme_spec.specs.Bytes.{with_bytes}
 use Rattle.nvme_driver.proofs.Spelling.{count-put, identifier-put, list-spelled}
-use Rattle.nvme_driver.proofs.payload.controller_list.Goals as goal
+use Rattle.nvme_driver.proofs.payload.spell_list.Goals as goal
 
 pub loop-index-init : goal.loop-index-init
-loop-index-init c = record { page = count-put (length c.args.list.now) _ _ c.to_le_bytes.ensures c.put_bytes.ensures }
+loop-index-init c = record { page = count-put (length c.args.list.now) _ _ c.to_le_bytes.ensures (c.put_bytes.ensures ∙ ap (λ old. with_bytes old 0 c.to_le_bytes.result) c.requires.zeros) }
 
 pub loop-index-preserved : goal.loop-index-preserved
 loop-index-preserved c =

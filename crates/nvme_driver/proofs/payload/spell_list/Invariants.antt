@@ -1,7 +1,7 @@
 use Rattle.std.proofs.Common.{◌≡◌, ◌-◌, ◌*◌, ◌++◌, length, take, replicate}
 use Rattle.std.specs.List.{flat_map}
 use Rattle.std.specs.Int.{w16, to_le_bytes}
-use Rattle.nvme_driver.proofs.payload.controller_list.Given as goal
+use Rattle.nvme_driver.proofs.payload.spell_list.Given as goal
 
 -- the count, the identifiers so far, and zeros
 abbrev pub invariant-loop-index : goal.invariant-loop-index
