@@ -63,10 +63,8 @@ fn perform(
         Ok(admitted) => admitted,
         Err(denial) => return Err(denial),
     };
-    let pieces = match locate(window, sqe, data_length(admitted.command, sqe)) {
-        Ok(pieces) => pieces,
-        Err(denial) => return Err(denial),
-    };
+    let mut pieces = Pieces::none();
+    locate(window, sqe, data_length(admitted.command, sqe), &mut pieces)?;
     carry_out(spaces, window, cntlid, sqe, &admitted, &pieces)
 }
 

@@ -11,13 +11,13 @@ use Rattle.nvme_exec.specs.Admitted.{IsAdmitted}
 
 -- what the command finds in its host's memory
 pub data-is : (w : World) (cntlid : ℕ) (window e : List ℕ) (a : Admission) → IsAdmitted w cntlid window e a
-    → data_of window e ≡ gathered_bytes window (addresses a.pieces.parts.items)
+    → data_of window e ≡ gathered_bytes window (addresses a.pieces.now.parts.items)
 data-is w cntlid window e a h =
     ap (λ k. data_in (data_length_of k e) window e) h.command ∙ ap (gathered_bytes window) (sym h.placed)
 
 -- what it makes of its reservation
 pub outcome-is : (w : World) (cntlid : ℕ) (window e keys : List ℕ) (a : Admission) → IsAdmitted w cntlid window e a
-    → keys ≡ gathered_bytes window (addresses a.pieces.parts.items)
+    → keys ≡ gathered_bytes window (addresses a.pieces.now.parts.items)
     → reservation_outcome w cntlid e (data_of window e) ≡ outcome_in (Some a.plan.kind) (namespace_of w (nsid e)) (Some a.host) e keys
 unfolding reservation_outcome
 outcome-is w cntlid window e keys a h is =

@@ -7,7 +7,6 @@ use Rattle.nvme_spec.specs.declared.command.Command.{Command}
 use Rattle.nvme_spec.specs.declared.command.Command.TheVariants.{Flush, Write, Read, Compare, WriteZeroes, ReservationRegister, ReservationReport, ReservationAcquire, ReservationRelease}
 use Rattle.nvme_spec.specs.declared.command.CommandKind.{CommandKind}
 use Rattle.nvme_spec.specs.declared.command.CommandKind.TheVariants.{OnBlocks, OnReservation, OnReport}
-use Rattle.nvme_spec.specs.declared.outcome.Marks.{Marks}
 use Rattle.nvme_spec.specs.declared.outcome.Outcome.{Outcome}
 use Rattle.nvme_spec.specs.declared.verdict.Plan.{Plan}
 use Rattle.nvme_spec.specs.Blocks.{Device}
@@ -17,7 +16,7 @@ use Rattle.nvme_spec.specs.Transfers.{addresses, gathered_bytes, with_scattered}
 use Rattle.nvme_spec.specs.World.{World, Namespace, namespace_of}
 use Rattle.nvme_spec.specs.DataRules.{data_addresses}
 use Rattle.nvme_spec.specs.IoData.{data_of, action_outcome, outcome_in, reservation_outcome}
-use Rattle.nvme_spec.specs.Execution.{Scene, scene, BlockEffect, PerformsAs, start_of, medium_block, report_of, world_after, no_marks, marks_of, marks_for, removed_by, is_preempt_and_abort}
+use Rattle.nvme_spec.specs.Execution.{Scene, scene, BlockEffect, PerformsAs, start_of, medium_block, report_of, world_after, no_marks, marks_of, removed_by, is_preempt_and_abort}
 use Rattle.nvme_spec.specs.Statuses as status
 use Rattle.nvme_exec.specs.declared.admission.Admission.{Admission}
 use Rattle.nvme_exec.specs.Admitted.{IsAdmitted}
@@ -77,7 +76,7 @@ not-reservation-report k a b = cc
 -- a command on blocks
 pub blocks-done : (tells : Bool) (w : World) (cntlid : ℕ) (window new e : List ℕ) (a : Admission) (before after : Device) (answer : Status) (outcome : Outcome)
     → IsAdmitted w cntlid window e a → kind_of a.plan.kind ≡ OnBlocks
-    → ActsAt tells a.plan.kind a.extent.first a.extent.blocks (addresses a.pieces.parts.items) before after window new answer
+    → ActsAt tells a.plan.kind a.extent.first a.extent.blocks (addresses a.pieces.now.parts.items) before after window new answer
     → outcome ≡ answered answer
     → IsCarriedOut tells a.plan.kind cntlid e (scene w window before) (scene w new after) outcome
 blocks-done tells w cntlid window new e a before after answer outcome h k acts is =
@@ -86,7 +85,7 @@ blocks-done tells w cntlid window new e a before after answer outcome h k acts i
     let new_scene : Scene = scene w new after in
     let first_is = h.first ∙ ap (λ (p : Plan). start_of (namespace_of w (nsid e)) + p.first) h.planned in
     let blocks_is = h.blocks ∙ ap (λ (p : Plan). p.blocks) h.planned in
-    let effect = aimed tells a.plan.kind w e (gathered_bytes window (addresses a.pieces.parts.items)) a.extent.first a.extent.blocks before after answer acts.returned first_is blocks_is acts.effect in
+    let effect = aimed tells a.plan.kind w e (gathered_bytes window (addresses a.pieces.now.parts.items)) a.extent.first a.extent.blocks before after answer acts.returned first_is blocks_is acts.effect in
     rw is (record {
       performed = record {
         returned = acts.returned;
@@ -111,7 +110,7 @@ report-kind command h = absurd (cc)
 -- a report
 pub report-done : (tells : Bool) (w : World) (cntlid n : ℕ) (window new e : List ℕ) (a : Admission) (device : Device) (outcome : Outcome)
     → IsAdmitted w cntlid window e a → kind_of a.plan.kind ≡ OnReport → n ≡ nsid e
-    → new ≡ with_scattered window (addresses a.pieces.parts.items) (report_of (namespace_of w n) w.controllers a.plan.bytes)
+    → new ≡ with_scattered window (addresses a.pieces.now.parts.items) (report_of (namespace_of w n) w.controllers a.plan.bytes)
     → length (report_of (namespace_of w n) w.controllers a.plan.bytes) ≡ a.plan.bytes
     → outcome ≡ answered status.successful_completion
     → IsCarriedOut tells a.plan.kind cntlid e (scene w window device) (scene w new device) outcome
@@ -122,7 +121,7 @@ report-done tells w cntlid n window new e a device outcome h k n-is stored size 
     let report : List ℕ = report_of (namespace_of w n) w.controllers a.plan.bytes in
     let kind_is : a.plan.kind ≡ ReservationReport = report-kind a.plan.kind k in
     let bytes_is : a.plan.bytes ≡ data_length ReservationReport e = ap (λ (p : Plan). p.bytes) h.planned ∙ ap (λ c. data_length c e) kind_is in
-    let all : take (length report) (addresses a.pieces.parts.items) ≡ addresses a.pieces.parts.items = take_all (length report) (addresses a.pieces.parts.items) (omega (arith, h.bytes, size, bytes-of a e h.planned)) in
+    let all : take (length report) (addresses a.pieces.now.parts.items) ≡ addresses a.pieces.now.parts.items = take_all (length report) (addresses a.pieces.now.parts.items) (omega (arith, h.bytes, size, bytes-of a e h.planned)) in
     rw is (record {
       performed = record {
         returned = report;
@@ -144,12 +143,12 @@ report-done tells w cntlid n window new e a device outcome h k n-is stored size 
     bytes-of : (a : Admission) (e : List ℕ) → a.plan ≡ plan_of a.plan.kind e → a.plan.bytes ≡ data_length a.plan.kind e
     bytes-of a e planned = ap (λ (p : Plan). p.bytes) planned
 
-unrefused-by : (o : Option resv.ActionOutcome) (removed : List ℕ) → Removes o removed → IsUnrefused o
+pub unrefused-by : (o : Option resv.ActionOutcome) (removed : List ℕ) → Removes o removed → IsUnrefused o
 unrefused-by None removed r = tt
 unrefused-by (Some (Ok t)) removed r = refl
 unrefused-by (Some (Err why)) removed r = absurd r
 
-removed-is : (o : Option resv.ActionOutcome) (removed : List ℕ) → Removes o removed → removed ≡ removed_by o
+pub removed-is : (o : Option resv.ActionOutcome) (removed : List ℕ) → Removes o removed → removed ≡ removed_by o
 removed-is None removed r = absurd r
 removed-is (Some (Ok t)) removed r = r
 removed-is (Some (Err why)) removed r = absurd r
@@ -160,27 +159,24 @@ unfolding with_scattered
 nothing window at = refl
 
 -- a reservation command
-pub reservation-done : (tells : Bool) (w new : World) (cntlid : ℕ) (window e removed : List ℕ) (a : Admission) (device : Device) (outcome : Outcome) (marks : Marks)
+pub reservation-done : (tells : Bool) (w new : World) (cntlid : ℕ) (window e : List ℕ) (a : Admission) (device : Device) (outcome : Outcome)
     → kind_of a.plan.kind ≡ OnReservation
-    → Removes (reservation_outcome w cntlid e (data_of window e)) removed
+    → IsUnrefused (reservation_outcome w cntlid e (data_of window e))
     → new ≡ world_after w (nsid e) (reservation_outcome w cntlid e (data_of window e))
-    → outcome ≡ answered status.successful_completion
-    → marks ≡ marks_for a.plan.kind e removed
-    → IsCarriedOut tells a.plan.kind cntlid e (scene w window device) (scene new window device)
-    (record { status = outcome.status; dw0 = outcome.dw0; rule = outcome.rule; marks = marks })
-reservation-done tells w new cntlid window e removed a device outcome marks k removes world is marks-is =
-    let o = reservation_outcome w cntlid e (data_of window e) in
+    → outcome ≡ record { status = status.successful_completion; dw0 = 0; rule = 0; marks = marks_of a.plan.kind e (reservation_outcome w cntlid e (data_of window e)) }
+    → IsCarriedOut tells a.plan.kind cntlid e (scene w window device) (scene new window device) outcome
+reservation-done tells w new cntlid window e a device outcome k unrefused world is =
     let old_scene : Scene = scene w window device in
     let new_scene : Scene = scene new window device in
-    record {
+    rw is (record {
       performed = record {
         returned = [];
-        effect = subst (λ kind. PerformsAs kind tells a.plan.kind cntlid e (data_of window e) old_scene new_scene outcome.status []) (sym k)
-            (record { answered = ap (λ (x : Outcome). x.status) is; world = world; device = refl; data_back = refl });
+        effect = subst (λ kind. PerformsAs kind tells a.plan.kind cntlid e (data_of window e) old_scene new_scene status.successful_completion []) (sym k)
+            (record { answered = refl; world = world; device = refl; data_back = refl });
         window = nothing window (data_addresses (data_length a.plan.kind e) window e);
-        dw0 = ap (λ (x : Outcome). x.dw0) is;
-        rule = ap (λ (x : Outcome). x.rule) is;
-        marks = marks-is ∙ ap (marks_for a.plan.kind e) (removed-is o removed removes);
+        dw0 = refl;
+        rule = refl;
+        marks = refl;
       };
-      unrefused = unrefused-by o removed removes;
-    }
+      unrefused = unrefused;
+    })

@@ -19,7 +19,7 @@ pub record IsAdmitted (w : World) (cntlid : ℕ) (window e : List ℕ) (a : Admi
   pub named : IsSome (namespace_of w (nsid e))
   pub first : a.extent.first ≡ start_of (namespace_of w (nsid e)) + a.plan.first
   pub blocks : a.extent.blocks ≡ a.plan.blocks
-  pub placed : addresses a.pieces.parts.items ≡ data_addresses (data_length a.plan.kind e) window e
-  pub bytes : length (addresses a.pieces.parts.items) ≡ data_length a.plan.kind e
+  pub placed : addresses a.pieces.now.parts.items ≡ data_addresses (data_length a.plan.kind e) window e
+  pub bytes : length (addresses a.pieces.now.parts.items) ≡ data_length a.plan.kind e
   pub few : data_length a.plan.kind e ≤ most_bytes
   pub typed : a.plan.kind ≡ ReservationAcquire → (1 ≤ rtype e) × (rtype e ≤ 6)

@@ -26,14 +26,14 @@ pub struct Extent {
 
 /// An admitted command: what it is to do, whose it is, and where its blocks and its data lie.
 #[derive(Drop)]
-pub struct Admission {
+pub struct Admission<'a> {
     pub plan: Plan,
     /// The host of its controller.
     pub host: HostId,
     /// Its blocks on the medium.
     pub extent: Extent,
     /// Its data in host memory: no pieces where it has none.
-    pub pieces: Pieces,
+    pub pieces: &'a Pieces,
 }
 
 /// Applies the rules on access, and then that on the data pointer, which is walked whole. The medium has so many
@@ -42,14 +42,15 @@ pub struct Admission {
 /// # Errors
 ///
 /// The first rule that fails.
-pub fn admit(
+pub fn admit<'a>(
     spaces: &Spaces,
     medium_blocks: u64,
     window: &Window,
     cntlid: u16,
     sqe: &Sqe,
     marked: bool,
-) -> Result<Admission, Denial>
+    pieces: &'a mut Pieces,
+) -> Result<Admission<'a>, Denial>
     requires configured { IsSome (host_of spaces.now cntlid) }
     requires within { LiesWithin medium_blocks spaces.now.namespaces }
     ensures allowed { IfOk result (λ a. policy.verdict spaces.now cntlid sqe.now marked ≡ Allowed a.plan) }
@@ -63,10 +64,7 @@ pub fn admit(
         Ok(admitted) => admitted,
         Err(denial) => return Err(denial),
     };
-    let pieces = match locate(window, sqe, plan.bytes) {
-        Ok(pieces) => pieces,
-        Err(denial) => return Err(denial),
-    };
+    locate(window, sqe, plan.bytes, pieces)?;
     Ok(Admission {
         plan,
         host: spaces.host_of(cntlid).unwrap(),

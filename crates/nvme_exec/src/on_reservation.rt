@@ -34,7 +34,7 @@ pub fn act_on_reservation(
     window: &Window,
     cntlid: u16,
     sqe: &Sqe,
-    admission: &Admission,
+    admission: &Admission<'_>,
 ) -> Result<Change, Denial>
     requires kind { kind_of admission.now.plan.kind ≡ WorksOnReservation }
     requires known { HasKnownRegistrants spaces.old }
@@ -49,7 +49,7 @@ pub fn act_on_reservation(
 {
     let mut data = [0; MAX_KEYS];
     let keys = &mut data[..admission.plan.bytes as usize];
-    gather(window, &admission.pieces, keys);
+    gather(window, admission.pieces, keys);
     match act(spaces, sqe, admission, keys) {
         Ok(change) => Ok(change),
         Err(status) => Err(Denial { rule: 11, status }),
@@ -57,7 +57,12 @@ pub fn act_on_reservation(
 }
 
 /// Does the action of a command, by its keys.
-fn act(spaces: &mut Spaces, sqe: &Sqe, admission: &Admission, keys: &[u8]) -> Result<Change, Status>
+fn act(
+    spaces: &mut Spaces,
+    sqe: &Sqe,
+    admission: &Admission<'_>,
+    keys: &[u8],
+) -> Result<Change, Status>
     requires kind { kind_of admission.now.plan.kind ≡ WorksOnReservation }
     requires known { HasKnownRegistrants spaces.old }
     requires host { (cntlid : ℕ) × (host_of spaces.old cntlid ≡ Some admission.now.host) }

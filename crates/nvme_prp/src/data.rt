@@ -1,40 +1,37 @@
 //! The data of a command of any kind: where they lie, and the rule that looks at their pointer.
 
-ghost use Rattle.std.specs.Prelude.{◌≡◌, ◌≤◌, length, None, Ok, Err, OnOk, IfOk, IfErr};
+ghost use Rattle.std.specs.Prelude.{◌≡◌, ◌≤◌, length, None, Ok, Err, OnOk, IfErr};
 ghost use Rattle.nvme_spec.specs.DataRules as rules;
 ghost use Rattle.nvme_spec.specs.Limits.{most_bytes};
 ghost use Rattle.nvme_spec.specs.Rules.{judgement_by};
 ghost use Rattle.nvme_spec.specs.Transfers.{addresses};
 
-use crate::walking::{Pieces, walk};
-use arrayvec::ArrayVec;
+use crate::walking::{Pieces, walk_into};
 use nvme_mem::Window;
 use nvme_spec::{DataFault, Denial};
 use nvme_wire::{Sqe, Status};
 
-/// Where so many bytes of a command's data lie, by its two PRP entries: no pieces where it has none. That these are at
-/// most 131,072 is the caller's condition.
+/// Where so many bytes of a command's data lie, by its two PRP entries, in place of what stands in `pieces`: no pieces
+/// where it has none. That these are at most 131,072 is the caller's condition.
 ///
 /// # Errors
 ///
 /// Rule 10, with the status of the pointer's first fault.
 #[tactic(auto, unfolding(nvme_spec::specs::DataRules::pointer_rule, nvme_spec::specs::Rules::judgement_by))]
-pub fn locate(window: &Window, sqe: &Sqe, bytes: u64) -> Result<Pieces, Denial>
+pub fn locate(window: &Window, sqe: &Sqe, bytes: u64, pieces: &mut Pieces) -> Result<(), Denial>
     requires few { bytes ≤ most_bytes }
     ensures sound { OnOk result (rules.data_fault bytes window.now sqe.now ≡ None) }
     ensures passed { OnOk result (judgement_by (rules.pointer_rule bytes window.now sqe.now) ≡ Ok tt) }
-    ensures placed { IfOk result
-        (λ pieces. addresses pieces.parts.items ≡ rules.data_addresses bytes window.now sqe.now) }
-    ensures size { IfOk result (λ pieces. length (addresses pieces.parts.items) ≡ bytes) }
+    ensures placed { OnOk result (addresses pieces.new.parts.items ≡ rules.data_addresses bytes window.now sqe.now) }
+    ensures size { OnOk result (length (addresses pieces.new.parts.items) ≡ bytes) }
     ensures denied { IfErr result (λ d. judgement_by (rules.pointer_rule bytes window.now sqe.now) ≡ Err d) }
 {
     if bytes == 0 {
-        return Ok(Pieces {
-            parts: ArrayVec::new(),
-        });
+        pieces.parts.clear();
+        return Ok(());
     }
-    match walk(window, sqe.prp1(), sqe.prp2(), bytes) {
-        Ok(pieces) => Ok(pieces),
+    match walk_into(window, sqe.prp1(), sqe.prp2(), bytes, pieces) {
+        Ok(()) => Ok(()),
         Err(fault) => Err(Denial {
             rule: 10,
             status: status_of(fault),

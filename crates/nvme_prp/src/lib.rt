@@ -9,5 +9,5 @@ mod whole;
 pub use block::{BlockPlace, gather_block, lend_block, scatter_block};
 pub use data::locate;
 pub use nvme_spec::{DataFault, Piece};
-pub use walking::{Pieces, walk};
+pub use walking::{Pieces, walk, walk_into};
 pub use whole::{gather, scatter, scatter_padded};

@@ -1,6 +1,6 @@
 //! Where the bytes of a transfer lie (Base Specification: Physical Region Page Entry and List).
 
-ghost use Rattle.std.specs.Prelude.{◌≡◌, ◌+◌, ◌*◌, ◌/◌, ◌%◌, ◌≤◌, ◌<◌, ◌++◌, length, map, None, Some, IsTrue, MatchResult, OnOk, IfOk, IfErr};
+ghost use Rattle.std.specs.Prelude.{◌≡◌, ◌+◌, ◌*◌, ◌/◌, ◌%◌, ◌≤◌, ◌<◌, ◌++◌, [], length, map, None, Some, IsTrue, MatchResult, OnOk, OnErr, IfOk, IfErr};
 ghost use Rattle.std.specs.List.{range_with_len};
 ghost use Rattle.arrayvec.specs.ArrayVec.{array_vec_len};
 ghost use Rattle.nvme_spec.specs.Limits.{most_bytes};
@@ -26,6 +26,17 @@ type Parts = ArrayVec<Piece, 33>;
 pub struct Pieces {
     pub parts: ArrayVec<Piece, 33>,
     ghost pages: { ArePages parts.items } by { ArePages-prop parts.items },
+}
+
+impl Pieces {
+    /// No pieces, of no bytes.
+    pub fn none() -> Pieces
+        ensures { result.parts.items ≡ [] }
+    {
+        Pieces {
+            parts: ArrayVec::new(),
+        }
+    }
 }
 
 /// Refuses an address that is not a multiple of the unit, or lies outside the window.
@@ -92,25 +103,31 @@ fn walk_list(window: &Window, start: u64, rest: u64, parts: &mut Parts) -> Resul
     Ok(())
 }
 
-/// One part for each page that a transfer touches.
-fn pages_of(window: &Window, prp1: u64, prp2: u64, len: u64) -> Result<Parts, DataFault>
+/// One part for each page that a transfer touches, behind none.
+fn pages_of(
+    window: &Window,
+    prp1: u64,
+    prp2: u64,
+    len: u64,
+    parts: &mut Parts,
+) -> Result<(), DataFault>
     requires some { 1 ≤ len }
     requires most { len ≤ most_bytes }
+    requires empty { parts.old.items ≡ [] }
     ensures sound { OnOk result (pointer_fault (transfer window.now prp1 prp2 len) ≡ None) }
-    ensures parts { IfOk result (λ parts. parts.items ≡ pieces_of (transfer window.now prp1 prp2 len)) }
+    ensures parts { OnOk result (parts.new.items ≡ pieces_of (transfer window.now prp1 prp2 len)) }
     ensures fault { IfErr result (λ e. pointer_fault (transfer window.now prp1 prp2 len) ≡ Some e) }
 {
     check(prp1, 4)?;
     let first = len.min(PAGE - prp1 % PAGE);
     let rest = len - first;
-    let mut parts = ArrayVec::new();
     parts.push(Piece {
         address: prp1,
         len: first,
     });
     if rest > PAGE {
         check(prp2, 8)?;
-        walk_list(window, prp2, rest, &mut parts)?;
+        walk_list(window, prp2, rest, parts)?;
     } else if rest > 0 {
         check(prp2, PAGE)?;
         parts.push(Piece {
@@ -118,7 +135,38 @@ fn pages_of(window: &Window, prp1: u64, prp2: u64, len: u64) -> Result<Parts, Da
             len: rest,
         });
     }
-    Ok(parts)
+    Ok(())
+}
+
+/// The pieces of `len` bytes at a command's two entries, as `walk` gives them, in place of those that stand in `pieces`:
+/// these have room for 33, and each move of them costs. None stand there where a fault is met.
+///
+/// # Errors
+/// As those of `walk`.
+pub fn walk_into(
+    window: &Window,
+    prp1: u64,
+    prp2: u64,
+    len: u64,
+    pieces: &mut Pieces,
+) -> Result<(), DataFault>
+    requires some { 1 ≤ len }
+    requires most { len ≤ most_bytes }
+    ensures sound { OnOk result (pointer_fault (transfer window.now prp1 prp2 len) ≡ None) }
+    // Each page has its piece.
+    ensures pieces { OnOk result (pieces.new.parts.items ≡ pieces_of (transfer window.now prp1 prp2 len)) }
+    ensures size { OnOk result (length (addresses pieces.new.parts.items) ≡ len) }
+    ensures fault { IfErr result (λ e. pointer_fault (transfer window.now prp1 prp2 len) ≡ Some e) }
+    ensures none { OnErr result (pieces.new.parts.items ≡ []) }
+{
+    pieces.parts.clear();
+    match pages_of(window, prp1, prp2, len, &mut pieces.parts) {
+        Ok(()) => Ok(()),
+        Err(fault) => {
+            pieces.parts.clear();
+            Err(fault)
+        }
+    }
 }
 
 /// The pieces of `len` bytes at a command's two entries (Base Specification 2.0, Physical Region Page
@@ -139,6 +187,7 @@ pub fn walk(window: &Window, prp1: u64, prp2: u64, len: u64) -> Result<Pieces, D
     ensures size { IfOk result (λ pieces. length (addresses pieces.parts.items) ≡ len) }
     ensures fault { IfErr result (λ e. pointer_fault (transfer window.now prp1 prp2 len) ≡ Some e) }
 {
-    let parts = pages_of(window, prp1, prp2, len)?;
-    Ok(Pieces { parts })
+    let mut pieces = Pieces::none();
+    walk_into(window, prp1, prp2, len, &mut pieces)?;
+    Ok(pieces)
 }
