@@ -3,7 +3,6 @@ use Rattle.std.proofs.Common.{◌≡◌, ◌==◌, ℕ, zero, suc, ◌+◌, ◌*
 use Rattle.std.proofs.lemmas.Bool.{true≢false}
 use Rattle.std.specs.Fmt.{digit_glyph}
 use Rattle.std.specs.List.{flat_map}
-use Rattle.std.specs.Prelude.{Result, Ok, Err, IsOk, MatchResult, IsUtf8}
 use Rattle.std.specs.Str.{IsAscii}
 use Rattle.std.proofs.lemmas.List.{append_assoc, append-nil, drop_all, drop_more, map-append, take_all, take_more, take_more_set}
 use Rattle.std.proofs.lemmas.Str.Ascii.{IsAscii-nil, IsAscii-cons}
@@ -58,11 +57,6 @@ pairs-take (suc n) [] = let two : 2 * suc n ≡ suc (suc (2 * n)) = omega arith 
 pairs-take (suc n) (b ∷ bs) =
     let two : 2 * suc n ≡ suc (suc (2 * n)) = omega arith in
     rw (two, pairs-take n bs) refl
-
--- what is text is read as text
-pub read-text : {T E : Type 0} (r : Result T E) (P : T → Type 0) (Q : E → Type 0) (bytes : List ℕ) → MatchResult r P (λ e. ¬ (IsUtf8 bytes) × Q e) → IsUtf8 bytes → IsOk r
-read-text (Ok x) P Q bytes h utf8 = refl
-read-text (Err e) P Q bytes h utf8 = absurd (h.0 utf8)
 
 -- what has elements has digits, and no dash
 pub no-dash : (bs : List ℕ) → (length bs == 0) ≡ false → hex_or_dash bs ≡ flat_map hex_pair bs

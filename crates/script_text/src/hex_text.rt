@@ -10,8 +10,11 @@ use std::fmt;
 /// How many bytes are put into digits at a time.
 const CHUNK: usize = 128;
 
-/// How many bytes are looked at together for whether they are zeros.
-const ZEROS: usize = 32;
+/// How many bytes are looked at together, as long as all of them are zeros.
+const MANY_ZEROS: usize = 256;
+
+/// How many of the bytes behind those are looked at together.
+const FEW_ZEROS: usize = 32;
 
 /// Bytes that are shown in lower-case hexadecimal without their trailing zero bytes, as `-` where nothing
 /// is left.
@@ -20,22 +23,24 @@ pub struct HexText<'a>(pub &'a [u8]);
 
 /// Whether all bytes are zero. No other byte stops it early: without a branch on each, a processor looks at several at
 /// once.
-fn are_zeros(bytes: &[u8; ZEROS]) -> bool
+fn are_zeros<const N: usize>(bytes: &[u8; N]) -> bool
     ensures { result ≡ list_all (λ byte. byte == 0) bytes.now }
 {
     let mut all = true;
-    for i in 0..ZEROS {
+    for i in 0..N {
         all = all & (bytes[i] == 0);
     }
     all
 }
 
-/// The bytes without zeros at their end, taken away 32 at a time.
-fn without_zero_chunks(bytes: &[u8]) -> &[u8]
+/// The bytes without zeros at their end, taken away so many at a time.
+fn without_zero_chunks<const N: usize>(bytes: &[u8]) -> &[u8]
+    requires some { 0 < N }
+    requires few { N ≤ 4096 }
     ensures { without_trailing_zeros result.now ≡ without_trailing_zeros bytes.now }
 {
     let mut rest = bytes;
-    while let Some((front, last)) = rest.split_last_chunk::<ZEROS>() {
+    while let Some((front, last)) = rest.split_last_chunk::<N>() {
         if !are_zeros(last) {
             break;
         }
@@ -48,7 +53,7 @@ fn without_zero_chunks(bytes: &[u8]) -> &[u8]
 fn trimmed(bytes: &[u8]) -> &[u8]
     ensures { result.now ≡ without_trailing_zeros bytes.now }
 {
-    let mut rest = without_zero_chunks(bytes);
+    let mut rest = without_zero_chunks::<FEW_ZEROS>(without_zero_chunks::<MANY_ZEROS>(bytes));
     while let Some((last, front)) = rest.split_last() {
         if *last != 0 {
             break;
@@ -115,7 +120,8 @@ fn text_of_chunk<'a>(chunk: &[u8; CHUNK], digits: &'a mut [u8; 2 * CHUNK]) -> &'
     ensures { result.now ≡ flat_map hex_pair chunk.now }
 {
     encode(chunk, digits);
-    str::from_utf8(digits).unwrap()
+    // SAFETY: digits are ASCII. To look whether they are would take as long as to make them.
+    unsafe { str::from_utf8_unchecked(digits) }
 }
 
 /// The bytes behind the last whole chunk as text in hexadecimal.
@@ -124,7 +130,8 @@ fn text_of<'a>(rest: &[u8], digits: &'a mut [u8; 2 * CHUNK]) -> &'a str
     ensures { result.now ≡ flat_map hex_pair rest.now }
 {
     encode(&padded(rest), digits);
-    str::from_utf8(&digits[..2 * rest.len()]).unwrap()
+    // SAFETY: as above.
+    unsafe { str::from_utf8_unchecked(&digits[..2 * rest.len()]) }
 }
 
 impl fmt::Display for HexText<'_> {
