@@ -3,6 +3,7 @@
 ghost use Rattle.std.specs.Prelude.{◌≡◌, ◌≤◌, ◌⊎◌, ◌∷◌, [], ℕ, List, IfOk, IfErr, OnOk, OnErr, Ok, length};
 ghost use Rattle.script_text.specs.Reading.{IsRead, longest};
 ghost use Rattle.nvme_grammar.specs.Room.{HasTextRoom, HasWordsRoom};
+ghost use Rattle.nvme_spec.specs.Execution.{no_marks};
 ghost use Rattle.nvme_fleet.specs.Fleets.{Run};
 ghost use Rattle.nvme_fleet.specs.FleetStates.{fleet_of, layers_of};
 ghost use Rattle.nvme_subsys.specs.OverMedium.{over};
@@ -114,8 +115,16 @@ fn refused_at(start: Option<usize>, fault: ConfigFault) -> ScriptFault
     }
 }
 
+/// Empties the room for what an event marks, of which a transcript says nothing.
+fn unmark(marks: &mut Marks)
+    ensures { marks.new ≡ no_marks }
+{
+    marks.nsid = 0;
+    marks.hosts.clear();
+}
+
 /// Lets an event happen that was kept of a text, and writes its line of the transcript, which has room in what is lent.
-/// Nothing happens where the line that it is kept as says no event.
+/// What it marks has room there too, which is empty before and afterwards: it is not cleared for each event. Nothing happens where the line that it is kept as says no event.
 fn run_event<W: Write, M: Medium>(
     text: &[u8],
     kept: KeptEvent,
@@ -123,10 +132,13 @@ fn run_event<W: Write, M: Medium>(
     bytes: &mut [u8],
     identifiers: &mut [u16],
     line: &mut String,
+    marks: &mut Marks,
     writer: &mut W,
 ) -> io::Result<()>
     requires bytes_room { HasTextRoom text.now bytes.old }
     requires identifiers_room { HasWordsRoom text.now identifiers.old }
+    requires unmarked { marks.old ≡ no_marks }
+    ensures unmarked { marks.new ≡ no_marks }
     ensures ok { OnOk result (Transcribes (Run M.tells) (fleet_of fleet.old.state)
         (kept_events text.now (kept ∷ [])) (fleet_of fleet.new.state) (W.contents writer.old)
         (W.contents writer.new)) }
@@ -143,8 +155,8 @@ fn run_event<W: Write, M: Medium>(
     let Some(event) = kept.event(text, bytes, identifiers) else {
         return Ok(());
     };
-    let mut marks = Marks::none();
-    let seen = fleet.apply_marking(event, &mut marks);
+    let seen = fleet.apply_marking(event, marks);
+    unmark(marks);
     let data = fleet.data();
     let shown = TranscriptLine {
         event,
@@ -179,8 +191,18 @@ pub fn run_events<W: Write, M: Medium>(
         (over (layers_of fleet.old.state) fleet.old.medium) (kept_events text.now events.now)
         (over (layers_of fleet.new.state) fleet.new.medium) (W.contents writer.old) (W.contents writer.new)) }
 {
+    let mut marks = Marks::none();
     for kept in events {
-        run_event(text, *kept, fleet, bytes, identifiers, line, writer)?;
+        run_event(
+            text,
+            *kept,
+            fleet,
+            bytes,
+            identifiers,
+            line,
+            &mut marks,
+            writer,
+        )?;
     }
     Ok(())
 }

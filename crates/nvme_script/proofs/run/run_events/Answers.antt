@@ -11,6 +11,7 @@ pub loop-kept-init : goal.loop-kept-init
 loop-kept-init g c = record {
   half = Transcribes-none (Run g.M.Medium.tells) (mailboxes-run g.M.Medium.tells) (fleet_of c.args.fleet.now.state) (g.W.Write.contents c.args.writer.now);
   called = Transcribes-none (RanCalling g.M.Medium.step g.M.Medium.tells) (layers-run g.M.Medium.step g.M.Medium.tells) (over (layers_of c.args.fleet.now.state) c.args.fleet.now.medium) (g.W.Write.contents c.args.writer.now);
+  unmarked = c.none-marks.ensures;
 }
 
 pub loop-kept-preserved : goal.loop-kept-preserved
@@ -21,6 +22,7 @@ loop-kept-preserved g c = record {
   called = half-next (RanCalling g.M.Medium.step g.M.Medium.tells) (layers-run g.M.Medium.step g.M.Medium.tells) c.args.text.now c.args.events.now c.loop-kept.kept-index _ c.loop-kept-test.true
       (over (layers_of c.args.fleet.now.state) c.args.fleet.now.medium) (over (layers_of c.loop-kept.fleet.state) c.loop-kept.fleet.medium) (over (layers_of c.run_event.new.fleet.state) c.run_event.new.fleet.medium)
       (g.W.Write.contents c.args.writer.now) (g.W.Write.contents c.loop-kept.writer) (g.W.Write.contents c.run_event.new.writer) c.loop-kept.invariant.called c.in_ok-run_event.ensures.calls;
+  unmarked = c.run_event.ensures.unmarked;
 }
 
 pub returns-in_err-run_event-clause-err : goal.returns-in_err-run_event-clause-err
