@@ -1,6 +1,8 @@
 //! Where the bytes and the identifiers of a script's events lie.
 
-ghost use Rattle.std.specs.Prelude.{IfOk};
+ghost use Rattle.std.specs.Prelude.{◌+◌, ◌/◌, ◌≤◌, max, length, IfOk};
+ghost use Rattle.nvme_spec.specs.Limits.{most_bytes};
+ghost use Rattle.script_text.specs.Lines.{longest_line};
 ghost use Rattle.nvme_grammar.specs.Room.{HasTextRoom, HasWordsRoom};
 
 use nvme_spec::MOST_BYTES;
@@ -23,6 +25,10 @@ impl Buffers {
     pub fn for_text(alloc: Global, text: &[u8]) -> Result<Buffers, AllocError>
         ensures bytes { IfOk result (λ buffers. HasTextRoom text.now buffers.bytes.items) }
         ensures identifiers { IfOk result (λ buffers. HasWordsRoom text.now buffers.identifiers.items) }
+        ensures few_bytes { IfOk result (λ buffers.
+            length buffers.bytes.items ≤ max most_bytes (longest_line text.now / 2 + 2049)) }
+        ensures few_identifiers { IfOk result (λ buffers.
+            length buffers.identifiers.items ≤ longest_line text.now / 2 + 2049) }
     {
         let half = line_bound(text) / 2 + 1;
         Ok(Buffers {

@@ -1,6 +1,7 @@
 //! Worked examples of the definitions: the contract of each function here is computed by the check.
 
 ghost use Rattle.std.specs.Prelude.{◌≡◌, ◌+◌, ◌^◌, ◌++◌, ◌∷◌, [], Some, None, codes, replicate};
+ghost use Rattle.script_text.specs.Lines.{text_lines, longest_line};
 ghost use Rattle.script_text.specs.Numbers.{number_at};
 ghost use Rattle.script_text.specs.Words.{line_words};
 ghost use Rattle.script_text.specs.Data.{data_at, bytes_at};
@@ -37,6 +38,13 @@ pub fn words()
     ensures vertical_tab { line_words (codes "a" ++ 11 ∷ codes "b") ≡ (codes "a" ++ 11 ∷ codes "b") ∷ [] }
     ensures form_feed { line_words (codes "a" ++ 12 ∷ codes "b") ≡ (codes "a" ++ 12 ∷ codes "b") ∷ [] }
     ensures none { line_words (32 ∷ 9 ∷ 13 ∷ []) ≡ [] }
+{}
+
+pub fn lines()
+    ensures ended { text_lines (codes "up 1" ++ 10 ∷ codes "poll 1" ++ 10 ∷ [])
+        ≡ codes "up 1" ∷ codes "poll 1" ∷ [] ∷ [] }
+    ensures longest { longest_line (codes "up 1" ++ 10 ∷ codes "poll 1" ++ 10 ∷ codes "up") ≡ 6 }
+    ensures none { longest_line [] ≡ 0 }
 {}
 
 #[tactic(auto, unfolding(crate::proofs::OnLiterals::words_on_literals))]
