@@ -12,8 +12,8 @@ use Rattle.nvme_live.specs.declared.asking.Asked.{Asked}
 use Rattle.nvme_live.specs.declared.asking.Asked.TheVariants.{Fails, Nothing, Looks, Sets, Does}
 
 -- the most bytes of a line, without its line feed
-abbrev pub longest_line : ℕ
-longest_line = 1048576
+abbrev pub line_limit : ℕ
+line_limit = 1048576
 
 -- a line that begins with `?`
 abbrev pub look_asked : List ℕ → Option Looking → Asked
@@ -32,7 +32,7 @@ line_asked line (Some Start) = Sets Start
 
 unfoldable pub asked : List ℕ → Asked
 asked line =
-    if nat_lt longest_line (length line) then Fails TooLong
+    if nat_lt line_limit (length line) then Fails TooLong
     else if is_looking line then look_asked line (looking_at line)
     else line_asked line (line_at line)
 

@@ -3,7 +3,7 @@ use Rattle.std.specs.Prelude.{◌≡◌, ◌≢◌, ◌⊎◌, ◌+◌, ◌<◌,
 use Rattle.std.specs.List.{All}
 use Rattle.std.specs.Io.KnownBytes.{Consumes, IsAtEnd, Keeps}
 use Rattle.script_text.specs.Lines.{text_lines}
-use Rattle.nvme_live.specs.Asking.{longest_line}
+use Rattle.nvme_live.specs.Asking.{line_limit}
 use Rattle.nvme_live.specs.declared.reading.Part.{Part}
 use Rattle.nvme_live.specs.declared.reading.Part.TheVariants.{Middle, Last, Nothing}
 
@@ -29,7 +29,7 @@ pub record TakesFront (old new : Option (List ℕ)) : Type 0 where
 
 -- what is kept of a line: all of it, or one byte more than a line may have
 unfoldable pub kept : List ℕ → List ℕ
-kept line = take (longest_line + 1) line
+kept line = take (line_limit + 1) line
 
 -- the part of a line that stands at the front of bytes: how many bytes it has, without its line feed and with it
 abbrev pub IsCut : Part → List ℕ → ℕ → ℕ → Type 0

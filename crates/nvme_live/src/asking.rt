@@ -12,7 +12,7 @@ use nvme_event::FleetEvent;
 use nvme_grammar::{Line, parse_line};
 
 /// The most bytes of a line, without its line feed.
-pub const LONGEST_LINE: usize = 1_048_576;
+pub const LINE_LIMIT: usize = 1_048_576;
 
 /// What one line of a session asks.
 #[derive(Clone, Copy)]
@@ -73,7 +73,7 @@ pub fn asked_of<'a>(
     requires spare_room { HasBytesRoom line.now spare.old }
     ensures { asked_by_value result ≡ asked line.now }
 {
-    if line.len() > LONGEST_LINE {
+    if line.len() > LINE_LIMIT {
         Asked::Fails(Why::TooLong)
     } else if is_looking(line) {
         look_asked(line)

@@ -6,7 +6,7 @@ ghost use Rattle.script_text.specs.Lines.{is_of_line};
 ghost use Rattle.nvme_script.specs.declared.run.ScriptFault.TheVariants.{Read as ReadFault};
 ghost use Rattle.nvme_live.specs.Taking.{IsCut, ReadsLine, TakesFront, TakesPart, kept};
 
-use crate::asking::LONGEST_LINE;
+use crate::asking::LINE_LIMIT;
 use nvme_script::ScriptFault;
 use std::alloc::AllocError;
 use std::io::BufRead;
@@ -50,7 +50,7 @@ fn keep(line: &mut Vec<u8>, bytes: &[u8]) -> Result<(), AllocError>
     ensures room { vec_len line.new ≤ 1048577 }
     ensures kept { OnOk result (line.new.items ≡ kept (line.old.items ++ bytes.now)) }
 {
-    let room = (LONGEST_LINE + 1 - line.len()).min(bytes.len());
+    let room = (LINE_LIMIT + 1 - line.len()).min(bytes.len());
     line.extend_from_slice(&bytes[..room])
 }
 

@@ -3,7 +3,7 @@
 
 ghost use Rattle.std.specs.Prelude.{◌≡◌, IfOk, length};
 
-use crate::asking::LONGEST_LINE;
+use crate::asking::LINE_LIMIT;
 use nvme_transcript::LONGEST_LINE as LONGEST_ANSWER;
 use std::alloc::{AllocError, Global};
 
@@ -44,7 +44,7 @@ impl Rooms {
             identifiers: vec![in alloc; 0; MOST_SPELLED]?,
             blocks: room_for_bytes(alloc)?,
             text: String::with_capacity(alloc, LONGEST_ANSWER)?,
-            line: Vec::with_capacity(alloc, LONGEST_LINE + 1)?,
+            line: Vec::with_capacity(alloc, LINE_LIMIT + 1)?,
         })
     }
 }
