@@ -3,3 +3,4 @@ pub mod Changing
 pub mod Numbered
 pub mod Attaching
 pub mod Opened
+pub mod Telling

@@ -4,6 +4,7 @@ use Rattle.std.specs.List.{list_all, enumerate_from, AllByRecursion}
 use Rattle.nvme_spec.specs.declared.config.ControllerConfig.{ControllerConfig}
 use Rattle.nvme_spec.specs.Report.{ControllerHost, HasRisingIds}
 use Rattle.nvme_spec.specs.World.{controller_host}
+use Rattle.nvme_ns.specs.Attached.{AreNumberedFrom}
 
 abbrev numbered_from : ℕ → List ControllerConfig → Bool
 numbered_from i ks = list_all (λ p. p.1.cntlid == p.0 + 1) (enumerate_from i ks)
@@ -25,3 +26,9 @@ rising i (k ∷ ks) h =
     let parts = both _ _ h in
     let here : k.cntlid ≡ i + 1 = eqb-true _ _ parts.0 in
     (above (i + 1) k.cntlid ks parts.1 (omega arith), rising (i + 1) ks parts.1)
+
+pub counted : (i : ℕ) (ks : List ControllerConfig) → numbered_from i ks ≡ true → AreNumberedFrom (i + 1) (map controller_host ks)
+counted i [] h = tt
+counted i (k ∷ ks) h =
+    let parts = both _ _ h in
+    (eqb-true _ _ parts.0, counted (i + 1) ks parts.1)

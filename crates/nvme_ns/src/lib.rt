@@ -5,6 +5,7 @@
 mod checks;
 mod namespace;
 mod opening;
+mod pairs;
 mod spaces;
 
 pub use namespace::Namespace;

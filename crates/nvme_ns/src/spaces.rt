@@ -12,6 +12,7 @@ ghost use Rattle.nvme_ns.specs.Lending.{LendsReservation};
 use crate::Namespace;
 use crate::checks::{MAX_ATTACHMENTS, MAX_CONTROLLERS, MAX_NAMESPACES, check};
 use crate::opening::{attachment_table, controller_table, namespace_table};
+use crate::pairs::{PairTable, is_pair, pair_number, pair_table};
 use arrayvec::ArrayVec;
 use nvme_resv::Reservation;
 use nvme_spec::{Config, ConfigFault, HostId, Protection};
@@ -22,17 +23,19 @@ mod attaching;
 /// The access state of a subsystem. It stands in tables of fixed size and takes no memory.
 #[derive(Drop)]
 pub struct Spaces {
-    /// The identifier of each controller with its host, by rising identifier.
+    /// The identifier of each controller with its host: controller k stands at place k - 1.
     controllers: ArrayVec<(u16, HostId), MAX_CONTROLLERS>,
     namespaces: ArrayVec<Namespace, MAX_NAMESPACES>,
     /// The identifier of a controller with that of a namespace.
     attachments: ArrayVec<(u16, u32), MAX_ATTACHMENTS>,
+    /// The same, to be told by a look at one place.
+    pairs: PairTable,
 }
 
 impl Model for Spaces {
     ghost use Rattle.nvme_spec.specs.Report.{HasRisingIds};
     ghost use Rattle.nvme_spec.specs.World.{World as State};
-    ghost use Rattle.nvme_ns.specs.Attached.{HasSmallIds, IsAttachmentTable};
+    ghost use Rattle.nvme_ns.specs.Attached.{HasSmallIds, AreNumberedFrom, IsAttachmentTable, TellsPairs};
 
     ghost Value = { State };
 
@@ -43,7 +46,8 @@ impl Model for Spaces {
     } };
 
     ghost invariant = { λ a. HasRisingIds a.controllers.items × HasSmallIds a.controllers.items
-        × IsAttachmentTable a.attachments.items };
+        × IsAttachmentTable a.attachments.items × AreNumberedFrom 1 a.controllers.items
+        × TellsPairs a.pairs a.attachments.items };
 }
 
 impl Spaces {
@@ -64,6 +68,7 @@ impl Spaces {
             controllers: controller_table(&config.controllers),
             namespaces: namespace_table(&config.namespaces),
             attachments: attachment_table(&config.attached),
+            pairs: pair_table(&config.attached),
         })
     }
 
@@ -96,7 +101,9 @@ impl Spaces {
         ensures host { result ≡ world.host_of self.now cntlid }
         ensures few { length self.now.controllers ≤ 16 }
     {
-        self.controllers.iter().find(|k| k.0 == cntlid).map(|k| k.1)
+        let controllers = self.controllers.as_slice();
+        let place = usize::from(cntlid).checked_sub(1)?;
+        Some(controllers.get(place)?.1)
     }
 
     /// Whether a namespace is attached to a controller. It isn't where either isn't configured.
@@ -104,9 +111,7 @@ impl Spaces {
     pub fn is_attached(&self, cntlid: u16, nsid: u32) -> bool
         ensures { result ≡ world.is_attached self.now cntlid nsid }
     {
-        self.attachments
-            .iter()
-            .any(|a| a.0 == cntlid && a.1 == nsid)
+        is_pair(cntlid, nsid) && self.pairs[pair_number(cntlid, nsid)]
     }
 
     /// The namespace with this identifier, or None where it isn't configured.

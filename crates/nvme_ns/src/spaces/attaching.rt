@@ -9,6 +9,7 @@ ghost use Rattle.nvme_ns.specs.Attached.{passes_unless};
 
 use crate::Spaces;
 use crate::checks::MAX_ATTACHMENTS;
+use crate::pairs::pair_table;
 use arrayvec::ArrayVec;
 use nvme_wire::Status;
 
@@ -37,6 +38,7 @@ impl Spaces {
         self.check_list(controllers)?;
         self.check_attachable(nsid, controllers)?;
         append(&mut self.attachments, nsid, controllers);
+        self.pairs = pair_table(&self.attachments);
         Ok(())
     }
 
@@ -55,6 +57,7 @@ impl Spaces {
         self.check_list(controllers)?;
         self.check_detachable(nsid, controllers)?;
         remove(&mut self.attachments, nsid, controllers);
+        self.pairs = pair_table(&self.attachments);
         Ok(())
     }
 

@@ -25,13 +25,21 @@ append-requires c =
           (sym c.check_list.ensures ∙ c.in_ok-check_list.was {u = tt}) (sym c.check_attachable.ensures.judged ∙ c.in_ok-check_attachable.was {u = tt}));
     }
 
+pub pair_table-self-inside-requires : goal.pair_table-self-inside-requires
+pair_table-self-inside-requires c =
+    let table = attached-table c.args.self.now c.args.nsid c.args.controllers.now c.self.inside.controllers.items c.self.inside.attachments.items
+    (ap (λ (w : World). w.controllers) c.self.view_is) (ap (λ (w : World). w.attachments) c.self.view_is)
+    c.self.invariant.1 c.self.invariant.2 c.check_attachable.ensures.known
+    (sym c.check_list.ensures ∙ c.in_ok-check_list.was {u = tt}) (sym c.check_attachable.ensures.judged ∙ c.in_ok-check_attachable.was {u = tt}) in
+    rw (c.deref.ensures.0, c.append.ensures) table.0
+
 pub invariant_of-self : goal.invariant_of-self
 invariant_of-self c =
     let table = attached-table c.args.self.now c.args.nsid c.args.controllers.now c.self.inside.controllers.items c.self.inside.attachments.items
     (ap (λ (w : World). w.controllers) c.self.view_is) (ap (λ (w : World). w.attachments) c.self.view_is)
     c.self.invariant.1 c.self.invariant.2 c.check_attachable.ensures.known
     (sym c.check_list.ensures ∙ c.in_ok-check_list.was {u = tt}) (sym c.check_attachable.ensures.judged ∙ c.in_ok-check_attachable.was {u = tt}) in
-    (c.self.invariant.0, c.self.invariant.1, rw c.append.ensures table)
+    (c.self.invariant.0, c.self.invariant.1, rw c.append.ensures table, c.self.invariant.3, rw (← c.deref.ensures.0) c.pair_table-self-inside.ensures)
 
 pub returns-clause-attached : goal.returns-clause-attached
 returns-clause-attached c =

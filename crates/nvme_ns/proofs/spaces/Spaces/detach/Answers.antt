@@ -14,9 +14,13 @@ returns-in_err-check_detachable-clause-refused c =
     rw (p.1, p.2) (refuses-detaching c.args.self.now c.args.nsid c.args.controllers.now c.in_err-check_detachable.field-0.0
     (sym c.check_list.ensures ∙ c.in_ok-check_list.was {u = tt}) (sym c.check_detachable.ensures ∙ c.in_err-check_detachable.was {u = tt}))
 
+pub pair_table-self-inside-requires : goal.pair_table-self-inside-requires
+pair_table-self-inside-requires c =
+    rw (c.deref.ensures.0, c.remove.ensures) (filtered _ c.self.inside.attachments.items c.self.invariant.2).0
+
 pub invariant_of-self : goal.invariant_of-self
 invariant_of-self c =
-    (c.self.invariant.0, c.self.invariant.1, rw c.remove.ensures (filtered _ c.self.inside.attachments.items c.self.invariant.2))
+    (c.self.invariant.0, c.self.invariant.1, rw c.remove.ensures (filtered _ c.self.inside.attachments.items c.self.invariant.2), c.self.invariant.3, rw (← c.deref.ensures.0) c.pair_table-self-inside.ensures)
 
 pub returns-clause-detached : goal.returns-clause-detached
 returns-clause-detached c =
