@@ -1,6 +1,6 @@
 //! The data of a command of any kind: where they lie, and the rule that looks at their pointer.
 
-ghost use Rattle.std.specs.Prelude.{◌≡◌, ◌≤◌, length, None, Ok, Err, OnOk, IfErr};
+ghost use Rattle.std.specs.Prelude.{◌≡◌, ◌≤◌, [], length, None, Ok, Err, OnOk, OnErr, IfErr};
 ghost use Rattle.nvme_spec.specs.DataRules as rules;
 ghost use Rattle.nvme_spec.specs.Limits.{most_bytes};
 ghost use Rattle.nvme_spec.specs.Rules.{judgement_by};
@@ -12,7 +12,7 @@ use nvme_spec::{DataFault, Denial};
 use nvme_wire::{Sqe, Status};
 
 /// Where so many bytes of a command's data lie, by its two PRP entries, in place of what stands in `pieces`: no pieces
-/// where it has none. That these are at most 131,072 is the caller's condition.
+/// where it has none, and where a fault is met. That these are at most 131,072 is the caller's condition.
 ///
 /// # Errors
 ///
@@ -25,6 +25,7 @@ pub fn locate(window: &Window, sqe: &Sqe, bytes: u64, pieces: &mut Pieces) -> Re
     ensures placed { OnOk result (addresses pieces.new.parts.items ≡ rules.data_addresses bytes window.now sqe.now) }
     ensures size { OnOk result (length (addresses pieces.new.parts.items) ≡ bytes) }
     ensures denied { IfErr result (λ d. judgement_by (rules.pointer_rule bytes window.now sqe.now) ≡ Err d) }
+    ensures none { OnErr result (pieces.new.parts.items ≡ []) }
 {
     if bytes == 0 {
         pieces.parts.clear();

@@ -155,6 +155,9 @@ pub fn walk_into(
     ensures sound { OnOk result (pointer_fault (transfer window.now prp1 prp2 len) ≡ None) }
     // Each page has its piece.
     ensures pieces { OnOk result (pieces.new.parts.items ≡ pieces_of (transfer window.now prp1 prp2 len)) }
+    // The pieces joined are the addresses of the bytes.
+    ensures joined { OnOk result (addresses pieces.new.parts.items
+        ≡ map (address (transfer window.now prp1 prp2 len)) (range_with_len 0 len)) }
     ensures size { OnOk result (length (addresses pieces.new.parts.items) ≡ len) }
     ensures fault { IfErr result (λ e. pointer_fault (transfer window.now prp1 prp2 len) ≡ Some e) }
     ensures none { OnErr result (pieces.new.parts.items ≡ []) }

@@ -14,6 +14,9 @@ invariant_of-pieces c =
     let walked = c.in-Ok.ensures in
     record { pages = subst ArePages (sym walked.parts) (parts-are_pages _ walked.sound) }
 
+pub returns-in-Ok-clause-joined : goal.returns-in-Ok-clause-joined
+returns-in-Ok-clause-joined c = ap addresses c.in-Ok.ensures.parts ∙ joined _
+
 pub returns-in-Ok-clause-size : goal.returns-in-Ok-clause-size
 returns-in-Ok-clause-size c =
     ap length (ap addresses c.in-Ok.ensures.parts ∙ joined _) ∙ length-map-range_with_len _ 0 c.args.len
