@@ -9,3 +9,4 @@ pub mod Once
 pub mod Moving
 pub mod Mapped
 pub mod Rising
+pub mod Unaborted

@@ -26,16 +26,22 @@ pub struct Driver {
     state: State,
     tickets: Tickets,
     slots: [Option<Waiting>; 24],
+    /// Whether the slots were looked through, and none had an aborted request.
+    none_aborted: bool,
     admin: Ends,
     io: Ends,
 }
 
 impl Model for Driver {
+    ghost use Rattle.std.specs.Prelude.{IsTrue, None};
     ghost use Rattle.nvme_driver.specs.Drivers.{Driver as Record};
+    ghost use Rattle.nvme_driver.specs.Polls.{IsOldest};
 
     ghost Value = { Record };
 
     ghost view = { λ d. record { state = d.state; next = d.tickets; slots = d.slots; admin = d.admin; io = d.io } };
+
+    ghost invariant = { λ d. IsTrue d.none_aborted → IsOldest d.slots None };
 }
 
 impl Driver {
@@ -54,6 +60,7 @@ impl Driver {
             state: State::Down,
             tickets: Tickets::starting_at(first),
             slots: [None; SLOTS],
+            none_aborted: false,
             admin: Ends::new(),
             io: Ends::new(),
         }
@@ -134,6 +141,7 @@ impl Driver {
     {
         port.write32(register::CC, 0);
         abort_all(&mut self.slots);
+        self.none_aborted = false;
         self.state = State::Down;
         self.admin = Ends::new();
         self.io = Ends::new();

@@ -6,7 +6,7 @@ ghost use Rattle.nvme_spec.specs.Limits.{most_bytes};
 ghost use Rattle.nvme_driver.specs.Calls.{Calls};
 ghost use Rattle.nvme_driver.specs.Layout.{slot_count, data_area as area};
 ghost use Rattle.nvme_driver.specs.Drivers.{ends as ends_of};
-ghost use Rattle.nvme_driver.specs.Polls.{IsPolled, found as spec_found, answered as spec_answered, answer_len as spec_answer_len, consumed_ends, entry_poll};
+ghost use Rattle.nvme_driver.specs.Polls.{IsPolled, IsOldest, aborted_at, found as spec_found, answered as spec_answered, answer_len as spec_answer_len, consumed_ends, entry_poll};
 
 use super::Driver;
 use crate::answer::Answer;
@@ -19,6 +19,7 @@ use crate::length::Length;
 use crate::port::Port;
 use crate::slots::{Waiting, live_in, oldest_aborted};
 use crate::state::State;
+use crate::ticket::Ticket;
 use nvme_mem::Window;
 use nvme_spec::Piece;
 use nvme_wire::{Cqe, Status};
@@ -50,6 +51,22 @@ fn copy_data(window: &Window, slot: usize, len: usize, buffer: &mut [u8])
 }
 
 impl Driver {
+    /// The slot and the ticket of the aborted request with the lowest one. The slots are looked through once after they
+    /// were aborted, and not at each poll.
+    fn oldest_aborted(&mut self) -> Option<(usize, Ticket)>
+        ensures driver { self.new ≡ self.old }
+        ensures none { result ≡ None → IsOldest self.old.slots None }
+        ensures some { IfSome result (λ r. (r.0 < slot_count) × IsOldest self.old.slots (Some r.0)
+            × (aborted_at self.old.slots r.0 ≡ Some r.1)) }
+    {
+        if self.none_aborted {
+            return None;
+        }
+        let oldest = oldest_aborted(&self.slots);
+        self.none_aborted = oldest.is_none();
+        oldest
+    }
+
     /// The first new completion: of the admin lane, then of the I/O lane.
     fn found(&self, window: &Window) -> Option<Found>
         ensures { result ≡ spec_found self.now window.now }
@@ -138,7 +155,7 @@ impl Driver {
         ensures polls { IsPolled P.step self.old (P.bytes port.old) port.old result self.new port.new buffer.new }
         ensures links { P.links port.new ≡ P.links port.old }
     {
-        if let Some((slot, ticket)) = oldest_aborted(&self.slots) {
+        if let Some((slot, ticket)) = self.oldest_aborted() {
             self.slots[slot] = None;
             return Ok(Some(Answer::Aborted { ticket }));
         }
