@@ -21,7 +21,7 @@ pub use nvme_ctrl::{CompletionQueue, Controller, FetchedCommand, SubmissionQueue
 pub use nvme_driver::{
     Answer, Driver, Lane, NotUp, PlaceRefusal, PollFault, Request, State, Ticket, UpFault, Waiting,
 };
-pub use nvme_event::{FleetEvent, FleetSeen, Reply};
+pub use nvme_event::{BareFleetSeen, FleetEvent, FleetSeen, Reply};
 pub use nvme_machine::{Executed, Fetched};
 pub use nvme_ns::Namespace;
 pub use nvme_subsys::NewFault;
