@@ -1,2 +1,3 @@
 pub mod Transcript
 pub mod Writing
+pub mod Putting

@@ -168,7 +168,7 @@ impl fmt::Display for AnswerText<'_> {
 
 /// How many bytes came, and the bytes; where none came, nothing.
 #[derive(Clone, Copy)]
-struct DataText<'a>(&'a [u8]);
+pub struct DataText<'a>(pub &'a [u8]);
 
 impl fmt::Display for DataText<'_> {
     ghost output = { λ text. Some (data_text text.0.now) };

@@ -1,10 +1,12 @@
 //! Lines of the transcript that are put together by hand, as most are: a formatter takes several times as long.
 
-ghost use Rattle.std.specs.Prelude.{◌≡◌, ◌+◌, ◌≤◌, ◌++◌, [], true, length, codes, decimal, IsTrue, IfSome};
+ghost use Rattle.std.specs.Prelude.{◌≡◌, ◌+◌, ◌<◌, ◌≤◌, ◌++◌, ◌∷◌, [], false, length, codes, decimal, IsTrue, IfSome};
+ghost use Rattle.std.specs.Fmt.{digit_glyph};
 ghost use Rattle.arrayvec.specs.ArrayString.{array_string_len};
 ghost use Rattle.nvme_wire.specs.StatusNames.{status_text};
 ghost use Rattle.nvme_machine.specs.Bare.{executed_of};
 ghost use Rattle.nvme_event.specs.Bare.{seen_of};
+ghost use Rattle.nvme_transcript.specs.Putting.{Puts};
 ghost use Rattle.nvme_transcript.specs.Transcript.{answer_text, event_text, executed_text, fetched_text, polled_text, subject_text};
 
 use crate::line::TranscriptLine;
@@ -20,6 +22,17 @@ const ROOM: usize = 96;
 
 /// A line, or its front.
 pub type Short = ArrayString<ROOM>;
+
+/// How much of a line was put together by hand.
+#[derive(Clone, Copy, Debug, PartialEq, Eq)]
+pub enum Put {
+    /// All of it.
+    All,
+    /// What stands before the data that came.
+    AllButData,
+    /// Nothing that is of use.
+    Nothing,
+}
 
 /// The digit of a number below 10. `None` for any other number.
 #[inline(always)]
@@ -94,6 +107,32 @@ fn put_subject(text: &mut Short, event: &FleetEvent<'_>)
     }
 }
 
+/// The hexadecimal digit of a number below 16.
+#[inline(always)]
+fn hex_digit(number: u8) -> &'static str
+    requires { number < 16 }
+    ensures digit { result.now ≡ digit_glyph false number ∷ [] }
+{
+    match number {
+        0 => "0",
+        1 => "1",
+        2 => "2",
+        3 => "3",
+        4 => "4",
+        5 => "5",
+        6 => "6",
+        7 => "7",
+        8 => "8",
+        9 => "9",
+        10 => "a",
+        11 => "b",
+        12 => "c",
+        13 => "d",
+        14 => "e",
+        _ => "f",
+    }
+}
+
 /// Whether a status is that of success, as most are.
 #[inline(always)]
 fn is_success(status: Status) -> bool
@@ -102,7 +141,37 @@ fn is_success(status: Status) -> bool
     status.sct == 0 && status.sc == 0
 }
 
-/// Appends what came of an execution, where its status is that of success; else nothing.
+/// Appends a status by its digits, but for one whose type has two: then nothing.
+fn put_digits(text: &mut Short, status: Status) -> bool
+    requires room { array_string_len text.old + 4 ≤ 96 }
+    ensures bytes { IsTrue result → text.new.bytes ≡ text.old.bytes ++ status_text status }
+    ensures short { array_string_len text.new ≤ array_string_len text.old + 4 }
+{
+    if status.sct >= 16 {
+        return false;
+    }
+    text.push_str(hex_digit(status.sct));
+    text.push_str(":");
+    text.push_str(hex_digit(status.sc / 16));
+    text.push_str(hex_digit(status.sc % 16));
+    true
+}
+
+/// Appends a status, but for one whose type has two digits: then nothing.
+#[inline(always)]
+fn put_status(text: &mut Short, status: Status) -> bool
+    requires room { array_string_len text.old + 4 ≤ 96 }
+    ensures bytes { IsTrue result → text.new.bytes ≡ text.old.bytes ++ status_text status }
+    ensures short { array_string_len text.new ≤ array_string_len text.old + 4 }
+{
+    if !is_success(status) {
+        return put_digits(text, status);
+    }
+    text.push_str("0:00");
+    true
+}
+
+/// Appends what came of an execution.
 #[inline(always)]
 fn put_executed(text: &mut Short, executed: &BareExecuted) -> bool
     requires room { array_string_len text.old + 20 ≤ 96 }
@@ -111,10 +180,11 @@ fn put_executed(text: &mut Short, executed: &BareExecuted) -> bool
 {
     match executed {
         BareExecuted::Posted(outcome) => {
-            if !is_success(outcome.status) {
+            text.push_str("posted ");
+            if !put_status(text, outcome.status) {
                 return false;
             }
-            text.push_str("posted 0:00 ");
+            text.push_str(" ");
             put_u16(text, u16::from(outcome.rule));
         }
         BareExecuted::NoSuch => text.push_str("none"),
@@ -123,45 +193,49 @@ fn put_executed(text: &mut Short, executed: &BareExecuted) -> bool
     true
 }
 
-/// Appends an answer that is handed up, where it is of success, and without data; else nothing.
+/// Appends an answer that is handed up, without its data.
 #[inline(always)]
-fn put_answer(text: &mut Short, answer: &Answer, bytes: &[u8]) -> bool
+fn put_answer(text: &mut Short, answer: &Answer, bytes: &[u8]) -> Put
     requires room { array_string_len text.old + 40 ≤ 96 }
-    ensures bytes { IsTrue result → text.new.bytes ≡ text.old.bytes ++ answer_text answer.now bytes.now }
+    ensures bytes { Puts result bytes.now text.new.bytes (text.old.bytes ++ answer_text answer.now bytes.now) }
     ensures short { array_string_len text.new ≤ array_string_len text.old + 40 }
 {
-    match answer {
-        Answer::Done {
-            ticket,
-            status,
-            dw0,
-            ..
-        } => {
-            if !is_success(*status) || *dw0 != 0 || !bytes.is_empty() {
-                return false;
-            }
-            put_u64(text, ticket.0);
-            text.push_str(" 0:00 00000000");
-            true
-        }
-        Answer::Aborted { .. } => false,
+    let Answer::Done {
+        ticket,
+        status,
+        dw0: 0,
+        ..
+    } = answer
+    else {
+        return Put::Nothing;
+    };
+    put_u64(text, ticket.0);
+    text.push_str(" ");
+    if !put_status(text, *status) {
+        return Put::Nothing;
+    }
+    text.push_str(" 00000000");
+    if bytes.is_empty() {
+        Put::All
+    } else {
+        Put::AllButData
     }
 }
 
-/// Appends what a poll handed up, where that is nothing or an answer as above; else nothing.
+/// Appends what a poll handed up, without its data.
 #[inline(always)]
-fn put_polled(text: &mut Short, polled: &Result<Option<Answer>, PollFault>, bytes: &[u8]) -> bool
+fn put_polled(text: &mut Short, polled: &Result<Option<Answer>, PollFault>, bytes: &[u8]) -> Put
     requires room { array_string_len text.old + 40 ≤ 96 }
-    ensures bytes { IsTrue result → text.new.bytes ≡ text.old.bytes ++ polled_text polled.now bytes.now }
+    ensures bytes { Puts result bytes.now text.new.bytes (text.old.bytes ++ polled_text polled.now bytes.now) }
     ensures short { array_string_len text.new ≤ array_string_len text.old + 40 }
 {
     match polled {
         Ok(None) => {
             text.push_str("nothing");
-            true
+            Put::All
         }
         Ok(Some(answer)) => put_answer(text, answer, bytes),
-        Err(_) => false,
+        Err(_) => Put::Nothing,
     }
 }
 
@@ -176,12 +250,13 @@ fn put_named(text: &mut Short, word: &str, cntlid: u16)
     put_u16(text, cntlid);
 }
 
-/// Puts a line together, and tells whether it did: it is one of those that a running script mostly has.
+/// Puts a line together, but for the data that came, and tells how far it did: it is one of those that a running script
+/// mostly has.
 #[inline(always)]
-pub fn put_line(text: &mut Short, line: &TranscriptLine<'_>) -> bool
+pub fn put_line(text: &mut Short, line: &TranscriptLine<'_>) -> Put
     requires empty { text.old.bytes ≡ [] }
-    ensures bytes { IsTrue result
-        → text.new.bytes ≡ event_text line.now.event (seen_of line.now.seen.now) line.now.bytes.now }
+    ensures bytes { Puts result line.now.bytes.now text.new.bytes
+        (event_text line.now.event (seen_of line.now.seen.now) line.now.bytes.now) }
     ensures short { array_string_len text.new ≤ 95 }
 {
     let cntlid = line.event.cntlid();
@@ -204,16 +279,23 @@ pub fn put_line(text: &mut Short, line: &TranscriptLine<'_>) -> bool
             text.push_str("execute ");
             put_subject(text, &line.event);
             text.push_str(" ");
-            return put_executed(text, executed);
+            if !put_executed(text, executed) {
+                return Put::Nothing;
+            }
         }
         BareFleetSeen::Polled(polled) => {
             put_named(text, "poll ", cntlid);
             text.push_str(" ");
             return put_polled(text, polled, line.bytes);
         }
+        BareFleetSeen::Up(Ok(())) => {
+            put_named(text, "up ", cntlid);
+            text.push_str(" ok");
+        }
         BareFleetSeen::Reset => put_named(text, "reset ", cntlid),
         BareFleetSeen::Stored => put_named(text, "stored ", cntlid),
-        _ => return false,
+        BareFleetSeen::Wrote => put_named(text, "wrote32 ", cntlid),
+        _ => return Put::Nothing,
     }
-    true
+    Put::All
 }
