@@ -47,6 +47,24 @@ fn kept_blocks_are_read_without_a_call(rt: HostRuntime) -> Result<(), Fail> {
     Ok(())
 }
 
+#[test]
+fn a_block_is_read_onto_bytes_that_a_fault_leaves(rt: HostRuntime) -> Result<(), Fail> {
+    let mut medium = failing_once(rt.alloc(), 2)?;
+    expect_eq(&rt, write(&mut medium, 3, 0x5a), Ok(()));
+    let mut cached = cached_twice(rt.alloc(), medium)?;
+    let mut bytes = [7; 1024];
+    for _ in 0..2 {
+        cached.read_onto(3, &mut bytes[256..768])?;
+        expect_that(&rt, bytes[255..257] == [7, 0x5a]);
+        expect_that(&rt, bytes[767..769] == [0x5a, 7]);
+    }
+    expect_that(&rt, cached.read_onto(0, &mut bytes[256..768]).is_err());
+    expect_that(&rt, bytes[256..768] == [0x5a; 512]);
+    cached.read_onto(0, &mut bytes[256..768])?;
+    expect_that(&rt, bytes[256..768] == [0; 512]);
+    Ok(())
+}
+
 /// Writes three blocks by way of a cache of two, reads the first, and hands the medium back.
 fn write_three<M: Medium + Drop>(alloc: Global, inner: M) -> Result<M, &'static str> {
     let mut cached = cached_twice(alloc, inner)?;
