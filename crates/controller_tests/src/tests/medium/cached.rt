@@ -2,7 +2,7 @@
 
 use super::files::{Slow, read, write};
 use crate::tests::asserting::{expect_eq, expect_that};
-use nvme_medium::{Cached, Failing, FileMedium, HostFile, Medium, MemMedium};
+use nvme_medium::{Cached, Failing, FileMedium, HostFile, Medium, MediumFault, MemMedium};
 use std::alloc::Global;
 use std::fs;
 use std::num::NonZeroUsize;
@@ -47,21 +47,30 @@ fn kept_blocks_are_read_without_a_call(rt: HostRuntime) -> Result<(), Fail> {
     Ok(())
 }
 
+/// Reads a block onto the middle of bytes that are 7, and gives the bytes at its ends and those beside them; as an error
+/// where that failed.
+fn read_onto<M: Medium>(medium: &mut M, i: u64) -> Result<[u8; 4], [u8; 4]> {
+    let mut bytes = [7; 1024];
+    if i >= medium.blocks() {
+        return Err([0; 4]);
+    }
+    let read = medium.read_onto(i, &mut bytes[256..768]);
+    let seen = [bytes[255], bytes[256], bytes[767], bytes[768]];
+    match read {
+        Ok(()) => Ok(seen),
+        Err(MediumFault) => Err(seen),
+    }
+}
+
 #[test]
 fn a_block_is_read_onto_bytes_that_a_fault_leaves(rt: HostRuntime) -> Result<(), Fail> {
     let mut medium = failing_once(rt.alloc(), 2)?;
     expect_eq(&rt, write(&mut medium, 3, 0x5a), Ok(()));
     let mut cached = cached_twice(rt.alloc(), medium)?;
-    let mut bytes = [7; 1024];
-    for _ in 0..2 {
-        cached.read_onto(3, &mut bytes[256..768])?;
-        expect_that(&rt, bytes[255..257] == [7, 0x5a]);
-        expect_that(&rt, bytes[767..769] == [0x5a, 7]);
-    }
-    expect_that(&rt, cached.read_onto(0, &mut bytes[256..768]).is_err());
-    expect_that(&rt, bytes[256..768] == [0x5a; 512]);
-    cached.read_onto(0, &mut bytes[256..768])?;
-    expect_that(&rt, bytes[256..768] == [0; 512]);
+    expect_eq(&rt, read_onto(&mut cached, 3), Ok([7, 0x5a, 0x5a, 7]));
+    expect_eq(&rt, read_onto(&mut cached, 3), Ok([7, 0x5a, 0x5a, 7]));
+    expect_eq(&rt, read_onto(&mut cached, 0), Err([7; 4]));
+    expect_eq(&rt, read_onto(&mut cached, 0), Ok([7, 0, 0, 7]));
     Ok(())
 }
 
