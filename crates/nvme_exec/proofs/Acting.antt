@@ -8,10 +8,9 @@ use Rattle.nvme_spec.specs.Bytes.{with_bytes}
 use Rattle.nvme_spec.specs.Blocks.{Device, Told, CountsFaults, StopsWriting, blocks_from}
 use Rattle.nvme_spec.specs.Effects.{KeepsBlocks, FlushEffect, WriteEffect, CompareEffect, HasSameFront}
 use Rattle.nvme_spec.specs.Transfers.{gathered_bytes, with_scattered}
-use Rattle.nvme_spec.specs.Execution.{BlockEffect}
+use Rattle.nvme_spec.specs.BlockCommands.{BlockEffect, answer_of}
 use Rattle.nvme_spec.specs.Statuses as status
 use Rattle.nvme_exec.specs.Reading.{HasReadBlocks, StoppedReading}
-use Rattle.nvme_spec.specs.CommandCalls.{answer_of}
 use Rattle.nvme_exec.specs.Carrying.{ActsAt, comparison_answer}
 
 -- no data return to the host

@@ -16,7 +16,8 @@ use Rattle.nvme_spec.specs.Transfers.{addresses, gathered_bytes, with_scattered}
 use Rattle.nvme_spec.specs.World.{World, Namespace, namespace_of}
 use Rattle.nvme_spec.specs.DataRules.{data_addresses}
 use Rattle.nvme_spec.specs.IoData.{data_of, action_outcome, outcome_in, reservation_outcome}
-use Rattle.nvme_spec.specs.Execution.{Scene, scene, BlockEffect, PerformsAs, start_of, medium_block, report_of, world_after, no_marks, marks_of, removed_by, is_preempt_and_abort}
+use Rattle.nvme_spec.specs.Execution.{Scene, scene, PerformsAs, start_of, medium_block, report_of, world_after, no_marks, marks_of, removed_by, is_preempt_and_abort}
+use Rattle.nvme_spec.specs.BlockCommands.{BlockEffect}
 use Rattle.nvme_spec.specs.Statuses as status
 use Rattle.nvme_exec.specs.declared.admission.Admission.{Admission}
 use Rattle.nvme_exec.specs.Admitted.{IsAdmitted}

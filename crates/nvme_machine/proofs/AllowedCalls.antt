@@ -11,7 +11,8 @@ use Rattle.nvme_spec.specs.declared.verdict.Plan.{Plan}
 use Rattle.nvme_spec.specs.declared.verdict.Verdict.{Verdict}
 use Rattle.nvme_spec.specs.declared.verdict.Verdict.TheVariants.{Allowed, Denied}
 use Rattle.nvme_spec.specs.Blocks.{block_at}
-use Rattle.nvme_spec.specs.CommandCalls.{AreCallsBy, AreCallsOf, ComparesUpTo}
+use Rattle.nvme_spec.specs.CommandCalls.{AreCallsBy, AreCallsOf}
+use Rattle.nvme_spec.specs.BlockCommands.{ComparesUpTo}
 use Rattle.nvme_spec.specs.Commands.{altering, readers, is_one_of, block_count, starting_lba}
 use Rattle.nvme_spec.specs.Execution.{medium_block, start_of}
 use Rattle.nvme_spec.specs.IoData.{data_of, io_verdict}

@@ -12,7 +12,8 @@ use Rattle.nvme_spec.specs.declared.outcome.Outcome.{Outcome}
 use Rattle.nvme_spec.specs.declared.verdict.Plan.{Plan}
 use Rattle.nvme_spec.specs.declared.verdict.Verdict.{Verdict}
 use Rattle.nvme_spec.specs.declared.verdict.Verdict.TheVariants.{Allowed}
-use Rattle.nvme_spec.specs.CommandCalls.{AreCallsBy, AreCallsOf, answer_of}
+use Rattle.nvme_spec.specs.CommandCalls.{AreCallsBy, AreCallsOf}
+use Rattle.nvme_spec.specs.BlockCommands.{answer_of}
 use Rattle.nvme_spec.specs.IoData.{io_verdict}
 use Rattle.nvme_spec.specs.Layout.{Extent, AreApart, extent_of, may_read, may_write}
 use Rattle.nvme_spec.specs.MediumCalls.{MediumAnswer, MediumCall, Reads, Writes, Flushes}

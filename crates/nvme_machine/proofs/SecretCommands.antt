@@ -23,7 +23,8 @@ use Rattle.nvme_spec.specs.declared.outcome.Outcome.{Outcome}
 use Rattle.nvme_spec.specs.declared.queues.Queues.{Queues}
 use Rattle.nvme_spec.specs.declared.verdict.Verdict.{Verdict}
 use Rattle.nvme_spec.specs.declared.verdict.Verdict.TheVariants.{Allowed, Denied}
-use Rattle.nvme_spec.specs.Execution.{Scene, BlockEffect, ActsOnBlocks, ActsOnReservation, Performs, ExecutesBy, medium_block, start_of}
+use Rattle.nvme_spec.specs.Execution.{Scene, ActsOnBlocks, ActsOnReservation, Performs, ExecutesBy, medium_block, start_of}
+use Rattle.nvme_spec.specs.BlockCommands.{BlockEffect}
 use Rattle.nvme_spec.specs.IoData.{data_of, io_verdict}
 use Rattle.nvme_spec.specs.IoRules.{permits_group, role_in, has_blocks_below}
 use Rattle.nvme_spec.specs.Layout.{Extent, extent_of, bytes_of, IsLaidOut, may_read, may_write}

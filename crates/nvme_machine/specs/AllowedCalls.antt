@@ -8,7 +8,7 @@ use Rattle.nvme_spec.specs.declared.outcome.Outcome.{Outcome}
 use Rattle.nvme_spec.specs.declared.verdict.Plan.{Plan}
 use Rattle.nvme_spec.specs.declared.verdict.Verdict.TheVariants.{Allowed}
 use Rattle.nvme_spec.specs.Blocks.{block_at}
-use Rattle.nvme_spec.specs.CommandCalls.{answer_of}
+use Rattle.nvme_spec.specs.BlockCommands.{answer_of}
 use Rattle.nvme_spec.specs.Commands.{altering, readers, block_count, starting_lba}
 use Rattle.nvme_spec.specs.IoData.{data_of, io_verdict}
 use Rattle.nvme_spec.specs.Layout.{Extent, AreApart, extent_of, may_read, may_write}

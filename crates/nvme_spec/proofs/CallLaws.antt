@@ -15,13 +15,14 @@ use Rattle.nvme_spec.specs.declared.verdict.Verdict.{Verdict}
 use Rattle.nvme_spec.specs.declared.verdict.Verdict.TheVariants.{Allowed, Denied}
 use Rattle.nvme_spec.specs.Blocks.{Device, block_at, blocks_from}
 use Rattle.nvme_spec.specs.CallLaws.{ExecutionsHaveCalls, PassingCallsAreUnique, PassingCallsExist, DeniedIsNoSuccess, FlushedIsOneFlush}
-use Rattle.nvme_spec.specs.CommandCalls.{AreCallsBy, AreCallsOf, AreCallsOfEntry, ComparesUpTo, answer_of}
+use Rattle.nvme_spec.specs.CommandCalls.{AreCallsBy, AreCallsOf, AreCallsOfEntry}
+use Rattle.nvme_spec.specs.BlockCommands.{ComparesUpTo, answer_of, compared, reads_of, blocks_compared, passing_calls}
 use Rattle.nvme_spec.specs.Commands.{opcode_of, command_of, data_length, data_length_of, block_count}
 use Rattle.nvme_spec.specs.DataRules.{data_addresses}
 use Rattle.nvme_spec.specs.Effects.{ReadEffect, WriteEffect, CompareEffect, FlushEffect}
 use Rattle.nvme_spec.specs.Execution.{Scene, ExecutesBy, Performs, medium_block}
-use Rattle.nvme_spec.specs.FaultFree.{performance_of, performed, compared, fault_free_by, fault_free_execution}
-use Rattle.nvme_spec.specs.FaultFreeCalls.{content_step, reads_of, blocks_compared, passing_calls, calls_by, command_calls}
+use Rattle.nvme_spec.specs.FaultFree.{performance_of, performed, fault_free_by, fault_free_execution}
+use Rattle.nvme_spec.specs.FaultFreeCalls.{content_step, calls_by, command_calls}
 use Rattle.nvme_spec.specs.IoData.{data_of, io_verdict}
 use Rattle.nvme_spec.specs.Layout.{IsLaidOut}
 use Rattle.nvme_spec.specs.MediumCalls.{MediumAnswer, MediumCall, Flushes, Calls, EndsAt, course, passing, reads_from, writes_from}

@@ -23,7 +23,8 @@ use Rattle.nvme_spec.specs.IoData.{data_of, io_verdict}
 use Rattle.nvme_spec.specs.Effects.{Completes, Faults, ReadEffect, WriteEffect, CompareEffect, FlushEffect}
 use Rattle.nvme_spec.specs.Execution.{Scene, ExecutesBy, IsPerformed, Performs, medium_block, start_of}
 use Rattle.nvme_spec.specs.Layout.{IsLaidOut, extent_of}
-use Rattle.nvme_spec.specs.FaultFree.{Performance, performance_as, performance_of, performed, compared, fault_free_by, fault_free_execution}
+use Rattle.nvme_spec.specs.FaultFree.{Performance, performance_as, performance_of, performed, fault_free_by, fault_free_execution}
+use Rattle.nvme_spec.specs.BlockCommands.{compared}
 use Rattle.nvme_spec.specs.ExecutionLaws.{FailuresNeverFall, FaultFreeExecutes, ExecutesAlone}
 use Rattle.nvme_spec.specs.Statuses as status
 use Rattle.nvme_spec.proofs.Passing.{HasPassed, has-passed, not_false, some_of}

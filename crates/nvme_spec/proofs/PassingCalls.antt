@@ -9,7 +9,8 @@ use Rattle.std.proofs.lemmas.Slice.Eq.{bytes_eq-Decides}
 use Rattle.nvme_spec.specs.Blocks.{block_at, blocks_from}
 use Rattle.nvme_spec.specs.Bytes.{with_bytes}
 use Rattle.nvme_spec.specs.MediumCalls.{MediumAnswer, MediumCall, Reads, Writes, Flushes, Calls, passing, course, reads_from, writes_from}
-use Rattle.nvme_spec.specs.FaultFreeCalls.{content_step, reads_of, are_same, blocks_compared}
+use Rattle.nvme_spec.specs.FaultFreeCalls.{content_step}
+use Rattle.nvme_spec.specs.BlockCommands.{reads_of, are_same, blocks_compared}
 use Rattle.nvme_spec.proofs.MediumCalls.{calls-joined}
 use Rattle.nvme_spec.proofs.Splices.{with_bytes-next, blocks_from-more}
 

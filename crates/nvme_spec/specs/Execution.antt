@@ -1,11 +1,11 @@
 -- The execution of one I/O command: whether it is allowed, what it does then, and what it is answered (NVM Command Set
 -- Specification: I/O commands; Base Specification: Reservations).
-use Rattle.std.specs.Prelude.{◌≡◌, ◌==◌, ℕ, ◌+◌, ◌*◌, Bool, ◌&&◌, if◌then◌else◌, List, [], ◌∷◌, length, take, replicate, Option, None, Some, Ok, Err, IsTrue}
+use Rattle.std.specs.Prelude.{◌≡◌, ◌==◌, ℕ, ◌+◌, Bool, ◌&&◌, if◌then◌else◌, List, [], ◌∷◌, length, take, Option, None, Some, Ok, Err, IsTrue}
 use Rattle.std.specs.List.{list_any, AllByRecursion}
 use Rattle.nvme_wire.specs.Submission.{nsid}
 use Rattle.nvme_wire.specs.declared.status.Status.{Status}
 use Rattle.nvme_spec.specs.declared.command.Command.{Command}
-use Rattle.nvme_spec.specs.declared.command.Command.TheVariants.{Flush, Write, Read, Compare, WriteZeroes, ReservationReport, ReservationAcquire}
+use Rattle.nvme_spec.specs.declared.command.Command.TheVariants.{ReservationReport, ReservationAcquire}
 use Rattle.nvme_spec.specs.declared.command.CommandKind.{CommandKind}
 use Rattle.nvme_spec.specs.declared.command.CommandKind.TheVariants.{OnBlocks, OnReservation, OnReport}
 use Rattle.nvme_spec.specs.declared.outcome.Marks.{Marks}
@@ -18,7 +18,7 @@ use Rattle.nvme_spec.specs.Report.{ControllerHost, report_data}
 use Rattle.nvme_spec.specs.World.{World, Namespace, namespace_of, with_reservation}
 use Rattle.nvme_spec.specs.Commands.{starting_lba, block_count, data_length, kind_of, is_one_of, action}
 use Rattle.nvme_spec.specs.Transfers.{with_scattered}
-use Rattle.nvme_spec.specs.Effects.{ReadEffect, WriteEffect, CompareEffect, FlushEffect}
+use Rattle.nvme_spec.specs.BlockCommands.{BlockEffect}
 use Rattle.nvme_spec.specs.DataRules.{data_addresses}
 use Rattle.nvme_spec.specs.IoData.{data_of, reservation_outcome, io_verdict}
 use Rattle.nvme_spec.specs.Statuses as status
@@ -41,20 +41,6 @@ start_of (Some n) = n.first
 -- the block of the medium that a command begins at
 abbrev pub medium_block : World → List ℕ → ℕ
 medium_block w e = start_of (namespace_of w (nsid e)) + starting_lba e
-
--- What a command on so many blocks, from `first` on, does to the medium, by the data that its host has sent; and the
--- data that return to the host.
-abbrev pub BlockEffect : Bool → Command → ℕ → ℕ → List ℕ → Device → Device → Status → List ℕ → Type 0
-BlockEffect tells Flush first blocks sent old new answer returned = FlushEffect tells old new answer × (returned ≡ [])
-BlockEffect tells Write first blocks sent old new answer returned =
-    WriteEffect tells first sent old new answer × (returned ≡ [])
-BlockEffect tells Read first blocks sent old new answer returned =
-    ReadEffect tells first (512 * blocks) old new answer returned
-BlockEffect tells Compare first blocks sent old new answer returned =
-    CompareEffect tells first sent old new answer × (returned ≡ [])
-BlockEffect tells WriteZeroes first blocks sent old new answer returned =
-    WriteEffect tells first (replicate (512 * blocks) 0) old new answer × (returned ≡ [])
-BlockEffect tells command first blocks sent old new answer returned = ⊥
 
 -- the world, where the reservation of a namespace has become so
 abbrev pub world_after : World → ℕ → Option resv.ActionOutcome → World

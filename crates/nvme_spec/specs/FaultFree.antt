@@ -1,18 +1,16 @@
 -- The execution of one I/O command over a medium none of whose calls fails, as a function: what is left, and what is
 -- answered (NVM Command Set Specification: I/O commands; Base Specification: Reservations).
-use Rattle.std.specs.Prelude.{ℕ, ◌*◌, Bool, if◌then◌else◌, List, [], length, take, replicate}
-use Rattle.std.specs.Str.{bytes_eq}
+use Rattle.std.specs.Prelude.{ℕ, Bool, List, [], length, take}
 use Rattle.nvme_wire.specs.Submission.{nsid}
 use Rattle.nvme_wire.specs.declared.status.Status.{Status}
 use Rattle.nvme_spec.specs.declared.command.Command.{Command}
-use Rattle.nvme_spec.specs.declared.command.Command.TheVariants.{Write, Read, Compare, WriteZeroes, ReservationReport}
+use Rattle.nvme_spec.specs.declared.command.Command.TheVariants.{ReservationReport}
 use Rattle.nvme_spec.specs.declared.command.CommandKind.{CommandKind}
 use Rattle.nvme_spec.specs.declared.command.CommandKind.TheVariants.{OnBlocks, OnReservation, OnReport}
 use Rattle.nvme_spec.specs.declared.outcome.Outcome.{Outcome}
 use Rattle.nvme_spec.specs.declared.verdict.Verdict.{Verdict}
 use Rattle.nvme_spec.specs.declared.verdict.Verdict.TheVariants.{Allowed, Denied}
-use Rattle.nvme_spec.specs.Bytes.{with_bytes}
-use Rattle.nvme_spec.specs.Blocks.{blocks_from}
+use Rattle.nvme_spec.specs.BlockCommands.{content_after, status_after, data_read}
 use Rattle.nvme_spec.specs.World.{World, namespace_of}
 use Rattle.nvme_spec.specs.Commands.{block_count, data_length, kind_of}
 use Rattle.nvme_spec.specs.Transfers.{with_scattered}
@@ -27,24 +25,6 @@ pub record Performance : Type 0 where
   pub returned : List ℕ
   pub world : World
   pub content : List ℕ
-
--- a command on so many blocks, from `first` on, by the data that its host has sent
-abbrev pub content_after : Command → ℕ → ℕ → List ℕ → List ℕ → List ℕ
-content_after Write first blocks sent content = with_bytes content (512 * first) sent
-content_after WriteZeroes first blocks sent content = with_bytes content (512 * first) (replicate (512 * blocks) 0)
-content_after command first blocks sent content = content
-
--- the status of a comparison
-abbrev pub compared : Bool → Status
-compared same = if same then status.successful_completion else status.compare_failure
-
-abbrev pub status_after : Command → ℕ → List ℕ → List ℕ → Status
-status_after Compare first sent content = compared (bytes_eq (blocks_from content first (length sent)) sent)
-status_after command first sent content = status.successful_completion
-
-abbrev pub data_read : Command → ℕ → ℕ → List ℕ → List ℕ
-data_read Read first blocks content = blocks_from content first (512 * blocks)
-data_read command first blocks content = []
 
 abbrev pub performance_as : CommandKind → Command → ℕ → List ℕ → List ℕ → Scene → Performance
 performance_as OnBlocks command cntlid e sent s = record {

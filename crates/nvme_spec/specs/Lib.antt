@@ -25,6 +25,7 @@ pub mod TransferLaws
 pub mod ExampleWindows
 pub mod DataRules
 pub mod IoData
+pub mod BlockCommands
 pub mod Execution
 pub mod CommandCalls
 pub mod Layout

@@ -6,10 +6,10 @@ ghost use Rattle.nvme_spec.specs.declared.medium.MediumFault.{MediumFault as Fau
 ghost use Rattle.nvme_spec.specs.MediumCalls.{Reads, Writes, Flushes};
 ghost use Rattle.nvme_spec.specs.AdminExamples.{cluster_world};
 ghost use Rattle.nvme_spec.specs.Blocks.{Device};
-ghost use Rattle.nvme_spec.specs.CommandCalls.{calls_of};
+ghost use Rattle.nvme_spec.specs.BlockCommands.{calls_of, passing_calls};
 ghost use Rattle.nvme_spec.specs.Entries.{transfer_entry};
 ghost use Rattle.nvme_spec.specs.Execution.{scene};
-ghost use Rattle.nvme_spec.specs.FaultFreeCalls.{passing_calls, calls_by};
+ghost use Rattle.nvme_spec.specs.FaultFreeCalls.{calls_by};
 ghost use Rattle.nvme_spec.specs.IoData.{io_verdict};
 
 /// Commands on two blocks from block 7 on, each of whose calls passes: a Write, Write Zeroes and a Flush.
