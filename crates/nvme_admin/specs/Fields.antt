@@ -1,5 +1,6 @@
 -- The fields of Identify Controller, in three parts.
 use Rattle.std.specs.Prelude.{ℕ, List, [], ◌∷◌, codes}
+use Rattle.nvme_spec.specs.Commands.{optional_commands}
 use Rattle.nvme_spec.specs.Identify.{Field, byte_field, word_field, dword_field, text_field}
 
 -- who made the controller
@@ -17,5 +18,5 @@ kind_fields cntlid =
 -- what its I/O commands are like
 abbrev pub command_fields : List Field
 command_fields =
-    byte_field 512 0x66 ∷ byte_field 513 0x44 ∷ dword_field 516 8 ∷ word_field 520 0x0029 ∷ byte_field 525 0x04
+    byte_field 512 0x66 ∷ byte_field 513 0x44 ∷ dword_field 516 8 ∷ word_field 520 optional_commands ∷ byte_field 525 0x04
     ∷ byte_field 531 3 ∷ []

@@ -13,6 +13,7 @@ use crate::structure::{put_text, put_u8, put_u16, put_u32, put_u64};
 use nvme_mem::Window;
 use nvme_ns::{Namespace, Spaces};
 use nvme_prp::{Pieces, scatter};
+use nvme_spec::OPTIONAL_COMMANDS;
 use nvme_wire::Sqe;
 
 /// How many bytes each structure has.
@@ -136,8 +137,8 @@ fn fill_commands(structure: &mut [u8])
     put_u8(structure, 513, 0x44);
     // NN: the highest namespace identifier.
     put_u32(structure, 516, HIGHEST_NSID);
-    // ONCS: Compare, Write Zeroes, reservations.
-    put_u16(structure, 520, 0x0029);
+    // ONCS.
+    put_u16(structure, 520, OPTIONAL_COMMANDS);
     // VWC: no volatile write cache; Flush does not take the broadcast identifier.
     put_u8(structure, 525, 0x04);
     // NWPC: namespaces can be write protected, also until a power cycle.

@@ -16,7 +16,6 @@ mod lane;
 pub mod laws;
 mod layout;
 mod length;
-mod opcode;
 mod page_list;
 mod payload;
 mod port;

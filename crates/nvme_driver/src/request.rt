@@ -5,8 +5,7 @@ ghost use Rattle.nvme_spec.specs.Limits.{most_bytes, block_size};
 ghost use Rattle.nvme_driver.specs.Requests.{asked_of, is_bad as bad, words_of};
 
 use crate::lane::Lane;
-use crate::opcode::{admin, io};
-use nvme_spec::MOST_BYTES;
+use nvme_spec::{AdminCommand, Command, MOST_BYTES};
 
 /// The feature Namespace Write Protection Config.
 const WRITE_PROTECTION: u32 = 0x84;
@@ -191,19 +190,20 @@ impl Request<'_> {
         ensures { result ≡ (asked_of self.now).command.opcode }
     {
         match self {
-            Request::Read { .. } => io::READ,
-            Request::Write { .. } => io::WRITE,
-            Request::Compare { .. } => io::COMPARE,
-            Request::WriteZeroes { .. } => io::WRITE_ZEROES,
-            Request::Flush { .. } => io::FLUSH,
-            Request::Register { .. } => io::RESERVATION_REGISTER,
-            Request::Acquire { .. } => io::RESERVATION_ACQUIRE,
-            Request::Release { .. } => io::RESERVATION_RELEASE,
-            Request::Report { .. } => io::RESERVATION_REPORT,
-            Request::Identify { .. } => admin::IDENTIFY,
-            Request::Protect { .. } => admin::SET_FEATURES,
-            Request::Protection { .. } => admin::GET_FEATURES,
-            Request::Attach { .. } | Request::Detach { .. } => admin::NAMESPACE_ATTACHMENT,
+            Request::Read { .. } => Command::Read.opcode(),
+            Request::Write { .. } => Command::Write.opcode(),
+            Request::Compare { .. } => Command::Compare.opcode(),
+            Request::WriteZeroes { .. } => Command::WriteZeroes.opcode(),
+            Request::Flush { .. } => Command::Flush.opcode(),
+            Request::Register { .. } => Command::ReservationRegister.opcode(),
+            Request::Acquire { .. } => Command::ReservationAcquire.opcode(),
+            Request::Release { .. } => Command::ReservationRelease.opcode(),
+            Request::Report { .. } => Command::ReservationReport.opcode(),
+            Request::Identify { .. } => AdminCommand::Identify.opcode(),
+            Request::Protect { .. } => AdminCommand::SetFeatures.opcode(),
+            Request::Protection { .. } => AdminCommand::GetFeatures.opcode(),
+            Request::Attach { .. } | Request::Detach { .. } =>
+                AdminCommand::NamespaceAttachment.opcode(),
         }
     }
 

@@ -24,6 +24,12 @@ pub fn command_of(opcode: u8) -> Option<Command>
     }
 }
 
+/// A reservation judges the command as one that reads.
+const READS: Option<Group> = Some(Group::Read);
+
+/// A reservation judges the command as one that writes.
+const WRITES: Option<Group> = Some(Group::Write);
+
 /// What the rules and the execution ask of a command.
 #[derive(Clone, Copy, Debug)]
 pub struct Traits {
@@ -35,6 +41,8 @@ pub struct Traits {
     pub alters: bool,
     /// Whether it names a range of blocks.
     pub is_ranged: bool,
+    /// Whether its blocks go between host and controller.
+    pub moves_blocks: bool,
 }
 
 /// What is asked of this command.
@@ -43,23 +51,22 @@ pub fn traits_of(command: Command) -> Traits
     ensures group { result.group ≡ spec.group_of command }
     ensures alters { result.alters ≡ spec.is_one_of (Some command) spec.altering }
     ensures ranged { result.is_ranged ≡ spec.is_one_of (Some command) spec.ranged }
+    ensures moves { result.moves_blocks ≡ spec.is_one_of (Some command) spec.moving }
 {
-    let (kind, group, alters, is_ranged) = match command {
-        Command::Read | Command::Compare => {
-            (CommandKind::OnBlocks, Some(Group::Read), false, true)
-        }
-        Command::Write | Command::WriteZeroes => {
-            (CommandKind::OnBlocks, Some(Group::Write), true, true)
-        }
-        Command::Flush => (CommandKind::OnBlocks, Some(Group::Write), false, false),
-        Command::ReservationReport => (CommandKind::OnReport, None, false, false),
+    let (kind, group, alters, is_ranged, moves_blocks) = match command {
+        Command::Read | Command::Compare => (CommandKind::OnBlocks, READS, false, true, true),
+        Command::Write => (CommandKind::OnBlocks, WRITES, true, true, true),
+        Command::WriteZeroes => (CommandKind::OnBlocks, WRITES, true, true, false),
+        Command::Flush => (CommandKind::OnBlocks, WRITES, false, false, false),
+        Command::ReservationReport => (CommandKind::OnReport, None, false, false, false),
         Command::ReservationRegister | Command::ReservationAcquire | Command::ReservationRelease =>
-            (CommandKind::OnReservation, None, false, false),
+            (CommandKind::OnReservation, None, false, false, false),
     };
     Traits {
         kind,
         group,
         alters,
         is_ranged,
+        moves_blocks,
     }
 }

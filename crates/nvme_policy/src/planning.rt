@@ -12,17 +12,18 @@ use nvme_wire::Sqe;
 pub fn plan(command: Command, sqe: &Sqe) -> Plan
     ensures { result ≡ plan_of command sqe.now }
 {
-    let (first, blocks) = if traits_of(command).is_ranged {
+    let traits = traits_of(command);
+    let (first, blocks) = if traits.is_ranged {
         (fields::starting_lba(sqe), fields::block_count(sqe))
     } else {
         (0, 0)
     };
     let bytes = match command {
-        Command::Flush | Command::WriteZeroes => 0,
-        Command::Read | Command::Write | Command::Compare => 512 * u64::from(blocks),
         Command::ReservationRegister | Command::ReservationAcquire => 16,
         Command::ReservationRelease => 8,
         Command::ReservationReport => fields::report_length(sqe),
+        _ if traits.moves_blocks => 512 * u64::from(blocks),
+        _ => 0,
     };
     Plan {
         kind: command,

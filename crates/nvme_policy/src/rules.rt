@@ -17,7 +17,7 @@ use nvme_wire::{Sqe, Status};
 /// The highest namespace identifier.
 const HIGHEST_NSID: u32 = 8;
 
-/// The most blocks of a Read, Write or Compare.
+/// The most blocks that go between host and controller by one command.
 const MAX_BLOCKS: u32 = 256;
 
 /// Denies by a rule that fails.
@@ -104,12 +104,6 @@ pub fn check_fields(command: Command, sqe: &Sqe) -> Result<(), Denial>
     ensures { result ≡ judgement_by (policy.field_rule (Some command) sqe.now) }
 {
     match command {
-        Command::Flush | Command::WriteZeroes => Ok(()),
-        Command::Read | Command::Write | Command::Compare => deny_if(
-            fields::block_count(sqe) > MAX_BLOCKS,
-            6,
-            Status::INVALID_FIELD_IN_COMMAND,
-        ),
         Command::ReservationRegister => deny_if(
             fields::action(sqe) > 2 || fields::cptpl(sqe) == 1,
             6,
@@ -137,6 +131,11 @@ pub fn check_fields(command: Command, sqe: &Sqe) -> Result<(), Denial>
                 Status::INVALID_FIELD_IN_COMMAND,
             )
         }
+        _ => deny_if(
+            traits_of(command).moves_blocks && fields::block_count(sqe) > MAX_BLOCKS,
+            6,
+            Status::INVALID_FIELD_IN_COMMAND,
+        ),
     }
 }
 

@@ -99,6 +99,10 @@ group_of command =
     if is_one_of (Some command) readers then Some Reading
     else (if is_one_of (Some command) writers then Some Writing else None)
 
+-- the commands whose blocks go between host and controller
+abbrev pub moving : List Command
+moving = Read ∷ Write ∷ Compare ∷ []
+
 -- the commands that change blocks
 abbrev pub altering : List Command
 altering = Write ∷ WriteZeroes ∷ []
@@ -126,3 +130,7 @@ plan_of command e = record {
   blocks = if is_one_of (Some command) ranged then block_count e else 0;
   bytes = data_length command e;
 }
+
+-- Optional NVM Command Support (ONCS): Compare is bit 0, Write Zeroes bit 3, the commands on reservations are bit 5
+abbrev pub optional_commands : ℕ
+optional_commands = 2 ^ 0 + 2 ^ 3 + 2 ^ 5

@@ -5,6 +5,7 @@ use Rattle.std.specs.Prelude.{ℕ, ◌-◌, nat_lt, Bool, ◌&&◌, if◌then◌
 use Rattle.std.specs.List.{range_with_len}
 use Rattle.std.specs.Int.{w16, w32, w64, to_le_bytes}
 use Rattle.nvme_spec.specs.Bytes.{with_bytes}
+use Rattle.nvme_spec.specs.Commands.{optional_commands}
 use Rattle.nvme_spec.specs.World.{World, Namespace, forbids_writing, namespace_of, is_attached}
 
 -- Bytes at an offset.
@@ -82,8 +83,8 @@ controller_fields cntlid =
     ∷ byte_field 513 0x44
     -- NN: the highest namespace identifier
     ∷ dword_field 516 8
-    -- ONCS: Compare, Write Zeroes, reservations
-    ∷ word_field 520 0x0029
+    -- ONCS
+    ∷ word_field 520 optional_commands
     -- VWC: no volatile write cache; Flush does not take the broadcast identifier
     ∷ byte_field 525 0x04
     -- NWPC: namespaces can be write protected, also until a power cycle

@@ -9,14 +9,14 @@ use Rattle.nvme_spec.specs.declared.access.Role.TheVariants.{Outsider}
 use Rattle.nvme_spec.specs.declared.access.Group.{Group}
 use Rattle.nvme_spec.specs.declared.access.Group.TheVariants.{Read as Reading, Write as Writing}
 use Rattle.nvme_spec.specs.declared.command.Command.{Command}
-use Rattle.nvme_spec.specs.declared.command.Command.TheVariants.{Write, Read, Compare, ReservationRegister, ReservationReport, ReservationAcquire, ReservationRelease}
+use Rattle.nvme_spec.specs.declared.command.Command.TheVariants.{ReservationRegister, ReservationReport, ReservationAcquire, ReservationRelease}
 use Rattle.nvme_spec.specs.declared.verdict.Plan.{Plan}
 use Rattle.nvme_spec.specs.declared.verdict.Verdict.{Verdict}
 use Rattle.nvme_spec.specs.declared.verdict.Verdict.TheVariants.{Allowed, Denied}
 use Rattle.nvme_spec.specs.Reservation.{role_of}
 use Rattle.nvme_spec.specs.Access.{is_permitted}
 use Rattle.nvme_spec.specs.World.{World, Namespace, forbids_writing, host_of, namespace_of, is_attached}
-use Rattle.nvme_spec.specs.Commands.{command_of, is_one_of, starting_lba, block_count, action, iekey, cptpl, rtype, eds, report_length, readers, writers, altering, ranged, plan_of}
+use Rattle.nvme_spec.specs.Commands.{command_of, is_one_of, starting_lba, block_count, action, iekey, cptpl, rtype, eds, report_length, readers, writers, moving, altering, ranged, plan_of}
 use Rattle.nvme_spec.specs.Rules.{Rule, Judgement, rule, test, first_failing}
 use Rattle.nvme_spec.specs.Limits.{highest_nsid, most_blocks, most_bytes}
 use Rattle.nvme_spec.specs.Statuses as status
@@ -51,8 +51,7 @@ unfoldable pub field_rule : Option Command → List ℕ → Rule
 field_rule command e = record {
   number = 6;
   tests =
-      test (is_one_of command (Read ∷ Write ∷ Compare ∷ [])
-      && nat_lt most_blocks (block_count e)) status.invalid_field_in_command
+      test (is_one_of command moving && nat_lt most_blocks (block_count e)) status.invalid_field_in_command
       ∷ test (is_one_of command (ReservationRegister ∷ []) && (nat_lt 2 (action e) || (cptpl e == 1)))
       status.invalid_field_in_command
       ∷ test (is_one_of command (ReservationAcquire ∷ [])

@@ -17,7 +17,7 @@ mod registers;
 mod verdict;
 
 pub use access::{Group, Hold, Protection, Registrant, Role};
-pub use command::{AdminCommand, Command, CommandKind};
+pub use command::{AdminCommand, Command, CommandKind, OPTIONAL_COMMANDS};
 pub use config::{Config, ConfigFault, ControllerConfig, NsConfig};
 pub use host::HostId;
 pub use limits::MOST_BYTES;

@@ -14,11 +14,11 @@ use crate::faults::UpFault;
 use crate::found::{is_success, new_in};
 use crate::lane::Lane;
 use crate::layout::{PAGE, SLOTS};
-use crate::opcode::admin;
 use crate::port::Port;
 use crate::register;
 use crate::state::State;
 use nvme_mem::Window;
+use nvme_spec::AdminCommand;
 use nvme_wire::{Cqe, Sqe, SqeFields, Status};
 
 /// How many turns the device has to answer one of the driver's own commands.
@@ -51,7 +51,12 @@ fn completion_queue() -> SqeFields
     ensures { result ≡ create_completion_queue }
 {
     let base = Lane::Io.completion_queue();
-    creating(admin::CREATE_COMPLETION_QUEUE, base, 0x001f_0001, 1)
+    creating(
+        AdminCommand::CreateCompletionQueue.opcode(),
+        base,
+        0x001f_0001,
+        1,
+    )
 }
 
 /// Creates the I/O submission queue, with identifier 1, of 8 entries, whose completions go to that completion queue.
@@ -60,7 +65,7 @@ fn submission_queue() -> SqeFields
 {
     let base = Lane::Io.submission_queue();
     creating(
-        admin::CREATE_SUBMISSION_QUEUE,
+        AdminCommand::CreateSubmissionQueue.opcode(),
         base,
         0x0007_0001,
         0x0001_0001,
