@@ -1,6 +1,6 @@
 -- The words that looking lines begin with, and how such lines are written.
-use Rattle.std.specs.Prelude.{ℕ, List, [], ◌∷◌, codes, Option}
-use Rattle.std.specs.List.{find}
+use Rattle.std.specs.Prelude.{ℕ, List, [], ◌∷◌, ◌++◌, codes, Option}
+use Rattle.std.specs.List.{find, flat_map}
 use Rattle.std.specs.Str.{bytes_eq}
 use Rattle.nvme_grammar.specs.Near.{is_near}
 use Rattle.live_text.specs.declared.looking_word.LookingWord.{LookingWord}
@@ -36,6 +36,10 @@ form_text word.Help = codes "?help [WORD]"
 abbrev pub looking_words : List LookingWord
 looking_words = word.Window ∷ word.Register ∷ word.Registers ∷ word.Queues ∷ word.Fetched ∷ word.Driver
     ∷ word.Namespaces ∷ word.Reservation ∷ word.Attached ∷ word.Blocks ∷ word.Help ∷ []
+
+-- their texts, each behind a space
+abbrev pub word_texts : List ℕ
+word_texts = flat_map (λ k. codes " " ++ word_text k) looking_words
 
 -- the one that a word is
 unfoldable pub looking_word_of : List ℕ → Option LookingWord

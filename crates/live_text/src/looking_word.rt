@@ -36,7 +36,18 @@ const LOOKING_WORDS: [LookingWord; 11] = [
     LookingWord::Help,
 ];
 
+/// Their texts in this order, each behind a space.
+const LOOKING_TEXTS: &str =
+    " ?window ?register ?registers ?queues ?fetched ?driver ?namespaces ?reservation ?attached ?blocks ?help";
+
 impl LookingWord {
+    /// All of them, each behind a space.
+    pub fn all_texts() -> &'static str
+        ensures { result.now ≡ spec.word_texts }
+    {
+        LOOKING_TEXTS
+    }
+
     /// The word as sessions have it.
     pub fn text(self) -> &'static str
         ensures { result.now ≡ spec.word_text self }

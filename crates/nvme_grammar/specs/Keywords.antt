@@ -48,6 +48,10 @@ keywords = Controller ∷ Namespace ∷ Attached ∷ Start ∷ Up ∷ Read ∷ W
     ∷ Acquire ∷ Release ∷ Report ∷ Identify ∷ Protect ∷ Protection ∷ Attach ∷ Detach ∷ Ring ∷ Fetch ∷ Execute ∷ Poll
     ∷ Reset ∷ Store ∷ Write32 ∷ PowerCycle ∷ []
 
+-- their texts, each behind a space
+abbrev pub keyword_texts : List ℕ
+keyword_texts = flat_map (λ k. codes " " ++ keyword_text k) keywords
+
 -- the keyword that a word is
 unfoldable pub keyword_of : List ℕ → Option Keyword
 keyword_of word = find (λ k. bytes_eq word (keyword_text k)) keywords

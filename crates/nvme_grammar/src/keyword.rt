@@ -1,7 +1,7 @@
 //! The words that lines begin with, and what stands behind each of them.
 
 ghost use Rattle.std.specs.Prelude.{◌≡◌, IfSome};
-ghost use Rattle.nvme_grammar.specs.Keywords.{keyword_text, keyword_of, places_of, behind_of, place_at, takes_words, sets_up, form_text, nearest_to};
+ghost use Rattle.nvme_grammar.specs.Keywords.{keyword_text, keyword_texts, keyword_of, places_of, behind_of, place_at, takes_words, sets_up, form_text, nearest_to};
 ghost use Rattle.nvme_grammar.specs.Near.{is_near};
 
 use super::near::is_near;
@@ -70,6 +70,11 @@ const KEYWORDS: [Keyword; 27] = [
     Keyword::PowerCycle,
 ];
 
+/// Their texts in this order, each behind a space.
+const KEYWORD_TEXTS: &str =
+    " controller namespace attached start up read write compare zeroes flush register acquire release report \
+identify protect protection attach detach ring fetch execute poll reset store write32 powercycle";
+
 /// The controller that a line names.
 const CNTLID: Place = Place::Number(Operand::Cntlid);
 
@@ -77,6 +82,13 @@ const CNTLID: Place = Place::Number(Operand::Cntlid);
 const NSID: Place = Place::Number(Operand::Nsid);
 
 impl Keyword {
+    /// All keywords, each behind a space: those of the lines before `start` first.
+    pub fn all_texts() -> &'static str
+        ensures { result.now ≡ keyword_texts }
+    {
+        KEYWORD_TEXTS
+    }
+
     /// The keyword as scripts have it.
     pub fn text(self) -> &'static str
         ensures { result.now ≡ keyword_text self }

@@ -25,11 +25,13 @@ use Rattle.nvme_driver.specs.declared.slots.Waiting.{Waiting}
 use Rattle.nvme_machine.specs.Controllers.{Controller, SubmissionQueue, CompletionQueue, submission_at, completion_at}
 use Rattle.nvme_machine.specs.declared.fetched.FetchedCommand.{FetchedCommand}
 use Rattle.nvme_machine.specs.Subsystems.{controller_at}
+use Rattle.nvme_grammar.specs.Keywords.{keyword_texts}
 use Rattle.nvme_transcript.specs.Transcript.{double_word_text}
 use Rattle.nvme_fleet.specs.FleetStates.{Layers}
 use Rattle.nvme_fleet.specs.Layers.{driver_at}
 use Rattle.live_text.specs.Faults.{refusal}
 use Rattle.live_text.specs.Forms.{form_text}
+use Rattle.live_text.specs.LookingWords.{word_texts}
 use Rattle.live_text.specs.declared.fault.Why.TheVariants as why
 use Rattle.live_text.specs.declared.looking.Looking.{Looking}
 use Rattle.live_text.specs.declared.looking.Looking.TheVariants as look
@@ -221,7 +223,7 @@ blocks_text n slba count bytes =
 
 -- the first words of all lines of a session
 abbrev pub help_text : List ℕ
-help_text = codes "help controller namespace attached start up read write compare zeroes flush register acquire release report identify protect protection attach detach ring fetch execute poll reset store write32 powercycle ?window ?register ?registers ?queues ?fetched ?driver ?namespaces ?reservation ?attached ?blocks ?help"
+help_text = codes "help" ++ keyword_texts ++ word_texts
 
 -- What is shown of a thing where it is there; else the n-th line is refused.
 abbrev pub of_controller : ℕ → Option Controller → (Controller → List ℕ) → List ℕ

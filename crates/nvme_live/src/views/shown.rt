@@ -12,18 +12,13 @@ use crate::views::controllers::{RegisterText, RegistersText, WindowText};
 use crate::views::drivers::DriverText;
 use crate::views::queues::QueuesText;
 use crate::views::spaces::{AttachedText, NamespacesText, ReservationText};
-use live_text::{Form, Looking, Refusal, Why};
+use live_text::{Form, Looking, LookingWord, Refusal, Why};
 use nvme_fleet::{Controller, Fleet};
+use nvme_grammar::Keyword;
 use nvme_medium::Medium;
 use nvme_ns::Spaces;
 use nvme_spec::MOST_BYTES;
 use std::fmt;
-
-/// The first words of all lines of a session.
-const ALL_LINES: &str =
-    "help controller namespace attached start up read write compare zeroes flush register \
-acquire release report identify protect protection attach detach ring fetch execute poll reset store write32 \
-powercycle ?window ?register ?registers ?queues ?fetched ?driver ?namespaces ?reservation ?attached ?blocks ?help";
 
 /// What a looking line shows.
 #[derive(Clone, Copy)]
@@ -51,7 +46,11 @@ impl fmt::Display for Shown<'_> {
     fn fmt<W: fmt::Write>(&self, f: &mut fmt::Formatter<W>) -> fmt::Result {
         match self {
             Shown::Nothing(refusal) => write!(f, "{refusal}"),
-            Shown::Help => write!(f, "{ALL_LINES}"),
+            Shown::Help => {
+                let keywords = Keyword::all_texts();
+                let looking_words = LookingWord::all_texts();
+                write!(f, "help{keywords}{looking_words}")
+            }
             Shown::HelpOn(form) => write!(f, "help {form}"),
             Shown::Window(text) => write!(f, "{text}"),
             Shown::Register(text) => write!(f, "{text}"),
