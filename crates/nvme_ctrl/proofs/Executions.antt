@@ -25,7 +25,7 @@ use Rattle.nvme_machine.specs.Controllers.{Controller, QueuePair, queues_of, ope
 use Rattle.nvme_machine.specs.CommandExecutions.{CommandExecution, CommandComesTo, CommandComesToAs, admin_command_execution}
 use Rattle.nvme_machine.specs.Subsystems.{after_completion}
 use Rattle.nvme_machine.specs.Executing.{Setting, FinishesOver, FinishesOne, ExecutesNth, scene_in, Finishes}
-use Rattle.nvme_machine.specs.Calling.{AreCallsAs, AreCallsOfAnswer, AreCallsOver, AreCallsOne, AreCallsNth}
+use Rattle.nvme_machine.specs.Calling.{AreCallsAs, AreCallsOfExecution, AreCallsOver, AreCallsOne, AreCallsNth}
 use Rattle.nvme_machine.proofs.AdminWorlds.{Becomes, HasSameReservations, admin-becomes, admin-keeps, all-still, same-controllers}
 use Rattle.nvme_ctrl.specs.Executions.{LiesInMemory}
 
@@ -91,8 +91,8 @@ finishes : (tells : Bool) (i : ℕ) (old new : Setting) (t : FetchedCommand) (p 
     → Finishes tells i t p old (Posted a.outcome) new
 unfolding after_completion
 finishes tells i old new t p a c d answers window posted queues world device = record {
-  answer = a;
-  answers = answers;
+  execution = a;
+  comes_to = answers;
   gives = refl;
   controller = queues ∙ ap (after_queue_change a.change) (posted ∙ ap (after_posting i t p a.outcome.status a.outcome.dw0) window);
   world = world;
@@ -116,7 +116,7 @@ pub calls-nth : {M : Type 0} (step : M → MediumCall → M → Type 0) (before 
     → CommandComesTo tells (queues_of old.controller) old.controller.cntlid t (scene_in old) a
     → c ≡ record old.controller { window = a.left.window } → d ≡ after_posting i t p a.outcome.status a.outcome.dw0 c → new.controller ≡ after_queue_change a.change d
     → new.world ≡ a.left.world → new.device ≡ a.left.device
-    → MakesCalls step (AreCallsOfAnswer old.controller.cntlid t (scene_in old) a) before after
+    → MakesCalls step (AreCallsOfExecution old.controller.cntlid t (scene_in old) a) before after
     → MakesCalls step (AreCallsNth tells i old (Posted a.outcome) new) before after
 unfolding finishes
 calls-nth step before after tells i old new t p a c d found pair answers window posted queues world device makes = record {
@@ -129,8 +129,8 @@ calls-nth step before after tells i old new t p a c d found pair answers window 
 
 -- a command of the admin queue makes none
 pub admin-calls : {M : Type 0} (step : M → MediumCall → M → Type 0) (m : M) (k : ℕ) (t : FetchedCommand) (s : Scene) (a : CommandExecution) → t.queue ≡ 0
-    → MakesCalls step (AreCallsOfAnswer k t s a) m m
-unfolding AreCallsOfAnswer
+    → MakesCalls step (AreCallsOfExecution k t s a) m m
+unfolding AreCallsOfExecution
 admin-calls step m k t s a admin = record {
   calls = [];
   are = subst (λ b. AreCallsAs b k t s a []) (sym (eq-eqb t.queue 0 admin)) refl;
@@ -140,8 +140,8 @@ admin-calls step m k t s a admin = record {
 -- an I/O command makes those of its answer
 pub io-calls : {M : Type 0} (step : M → MediumCall → M → Type 0) (before after : M) (k : ℕ) (t : FetchedCommand) (s : Scene) (o : Outcome) (left : Scene) → t.queue ≢ 0
     → MakesCalls step (AreCallsBy (io_verdict s.world k t.entry t.marked s.window) s.world s.window t.entry o.status left.window) before after
-    → MakesCalls step (AreCallsOfAnswer k t s (record { outcome = o; change = Keep; left = left })) before after
-unfolding AreCallsOfAnswer
+    → MakesCalls step (AreCallsOfExecution k t s (record { outcome = o; change = Keep; left = left })) before after
+unfolding AreCallsOfExecution
 io-calls step before after k t s o left io makes = record {
   calls = makes.calls;
   are = subst (λ b. AreCallsAs b k t s (record { outcome = o; change = Keep; left = left }) makes.calls) (sym (ne_eqb t.queue 0 io)) makes.are;

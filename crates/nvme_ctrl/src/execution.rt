@@ -9,7 +9,7 @@ ghost use Rattle.nvme_machine.specs.Controllers.{queues_of};
 ghost use Rattle.nvme_machine.specs.Bare.{executed_with, marks_by_executed};
 ghost use Rattle.nvme_machine.specs.CommandExecutions.{CommandComesTo};
 ghost use Rattle.nvme_machine.specs.Executing.{setting, ExecutesNth};
-ghost use Rattle.nvme_machine.specs.Calling.{AreCallsOfAnswer, AreCallsNth};
+ghost use Rattle.nvme_machine.specs.Calling.{AreCallsOfExecution, AreCallsNth};
 ghost use Rattle.nvme_ctrl.specs.Executions.{LiesInMemory, execution_of};
 
 use crate::controller::Controller;
@@ -118,7 +118,7 @@ impl Controller {
         ensures answers { CommandComesTo M.tells (queues_of self.old) self.old.cntlid command.now
             (scene spaces.old self.old.window (M.device medium.old))
             (execution_of result marks.new (scene spaces.new self.new.window (M.device medium.new))) }
-        ensures calls { MakesCalls M.step (AreCallsOfAnswer self.old.cntlid command.now
+        ensures calls { MakesCalls M.step (AreCallsOfExecution self.old.cntlid command.now
             (scene spaces.old self.old.window (M.device medium.old))
             (execution_of result marks.new (scene spaces.new self.new.window (M.device medium.new))))
             medium.old medium.new }

@@ -170,7 +170,7 @@ said-by tells d c i t x w device cntlid h g f q command named a m (Err e) n judg
         window = sym (stored-none c.window (data_area (cid t.entry)));
         few = omega arith;
         whole = rw r (omega arith);
-        answers = as-admin tells cntlid x (asked_by d c t) (record { world = w; device = device }) _ (Err e) command (lane-is d c i t x h g f q) (asked-is d c i t x g f q) judges (ap command_of same.opcode ∙ named)
+        comes_to = as-admin tells cntlid x (asked_by d c t) (record { world = w; device = device }) _ (Err e) command (lane-is d c i t x h g f q) (asked-is d c i t x g f q) judges (ap command_of same.opcode ∙ named)
             (denied-with d t (admin_command_execution (scene w c.window device) (execution_by (Err e) (Some command) w cntlid t.entry c.window)) w c.window device e.rule e.status r refl refl);
       },
     )
@@ -189,7 +189,7 @@ said-by tells d c i t x w device cntlid h g f q command named a m (Ok u) n judge
         window = stands-there d c t h (data_out w cntlid command t.entry) (data_length command t.entry) moved (omega (arith, size, less));
         few = omega (arith, size, less, most);
         whole = omega (arith, size, back);
-        answers = as-admin tells cntlid x (asked_by d c t) (record { world = w; device = device }) _ (Ok u) command (lane-is d c i t x h g f q) (asked-is d c i t x g f q) judges (ap command_of same.opcode ∙ named)
+        comes_to = as-admin tells cntlid x (asked_by d c t) (record { world = w; device = device }) _ (Ok u) command (lane-is d c i t x h g f q) (asked-is d c i t x g f q) judges (ap command_of same.opcode ∙ named)
             (served-with d c t w device cntlid h command a m size);
       },
     )

@@ -114,8 +114,8 @@ over-quiet : (o : Option QueuePair) (tells : Bool) (t : FetchedCommand) (old : S
 unfolding CommandComesTo after_completion after_posting
 over-quiet None tells t old x left is h f = left-alone old left x CqFull f.0 (λ w cs. refl) f.1 h
 over-quiet (Some p) tells t old x left is h f =
-    let a : CommandExecution = f.answer in
-    let admin = subst (λ b. CommandComesToAs b tells (queues_of old.controller) old.controller.cntlid t (scene_in old) a) is f.answers in
+    let a : CommandExecution = f.execution in
+    let admin = subst (λ b. CommandComesToAs b tells (queues_of old.controller) old.controller.cntlid t (scene_in old) a) is f.comes_to in
     let none : a.outcome.marks ≡ no_marks = ap (λ (y : CommandExecution). y.outcome.marks) admin in
     record {
       marks = λ w cs. ap (λ z. marks_after w z cs) f.gives ∙ ap (λ m. marked_from w m 1 cs) none ∙ unmarked w 1 cs;

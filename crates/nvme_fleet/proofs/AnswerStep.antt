@@ -90,7 +90,7 @@ answered-by tells d c i t x w device cntlid a s g f q (Denied number why) e n h 
   window = ap (λ z. z.window) h.0 ∙ sym (stored-none c.window (data_area (cid t.entry)));
   few = omega arith;
   whole = (let o = h.1 in let m = unsuccessful why n in rw (o, m) (omega arith));
-  answers = as-io tells cntlid x (record { world = w; device = device }) (request_execution_with d t a []) (Denied number why) (lane-is d c i t x s g f q) (verdict-is d c i t x w cntlid s g f q ∙ e)
+  comes_to = as-io tells cntlid x (record { world = w; device = device }) (request_execution_with d t a []) (Denied number why) (lane-is d c i t x s g f q) (verdict-is d c i t x w cntlid s g f q ∙ e)
       (denied-with d t a w c.window device number why (unsuccessful why n) h.0 h.1);
 }
 answered-by tells d c i t x w device cntlid a s g f q (Allowed plan) e n h =
@@ -100,7 +100,7 @@ answered-by tells d c i t x w device cntlid a s g f q (Allowed plan) e n h =
       window = r.window;
       few = r.few;
       whole = r.whole;
-      answers = as-io tells cntlid x (record { world = w; device = device }) (request_execution_with d t a r.bytes) (Allowed plan) (lane-is d c i t x s g f q) (verdict-is d c i t x w cntlid s g f q ∙ e) r.served;
+      comes_to = as-io tells cntlid x (record { world = w; device = device }) (request_execution_with d t a r.bytes) (Allowed plan) (lane-is d c i t x s g f q) (verdict-is d c i t x w cntlid s g f q ∙ e) r.served;
     }
 
 pub answers_its_request : AnswersItsRequest

@@ -63,7 +63,7 @@ unfolding RequestComesTo settled
 item-counts None tells old new k m i reply h = whole-counts old new h.1
 item-counts (Some x) tells old new k m i reply h =
     let e = ap failures_in h.leaves in
-    let less = execution-counts (lane_of x.item) tells k x.item.asked x.marked old.site h.execution h.answers in
+    let less = execution-counts (lane_of x.item) tells k x.item.asked x.marked old.site h.execution h.comes_to in
     omega (arith, e, less)
 
 over-counts : (o : Option QueuePair) (tells : Bool) (i : ℕ) (t : FetchedCommand) (old : Setting) (executed : Executed) (new : Setting)
@@ -72,7 +72,7 @@ unfolding CommandComesTo
 over-counts None tells i t old executed new h = let e = ap (λ (s : Setting). s.device.failures) h.1 in omega (arith, e)
 over-counts (Some p) tells i t old executed new h =
     let e = ap (λ d. d.failures) h.device in
-    let less = machine_proofs.answer-counts (t.queue == 0) tells (queues_of old.controller) old.controller.cntlid t (scene_in old) h.answer h.answers in
+    let less = machine_proofs.answer-counts (t.queue == 0) tells (queues_of old.controller) old.controller.cntlid t (scene_in old) h.execution h.comes_to in
     omega (arith, e, less)
 
 one-counts : (o : Option FetchedCommand) (tells : Bool) (i : ℕ) (old : Setting) (executed : Executed) (new : Setting)
@@ -178,7 +178,7 @@ unfolding RequestComesTo request_execution settled
 item-alone None old new k m i reply h same below = h
 item-alone (Some x) old new k m i reply h same below =
     let quiet : h.execution.left.device.failures ≡ old.site.device.failures = sym (ap failures_in h.leaves) ∙ same in
-    let so = execution-alone (lane_of x.item) k x.item.asked x.marked old.site h.execution h.answers quiet below in
+    let so = execution-alone (lane_of x.item) k x.item.asked x.marked old.site h.execution h.comes_to quiet below in
     (h.gives ∙ ap (λ (r : RequestExecution). plain (ExecutedSeen (Posted r.outcome))) so, h.leaves ∙ ap (λ r. after_execution old k m i x r) so)
 
 -- what a raw host's controller gave and left is what the function says
@@ -190,8 +190,8 @@ over-alone : (o : Option QueuePair) (i : ℕ) (t : FetchedCommand) (old : Settin
     → IsRaw executed new (raw_over o i t old)
 over-alone None i t old executed new h same below = h
 over-alone (Some p) i t old executed new h same below =
-    let quiet : h.answer.left.device.failures ≡ old.device.failures = sym (ap (λ d. d.failures) h.device) ∙ same in
-    let so = machine_proofs.answer-alone (queues_of old.controller) old.controller.cntlid t (scene_in old) h.answer h.answers quiet below in
+    let quiet : h.execution.left.device.failures ≡ old.device.failures = sym (ap (λ d. d.failures) h.device) ∙ same in
+    let so = machine_proofs.answer-alone (queues_of old.controller) old.controller.cntlid t (scene_in old) h.execution h.comes_to quiet below in
     let c = h.controller ∙ ap (λ a. after_completion i t p a old.controller) so in
     let w = h.world ∙ ap (λ (a : CommandExecution). a.left.world) so in
     let d = h.device ∙ ap (λ (a : CommandExecution). a.left.device) so in

@@ -101,17 +101,17 @@ pub record IsPostable (tells : Bool) (d : Driver) (t : FetchedCommand) (p : Queu
 
 pub finished : (tells : Bool) (d : Driver) (i : ℕ) (t : FetchedCommand) (p : QueuePair) (old : Setting) (executed : Executed) (new : Setting) → Sound d old.controller
     → slice_get old.controller.fetched i ≡ Some t → open_pair old.controller t ≡ Some p → (h : Finishes tells i t p old executed new)
-    → IsPostable tells d t p old (item_at d old.controller t) h.answer → IsExecuted tells d i old executed new
+    → IsPostable tells d t p old (item_at d old.controller t) h.execution → IsExecuted tells d i old executed new
 finished tells d i t p old executed new s g e h x =
     let f = found-at d old.controller i t g in
     let y = x.slot in
-    let r = posting_is_a_step d old.controller i t p h.answer s g e (record { bytes = y.bytes; queues = x.keeps; window = y.window; few = y.few; whole = y.whole; fits = x.fits_so }) in
+    let r = posting_is_a_step d old.controller i t p h.execution s g e (record { bytes = y.bytes; queues = x.keeps; window = y.window; few = y.few; whole = y.whole; fits = x.fits_so }) in
     let same : item_at d old.controller t ≡ r.item = some-is (item_at d old.controller t) r.item (sym f ∙ r.found) in
     record {
       item = r.item;
-      execution = request_execution_with d t h.answer y.bytes;
+      execution = request_execution_with d t h.execution y.bytes;
       found = r.found;
-      answers = subst (λ (z : FetchedItem). RequestComesTo tells old.controller.cntlid z (record { world = old.world; device = old.device }) (request_execution_with d t h.answer y.bytes)) same y.answers;
+      comes_to = subst (λ (z : FetchedItem). RequestComesTo tells old.controller.cntlid z (record { world = old.world; device = old.device }) (request_execution_with d t h.execution y.bytes)) same y.comes_to;
       gives = h.gives;
       sound = subst (Sound d) (sym h.controller) r.sound;
       mail = ap (mailbox d) h.controller ∙ r.mail;
@@ -147,7 +147,7 @@ pub io_execution_is_a_step : IoExecutionIsAStep
 io_execution_is_a_step tells d i t old executed new s g q h =
     let f = finishes tells d i t old executed new s g h in
     let y = f.2 in
-    finished tells d i t f.0 old executed new s g f.1 y (io-postable tells d i t f.0 old y.answer s g q f.1 y.answers)
+    finished tells d i t f.0 old executed new s g f.1 y (io-postable tells d i t f.0 old y.execution s g q f.1 y.comes_to)
 
 -- Of the admin lane.
 
@@ -172,7 +172,7 @@ pub admin_execution_is_a_step : AdminExecutionIsAStep
 admin_execution_is_a_step tells d i t old executed new s g q h =
     let f = finishes tells d i t old executed new s g h in
     let y = f.2 in
-    finished tells d i t f.0 old executed new s g f.1 y (admin-postable tells d i t f.0 old y.answer s g q f.1 y.answers)
+    finished tells d i t f.0 old executed new s g f.1 y (admin-postable tells d i t f.0 old y.execution s g q f.1 y.comes_to)
 
 -- Of either lane.
 

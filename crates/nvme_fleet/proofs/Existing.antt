@@ -106,7 +106,7 @@ served-lies command k a s laid p =
 
 -- an execution that is there, and what it leaves
 record Responds (lane : Lane) (k : ℕ) (a : Asked) (marked : Bool) (s : Site) (r : RequestExecution) : Type 0 where
-  answers : RequestComesToAs lane true k a marked s r
+  comes_to : RequestComesToAs lane true k a marked s r
   lies : StillLies s r.left
   calm : r.left.device.failures ≡ s.device.failures
 
@@ -131,10 +131,10 @@ admin-lies s k a = admin-by-lies (admin_judgement s.world k a) (admin_commands.c
 
 responds : (lane : Lane) (k : ℕ) (a : Asked) (marked : Bool) (s : Site) → IsLaidOut s.world s.device.content
     → Responds lane k a marked s (request_execution_as lane k a marked s)
-responds Admin k a marked s laid = record { answers = refl; lies = admin-lies s k a; calm = admin-calm s k a }
+responds Admin k a marked s laid = record { comes_to = refl; lies = admin-lies s k a; calm = admin-calm s k a }
 responds Io k a marked s laid =
     let r = io-responds (io_verdict s.world k a marked) k a marked s laid refl in
-    record { answers = r.0; lies = r.1; calm = r.2 }
+    record { comes_to = r.0; lies = r.1; calm = r.2 }
 
 -- what a step is to be: there, and with this left
 record Steps (f : Fleet) (event : FleetEvent) : Type 0 where
@@ -155,7 +155,7 @@ unfolding RequestComesTo request_execution settled
 item-executes None f k m i laid = ((refl, refl), lies-same f.site f.site refl, refl)
 item-executes (Some x) f k m i laid =
     let r = responds (lane_of x.item) k x.item.asked x.marked f.site laid in
-    (record { execution = request_execution_as (lane_of x.item) k x.item.asked x.marked f.site; answers = r.answers; gives = refl; leaves = refl }, r.lies, r.calm)
+    (record { execution = request_execution_as (lane_of x.item) k x.item.asked x.marked f.site; comes_to = r.comes_to; gives = refl; leaves = refl }, r.lies, r.calm)
 
 raw-over : (o : Option QueuePair) (i : ℕ) (t : FetchedCommand) (s : Setting) → IsLaidOut s.world s.device.content
     → FinishesOver o true i t s (raw_over o i t s).executed (raw_over o i t s).left
@@ -168,7 +168,7 @@ raw-over (Some p) i t s laid =
     let is = machine_proofs.answers (queues_of s.controller) s.controller.cntlid t (scene_in s) laid in
     let e = answer-extents (t.queue == 0) true (queues_of s.controller) s.controller.cntlid t (scene_in s) a is in
     let z = answer-size (t.queue == 0) (queues_of s.controller) s.controller.cntlid t (scene_in s) a laid is in (
-      record { answer = a; answers = is; gives = refl; controller = refl; world = refl; device = refl },
+      record { execution = a; comes_to = is; gives = refl; controller = refl; world = refl; device = refl },
       record { extents = e.extents; size = omega (arith, z) },
       machine_proofs.calm-answer (queues_of s.controller) s.controller.cntlid t (scene_in s),
     )

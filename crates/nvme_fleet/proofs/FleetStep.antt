@@ -21,7 +21,7 @@ completes : (tells : Bool) (f : Fleet) (k : ℕ) (d : Driver) (c : Controller) (
     → Completes tells f k (mailbox d c) i r.item (plain (ExecutedSeen executed)) (after f k d executed left)
 completes tells f k d c i executed left e r = record {
   execution = r.execution;
-  answers = subst (λ n. RequestComesTo tells n r.item f.site r.execution) e r.answers;
+  comes_to = subst (λ n. RequestComesTo tells n r.item f.site r.execution) e r.comes_to;
   gives = ap (λ x. plain (ExecutedSeen x)) r.gives;
   leaves = λ j. settled f k (record { world = r.world j; device = r.device j }) (WithDriver (r.mail j)) (marks_in (r.gives j));
 }

@@ -102,7 +102,7 @@ item-does : (o : Option FetchedItem) (tells : Bool) (old new : Fleet) (k : ℕ) 
 unfolding RequestComesTo settled
 item-does None tells old new k m i x outcome h found = absurd (none-some _ found)
 item-does (Some y) tells old new k m i x outcome h found =
-    lane-does (lane_of y.item) tells old new k y h.execution x outcome h.answers found (same-outcome outcome h.execution.outcome h.gives) (ap (λ (f : Fleet). f.site) h.leaves)
+    lane-does (lane_of y.item) tells old new k y h.execution x outcome h.comes_to found (same-outcome outcome h.execution.outcome h.gives) (ap (λ (f : Fleet). f.site) h.leaves)
 
 pub is-io : (admin : Bool) (x y : IoCommand) → (if admin then None else Some y) ≡ Some x → (admin ≡ false) × (y ≡ x)
 is-io true x y h = absurd (none-some _ h)
@@ -114,8 +114,8 @@ unfolding site_left
 over-does None tells old new c i t executed left x outcome h posted leaves found = let e = sym h.0 ∙ posted in absurd (cc)
 over-does (Some p) tells old new c i t executed left x outcome h posted leaves found =
     let io = is-io (t.queue == 0) x (raw_command old.site.world c t) found in
-    let a : CommandExecution = h.answer in
-    let answer = io-answer tells (queues_of c) c.cntlid t (scene_in (setting_of old c)) a io.0 h.answers in
+    let a : CommandExecution = h.execution in
+    let answer = io-answer tells (queues_of c) c.cntlid t (scene_in (setting_of old c)) a io.0 h.comes_to in
     let e : Posted a.outcome ≡ Posted outcome = sym h.gives ∙ posted in
     let same : a.outcome ≡ outcome = cc in
     let w = h.world in

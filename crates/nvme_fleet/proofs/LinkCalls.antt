@@ -22,7 +22,7 @@ use Rattle.nvme_driver.proofs.Mapped.{IsMapped, rises-mapped}
 use Rattle.nvme_machine.specs.declared.event.Event.TheVariants.{Fetch, Execute}
 use Rattle.nvme_machine.specs.declared.fetched.FetchedCommand.{FetchedCommand}
 use Rattle.nvme_machine.specs.declared.seen.Seen.{Seen}
-use Rattle.nvme_machine.specs.Calling.{AreCallsAs, AreCallsOfAnswer}
+use Rattle.nvme_machine.specs.Calling.{AreCallsAs, AreCallsOfExecution}
 use Rattle.nvme_machine.specs.Controllers.{Controller, QueuePair, after_fetch, open_pair}
 use Rattle.nvme_machine.specs.EventCalls.{AreCallsOfRun, CallingAt, CallingOne, CallingOver}
 use Rattle.nvme_machine.specs.Subsystems.{Subsystem, controller_at, scene_of}
@@ -45,9 +45,9 @@ use Rattle.nvme_fleet.proofs.StartStep.{IsPlain}
 
 none-over : (o : Option QueuePair) (tells : Bool) (old : Subsystem) (k : ℕ) (c : Controller) (t : FetchedCommand) (seen : Seen) (new : Subsystem) (calls : List MediumCall) → IsAdmin t
     → CallingOver o tells old k c 0 t seen new calls → calls ≡ []
-unfolding AreCallsOfAnswer
+unfolding AreCallsOfExecution
 none-over None tells old k c t seen new calls is h = h.2
-none-over (Some p) tells old k c t seen new calls is h = subst (λ b. AreCallsAs b k t (scene_of old c) h.completes.answer calls) is h.are
+none-over (Some p) tells old k c t seen new calls is h = subst (λ b. AreCallsAs b k t (scene_of old c) h.completes.execution calls) is h.are
 
 none-one : (o : Option FetchedCommand) (tells : Bool) (old : Subsystem) (k : ℕ) (c : Controller) (seen : Seen) (new : Subsystem) (calls : List MediumCall) → ((t : FetchedCommand) → o ≡ Some t → IsAdmin t)
     → CallingOne o tells old k c 0 seen new calls → calls ≡ []

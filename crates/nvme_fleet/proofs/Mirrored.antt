@@ -240,10 +240,10 @@ record IsExecutedOver (o : Option Controller) (p q : Subsystem) (k : ℕ) (x : S
 completes-over : (p q : Subsystem) (k : ℕ) (c : Controller) (t : FetchedCommand) (pair : QueuePair) (x : Seen) (m : Device) → IsAdmin t → Completes true p k c 0 t pair x q → Completes true (over m p) k c 0 t pair x (over m q)
 unfolding after_execution after_completion
 completes-over p q k c t pair x m is h = record {
-  answer = command_execution_over m h.answer;
-  answers = answer-over (queues_of c) k t (scene_of p c) h.answer m is h.answers;
+  execution = command_execution_over m h.execution;
+  comes_to = answer-over (queues_of c) k t (scene_of p c) h.execution m is h.comes_to;
   gives = h.gives;
-  leaves = ap (over m) h.leaves ∙ same h.answer;
+  leaves = ap (over m) h.leaves ∙ same h.execution;
 }
   where
     same : (a : CommandExecution) → over m (after_execution p k c 0 t pair a) ≡ after_execution (over m p) k c 0 t pair (command_execution_over m a)
@@ -252,8 +252,8 @@ completes-over p q k c t pair x m is h = record {
 completes-admin : (p q : Subsystem) (k : ℕ) (c : Controller) (t : FetchedCommand) (pair : QueuePair) (x : Seen) → IsAdmin t → AreAdmin c → controller_at p k ≡ Some c → Completes true p k c 0 t pair x q → At AreAdmin k q
 unfolding after_execution controller_at
 completes-admin p q k c t pair x is all at h d there =
-    let a : CommandExecution = h.answer in
-    let none = answer-quiet (queues_of c) k t (scene_of p c) a is h.answers in
+    let a : CommandExecution = h.execution in
+    let none = answer-quiet (queues_of c) k t (scene_of p c) a is h.comes_to in
     let cs : q.controllers ≡ replaced p.controllers k (after_completion 0 t pair a c) =
     ap (λ (s : Subsystem). s.controllers) h.leaves ∙ ap (λ w. marked_from a.left.world w 1 (replaced p.controllers k (after_completion 0 t pair a c))) none
     ∙ unmarked a.left.world 1 (replaced p.controllers k (after_completion 0 t pair a c)) in

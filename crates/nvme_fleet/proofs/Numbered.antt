@@ -94,7 +94,7 @@ answer-id i t p a c = change-id a.change (after_posting i t p a.outcome.status a
 over-id : (o : Option QueuePair) (tells : Bool) (i : ℕ) (t : FetchedCommand) (old : Setting) (executed : Executed) (new : Setting) → FinishesOver o tells i t old executed new
     → new.controller.cntlid ≡ old.controller.cntlid
 over-id None tells i t old executed new h = ap (λ (s : Setting). s.controller.cntlid) h.1
-over-id (Some p) tells i t old executed new h = ap (λ (c : Controller). c.cntlid) h.controller ∙ answer-id i t p h.answer old.controller
+over-id (Some p) tells i t old executed new h = ap (λ (c : Controller). c.cntlid) h.controller ∙ answer-id i t p h.execution old.controller
 
 pub one-id : (o : Option FetchedCommand) (tells : Bool) (i : ℕ) (old : Setting) (executed : Executed) (new : Setting) → FinishesOne o tells i old executed new
     → new.controller.cntlid ≡ old.controller.cntlid

@@ -122,9 +122,9 @@ unfolding RequestComesTo settled after_answer
 item-over None n old new k m i reply d laid differ fenced held h = (d, (h.0, ap (over d) h.1), whole n old new d differ h.1)
 item-over (Some y) n old new k m i reply d laid differ fenced held h =
     let r : RequestExecution = h.execution in
-    let a = lane-over (lane_of y.item) n k y.item.asked y.marked old.site r d laid differ fenced (taken-brings y.item (held y refl)) h.answers in (
+    let a = lane-over (lane_of y.item) n k y.item.asked y.marked old.site r d laid differ fenced (taken-brings y.item (held y refl)) h.comes_to in (
       a.0,
-      record { execution = request_execution_over a.0 r; answers = a.1; gives = h.gives; leaves = ap (over a.0) h.leaves ∙ same a.0 r },
+      record { execution = request_execution_over a.0 r; comes_to = a.1; gives = h.gives; leaves = ap (over a.0) h.leaves ∙ same a.0 r },
       subst (λ (f : Fleet). DifferIn n old.site.world f.site.device a.0) (sym h.leaves) a.2,
     )
   where
@@ -140,10 +140,10 @@ pair-over : (o : Option QueuePair) (n i : ℕ) (t : FetchedCommand) (old new : S
 unfolding after_completion
 pair-over None n i t old new executed d laid differ fenced h = (d, (h.0, ap (setting_over d) h.1), same-device n old.world old.device new.device d differ (ap (λ (s : Setting). s.device) h.1))
 pair-over (Some p) n i t old new executed d laid differ fenced h =
-    let a : CommandExecution = h.answer in
-    let m = answers-over n (queues_of old.controller) old.controller.cntlid t (scene_in old) a d laid differ fenced h.answers in (
+    let a : CommandExecution = h.execution in
+    let m = answers-over n (queues_of old.controller) old.controller.cntlid t (scene_in old) a d laid differ fenced h.comes_to in (
       m.0,
-      record { answer = command_execution_over m.0 a; answers = m.1; gives = h.gives; controller = h.controller; world = h.world; device = refl },
+      record { execution = command_execution_over m.0 a; comes_to = m.1; gives = h.gives; controller = h.controller; world = h.world; device = refl },
       same-device n old.world a.left.device new.device m.0 m.2 h.device,
     )
 

@@ -34,7 +34,7 @@ item : (o : Option FetchedItem) (tells : Bool) (old new : Fleet) (k : ℕ) (m : 
     → ExecutesItem o tells old k m i reply new → Leaves tells old new (Execute k i)
 unfolding settled
 item None tells old new k m i reply at found h = whole tells old new (Execute k i) h.1
-item (Some x) tells old new k m i reply at found h = ByRequest k i refl m x h.execution at found h.answers (ap (λ (f : Fleet). f.site) h.leaves)
+item (Some x) tells old new k m i reply at found h = ByRequest k i refl m x h.execution at found h.comes_to (ap (λ (f : Fleet). f.site) h.leaves)
 
 over : (o : Option QueuePair) (tells : Bool) (old new : Fleet) (k : ℕ) (c : Controller) (i : ℕ) (t : FetchedCommand) (executed : Executed) (left : Setting) → host_at old k ≡ Some (Raw c) → slice_get c.fetched i ≡ Some t
     → FinishesOver o tells i t (setting_of old c) executed left → new.site ≡ site_of left → Leaves tells old new (Execute k i)
@@ -42,7 +42,7 @@ over None tells old new k c i t executed left at found h leaves = AsItWas (leave
 over (Some p) tells old new k c i t executed left at found h leaves =
     let w = h.world in
     let d = h.device in
-    ByCommand k i refl c t h.answer at found h.answers (leaves ∙ λ j. record { world = w j; device = d j })
+    ByCommand k i refl c t h.execution at found h.comes_to (leaves ∙ λ j. record { world = w j; device = d j })
 
 one : (o : Option FetchedCommand) (tells : Bool) (old new : Fleet) (k : ℕ) (c : Controller) (i : ℕ) (executed : Executed) (left : Setting) → host_at old k ≡ Some (Raw c) → slice_get c.fetched i ≡ o
     → FinishesOne o tells i (setting_of old c) executed left → new.site ≡ site_of left → Leaves tells old new (Execute k i)

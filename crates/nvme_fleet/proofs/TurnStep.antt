@@ -77,7 +77,7 @@ turn-is : (tells : Bool) (k n : ℕ) (s : Option SubmissionQueue) (x : Option Co
 unfolding after_fetch fetchable open_pair CommandComesTo after_completion after_posting
 turn-is tells k n s x w world device change new (executed, h) adm =
     let here : Scene = record { world = world; window = w; device = device } in
-    let is : h.answer ≡ admin_command_execution here (only_change change world w) = h.answers ∙ ap (admin_command_execution here) adm in
+    let is : h.execution ≡ admin_command_execution here (only_change change world w) = h.comes_to ∙ ap (admin_command_execution here) adm in
     let t : FetchedCommand = record { entry = at_head n w; queue = 0; marked = false } in
     let p : QueuePair = record {
       submission = record { base = 0; cqid = 0; head = record { size = 8; fetched = (n + 1) % 8; waiting = 0 } };

@@ -44,7 +44,7 @@ pub record Executes (tells : Bool) (k : ℕ) (item : Item) (conclusion : Conclus
   pub found : slice_get mailbox.fetched place ≡ Some fetched
   pub item_is : fetched.item ≡ item
   pub execution : RequestExecution
-  pub answers : RequestComesTo tells k fetched old.site execution
+  pub comes_to : RequestComesTo tells k fetched old.site execution
   pub gives : reply ≡ plain (Executed (Posted execution.outcome))
   pub leaves : new.site ≡ execution.left
   pub conclusion_is : conclusion ≡ conclusion_of execution

@@ -38,7 +38,7 @@ Becomes r reply n = (reply ≡ r.reply) × (n ≡ r.mailbox)
 pub record Posts (tells : Bool) (k : ℕ) (s : Site) (m : Mailbox) (i : ℕ) (x : FetchedItem) (reply : Reply) (left : Site)
     (n : Mailbox) : Type 0 where
   pub execution : RequestExecution
-  pub answers : RequestComesTo tells k x s execution
+  pub comes_to : RequestComesTo tells k x s execution
   pub gives : reply ≡ plain (ExecutedSeen (Posted execution.outcome))
   pub site : left ≡ execution.left
   pub leaves : n ≡ marked_by execution.outcome.marks execution.left.world k (after_answer i x execution m)

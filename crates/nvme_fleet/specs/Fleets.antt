@@ -145,7 +145,7 @@ after_execution f k m i x r = settled f k r.left (WithDriver (after_answer i x r
 pub record Completes (tells : Bool) (old : Fleet) (k : ℕ) (m : Mailbox) (i : ℕ) (x : FetchedItem) (reply : Reply)
     (new : Fleet) : Type 0 where
   pub execution : RequestExecution
-  pub answers : RequestComesTo tells k x old.site execution
+  pub comes_to : RequestComesTo tells k x old.site execution
   pub gives : reply ≡ plain (ExecutedSeen (Posted execution.outcome))
   pub leaves : new ≡ after_execution old k m i x execution
 

@@ -199,7 +199,7 @@ pub record IsAnsweredInItsSlot (tells : Bool) (d : driver.Driver) (c : Controlle
   pub window : a.left.window ≡ with_bytes c.window (data_area (cid t.entry)) bytes
   pub few : length bytes ≤ most_bytes
   pub whole : poll.answer_len (received_in (poll.waiting_at d.slots (cid t.entry))) a.outcome.status ≤ length bytes
-  pub answers : RequestComesTo tells cntlid x (record { world = w; device = device })
+  pub comes_to : RequestComesTo tells cntlid x (record { world = w; device = device })
       (request_execution_with d t a bytes)
 
 abbrev pub AnswersItsRequest : Type 0
@@ -235,7 +235,7 @@ pub record IsExecuted (tells : Bool) (d : driver.Driver) (i : ℕ) (old : Settin
   pub item : FetchedItem
   pub execution : RequestExecution
   pub found : slice_get (mailbox d old.controller).fetched i ≡ Some item
-  pub answers : RequestComesTo tells old.controller.cntlid item (record { world = old.world; device = old.device })
+  pub comes_to : RequestComesTo tells old.controller.cntlid item (record { world = old.world; device = old.device })
       execution
   pub gives : executed ≡ Posted execution.outcome
   pub sound : Sound d new.controller

@@ -26,7 +26,7 @@ use Rattle.nvme_machine.specs.declared.event.Event.TheVariants.{Store, Write32, 
 use Rattle.nvme_machine.specs.declared.fetched.FetchedCommand.{FetchedCommand}
 use Rattle.nvme_machine.specs.declared.seen.Seen.{Seen}
 use Rattle.nvme_machine.specs.CommandExecutions.{CommandExecution}
-use Rattle.nvme_machine.specs.Calling.{AreCallsAs, AreCallsOfAnswer}
+use Rattle.nvme_machine.specs.Calling.{AreCallsAs, AreCallsOfExecution}
 use Rattle.nvme_machine.specs.Controllers.{Controller, QueuePair, names, open_pair}
 use Rattle.nvme_machine.specs.EventCalls.{CallingOver, CallingOne, CallingAt, AreCallsOfStep}
 use Rattle.nvme_machine.specs.Fencing.{IsAllowedAt}
@@ -177,9 +177,9 @@ of-answer false s k i c t a calls at found io h =
 
 of-over : (o : Option QueuePair) (tells : Bool) (s : Subsystem) (k : ℕ) (c : Controller) (i : ℕ) (t : FetchedCommand) (seen : Seen) (new : Subsystem) (calls : List MediumCall) → controller_at s k ≡ Some c
     → slice_get c.fetched i ≡ Some t → CallingOver o tells s k c i t seen new calls → AllByRecursion (IsCallOf s k i) calls
-unfolding AreCallsOfAnswer
+unfolding AreCallsOfExecution
 of-over None tells s k c i t seen new calls at found h = all-of-none (IsCallOf s k i) calls h.2
-of-over (Some p) tells s k c i t seen new calls at found h = of-answer (t.queue == 0) s k i c t h.completes.answer calls at found refl h.are
+of-over (Some p) tells s k c i t seen new calls at found h = of-answer (t.queue == 0) s k i c t h.completes.execution calls at found refl h.are
 
 of-one : (o : Option FetchedCommand) (tells : Bool) (s : Subsystem) (k : ℕ) (c : Controller) (i : ℕ) (seen : Seen) (new : Subsystem) (calls : List MediumCall) → controller_at s k ≡ Some c → slice_get c.fetched i ≡ o
     → CallingOne o tells s k c i seen new calls → AllByRecursion (IsCallOf s k i) calls

@@ -31,7 +31,7 @@ use Rattle.nvme_machine.specs.declared.seen.Seen.{Seen}
 use Rattle.nvme_machine.specs.declared.seen.Seen.TheVariants.{Executed}
 use Rattle.nvme_machine.specs.CommandExecutions.{CommandExecution, CommandComesTo, CommandComesToAs, admin_command_execution, judgement}
 use Rattle.nvme_machine.specs.CallLaws.{StepsHaveCalls, RunsHaveCalls, StepCallsAreUnique, RunCallsAreUnique, StepCallsAreComputed, RunCallsAreComputed, RunCallsExist, DeniedIsNoSuccess, FlushedIsOneFlush}
-use Rattle.nvme_machine.specs.Calling.{AreCallsAs, AreCallsOfAnswer}
+use Rattle.nvme_machine.specs.Calling.{AreCallsAs, AreCallsOfExecution}
 use Rattle.nvme_machine.specs.Controllers.{Controller, QueuePair, Reaction, queues_of, open_pair}
 use Rattle.nvme_machine.specs.EventCalls.{CallingOver, CallingOne, CallingAt, AreCallsOfStep, AreCallsOfRun}
 use Rattle.nvme_machine.specs.FaultFree.{fault_free_command_execution, fault_free_step, io_command_execution, reacting, executing, executing_one, executing_over}
@@ -51,10 +51,10 @@ as-some false tells queues k t s a h = spec.executions_have_calls tells k t.entr
 
 over-some : (o : Option QueuePair) (tells : Bool) (old new : Subsystem) (k : ℕ) (c : Controller) (i : ℕ) (t : FetchedCommand) (seen : Seen) → ExecutesOver o tells old k c i t seen new
     → (calls : List MediumCall) × CallingOver o tells old k c i t seen new calls
-unfolding CommandComesTo AreCallsOfAnswer
+unfolding CommandComesTo AreCallsOfExecution
 over-some None tells old new k c i t seen h = ([], (h.0, h.1, refl))
 over-some (Some p) tells old new k c i t seen h =
-    let some = as-some (t.queue == 0) tells (queues_of c) k t (scene_of old c) h.answer h.answers in
+    let some = as-some (t.queue == 0) tells (queues_of c) k t (scene_of old c) h.execution h.comes_to in
     (some.0, record { completes = h; are = some.1 })
 
 one-some : (o : Option FetchedCommand) (tells : Bool) (old new : Subsystem) (k : ℕ) (c : Controller) (i : ℕ) (seen : Seen) → ExecutesOne o tells old k c i seen new
@@ -97,10 +97,10 @@ two-as false k t s a b calls these content left right h g made also =
 two-over : (o : Option QueuePair) (tells : Bool) (old new other : Subsystem) (k : ℕ) (c : Controller) (i : ℕ) (t : FetchedCommand) (seen others : Seen) (calls these : List MediumCall) (content left right : List ℕ)
     → CallingOver o tells old k c i t seen new calls → CallingOver o tells old k c i t others other these
     → Calls content_step content calls left → Calls content_step content these right → these ≡ calls
-unfolding AreCallsOfAnswer
+unfolding AreCallsOfExecution
 two-over None tells old new other k c i t seen others calls these content left right h g made also = g.2 ∙ sym h.2
 two-over (Some p) tells old new other k c i t seen others calls these content left right h g made also =
-    two-as (t.queue == 0) k t (scene_of old c) h.completes.answer g.completes.answer calls these content left right h.are g.are made also
+    two-as (t.queue == 0) k t (scene_of old c) h.completes.execution g.completes.execution calls these content left right h.are g.are made also
 
 two-one : (o : Option FetchedCommand) (tells : Bool) (old new other : Subsystem) (k : ℕ) (c : Controller) (i : ℕ) (seen others : Seen) (calls these : List MediumCall) (content left right : List ℕ)
     → CallingOne o tells old k c i seen new calls → CallingOne o tells old k c i others other these
@@ -158,9 +158,9 @@ as-alone false k t s a calls left h made = spec.passing_calls_are_unique k t.ent
 
 over-alone : (o : Option QueuePair) (tells : Bool) (old new : Subsystem) (k : ℕ) (c : Controller) (i : ℕ) (t : FetchedCommand) (seen : Seen) (calls : List MediumCall) (left : List ℕ)
     → CallingOver o tells old k c i t seen new calls → Calls content_step old.device.content calls left → calls ≡ calls_over o k t (scene_of old c)
-unfolding AreCallsOfAnswer
+unfolding AreCallsOfExecution
 over-alone None tells old new k c i t seen calls left h made = h.2
-over-alone (Some p) tells old new k c i t seen calls left h made = as-alone (t.queue == 0) k t (scene_of old c) h.completes.answer calls left h.are made
+over-alone (Some p) tells old new k c i t seen calls left h made = as-alone (t.queue == 0) k t (scene_of old c) h.completes.execution calls left h.are made
 
 one-alone : (o : Option FetchedCommand) (tells : Bool) (old new : Subsystem) (k : ℕ) (c : Controller) (i : ℕ) (seen : Seen) (calls : List MediumCall) (left : List ℕ)
     → CallingOne o tells old k c i seen new calls → Calls content_step old.device.content calls left → calls ≡ calls_one o old k c
@@ -202,12 +202,12 @@ answer-serves queues k t s laid = as-serve (t.queue == 0) queues k t s laid
 
 over-made : (o : Option QueuePair) (s : Subsystem) (k : ℕ) (c : Controller) (i : ℕ) (t : FetchedCommand) → IsLaidOut s.world s.device.content
     → CallingOver o true s k c i t (executing_over o s k c i t).seen (executing_over o s k c i t).left (calls_over o k t (scene_of s c)) × AreMade s (calls_over o k t (scene_of s c)) (executing_over o s k c i t).left
-unfolding AreCallsOfAnswer after_execution
+unfolding AreCallsOfExecution after_execution
 over-made None s k c i t laid = ((refl, refl, refl), refl)
 over-made (Some p) s k c i t laid =
     let serve = answer-serves (queues_of c) k t (scene_of s c) laid in (
       record {
-        completes = record { answer = fault_free_command_execution (queues_of c) k t (scene_of s c); answers = answers (queues_of c) k t (scene_of s c) laid; gives = refl; leaves = refl };
+        completes = record { execution = fault_free_command_execution (queues_of c) k t (scene_of s c); comes_to = answers (queues_of c) k t (scene_of s c) laid; gives = refl; leaves = refl };
         are = serve.are;
       },
       serve.made,
@@ -306,12 +306,12 @@ flush-as tells queues k t s a calls answers are is ok = spec.flushed_is_one_flus
 flush-over : (o : Option QueuePair) (tells : Bool) (old new : Subsystem) (k : ℕ) (c : Controller) (i : ℕ) (t : FetchedCommand) (outcome : Outcome) (calls : List MediumCall)
     → CallingOver o tells old k c i t (Executed (Posted outcome)) new calls → (t.queue == 0) ≡ false → opcode t.entry ≡ opcode_of Flush → outcome.status ≡ status.successful_completion
     → calls ≡ Flushes (Ok tt) ∷ []
-unfolding CommandComesTo AreCallsOfAnswer
+unfolding CommandComesTo AreCallsOfExecution
 flush-over None tells old new k c i t outcome calls h io is ok = let no = h.0 in absurd (cc)
 flush-over (Some p) tells old new k c i t outcome calls h io is ok =
-    let a = h.completes.answer in
+    let a = h.completes.execution in
     let own : a.outcome.status ≡ status.successful_completion = sym (ap (λ (x : Outcome). x.status) (posted-one outcome a.outcome h.completes.gives)) ∙ ok in
-    flush-as tells (queues_of c) k t (scene_of old c) a calls (subst (λ b. CommandComesToAs b tells (queues_of c) k t (scene_of old c) a) io h.completes.answers)
+    flush-as tells (queues_of c) k t (scene_of old c) a calls (subst (λ b. CommandComesToAs b tells (queues_of c) k t (scene_of old c) a) io h.completes.comes_to)
     (subst (λ b. AreCallsAs b k t (scene_of old c) a calls) io h.are) is own
 
 pub flushed_is_one_flush : FlushedIsOneFlush

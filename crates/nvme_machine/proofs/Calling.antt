@@ -16,7 +16,7 @@ use Rattle.nvme_machine.specs.declared.seen.Executed.{Executed}
 use Rattle.nvme_machine.specs.Controllers.{QueuePair, queues_of, open_pair}
 use Rattle.nvme_machine.specs.CommandExecutions.{CommandExecution, judgement}
 use Rattle.nvme_machine.specs.Executing.{Setting, scene_in, FinishesOver, FinishesOne}
-use Rattle.nvme_machine.specs.Calling.{AreCallsAs, AreCallsOfAnswer, AreCallsOver, AreCallsOne, CallsAreOfAnExecution, DeniedMakesNoCall, AdminMakesNoCall}
+use Rattle.nvme_machine.specs.Calling.{AreCallsAs, AreCallsOfExecution, AreCallsOver, AreCallsOne, CallsAreOfAnExecution, DeniedMakesNoCall, AdminMakesNoCall}
 use Rattle.nvme_machine.proofs.Denials.{denied-verdict}
 
 of-over : (o : Option QueuePair) (tells : Bool) (i : ℕ) (t : FetchedCommand) (old new : Setting) (executed : Executed) (calls : List MediumCall)
@@ -34,21 +34,21 @@ calls_are_of_an_execution tells i old new executed calls h = of-one (slice_get o
 
 -- a command makes no call where no answer lets it
 none-over : (o : Option QueuePair) (tells : Bool) (i : ℕ) (t : FetchedCommand) (old new : Setting) (executed : Executed) (calls : List MediumCall)
-    → ((a : CommandExecution) → AreCallsOfAnswer old.controller.cntlid t (scene_in old) a calls → calls ≡ [])
+    → ((a : CommandExecution) → AreCallsOfExecution old.controller.cntlid t (scene_in old) a calls → calls ≡ [])
     → AreCallsOver o tells i t old executed new calls → calls ≡ []
 none-over None tells i t old new executed calls none h = h.2
-none-over (Some p) tells i t old new executed calls none h = none h.finishes.answer h.are
+none-over (Some p) tells i t old new executed calls none h = none h.finishes.execution h.are
 
 none-nth : (tells : Bool) (i : ℕ) (t : FetchedCommand) (old new : Setting) (executed : Executed) (calls : List MediumCall) (o : Option FetchedCommand)
-    → ((a : CommandExecution) → AreCallsOfAnswer old.controller.cntlid t (scene_in old) a calls → calls ≡ [])
+    → ((a : CommandExecution) → AreCallsOfExecution old.controller.cntlid t (scene_in old) a calls → calls ≡ [])
     → AreCallsOne o tells i old executed new calls → o ≡ Some t → calls ≡ []
 none-nth tells i t old new executed calls o none h found =
     let one : AreCallsOne (Some t) tells i old executed new calls = subst (λ x. AreCallsOne x tells i old executed new calls) found h in
     none-over (open_pair old.controller t) tells i t old new executed calls none one
 
 denied-calls : (s : Scene) (queues : Queues) (k : ℕ) (t : FetchedCommand) (d : Denial) (calls : List MediumCall) → judgement queues k t s ≡ Err d
-    → (a : CommandExecution) → AreCallsOfAnswer k t s a calls → calls ≡ []
-unfolding AreCallsOfAnswer judgement
+    → (a : CommandExecution) → AreCallsOfExecution k t s a calls → calls ≡ []
+unfolding AreCallsOfExecution judgement
 denied-calls s queues k t d calls f a h =
     elim (t.queue == 0) as (λ b. AreCallsAs b k t s a calls
     → (if b then admin_judgement s.world queues k t.entry s.window else io_judgement s.world k t.entry t.marked s.window) ≡ Err d
@@ -58,8 +58,8 @@ denied-calls s queues k t d calls f a h =
           (denied-verdict (io_judgement s.world k t.entry t.marked s.window) (command_of (opcode t.entry)) t.entry d y) x
     ] h f
 
-admin-calls : (s : Scene) (k : ℕ) (t : FetchedCommand) (calls : List MediumCall) → t.queue ≡ 0 → (a : CommandExecution) → AreCallsOfAnswer k t s a calls → calls ≡ []
-unfolding AreCallsOfAnswer
+admin-calls : (s : Scene) (k : ℕ) (t : FetchedCommand) (calls : List MediumCall) → t.queue ≡ 0 → (a : CommandExecution) → AreCallsOfExecution k t s a calls → calls ≡ []
+unfolding AreCallsOfExecution
 admin-calls s k t calls io a h = subst (λ b. AreCallsAs b k t s a calls) (eq-eqb t.queue 0 io) h
 
 pub denied_makes_no_call : DeniedMakesNoCall

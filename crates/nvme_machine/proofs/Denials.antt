@@ -86,7 +86,7 @@ completion tells old new k i c t p seen step waits =
 pub denied_changes_its_entry_alone : DeniedChangesItsEntryAlone
 denied_changes_its_entry_alone tells old new k i c t p denial seen step waits refused =
     let done = completion tells old new k i c t p seen step waits in
-    let same = denied-answer tells (scene_of old c) (queues_of c) k t denial done.answer done.answers refused in (
+    let same = denied-answer tells (scene_of old c) (queues_of c) k t denial done.execution done.comes_to refused in (
       done.gives ∙ ap (λ (a : CommandExecution). Executed (Posted a.outcome)) same,
       done.leaves ∙ ap (λ a. after_execution old k c i t p a) same ∙ after-denied old k c i t p denial,
     )
@@ -99,8 +99,8 @@ io-answer tells queues k t s a io h = subst (λ b. CommandComesToAs b tells queu
 pub allowed_does_its_effect : AllowedDoesItsEffect
 allowed_does_its_effect tells old new k i c t p plan seen step waits io allowed =
     let done = completion tells old new k i c t p seen step waits in
-    let a : CommandExecution = done.answer in
-    let answer = io-answer tells (queues_of c) k t (scene_of old c) a io done.answers in
+    let a : CommandExecution = done.execution in
+    let answer = io-answer tells (queues_of c) k t (scene_of old c) a io done.comes_to in
     record {
       outcome = a.outcome;
       left = a.left;

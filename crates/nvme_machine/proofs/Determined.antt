@@ -37,7 +37,7 @@ unfolding CommandComesTo after_execution
 over-counts None tells old new k c i t seen h = whole-counts old new h.1
 over-counts (Some p) tells old new k c i t seen h =
     let e = ap (λ (s : Subsystem). s.device.failures) h.leaves in
-    let less = answer-counts (t.queue == 0) tells (queues_of c) k t (scene_of old c) h.answer h.answers in
+    let less = answer-counts (t.queue == 0) tells (queues_of c) k t (scene_of old c) h.execution h.comes_to in
     omega (arith, e, less)
 
 one-counts : (o : Option FetchedCommand) (tells : Bool) (old new : Subsystem) (k : ℕ) (c : Controller) (i : ℕ) (seen : Seen)
@@ -101,8 +101,8 @@ over-alone : (o : Option QueuePair) (old new : Subsystem) (k : ℕ) (c : Control
 unfolding after_execution
 over-alone None old new k c i t seen h f below = h
 over-alone (Some p) old new k c i t seen h f below =
-    let calm : h.answer.left.device.failures ≡ old.device.failures = sym (ap (λ (s : Subsystem). s.device.failures) h.leaves) ∙ f in
-    let same = answer-alone (queues_of c) k t (scene_of old c) h.answer h.answers calm below in
+    let calm : h.execution.left.device.failures ≡ old.device.failures = sym (ap (λ (s : Subsystem). s.device.failures) h.leaves) ∙ f in
+    let same = answer-alone (queues_of c) k t (scene_of old c) h.execution h.comes_to calm below in
     (h.gives ∙ ap (λ (a : CommandExecution). Executed (Posted a.outcome)) same, h.leaves ∙ ap (λ a. after_execution old k c i t p a) same)
 
 one-alone : (o : Option FetchedCommand) (old new : Subsystem) (k : ℕ) (c : Controller) (i : ℕ) (seen : Seen) → ExecutesOne o true old k c i seen new
@@ -156,7 +156,7 @@ answers queues k t s laid = answers-as (t.queue == 0) queues k t s laid
 over : (o : Option QueuePair) (s : Subsystem) (k : ℕ) (c : Controller) (i : ℕ) (t : FetchedCommand) → IsLaidOut s.world s.device.content
     → ExecutesOver o true s k c i t (executing_over o s k c i t).seen (executing_over o s k c i t).left
 over None s k c i t laid = (refl, refl)
-over (Some p) s k c i t laid = record { answer = fault_free_command_execution (queues_of c) k t (scene_of s c); answers = answers (queues_of c) k t (scene_of s c) laid; gives = refl; leaves = refl }
+over (Some p) s k c i t laid = record { execution = fault_free_command_execution (queues_of c) k t (scene_of s c); comes_to = answers (queues_of c) k t (scene_of s c) laid; gives = refl; leaves = refl }
 
 one : (o : Option FetchedCommand) (s : Subsystem) (k : ℕ) (c : Controller) (i : ℕ) → IsLaidOut s.world s.device.content
     → ExecutesOne o true s k c i (executing_one o s k c i).seen (executing_one o s k c i).left

@@ -66,9 +66,9 @@ completes : (P : Controller → Type 0) → Keeps P → (tells : Bool) (old new 
     → open_pair c t ≡ Some p → Completes tells old k c i t p seen new → Everywhere P old → Everywhere P new
 unfolding after_execution controller_at
 completes P keeps tells old new k c i t p seen at room h all =
-    let a : CommandExecution = h.answer in
+    let a : CommandExecution = h.execution in
     subst (Everywhere P) (sym h.leaves) (all-marked P keeps a.left.world a.outcome.marks (replaced old.controllers k (after_completion i t p a c))
-    (all-replaced P old.controllers k (after_completion i t p a c) all (keeps.finish tells old.world old.device k i c t p a room h.answers (all k c at))))
+    (all-replaced P old.controllers k (after_completion i t p a c) all (keeps.finish tells old.world old.device k i c t p a room h.comes_to (all k c at))))
 
 over : (P : Controller → Type 0) → Keeps P → (o : Option QueuePair) (tells : Bool) (old new : Subsystem) (k : ℕ) (c : Controller) (i : ℕ) (t : FetchedCommand) (seen : Seen) → controller_at old k ≡ Some c
     → open_pair c t ≡ o → ExecutesOver o tells old k c i t seen new → Everywhere P old → Everywhere P new

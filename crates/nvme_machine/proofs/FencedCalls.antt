@@ -24,7 +24,7 @@ use Rattle.nvme_machine.specs.declared.event.Event.TheVariants.{Store, Write32, 
 use Rattle.nvme_machine.specs.declared.fetched.FetchedCommand.{FetchedCommand}
 use Rattle.nvme_machine.specs.declared.seen.Executed.TheVariants.{Posted}
 use Rattle.nvme_machine.specs.declared.seen.Seen.TheVariants.{Executed}
-use Rattle.nvme_machine.specs.Calling.{AreCallsAs, AreCallsOfAnswer}
+use Rattle.nvme_machine.specs.Calling.{AreCallsAs, AreCallsOfExecution}
 use Rattle.nvme_machine.specs.Controllers.{Controller, QueuePair, names, open_pair}
 use Rattle.nvme_machine.specs.EventCalls.{CompletesCalling, CallingOver, CallingOne, CallingAt}
 use Rattle.nvme_machine.specs.Fencing.{IsAllowedAt}
@@ -145,9 +145,9 @@ posted-one x y h = cc
 
 flush-completes : (tells : Bool) (old : Subsystem) (k : ℕ) (c : Controller) (i : ℕ) (t : FetchedCommand) (p : QueuePair) (outcome : Outcome) (new : Subsystem) (calls : List MediumCall) (plan : Plan)
     → CompletesCalling tells old k c i t p (Executed (Posted outcome)) new calls → (t.queue == 0) ≡ false → io_verdict old.world k t.entry t.marked c.window ≡ Allowed plan → plan.kind ≡ Flush → IsOneFlush outcome calls
-unfolding AreCallsOfAnswer
+unfolding AreCallsOfExecution
 flush-completes tells old k c i t p outcome new calls plan h io is flush =
-    let a = h.completes.answer in
+    let a = h.completes.execution in
     let same : outcome ≡ a.outcome = posted-one outcome a.outcome h.completes.gives in
     subst (λ o. IsOneFlush o calls) (sym same)
     (flush-by (io_verdict old.world k t.entry t.marked c.window) old.world c.window t.entry a.outcome a.left.window calls plan is flush (subst (λ b. AreCallsAs b k t (scene_of old c) a calls) io h.are))

@@ -98,7 +98,7 @@ over : (o : Option QueuePair) (tells : Bool) (old new : Subsystem) (k : ℕ) (c 
 unfolding after_execution
 over None tells old new k c i t seen at found h = whole tells old new (Execute k i) h.1
 over (Some p) tells old new k c i t seen at found h =
-    AfterExecution k i refl c t h.answer at found h.answers (ap (λ (s : Subsystem). s.world) h.leaves) (ap (λ (s : Subsystem). s.device) h.leaves)
+    AfterExecution k i refl c t h.execution at found h.comes_to (ap (λ (s : Subsystem). s.world) h.leaves) (ap (λ (s : Subsystem). s.device) h.leaves)
 
 one : (o : Option FetchedCommand) (tells : Bool) (old new : Subsystem) (k : ℕ) (c : Controller) (i : ℕ) (seen : Seen) → controller_at old k ≡ Some c → slice_get c.fetched i ≡ o
     → ExecutesOne o tells old k c i seen new → Leaves tells old new (Execute k i)

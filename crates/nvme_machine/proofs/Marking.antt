@@ -110,11 +110,11 @@ pub preempted_commands_are_marked : PreemptedCommandsAreMarked
 unfolding after_execution controller_at
 preempted_commands_are_marked tells old new k i n c t p seen step waits named command two allowed other d there removed =
     let done = completion tells old new k i c t p seen step waits in
-    let a : CommandExecution = done.answer in
+    let a : CommandExecution = done.execution in
     let s : Scene = scene_of old c in
     let io = io_name n t named in
     let world : new.world ≡ a.left.world = ap (λ (x : Subsystem). x.world) done.leaves in
-    let answer = io-answer tells (queues_of c) k t s a io.0 done.answers in
+    let answer = io-answer tells (queues_of c) k t s a io.0 done.comes_to in
     let out = reservation_outcome old.world k t.entry (data_of c.window t.entry) in
     let are : a.outcome.marks ≡ marks_on (nsid t.entry) (removed_by out) =
     marks-by tells (io_verdict s.world k t.entry t.marked s.window) s a.left k t a.outcome refl answer.1 (sym (io-judged s (queues_of c) k t io.0) ∙ allowed) command

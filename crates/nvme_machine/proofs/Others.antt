@@ -73,7 +73,7 @@ completes : (tells : Bool) (old new : Subsystem) (k : ℕ) (c : Controller) (i :
     → Keeps old new seen other
 unfolding after_execution controller_at
 completes tells old new k c i t p seen h other apart =
-    let a : CommandExecution = h.answer in
+    let a : CommandExecution = h.execution in
     let new_at = executed-at old new k c i t p a other h.leaves in
     let same = replaced-other old.controllers k other (after_completion i t p a c) apart in
     let world : a.left.world ≡ new.world = sym (ap (λ (s : Subsystem). s.world) h.leaves) in

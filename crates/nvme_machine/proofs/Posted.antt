@@ -340,8 +340,8 @@ over-it : (o : Option QueuePair) (tells : Bool) (old new : Subsystem) (k : ℕ) 
     → ExecutesOver o tells old k c i t seen new → HasItsWindow c → StandsUnread e c → Result old new k c i e
 over-it None tells old new k c i t seen e at found room h placed u = stays old new k c i e h.1 at u
 over-it (Some p) tells old new k c i t seen e at found room h placed u =
-    elim (finishes tells old k i c t p h.answer e room h.answers placed u) [
-      | inl stands ↦ inl (at-new old new k c i t p h.answer e h.leaves at stands)
+    elim (finishes tells old k i c t p h.execution e room h.comes_to placed u) [
+      | inl stands ↦ inl (at-new old new k c i t p h.execution e h.leaves at stands)
       | inr takes ↦ inr (record { command = t; pair = p; found = found; room = room; takes = takes })
     ]
 
@@ -441,18 +441,18 @@ pub posted_is_unread : PostedIsUnread
 unfolding after_completion
 posted_is_unread tells old new k i c t p outcome step waits placed =
     let done = completion tells old new k i c t p (Executed (Posted outcome)) step waits in
-    let a : CommandExecution = done.answer in
+    let a : CommandExecution = done.execution in
     let gives : Executed (Posted outcome) ≡ Executed (Posted a.outcome) = done.gives in
     let same : a.outcome ≡ outcome = cc in
     let whole = placed k c waits.at in
-    let size = answer-window tells (queues_of c) k t (scene_of old c) a done.answers in
+    let size = answer-window tells (queues_of c) k t (scene_of old c) a done.comes_to in
     let d : Controller = record c { window = a.left.window } in
     let own = is-open c t p waits.room in
     let opened = open-over c a.left.window t p own in
     let entry = new-entry i t p a.outcome.status a.outcome.dw0 d (has-window-over c a.left.window size whole) opened in
     let e : PostedEntry = record { queue = p.submission.cqid; base = p.completion.base; slot = slot_of p.completion.tail.size p.completion.tail.posted; bytes = completion_of t p a.outcome.status a.outcome.dw0 } in
     subst (λ (o : Outcome). Stands (record { queue = p.submission.cqid; base = p.completion.base; slot = slot_of p.completion.tail.size p.completion.tail.posted; bytes = completion_of t p o.status o.dw0 }) (controller_at new k)) same
-    (elim (changes a.change (queues_of c) (after_posting i t p a.outcome.status a.outcome.dw0 d) e (change-suits tells old.world old.device k c t a done.answers) (is-there c.completion p.submission.cqid p.completion own.completion) entry) [
+    (elim (changes a.change (queues_of c) (after_posting i t p a.outcome.status a.outcome.dw0 d) e (change-suits tells old.world old.device k c t a done.comes_to) (is-there c.completion p.submission.cqid p.completion own.completion) entry) [
       | inl stands ↦ at-new old new k c i t p a e done.leaves waits.at stands
-      | inr drops ↦ absurd (used c t p a own (change-suits tells old.world old.device k c t a done.answers) drops)
+      | inr drops ↦ absurd (used c t p a own (change-suits tells old.world old.device k c t a done.comes_to) drops)
     ])

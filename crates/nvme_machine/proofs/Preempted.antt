@@ -119,11 +119,11 @@ completed : (tells : Bool) (old new : Subsystem) (k : ℕ) (c : Controller) (i m
     → slice_get c.fetched m ≡ Some t → place_posted (change_of old k c u) i c.fetched m ≡ Some l → AtOf (controller_at new k) t l
 unfolding controller_at
 completed tells old new k c i m l u t p seen h at found place =
-    let a : CommandExecution = h.answer in
+    let a : CommandExecution = h.execution in
     let end : Controller = after_completion i u p a c in
     let new_at = executed-at old new k c i u p a k h.leaves in
     let stood : AtOf (numbered (replaced old.controllers k end) k) t l =
-    (end, replaced-same old.controllers k c end at, as-it-is t end.fetched l (posted-at (change_of old k c u) i m l t u p a c (change-is tells old k c u a h.answers) found place)) in
+    (end, replaced-same old.controllers k c end at, as-it-is t end.fetched l (posted-at (change_of old k c u) i m l t u p a c (change-is tells old k c u a h.comes_to) found place)) in
     elim (marks-numbered a.left.world a.outcome.marks (replaced old.controllers k end) k) [
       | inl kept ↦ unmoved _ _ t l (new_at ∙ kept) stood
       | inr marked ↦ marked-at a.outcome.marks.nsid t _ _ l (new_at ∙ marked.marked) stood

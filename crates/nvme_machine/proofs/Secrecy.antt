@@ -40,10 +40,10 @@ completes-over : (n : ℕ) (old new : Subsystem) (k : ℕ) (c : Controller) (i :
     → MirrorsStep n old new (λ x. Finishes true (over d old) k c i t p seen (over x new))
 unfolding after_execution after_completion
 completes-over n old new k c i t p seen d laid differ fenced h =
-    let a : CommandExecution = h.answer in
-    let m = answers-over n (queues_of c) k t (scene_of old c) a d laid differ fenced h.answers in (
+    let a : CommandExecution = h.execution in
+    let m = answers-over n (queues_of c) k t (scene_of old c) a d laid differ fenced h.comes_to in (
       m.0,
-      record { answer = command_execution_over m.0 a; answers = m.1; gives = h.gives; leaves = ap (over m.0) h.leaves ∙ same m.0 a },
+      record { execution = command_execution_over m.0 a; comes_to = m.1; gives = h.gives; leaves = ap (over m.0) h.leaves ∙ same m.0 a },
       subst (λ x. DifferIn n old.world x m.0) (sym (ap (λ (s : Subsystem). s.device) h.leaves)) m.2,
     )
   where

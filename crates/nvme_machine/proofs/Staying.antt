@@ -175,11 +175,11 @@ completed : (tells : Bool) (old new : Subsystem) (k : ℕ) (c : Controller) (i m
     → slice_get c.fetched i ≡ Some u → slice_get c.fetched m ≡ Some t → i ≢ m → Stands new k t ⊎ Deletes (scene_of old c) c k i t.queue
 unfolding controller_at
 completed tells old new k c i m u t p seen h at here found other =
-    let a : CommandExecution = h.answer in
+    let a : CommandExecution = h.execution in
     let end : Controller = after_completion i u p a c in
     let new_at = executed-at old new k c i u p a k h.leaves in
     let end_at = replaced-same old.controllers k c end at in
-    elim (finishes tells (scene_of old c) k c i m u t p a h.answers here found other) [
+    elim (finishes tells (scene_of old c) k c i m u t p a h.comes_to here found other) [
       | inl s ↦ elim (marks-numbered a.left.world a.outcome.marks (replaced old.controllers k end) k) [
         | inl kept ↦ inl (end, new_at ∙ kept ∙ end_at, s)
         | inr marked ↦ inl (stands-marked-at a.outcome.marks.nsid t (numbered (replaced old.controllers k end) k) (controller_at new k) end (new_at ∙ marked.marked) end_at s)

@@ -21,14 +21,14 @@ AreCallsAs false cntlid t s a calls =
     a.left.window calls
 
 -- a fetched command of a controller, executed now with this answer, makes these calls
-unfoldable pub AreCallsOfAnswer : ℕ → FetchedCommand → Scene → CommandExecution → List MediumCall → Type 0
-AreCallsOfAnswer cntlid t s a calls = AreCallsAs (t.queue == 0) cntlid t s a calls
+unfoldable pub AreCallsOfExecution : ℕ → FetchedCommand → Scene → CommandExecution → List MediumCall → Type 0
+AreCallsOfExecution cntlid t s a calls = AreCallsAs (t.queue == 0) cntlid t s a calls
 
 -- The i-th command has an answer, all is as that says, and it has made the calls of that answer.
 pub record FinishesCalling (tells : Bool) (i : ℕ) (t : FetchedCommand) (p : QueuePair) (old : Setting)
     (executed : Executed) (new : Setting) (calls : List MediumCall) : Type 0 where
   pub finishes : Finishes tells i t p old executed new
-  pub are : AreCallsOfAnswer old.controller.cntlid t (scene_in old) finishes.answer calls
+  pub are : AreCallsOfExecution old.controller.cntlid t (scene_in old) finishes.execution calls
 
 -- its completion queue may be full; then all stays, and no call is made
 abbrev pub AreCallsOver : Option QueuePair → Bool → ℕ → FetchedCommand → Setting → Executed → Setting

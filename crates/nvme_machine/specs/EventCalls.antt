@@ -10,13 +10,13 @@ use Rattle.nvme_machine.specs.declared.seen.Seen.{Seen}
 use Rattle.nvme_machine.specs.declared.seen.Seen.TheVariants.{Executed, Cycled, NoController}
 use Rattle.nvme_machine.specs.Controllers.{Controller, QueuePair, after_store, wrote, has_read, after_fetch, open_pair}
 use Rattle.nvme_machine.specs.Subsystems.{Subsystem, Completes, Reacts, Step, Run, controller_at, scene_of, after_power_cycle}
-use Rattle.nvme_machine.specs.Calling.{AreCallsOfAnswer}
+use Rattle.nvme_machine.specs.Calling.{AreCallsOfExecution}
 
 -- A command is executed: it has an answer, all is as that says, and it has made the calls of that very answer.
 pub record CompletesCalling (tells : Bool) (old : Subsystem) (k : ℕ) (c : Controller) (i : ℕ) (t : FetchedCommand)
     (p : QueuePair) (seen : Seen) (new : Subsystem) (calls : List MediumCall) : Type 0 where
   pub completes : Completes tells old k c i t p seen new
-  pub are : AreCallsOfAnswer k t (scene_of old c) completes.answer calls
+  pub are : AreCallsOfExecution k t (scene_of old c) completes.execution calls
 
 -- Its completion queue may be full; then all stays, and no call is made.
 abbrev pub CallingOver : Option QueuePair → Bool → Subsystem → ℕ → Controller → ℕ → FetchedCommand → Seen → Subsystem

@@ -26,12 +26,12 @@ scene_in s = record { world = s.world; window = s.controller.window; device = s.
 -- the i-th command has an answer, and all is as that says
 pub record Finishes (tells : Bool) (i : ℕ) (t : FetchedCommand) (p : QueuePair) (old : Setting) (executed : Executed)
     (new : Setting) : Type 0 where
-  pub answer : CommandExecution
-  pub answers : CommandComesTo tells (queues_of old.controller) old.controller.cntlid t (scene_in old) answer
-  pub gives : executed ≡ Posted answer.outcome
-  pub controller : new.controller ≡ after_completion i t p answer old.controller
-  pub world : new.world ≡ answer.left.world
-  pub device : new.device ≡ answer.left.device
+  pub execution : CommandExecution
+  pub comes_to : CommandComesTo tells (queues_of old.controller) old.controller.cntlid t (scene_in old) execution
+  pub gives : executed ≡ Posted execution.outcome
+  pub controller : new.controller ≡ after_completion i t p execution old.controller
+  pub world : new.world ≡ execution.left.world
+  pub device : new.device ≡ execution.left.device
 
 -- its completion queue may be full; then all stays
 abbrev pub FinishesOver : Option QueuePair → Bool → ℕ → FetchedCommand → Setting → Executed → Setting → Type 0

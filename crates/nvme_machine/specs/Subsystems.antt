@@ -107,10 +107,10 @@ after_execution s k c i t p a = record {
 -- A command is executed: it comes to this, and all is as that says.
 pub record Completes (tells : Bool) (old : Subsystem) (k : ℕ) (c : Controller) (i : ℕ) (t : FetchedCommand)
     (p : QueuePair) (seen : Seen) (new : Subsystem) : Type 0 where
-  pub answer : CommandExecution
-  pub answers : CommandComesTo tells (queues_of c) k t (scene_of old c) answer
-  pub gives : seen ≡ Executed (Posted answer.outcome)
-  pub leaves : new ≡ after_execution old k c i t p answer
+  pub execution : CommandExecution
+  pub comes_to : CommandComesTo tells (queues_of c) k t (scene_of old c) execution
+  pub gives : seen ≡ Executed (Posted execution.outcome)
+  pub leaves : new ≡ after_execution old k c i t p execution
 
 -- Its completion queue may be full; then all stays.
 abbrev pub ExecutesOver : Option QueuePair → Bool → Subsystem → ℕ → Controller → ℕ → FetchedCommand → Seen

@@ -24,8 +24,8 @@ unfolding after_execution
 over-count None tells old new k c i t seen h = ap (λ (s : Subsystem). length s.controllers) h.1
 over-count (Some p) tells old new k c i t seen h =
     ap (λ (s : Subsystem). length s.controllers) h.leaves
-    ∙ length-marked h.answer.left.world h.answer.outcome.marks 1 (replaced old.controllers k (after_completion i t p h.answer c))
-    ∙ length-replaced old.controllers k (after_completion i t p h.answer c)
+    ∙ length-marked h.execution.left.world h.execution.outcome.marks 1 (replaced old.controllers k (after_completion i t p h.execution c))
+    ∙ length-replaced old.controllers k (after_completion i t p h.execution c)
 
 one-count : (o : Option FetchedCommand) (tells : Bool) (old new : Subsystem) (k : ℕ) (c : Controller) (i : ℕ) (seen : Seen) → ExecutesOne o tells old k c i seen new → length new.controllers ≡ length old.controllers
 one-count None tells old new k c i seen h = ap (λ (s : Subsystem). length s.controllers) h.1

@@ -15,7 +15,7 @@ use Rattle.nvme_machine.specs.Controllers.{Controller, QueuePair, queues_of, Rea
 use Rattle.nvme_machine.specs.CommandExecutions.{CommandComesTo}
 use Rattle.nvme_machine.specs.Subsystems.{Subsystem, numbered, replaced, controller_at, with_controller, marked_from, after_completion, after_execution, scene_of, ReactsAs, Reacts, ExecutesAt, ExecutesOne, ExecutesOver}
 use Rattle.nvme_machine.specs.Executing.{Setting, setting, FinishesOver, FinishesOne, ExecutesNth}
-use Rattle.nvme_machine.specs.Calling.{AreCallsOfAnswer, AreCallsOver, AreCallsOne, AreCallsNth}
+use Rattle.nvme_machine.specs.Calling.{AreCallsOfExecution, AreCallsOver, AreCallsOne, AreCallsNth}
 use Rattle.nvme_machine.specs.EventCalls.{CallingOver, CallingOne, CallingAt}
 use Rattle.nvme_subsys.specs.Marked.{marks_after}
 
@@ -107,15 +107,15 @@ over : (o : Option QueuePair) (tells : Bool) (old : Subsystem) (k place : ℕ) (
 unfolding after_execution
 over None tells old k place c i t x s at found named h = (ap Executed h.0, stays old place c x s found h.1 CqFull h.0 (whole old place c found))
 over (Some p) tells old k place c i t x s at found named h = record {
-  answer = h.answer;
-  answers = subst (λ n. CommandComesTo tells (queues_of c) n t (scene_of old c) h.answer) named h.answers;
+  execution = h.execution;
+  comes_to = subst (λ n. CommandComesTo tells (queues_of c) n t (scene_of old c) h.execution) named h.comes_to;
   gives = ap Executed h.gives;
   leaves =
       ap (λ y. with_outcome y (after-set old place s)) h.gives
       ∙ (λ j. record {
         world = h.world j;
         device = h.device j;
-        controllers = marked_from (h.world j) h.answer.outcome.marks 1 ((ap (λ d. slice_set old.controllers place d) h.controller ∙ sym (replaced-at old.controllers k place (after_completion i t p h.answer c) at)) j);
+        controllers = marked_from (h.world j) h.execution.outcome.marks 1 ((ap (λ d. slice_set old.controllers place d) h.controller ∙ sym (replaced-at old.controllers k place (after_completion i t p h.execution c) at)) j);
       });
 }
 
@@ -139,7 +139,7 @@ calling-over None tells old k place c i t x s calls at found named h =
     (ap Executed h.0, stays old place c x s found h.1 CqFull h.0 (whole old place c found), h.2)
 calling-over (Some p) tells old k place c i t x s calls at found named h = record {
   completes = over (Some p) tells old k place c i t x s at found named h.finishes;
-  are = subst (λ n. AreCallsOfAnswer n t (scene_of old c) h.finishes.answer calls) named h.are;
+  are = subst (λ n. AreCallsOfExecution n t (scene_of old c) h.finishes.execution calls) named h.are;
 }
 
 calling-one : (o : Option FetchedCommand) (tells : Bool) (old : Subsystem) (k place : ℕ) (c : Controller) (i : ℕ) (x : executed.Executed) (s : Setting) (calls : List MediumCall) → k ≡ place + 1
@@ -186,20 +186,20 @@ over-back None tells old k place c i t seen new at found named h = record {
   leaves = h.1 ∙ sym (whole old place c found);
 }
 over-back (Some p) tells old k place c i t seen new at found named h = record {
-  executed = Posted h.answer.outcome;
-  left = setting (after_completion i t p h.answer c) h.answer.left.world h.answer.left.device;
+  executed = Posted h.execution.outcome;
+  left = setting (after_completion i t p h.execution c) h.execution.left.world h.execution.left.device;
   gives = h.gives;
   executes = record {
-    answer = h.answer;
-    answers = subst (λ n. CommandComesTo tells (queues_of c) n t (scene_of old c) h.answer) (sym named) h.answers;
+    execution = h.execution;
+    comes_to = subst (λ n. CommandComesTo tells (queues_of c) n t (scene_of old c) h.execution) (sym named) h.comes_to;
     gives = refl;
     controller = refl;
     world = refl;
     device = refl;
   };
   leaves = h.leaves
-      ∙ ap (λ cs. (let b : Subsystem = record { world = h.answer.left.world; device = h.answer.left.device; controllers = marked_from h.answer.left.world h.answer.outcome.marks 1 cs } in b))
-      (replaced-at old.controllers k place (after_completion i t p h.answer c) at);
+      ∙ ap (λ cs. (let b : Subsystem = record { world = h.execution.left.world; device = h.execution.left.device; controllers = marked_from h.execution.left.world h.execution.outcome.marks 1 cs } in b))
+      (replaced-at old.controllers k place (after_completion i t p h.execution c) at);
 }
 
 one-back : (o : Option FetchedCommand) (tells : Bool) (old : Subsystem) (k place : ℕ) (c : Controller) (i : ℕ) (seen : Seen) (new : Subsystem) → k ≡ place + 1 → slice_get old.controllers place ≡ Some c → c.cntlid ≡ k
