@@ -124,7 +124,8 @@ fn unmark(marks: &mut Marks)
 }
 
 /// Lets an event happen that was kept of a text, and writes its line of the transcript, which has room in what is lent.
-/// What it marks has room there too, which is empty before and afterwards: it is not cleared for each event. Nothing happens where the line that it is kept as says no event.
+/// What it marks has room there too, which is empty before and afterwards: it is not cleared for each event. Nothing
+/// happens where the line that it is kept as says no event.
 fn run_event<W: Write, M: Medium>(
     text: &[u8],
     kept: KeptEvent,
