@@ -12,9 +12,9 @@ use Rattle.script_text.specs.Front.{BeginsWith}
 use Rattle.nvme_grammar.specs.Arity.{◌>>=◌}
 use Rattle.nvme_grammar.specs.Brief.{Numbers}
 use Rattle.nvme_grammar.specs.Lent.{lent}
-use Rattle.nvme_grammar.specs.Requests.{request_at, numbers_at, bit_of}
+use Rattle.nvme_grammar.specs.Requests.{request_at, bit_of}
 use Rattle.nvme_grammar.specs.Events.{event_at, place}
-use Rattle.nvme_grammar.specs.Keywords.{keyword_text}
+use Rattle.nvme_grammar.specs.Keywords.{keyword_text, keyword_of}
 use Rattle.nvme_grammar.specs.Line.{sentence, event_line, line_at}
 use Rattle.nvme_grammar.specs.declared.keyword.Keyword.{Keyword}
 use Rattle.nvme_grammar.specs.declared.keyword.Keyword.TheVariants as keyword
@@ -44,71 +44,70 @@ Numbers-more (m ∷ ns) ws more behind n (first, others, split, k, h) e = (first
 -- what the numbers behind `KEYWORD C N` ask for
 module _ (nsid : ℕ) where
   pub asks_read : (s b : ℕ) → b < 2 ^ 32 → (ws : List (List ℕ)) → Numbers (s ∷ b ∷ []) ws [] → request_at (codes "read") nsid ws ≡ Some (Read nsid s b)
-  unfolding request_at
+  unfolding request_at keyword_of
   asks_read s b small ws (w, ws1, e, k, (v, ws2, f, l, end)) = rw (e, f, end, k, narrow 32 v b l small) refl
 
   pub asks_zeroes : (s b : ℕ) → b < 2 ^ 32 → (ws : List (List ℕ)) → Numbers (s ∷ b ∷ []) ws [] → request_at (codes "zeroes") nsid ws ≡ Some (WriteZeroes nsid s b)
-  unfolding request_at
+  unfolding request_at keyword_of
   asks_zeroes s b small ws (w, ws1, e, k, (v, ws2, f, l, end)) = rw (e, f, end, k, narrow 32 v b l small) refl
 
   pub asks_flush : (ns : List ℕ) (ws : List (List ℕ)) → length ns ≡ 0 → Numbers ns ws [] → request_at (codes "flush") nsid ws ≡ Some (Flush nsid)
-  unfolding request_at
+  unfolding request_at keyword_of
   asks_flush [] ws none end = rw end refl
   asks_flush (n ∷ ns) ws none h = absurd (omega (arith, none))
 
   pub asks_protection : (ns : List ℕ) (ws : List (List ℕ)) → length ns ≡ 0 → Numbers ns ws [] → request_at (codes "protection") nsid ws ≡ Some (Protection nsid)
-  unfolding request_at
+  unfolding request_at keyword_of
   asks_protection [] ws none end = rw end refl
   asks_protection (n ∷ ns) ws none h = absurd (omega (arith, none))
 
   pub asks_protect : (s : ℕ) → s < 2 ^ 8 → (ws : List (List ℕ)) → Numbers (s ∷ []) ws [] → request_at (codes "protect") nsid ws ≡ Some (Protect nsid s)
-  unfolding request_at
+  unfolding request_at keyword_of
   asks_protect s small ws (w, ws1, e, k, end) = rw (e, end, narrow 8 w s k small) refl
 
   pub asks_report : (d : ℕ) → d < 2 ^ 32 → (ws : List (List ℕ)) → Numbers (d ∷ []) ws [] → request_at (codes "report") nsid ws ≡ Some (Report nsid d)
-  unfolding request_at
+  unfolding request_at keyword_of
   asks_report d small ws (w, ws1, e, k, end) = rw (e, end, narrow 32 w d k small) refl
 
   pub asks_release : (a t c : ℕ) → a < 2 ^ 8 → t < 2 ^ 8 → (ws : List (List ℕ)) → Numbers (a ∷ t ∷ c ∷ []) ws []
       → request_at (codes "release") nsid ws ≡ Some (Release nsid a t c)
-  unfolding request_at
+  unfolding request_at keyword_of
   asks_release a t c action rtype ws (w1, ws1, e1, k1, (w2, ws2, e2, k2, (w3, ws3, e3, k3, end))) =
       rw (e1, e2, e3, end, narrow 8 w1 a k1 action, narrow 8 w2 t k2 rtype, k3) refl
 
   pub asks_acquire : (a t c p : ℕ) → a < 2 ^ 8 → t < 2 ^ 8 → (ws : List (List ℕ)) → Numbers (a ∷ t ∷ c ∷ p ∷ []) ws []
       → request_at (codes "acquire") nsid ws ≡ Some (Acquire nsid a t c p)
-  unfolding request_at
+  unfolding request_at keyword_of
   asks_acquire a t c p action rtype ws (w1, ws1, e1, k1, (w2, ws2, e2, k2, (w3, ws3, e3, k3, (w4, ws4, e4, k4, end)))) =
       rw (e1, e2, e3, e4, end, narrow 8 w1 a k1 action, narrow 8 w2 t k2 rtype, k3, k4) refl
 
   pub asks_register : (a i p c n : ℕ) (iekey : Bool) → a < 2 ^ 8 → i < 2 ^ 8 → p < 2 ^ 8 → bit_of i ≡ Some iekey → (ws : List (List ℕ)) → Numbers (a ∷ i ∷ p ∷ c ∷ n ∷ []) ws []
       → request_at (codes "register") nsid ws ≡ Some (Register nsid a iekey p c n)
-  unfolding request_at
+  unfolding request_at keyword_of
   asks_register a i p c n iekey action small cptpl bit ws (w1, ws1, e1, k1, (w2, ws2, e2, k2, (w3, ws3, e3, k3, (w4, ws4, e4, k4, (w5, ws5, e5, k5, end))))) =
       rw (e1, e2, e3, e4, e5, end, narrow 8 w1 a k1 action, narrow 8 w2 i k2 small, bit, narrow 8 w3 p k3 cptpl, k4, k5) refl
 
 -- the keyword of a request places it
-no_request : {A : Type 0} (list : Option (List ℕ)) (r : Request) → (list >>= (λ numbers. None)) ≡ Some r → A
-no_request None r e = absurd (false≢true (ap is_some e))
-no_request (Some numbers) r e = absurd (false≢true (ap is_some e))
+no_request : {A : Type 0} (r : Request) → None ≡ Some r → A
+no_request r e = absurd (false≢true (ap is_some e))
 
 pub placing : (k : Keyword) (nsid : ℕ) (ws : List (List ℕ)) (r : Request) → request_at (keyword_text k) nsid ws ≡ Some r
     → (vs : List (List ℕ)) → sentence (keyword_text k ∷ vs) ≡ event_line (place (keyword_text k) vs)
-unfolding sentence event_at request_at
-placing keyword.Controller nsid ws r e vs = no_request (numbers_at 16 ws) r e
-placing keyword.Namespace nsid ws r e vs = no_request (numbers_at 16 ws) r e
-placing keyword.Attached nsid ws r e vs = no_request (numbers_at 16 ws) r e
-placing keyword.Start nsid ws r e vs = no_request (numbers_at 16 ws) r e
-placing keyword.Up nsid ws r e vs = no_request (numbers_at 16 ws) r e
-placing keyword.Ring nsid ws r e vs = no_request (numbers_at 16 ws) r e
-placing keyword.Fetch nsid ws r e vs = no_request (numbers_at 16 ws) r e
-placing keyword.Execute nsid ws r e vs = no_request (numbers_at 16 ws) r e
-placing keyword.Poll nsid ws r e vs = no_request (numbers_at 16 ws) r e
-placing keyword.Reset nsid ws r e vs = no_request (numbers_at 16 ws) r e
-placing keyword.Store nsid ws r e vs = no_request (numbers_at 16 ws) r e
-placing keyword.Write32 nsid ws r e vs = no_request (numbers_at 16 ws) r e
-placing keyword.PowerCycle nsid ws r e vs = no_request (numbers_at 16 ws) r e
-placing keyword.Identify nsid ws r e vs = no_request (numbers_at 16 ws) r e
+unfolding sentence event_at request_at keyword_of
+placing keyword.Controller nsid ws r e vs = no_request r e
+placing keyword.Namespace nsid ws r e vs = no_request r e
+placing keyword.Attached nsid ws r e vs = no_request r e
+placing keyword.Start nsid ws r e vs = no_request r e
+placing keyword.Up nsid ws r e vs = no_request r e
+placing keyword.Ring nsid ws r e vs = no_request r e
+placing keyword.Fetch nsid ws r e vs = no_request r e
+placing keyword.Execute nsid ws r e vs = no_request r e
+placing keyword.Poll nsid ws r e vs = no_request r e
+placing keyword.Reset nsid ws r e vs = no_request r e
+placing keyword.Store nsid ws r e vs = no_request r e
+placing keyword.Write32 nsid ws r e vs = no_request r e
+placing keyword.PowerCycle nsid ws r e vs = no_request r e
+placing keyword.Identify nsid ws r e vs = no_request r e
 placing k nsid ws r e vs = refl
 
 -- `C N`, and a request
@@ -175,7 +174,7 @@ module _ (c : ℕ) (small : c < 2 ^ 16) where
 module _ (c n s b : ℕ) (cntlid : c < 2 ^ 16) (nsid : n < 2 ^ 32) (blocks : b < 2 ^ 32) (word : List ℕ) where
   pub says_write : (ws : List (List ℕ)) → Numbers (c ∷ n ∷ s ∷ b ∷ []) ws (word ∷ [])
       → sentence (codes "write" ∷ ws) ≡ option_map (λ bytes. Event (Place c (Write n s (lent bytes)))) (data_at b word)
-  unfolding sentence event_at request_at
+  unfolding sentence event_at request_at keyword_of
   says_write ws (w1, ws1, e1, k1, (w2, ws2, e2, k2, (w3, ws3, e3, k3, (w4, ws4, e4, k4, end)))) =
       rw (e1, e2, e3, e4, end, narrow 16 w1 c k1 cntlid, narrow 32 w2 n k2 nsid, k3, narrow 32 w4 b k4 blocks) (by (data_at b word))
     where
@@ -186,7 +185,7 @@ module _ (c n s b : ℕ) (cntlid : c < 2 ^ 16) (nsid : n < 2 ^ 32) (blocks : b <
 
   pub says_compare : (ws : List (List ℕ)) → Numbers (c ∷ n ∷ s ∷ b ∷ []) ws (word ∷ [])
       → sentence (codes "compare" ∷ ws) ≡ option_map (λ bytes. Event (Place c (Compare n s (lent bytes)))) (data_at b word)
-  unfolding sentence event_at request_at
+  unfolding sentence event_at request_at keyword_of
   says_compare ws (w1, ws1, e1, k1, (w2, ws2, e2, k2, (w3, ws3, e3, k3, (w4, ws4, e4, k4, end)))) =
       rw (e1, e2, e3, e4, end, narrow 16 w1 c k1 cntlid, narrow 32 w2 n k2 nsid, k3, narrow 32 w4 b k4 blocks) (by (data_at b word))
     where

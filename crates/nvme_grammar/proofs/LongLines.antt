@@ -2,6 +2,7 @@
 use Rattle.std.proofs.Common.{◌≡◌, ℕ, ◌<◌, ◌≤◌, Bool, true, false, List, [], ◌∷◌, ◌++◌, length, Option, Some, None, refl, sym, ap, ◌∙◌, arith}
 use Rattle.std.specs.Prelude.{codes, if◌then◌else◌}
 use Rattle.std.specs.Str.{bytes_eq}
+use Rattle.std.proofs.lemmas.Bool.{false≢true}
 use Rattle.std.proofs.lemmas.Slice.Eq.{bytes_eq-Decides}
 use Rattle.nvme_event.specs.declared.event.FleetEvent.TheVariants.{Place}
 use Rattle.nvme_driver.specs.declared.request.Request.{Request}
@@ -11,9 +12,13 @@ use Rattle.script_text.specs.Words.{line_words, is_line_text, starts_apart}
 use Rattle.script_text.proofs.WordLemmas.{some_words}
 use Rattle.nvme_grammar.specs.Arity.{◌>>=◌}
 use Rattle.nvme_grammar.specs.Lent.{lent}
-use Rattle.nvme_grammar.specs.Requests.{request_at, numbers_at, list_request}
+use Rattle.nvme_grammar.specs.Keywords.{keyword_of, keyword_text}
+use Rattle.nvme_grammar.specs.Requests.{request_at, request_by, numbers_at, list_request}
 use Rattle.nvme_grammar.specs.Events.{event_at}
 use Rattle.nvme_grammar.specs.Line.{sentence, event_line}
+use Rattle.nvme_grammar.specs.declared.keyword.Keyword.{Keyword}
+use Rattle.nvme_grammar.specs.declared.keyword.Keyword.TheVariants as keyword
+use Rattle.nvme_grammar.proofs.KeywordLemmas.{is_keyword}
 use Rattle.nvme_grammar.specs.Lists.{list_event, long_line}
 use Rattle.std.proofs.lemmas.List.{length-append}
 
@@ -46,27 +51,25 @@ no_list_request : (w : List ℕ) (nsid : ℕ) (list : List ℕ) → bytes_eq w (
 no_list_request w nsid list a d = rw (a, d) refl
 
 -- with another keyword so many words ask for no request
+no_request_by : (w : List ℕ) (k : Keyword) (nsid : ℕ) (ws : List (List ℕ)) → 6 ≤ length ws → w ≡ keyword_text k → bytes_eq w (codes "attach") ≡ false
+    → bytes_eq w (codes "detach") ≡ false → request_by k nsid ws ≡ None
+no_request_by w keyword.Attach nsid ws many is a d = absurd (false≢true (sym a ∙ (bytes_eq-Decides w (codes "attach")).1 is))
+no_request_by w keyword.Detach nsid ws many is a d = absurd (false≢true (sym d ∙ (bytes_eq-Decides w (codes "detach")).1 is))
+no_request_by w k nsid [] many is a d = absurd (omega (arith, many))
+no_request_by w k nsid (x ∷ []) many is a d = absurd (omega (arith, many))
+no_request_by w k nsid (x ∷ y ∷ []) many is a d = absurd (omega (arith, many))
+no_request_by w k nsid (x ∷ y ∷ z ∷ []) many is a d = absurd (omega (arith, many))
+no_request_by w k nsid (x ∷ y ∷ z ∷ t ∷ []) many is a d = absurd (omega (arith, many))
+no_request_by w k nsid (x ∷ y ∷ z ∷ t ∷ u ∷ []) many is a d = absurd (omega (arith, many))
+no_request_by w k nsid (x ∷ y ∷ z ∷ t ∷ u ∷ v ∷ ws) many is a d = refl
+
 no_request : (w : List ℕ) (nsid : ℕ) (ws : List (List ℕ)) → 6 ≤ length ws → bytes_eq w (codes "attach") ≡ false → bytes_eq w (codes "detach") ≡ false → request_at w nsid ws ≡ None
 unfolding request_at
-no_request w nsid [] many a d = absurd (omega (arith, many))
-no_request w nsid (x ∷ []) many a d = absurd (omega (arith, many))
-no_request w nsid (x ∷ y ∷ []) many a d = absurd (omega (arith, many))
-no_request w nsid (x ∷ y ∷ z ∷ []) many a d = absurd (omega (arith, many))
-no_request w nsid (x ∷ y ∷ z ∷ t ∷ []) many a d = absurd (omega (arith, many))
-no_request w nsid (x ∷ y ∷ z ∷ t ∷ u ∷ []) many a d = absurd (omega (arith, many))
-no_request w nsid (x ∷ y ∷ z ∷ t ∷ u ∷ v ∷ ws) many a d =
-    either (bytes_eq w (codes "read")) _ _ None refl
-    (either (bytes_eq w (codes "write")) _ _ None refl
-    (either (bytes_eq w (codes "compare")) _ _ None refl
-    (either (bytes_eq w (codes "zeroes")) _ _ None refl
-    (either (bytes_eq w (codes "flush")) _ _ None refl
-    (either (bytes_eq w (codes "register")) _ _ None refl
-    (either (bytes_eq w (codes "acquire")) _ _ None refl
-    (either (bytes_eq w (codes "release")) _ _ None refl
-    (either (bytes_eq w (codes "report")) _ _ None refl
-    (either (bytes_eq w (codes "protect")) _ _ None refl
-    (either (bytes_eq w (codes "protection")) _ _ None refl
-    (after (numbers_at 16 (x ∷ y ∷ z ∷ t ∷ u ∷ v ∷ ws)) _ (λ list. no_list_request w nsid list a d))))))))))))
+no_request w nsid ws many a d = by (keyword_of w) refl
+  where
+    by : (o : Option Keyword) → keyword_of w ≡ o → (o >>= (λ k. request_by k nsid ws)) ≡ None
+    by None e = refl
+    by (Some k) e = no_request_by w k nsid ws many (is_keyword w k e) a d
 
 no_event : (w c n : List ℕ) (ws : List (List ℕ)) → 6 ≤ length ws → bytes_eq w (codes "attach") ≡ false → bytes_eq w (codes "detach") ≡ false → event_at w (c ∷ n ∷ ws) ≡ None
 unfolding event_at
@@ -100,11 +103,11 @@ no_sentence w c n (x ∷ y ∷ z ∷ ws) many e =
     (ap event_line e))))
 
 attach_sentence : (c n : List ℕ) (ws : List (List ℕ)) → sentence (codes "attach" ∷ c ∷ n ∷ ws) ≡ event_line (list_event (codes "attach") c n (numbers_at 16 ws))
-unfolding sentence event_at request_at
+unfolding sentence event_at request_at keyword_of
 attach_sentence c n ws = ap event_line (listed (codes "attach") c n ws (λ nsid list. Attach nsid (lent list)) (λ nsid list. refl))
 
 detach_sentence : (c n : List ℕ) (ws : List (List ℕ)) → sentence (codes "detach" ∷ c ∷ n ∷ ws) ≡ event_line (list_event (codes "detach") c n (numbers_at 16 ws))
-unfolding sentence event_at request_at
+unfolding sentence event_at request_at keyword_of
 detach_sentence c n ws = ap event_line (listed (codes "detach") c n ws (λ nsid list. Detach nsid (lent list)) (λ nsid list. refl))
 
 -- more than eight words are a list behind `attach C N` or `detach C N`, or say nothing

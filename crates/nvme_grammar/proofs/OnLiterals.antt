@@ -12,5 +12,5 @@ unfolding fault_of keyword_of nearest_to words_on_literals
 faults_on_literals = tt
 
 unfoldable pub lines_on_literals : ⊤
-unfolding line_at sentence event_at request_at words_on_literals
+unfolding line_at sentence event_at request_at keyword_of words_on_literals
 lines_on_literals = tt

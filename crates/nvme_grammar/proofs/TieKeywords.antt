@@ -4,7 +4,6 @@ use Rattle.std.specs.Prelude.{◌&&◌, codes, if◌then◌else◌, option_map, 
 use Rattle.std.specs.List.{find}
 use Rattle.std.specs.Str.{bytes_eq}
 use Rattle.std.proofs.lemmas.Bool.{false≢true}
-use Rattle.std.proofs.lemmas.Slice.Eq.{bytes_eq-Decides}
 use Rattle.nvme_event.specs.declared.event.FleetEvent.{FleetEvent}
 use Rattle.nvme_event.specs.declared.event.FleetEvent.TheVariants.{BringUp, Place as Placed, Ring as Rings, Fetch as Fetches, Execute as Executes, Poll as Polls, Reset as Resets, PowerCycle as Cycles}
 use Rattle.nvme_driver.specs.declared.request.Request.{Request}
@@ -16,13 +15,13 @@ use Rattle.std.specs.Borrow.{Bor}
 use Rattle.nvme_grammar.specs.Requests.{request_at, numbers_at, bit_at, on_blocks, with_data, with_list, register, acquire, release, report, protect}
 use Rattle.nvme_grammar.specs.Events.{event_at, place, alone, pair, identify, store, write32}
 use Rattle.nvme_grammar.specs.Line.{sentence, event_line, controller, namespace, attached, start, sharing, rawness}
-use Rattle.nvme_grammar.specs.Places.{suits}
 use Rattle.nvme_grammar.specs.Keywords.{keyword_text, places_of, behind_of}
-use Rattle.nvme_grammar.specs.LineFaults.{is_allowed_line, words_fault, fault_of, keyword_fault, foreign_fault}
+use Rattle.nvme_grammar.specs.LineFaults.{is_allowed_line, suits, words_fault, fault_of, keyword_fault, foreign_fault}
 use Rattle.nvme_grammar.specs.Lent.{lent}
 use Rattle.nvme_grammar.specs.Line.{line_at, is_comment}
 use Rattle.script_text.specs.Words.{is_line_text, line_words}
-use Rattle.nvme_grammar.specs.Keywords.{keyword_of, keywords}
+use Rattle.nvme_grammar.specs.Keywords.{keyword_of}
+use Rattle.nvme_grammar.proofs.KeywordLemmas.{is_no, is_keyword}
 use Rattle.nvme_grammar.proofs.TieLemmas.{fine, fine_behind, stands, bound, plain, and_false, and_false2, zero-fine, one-fine, two-fine, three-fine, four-fine, five-fine, numbers-fine, keys-fine, if_fine, keyword-tie}
 use Rattle.nvme_grammar.specs.declared.line.Line.TheVariants.{Controller as Sets, Blank}
 use Rattle.nvme_grammar.specs.declared.keyword.Keyword.{Keyword}
@@ -144,7 +143,7 @@ start-fine started before (w ∷ ws) = refl
 -- every keyword
 keyword-fine : (started : Bool) (before : List ℕ) (k : Keyword) (ws : List (List ℕ))
     → fine (stands started k) before (places_of k) (behind_of k) ws ≡ is_allowed_line started (sentence (keyword_text k ∷ ws))
-unfolding sentence event_at request_at
+unfolding sentence event_at request_at keyword_of
 keyword-fine started before Controller ws = controller-fine started before ws
 keyword-fine started before Namespace ws = namespace-fine started before ws
 keyword-fine started before Attached ws = attached-fine started before ws
@@ -174,67 +173,30 @@ keyword-fine started before Write32 ws = write32-fine started before ws
 keyword-fine started before PowerCycle ws = zero-fine (event_allowed started) refl started before Cycles refl ws
 
 -- a word that is no keyword says nothing
-first_false : {A : Type 0} (b : Bool) (x : A) (o : Option A) → (if b then Some x else o) ≡ None → (b ≡ false) × (o ≡ None)
-first_false true x o h = absurd (false≢true (sym (ap is_some h)))
-first_false false x o h = (refl, h)
-
 after : {A B : Type 0} (o : Option A) (f : A → Option B) → ((x : A) → f x ≡ None) → (o >>= f) ≡ None
 after None f h = refl
 after (Some x) f h = h x
 
-abbrev IsNo : List ℕ → Keyword → Type 0
-IsNo word k = bytes_eq word (keyword_text k) ≡ false
-
-some_same : {A : Type 0} (a b : A) → Some a ≡ Some b → a ≡ b
-some_same a b e = ap (λ o. unwrap_or o a) e
-
--- what one test finds, another that finds nothing does not hold of
-find_none : {A : Type 0} (p q : A → Bool) (xs : List A) → find p xs ≡ None → (x : A) → find q xs ≡ Some x → p x ≡ false
-find_none p q [] h x e = absurd (false≢true (ap is_some e))
-find_none p q (y ∷ xs) h x e = by (q y) e (find_none p q xs (first_false (p y) y (find p xs) h).1 x)
-  where
-    by : (b : Bool) → (if b then Some y else find q xs) ≡ Some x → (find q xs ≡ Some x → p x ≡ false) → p x ≡ false
-    by true g rest = subst (λ z. p z ≡ false) (some_same y x g) (first_false (p y) y (find p xs) h).0
-    by false g rest = rest g
-
-no_request : (word : List ℕ) (nsid : ℕ) (ws : List (List ℕ)) → ((k : Keyword) → IsNo word k) → request_at word nsid ws ≡ None
+no_request : (word : List ℕ) (nsid : ℕ) (ws : List (List ℕ)) → keyword_of word ≡ None → request_at word nsid ws ≡ None
 unfolding request_at
-no_request word nsid ws other = rw (other Read, other Write, other Compare, other Zeroes, other Flush, other Register, other Acquire, other Release, other Report, other Protect, other Protection)
-    (after (numbers_at 16 ws) _ (λ l. rw (other Attach, other Detach) refl))
+no_request word nsid ws h = rw h refl
 
-no_place : (word : List ℕ) (ws : List (List ℕ)) → ((k : Keyword) → IsNo word k) → place word ws ≡ None
-no_place word [] other = refl
-no_place word (c ∷ []) other = refl
-no_place word (c ∷ n ∷ ws) other = after (number_at 16 c) _ (λ x. after (number_at 32 n) _ (λ y. ap (λ r. r >>= (λ request. Some (Placed x request))) (no_request word y ws other)))
+no_place : (word : List ℕ) (ws : List (List ℕ)) → keyword_of word ≡ None → place word ws ≡ None
+no_place word [] h = refl
+no_place word (c ∷ []) h = refl
+no_place word (c ∷ n ∷ ws) h = after (number_at 16 c) _ (λ x. after (number_at 32 n) _ (λ y. ap (λ r. r >>= (λ request. Some (Placed x request))) (no_request word y ws h)))
 
-no_event : (word : List ℕ) (ws : List (List ℕ)) → ((k : Keyword) → IsNo word k) → event_at word ws ≡ None
+no_event : (word : List ℕ) (ws : List (List ℕ)) → keyword_of word ≡ None → event_at word ws ≡ None
 unfolding event_at
-no_event word ws other = rw (other Up, other Ring, other Fetch, other Execute, other Poll, other Reset, other Store, other Write32, other PowerCycle, other Identify) (no_place word ws other)
+no_event word ws h =
+    let other = is_no word h in
+    rw (other Up, other Ring, other Fetch, other Execute, other Poll, other Reset, other Store, other Write32, other PowerCycle, other Identify) (no_place word ws h)
 
-no_sentence : (word : List ℕ) (ws : List (List ℕ)) → ((k : Keyword) → IsNo word k) → sentence (word ∷ ws) ≡ None
+no_sentence : (word : List ℕ) (ws : List (List ℕ)) → keyword_of word ≡ None → sentence (word ∷ ws) ≡ None
 unfolding sentence
-no_sentence word ws other = rw (other Controller, other Namespace, other Attached, other Start) (ap event_line (no_event word ws other))
-
--- each keyword is found by its text
-found : (k : Keyword) → find (λ other. bytes_eq (keyword_text k) (keyword_text other)) keywords ≡ Some k
-found Controller = refl
-found k = refl
-
-is_no : (word : List ℕ) → keyword_of word ≡ None → (k : Keyword) → IsNo word k
-unfolding keyword_of
-is_no word h k = find_none (λ other. bytes_eq word (keyword_text other)) (λ other. bytes_eq (keyword_text k) (keyword_text other)) keywords h k (found k)
-
-find_some : {A : Type 0} (p : A → Bool) (xs : List A) (x : A) → find p xs ≡ Some x → p x ≡ true
-find_some p [] x h = absurd (false≢true (ap is_some h))
-find_some p (y ∷ xs) x h = by (p y) refl h (find_some p xs x)
-  where
-    by : (b : Bool) → p y ≡ b → (if b then Some y else find p xs) ≡ Some x → (find p xs ≡ Some x → p x ≡ true) → p x ≡ true
-    by true e g rest = subst (λ z. p z ≡ true) (some_same y x g) e
-    by false e g rest = rest g
-
-is_keyword : (word : List ℕ) (k : Keyword) → keyword_of word ≡ Some k → word ≡ keyword_text k
-unfolding keyword_of
-is_keyword word k h = (bytes_eq-Decides word (keyword_text k)).0 (find_some (λ k. bytes_eq word (keyword_text k)) keywords k h)
+no_sentence word ws h =
+    let other = is_no word h in
+    rw (other Controller, other Namespace, other Attached, other Start) (ap event_line (no_event word ws h))
 
 words-tie : (started : Bool) (line : List ℕ) (ws : List (List ℕ)) → is_some (words_fault started line ws) ≡ not (is_allowed_line started (sentence ws))
 unfolding sentence
@@ -242,7 +204,7 @@ words-tie started line [] = refl
 words-tie started line (word ∷ ws) = by (keyword_of word) refl
   where
     by : (o : Option Keyword) → keyword_of word ≡ o → is_some (keyword_fault started line word ws o) ≡ not (is_allowed_line started (sentence (word ∷ ws)))
-    by None e = sym (ap (λ s. not (is_allowed_line started s)) (no_sentence word ws (is_no word e)))
+    by None e = sym (ap (λ s. not (is_allowed_line started s)) (no_sentence word ws e))
     by (Some k) e = keyword-tie started line word ws k ∙ ap not (keyword-fine started word k ws ∙ ap (λ w. is_allowed_line started (sentence (w ∷ ws))) (sym (is_keyword word k e)))
 
 -- a line has a fault exactly where it is not allowed

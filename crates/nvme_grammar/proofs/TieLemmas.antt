@@ -6,9 +6,9 @@ use Rattle.std.proofs.lemmas.Bool.{false≢true}
 use Rattle.script_text.specs.Numbers.{number_at}
 use Rattle.nvme_grammar.specs.Arity.{◌>>=◌, zero_words, one, two, three, four, five}
 use Rattle.nvme_grammar.specs.Requests.{numbers_at, keys_at}
-use Rattle.nvme_grammar.specs.Places.{suits, place_behind, takes_behind}
+use Rattle.nvme_grammar.specs.Places.{place_behind, takes_behind}
 use Rattle.nvme_grammar.specs.Keywords.{places_of, behind_of, sets_up, place_at, either_place, takes_words}
-use Rattle.nvme_grammar.specs.LineFaults.{misfit, misplaced, place_suits, either_fault, keyword_fault}
+use Rattle.nvme_grammar.specs.LineFaults.{misfit, misplaced, place_suits, either_fault, keyword_fault, suits}
 use Rattle.nvme_grammar.specs.declared.keyword.Keyword.{Keyword}
 use Rattle.nvme_grammar.specs.declared.fault.LineFault.{LineFault}
 use Rattle.nvme_grammar.specs.declared.place.Operand.TheVariants as operand

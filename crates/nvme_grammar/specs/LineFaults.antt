@@ -1,15 +1,21 @@
 -- Why a line is refused: a function of its bytes, and of whether `start` was said before it.
-use Rattle.std.specs.Prelude.{◌≡◌, ℕ, zero, suc, ◌+◌, Bool, true, false, List, [], ◌∷◌, length, get_or, Option, None, Some, option_map, if◌then◌else◌, ◌||◌}
+use Rattle.std.specs.Prelude.{◌≡◌, ℕ, zero, suc, ◌+◌, Bool, true, false, List, [], ◌∷◌, length, get_or, Option, None, Some, option_map, is_some, codes, if◌then◌else◌, ◌||◌}
 use Rattle.std.specs.List.{prefix_len}
+use Rattle.std.specs.Str.{bytes_eq}
+use Rattle.script_text.specs.Numbers.{number_at}
+use Rattle.script_text.specs.Data.{bytes_at, data_at}
 use Rattle.script_text.specs.Words.{line_words, is_text, is_line_text, column_of}
+use Rattle.nvme_grammar.specs.Arity.{◌>>=◌}
 use Rattle.nvme_grammar.specs.Lent.{lent}
-use Rattle.nvme_grammar.specs.Line.{line_at, is_comment}
+use Rattle.nvme_grammar.specs.Requests.{bit_at}
+use Rattle.nvme_grammar.specs.Line.{line_at, is_comment, sharing}
 use Rattle.nvme_grammar.specs.Script.{fits, is_start}
-use Rattle.nvme_grammar.specs.Places.{suits}
+use Rattle.nvme_grammar.specs.Places.{spells}
 use Rattle.nvme_grammar.specs.Keywords.{keyword_of, nearest_to, sets_up, place_at, takes_words}
 use Rattle.nvme_grammar.specs.declared.keyword.Keyword.{Keyword}
 use Rattle.nvme_grammar.specs.declared.line.Line.{Line}
 use Rattle.nvme_grammar.specs.declared.place.Place.{Place}
+use Rattle.nvme_grammar.specs.declared.place.Place.TheVariants.{Number, Iekey, Host, Blocks, Sharing, Raw, Data, Bytes}
 use Rattle.nvme_grammar.specs.declared.fault.LineFault.{LineFault}
 use Rattle.nvme_grammar.specs.declared.fault.Why.{Why}
 use Rattle.nvme_grammar.specs.declared.fault.Why.TheVariants.{Byte, Unknown, Count, Misfit, TooEarly, TooLate}
@@ -34,6 +40,17 @@ foreign_fault line = record {
   column = prefix_len is_text line + 1;
   why = Byte (get_or line (prefix_len is_text line) 0);
 }
+
+-- whether a word is what a place wants, where another stands before it: the blocks that data are for
+abbrev pub suits : List ℕ → Place → List ℕ → Bool
+suits before (Number operand) word = spells operand word
+suits before Iekey word = is_some (bit_at word)
+suits before Host word = bytes_eq word (codes "host")
+suits before Blocks word = bytes_eq word (codes "blocks")
+suits before Sharing word = is_some (sharing word)
+suits before Raw word = bytes_eq word (codes "raw")
+suits before Data word = is_some (number_at 32 before >>= (λ blocks. data_at blocks word))
+suits before Bytes word = is_some (bytes_at word)
 
 -- whether a word is what its place wants, where it has one
 abbrev pub place_suits : Option Place → List ℕ → List ℕ → Bool

@@ -1,12 +1,7 @@
--- What stands in the places of a line: which words a place takes, and how it is named.
+-- What stands in the places of a line: how each is named, and which numbers a place of one takes.
 use Rattle.std.specs.Prelude.{ℕ, zero, suc, ◌==◌, nat_le, Bool, true, List, ◌++◌, codes, Option, Some, None, is_some}
 use Rattle.std.specs.Fmt.{decimal}
-use Rattle.std.specs.Str.{bytes_eq}
 use Rattle.script_text.specs.Numbers.{number_at}
-use Rattle.script_text.specs.Data.{bytes_at, data_at}
-use Rattle.nvme_grammar.specs.Arity.{◌>>=◌}
-use Rattle.nvme_grammar.specs.Requests.{bit_at}
-use Rattle.nvme_grammar.specs.Line.{sharing}
 use Rattle.nvme_grammar.specs.declared.place.Operand.{Operand}
 use Rattle.nvme_grammar.specs.declared.place.Operand.TheVariants as operand
 use Rattle.nvme_grammar.specs.declared.place.Place.{Place}
@@ -64,17 +59,6 @@ operand_bits operand.Value = 32
 -- whether a word spells such a number
 abbrev pub spells : Operand → List ℕ → Bool
 spells operand word = is_some (number_at (operand_bits operand) word)
-
--- whether a word is what a place wants, where another stands before it: the blocks that data are for
-abbrev pub suits : List ℕ → Place → List ℕ → Bool
-suits before (Number operand) word = spells operand word
-suits before Iekey word = is_some (bit_at word)
-suits before Host word = bytes_eq word (codes "host")
-suits before Blocks word = bytes_eq word (codes "blocks")
-suits before Sharing word = is_some (sharing word)
-suits before Raw word = bytes_eq word (codes "raw")
-suits before Data word = is_some (number_at 32 before >>= (λ blocks. data_at blocks word))
-suits before Bytes word = is_some (bytes_at word)
 
 -- what may follow the words that each line of a keyword has: nothing, `raw` or nothing, or controllers
 abbrev pub place_behind : Behind → ℕ → Option Place

@@ -7,7 +7,10 @@ use Rattle.script_text.specs.Data.{data_at}
 use Rattle.nvme_driver.specs.declared.request.Request.{Request}
 use Rattle.nvme_driver.specs.declared.request.Request.TheVariants.{Read, Write, Compare, WriteZeroes, Flush, Register, Acquire, Release, Report, Protect, Protection, Attach, Detach}
 use Rattle.nvme_grammar.specs.Arity.{◌>>=◌, zero_words, one, two, three, four, five}
+use Rattle.nvme_grammar.specs.Keywords.{keyword_of}
 use Rattle.nvme_grammar.specs.Lent.{lent}
+use Rattle.nvme_grammar.specs.declared.keyword.Keyword.{Keyword}
+use Rattle.nvme_grammar.specs.declared.keyword.Keyword.TheVariants as keyword
 
 -- `SLBA BLOCKS`
 abbrev pub on_blocks : (ℕ → ℕ → Request) → List (List ℕ) → Option Request
@@ -98,18 +101,25 @@ with_list ask words = do
   list ← numbers_at 16 words
   ask list
 
--- what the words behind `KEYWORD C N` ask for, by the keyword
+-- what the words behind `KEYWORD C N` ask for; other keywords ask for no request there
+abbrev pub request_by : Keyword → ℕ → List (List ℕ) → Option Request
+request_by keyword.Read nsid words = on_blocks (Read nsid) words
+request_by keyword.Write nsid words = with_data (Write nsid) words
+request_by keyword.Compare nsid words = with_data (Compare nsid) words
+request_by keyword.Zeroes nsid words = on_blocks (WriteZeroes nsid) words
+request_by keyword.Flush nsid words = zero_words (Flush nsid) words
+request_by keyword.Register nsid words = register nsid words
+request_by keyword.Acquire nsid words = acquire nsid words
+request_by keyword.Release nsid words = release nsid words
+request_by keyword.Report nsid words = report nsid words
+request_by keyword.Protect nsid words = protect nsid words
+request_by keyword.Protection nsid words = zero_words (Protection nsid) words
+request_by keyword.Attach nsid words = with_list (list_request (codes "attach") nsid) words
+request_by keyword.Detach nsid words = with_list (list_request (codes "detach") nsid) words
+request_by other nsid words = None
+
+-- the same by the word that the line begins with
 unfoldable pub request_at : List ℕ → ℕ → List (List ℕ) → Option Request
-request_at word nsid words =
-    if bytes_eq word (codes "read") then on_blocks (Read nsid) words
-    else if bytes_eq word (codes "write") then with_data (Write nsid) words
-    else if bytes_eq word (codes "compare") then with_data (Compare nsid) words
-    else if bytes_eq word (codes "zeroes") then on_blocks (WriteZeroes nsid) words
-    else if bytes_eq word (codes "flush") then zero_words (Flush nsid) words
-    else if bytes_eq word (codes "register") then register nsid words
-    else if bytes_eq word (codes "acquire") then acquire nsid words
-    else if bytes_eq word (codes "release") then release nsid words
-    else if bytes_eq word (codes "report") then report nsid words
-    else if bytes_eq word (codes "protect") then protect nsid words
-    else if bytes_eq word (codes "protection") then zero_words (Protection nsid) words
-    else with_list (list_request word nsid) words
+request_at word nsid words = do
+  which ← keyword_of word
+  request_by which nsid words

@@ -2,7 +2,8 @@
 
 ghost use Rattle.std.specs.Prelude.{◌≡◌, ◌*◌, ◌≤◌, length, Some};
 ghost use Rattle.nvme_spec.specs.Limits.{most_bytes};
-ghost use Rattle.nvme_grammar.specs.Places.{operand_name, operand_bits, spells, suits, place_behind, takes_behind, wanted_text};
+ghost use Rattle.nvme_grammar.specs.LineFaults.{suits};
+ghost use Rattle.nvme_grammar.specs.Places.{operand_name, operand_bits, spells, place_behind, takes_behind, wanted_text};
 
 use super::configuration::is_shared;
 use super::request::bit_in;

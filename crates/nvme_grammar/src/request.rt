@@ -9,6 +9,7 @@ ghost use Rattle.nvme_grammar.specs.Lent.{request_by_value};
 ghost use Rattle.nvme_grammar.specs.Requests.{on_blocks, with_data, bit_of, bit_at, keys_at, register, acquire, release, report, protect, list_request, with_list, request_at};
 
 use super::identifiers::list_of;
+use super::keyword::Keyword;
 use nvme_driver::Request;
 use script_text::{data_in, number_u8, number_u16, number_u32, number_u64};
 
@@ -223,29 +224,20 @@ pub fn request_of<'a>(
     requires list_room { length words.now ≤ length identifiers.old }
     ensures { option_map request_by_value result ≡ request_at keyword.now nsid (map (λ word. word.now) words.now) }
 {
-    if keyword == b"read".as_slice() {
-        read_of(nsid, words)
-    } else if keyword == b"write".as_slice() {
-        write_of(nsid, words, bytes)
-    } else if keyword == b"compare".as_slice() {
-        compare_of(nsid, words, bytes)
-    } else if keyword == b"zeroes".as_slice() {
-        zeroes_of(nsid, words)
-    } else if keyword == b"flush".as_slice() {
-        plain(Request::Flush { nsid }, words)
-    } else if keyword == b"register".as_slice() {
-        register_of(nsid, words)
-    } else if keyword == b"acquire".as_slice() {
-        acquire_of(nsid, words)
-    } else if keyword == b"release".as_slice() {
-        release_of(nsid, words)
-    } else if keyword == b"report".as_slice() {
-        report_of(nsid, words)
-    } else if keyword == b"protect".as_slice() {
-        protect_of(nsid, words)
-    } else if keyword == b"protection".as_slice() {
-        plain(Request::Protection { nsid }, words)
-    } else {
-        with_list_of(keyword, nsid, words, identifiers)
+    match Keyword::of(keyword)? {
+        Keyword::Read => read_of(nsid, words),
+        Keyword::Write => write_of(nsid, words, bytes),
+        Keyword::Compare => compare_of(nsid, words, bytes),
+        Keyword::Zeroes => zeroes_of(nsid, words),
+        Keyword::Flush => plain(Request::Flush { nsid }, words),
+        Keyword::Register => register_of(nsid, words),
+        Keyword::Acquire => acquire_of(nsid, words),
+        Keyword::Release => release_of(nsid, words),
+        Keyword::Report => report_of(nsid, words),
+        Keyword::Protect => protect_of(nsid, words),
+        Keyword::Protection => plain(Request::Protection { nsid }, words),
+        Keyword::Attach => with_list_of(b"attach", nsid, words, identifiers),
+        Keyword::Detach => with_list_of(b"detach", nsid, words, identifiers),
+        _ => None,
     }
 }
