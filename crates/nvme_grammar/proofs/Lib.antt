@@ -2,7 +2,6 @@ mod ArityLemmas
 mod IdentifierLemmas
 mod JudgedLemmas
 mod KeptLemmas
-mod KeywordLemmas
 pub mod LawLemmas
 mod LongLines
 pub mod OnLiterals

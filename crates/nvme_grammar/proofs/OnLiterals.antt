@@ -1,8 +1,6 @@
 -- What an answer unfolds to compute what the lines of a literal text say.
 use Rattle.std.specs.Prelude.{⊤}
 use Rattle.script_text.proofs.OnLiterals.{words_on_literals}
-use Rattle.nvme_grammar.specs.Requests.{request_at}
-use Rattle.nvme_grammar.specs.Events.{event_at}
 use Rattle.nvme_grammar.specs.Line.{line_at, sentence}
 use Rattle.nvme_grammar.specs.Keywords.{keyword_of, nearest_to}
 use Rattle.nvme_grammar.specs.LineFaults.{fault_of}
@@ -12,5 +10,5 @@ unfolding fault_of keyword_of nearest_to words_on_literals
 faults_on_literals = tt
 
 unfoldable pub lines_on_literals : ⊤
-unfolding line_at sentence event_at request_at keyword_of words_on_literals
+unfolding line_at sentence keyword_of words_on_literals
 lines_on_literals = tt

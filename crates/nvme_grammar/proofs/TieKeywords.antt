@@ -1,9 +1,7 @@
 -- The words of each keyword, place by place, are fine exactly where they say something that may stand there.
-use Rattle.std.proofs.Common.{◌≡◌, ℕ, Bool, true, false, not, List, [], ◌∷◌, drop, Option, Some, None, refl, sym, ap, subst, ◌∙◌}
-use Rattle.std.specs.Prelude.{◌&&◌, codes, if◌then◌else◌, option_map, is_some, unwrap_or}
-use Rattle.std.specs.List.{find}
+use Rattle.std.proofs.Common.{◌≡◌, ℕ, Bool, true, false, not, List, [], ◌∷◌, drop, Option, Some, None, refl, sym, ap, ◌∙◌}
+use Rattle.std.specs.Prelude.{◌&&◌, codes, if◌then◌else◌, option_map, is_some}
 use Rattle.std.specs.Str.{bytes_eq}
-use Rattle.std.proofs.lemmas.Bool.{false≢true}
 use Rattle.nvme_event.specs.declared.event.FleetEvent.{FleetEvent}
 use Rattle.nvme_event.specs.declared.event.FleetEvent.TheVariants.{BringUp, Place as Placed, Ring as Rings, Fetch as Fetches, Execute as Executes, Poll as Polls, Reset as Resets, PowerCycle as Cycles}
 use Rattle.nvme_driver.specs.declared.request.Request.{Request}
@@ -12,16 +10,15 @@ use Rattle.script_text.specs.Numbers.{number_at}
 use Rattle.script_text.specs.Data.{bytes_at, data_at}
 use Rattle.nvme_grammar.specs.Arity.{◌>>=◌}
 use Rattle.std.specs.Borrow.{Bor}
-use Rattle.nvme_grammar.specs.Requests.{request_at, numbers_at, bit_at, on_blocks, with_data, with_list, register, acquire, release, report, protect}
-use Rattle.nvme_grammar.specs.Events.{event_at, place, alone, pair, identify, store, write32}
-use Rattle.nvme_grammar.specs.Line.{sentence, event_line, controller, namespace, attached, start, sharing, rawness}
-use Rattle.nvme_grammar.specs.Keywords.{keyword_text, places_of, behind_of}
+use Rattle.nvme_grammar.specs.Requests.{request_by, bit_at, on_blocks, with_data, with_list, register, acquire, release, report, protect}
+use Rattle.nvme_grammar.specs.Events.{place, alone, pair, identify, store, write32}
+use Rattle.nvme_grammar.specs.Line.{sentence, sentence_by, event_line, controller, namespace, attached, start, sharing, rawness}
+use Rattle.nvme_grammar.specs.Keywords.{places_of, behind_of}
 use Rattle.nvme_grammar.specs.LineFaults.{is_allowed_line, suits, words_fault, fault_of, keyword_fault, foreign_fault}
 use Rattle.nvme_grammar.specs.Lent.{lent}
 use Rattle.nvme_grammar.specs.Line.{line_at, is_comment}
 use Rattle.script_text.specs.Words.{is_line_text, line_words}
 use Rattle.nvme_grammar.specs.Keywords.{keyword_of}
-use Rattle.nvme_grammar.proofs.KeywordLemmas.{is_no, is_keyword}
 use Rattle.nvme_grammar.proofs.TieLemmas.{fine, fine_behind, stands, bound, plain, and_false, and_false2, zero-fine, one-fine, two-fine, three-fine, four-fine, five-fine, numbers-fine, keys-fine, if_fine, keyword-tie}
 use Rattle.nvme_grammar.specs.declared.line.Line.TheVariants.{Controller as Sets, Blank}
 use Rattle.nvme_grammar.specs.declared.keyword.Keyword.{Keyword}
@@ -66,12 +63,12 @@ module _ (g : Option Request → Bool) (none : g None ≡ false) (t : Bool) (som
 abbrev event_allowed : Bool → Option FleetEvent → Bool
 event_allowed started event = is_allowed_line started (event_line event)
 
-place-fine : (started : Bool) (word before : List ℕ) (ps : List Place) (b : Behind)
-    → ((g : Option Request → Bool) → g None ≡ false → (t : Bool) → ((r : Request) → t ≡ g (Some r)) → (nsid : ℕ) (n : List ℕ) (ws : List (List ℕ)) → fine t n ps b ws ≡ g (request_at word nsid ws))
-    → (ws : List (List ℕ)) → fine started before (Number operand.Cntlid ∷ Number operand.Nsid ∷ ps) b ws ≡ event_allowed started (place word ws)
-place-fine started word before ps b h [] = refl
-place-fine started word before ps b h (c ∷ []) = and_false _
-place-fine started word before ps b h (c ∷ n ∷ ws) =
+place-fine : (started : Bool) (k : Keyword) (before : List ℕ) (ps : List Place) (b : Behind)
+    → ((g : Option Request → Bool) → g None ≡ false → (t : Bool) → ((r : Request) → t ≡ g (Some r)) → (nsid : ℕ) (n : List ℕ) (ws : List (List ℕ)) → fine t n ps b ws ≡ g (request_by k nsid ws))
+    → (ws : List (List ℕ)) → fine started before (Number operand.Cntlid ∷ Number operand.Nsid ∷ ps) b ws ≡ event_allowed started (place k ws)
+place-fine started k before ps b h [] = refl
+place-fine started k before ps b h (c ∷ []) = and_false _
+place-fine started k before ps b h (c ∷ n ∷ ws) =
     bound (event_allowed started) (number_at 16 c) _ _ refl (λ x e. bound (event_allowed started) (number_at 32 n) _ _ refl (λ y f.
     h (λ o. event_allowed started (o >>= (λ r. Some (Placed x r)))) refl started (λ r. refl) y n ws))
 
@@ -142,27 +139,26 @@ start-fine started before (w ∷ ws) = refl
 
 -- every keyword
 keyword-fine : (started : Bool) (before : List ℕ) (k : Keyword) (ws : List (List ℕ))
-    → fine (stands started k) before (places_of k) (behind_of k) ws ≡ is_allowed_line started (sentence (keyword_text k ∷ ws))
-unfolding sentence event_at request_at keyword_of
+    → fine (stands started k) before (places_of k) (behind_of k) ws ≡ is_allowed_line started (sentence_by k ws)
 keyword-fine started before Controller ws = controller-fine started before ws
 keyword-fine started before Namespace ws = namespace-fine started before ws
 keyword-fine started before Attached ws = attached-fine started before ws
 keyword-fine started before Start ws = start-fine started before ws
 keyword-fine started before Up ws = alone-fine started before BringUp ws
-keyword-fine started before Read ws = place-fine started (keyword_text Read) before (drop 2 (places_of Read)) (behind_of Read) (λ g none t some nsid n v. on_blocks-fine g none t some nsid n v (ReadOf nsid)) ws
-keyword-fine started before Write ws = place-fine started (keyword_text Write) before (drop 2 (places_of Write)) (behind_of Write) (λ g none t some nsid n v. with_data-fine g none t some nsid n v (WriteOf nsid)) ws
-keyword-fine started before Compare ws = place-fine started (keyword_text Compare) before (drop 2 (places_of Compare)) (behind_of Compare) (λ g none t some nsid n v. with_data-fine g none t some nsid n v (CompareOf nsid)) ws
-keyword-fine started before Zeroes ws = place-fine started (keyword_text Zeroes) before (drop 2 (places_of Zeroes)) (behind_of Zeroes) (λ g none t some nsid n v. on_blocks-fine g none t some nsid n v (ZeroesOf nsid)) ws
-keyword-fine started before Flush ws = place-fine started (keyword_text Flush) before (drop 2 (places_of Flush)) (behind_of Flush) (λ g none t some nsid n v. zero-fine g none t n (FlushOf nsid) (some _) v) ws
-keyword-fine started before Register ws = place-fine started (keyword_text Register) before (drop 2 (places_of Register)) (behind_of Register) (λ g none t some nsid n v. register-fine g none t some nsid n v) ws
-keyword-fine started before Acquire ws = place-fine started (keyword_text Acquire) before (drop 2 (places_of Acquire)) (behind_of Acquire) (λ g none t some nsid n v. acquire-fine g none t some nsid n v) ws
-keyword-fine started before Release ws = place-fine started (keyword_text Release) before (drop 2 (places_of Release)) (behind_of Release) (λ g none t some nsid n v. release-fine g none t some nsid n v) ws
-keyword-fine started before Report ws = place-fine started (keyword_text Report) before (drop 2 (places_of Report)) (behind_of Report) (λ g none t some nsid n v. report-fine g none t some nsid n v) ws
+keyword-fine started before Read ws = place-fine started Read before (drop 2 (places_of Read)) (behind_of Read) (λ g none t some nsid n v. on_blocks-fine g none t some nsid n v (ReadOf nsid)) ws
+keyword-fine started before Write ws = place-fine started Write before (drop 2 (places_of Write)) (behind_of Write) (λ g none t some nsid n v. with_data-fine g none t some nsid n v (WriteOf nsid)) ws
+keyword-fine started before Compare ws = place-fine started Compare before (drop 2 (places_of Compare)) (behind_of Compare) (λ g none t some nsid n v. with_data-fine g none t some nsid n v (CompareOf nsid)) ws
+keyword-fine started before Zeroes ws = place-fine started Zeroes before (drop 2 (places_of Zeroes)) (behind_of Zeroes) (λ g none t some nsid n v. on_blocks-fine g none t some nsid n v (ZeroesOf nsid)) ws
+keyword-fine started before Flush ws = place-fine started Flush before (drop 2 (places_of Flush)) (behind_of Flush) (λ g none t some nsid n v. zero-fine g none t n (FlushOf nsid) (some _) v) ws
+keyword-fine started before Register ws = place-fine started Register before (drop 2 (places_of Register)) (behind_of Register) (λ g none t some nsid n v. register-fine g none t some nsid n v) ws
+keyword-fine started before Acquire ws = place-fine started Acquire before (drop 2 (places_of Acquire)) (behind_of Acquire) (λ g none t some nsid n v. acquire-fine g none t some nsid n v) ws
+keyword-fine started before Release ws = place-fine started Release before (drop 2 (places_of Release)) (behind_of Release) (λ g none t some nsid n v. release-fine g none t some nsid n v) ws
+keyword-fine started before Report ws = place-fine started Report before (drop 2 (places_of Report)) (behind_of Report) (λ g none t some nsid n v. report-fine g none t some nsid n v) ws
 keyword-fine started before Identify ws = identify-fine started before ws
-keyword-fine started before Protect ws = place-fine started (keyword_text Protect) before (drop 2 (places_of Protect)) (behind_of Protect) (λ g none t some nsid n v. protect-fine g none t some nsid n v) ws
-keyword-fine started before Protection ws = place-fine started (keyword_text Protection) before (drop 2 (places_of Protection)) (behind_of Protection) (λ g none t some nsid n v. zero-fine g none t n (ProtectionOf nsid) (some _) v) ws
-keyword-fine started before Attach ws = place-fine started (keyword_text Attach) before (drop 2 (places_of Attach)) (behind_of Attach) (λ g none t some nsid n v. with_list-fine g none t some nsid n v (AttachOf nsid)) ws
-keyword-fine started before Detach ws = place-fine started (keyword_text Detach) before (drop 2 (places_of Detach)) (behind_of Detach) (λ g none t some nsid n v. with_list-fine g none t some nsid n v (DetachOf nsid)) ws
+keyword-fine started before Protect ws = place-fine started Protect before (drop 2 (places_of Protect)) (behind_of Protect) (λ g none t some nsid n v. protect-fine g none t some nsid n v) ws
+keyword-fine started before Protection ws = place-fine started Protection before (drop 2 (places_of Protection)) (behind_of Protection) (λ g none t some nsid n v. zero-fine g none t n (ProtectionOf nsid) (some _) v) ws
+keyword-fine started before Attach ws = place-fine started Attach before (drop 2 (places_of Attach)) (behind_of Attach) (λ g none t some nsid n v. with_list-fine g none t some nsid n v (AttachOf nsid)) ws
+keyword-fine started before Detach ws = place-fine started Detach before (drop 2 (places_of Detach)) (behind_of Detach) (λ g none t some nsid n v. with_list-fine g none t some nsid n v (DetachOf nsid)) ws
 keyword-fine started before Ring ws = alone-fine started before Rings ws
 keyword-fine started before Fetch ws = pair-fine started before (Number operand.Queue) (λ p. Fetches p.0 p.1) (λ a w. refl) ws
 keyword-fine started before Execute ws = pair-fine started before (Number operand.Index) (λ p. Executes p.0 p.1) (λ a w. refl) ws
@@ -172,40 +168,15 @@ keyword-fine started before Store ws = store-fine started before ws
 keyword-fine started before Write32 ws = write32-fine started before ws
 keyword-fine started before PowerCycle ws = zero-fine (event_allowed started) refl started before Cycles refl ws
 
--- a word that is no keyword says nothing
-after : {A B : Type 0} (o : Option A) (f : A → Option B) → ((x : A) → f x ≡ None) → (o >>= f) ≡ None
-after None f h = refl
-after (Some x) f h = h x
-
-no_request : (word : List ℕ) (nsid : ℕ) (ws : List (List ℕ)) → keyword_of word ≡ None → request_at word nsid ws ≡ None
-unfolding request_at
-no_request word nsid ws h = rw h refl
-
-no_place : (word : List ℕ) (ws : List (List ℕ)) → keyword_of word ≡ None → place word ws ≡ None
-no_place word [] h = refl
-no_place word (c ∷ []) h = refl
-no_place word (c ∷ n ∷ ws) h = after (number_at 16 c) _ (λ x. after (number_at 32 n) _ (λ y. ap (λ r. r >>= (λ request. Some (Placed x request))) (no_request word y ws h)))
-
-no_event : (word : List ℕ) (ws : List (List ℕ)) → keyword_of word ≡ None → event_at word ws ≡ None
-unfolding event_at
-no_event word ws h =
-    let other = is_no word h in
-    rw (other Up, other Ring, other Fetch, other Execute, other Poll, other Reset, other Store, other Write32, other PowerCycle, other Identify) (no_place word ws h)
-
-no_sentence : (word : List ℕ) (ws : List (List ℕ)) → keyword_of word ≡ None → sentence (word ∷ ws) ≡ None
-unfolding sentence
-no_sentence word ws h =
-    let other = is_no word h in
-    rw (other Controller, other Namespace, other Attached, other Start) (ap event_line (no_event word ws h))
-
+-- the words of a line
 words-tie : (started : Bool) (line : List ℕ) (ws : List (List ℕ)) → is_some (words_fault started line ws) ≡ not (is_allowed_line started (sentence ws))
 unfolding sentence
 words-tie started line [] = refl
 words-tie started line (word ∷ ws) = by (keyword_of word) refl
   where
     by : (o : Option Keyword) → keyword_of word ≡ o → is_some (keyword_fault started line word ws o) ≡ not (is_allowed_line started (sentence (word ∷ ws)))
-    by None e = sym (ap (λ s. not (is_allowed_line started s)) (no_sentence word ws e))
-    by (Some k) e = keyword-tie started line word ws k ∙ ap not (keyword-fine started word k ws ∙ ap (λ w. is_allowed_line started (sentence (w ∷ ws))) (sym (is_keyword word k e)))
+    by None e = rw e refl
+    by (Some k) e = rw e (keyword-tie started line word ws k ∙ ap not (keyword-fine started word k ws))
 
 -- a line has a fault exactly where it is not allowed
 pub fault-tie : (started : Bool) (line : List ℕ) → is_some (fault_of started line) ≡ not (is_allowed_line started (line_at line))

@@ -1,6 +1,5 @@
 -- What a line behind `start` says: one event of a fleet.
-use Rattle.std.specs.Prelude.{ℕ, List, ◌∷◌, codes, Option, Some, None, option_map, if◌then◌else◌}
-use Rattle.std.specs.Str.{bytes_eq}
+use Rattle.std.specs.Prelude.{ℕ, List, ◌∷◌, Option, Some, None, option_map}
 use Rattle.nvme_event.specs.declared.event.FleetEvent.{FleetEvent}
 use Rattle.nvme_event.specs.declared.event.FleetEvent.TheVariants.{BringUp, Place, Ring, Fetch, Execute, Poll, Reset, RawStore, RawWrite32, PowerCycle}
 use Rattle.nvme_driver.specs.declared.request.Request.TheVariants.{Identify}
@@ -8,7 +7,9 @@ use Rattle.script_text.specs.Numbers.{number_at}
 use Rattle.script_text.specs.Data.{bytes_at}
 use Rattle.nvme_grammar.specs.Arity.{◌>>=◌, zero_words, one, two, three}
 use Rattle.nvme_grammar.specs.Lent.{lent}
-use Rattle.nvme_grammar.specs.Requests.{request_at}
+use Rattle.nvme_grammar.specs.Requests.{request_by}
+use Rattle.nvme_grammar.specs.declared.keyword.Keyword.{Keyword}
+use Rattle.nvme_grammar.specs.declared.keyword.Keyword.TheVariants as keyword
 
 -- `C`
 abbrev pub alone : List (List ℕ) → Option ℕ
@@ -46,25 +47,24 @@ write32 = three (λ c o v. do
   Some (RawWrite32 cntlid offset value))
 
 -- `C N`, and what the request of this keyword needs
-abbrev pub place : List ℕ → List (List ℕ) → Option FleetEvent
-place word (c ∷ n ∷ words) = do
+abbrev pub place : Keyword → List (List ℕ) → Option FleetEvent
+place k (c ∷ n ∷ words) = do
   cntlid ← number_at 16 c
   nsid ← number_at 32 n
-  request ← request_at word nsid words
+  request ← request_by k nsid words
   Some (Place cntlid request)
-place word words = None
+place k words = None
 
 -- what words say, behind a keyword
-unfoldable pub event_at : List ℕ → List (List ℕ) → Option FleetEvent
-event_at word words =
-    if bytes_eq word (codes "up") then option_map BringUp (alone words)
-    else if bytes_eq word (codes "ring") then option_map Ring (alone words)
-    else if bytes_eq word (codes "fetch") then option_map (λ p. Fetch p.0 p.1) (pair words)
-    else if bytes_eq word (codes "execute") then option_map (λ p. Execute p.0 p.1) (pair words)
-    else if bytes_eq word (codes "poll") then option_map Poll (alone words)
-    else if bytes_eq word (codes "reset") then option_map Reset (alone words)
-    else if bytes_eq word (codes "store") then store words
-    else if bytes_eq word (codes "write32") then write32 words
-    else if bytes_eq word (codes "powercycle") then zero_words PowerCycle words
-    else if bytes_eq word (codes "identify") then identify words
-    else place word words
+abbrev pub event_by : Keyword → List (List ℕ) → Option FleetEvent
+event_by keyword.Up words = option_map BringUp (alone words)
+event_by keyword.Ring words = option_map Ring (alone words)
+event_by keyword.Fetch words = option_map (λ p. Fetch p.0 p.1) (pair words)
+event_by keyword.Execute words = option_map (λ p. Execute p.0 p.1) (pair words)
+event_by keyword.Poll words = option_map Poll (alone words)
+event_by keyword.Reset words = option_map Reset (alone words)
+event_by keyword.Store words = store words
+event_by keyword.Write32 words = write32 words
+event_by keyword.PowerCycle words = zero_words PowerCycle words
+event_by keyword.Identify words = identify words
+event_by k words = place k words

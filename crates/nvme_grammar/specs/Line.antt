@@ -5,7 +5,10 @@ use Rattle.nvme_event.specs.declared.event.FleetEvent.{FleetEvent}
 use Rattle.script_text.specs.Numbers.{number_at}
 use Rattle.script_text.specs.Words.{line_words, is_line_text}
 use Rattle.nvme_grammar.specs.Arity.{◌>>=◌, two, four}
-use Rattle.nvme_grammar.specs.Events.{event_at}
+use Rattle.nvme_grammar.specs.Events.{event_by}
+use Rattle.nvme_grammar.specs.Keywords.{keyword_of}
+use Rattle.nvme_grammar.specs.declared.keyword.Keyword.{Keyword}
+use Rattle.nvme_grammar.specs.declared.keyword.Keyword.TheVariants as keyword
 use Rattle.nvme_grammar.specs.declared.line.Line.{Line}
 use Rattle.nvme_grammar.specs.declared.line.Line.TheVariants.{Blank, Controller, Namespace, Attached, Start, Event}
 
@@ -53,15 +56,20 @@ start (word ∷ words) = None
 abbrev pub event_line : Option FleetEvent → Option Line
 event_line event = option_map Event event
 
--- what words say, by the first of them
+-- what words say, behind a keyword
+abbrev pub sentence_by : Keyword → List (List ℕ) → Option Line
+sentence_by keyword.Controller words = controller words
+sentence_by keyword.Namespace words = namespace words
+sentence_by keyword.Attached words = attached words
+sentence_by keyword.Start words = start words
+sentence_by k words = event_line (event_by k words)
+
+-- what words say, by the keyword that the first of them is
 unfoldable pub sentence : List (List ℕ) → Option Line
 sentence [] = Some Blank
-sentence (word ∷ words) =
-    if bytes_eq word (codes "controller") then controller words
-    else if bytes_eq word (codes "namespace") then namespace words
-    else if bytes_eq word (codes "attached") then attached words
-    else if bytes_eq word (codes "start") then start words
-    else event_line (event_at word words)
+sentence (word ∷ words) = do
+  k ← keyword_of word
+  sentence_by k words
 
 -- a line whose first byte is `#`; what follows may be any bytes
 abbrev pub is_comment : List ℕ → Bool

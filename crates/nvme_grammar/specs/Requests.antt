@@ -1,13 +1,11 @@
 -- What a line that places a request says behind its controller and its namespace.
-use Rattle.std.specs.Prelude.{ℕ, Bool, true, false, ◌==◌, List, [], ◌∷◌, codes, Option, Some, None, if◌then◌else◌}
+use Rattle.std.specs.Prelude.{ℕ, Bool, true, false, ◌==◌, List, [], ◌∷◌, Option, Some, None, if◌then◌else◌}
 use Rattle.std.specs.Borrow.{Bor}
-use Rattle.std.specs.Str.{bytes_eq}
 use Rattle.script_text.specs.Numbers.{number_at}
 use Rattle.script_text.specs.Data.{data_at}
 use Rattle.nvme_driver.specs.declared.request.Request.{Request}
 use Rattle.nvme_driver.specs.declared.request.Request.TheVariants.{Read, Write, Compare, WriteZeroes, Flush, Register, Acquire, Release, Report, Protect, Protection, Attach, Detach}
 use Rattle.nvme_grammar.specs.Arity.{◌>>=◌, zero_words, one, two, three, four, five}
-use Rattle.nvme_grammar.specs.Keywords.{keyword_of}
 use Rattle.nvme_grammar.specs.Lent.{lent}
 use Rattle.nvme_grammar.specs.declared.keyword.Keyword.{Keyword}
 use Rattle.nvme_grammar.specs.declared.keyword.Keyword.TheVariants as keyword
@@ -89,11 +87,10 @@ numbers_at bits (word ∷ words) = do
   Some (first ∷ rest)
 
 -- the request with a list that a keyword asks for
-abbrev pub list_request : List ℕ → ℕ → List ℕ → Option Request
-list_request word nsid list =
-    if bytes_eq word (codes "attach") then Some (Attach nsid (lent list))
-    else if bytes_eq word (codes "detach") then Some (Detach nsid (lent list))
-    else None
+abbrev pub list_request : Keyword → ℕ → List ℕ → Option Request
+list_request keyword.Attach nsid list = Some (Attach nsid (lent list))
+list_request keyword.Detach nsid list = Some (Detach nsid (lent list))
+list_request other nsid list = None
 
 -- `C1 C2 ..`, none or more
 abbrev pub with_list : (List ℕ → Option Request) → List (List ℕ) → Option Request
@@ -114,12 +111,6 @@ request_by keyword.Release nsid words = release nsid words
 request_by keyword.Report nsid words = report nsid words
 request_by keyword.Protect nsid words = protect nsid words
 request_by keyword.Protection nsid words = zero_words (Protection nsid) words
-request_by keyword.Attach nsid words = with_list (list_request (codes "attach") nsid) words
-request_by keyword.Detach nsid words = with_list (list_request (codes "detach") nsid) words
+request_by keyword.Attach nsid words = with_list (list_request keyword.Attach nsid) words
+request_by keyword.Detach nsid words = with_list (list_request keyword.Detach nsid) words
 request_by other nsid words = None
-
--- the same by the word that the line begins with
-unfoldable pub request_at : List ℕ → ℕ → List (List ℕ) → Option Request
-request_at word nsid words = do
-  which ← keyword_of word
-  request_by which nsid words

@@ -6,9 +6,10 @@ ghost use Rattle.nvme_spec.specs.Limits.{most_bytes};
 ghost use Rattle.nvme_event.specs.declared.event.FleetEvent.TheVariants.{PowerCycle};
 ghost use Rattle.nvme_grammar.specs.Lent.{request_by_value, event_by_value};
 ghost use Rattle.nvme_grammar.specs.Arity.{zero_words};
-ghost use Rattle.nvme_grammar.specs.Events.{alone, pair, identify, store, write32, place, event_at};
+ghost use Rattle.nvme_grammar.specs.Events.{alone, pair, identify, store, write32, place, event_by};
 ghost use Rattle.nvme_grammar.specs.Lists.{list_event};
 
+use super::keyword::Keyword;
 use super::request::{list_request_of, request_of};
 use nvme_driver::Request;
 use nvme_event::FleetEvent;
@@ -80,7 +81,7 @@ fn power_cycle_of<'a>(words: &[&[u8]]) -> Option<FleetEvent<'a>>
 
 /// `C N`, and what the request of this keyword needs.
 fn place_of<'a>(
-    keyword: &[u8],
+    keyword: Keyword,
     words: &[&[u8]],
     bytes: &'a mut [u8],
     identifiers: &'a mut [u16],
@@ -88,7 +89,7 @@ fn place_of<'a>(
     requires data_room { most_bytes ≤ length bytes.old }
     requires digits_room { AllByRecursion (λ word. length word.now ≤ 2 * length bytes.old) words.now }
     requires list_room { length words.now ≤ length identifiers.old }
-    ensures { option_map event_by_value result ≡ place keyword.now (map (λ word. word.now) words.now) }
+    ensures { option_map event_by_value result ≡ place keyword (map (λ word. word.now) words.now) }
 {
     let [cntlid, nsid, operands @ ..] = words else {
         return None;
@@ -100,9 +101,8 @@ fn place_of<'a>(
 }
 
 /// What words say behind a keyword.
-#[tactic(auto, unfolding(crate::specs::Events::event_at))]
 pub fn event_of<'a>(
-    keyword: &[u8],
+    keyword: Keyword,
     words: &[&[u8]],
     bytes: &'a mut [u8],
     identifiers: &'a mut [u16],
@@ -110,44 +110,38 @@ pub fn event_of<'a>(
     requires data_room { most_bytes ≤ length bytes.old }
     requires digits_room { AllByRecursion (λ word. length word.now ≤ 2 * length bytes.old) words.now }
     requires list_room { length words.now ≤ length identifiers.old }
-    ensures { option_map event_by_value result ≡ event_at keyword.now (map (λ word. word.now) words.now) }
+    ensures { option_map event_by_value result ≡ event_by keyword (map (λ word. word.now) words.now) }
 {
-    if keyword == b"up".as_slice() {
-        Some(FleetEvent::BringUp(alone_of(words)?))
-    } else if keyword == b"ring".as_slice() {
-        Some(FleetEvent::Ring(alone_of(words)?))
-    } else if keyword == b"fetch".as_slice() {
-        let (cntlid, queue) = pair_of(words)?;
-        Some(FleetEvent::Fetch(cntlid, queue))
-    } else if keyword == b"execute".as_slice() {
-        let (cntlid, index) = pair_of(words)?;
-        Some(FleetEvent::Execute(cntlid, usize::from(index)))
-    } else if keyword == b"poll".as_slice() {
-        Some(FleetEvent::Poll(alone_of(words)?))
-    } else if keyword == b"reset".as_slice() {
-        Some(FleetEvent::Reset(alone_of(words)?))
-    } else if keyword == b"store".as_slice() {
-        store_of(words, bytes)
-    } else if keyword == b"write32".as_slice() {
-        write32_of(words)
-    } else if keyword == b"powercycle".as_slice() {
-        power_cycle_of(words)
-    } else if keyword == b"identify".as_slice() {
-        identify_of(words)
-    } else {
-        place_of(keyword, words, bytes, identifiers)
+    match keyword {
+        Keyword::Up => Some(FleetEvent::BringUp(alone_of(words)?)),
+        Keyword::Ring => Some(FleetEvent::Ring(alone_of(words)?)),
+        Keyword::Fetch => {
+            let (cntlid, queue) = pair_of(words)?;
+            Some(FleetEvent::Fetch(cntlid, queue))
+        }
+        Keyword::Execute => {
+            let (cntlid, index) = pair_of(words)?;
+            Some(FleetEvent::Execute(cntlid, usize::from(index)))
+        }
+        Keyword::Poll => Some(FleetEvent::Poll(alone_of(words)?)),
+        Keyword::Reset => Some(FleetEvent::Reset(alone_of(words)?)),
+        Keyword::Store => store_of(words, bytes),
+        Keyword::Write32 => write32_of(words),
+        Keyword::PowerCycle => power_cycle_of(words),
+        Keyword::Identify => identify_of(words),
+        _ => place_of(keyword, words, bytes, identifiers),
     }
 }
 
 /// `attach C N` or `detach C N`, and a list.
 pub fn list_event_of<'a>(
-    keyword: &[u8],
+    keyword: Keyword,
     cntlid: &[u8],
     nsid: &[u8],
     list: Option<&'a [u16]>,
 ) -> Option<FleetEvent<'a>>
     ensures { option_map event_by_value result
-        ≡ list_event keyword.now cntlid.now nsid.now (option_map (λ numbers. numbers.now) list.entry) }
+        ≡ list_event keyword cntlid.now nsid.now (option_map (λ numbers. numbers.now) list.entry) }
 {
     let cntlid = number_u16(cntlid)?;
     let nsid = number_u32(nsid)?;

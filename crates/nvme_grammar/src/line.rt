@@ -14,6 +14,7 @@ use super::brief::{brief_of, judged, line_of};
 use super::configuration::{attached_of, controller_of, namespace_of, start_of};
 use super::event::{event_of, list_event_of};
 use super::identifiers::long_list_of;
+use super::keyword::Keyword;
 use nvme_event::FleetEvent;
 use nvme_spec::{ControllerConfig, NsConfig};
 use script_text::words_of;
@@ -47,19 +48,15 @@ fn sentence_of<'a>(
     requires list_room { length words.now ≤ length identifiers.old }
     ensures { option_map line_by_value result ≡ sentence (map (λ word. word.now) words.now) }
 {
-    let Some((keyword, rest)) = words.split_first() else {
+    let Some((word, rest)) = words.split_first() else {
         return Some(Line::Blank);
     };
-    if *keyword == b"controller".as_slice() {
-        controller_of(rest)
-    } else if *keyword == b"namespace".as_slice() {
-        namespace_of(rest)
-    } else if *keyword == b"attached".as_slice() {
-        attached_of(rest)
-    } else if *keyword == b"start".as_slice() {
-        start_of(rest)
-    } else {
-        Some(Line::Event(event_of(keyword, rest, bytes, identifiers)?))
+    match Keyword::of(word)? {
+        Keyword::Controller => controller_of(rest),
+        Keyword::Namespace => namespace_of(rest),
+        Keyword::Attached => attached_of(rest),
+        Keyword::Start => start_of(rest),
+        keyword => Some(Line::Event(event_of(keyword, rest, bytes, identifiers)?)),
     }
 }
 
@@ -74,9 +71,10 @@ fn long_sentence_of<'a>(
     requires room { length words.now + most_words rest.now ≤ length identifiers.old }
     ensures { option_map line_by_value result ≡ long_line (map (λ word. word.now) words.now) rest.now }
 {
-    let [keyword, cntlid, nsid, front @ ..] = words else {
+    let [word, cntlid, nsid, front @ ..] = words else {
         return None;
     };
+    let keyword = Keyword::of(word)?;
     let list = long_list_of(front, rest, identifiers);
     Some(Line::Event(list_event_of(keyword, cntlid, nsid, list)?))
 }

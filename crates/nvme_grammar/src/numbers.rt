@@ -5,7 +5,7 @@ ghost use Rattle.nvme_grammar.specs.Brief.{Numbers};
 ghost use Rattle.nvme_grammar.specs.Keywords.{keyword_text};
 ghost use Rattle.nvme_grammar.specs.Lent.{event_by_value, request_by_value};
 ghost use Rattle.nvme_grammar.specs.Line.{sentence};
-ghost use Rattle.nvme_grammar.specs.Requests.{request_at};
+ghost use Rattle.nvme_grammar.specs.Requests.{request_by};
 ghost use Rattle.nvme_grammar.specs.declared.line.Line.TheVariants.{Event};
 
 use super::keyword::Keyword;
@@ -127,7 +127,7 @@ fn release_in(operands: &[u64]) -> Option<(u8, u8, u64)>
 #[inline(always)]
 fn reservation_in<'a>(keyword: Keyword, nsid: u32, operands: &[u64]) -> Option<Request<'a>>
     ensures { IfSome result (λ request. (words : List (List ℕ)) → Numbers operands.now words []
-        → request_at (keyword_text keyword) nsid words ≡ Some (request_by_value request)) }
+        → request_by keyword nsid words ≡ Some (request_by_value request)) }
 {
     match keyword {
         Keyword::Register => {
@@ -169,7 +169,7 @@ fn reservation_in<'a>(keyword: Keyword, nsid: u32, operands: &[u64]) -> Option<R
 #[inline(always)]
 fn request_in<'a>(keyword: Keyword, nsid: u32, operands: &[u64]) -> Option<Request<'a>>
     ensures { IfSome result (λ request. (words : List (List ℕ)) → Numbers operands.now words []
-        → request_at (keyword_text keyword) nsid words ≡ Some (request_by_value request)) }
+        → request_by keyword nsid words ≡ Some (request_by_value request)) }
 {
     match keyword {
         Keyword::Read => {

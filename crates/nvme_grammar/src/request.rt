@@ -6,7 +6,7 @@ ghost use Rattle.nvme_spec.specs.Limits.{most_bytes};
 ghost use Rattle.nvme_driver.specs.declared.request.Request.TheVariants.{Read as ReadOf, Write as WriteOf, Compare as CompareOf, WriteZeroes as ZeroesOf};
 ghost use Rattle.nvme_grammar.specs.Arity.{zero_words};
 ghost use Rattle.nvme_grammar.specs.Lent.{request_by_value};
-ghost use Rattle.nvme_grammar.specs.Requests.{on_blocks, with_data, bit_of, bit_at, keys_at, register, acquire, release, report, protect, list_request, with_list, request_at};
+ghost use Rattle.nvme_grammar.specs.Requests.{on_blocks, with_data, bit_of, bit_at, keys_at, register, acquire, release, report, protect, list_request, with_list, request_by};
 
 use super::identifiers::list_of;
 use super::keyword::Keyword;
@@ -183,37 +183,34 @@ fn protect_of<'a>(nsid: u32, words: &[&[u8]]) -> Option<Request<'a>>
 }
 
 /// The request with a list that a keyword asks for.
-pub fn list_request_of<'a>(keyword: &[u8], nsid: u32, list: &'a [u16]) -> Option<Request<'a>>
-    ensures { option_map request_by_value result ≡ list_request keyword.now nsid list.now }
+pub fn list_request_of<'a>(keyword: Keyword, nsid: u32, list: &'a [u16]) -> Option<Request<'a>>
+    ensures { option_map request_by_value result ≡ list_request keyword nsid list.now }
 {
-    if keyword == b"attach".as_slice() {
-        Some(Request::Attach { nsid, list })
-    } else if keyword == b"detach".as_slice() {
-        Some(Request::Detach { nsid, list })
-    } else {
-        None
+    match keyword {
+        Keyword::Attach => Some(Request::Attach { nsid, list }),
+        Keyword::Detach => Some(Request::Detach { nsid, list }),
+        _ => None,
     }
 }
 
 /// `C1 C2 ..`, none or more
 fn with_list_of<'a>(
-    keyword: &[u8],
+    keyword: Keyword,
     nsid: u32,
     words: &[&[u8]],
     identifiers: &'a mut [u16],
 ) -> Option<Request<'a>>
     requires room { length words.now ≤ length identifiers.old }
     ensures { option_map request_by_value result
-        ≡ with_list (list_request keyword.now nsid) (map (λ word. word.now) words.now) }
+        ≡ with_list (list_request keyword nsid) (map (λ word. word.now) words.now) }
 {
     let list = list_of(words, identifiers)?;
     list_request_of(keyword, nsid, list)
 }
 
 /// What the words behind `KEYWORD C N` ask for, by the keyword.
-#[tactic(auto, unfolding(crate::specs::Requests::request_at))]
 pub fn request_of<'a>(
-    keyword: &[u8],
+    keyword: Keyword,
     nsid: u32,
     words: &[&[u8]],
     bytes: &'a mut [u8],
@@ -222,9 +219,9 @@ pub fn request_of<'a>(
     requires data_room { most_bytes ≤ length bytes.old }
     requires digits_room { AllByRecursion (λ word. length word.now ≤ 2 * length bytes.old) words.now }
     requires list_room { length words.now ≤ length identifiers.old }
-    ensures { option_map request_by_value result ≡ request_at keyword.now nsid (map (λ word. word.now) words.now) }
+    ensures { option_map request_by_value result ≡ request_by keyword nsid (map (λ word. word.now) words.now) }
 {
-    match Keyword::of(keyword)? {
+    match keyword {
         Keyword::Read => read_of(nsid, words),
         Keyword::Write => write_of(nsid, words, bytes),
         Keyword::Compare => compare_of(nsid, words, bytes),
@@ -236,8 +233,7 @@ pub fn request_of<'a>(
         Keyword::Report => report_of(nsid, words),
         Keyword::Protect => protect_of(nsid, words),
         Keyword::Protection => plain(Request::Protection { nsid }, words),
-        Keyword::Attach => with_list_of(b"attach", nsid, words, identifiers),
-        Keyword::Detach => with_list_of(b"detach", nsid, words, identifiers),
+        Keyword::Attach | Keyword::Detach => with_list_of(keyword, nsid, words, identifiers),
         _ => None,
     }
 }
