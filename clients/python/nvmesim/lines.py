@@ -1,4 +1,4 @@
-"""Makes the lines of scripts: one function a line, with the words of docs/SCRIPTS.md in their order.
+"""Makes the lines of scripts: one function a line, with the words of docs/USING.md in their order.
 
 All numbers are whole and not negative. Blocks have 512 bytes. Nothing is judged here beyond what a line can spell: a
 request that no command can say is refused by the driver, and a wrong one by the controller.

@@ -21,7 +21,7 @@ class FetchedCommand:
         queue: the submission queue that it came from.
         cid: its identifier.
         opcode: its opcode's number.
-        name: its opcode's name, as docs/LIVE.md has it.
+        name: its opcode's name, as docs/USING.md has it.
         nsid: the namespace that it names.
         is_marked: whether a Preempt and Abort has marked it.
     """

@@ -52,7 +52,7 @@ class AnswersTest(unittest.TestCase):
 
 class NamesTest(unittest.TestCase):
     def setUp(self) -> None:
-        self.document = (TOP / "docs" / "SCRIPTS.md").read_text(encoding="utf-8")
+        self.document = (TOP / "docs" / "USING.md").read_text(encoding="utf-8")
 
     def test_statuses_are_those_of_the_document(self) -> None:
         told = re.findall(r"^\| (\d:[0-9a-f]{2}) \| ([^|:]+?)(?:: [^|]*)? \|$", self.document, re.MULTILINE)

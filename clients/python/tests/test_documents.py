@@ -25,8 +25,8 @@ def blocks_of(name: str) -> List[str]:
 
 
 class DocumentsTest(unittest.TestCase):
-    def test_the_session_of_the_readme(self) -> None:
-        code = next(it for it in blocks_of("clients/README.md") if it.startswith("from nvmesim"))
+    def test_the_session_of_the_page(self) -> None:
+        code = next(it for it in blocks_of("docs/CLIENTS.md") if it.startswith("from nvmesim"))
         for program in PROGRAMS:
             environment = {**os.environ, "NVMELIVE": str(program), "PYTHONPATH": str(PACKAGE)}
             done = subprocess.run([sys.executable, "-c", code], capture_output=True, text=True, env=environment,
@@ -39,13 +39,13 @@ class DocumentsTest(unittest.TestCase):
         told = io.StringIO()
         with contextlib.redirect_stdout(told):
             self.assertEqual(main(["explore", str(RACE), "--program", str(PROGRAMS[-1])]), 0)
-        shown = next(it for it in blocks_of("docs/EXPLORE.md") if it.startswith("252 orders"))
+        shown = next(it for it in blocks_of("docs/CLIENTS.md") if it.startswith("252 orders"))
         self.assertEqual(shown, told.getvalue().strip("\n"))
-        marked = next(it for it in blocks_of("docs/EXPLORE.md") if it.startswith("# host a"))
+        marked = next(it for it in blocks_of("docs/CLIENTS.md") if it.startswith("# host a"))
         self.assertIn(marked, RACE.read_text(encoding="utf-8"))
 
     def test_the_example_over_an_image(self) -> None:
-        code = next(it for it in blocks_of("docs/EXPLORE.md") if it.startswith("truncate"))
+        code = next(it for it in blocks_of("docs/CLIENTS.md") if it.startswith("truncate"))
         environment = {**os.environ, "NVMELIVE": str(PROGRAMS[-1]), "PYTHONPATH": str(PACKAGE)}
         with tempfile.TemporaryDirectory() as room:
             os.symlink(RACE.parent, os.path.join(room, "examples"))
@@ -55,7 +55,7 @@ class DocumentsTest(unittest.TestCase):
         self.assertEqual(done.stdout.count("block 1:0   512 bytes, 48656c6c6f 'Hello'"), 2)
 
     def test_every_option_is_told(self) -> None:
-        text = (TOP / "docs" / "EXPLORE.md").read_text(encoding="utf-8")
+        text = (TOP / "docs" / "CLIENTS.md").read_text(encoding="utf-8")
         told = io.StringIO()
         with contextlib.redirect_stdout(told), self.assertRaises(SystemExit):
             main(["explore", "--help"])

@@ -10,6 +10,9 @@ MACHINE = re.compile(r"(?<![\w.}*/)-])/(?:work|home|opt|root|tmp|Users|mnt)\b")
 # README's tables are to be read at a glance: so many words a cell.
 MOST_WORDS = 40
 COLUMNS = 120
+# README is one page, which shows what it is about.
+MOST_LINES = 120
+PICTURES = ("docs/pictures/fenced.svg", "docs/pictures/timeline.svg")
 CELL = re.compile(r"(?<!\\)\|")
 
 
@@ -28,6 +31,17 @@ def check_prose(document: Document) -> Iterator[Finding]:
     for n, line in document.prose:
         if len(line) > COLUMNS and not line.startswith(("|", "<!--")):
             yield Finding(document.path, n, f"{len(line)} columns, where {COLUMNS} are the most")
+
+
+def check_front(document: Document) -> Iterator[Finding]:
+    """README has so many lines at most, and shows the hosts and a timeline."""
+    lines = document.text.rstrip("\n").split("\n")
+    if len(lines) > MOST_LINES:
+        yield Finding(document.path, MOST_LINES + 1, f"{len(lines)} lines, where {MOST_LINES} are the most")
+    targets = [target for _, target in document.links]
+    for it in PICTURES:
+        if it not in targets:
+            yield Finding(document.path, 1, f"does not show {it}")
 
 
 def cells_of(row: str) -> int:

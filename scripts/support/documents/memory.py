@@ -1,4 +1,4 @@
-"""docs/ARCHITECTURE.md has each public call that takes memory, and no other."""
+"""docs/WORKING.md has each public call that takes memory, and no other."""
 import re
 from pathlib import Path
 from typing import Dict, Iterator, List, Tuple
@@ -6,7 +6,7 @@ from typing import Dict, Iterator, List, Tuple
 from support.documents.names import code_of
 from support.documents.texts import OTHERS, Document, Finding, crates
 
-TABLE = "docs/ARCHITECTURE.md"
+TABLE = "docs/WORKING.md"
 HEADING = "Which calls take memory"
 # A function that anyone may call, up to its parameters' end; and the type or trait that it belongs to.
 CALL = re.compile(r"^( *)pub fn (\w+)[^({]*(?:<[^(]*>)?\(([^)]*)\)", re.M)

@@ -16,15 +16,23 @@ CRATE = re.compile(r"(?:nvme|script|part|fleet|controller)_[a-z0-9_]+$")
 WORD = re.compile(r"[A-Za-z_]\w*")
 # Modules of definitions that a table need not name.
 ASIDE = re.compile(r"^(?:Lib|Example\w*|\w+(?:Examples|Laws))$")
+# What a reader is told to save under a name: the mark before its fence.
+SAVED = re.compile(r"^<!-- file: (\S+) -->$", re.M)
 CARRIED = re.compile(r"Carried by ((?:`[\w:]+`(?:,| and)? ?)+)")
 # The documents that cite definitions, and the picture.
-CITING = ("README.md", "docs/CRATES.md", "docs/THEOREMS.md", "docs/ARCHITECTURE.md", "docs/READING.md",
-          "docs/DECISIONS.md")
+CITING = ("README.md", "docs/PROVED.md", "docs/THEOREMS.md", "docs/WORKING.md")
 PICTURE = "docs/pictures/layers.svg"
-CONTRACTS = "docs/CRATES.md"
+# The timeline in README, and the script that it shows.
+TIMELINE = "docs/pictures/timeline.svg"
+TIMED = "crates/nvme_examples/data/fenced.nvme"
+# Where each crate, each module of definitions, and what is proved of each crate are.
+CRATES = "docs/WORKING.md"
+CONTRACTS = "docs/PROVED.md"
+SECTION = "Crate by crate"
 # Each manual page, and the part of a document whose tables have the forms of its lines.
-MANUALS = (("man/nvmesim.1", "docs/SCRIPTS.md", "Lines after `start`", re.compile(r"\| `([a-z0-9]+ C[^`]*)` \|")),
-           ("man/nvmelive.1", "docs/LIVE.md", "Lines", re.compile(r"\| `(\?[^`]*)` \|")))
+USING = "docs/USING.md"
+MANUALS = (("man/nvmesim.1", USING, "Lines after `start`", re.compile(r"\| `([a-z0-9]+ C[^`]*)` \|")),
+           ("man/nvmelive.1", USING, "Lines of a session", re.compile(r"\| `(\?[^`]*)` \|")))
 
 
 def globs(text: str) -> List[str]:
@@ -50,7 +58,8 @@ def is_made(text: str) -> bool:
 
 
 def check_paths(top: Path, document: Document) -> Iterator[Finding]:
-    """Each path or file that a code span begins with exists."""
+    """Each path or file that a code span begins with exists, or is one that the reader is told to save."""
+    saved = SAVED.findall(document.text)
     for n, span in document.spans:
         word = span.split()[0] if span.split() else ""
         of_folder = word.removeprefix("./").split("/")[0]
@@ -58,6 +67,8 @@ def check_paths(top: Path, document: Document) -> Iterator[Finding]:
             continue
         is_known = of_folder in (*FOLDERS, *PARTS, *crates(top)) or "." in word
         is_path = PATH.match(word) and "/" in word and is_known
+        if word in saved:
+            continue
         if is_path and not is_made(word) and not is_there(top, word.removeprefix("./")):
             yield Finding(document.path, n, f"{word} is not there")
         elif FILE.match(word) and not is_path and not PLACE.match(word) and not any(named(top, word)):
@@ -71,13 +82,13 @@ def named(top: Path, name: str) -> Iterator[Path]:
 
 
 def check_crates(top: Path, found: List[Document]) -> Iterator[Finding]:
-    """README and the architecture have each crate in a table; and no document names one that is not there."""
+    """The architecture has each crate in a table; and no document names one that is not there."""
     known = crates(top)
     of_kit = {it for _, names in uses(top) for it in names}
     for document in found:
         heads = [line.split("|")[1] for _, line in document.prose if line.startswith("|")]
         rows = {name for head in heads for name in SPANS.findall(head)}
-        if document.path in ("README.md", "docs/ARCHITECTURE.md"):
+        if document.path == CRATES:
             for name in known:
                 if name not in rows:
                     yield Finding(document.path, 1, f"no table has the crate {name}")
@@ -88,10 +99,10 @@ def check_crates(top: Path, found: List[Document]) -> Iterator[Finding]:
 
 
 def check_modules(top: Path, found: List[Document]) -> Iterator[Finding]:
-    """README and the architecture have each module of definitions in a table, but for those of examples and of laws."""
+    """A table has each module of definitions, but for those of examples and of laws."""
     modules = {it.stem for it in (top / "crates/nvme_spec/specs").glob("*.antt")}
     for document in found:
-        if document.path not in ("README.md", "docs/ARCHITECTURE.md"):
+        if document.path != CONTRACTS:
             continue
         rows = {name for _, line in document.prose if line.startswith("|") for name in SPANS.findall(line)}
         for name in sorted(modules - rows):
@@ -99,17 +110,21 @@ def check_modules(top: Path, found: List[Document]) -> Iterator[Finding]:
                 yield Finding(document.path, 1, f"no table has the module {name}")
 
 
-def check_contracts(found: List[Document]) -> Iterator[Finding]:
-    """docs/CRATES.md has each crate that README's table has a contract of, and no other."""
-    by_path = {it.path: it for it in found}
-    if CONTRACTS not in by_path:
-        yield Finding(CONTRACTS, 1, "is not there")
+def check_contracts(top: Path, found: List[Document]) -> Iterator[Finding]:
+    """What is proved is said crate by crate: of each crate in a section of its own, or in the words before them, which
+    name those that have no statement."""
+    document = next((it for it in found if it.path == CONTRACTS), None)
+    parts = list(document.sections()) if document else []
+    whole = next(((first, end) for heading, first, end in parts if heading == SECTION), None)
+    if not document or not whole:
+        yield Finding(CONTRACTS, 1, f"has no section {SECTION}")
         return
-    rows = [line.split(" | ") for _, line in by_path["README.md"].prose if re.match(r"\| `\w+`", line)]
-    wanted = {name for row in rows if len(row) == 3 and row[2] != "none |" for name in SPANS.findall(row[0])}
-    told = {heading for heading, _, _ in by_path[CONTRACTS].sections()}
-    for name in sorted(wanted ^ told):
-        yield Finding(CONTRACTS, 1, f"{name} is here or in the table of README.md, and not in both")
+    told = [heading for heading, first, _ in parts if whole[0] < first < whole[1]]
+    begin = min((first for heading, first, _ in parts if whole[0] < first < whole[1]), default=whole[1])
+    told += [span for n, span in document.spans if whole[0] < n < begin]
+    for name in sorted({*crates(top), *told}):
+        if told.count(name) != 1 or name not in crates(top):
+            yield Finding(CONTRACTS, whole[0], f"{name} is no crate, or is not here exactly once")
 
 
 SPANS = re.compile(r"`(\w+)`")
@@ -174,6 +189,17 @@ def check_manual(top: Path, found: List[Document]) -> Iterator[Finding]:
             cell = row.match(line)
             if cell and first < n < end and cell[1] not in lines:
                 yield Finding(manual, 1, f"no line {cell[1]}")
+
+
+def check_timeline(top: Path) -> Iterator[Finding]:
+    """The timeline has the events of its script, in order."""
+    space = "{http://www.w3.org/2000/svg}"
+    texts = xml.parse(top / TIMELINE).getroot().iter(space + "tspan")
+    shown = [it.text for it in texts if it.get("class") == "line"]
+    lines = (top / TIMED).read_text(encoding="utf-8").split("\n")
+    events = [it for it in lines[lines.index("start") + 1:] if it and not it.startswith("#")]
+    if shown != events:
+        yield Finding(TIMELINE, 1, f"its events are not those of {TIMED}")
 
 
 def check_picture(top: Path) -> Iterator[Finding]:

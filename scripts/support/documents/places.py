@@ -1,4 +1,4 @@
-"""The lists of CONTRIBUTING.md have each file of code and of definitions that names what they look for.
+"""The lists of docs/WORKING.md have each file of code and of definitions that names what they look for.
 
 A list begins with words such as: `Compare` is the one to look for. The compiler and the check name most places of a new
 member, but a list that lacks one says that there is none.
@@ -10,7 +10,7 @@ from typing import Iterator, List
 from support.documents.names import code_of
 from support.documents.texts import Document, Finding
 
-LISTS = "CONTRIBUTING.md"
+LISTS = "docs/WORKING.md"
 SOUGHT = re.compile(r"`(\w+)` is the one to look for")
 HEADING = re.compile(r"^Adding ")
 IMPORT = re.compile(r"^(?:ghost )?(?:pub )?use .*$", re.M)

@@ -1,4 +1,4 @@
-"""docs/READING.md: for each theorem of docs/THEOREMS.md, which definitions its statement is made of, and how long."""
+"""For each theorem of docs/THEOREMS.md, which definitions its statement is made of, and how long they are."""
 import re
 import textwrap
 from pathlib import Path
@@ -8,9 +8,8 @@ from support.documents.definitions import Definition, Key, Library, take_import,
 from support.documents.names import CARRIED
 from support.documents.texts import Document, Finding, crates
 
-PATH = "docs/READING.md"
 THEOREMS = "docs/THEOREMS.md"
-ENSURES = re.compile(r"ensures(?: \w+)? \{ (\w+) \}")
+ENSURES = re.compile(r"ensures(?: \w+)? \{ (\w+)[^}]*\}")
 # What steps are, which every theorem speaks of: the heading, and the definitions.
 STEPS = (
     ("What a subsystem's events are", (("crates/nvme_machine/specs/Subsystems", "Run"),)),
@@ -22,11 +21,10 @@ INTRODUCTION = """# Reading lists
 What to read to know what a theorem of `docs/THEOREMS.md` says, down to numbers, lists and bytes: definitions of
 `crates/*/specs`, and types of `crates/*/src`. A proof is no part of it.
 
-`scripts/documents --reading-lists` writes this page from the imports of those files, and the gate checks that it is
-what they give. A definition is on a list where a definition of the list, or the contract of the law, has its name; so a
-list may have one too many, where a word means something else, and lacks none. Lines are those of the definitions,
-without comments. What a definition is made of stands before it, module by module; within a module the order is that of
-the file.
+`scripts/documents --reading-lists` makes this page from the imports of those files. A definition is on a list where a
+definition of the list, or the contract of the law, has its name; so a list may have one too many, where a word means
+something else, and lacks none. Lines are those of the definitions, without comments. What a definition is made of comes
+before it, module by module; within a module the order is that of the file.
 
 The lists of a subsystem's and of a fleet's events come first. Those of the theorems have what they need beyond these.
 """
@@ -38,14 +36,14 @@ def law_of(top: Path, crate: str, name: str, library: Library) -> List[Definitio
     module = Module(crate)
     for line in text.split("\n"):
         take_import(module, line)
-    found = re.search(rf"pub fn {name}\(\)(.*?)\n\{{", text, re.S)
+    found = re.search(rf"pub fn {name}(?:<[^(]*>)?\(\)(.*?)\n\{{", text, re.S)
     cited = [module.imports[it] for it in ENSURES.findall(found[1] if found else "") if it in module.imports]
     return [it for it in map(library.found, cited) if it]
 
 
 def theorems(top: Path, document: Document, library: Library) -> Iterator[Tuple[str, List[str], List[Definition]]]:
     """Each theorem that laws carry: its heading, what carries it, and the definitions of these contracts."""
-    for heading, first, end in document.sections():
+    for heading, first, end in document.innermost_sections():
         text = " ".join(document.lines[first:end - 1])
         laws = [it for found in CARRIED.finditer(text) for it in re.findall(r"`(\w+)`", found[1])]
         of_crate = re.search(r"<!-- excerpt: crates/(\w+)/", text)
@@ -124,16 +122,13 @@ def called(definition: Definition, others: List[Definition]) -> str:
     return f"`{definition.key[1]}`" + ("" if is_alone else f" of `{definition.key[0].split('/')[-1]}`")
 
 
-def write(top: Path, found: List[Document]) -> None:
-    """Writes the page anew."""
-    (top / PATH).write_text(page(top, found, Library(top)), encoding="utf-8")
-
-
 def check(top: Path, found: List[Document]) -> Iterator[Finding]:
-    """The page is what the files give."""
-    text = (top / PATH).read_text(encoding="utf-8") if (top / PATH).is_file() else ""
+    """The page can be made: each theorem has a statement, and each definition that one is made of is found."""
     library = Library(top)
-    if text != page(top, found, library):
-        yield Finding(PATH, 1, "not what the definitions give: scripts/documents --reading-lists writes it anew")
+    document = next(it for it in found if it.path == THEOREMS)
+    for heading, laws, begin in theorems(top, document, library):
+        if not begin:
+            yield Finding(THEOREMS, 1, f"{heading}: no definition is stated by {' and '.join(laws)}")
+    page(top, found, library)
     for file, name in sorted(library.lost):
-        yield Finding(PATH, 1, f"{name} of {file} is imported, and not found there")
+        yield Finding(THEOREMS, 1, f"{name} of {file} is imported, and not found there")

@@ -10,7 +10,7 @@ from support.documents.texts import FOLDERS, TOP_TEXTS, Finding
 # Appended to README.md, each with what must be told of it.
 APPENDED = (
     ("[a link](docs/GONE.md)", "a link to docs/GONE.md, which is not there"),
-    ("[a link](docs/SCRIPTS.md#gone)", "a link to #gone, which docs/SCRIPTS.md has not"),
+    ("[a link](docs/USING.md#gone)", "a link to #gone, which docs/USING.md has not"),
     ("`docs/GONE.md`", "docs/GONE.md is not there"),
     ("`nvme_spec/specs/Gone`", "nvme_spec/specs/Gone is not there"),
     ("words, and `scripts/gone\n--all`", "scripts/gone is not there"),
@@ -26,12 +26,13 @@ APPENDED = (
     ("```\nabbrev pub one : ℕ\n```", "code without a mark"),
     ("<!-- excerpt: crates/gone.antt -->\n```\none\n```", "an excerpt of crates/gone.antt, which is not there"),
     ("words " * 20 + "words", "125 columns, where 120 are the most"),
+    ("words\n" * 40, "lines, where 120 are the most"),
     ("blanks ", "blanks at the end of the line"),
     ("it lies in /" + "work/there", "a path of a machine: /" + "work"),
 )
 # A file, a text in it, what is put in its place, and what must be told of it.
 CHANGED = (
-    ("README.md", "seen new = Reacts old k (after_fetch q)", "seen new = Reacts old q (after_fetch q)",
+    ("docs/PROVED.md", "seen new = Reacts old k (after_fetch q)", "seen new = Reacts old q (after_fetch q)",
      "not so in crates/nvme_machine/specs/Subsystems.antt"),
     # A premise is left out, a last clause is, and an elision stands for another premise.
     ("docs/THEOREMS.md", "    → DifferIn n old.world old.device medium\n", "",
@@ -40,12 +41,14 @@ CHANGED = (
      "Preempted.antt: abbrev pub RunKeeping"),
     ("docs/THEOREMS.md", "FencingHolds =\n    (old new : Subsystem)",
      "FencingHolds =\n    ..\n    (old mid : Subsystem)", "Fencing.antt: abbrev pub FencingHolds"),
-    ("docs/CRATES.md", "## nvme_mem", "## nvme_memory", "nvme_memory is here or in the table of README.md"),
-    ("README.md", "`Limits`, ", "", "no table has the module Limits"),
-    ("CONTRIBUTING.md", "`nvme_exec/specs/Carrying.antt`", "`nvme_exec/specs`",
+    ("docs/PROVED.md", "### nvme_mem\n", "### nvme_memory\n", "nvme_memory is no crate, or is not here exactly once"),
+    ("docs/PROVED.md", "`nvme_refusals` and `nvme_bench` have no", "`nvme_refusals` have no",
+     "nvme_bench is no crate, or is not here exactly once"),
+    ("docs/PROVED.md", "| `Statuses`, `Limits` |", "| `Statuses` |", "no table has the module Limits"),
+    ("docs/WORKING.md", "`nvme_exec/specs/Carrying.antt`", "`nvme_exec/specs`",
      "no list has crates/nvme_exec/specs/Carrying.antt, which names Compare"),
-    ("docs/ARCHITECTURE.md", "| `nvme_ring` |", "| `nvme_wire` |", "no table has the crate nvme_ring"),
-    ("docs/ARCHITECTURE.md", "| `Window::new` |", "| `Window::store` |", "no public call Window::store takes memory"),
+    ("docs/WORKING.md", "| `nvme_ring` |", "| `nvme_wire` |", "no table has the crate nvme_ring"),
+    ("docs/WORKING.md", "| `Window::new` |", "| `Window::store` |", "no public call Window::store takes memory"),
     ("crates/nvme_ring/src/sq_head.rt", "    pub fn ", "    pub fn kept(alloc: Global) {}\n    pub fn ",
      "kept takes memory, and no row"),
     (PICTURE, ">nvme_ring<", ">nvme_rings<", "nvme_rings stands there twice, or is no crate"),
@@ -53,11 +56,17 @@ CHANGED = (
      "controller_tests lies over another crate"),
     ("man/nvmesim.1", "\nfetch C Q\n", "\nfetch C\n", "no line fetch C Q"),
     ("man/nvmelive.1", "\n?queues C\n", "\n?queue C\n", "no line ?queues C"),
-    ("docs/READING.md", "# Reading lists", "# Lists", "not what the definitions give"),
+    ("README.md", "docs/pictures/timeline.svg", PICTURE, "does not show docs/pictures/timeline.svg"),
+    ("docs/pictures/timeline.svg", ">ring 2<", ">ring 1<", "its events are not those of crates/nvme_examples"),
+    ("docs/TUTORIAL.md", "<!-- file: agent.py -->", "<!-- file: agents.py -->", "no file is called agent.py"),
+    ("crates/nvme_fleet/src/laws.rt", "ensures unseen { UnseenNeverComes }", "ensures unseen { tt }",
+     "no definition is stated by trouble_never_comes"),
+    ("crates/nvme_spec/specs/Pointer.antt", "abbrev pub pointer_fault :", "abbrev pub pointer_faults :",
+     "pointer_fault of crates/nvme_spec/specs/Pointer is imported, and not found there"),
 )
 # What else is told of these.
 ALSO = ("no definition or function is called nvme_gone", "layers.svg:1: nvme_ring is not there",
-        "nvme_mem is here or in the table of README.md", "Window::new takes memory, and no row")
+        "nvme_mem is no crate, or is not here exactly once", "Window::new takes memory, and no row")
 
 
 def copy_of(top: Path, room: Path) -> Path:

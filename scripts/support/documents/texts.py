@@ -91,10 +91,20 @@ class Document:
         return [anchor_of(found[2]) for _, line in self.prose if (found := HEADING.match(line))]
 
     def sections(self) -> Iterator[Tuple[str, int, int]]:
-        """Each section of the second level: its heading, its first line and the line behind its last."""
-        heads = [(n, found[2]) for n, line in self.prose if (found := HEADING.match(line)) and found[1] == "##"]
-        for at, (n, heading) in enumerate(heads):
-            yield heading, n, heads[at + 1][0] if at + 1 < len(heads) else len(self.lines) + 1
+        """Each section below the title: its heading, its first line and the line after its last. Those of lower levels
+        are parts of it, and come after it."""
+        heads = [(n, len(found[1]), found[2]) for n, line in self.prose if (found := HEADING.match(line))]
+        for at, (n, level, heading) in enumerate(heads):
+            if level > 1:
+                end = next((m for m, other, _ in heads[at + 1:] if other <= level), len(self.lines) + 1)
+                yield heading, n, end
+
+    def innermost_sections(self) -> Iterator[Tuple[str, int, int]]:
+        """Each section that has no section within it."""
+        found = list(self.sections())
+        for heading, first, end in found:
+            if not any(first < other < end for _, other, _ in found):
+                yield heading, first, end
 
 
 def fences_of(lines: List[str]) -> Iterator[Fence]:
@@ -119,7 +129,8 @@ def anchor_of(heading: str) -> str:
 
 def documents(top: Path) -> List[Document]:
     """All documents of the repository, in order."""
-    found = (top.glob("*.md"), (top / "docs").glob("**/*.md"), top.glob("clients/**/*.md"), top.glob("crates/*/*.md"))
+    folders = ("*.md", "docs/**/*.md", "clients/**/*.md", "bench/*.md", "crates/*/*.md")
+    found = (top.glob(it) for it in folders)
     paths = [it for some in found for it in sorted(some)]
     return [Document(str(it.relative_to(top)), it.read_text(encoding="utf-8")) for it in paths]
 
