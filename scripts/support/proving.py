@@ -1,5 +1,6 @@
 """Proves crates side by side, over what earlier runs kept, and keeps what it proves."""
 import shutil
+import subprocess
 import tempfile
 import threading
 import time
@@ -79,24 +80,30 @@ class Progress:
         return f"{(time.monotonic() - self.begun) / 60:.1f}"
 
 
+def build_program(rt, crate, flags):
+    """Proves and builds a program, which then runs on the input of its crate and has to print what stands there."""
+    return not crate.run(flags, [], input=crate.stream("stdin") or b"", stdout=subprocess.PIPE, timeout=rt.rtlib.LIMIT)
+
+
 def prove(rt, wanted, jobs, tell, log):
-    """Proves the libraries and all that they stand on, side by side, and keeps the work of each in its out/."""
+    """Proves the crates and all that they stand on, side by side, and keeps the work of each in its out/. What is a
+    program is built there."""
     crates = cone_of(wanted)
-    lacking = [it for it in crates if not it.is_built()]
+    lacking = [it for it in crates if it.is_program or not it.is_built()]
     progress = Progress(len(lacking), tell)
 
     def build(crate, jobs):
         progress.begin(crate.name)
         with tempfile.TemporaryFile("w+", errors="replace") as crate.out:
-            most = max(jobs, 2) if crate.name in LONG else jobs
-            is_well = not crate.build_rlib(["--jobs", str(most)], anew=False)
+            flags = ["--jobs", str(max(jobs, 2) if crate.name in LONG else jobs)]
+            is_well = build_program(rt, crate, flags) if crate.is_program else not crate.build_rlib(flags, anew=False)
             crate.out.seek(0)
             with WRITING:
                 log.write(f"== {crate.name}\n")
                 shutil.copyfileobj(crate.out, log)
                 log.flush()
         crate.out = log
-        progress.end(crate.name, "" if is_well else "NOT PROVED")
+        progress.end(crate.name, "NOT PROVED" if not is_well else "proved and built" if crate.is_program else "")
         return is_well
 
     held = rt.rtlib.lock(lacking)

@@ -1,6 +1,7 @@
 """The program `nvmelive` as a process: where it is found, and lines and answers over its pipes, within their time."""
 from __future__ import annotations
 
+import functools
 import os
 import selectors
 import shutil
@@ -21,7 +22,8 @@ _MOST_TOLD = 1 << 16
 
 
 def find_program(given: Optional[PathLike] = None, name: str = "nvmelive", variable: str = VARIABLE) -> Path:
-    """The program: the one that is given, that the environment names, that was built here, or that is on the path.
+    """The program: the one that is given, that the environment names, that the repository of this package builds, or
+    that is on the path.
 
     Args:
         given: the program, if the caller knows it.
@@ -37,14 +39,23 @@ def find_program(given: Optional[PathLike] = None, name: str = "nvmelive", varia
         if found is None:
             raise ProgramNotFound(f"{os.fspath(named)} is no program that can be run")
         return Path(found)
-    built = Path(__file__).resolve().parents[3] / "crates" / name / "out" / name
-    if built.is_file() and os.access(built, os.X_OK):
-        return built
+    top = Path(__file__).resolve().parents[3]
+    if (top / "crates.txt").is_file() and os.access(top / name, os.X_OK):
+        return built_program(top / name)
     found = shutil.which(name)
     if found is None:
-        raise ProgramNotFound(f"there is no program {name}: ./{name} at the top of the repository proves and builds "
-                              f"it; the variable {variable} names another")
+        raise ProgramNotFound(f"there is no program {name} on the path; the variable {variable} can name one")
     return Path(found)
+
+
+@functools.lru_cache(maxsize=None)
+def built_program(script: Path) -> Path:
+    """The program that a script at the top of the repository would run. It builds it where it lacks, and says so on
+    standard error."""
+    asked = subprocess.run([os.fspath(script), "--where"], stdin=subprocess.DEVNULL, stdout=subprocess.PIPE, text=True)
+    if asked.returncode != 0:
+        raise ProgramNotFound(f"{script} can't build its program")
+    return Path(asked.stdout.strip())
 
 
 class Process:

@@ -4,10 +4,12 @@ from __future__ import annotations
 import subprocess
 import time
 import unittest
+from pathlib import Path
 
 from nvmesim import (AcquireAction, ConfigurationRefused, LineError, NotDone, NvmeError, Persistence, PollOutcome,
                      ProgramDied, ProgramHangs, ProgramNotFound, Protection, ProtocolError, Refusal, RequestAborted,
                      RequestRefused, ReservationType, Rule, Session, SessionClosed, Status, Subsystem)
+from nvmesim.process import built_program
 
 from .support import LIVE, PROGRAMS, SIM, FolderCase, examples
 
@@ -257,6 +259,19 @@ class BadProgramTest(FolderCase):
             session.start()
             with self.assertRaises(ProtocolError):
                 session.event("ring 1")
+
+    def test_the_program_that_a_repository_builds(self) -> None:
+        script = self.folder / "nvmelive"
+        script.write_text('#!/bin/sh\n[ "$1" = --where ] && echo "/built/$(echo . >>"$0.asked")nvmelive"\n')
+        script.chmod(0o755)
+        for _ in range(2):
+            self.assertEqual(built_program(script), Path("/built/nvmelive"))
+        self.assertEqual((self.folder / "nvmelive.asked").read_text(), ".\n")
+        other = self.folder / "other"
+        other.write_text("#!/bin/sh\nexit 70\n")
+        other.chmod(0o755)
+        with self.assertRaisesRegex(ProgramNotFound, "can't build its program"):
+            built_program(other)
 
     def test_no_program(self) -> None:
         for program in (self.folder / "absent", self.folder):

@@ -54,7 +54,7 @@ def words_of(given: List[str]) -> argparse.Namespace:
     """The command's own words."""
     parser = argparse.ArgumentParser(prog="scripts/faults", description=USAGE,
                                      formatter_class=argparse.RawDescriptionHelpFormatter)
-    parser.add_argument("program", metavar="PROGRAM", help="a built nvmesim, such as crates/nvmesim/out/nvmesim")
+    parser.add_argument("program", metavar="PROGRAM", help="a built nvmesim, such as `./nvmesim --where` prints")
     parser.add_argument("groups", nargs="*", metavar="GROUP", help=f"one of {', '.join(GROUPS)}; else all")
     parser.add_argument("--self-test", action="store_true",
                         help="make the program do wrong, in ten ways: each check that can see one must find it, and "

@@ -57,9 +57,9 @@ def try_spoiled(case: Case, program: Path, folder: Path) -> List[str]:
 
 
 def built(top: Path) -> Path:
-    """The program that ./nvmesim builds, where that can be built."""
-    subprocess.run([str(top / "nvmesim"), "-", os.devnull], stdin=subprocess.DEVNULL, check=False)
-    return top / "crates/nvmesim/out/nvmesim"
+    """The program that ./nvmesim runs, where that can be built."""
+    asked = subprocess.run([str(top / "nvmesim"), "--where"], stdout=subprocess.PIPE, text=True, check=False)
+    return Path(asked.stdout.strip() or os.devnull)
 
 
 def main(top: Path, given: List[str]) -> int:

@@ -1,0 +1,96 @@
+"""Where builds are kept: in out/ at the top, by the digest of their sources."""
+import fcntl
+import hashlib
+import os
+import shutil
+import tempfile
+from pathlib import Path
+from typing import IO, Dict, List, Optional
+
+# How many builds of other sources stay.
+OTHERS = 3
+
+
+class Store:
+    """The folder out/ of a repository."""
+
+    def __init__(self, top: Path):
+        self.top = top
+        self.folder = top / "out"
+        self.sources = self.folder / "sources"
+        # Who proves, and how far that is.
+        self.proving = self.folder / "proving"
+
+    def unproved(self, digest: str) -> Path:
+        """Where the programs are that were built without their proofs."""
+        return self.folder / "unproved" / digest
+
+    def proved(self, digest: str) -> Path:
+        """Where the proved programs are, with a record of how they were proved."""
+        return self.folder / "proved" / digest
+
+    def gate(self, digest: str) -> Path:
+        """What is known of a gate that these sources have passed."""
+        return self.folder / "gate" / digest
+
+    def write(self, path: Path, text: str) -> None:
+        """Writes a file whole, or leaves what was there."""
+        path.parent.mkdir(parents=True, exist_ok=True)
+        handle, name = tempfile.mkstemp(dir=path.parent)
+        with os.fdopen(handle, "w", encoding="utf-8") as file:
+            file.write(text)
+        os.chmod(name, 0o644)
+        os.replace(name, path)
+
+    def keep(self, program: Path, place: Path) -> None:
+        """Puts a copy of a program at a place at once, whatever was there before."""
+        place.parent.mkdir(parents=True, exist_ok=True)
+        handle, name = tempfile.mkstemp(dir=place.parent)
+        os.close(handle)
+        shutil.copyfile(program, name)
+        os.chmod(name, 0o755)
+        os.replace(name, place)
+
+    def forget_others(self, folder: Path) -> None:
+        """Removes builds of other sources, but for the newest."""
+        others = sorted((it for it in folder.parent.iterdir() if it != folder), key=lambda it: it.stat().st_mtime)
+        for it in others[:-OTHERS]:
+            shutil.rmtree(it, ignore_errors=True)
+
+    def lock(self, name: str) -> Optional[IO[str]]:
+        """Takes a lock, and says so by an open file that holds it; None where another process has it."""
+        self.folder.mkdir(parents=True, exist_ok=True)
+        file = open(self.folder / f"{name}.lock", "a+", encoding="utf-8")
+        try:
+            fcntl.flock(file, fcntl.LOCK_EX | fcntl.LOCK_NB)
+        except BlockingIOError:
+            file.close()
+            return None
+        file.truncate(0)
+        file.write(f"{os.getpid()}\n")
+        file.flush()
+        return file
+
+    def holder(self, name: str) -> str:
+        """The process that has a lock, as it said itself; nothing where none has."""
+        held = self.lock(name)
+        if held is None:
+            return (self.folder / f"{name}.lock").read_text(encoding="utf-8").strip() or "?"
+        held.close()
+        return ""
+
+
+def sum_of(path: Path) -> str:
+    """The SHA-256 of a file."""
+    return hashlib.sha256(path.read_bytes()).hexdigest()
+
+
+def record_text(fields: Dict[str, str]) -> str:
+    """A record: a line for each field."""
+    return "".join(f"{name}: {value}\n" for name, value in fields.items())
+
+
+def record_of(path: Path) -> Dict[str, str]:
+    """The fields of a record, none where there is no such file."""
+    lines: List[str] = path.read_text(encoding="utf-8").splitlines() if path.is_file() else []
+    return dict(line.split(": ", 1) for line in lines if ": " in line)
