@@ -1,0 +1,27 @@
+# How nvmesim and nvmelive find their programs where they are installed: beside these lines, in a file of their name.
+# Who takes these lines in has set `name` and `support`, and has `tell`, `give_up` and `bad_words`.
+
+readonly help_on_builds=()
+
+# Makes the program ready to be run: `program` is its path.
+prepare() {
+    local how
+    program=$support/$name
+    [ -x "$program" ] || give_up "is not installed: there is no $program"
+    read -r how <"$support/build"
+    [[ $how == proved* || ${NVMESIM_UNPROVED:-} == 1 ]] || tell 'built without its proofs'
+}
+
+# Becomes the program, which `prepare` made ready.
+run_program() {
+    exec "$program" "$@"
+}
+
+show_version() {
+    echo "$name $(cat "$support/version")"
+    cat "$support/build"
+}
+
+prove() {
+    bad_words "word 1, '--prove', begins as an option does, and there is none"
+}

@@ -1,0 +1,189 @@
+"""Puts the programs, their manual pages, the Python package, the lab, examples and documents under a prefix, with a
+manifest of all files."""
+import os
+import re
+import shutil
+import subprocess
+import sys
+import tempfile
+from pathlib import Path
+from typing import Dict, Iterator, List
+
+from support.building.sources import PROGRAMS
+from support.building.store import Store, record_of, sum_of
+
+LIBRARY = "lib/nvmesim"
+SHARE = "share/nvmesim"
+MANIFEST = f"{SHARE}/MANIFEST"
+SUM = re.compile(r"^[0-9a-f]{64}  (.+)$", re.M)
+# What a wrapper of the repository says, and what it says where it is installed.
+MOVED = (('top=$(dirname "$(realpath "${BASH_SOURCE[0]}")")', 'top=$(dirname "$(dirname "$(realpath "${BASH_SOURCE[0]}")")")'),
+         ("support=$top/scripts/support", f"support=$top/{LIBRARY}"),
+         ("keywords_file=$top/crates/nvme_grammar/src/keyword.rt", "keywords_file=$support/keywords"))
+LAB = """#!/usr/bin/env bash
+# nvmelab: the lab, in which nvme-cli finds the subsystem as its disks; `--help` says more.
+set -euo pipefail
+library=$(dirname "$(dirname "$(realpath "${BASH_SOURCE[0]}")")")/lib/nvmesim
+NVMELIVE=${NVMELIVE:-$library/nvmelive} exec "$library/lab/lab" "$@"
+"""
+# Others that put files of their own under the prefix, each with its words before it.
+OTHERS = (("scripts/library", "--install"), ("clients/nvme-tcp/install",))
+
+
+class NotInstalled(Exception):
+    """It can't be installed, with the reason."""
+
+
+def version_of(top: Path) -> str:
+    """The newest heading of CHANGELOG.md, as --version has it."""
+    for line in (top / "CHANGELOG.md").read_text(encoding="utf-8").splitlines():
+        if line.startswith("## "):
+            return line[3:]
+    raise NotInstalled("CHANGELOG.md names no version")
+
+
+def number_of(top: Path) -> str:
+    """The version's number alone."""
+    return version_of(top).split(",")[0]
+
+
+def asked(top: Path, *words: str) -> str:
+    """What a command of the repository prints."""
+    done = subprocess.run([str(top / words[0]), *words[1:]], stdout=subprocess.PIPE, text=True)
+    if done.returncode != 0:
+        raise NotInstalled(f"{' '.join(words)} has failed")
+    return done.stdout.strip()
+
+
+def put(text: str, place: Path, mode: int = 0o644) -> None:
+    place.parent.mkdir(parents=True, exist_ok=True)
+    place.write_text(text, encoding="utf-8")
+    place.chmod(mode)
+
+
+def copy(path: Path, place: Path) -> None:
+    place.parent.mkdir(parents=True, exist_ok=True)
+    shutil.copyfile(path, place)
+    place.chmod(0o755 if os.access(path, os.X_OK) else 0o644)
+
+
+def copy_tree(folder: Path, place: Path, *without: str) -> None:
+    """Copies the files of a folder, but for those of some names and what is made when they run."""
+    passed = {"__pycache__", "out", *without}
+    for path in sorted(folder.rglob("*")):
+        if path.is_file() and not passed & set(path.relative_to(folder).parts):
+            copy(path, place / path.relative_to(folder))
+
+
+def wrapper_of(top: Path, name: str) -> str:
+    """The script that stands before a program, where it is installed."""
+    text = (top / name).read_text(encoding="utf-8")
+    for here, there in MOVED:
+        if text.count(here) != 1:
+            raise NotInstalled(f"{name} has not the line {here}")
+        text = text.replace(here, there)
+    return text
+
+
+def keywords_of(top: Path) -> str:
+    """The words that lines of scripts begin with, as the wrappers read them from the source."""
+    words = f'. "{top}/scripts/support/words.sh"; keywords_file={top}/crates/nvme_grammar/src/keyword.rt; keywords'
+    return subprocess.run(["bash", "-c", words], stdout=subprocess.PIPE, text=True, check=True).stdout.strip() + "\n"
+
+
+def put_programs(top: Path, stage: Path) -> None:
+    """The programs, behind scripts that judge their words, and the lab."""
+    for name in PROGRAMS:
+        copy(Path(asked(top, name, "--where")), stage / LIBRARY / name)
+        put(wrapper_of(top, name), stage / "bin" / name, 0o755)
+        copy(top / "man" / f"{name}.1", stage / "share/man/man1" / f"{name}.1")
+    copy(top / "scripts/support/words.sh", stage / LIBRARY / "words.sh")
+    copy(top / "scripts/support/installed.sh", stage / LIBRARY / "program.sh")
+    put(keywords_of(top), stage / LIBRARY / "keywords")
+    put(version_of(top) + "\n", stage / LIBRARY / "version")
+    put(asked(top, "scripts/build", "describe", PROGRAMS[0]).split("; ")[0] + "\n", stage / LIBRARY / "build")
+    copy_tree(top / "clients/nvme-cli", stage / LIBRARY / "lab", "test", "tests", "README.md")
+    copy(top / "clients/nvme-cli/tests/two-hosts.nvme", stage / SHARE / "examples/lab.nvme")
+    put(LAB, stage / "bin/nvmelab", 0o755)
+
+
+def put_package(top: Path, stage: Path) -> None:
+    """The Python package: as a wheel for pip, and as a folder for PYTHONPATH."""
+    (stage / SHARE).mkdir(parents=True, exist_ok=True)
+    words = "import sys, wheels; wheels.build_wheel(sys.argv[1])"
+    subprocess.run([sys.executable, "-Bc", words, str(stage / SHARE)], cwd=top / "clients/python/packaging", check=True)
+    copy_tree(top / "clients/python/nvmesim", stage / LIBRARY / "python/nvmesim")
+    copy_tree(top / "clients/python/examples", stage / SHARE / "examples")
+
+
+def put_others(top: Path, stage: Path) -> None:
+    """Examples, documents, and what others put there."""
+    for path in sorted((top / "crates/nvme_examples/data").iterdir()):
+        if path.name == "examples" or path.suffix in (".nvme", ".out"):
+            copy(path, stage / SHARE / "examples" / path.name)
+    for name in ("README.md", "CHANGELOG.md"):
+        copy(top / name, stage / "share/doc/nvmesim" / name)
+    copy_tree(top / "docs", stage / "share/doc/nvmesim/docs")
+    for words in OTHERS:
+        if os.access(top / words[0], os.X_OK):
+            subprocess.run([str(top / words[0]), *words[1:], str(stage)], check=True)
+
+
+def fields_of(top: Path) -> Dict[str, str]:
+    """What the manifest says before the files."""
+    digest = asked(top, "scripts/build", "digest")
+    gate, proved = record_of(Store(top).gate(digest)), record_of(Store(top).proved(digest) / "record")
+    commit = subprocess.run(["git", "-C", str(top), "rev-parse", "HEAD"], capture_output=True, text=True).stdout.strip()
+    passed = f"passed at {gate['passed']}, commit {gate['commit']}, changes beside it: {gate['changes']}" if gate else "no"
+    return {"nvmesim": version_of(top), "platform": "x86_64-linux", "commit": commit or "none", "sources": digest,
+            "proved": proved.get("proved", "no"), "gate": passed, "toolchain": proved.get("toolchain", "unknown")}
+
+
+def files_of(stage: Path) -> Iterator[str]:
+    """The files under a folder, in the order of their names."""
+    return iter(sorted(it.relative_to(stage).as_posix() for it in stage.rglob("*") if it.is_file()))
+
+
+def manifest(top: Path, stage: Path) -> str:
+    """What is installed, and of what it was made: fields, and then the lines that sha256sum prints of the files."""
+    head = "".join(f"{name}: {value}\n" for name, value in fields_of(top).items())
+    return head + "\n" + "".join(f"{sum_of(stage / it)}  {it}\n" for it in files_of(stage))
+
+
+def fill(top: Path, stage: Path) -> None:
+    """Puts all there is into an empty folder."""
+    put_programs(top, stage)
+    put_package(top, stage)
+    put_others(top, stage)
+    put(manifest(top, stage), stage / MANIFEST)
+
+
+def names_in(path: Path) -> List[str]:
+    """The files that a manifest lists."""
+    return SUM.findall(path.read_text(encoding="utf-8"))
+
+
+def install(top: Path, prefix: Path) -> None:
+    """Installs under a prefix, in the place of what was installed there before."""
+    with tempfile.TemporaryDirectory() as room:
+        fill(top, Path(room))
+        if (prefix / MANIFEST).is_file():
+            remove(prefix)
+        for name in files_of(Path(room)):
+            copy(Path(room, name), prefix / name)
+
+
+def remove(prefix: Path) -> None:
+    """Removes what the manifest under a prefix lists, and the folders that are empty then."""
+    if not (prefix / MANIFEST).is_file():
+        raise NotInstalled(f"nothing is installed under {prefix}: there is no {prefix / MANIFEST}")
+    names = names_in(prefix / MANIFEST)
+    for name in names:
+        (prefix / name).unlink(missing_ok=True)
+    # These are ours alone: what was made there since goes too.
+    for own in (LIBRARY, SHARE):
+        shutil.rmtree(prefix / own, ignore_errors=True)
+    folders = {it for name in names for it in Path(name).parents if it != Path(".")}
+    for folder in sorted(folders, key=lambda it: len(it.parts), reverse=True):
+        if (prefix / folder).is_dir() and not any((prefix / folder).iterdir()):
+            (prefix / folder).rmdir()
