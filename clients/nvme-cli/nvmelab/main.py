@@ -53,18 +53,18 @@ def take_apart(given: List[str]) -> Words:
         if word == "--":
             found.command = list(words)
             if not found.command:
-                raise LabFault("there is no COMMAND behind --")
+                raise LabFault("there is no COMMAND after --")
         elif word in ("--host", "--image", "--script", "--program"):
             value = next(words, None)
             if value is None:
-                raise LabFault(f"{word} wants a word behind it")
+                raise LabFault(f"{word} has no value after it")
             setattr(found, word[2:], value)
         elif word == "--drivers":
             found.has_drivers = True
         elif word.startswith("-"):
             raise LabFault(f"there is no option {word}; --help says which there are")
         elif found.config:
-            raise LabFault(f"{word} stands behind CONFIG without -- before it")
+            raise LabFault(f"{word} comes after CONFIG without -- before it")
         else:
             found.config = word
     if not found.config:

@@ -67,7 +67,7 @@ class Executed:
 
 @dataclass(frozen=True)
 class Polled:
-    """`poll C ..`: what the driver handed up.
+    """`poll C ..`: what the driver delivered.
 
     `value` is double word 0 of the answer; `data` are the bytes that came with a Read, a report or an Identify, whole,
     with the zeros that the transcript leaves out.

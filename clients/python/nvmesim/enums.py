@@ -240,7 +240,7 @@ class ExecuteOutcome(enum.Enum):
 
 
 class PollOutcome(enum.Enum):
-    """What a poll handed up."""
+    """What a poll delivered."""
 
     ANSWERED = "answered"
     ABORTED = "aborted"

@@ -125,7 +125,7 @@ class NvmeError(NvmesimError):
 
 
 class RequestAborted(NvmesimError):
-    """A reset or a power cycle met a request before its answer was handed up. It may have been executed or not.
+    """A reset or a power cycle met a request before its answer was delivered. It may have been executed or not.
 
     Attributes:
         line: the request's line.

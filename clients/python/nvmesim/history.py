@@ -22,9 +22,9 @@ class Command:
         line: the request's line; None for a raw host's command.
         ticket: the driver's ticket; None for a raw host's command.
         entry: the entry as a raw host stored it; None for a request.
-        reset: the reset or power cycle that it met before its answer was handed up.
+        reset: the reset or power cycle that it met before its answer was delivered.
         status, rule: what its execution gave.
-        value, data: what the poll handed up with it.
+        value, data: what the poll returned with it.
     """
 
     controller: int
@@ -90,7 +90,7 @@ class Follower:
         self._count = 0
 
     def outstanding(self, controller: int, ticket: int) -> Optional[Command]:
-        """The request with this ticket, if its answer was not handed up yet."""
+        """The request with this ticket, if its answer was not delivered yet."""
         return self._side(controller).outstanding.get(ticket)
 
     def place_of(self, command: Command) -> Optional[int]:

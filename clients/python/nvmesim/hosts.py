@@ -34,7 +34,7 @@ def nsid_of(namespace: NamespaceLike) -> int:
 
 
 class Host:
-    """A host with a driver, which places requests and hands their answers up by their tickets.
+    """A host with a driver, which places requests and delivers their answers by ticket.
 
     `place_..` place a request and return its ticket; with `ring`, `poll` and the controller's `fetch` and `execute` the
     caller chooses the order. The calls without `place_` do all of that for one request: they return what it gives, or
@@ -43,7 +43,7 @@ class Host:
     Attributes:
         host: its identifier.
         controller: its controller.
-        answers: answers that were handed up while another request was waited for, by their tickets.
+        answers: answers that were delivered while another request was waited for, by their tickets.
     """
 
     def __init__(self, session: Session, number: int, host: int) -> None:
@@ -71,7 +71,7 @@ class Host:
         return answer_of(self._session.event(lines.poll(self.number)), Polled)
 
     def reset(self) -> Reset:
-        """Resets the driver and its controller: all requests that wait will be handed up as aborted."""
+        """Resets the driver and its controller: all requests that wait will be delivered as aborted."""
         return answer_of(self._session.event(lines.reset(self.number)), Reset)
 
     def state(self) -> looks.DriverState:
@@ -218,7 +218,7 @@ class Host:
     def finish(self, ticket: int) -> Polled:
         """Brings a request to its end from wherever it is: rings, fetches, executes and polls as far as is needed.
 
-        Other requests of the driver may be rung and fetched on the way, and answers of theirs that are handed up are
+        Other requests of the driver may be rung and fetched on the way, and answers of theirs that are delivered are
         kept in `answers`. They are not executed.
 
         Raises:
@@ -230,13 +230,13 @@ class Host:
         if command is None:
             raise NotDone(f"controller {self.number} has placed no request under ticket {ticket} here")
         if command.polled is not None and ticket not in self.answers:
-            raise NotDone(f"the answer of ticket {ticket} of controller {self.number} was handed up before")
+            raise NotDone(f"the answer of ticket {ticket} of controller {self.number} was delivered before")
         if command.reset is None and command.polled is None:
             self._execute(command)
         while ticket not in self.answers:
             polled = self.poll()
             if polled.ticket is None:
-                raise NotDone(f"ticket {ticket} of controller {self.number} was not handed up: {polled.outcome.value}")
+                raise NotDone(f"ticket {ticket} of controller {self.number} was not delivered: {polled.outcome.value}")
             self.answers[polled.ticket] = polled
         answer = self.answers.pop(ticket)
         line = command.line.text if command.line is not None else ""

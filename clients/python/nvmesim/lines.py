@@ -49,7 +49,7 @@ def execute(controller: int, place: int = 0) -> str:
 
 
 def poll(controller: int) -> str:
-    """The driver hands one answer up."""
+    """The driver delivers one answer."""
     return f"poll {controller}"
 
 

@@ -37,7 +37,7 @@ class FetchedCommand:
 
 @dataclass(frozen=True)
 class TicketState:
-    """A request whose answer was not handed up."""
+    """A request whose answer was not delivered."""
 
     ticket: int
     is_admin: bool

@@ -82,7 +82,7 @@ class Subsystem:
     def power_cycle(self) -> PowerCycled:
         """Power is lost in the whole subsystem, and comes back.
 
-        All drivers and controllers are down, and all requests that wait will be handed up as aborted. Blocks,
+        All drivers and controllers are down, and all requests that wait will be delivered as aborted. Blocks,
         attachments and plain write protection stay; write protection until a power cycle ends. Registrants and the
         reservation of a namespace stay where they were registered with `Persistence.SET`, and are gone elsewhere.
         """

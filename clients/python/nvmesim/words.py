@@ -178,7 +178,7 @@ def register_words(offset: int) -> str:
 def configuration_words(line: ScriptLine) -> str:
     """What a line before the events says; an empty text for a comment or a blank line."""
     if line.kind is LineKind.START:
-        return "the subsystem is judged; behind this line stand the events"
+        return "the subsystem is checked and started; the events follow"
     if line.kind is not LineKind.CONFIGURATION:
         return ""
     words = line.words
@@ -271,20 +271,20 @@ def _driver_words(event: Event, answer: Answer) -> str:
         told = tickets_words(event.commands) if event.commands else "nothing new"
         return f"tells controller {number} of {told}"
     if isinstance(answer, Reset):
-        met = f", and {tickets_words(event.commands)} will be handed up as aborted" if event.commands else ""
+        met = f", and {tickets_words(event.commands)} will be delivered as aborted" if event.commands else ""
         return f"resets controller {number}; both are down{met}"
     return _poll_words(event, answer) if isinstance(answer, Polled) else event.text
 
 
 def _power_words(event: Event) -> str:
     """What a power cycle does, and which commands it meets."""
-    words = "power is lost in the whole subsystem, and comes back; all drivers and controllers are down"
+    words = "the whole subsystem loses power and gets it back; all drivers and controllers are down"
     waiting: Dict[int, List[Command]] = {}
     for command in event.commands:
         if command.ticket is not None:
             waiting.setdefault(command.controller, []).append(command)
     for controller, commands in waiting.items():
-        words += f"; controller {controller}'s {tickets_words(commands)} will be handed up as aborted"
+        words += f"; controller {controller}'s {tickets_words(commands)} will be delivered as aborted"
     forgotten = sum(command.ticket is None for command in event.commands)
     if forgotten:
         words += f"; {_forgotten_words(forgotten)}"
@@ -299,14 +299,14 @@ def _poll_words(event: Event, answer: Polled) -> str:
     command = event.command
     if command is None:
         texts = {
-            PollOutcome.NOTHING: "has no answer to hand up",
-            PollOutcome.NOT_UP: "is not up, and has nothing to hand up",
+            PollOutcome.NOTHING: "has no answer to deliver",
+            PollOutcome.NOT_UP: "is not up, and has nothing to deliver",
             PollOutcome.UNKNOWN_COMMAND: "meets a completion that answers no request",
         }
         return texts.get(answer.outcome, event.text)
     if answer.status is None:
-        return f"hands {command_label(command)} up as aborted by event {command.reset}"
-    words = f"hands up the answer of {command_label(command)}: {status_words(answer.status)}"
+        return f"delivers {command_label(command)} as aborted by event {command.reset}"
+    words = f"delivers the answer of {command_label(command)}: {status_words(answer.status)}"
     if command.is_denied:
         words += f", by rule {command.rule.value}"
     if answer.value:

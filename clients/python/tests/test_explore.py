@@ -464,7 +464,7 @@ class CommandTest(FolderCase):
     def test_explain_and_timeline(self) -> None:
         status, told, _ = self.run_command("explain", str(RACE), "--program", str(STANDIN), "--width", "300")
         self.assertEqual(status, 0)
-        self.assertIn("host b2h's driver hands up the answer of ticket 2", told)
+        self.assertIn("host b2h's driver delivers the answer of ticket 2", told)
         page = self.folder / "page.html"
         status, _, _ = self.run_command("timeline", str(RACE), "--program", str(STANDIN), "-o", str(page))
         self.assertEqual(status, 0)

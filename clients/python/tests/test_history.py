@@ -105,9 +105,9 @@ class ExplainTest(unittest.TestCase):
     def test_what_a_power_cycle_says(self) -> None:
         script, transcript = next((one, two) for name, one, two in examples() if name == "power-cycle")
         told = " ".join(" ".join(explain(script, transcript, 400)).split())
-        for words in ("powercycle powercycle power is lost in the whole subsystem, and comes back; all drivers and "
-                      "controllers are down; controller 1's ticket 9 will be handed up as aborted",
-                      "host a1h's driver hands ticket 9 (Read) up as aborted by event ",
+        for words in ("powercycle powercycle the whole subsystem loses power and gets it back; all drivers and "
+                      "controllers are down; controller 1's ticket 9 will be delivered as aborted",
+                      "host a1h's driver delivers ticket 9 (Read) as aborted by event ",
                       "Reservation Register, namespace 1, registers key 11h; all persists through a loss of power from "
                       "now on",
                       "Reservation Register, namespace 2, registers key 11h ",
@@ -120,7 +120,7 @@ class ExplainTest(unittest.TestCase):
         told = " ".join(" ".join(explain(script, transcript, 400)).split())
         for words in ("controller 2 executes ticket 2 (Read): denied with Command Aborted due to Preempt and Abort "
                       "(0:1b) by rule 1: a Preempt and Abort met it, and its host lost its registration",
-                      "host b2h's driver hands up the answer of ticket 4 (Read): Reservation Conflict (0:83), by rule "
+                      "host b2h's driver delivers the answer of ticket 4 (Read): Reservation Conflict (0:83), by rule "
                       "7",
                       "host a1h's driver places ticket 3: Reservation Acquire, namespace 1, preempts key 22h and "
                       "aborts, with key 11h, Exclusive Access",

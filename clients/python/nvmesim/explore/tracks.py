@@ -32,8 +32,8 @@ class Track:
     Attributes:
         lanes: requests that were placed and not fetched.
         fetched: commands that were fetched and not executed, by their places.
-        posted: completions that were not handed up.
-        tickets: the requests whose answers were not handed up, by their tickets.
+        posted: completions that were not delivered.
+        tickets: the requests whose answers were not delivered, by their tickets.
         taken: how many commands were fetched since the driver came up.
         heard: how many of them the driver knows of.
     """
@@ -79,7 +79,7 @@ class Track:
         """The request with this ticket was answered or aborted."""
         names = dict(self.tickets)
         if ticket not in names:
-            raise ProtocolError(f"ticket {ticket} was handed up, and no request waits under it")
+            raise ProtocolError(f"ticket {ticket} was delivered, and no request waits under it")
         name = names[ticket]
         track = replace(self, tickets=tuple(it for it in self.tickets if it[0] != ticket),
                         queues=tuple(it for it in self.queues if it[0] != name))

@@ -30,10 +30,10 @@ def state_of(command: Command) -> str:
 def command_story(command: Command) -> str:
     """All that became of a command, in one text."""
     steps = (("placed", command.placed), ("rung", command.rung), ("fetched", command.fetched),
-             ("executed", command.executed), ("reset", command.reset), ("handed up", command.polled))
+             ("executed", command.executed), ("reset", command.reset), ("delivered", command.polled))
     told = ", ".join(f"{name} at {number}" for name, number in steps if number is not None)
     label = f"ticket {command.ticket}: {command_words(command)}" if command.ticket else command_words(command)
-    aborted = "; handed up as aborted" if command.is_aborted else ""
+    aborted = "; delivered as aborted" if command.is_aborted else ""
     return f"Controller {command.controller}, {label}. Events: {told}. It was {verdict_words(command)}{aborted}."
 
 
