@@ -11,9 +11,9 @@ from support.proving import say
 MOST = 60
 USAGE = """Tries wrong bodies, over kept work where there is some: the prover must refuse each.
 
-A wrong body is a file NAME.edit in crates/CRATE/must-fail or crates/CRATE/wrong-bodies. Without names, those are tried
-for which crates/CRATE/wrong-bodies.record says nothing of the present text; with --all, or with names of crates, all of
-them. What was refused is written to the records. The last line is `N passed, M failed`; the status is 1 where one
+A wrong body is a file NAME.edit in crates/CRATE/must-fail or crates/CRATE/wrong-bodies. Without names, it tries those
+that crates/CRATE/wrong-bodies.record does not show as refused with their present text; with --all, or with names of
+crates, all of them. It writes to the records what was refused. The last line is `N passed, M failed`; the status is 1 where one
 failed, and 2 where nothing could be tried."""
 
 
@@ -24,9 +24,9 @@ def words_of(given):
     parser.add_argument("names", nargs="*", metavar="NAME", help="a crate")
     parser.add_argument("--all", action="store_true", help="all wrong bodies of all crates")
     parser.add_argument("--lacking", action="store_true", help="of the named crates, only what their records lack")
-    parser.add_argument("--jobs", type=int, default=0, metavar="N", help="so many checks side by side; else one a core")
-    parser.add_argument("--gate", metavar="COMMIT", help="for the merge gate: what the records lack of wrong-bodies/, "
-                        "and a tenth of the rest, which the commit chooses; no record is written")
+    parser.add_argument("--jobs", type=int, default=0, metavar="N", help="run N checks side by side; without it one a core")
+    parser.add_argument("--gate", metavar="COMMIT", help="for the merge gate: those of wrong-bodies/ that the records "
+                        "don't show, and a tenth of the rest, which the commit chooses; no record is written")
     return parser.parse_args(given)
 
 

@@ -81,7 +81,8 @@ class Progress:
 
 
 def build_program(rt, crate, flags):
-    """Proves and builds a program, which then runs on the input of its crate and has to print what stands there."""
+    """Proves and builds a program, which then runs on the input of its crate and has to print what that says."""
+    Path(crate.folder, "out").mkdir(exist_ok=True)
     return not crate.run(flags, [], input=crate.stream("stdin") or b"", stdout=subprocess.PIPE, timeout=rt.rtlib.LIMIT)
 
 

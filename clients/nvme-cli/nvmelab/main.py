@@ -19,16 +19,16 @@ FAILED, NOT_RUN, NOT_FOUND = 125, 126, 127
 USAGE = """\
 lab [--host H] [--drivers] [--image IMAGE] [--script FILE] [--program PROGRAM] CONFIG [-- COMMAND ..]
 
-Runs COMMAND, or a shell, where /dev/nvme0, /dev/nvme0n1 .. are the controllers and namespaces that CONFIG describes:
-the lines of a script before its `start`. Labs of one CONFIG that run at the same time are one lab; it ends with the
-last of their COMMANDs.
+Runs COMMAND, or a shell, with the controllers and namespaces of CONFIG as /dev/nvme0, /dev/nvme0n1 and so on. CONFIG
+has the lines of a script before its `start`. Labs of one CONFIG that run at the same time are one lab, which ends with
+the last of their COMMANDs.
 
---host H            see the controllers of host H alone, as its own machine does; without it those of all hosts
---drivers           have commands made by the proved drivers of the hosts, but for lines of CONFIG that end in `raw`;
-                    without it all hosts are raw, and commands are what COMMAND makes of them
---image IMAGE       keep the blocks in this file, which must be long enough; else they go with the lab
---script FILE       write what happens as a script, which nvmesim runs again
---program PROGRAM   take this nvmelive; else ./nvmelive of this repository, which is built on first use
+--host H            see only the controllers of host H, as its own machine does; without it those of all hosts
+--drivers           have commands made by the proved drivers of the hosts, except where the line of CONFIG ends in `raw`;
+                    without it all hosts are raw, and commands are as COMMAND makes them
+--image IMAGE       keep the blocks in this file, which must be long enough; without it they are gone after the lab
+--script FILE       write everything that happens as a script, which nvmesim can run again
+--program PROGRAM   run this nvmelive; without it ./nvmelive of this repository, which is built on first use
 
 The status is COMMAND's; 125 where the lab fails, 126 or 127 where COMMAND can't be run or is not found.
 """

@@ -12,10 +12,10 @@ from support.faults.bench import Bench, Check, Wrong
 USAGE = """Tries what a user of storage fears on the built program.
 
 Each request for memory, each call on the image, each read of the script and each write of the transcript fails in
-turn; the program is killed at any moment; images are cut, removed and no files, and stand on file systems that are full
-or can only be read; scripts are cut. What must come of it is computed from what docs/USING.md promises. The status is
-1 at the first thing that is wrong, and 2 where nothing could be tried. A small library is compiled for it, by $CC, `cc`
-or the toolchain's compiler."""
+turn; the program is killed at any moment; images are cut, removed or not files, and are on file systems that are full
+or read-only; scripts are cut. The expected result is computed from what docs/USING.md promises. The status is 1 at the
+first thing that is wrong, and 2 where nothing could be tried. A small library is compiled for it, by $CC, `cc` or the
+toolchain's compiler."""
 
 GROUPS: Dict[str, Dict[str, Check]] = {
     "memory": memory.CHECKS, "calls": calls.CHECKS, "device": device.CHECKS, "commands": commands.CHECKS,

@@ -14,7 +14,7 @@ from support.program.case import Case, faults, tried
 USAGE = """Runs the built program on words, streams and files, and compares all that it shows and leaves.
 
 Each case is a run of the program in a folder of its own: its status, its transcript, each byte on standard error, and
-the files of the folder. What must come of it is what docs/USING.md says, written out beside it. It takes a second.
+the files of the folder. The expected result is what docs/USING.md says, written out beside the case. It takes a second.
 The status is 1 where something is wrong, and 2 where nothing could be tried."""
 
 GROUPS: Dict[str, Sequence[Case]] = {
