@@ -87,8 +87,9 @@ def wrapper_of(top: Path, name: str) -> str:
 
 def keywords_of(top: Path) -> str:
     """The words that lines of scripts begin with, as the wrappers read them from the source."""
-    words = f'. "{top}/scripts/support/words.sh"; keywords_file={top}/crates/nvme_grammar/src/keyword.rt; keywords'
-    return subprocess.run(["bash", "-c", words], stdout=subprocess.PIPE, text=True, check=True).stdout.strip() + "\n"
+    places = [str(top / "scripts/support/words.sh"), str(top / "crates/nvme_grammar/src/keyword.rt")]
+    words = ["bash", "-c", '. "$1"; keywords_file=$2; keywords', "-", *places]
+    return subprocess.run(words, stdout=subprocess.PIPE, text=True, check=True).stdout.strip() + "\n"
 
 
 def put_programs(top: Path, stage: Path) -> None:
