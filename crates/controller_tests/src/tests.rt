@@ -13,6 +13,7 @@ mod memory;
 mod ns;
 mod policy;
 mod prp;
+mod queues;
 mod regs;
 mod resv;
 mod ring;

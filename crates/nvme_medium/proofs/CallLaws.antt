@@ -7,7 +7,7 @@ use Rattle.nvme_spec.specs.MediumCalls.{MediumCall, Reads, Writes, Flushes, Call
 use Rattle.nvme_spec.specs.declared.medium.MediumFault.{MediumFault as Fault}
 use Rattle.nvme_spec.proofs.MediumCalls.{calls-joined}
 use Rattle.nvme_medium.specs.Memory.{memory_bytes, memory_step}
-use Rattle.nvme_medium.specs.Cached.{StepsBehind, calls_behind, unless_kept}
+use Rattle.nvme_medium.specs.Cached.{Kept, StepsBehind, calls_behind, unless_kept}
 use Rattle.nvme_medium.specs.CallLaws.{content_after, content_left, answered, all_answered, MemoryCallsAreDetermined, MemoryCallsCanBeMade, AreBehind, without_reads, WritesAndFlushesGoOn}
 use Rattle.nvme_medium.specs.declared.memory.MemMedium.{MemMedium}
 
@@ -30,17 +30,26 @@ memory_calls_are_determined old new (call ∷ calls) made =
     )
 
 -- calls of a medium that stands behind what is kept
-pub calls-behind : {C M : Type 0} (step : M → MediumCall → M → Type 0) (kept : C → List (ℕ × List ℕ)) (inner : C → M) (old new : C) (calls : List MediumCall)
+pub calls-behind : {C M : Type 0} (step : M → MediumCall → M → Type 0) (kept : C → Kept) (inner : C → M) (old new : C) (calls : List MediumCall)
     → Calls (λ (a : C) (call : MediumCall) (b : C). StepsBehind step (kept a) (inner a) call (kept b) (inner b)) old calls new
-    → MakesCalls step (AreBehind (kept old) calls (kept new)) (inner old) (inner new)
-calls-behind step kept inner old new [] made = record { calls = []; are = (ap kept made, refl); made = ap inner made }
+    → MakesCalls step (AreBehind (kept old).entries calls (kept new).entries) (inner old) (inner new)
+calls-behind step kept inner old new [] made = record { calls = []; are = (ap (λ c. (kept c).entries) made, refl); made = ap inner made }
 calls-behind step kept inner old new (call ∷ calls) made =
     let rest = calls-behind step kept inner made.0 new calls made.2 in
     record {
-      calls = calls_behind (kept old) call ++ rest.calls;
-      are = (kept made.0, rest.calls, made.1.answers, made.1.kept, refl, rest.are);
-      made = calls-joined step (calls_behind (kept old) call) rest.calls (inner old) (inner made.0) (inner new) made.1.calls rest.made;
+      calls = calls_behind (kept old).entries call ++ rest.calls;
+      are = ((kept made.0).entries, rest.calls, made.1.answers, made.1.kept, refl, rest.are);
+      made = calls-joined step (calls_behind (kept old).entries call) rest.calls (inner old) (inner made.0) (inner new) made.1.calls rest.made;
     }
+
+-- how many may be kept stays, and no more are
+pub calls-within : {C M : Type 0} (step : M → MediumCall → M → Type 0) (kept : C → Kept) (inner : C → M) → ((c : C) → length (kept c).entries ≤ (kept c).cap) → (old new : C) (calls : List MediumCall)
+    → Calls (λ (a : C) (call : MediumCall) (b : C). StepsBehind step (kept a) (inner a) call (kept b) (inner b)) old calls new
+    → ((kept new).cap ≡ (kept old).cap) × (length (kept new).entries ≤ (kept old).cap)
+calls-within step kept inner fits old new [] made = (ap (λ c. (kept c).cap) made, subst (λ c. length (kept c).entries ≤ (kept old).cap) (sym made) (fits old))
+calls-within step kept inner fits old new (call ∷ calls) made =
+    let rest = calls-within step kept inner fits made.0 new calls made.2 in
+    (rest.0 ∙ made.1.capacity, subst (λ n. length (kept new).entries ≤ n) made.1.capacity rest.1)
 
 -- a read, whether it goes on or not, is a read
 read-goes-on : (o : Option (List ℕ)) (i : ℕ) (answer : Result (List ℕ) Fault) (rest : List MediumCall) → without_reads (unless_kept o (Reads i answer) ++ rest) ≡ without_reads rest

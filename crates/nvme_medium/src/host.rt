@@ -1,29 +1,13 @@
-//! A file of the system as a file in place, and how a medium is opened over it.
+//! A file of the system. Each call but `len` is one call of the system, of which no contract speaks: what is said of
+//! files by their calls and bytes ends here, so this file is to be read.
 
-ghost use Rattle.std.specs.Prelude.{◌≡◌, ◌≢◌, ◌<◌, ◌^◌, Ok, IfOk};
-ghost use Rattle.std.specs.IoError.{error_kind};
-ghost use Rattle.std.specs.declared.io.ErrorKind.TheVariants.{OutOfMemory};
+ghost use Rattle.std.specs.Prelude.{◌≡◌, ◌<◌, ◌^◌, Ok, IfOk};
 ghost use Rattle.nvme_spec.specs.Blocks.{CountsFaults};
-ghost use Rattle.nvme_medium.specs.declared.host.FileFault.TheVariants.{NoMemory};
 
-use crate::{BLOCK, FileMedium, MediumFault, RawFile};
-use std::fs::{File, OpenOptions};
+use crate::{BLOCK, MediumFault, RawFile};
+use std::fs::File;
 use std::io;
-use std::io::ErrorKind;
 use std::os::unix::fs::FileExt;
-use std::path::AsPath;
-use std::rt::Files;
-
-/// Why a file can't be a medium.
-#[derive(Clone, Copy, Debug, PartialEq, Eq)]
-pub enum FileFault {
-    /// It can't be opened for reading and writing.
-    NoFile,
-    /// Its length can't be told.
-    NoLength,
-    /// Memory was refused.
-    NoMemory,
-}
 
 /// A file of the system, of the length that it had when it was opened. Nobody can know what others do to it, or what a
 /// disk returns, so it tells no bytes.
@@ -37,7 +21,7 @@ pub struct HostFile {
 
 impl HostFile {
     /// An open file of this length, no call of which has failed.
-    fn new(file: File, len: u64) -> Self
+    pub(crate) fn new(file: File, len: u64) -> Self
         ensures len { result.len ≡ len }
         ensures unfailed { result.failures ≡ 0 }
     {
@@ -65,7 +49,6 @@ impl HostFile {
     }
 }
 
-/// One call of the system for each call, at its offset: where the file is read and written next does not matter.
 impl RawFile for HostFile {
     ghost use Rattle.std.specs.Prelude.{[], false};
     ghost use Rattle.nvme_medium.specs.Whole.{tells-none};
@@ -106,36 +89,5 @@ impl RawFile for HostFile {
         let outcome = self.file.sync_all();
         self.counted(outcome.map(|()| 1))?;
         Ok(())
-    }
-}
-
-impl FileMedium<HostFile> {
-    /// The whole blocks of the file at a path, which is read and written in place.
-    ///
-    /// # Errors
-    /// `NoFile` where it can't be opened for reading and writing, `NoLength` where its length can't be told, and
-    /// `NoMemory` where the system has no memory for either.
-    pub fn open<R: Files<File = File>, P: AsPath>(rt: &R, path: P) -> Result<Self, FileFault> {
-        let file = OpenOptions::new()
-            .read(true)
-            .write(true)
-            .open(rt, path)
-            .map_err(|error| fault_of(&error, FileFault::NoFile))?;
-        let metadata = file
-            .metadata()
-            .map_err(|error| fault_of(&error, FileFault::NoLength))?;
-        let len = metadata.len();
-        Ok(FileMedium::over(HostFile::new(file, len)))
-    }
-}
-
-/// What an error of the system is told as: want of memory, or else this fault.
-fn fault_of(error: &io::Error, other: FileFault) -> FileFault
-    ensures memory { error_kind error.now ≡ OutOfMemory → result ≡ NoMemory }
-    ensures other { error_kind error.now ≢ OutOfMemory → result ≡ other }
-{
-    match error.kind() {
-        ErrorKind::OutOfMemory => FileFault::NoMemory,
-        _ => other,
     }
 }

@@ -1,9 +1,10 @@
 -- Blocks of a namespace, as the medium has them.
 use Rattle.std.specs.Prelude.{◌≡◌, ℕ, ◌+◌, nat_le, Bool, if◌then◌else◌, List, length, Option, None, Some, Result, OnOk}
 use Rattle.nvme_spec.specs.Blocks.{Told, blocks_from, CountsFaults}
-use Rattle.nvme_spec.specs.MediumCalls.{MediumCall, MakesInOrder, reads_from}
+use Rattle.nvme_spec.specs.MediumCalls.{MediumCall}
 use Rattle.nvme_spec.specs.World.{Namespace, namespace_of}
 use Rattle.nvme_spec.specs.declared.medium.MediumFault.{MediumFault}
+use Rattle.nvme_medium.specs.Reading.{ReadsBlocks}
 use Rattle.nvme_machine.specs.Subsystems.{Subsystem}
 
 -- where on the medium so many blocks of a namespace lie, from one on, if they all lie in it
@@ -26,10 +27,12 @@ Looks tells None old bytes result new = (result ≡ None) × (new ≡ old)
 Looks tells (Some first) old bytes None new = ⊥
 Looks tells (Some first) old bytes (Some result) new = Reads tells first old bytes result new
 
--- the calls that it made of the medium: reads of just these blocks, up to the first that failed, and no other
-abbrev pub LooksBy : {M : Type 0} → (M → MediumCall → M → Type 0) → Option ℕ → List ℕ → ℕ → M
+-- What it did to the medium and to the buffer: the calls were reads of just these blocks, up to the first that failed,
+-- and the buffer has what they gave. At blocks that are not there the medium was not called, and the buffer is as it
+-- was.
+abbrev pub LooksBy : {M : Type 0} → (M → MediumCall → M → Type 0) → Bool → List ℕ → Option ℕ → ℕ → List ℕ → List ℕ → M
     → Option (Result (Unit {0}) MediumFault) → M → Type 0
-LooksBy step None bytes count old result new = new ≡ old
-LooksBy step (Some first) bytes count old None new = ⊥
-LooksBy step (Some first) bytes count old (Some answer) new =
-    MakesInOrder step (reads_from first bytes) count old answer new
+LooksBy step tells content None count buffer left old result new = (result ≡ None) × (left ≡ buffer) × (new ≡ old)
+LooksBy step tells content (Some first) count buffer left old None new = ⊥
+LooksBy step tells content (Some first) count buffer left old (Some answer) new =
+    ReadsBlocks step tells content first count buffer left old answer new

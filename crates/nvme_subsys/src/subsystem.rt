@@ -101,8 +101,9 @@ impl<M: Medium> Subsystem<M> {
         &self.spaces
     }
 
-    /// Reads blocks of a namespace as the medium has them. `None` where there is no such namespace, or the blocks do
-    /// not all lie in it; the medium is then not called.
+    /// Reads blocks of a namespace as the medium has them, in rising order, onto the buffer, and stops at the first
+    /// fault: the buffer then has the blocks before it, and is as it was behind them. `None` where there is no such
+    /// namespace, or the blocks do not all lie in it; the medium is then not called, and the buffer stays.
     pub fn read_blocks(
         &mut self,
         nsid: u32,
@@ -112,9 +113,9 @@ impl<M: Medium> Subsystem<M> {
         requires whole { length buffer.old % 512 ≡ 0 }
         ensures look { Looks M.tells (place_in (namespace_of self.old.state.world nsid) slba (length buffer.old / 512))
             self.old.state buffer.new result self.new.state }
-        ensures calls { LooksBy M.step
+        ensures calls { LooksBy M.step M.tells self.old.state.device.content
             (place_in (namespace_of self.old.state.world nsid) slba (length buffer.old / 512))
-            buffer.new (length buffer.old / 512) self.old.medium result self.new.medium }
+            (length buffer.old / 512) buffer.old buffer.new self.old.medium result self.new.medium }
     {
         let namespace = self.spaces.namespace(nsid)?;
         let size = self.medium.blocks();

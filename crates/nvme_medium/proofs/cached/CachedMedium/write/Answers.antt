@@ -14,6 +14,7 @@ invariant_of-self g c = record {
       Keeps-changed c.args.i c.args.self.now.kept.entries c.keep.new.kept.entries _
       (KeepsBut-written c.args.self.now.kept.entries old _ c.args.i c.args.block.now (c.args.self.now.coherent tells) is c.told-block fits)
       (λ b found. c.keep.ensures.this b found ∙ block) c.keep.ensures.others;
+  fits = c.keep.ensures.fits c.args.self.now.fits;
 }
 
 pub invariant_of-self-in-Err : goal.invariant_of-self-in-Err
@@ -25,4 +26,5 @@ invariant_of-self-in-Err g c = record {
       Keeps-changed c.args.i c.args.self.now.kept.entries c.forget.new.kept.entries _
       (KeepsBut-written c.args.self.now.kept.entries old _ c.args.i torn.left (c.args.self.now.coherent tells) torn.is torn.whole fits)
       (λ b found. let none = c.forget.ensures.gone in cc) (λ j b ne found. sym (c.forget.ensures.others j ne) ∙ found);
+  fits = c.forget.ensures.fits c.args.self.now.fits;
 }
