@@ -146,6 +146,11 @@ polled d (Some slot) window = aborted_poll d slot
 polled d None window =
     if is_up d.state then found_poll d window (found d window) else without_calls (Err NotUp) d
 
+-- how many bytes a poll hands up: those that come with the answer of a request
+abbrev pub handed_len : Result (Option Answer) PollFault → ℕ
+handed_len (Ok (Some (Done ticket status dw0 len))) = len
+handed_len other = 0
+
 -- A poll of a driver over a window, by its calls of the port: some request, or none, is the oldest aborted one, and
 -- what the poll then comes to is the answer, the driver after it, the calls, and the front of the buffer.
 abbrev pub IsPolled :

@@ -1,12 +1,12 @@
 //! Handing up answers.
 
-ghost use Rattle.std.specs.Prelude.{◌≡◌, ◌<◌, ◌≤◌, ◌+◌, IfSome, Some, None, length, take, MatchOption, slice_range};
+ghost use Rattle.std.specs.Prelude.{◌≡◌, ◌<◌, ◌≤◌, ◌+◌, IfSome, Some, None, length, take, drop, MatchOption, slice_range};
 ghost use Rattle.nvme_wire.specs.Completion.{cid, sq_head};
 ghost use Rattle.nvme_spec.specs.Limits.{most_bytes};
 ghost use Rattle.nvme_driver.specs.Calls.{Calls};
 ghost use Rattle.nvme_driver.specs.Layout.{slot_count, data_area as area};
 ghost use Rattle.nvme_driver.specs.Drivers.{ends as ends_of};
-ghost use Rattle.nvme_driver.specs.Polls.{IsPolled, IsOldest, aborted_at, found as spec_found, answered as spec_answered, answer_len as spec_answer_len, consumed_ends, entry_poll};
+ghost use Rattle.nvme_driver.specs.Polls.{IsPolled, IsOldest, aborted_at, found as spec_found, answered as spec_answered, answer_len as spec_answer_len, consumed_ends, entry_poll, handed_len};
 
 use super::Driver;
 use crate::answer::Answer;
@@ -36,12 +36,13 @@ fn answer_len(received: Length, status: Status) -> usize
     }
 }
 
-/// Copies the first `len` bytes of a slot's data to the front of a buffer.
+/// Copies the first `len` bytes of a slot's data to the front of a buffer, whose other bytes stay.
 fn copy_data(window: &Window, slot: usize, len: usize, buffer: &mut [u8])
     requires slot { slot < slot_count }
     requires most { len ≤ most_bytes }
     requires room { len ≤ length buffer.old }
-    ensures { take len buffer.new ≡ slice_range window.now (area slot) (area slot + len) }
+    ensures front { take len buffer.new ≡ slice_range window.now (area slot) (area slot + len) }
+    ensures behind { drop len buffer.new ≡ drop len buffer.old }
 {
     let piece = Piece {
         address: data_area(slot),
@@ -117,6 +118,7 @@ impl Driver {
         ensures calls { Calls P.step port.old (entry_poll self.old (P.bytes port.old) lane entry).calls port.new }
         ensures bytes { take (length (entry_poll self.old (P.bytes port.old) lane entry).bytes) buffer.new
             ≡ (entry_poll self.old (P.bytes port.old) lane entry).bytes }
+        ensures behind { drop (handed_len result) buffer.new ≡ drop (handed_len result) buffer.old }
         ensures links { P.links port.new ≡ P.links port.old }
     {
         let Some((waiting, ends)) = self.answered(lane, entry) else {
@@ -141,7 +143,7 @@ impl Driver {
     /// Hands up the next answer, with its data at the front of the buffer, or `None` where there is no new one. An
     /// aborted request comes first, in every state, the one with the lowest ticket before the others; then a completion
     /// of the admin lane, then one of the I/O lane. That the buffer has at least 131,072 bytes is the caller's
-    /// condition; its bytes behind the answer's are not said.
+    /// condition. Its bytes behind the answer's stay, and all of them where no answer with data is handed up.
     ///
     /// # Errors
     /// `NotUp` where the driver is not up. `UnknownCommand` where the new completion is of another queue, answers no
@@ -153,6 +155,7 @@ impl Driver {
     ) -> Result<Option<Answer>, PollFault>
         requires { most_bytes ≤ length buffer.old }
         ensures polls { IsPolled P.step self.old (P.bytes port.old) port.old result self.new port.new buffer.new }
+        ensures behind { drop (handed_len result) buffer.new ≡ drop (handed_len result) buffer.old }
         ensures links { P.links port.new ≡ P.links port.old }
     {
         if let Some((slot, ticket)) = self.oldest_aborted() {
