@@ -9,3 +9,4 @@ mod faults;
 mod mailboxes;
 mod running;
 mod script;
+mod windows;

@@ -8,13 +8,13 @@ use Rattle.nvme_machine.specs.declared.seen.Seen.TheVariants.{Cycled}
 use Rattle.nvme_machine.specs.AllowedCalls.{HaveTheirOwn, KeepsOff}
 use Rattle.nvme_machine.proofs.AdminWorlds.{HasSameExtents, same-extents}
 use Rattle.nvme_machine.proofs.AllowedCalls.{all-joined, all-mapped, all-of-none, calls_are_allowed as machine_calls_are_allowed}
-use Rattle.nvme_machine.proofs.FencedCalls.{elsewhere}
+use Rattle.nvme_machine.proofs.FencedCalls.{elsewhere, fenced_commands_call_nothing as machine_fenced_commands_call_nothing}
 use Rattle.nvme_machine.proofs.Layouts.{step-extents}
 use Rattle.nvme_event.specs.declared.event.FleetEvent.{FleetEvent}
 use Rattle.nvme_event.specs.declared.event.FleetEvent.TheVariants.{BringUp, Place, Ring, Fetch, Execute, Poll, Reset, RawStore, RawWrite32, PowerCycle}
 use Rattle.nvme_event.specs.Events.{OfItsHost}
 use Rattle.nvme_event.specs.Replies.{Reply}
-use Rattle.nvme_fleet.specs.AllowedCalls.{CallsAreAllowed, CallsOfRunsAreAllowed, ComesFrom, FencedHostsWriteNoBlock, MayCall}
+use Rattle.nvme_fleet.specs.AllowedCalls.{CallsAreAllowed, CallsOfRunsAreAllowed, ComesFrom, FencedCommandsCallNothing, FencedHostsWriteNoBlock, MayCall}
 use Rattle.nvme_fleet.specs.FleetStates.{Layers}
 use Rattle.nvme_fleet.specs.LayerCalls.{AreCallsOfStep}
 use Rattle.nvme_fleet.specs.Layers.{Step}
@@ -60,12 +60,16 @@ calls_of_runs_are_allowed tells old new (event ∷ events) (reply ∷ later) cal
 
 -- Fenced hosts.
 
-keeps-off : (old : Layers) (e : FleetEvent) (n : ℕ) (x : Extent) → HaveTheirOwn old.subsystem.world → extent_of old.subsystem.world n ≡ Some x → OfItsHost (λ k. may_write old.subsystem.world k n ≡ false) e
+pub fenced_commands_call_nothing : FencedCommandsCallNothing
+fenced_commands_call_nothing tells old new k i n c t reply calls made at found on fenced =
+    machine_fenced_commands_call_nothing tells old.subsystem new.subsystem k i n c t made.below.given calls made.below.step at found on fenced
+
+pub keeps-off : (old : Layers) (e : FleetEvent) (n : ℕ) (x : Extent) → HaveTheirOwn old.subsystem.world → extent_of old.subsystem.world n ≡ Some x → OfItsHost (λ k. may_write old.subsystem.world k n ≡ false) e
     → (call : MediumCall) → MayCall old e call → KeepsOff x call
 keeps-off old (Execute k i) n x own is fenced call may = elsewhere old.subsystem (event.Execute k i) n x own is fenced call may
 keeps-off old event n x own is fenced call may = absurd may
 
-extents-stay : (tells : Bool) (old new : Layers) (e : FleetEvent) (reply : Reply) → Step tells old e reply new → HasSameExtents old.subsystem.world new.subsystem.world
+pub extents-stay : (tells : Bool) (old new : Layers) (e : FleetEvent) (reply : Reply) → Step tells old e reply new → HasSameExtents old.subsystem.world new.subsystem.world
 extents-stay tells old new e reply step =
     by-event tells old new e reply (HasSameExtents old.subsystem.world new.subsystem.world) step
     (λ same. same-extents old.subsystem.world new.subsystem.world same.world)

@@ -102,3 +102,4 @@ pub mod PowerStep
 pub mod PowerLink
 pub mod PowerCycles
 pub mod CallLaws
+pub mod MixedRuns

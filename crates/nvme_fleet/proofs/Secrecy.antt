@@ -185,7 +185,7 @@ cycles : (n : ℕ) (old new : Fleet) (reply : Reply) (d : Device) → DifferIn n
 unfolding power_cycled
 cycles n old new reply d differ h = (d, (h.0, ap (over d) h.1), same-device n old.site.world old.site.device new.site.device d differ (ap (λ (f : Fleet). f.site.device) h.1))
 
-step-over : (n : ℕ) (old new : Fleet) (event : FleetEvent) (reply : Reply) (d : Device) → IsRegular old → DifferIn n old.site.world old.site.device d
+pub step-over : (n : ℕ) (old new : Fleet) (event : FleetEvent) (reply : Reply) (d : Device) → IsRegular old → DifferIn n old.site.world old.site.device d
     → OfItsHost (λ k. may_read old.site.world k n ≡ false) event → Step true old event reply new
     → MirrorsStep n old new (λ x. Step true (over d old) event reply (over x new))
 unfolding host_at

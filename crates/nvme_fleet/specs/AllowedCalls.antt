@@ -1,11 +1,14 @@
 -- What holds of the calls that the events of a fleet make of the medium, whatever the medium does and whether or not it
 -- tells: each call is that of a command that all rules let pass, on blocks of its namespace; and fenced hosts write
 -- none.
-use Rattle.std.specs.Prelude.{◌≡◌, ℕ, Bool, false, List, [], ◌∷◌, ◌++◌, Some}
+use Rattle.std.specs.Prelude.{◌≡◌, ℕ, Bool, true, false, List, [], ◌∷◌, ◌++◌, Some, slice_get}
 use Rattle.std.specs.List.{AllByRecursion}
-use Rattle.nvme_spec.specs.Layout.{Extent, extent_of, may_write}
+use Rattle.nvme_spec.specs.Layout.{Extent, extent_of, may_read, may_write}
 use Rattle.nvme_spec.specs.MediumCalls.{MediumCall}
-use Rattle.nvme_machine.specs.AllowedCalls.{IsCallOf, HaveTheirOwn, KeepsOff}
+use Rattle.nvme_machine.specs.declared.fetched.FetchedCommand.{FetchedCommand}
+use Rattle.nvme_machine.specs.AllowedCalls.{IsCallOf, HaveTheirOwn, IsReading, KeepsOff}
+use Rattle.nvme_machine.specs.Controllers.{Controller, names}
+use Rattle.nvme_machine.specs.Subsystems.{controller_at}
 use Rattle.nvme_event.specs.declared.event.FleetEvent.{FleetEvent}
 use Rattle.nvme_event.specs.declared.event.FleetEvent.TheVariants.{BringUp, Place, Ring, Fetch, Execute, Poll, Reset, RawStore, RawWrite32, PowerCycle}
 use Rattle.nvme_event.specs.Events.{OfItsHost}
@@ -75,3 +78,13 @@ FencedHostsWriteNoBlock =
     → extent_of old.subsystem.world n ≡ Some x → CallsWhere (LeavesReservation n) tells old events replies new calls
     → AllByRecursion (OfItsHost (λ k. may_write old.subsystem.world k n ≡ false)) events
     → AllByRecursion (KeepsOff x) calls
+
+-- A command on a namespace that its reservation does not let the host write makes no write call and no flush call; and
+-- where it does not let it read either, no call.
+abbrev pub FencedCommandsCallNothing : Type 0
+FencedCommandsCallNothing =
+    (tells : Bool) → (old new : Layers) → (k i n : ℕ) → (c : Controller) → (t : FetchedCommand) → (reply : Reply)
+    → (calls : List MediumCall) → AreCallsOfStep tells old (Execute k i) reply new calls
+    → controller_at old.subsystem k ≡ Some c → slice_get c.fetched i ≡ Some t → names n t ≡ true
+    → may_write old.subsystem.world k n ≡ false
+    → AllByRecursion IsReading calls × (may_read old.subsystem.world k n ≡ false → calls ≡ [])

@@ -35,3 +35,4 @@ pub mod Secrecy
 pub mod AllowedCalls
 pub mod PowerCycles
 pub mod CallLaws
+pub mod MixedRuns

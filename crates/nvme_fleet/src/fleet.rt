@@ -372,8 +372,10 @@ impl<M: Medium> Fleet<M> {
         driver_in(&self.drivers, cntlid)
     }
 
-    /// Reads blocks of a namespace as the medium has them. `None` where there is no such namespace, or the blocks do
-    /// not all lie in it; the medium is then not called.
+    /// Reads blocks of a namespace as the medium has them, in rising order, onto the buffer, and stops at the first
+    /// fault: the buffer then has the blocks before it, and is as it was behind them. `None` where there is no such
+    /// namespace, or the blocks do not all lie in it; the medium is then not called, and the buffer stays. The data of
+    /// the last event stay as well.
     pub fn read_blocks(
         &mut self,
         nsid: u32,
@@ -383,9 +385,12 @@ impl<M: Medium> Fleet<M> {
         requires whole { length buffer.old % 512 ≡ 0 }
         ensures look { Looks M.tells (place_in (namespace_of self.old.state.subsystem.world nsid) slba
             (length buffer.old / 512)) self.old.state.subsystem buffer.new result self.new.state.subsystem }
-        ensures calls { LooksBy M.step (place_in (namespace_of self.old.state.subsystem.world nsid) slba
-            (length buffer.old / 512)) buffer.new (length buffer.old / 512) self.old.medium result self.new.medium }
+        ensures calls { LooksBy M.step M.tells self.old.state.subsystem.device.content
+            (place_in (namespace_of self.old.state.subsystem.world nsid) slba (length buffer.old / 512))
+            (length buffer.old / 512) buffer.old buffer.new self.old.medium result self.new.medium }
         ensures drivers { self.new.state.drivers ≡ self.old.state.drivers }
+        ensures data { data_in self.new.state ≡ data_in self.old.state }
+        ensures rest { self.new.state ≡ record self.old.state { subsystem = self.new.state.subsystem } }
     {
         self.subsystem.read_blocks(nsid, slba, buffer)
     }

@@ -1,7 +1,7 @@
 //! What follows from the definitions. Each law is the contract of a function that does nothing.
 
 ghost use Rattle.nvme_fleet.specs.Answered.{DoneAnswersItsRequest, DoneIsItsExecution, NewIsClear, ResetClears, TicketNamesItsRequest};
-ghost use Rattle.nvme_fleet.specs.AllowedCalls.{CallsAreAllowed, CallsOfRunsAreAllowed, FencedHostsWriteNoBlock};
+ghost use Rattle.nvme_fleet.specs.AllowedCalls.{CallsAreAllowed, CallsOfRunsAreAllowed, FencedCommandsCallNothing, FencedHostsWriteNoBlock};
 ghost use Rattle.nvme_fleet.specs.CallLaws.{StepsHaveCalls, RunsHaveCalls, StepCallsAreUnique, RunCallsAreUnique, FlushedIsOneFlush};
 ghost use Rattle.nvme_fleet.specs.Apart.{HostsAreApart};
 ghost use Rattle.nvme_fleet.specs.Bytes.{RunsOfMailboxes, LayoutStays, FencedEventsWriteNothing, PermissionsStay as BytePermissionsStay, FencingHolds as ByteFencingHolds, OthersWindowsStay};
@@ -11,6 +11,7 @@ ghost use Rattle.nvme_fleet.specs.IoCommands.{OpeningIsNumbered, NumbersStay, Ex
 ghost use Rattle.nvme_fleet.specs.Preempting.{OutsidersMayNotWrite, OutsidersStayOutside, PreemptedIsOutside, PreemptedStaysOut};
 ghost use Rattle.nvme_fleet.specs.Links.{BringUpIsAStep};
 ghost use Rattle.nvme_fleet.specs.LayerCalls.{LayerCallsAreOfAStep, LayerCallsAreOfARun};
+ghost use Rattle.nvme_fleet.specs.MixedRuns.{EachEventIsReached, FencingHoldsOfEachEvent, SecrecyHoldsOfEachEvent};
 ghost use Rattle.nvme_fleet.specs.PowerCycles.{PowerTakes, PowerAborts, DoneSincePower, PersistenceLasts, FencingOutlastsPower, BytesOutlastPower, SecrecyOutlastsPower, RepliesOutlastPower, LayersOutlastPower, ProtectedUntilPower};
 ghost use Rattle.nvme_fleet.specs.Regular.{OpeningIsRegular, RegularityStays};
 ghost use Rattle.nvme_fleet.specs.Secrecy.{FencedReading, FencedReadingIsSame, LayersReadTheSame};
@@ -49,12 +50,24 @@ pub fn calls_are_of_events()
 /// Whatever the medium does, and whether or not it tells its content: over every run a block is written only by a Write
 /// or Write Zeroes that all rules let pass, on a namespace that the block belongs to and its host may write, with that
 /// command's bytes; a block is read only by such a Read or Compare, and the medium is flushed only by such a Flush.
-/// So hosts that may not write a namespace write none of its blocks, until a reservation command on it is executed that
-/// all rules let pass, or power is lost that its reservation does not outlast.
+/// A command of a host that may not write its namespace makes no write call and no flush call, and where it may not read
+/// either, no call. So hosts that may not write a namespace write none of its blocks, until a reservation command on it
+/// is executed that all rules let pass, or power is lost that its reservation does not outlast.
 pub fn blocks_are_written_as_allowed()
     ensures event { CallsAreAllowed }
     ensures run { CallsOfRunsAreAllowed }
+    ensures command { FencedCommandsCallNothing }
     ensures fenced { FencedHostsWriteNoBlock }
+{}
+
+/// Whoever does what before and behind it in a run: an event of a host that may not write a namespace when it happens
+/// leaves every byte of it, writes none of its blocks, and its commands on the namespace make no write call and no flush
+/// call; an event of a host that may not read it is answered the same, and leaves the same mailboxes, drivers and
+/// controllers, whatever the bytes of the namespace are. Each event of each run is reached so.
+pub fn fencing_holds_of_each_event()
+    ensures reached { EachEventIsReached }
+    ensures writes { FencingHoldsOfEachEvent }
+    ensures reads { SecrecyHoldsOfEachEvent }
 {}
 
 /// Each step and each run has calls of its medium, whatever that does. Over a medium that tells its content and none of

@@ -21,3 +21,4 @@ pub mod AllowedCalls
 pub mod FencedCalls
 pub mod PowerCycles
 pub mod CallLaws
+pub mod MixedRuns

@@ -12,6 +12,7 @@ pub mod Calling
 pub mod EventCalls
 pub mod AllowedCalls
 pub mod Secrecy
+pub mod MixedRuns
 pub mod Preempted
 pub mod Windows
 pub mod Posted

@@ -5,6 +5,7 @@ ghost use Rattle.nvme_machine.specs.Runs.{FailuresNeverFall, RunExists, RunIsUni
 ghost use Rattle.nvme_machine.specs.Calling.{CallsAreOfAnExecution, DeniedMakesNoCall, AdminMakesNoCall};
 ghost use Rattle.nvme_machine.specs.EventCalls.{CallsAreOfAStep, CallsAreOfARun};
 ghost use Rattle.nvme_machine.specs.AllowedCalls.{CallsAreAllowed, CallsOfRunsAreAllowed, CallsAreInOrder, FencedCommandsCallNothing, FencedHostsWriteNoBlock, FlushReachesTheMedium};
+ghost use Rattle.nvme_machine.specs.MixedRuns.{FencingHoldsOfEachEvent, SecrecyHoldsOfEachEvent};
 ghost use Rattle.nvme_machine.specs.PowerCycles.{PowerTakes, PersistenceLasts, FencingOutlastsPower, SecrecyOutlastsPower, ProtectedUntilPower};
 ghost use Rattle.nvme_machine.specs.CallLaws.{StepsHaveCalls, RunsHaveCalls, StepCallsAreUnique, RunCallsAreUnique, StepCallsAreComputed, RunCallsAreComputed, RunCallsExist, DeniedIsNoSuccess, FlushedIsOneFlush};
 ghost use Rattle.nvme_machine.specs.Wiring.{OpeningIsWired, WiringStays, WaitsWhereFull};
@@ -119,6 +120,16 @@ pub fn fencing_is_kept()
 pub fn fenced_hosts_read_nothing()
     ensures possible { FencedReading }
     ensures same { FencedReadingIsSame }
+{}
+
+/// Whoever does what before and behind it in a run: an event of a host that may not write a namespace when it happens
+/// leaves every byte of it, writes none of its blocks, and its commands on the namespace make no write call and no flush
+/// call; an event of a host that may not read it is answered the same, and leaves the same windows, lists and marks,
+/// whatever the bytes of the namespace are. Each event of each run is reached so.
+pub fn fencing_holds_of_each_event()
+    ensures reached { CallsAreInOrder }
+    ensures writes { FencingHoldsOfEachEvent }
+    ensures reads { SecrecyHoldsOfEachEvent }
 {}
 
 /// An event on one controller changes of the others at most marks, and those only where it removed their host's
