@@ -1,14 +1,12 @@
 -- What a script that was read opens, and what the refusal of its configuration says.
-use Rattle.std.proofs.Common.{◌≡◌, ℕ, false, List, Option, Some, None, refl, sym, ap, arith}
+use Rattle.std.proofs.Common.{◌≡◌, ℕ, false, List, Option, Some, None, refl, sym, arith}
 use Rattle.std.specs.Prelude.{unwrap_or, is_some}
 use Rattle.std.specs.List.{list_any}
 use Rattle.std.proofs.lemmas.Bool.{le-ltb}
 use Rattle.nvme_spec.specs.declared.config.ConfigFault.{ConfigFault}
 use Rattle.nvme_spec.specs.Configuration.{empty_configuration, first_config_fault}
-use Rattle.nvme_spec.specs.Blocks.{Device}
 use Rattle.nvme_spec.specs.declared.config.ConfigFault.TheVariants as fault_of
 use Rattle.nvme_spec.specs.declared.config.ConfigFault.TheVariants.{NoMemory as WantOfMemory}
-use Rattle.nvme_fleet.specs.Fleets.{opening}
 use Rattle.nvme_ns.specs.Configured.{configuration}
 use Rattle.script_text.specs.Lines.{text_lines}
 use Rattle.nvme_grammar.specs.declared.line.Line.{Line}
@@ -16,7 +14,7 @@ use Rattle.nvme_grammar.specs.declared.script.Script.{Script}
 use Rattle.nvme_grammar.specs.Script.{said, Says, is_start, start_in, configuration_in, configuration_of}
 use Rattle.nvme_grammar.proofs.ReadingLemmas.{started}
 use Rattle.nvme_script.specs.declared.run.ScriptFault.TheVariants.{Config}
-use Rattle.nvme_script.specs.Faults.{IsScript, IsReady, IsEarlyFault, fleet_of_text, of_opening}
+use Rattle.nvme_script.specs.Faults.{IsScript, IsReady, IsEarlyFault, of_opening}
 
 pub same_configuration : (raw : List (List ℕ)) (script : Script) → Says (said raw) script → configuration script.config ≡ configuration_of raw
 same_configuration raw script says = λ i. record { controllers = says.controllers i; namespaces = says.namespaces i; attached = says.attached i }
@@ -29,10 +27,6 @@ accepted_script text size script ready accepted =
       grammar = ready.grammar;
       accepted = rw same at accepted;
     }
-
--- its fleet is that of the text
-pub opened_fleet : (text : List ℕ) (script : Script) (device : Device) → IsReady text script → opening (configuration script.config) device ≡ fleet_of_text text device
-opened_fleet text script device ready = ap (λ c. opening c device) (same_configuration (text_lines text) script ready.says)
 
 -- nothing is wrong with nothing
 empty_accepted : (size : ℕ) → first_config_fault empty_configuration size ≡ None

@@ -1,6 +1,6 @@
 -- The first line at fault: line by line, and that there is one where a configuration is refused.
-use Rattle.std.proofs.Common.{◌≡◌, ◌<◌, ◌≤◌, ◌+◌, ℕ, Bool, true, false, List, [], ◌∷◌, ◌++◌, length, take, drop, get_or, Option, None, Some, inl, inr, refl, sym, ap, subst, ◌∙◌, arith, length-append}
-use Rattle.std.specs.Prelude.{◌⊎◌, ◌==◌, ◌||◌, ◌&&◌, not, nat_lt, if◌then◌else◌}
+use Rattle.std.proofs.Common.{◌≡◌, ◌<◌, ◌≤◌, ◌+◌, ℕ, Bool, true, false, List, [], ◌∷◌, ◌++◌, length, take, drop, get_or, Option, None, Some, refl, sym, ap, subst, ◌∙◌, arith, length-append}
+use Rattle.std.specs.Prelude.{◌==◌, ◌||◌, ◌&&◌, not, nat_lt, if◌then◌else◌}
 use Rattle.std.specs.List.{list_any, list_all, enumerate_from}
 use Rattle.std.specs.Option.{option_or}
 use Rattle.std.proofs.lemmas.List.{drop_more, length-take-le, take_more}
@@ -8,7 +8,7 @@ use Rattle.std.proofs.lemmas.List.Folds.{list_any-append}
 use Rattle.std.proofs.lemmas.List.Sums.{sum_by-cons, sum_by_push}
 use Rattle.std.proofs.lemmas.Bool.{false≢true, ltb-true, ltb-false, eqb-true, eqb-false, ne_eqb, not-false}
 use Rattle.nvme_spec.specs.Limits.{most_controllers, highest_nsid, most_attachments, largest_namespace}
-use Rattle.nvme_spec.specs.Configuration.{Configuration, are_numbered, is_hostless, has_foreign_nsid, has_repeated_nsid, is_known, is_private, clash, has_bad_attachment, has_bad_id, has_bad_size, has_too_many, total_blocks, first_config_fault}
+use Rattle.nvme_spec.specs.Configuration.{Configuration, is_hostless, has_foreign_nsid, has_repeated_nsid, is_known, is_private, clash, has_bad_attachment, has_bad_id, has_bad_size, has_too_many, total_blocks, first_config_fault}
 use Rattle.nvme_spec.specs.declared.config.ControllerConfig.{ControllerConfig}
 use Rattle.nvme_spec.specs.declared.config.NsConfig.{NsConfig}
 use Rattle.nvme_spec.specs.declared.config.ConfigFault.{ConfigFault}

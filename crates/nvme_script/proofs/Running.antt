@@ -7,21 +7,19 @@ use Rattle.std.specs.Io.KnownBytes.{Appends}
 use Rattle.std.specs.Prelude.{Result, Ok, Err, OnOk, OnErr, slice_get}
 use Rattle.nvme_event.specs.declared.event.FleetEvent.{FleetEvent}
 use Rattle.nvme_event.specs.Replies.{Reply}
-use Rattle.nvme_fleet.specs.Fleets.{Fleet, Step, Run}
 use Rattle.nvme_fleet.specs.FleetStates.{Layers}
 use Rattle.nvme_fleet.specs.LayerCalls.{AreCallsOfRun, AreCallsOfStep}
 use Rattle.nvme_spec.specs.MediumCalls.{MediumCall, MakesCalls}
 use Rattle.nvme_spec.proofs.MediumCalls.{calls-joined}
 use Rattle.nvme_subsys.specs.OverMedium.{OverMedium}
-use Rattle.script_text.specs.Writing.{Cuts}
 use Rattle.script_text.proofs.WritingLemmas.{Appends-more}
 use Rattle.nvme_transcript.specs.Transcript.{line_of, transcript}
 use Rattle.nvme_grammar.specs.Lent.{event_by_value}
-use Rattle.nvme_script.specs.Faults.{Transcribes, StopsAt}
+use Rattle.nvme_script.specs.Faults.{Transcribes}
 use Rattle.nvme_script.specs.ScriptCalls.{RanCalling}
-use Rattle.nvme_script.proofs.ByValue.{Step-by_value, calls-by_value, line-by_value}
+use Rattle.nvme_script.proofs.ByValue.{calls-by_value}
 
-Appends-none : (x : Option (List ℕ)) → Appends x x []
+pub Appends-none : (x : Option (List ℕ)) → Appends x x []
 Appends-none None = tt
 Appends-none (Some xs) = sym (append-nil xs)
 
@@ -37,7 +35,7 @@ pub on_err_from : {T E P : Type 0} (r : Result T E) → P → OnErr r P
 on_err_from (Ok x) p = tt
 on_err_from (Err e) p = p
 
-slice_get-behind : {A : Type 0} (xs ys zs : List A) (i : ℕ) (y : A) → slice_get ys i ≡ Some y → slice_get (xs ++ ys ++ zs) (length xs + i) ≡ Some y
+pub slice_get-behind : {A : Type 0} (xs ys zs : List A) (i : ℕ) (y : A) → slice_get ys i ≡ Some y → slice_get (xs ++ ys ++ zs) (length xs + i) ≡ Some y
 slice_get-behind {A = A} [] ys zs i y e = rw (zero-plus i) (front ys i e)
   where
     zero-plus : (i : ℕ) → 0 + i ≡ i
@@ -52,7 +50,7 @@ slice_get-behind (x ∷ xs) ys zs i y e = rw (more (length xs) i) (slice_get-beh
     more : (n i : ℕ) → suc n + i ≡ suc (n + i)
     more n i = omega arith
 
-take-behind : {A : Type 0} (xs ys zs : List A) (i : ℕ) (y : A) → slice_get ys i ≡ Some y → take (length xs + i) (xs ++ ys ++ zs) ≡ xs ++ take i ys
+pub take-behind : {A : Type 0} (xs ys zs : List A) (i : ℕ) (y : A) → slice_get ys i ≡ Some y → take (length xs + i) (xs ++ ys ++ zs) ≡ xs ++ take i ys
 take-behind {A = A} [] ys zs i y e = rw (zero-plus i) (front ys i e)
   where
     zero-plus : (i : ℕ) → 0 + i ≡ i
@@ -82,7 +80,7 @@ zip-append [] fs (r ∷ rs) qs h = absurd (omega (arith, h))
 zip-append (e ∷ es) fs [] qs h = absurd (omega (arith, h))
 zip-append (e ∷ es) fs (r ∷ rs) qs h = ap (λ t. (e, r) ∷ t) (zip-append es fs rs qs (omega (arith, h)))
 
-transcript-append : (es fs : List FleetEvent) (rs qs : List Reply) → length es ≡ length rs → transcript (es ++ fs) (rs ++ qs) ≡ transcript es rs ++ transcript fs qs
+pub transcript-append : (es fs : List FleetEvent) (rs qs : List Reply) → length es ≡ length rs → transcript (es ++ fs) (rs ++ qs) ≡ transcript es rs ++ transcript fs qs
 transcript-append es fs rs qs h = ap (flat_map line) (zip-append es fs rs qs h) ∙ flat_map-append line (zip es rs) (zip fs qs)
 
 module _ {S : Type 0} (Ran : S → List FleetEvent → List Reply → S → Type 0) (is : IsRun Ran) where
@@ -95,66 +93,6 @@ module _ {S : Type 0} (Ran : S → List FleetEvent → List Reply → S → Type
     ran = is.behind es fs h.replies k.replies a b c h.ran k.ran;
     wrote = rw (transcript-append es fs h.replies k.replies (is.long es h.replies a b h.ran)) (Appends-more x y z (transcript es h.replies) (transcript fs k.replies) h.wrote k.wrote);
   }
-
-  -- it stops at an event behind others, and before more
-  pub StopsAt-behind : (es fs gs : List FleetEvent) (a b c : S) (x y z : Option (List ℕ)) → Transcribes Ran a es b x y → StopsAt Ran b fs c y z → StopsAt Ran a (es ++ fs ++ gs) c x z
-  StopsAt-behind es fs gs a b c x y z h k =
-      let front = take-behind es fs gs k.index k.event k.is in
-      let ran = is.behind es (take k.index fs ++ k.event ∷ []) h.replies (k.told ++ k.cut ∷ []) a b c h.ran k.ran in
-      record {
-        index = length es + k.index;
-        event = k.event;
-        is = slice_get-behind es fs gs k.index k.event k.is;
-        told = h.replies ++ k.told;
-        cut = k.cut;
-        ran = rw (front, append_assoc es (take k.index fs) (k.event ∷ []), append_assoc h.replies k.told (k.cut ∷ [])) ran;
-        bytes = k.bytes;
-        part = k.part;
-        wrote = rw (front, transcript-append es (take k.index fs) h.replies k.told (is.long es h.replies a b h.ran), append_assoc (transcript es h.replies) (transcript (take k.index fs) k.told) (take k.bytes (line_of k.event k.cut)))
-            (Appends-more x y z (transcript es h.replies) (transcript (take k.index fs) k.told ++ take k.bytes (line_of k.event k.cut)) h.wrote k.wrote);
-      }
-
-  -- one event
-  module _ (a b : S) (event : FleetEvent) (reply : Reply) (x y : Option (List ℕ)) (ran : Ran a (event_by_value event ∷ []) (reply ∷ []) b) where
-    pub Transcribes-one : Appends x y (line_of event reply) → Transcribes Ran a (event_by_value event ∷ []) b x y
-    Transcribes-one wrote = record {
-      replies = reply ∷ [];
-      ran = ran;
-      wrote = rw (append-nil (line_of (event_by_value event) reply), line-by_value event reply) wrote;
-    }
-
-    pub StopsAt-one : Cuts x y (line_of event reply) → StopsAt Ran a (event_by_value event ∷ []) b x y
-    StopsAt-one cut = record {
-      index = 0;
-      event = event_by_value event;
-      is = refl;
-      told = [];
-      cut = reply;
-      ran = ran;
-      bytes = cut.0;
-      part = rw (line-by_value event reply) cut.1;
-      wrote = rw (line-by_value event reply) cut.2;
-    }
-
--- Runs of mailboxes.
-module _ (tells : Bool) where
-  run-behind : (es fs : List FleetEvent) (rs qs : List Reply) (a b c : Fleet) → Run tells a es rs b → Run tells b fs qs c → Run tells a (es ++ fs) (rs ++ qs) c
-  run-behind [] fs [] qs a b c h k = subst (λ (f : Fleet). Run tells f fs qs c) h k
-  run-behind [] fs (r ∷ rs) qs a b c h k = absurd h
-  run-behind (e ∷ es) fs [] qs a b c h k = absurd h
-  run-behind (e ∷ es) fs (r ∷ rs) qs a b c h k = (h.0, h.1, run-behind es fs rs qs h.0 b c h.2 k)
-
-  run-long : (es : List FleetEvent) (rs : List Reply) (a b : Fleet) → Run tells a es rs b → length es ≡ length rs
-  run-long [] [] a b h = refl
-  run-long [] (r ∷ rs) a b h = absurd h
-  run-long (e ∷ es) [] a b h = absurd h
-  run-long (e ∷ es) (r ∷ rs) a b h = let rest = run-long es rs h.0 b h.2 in omega (arith, rest)
-
-  pub mailboxes-run : IsRun (Run tells)
-  mailboxes-run = record { nothing = λ s. refl; behind = run-behind; long = run-long }
-
-  pub ran-one : (a b : Fleet) (event : FleetEvent) (reply : Reply) → Step tells a event reply b → Run tells a (event_by_value event ∷ []) (reply ∷ []) b
-  ran-one a b event reply step = (b, Step-by_value tells a event reply b step, refl)
 
 -- Runs of both layers, and the calls that they make.
 calls-behind : (tells : Bool) (es fs : List FleetEvent) (rs qs : List Reply) (a b c : Layers) (calls later : List MediumCall) → AreCallsOfRun tells a es rs b calls → AreCallsOfRun tells b fs qs c later

@@ -54,13 +54,13 @@ pub record StopsAt {S : Type 0} (Ran : S → List FleetEvent → List Reply → 
 abbrev pub Leaves : Fleet → Device → Type 0
 Leaves fleet device = device ≡ fleet.site.device
 
--- a text ran to its end, over a medium that was so before and is so now
+-- a text ran to its end in the mailboxes, over a medium that was so before and is so now
 pub record Runs (tells : Bool) (text : List ℕ) (old new : Device) (before after : Option (List ℕ)) : Type 0 where
   pub last : Fleet
   pub transcribed : Transcribes (Run tells) (fleet_of_text text old) (events_in text) last before after
   pub leaves : Leaves last new
 
--- it stopped at a line that could not be written
+-- it stopped there at a line that could not be written
 pub record Stops (tells : Bool) (text : List ℕ) (old new : Device) (before after : Option (List ℕ)) : Type 0 where
   pub last : Fleet
   pub stopped : StopsAt (Run tells) (fleet_of_text text old) (events_in text) last before after
@@ -104,12 +104,6 @@ IsEarlyFault NoMemory text medium_blocks = Unit {0}
 IsEarlyFault TooLong text medium_blocks = ⊥
 IsEarlyFault Read text medium_blocks = ⊥
 IsEarlyFault Write text medium_blocks = ⊥
-
--- what a fault says of the text, of the medium before and after, and of what was written before and after
-abbrev pub IsFault : Bool → ScriptFault → List ℕ → ℕ → Device → Device → Option (List ℕ) → Option (List ℕ) → Type 0
-IsFault tells Write text medium_blocks old new before after = IsScript text medium_blocks
-    × Stops tells text old new before after
-IsFault tells fault text medium_blocks old new before after = IsEarlyFault fault text medium_blocks
 
 -- The text of a run was read by its reads and no others, and nothing was read behind them: a fault of reading is the
 -- run's own, and with a text the run went on so.

@@ -1,3 +1,4 @@
+pub use Rattle.nvme_medium.specs.Memory
 pub use Rattle.nvme_spec.specs.World
 pub use Rattle.nvme_spec.specs.Blocks
 pub use Rattle.nvme_spec.specs.Configuration
@@ -8,8 +9,13 @@ pub use Rattle.nvme_fleet.specs.FleetStates
 pub use Rattle.nvme_fleet.specs.Deliveries
 pub mod Faults
 pub mod ScriptCalls
+pub mod ScriptWrites
 pub mod RunLaws
+pub mod CommandLines
 pub mod Statuses
+pub mod FailureTexts
+pub mod Programs
+pub mod Media
 pub mod Reasons
 pub mod ReasonLaws
 pub mod SetupLines

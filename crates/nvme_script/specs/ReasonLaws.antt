@@ -1,5 +1,5 @@
 -- Where a configuration is refused, there is a reason.
-use Rattle.std.specs.Prelude.{◌≡◌, ◌<◌, ℕ, length, Option, Some}
+use Rattle.std.specs.Prelude.{◌≡◌, ◌<◌, ℕ, length, Some}
 use Rattle.nvme_spec.specs.Configuration.{Configuration, first_config_fault}
 use Rattle.nvme_spec.specs.declared.config.ConfigFault.{ConfigFault}
 use Rattle.nvme_script.specs.declared.configuration.SetupLine.{SetupLine}

@@ -1,10 +1,24 @@
--- A text's transcript is determined, but for faults of the medium.
-use Rattle.std.specs.Prelude.{◌≡◌, ◌<◌, ◌-◌, ◌*◌, ◌^◌, ℕ, true, List, length, Option, Some, ◌++◌}
+-- A script's run over a medium is one of mailboxes, and its transcript is determined but for faults of the medium.
+use Rattle.std.specs.Prelude.{◌≡◌, ◌<◌, ◌-◌, ◌*◌, ◌^◌, ℕ, Bool, true, List, length, Option, Some, ◌++◌}
 use Rattle.std.specs.Io.KnownBytes.{Appends}
 use Rattle.nvme_spec.specs.Blocks.{Device}
+use Rattle.nvme_spec.specs.MediumCalls.{MediumCall}
 use Rattle.nvme_fleet.specs.FaultFree.{fault_free_replies, fault_free_left}
 use Rattle.nvme_transcript.specs.Transcript.{transcript}
-use Rattle.nvme_script.specs.Faults.{IsScript, Runs, events_in, fleet_of_text}
+use Rattle.nvme_script.specs.Faults.{IsScript, Runs, Stops, events_in, fleet_of_text}
+use Rattle.nvme_script.specs.ScriptCalls.{RunsCalling, StopsCalling}
+
+-- What ran over a medium, with its calls, ran in the mailboxes: it gave the same transcript and left the same medium.
+abbrev pub CallingRuns : {M : Type 0} → (M → MediumCall → M → Type 0) → Bool → (M → Device) → Type 0
+CallingRuns {M} step tells device =
+    (text : List ℕ) (old new : M) (before after : Option (List ℕ))
+    → RunsCalling step tells device text old new before after → Runs tells text (device old) (device new) before after
+
+-- the same of one that stopped
+abbrev pub CallingStops : {M : Type 0} → (M → MediumCall → M → Type 0) → Bool → (M → Device) → Type 0
+CallingStops {M} step tells device =
+    (text : List ℕ) (old new : M) (before after : Option (List ℕ))
+    → StopsCalling step tells device text old new before after → Stops tells text (device old) (device new) before after
 
 -- the transcript of a text over a medium none of whose calls fails
 abbrev pub fault_free_transcript : List ℕ → Device → List ℕ

@@ -1,6 +1,6 @@
--- Which calls a script's run makes of the medium that it is given: those of the events that happened, in their order,
--- and no other.
-use Rattle.std.specs.Prelude.{ℕ, Bool, List, Option}
+-- A script's run over the medium that it is given. There is one run: its replies are the transcript's, its calls and no
+-- others are made of the medium, in their order, and its last state is what the medium has that is given back.
+use Rattle.std.specs.Prelude.{◌≡◌, ℕ, Bool, List, Option}
 use Rattle.nvme_spec.specs.Blocks.{Device}
 use Rattle.nvme_spec.specs.MediumCalls.{MediumCall, MakesCalls}
 use Rattle.nvme_event.specs.declared.event.FleetEvent.{FleetEvent}
@@ -23,17 +23,20 @@ RanCalling step tells old events replies new =
 abbrev pub layers_of_text : {M : Type 0} → (M → Device) → List ℕ → M → OverMedium Layers M
 layers_of_text device text medium = over (opening_layers (configuration_of (text_lines text)) (device medium)) medium
 
--- A text ran to its end, over this medium, which became that by exactly the calls of its events; and the transcript is
--- that of this very run.
+-- A text ran to its end, over this medium, which became that: the transcript, the calls and what is on the medium are
+-- those of one run.
 pub record RunsCalling {M : Type 0} (step : M → MediumCall → M → Type 0) (tells : Bool) (device : M → Device)
     (text : List ℕ) (old new : M) (before after : Option (List ℕ)) : Type 0 where
   pub last : Layers
   pub transcribed : Transcribes (RanCalling step tells) (layers_of_text device text old) (events_in text)
       (over last new) before after
+  pub leaves : device new ≡ last.subsystem.device
 
--- It stopped at a line that could not be written, and the events up to that one made these calls.
+-- It stopped at a line that could not be written: what was written, the calls and what is on the medium are those of one
+-- run of the events up to that one.
 pub record StopsCalling {M : Type 0} (step : M → MediumCall → M → Type 0) (tells : Bool) (device : M → Device)
     (text : List ℕ) (old new : M) (before after : Option (List ℕ)) : Type 0 where
   pub last : Layers
   pub stopped : StopsAt (RanCalling step tells) (layers_of_text device text old) (events_in text)
       (over last new) before after
+  pub leaves : device new ≡ last.subsystem.device

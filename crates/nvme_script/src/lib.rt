@@ -1,14 +1,25 @@
 //! Scripts: what hosts do to a subsystem, line by line, and the transcript of what it answers.
 #![tactic(auto)]
 
+mod command_line;
 mod configuration;
 mod examples;
+mod failure;
 pub mod laws;
+mod media;
 mod program;
 mod reason;
 mod run;
 mod sentence;
+mod system;
+mod telling;
 
+pub use command_line::{Paths, WordFault, paths_of, refused_word};
 pub use configuration::{BrokenRule, ConfigReason, SetupLine};
-pub use program::{Failure, Paths, image_at, paths_of, run_program, scratch};
+pub use failure::{Failure, config_fault_name};
+pub use media::{behind_cache, scratch};
+pub use program::{run_in, run_program, status_of};
+pub use reason::Reason;
 pub use run::{ScriptFault, run_events, run_script, run_text};
+pub use system::{Cause, HostFiles, System, Unopened};
+pub use telling::Program;

@@ -5,7 +5,7 @@ use nvme_grammar::LineFault;
 use std::{fmt, io};
 
 /// How the program is called.
-const USAGE: &str = "nvmesim [IMAGE [SCRIPT]]";
+pub const USAGE: &str = "nvmesim [IMAGE [SCRIPT]]";
 
 /// Why the program ends.
 #[derive(Clone, Copy)]
@@ -14,11 +14,13 @@ pub enum Reason<'p, 't> {
     TooManyWords {
         number: usize,
         word: &'p str,
+        usage: &'static str,
     },
     /// This word of the command line begins as an option does.
     NoOption {
         number: usize,
         word: &'p str,
+        usage: &'static str,
     },
     /// A path that can't be opened for this purpose, or asked for what it is.
     Unopened {
@@ -73,14 +75,22 @@ impl fmt::Display for ScriptName<'_> {
 impl fmt::Display for Reason<'_, '_> {
     fn fmt<W: fmt::Write>(&self, f: &mut fmt::Formatter<W>) -> fmt::Result {
         match self {
-            Reason::TooManyWords { number, word } => write!(
+            Reason::TooManyWords {
+                number,
+                word,
+                usage,
+            } => write!(
                 f,
-                "word {number}, '{}', is one too many; usage: {USAGE}",
+                "word {number}, '{}', is one too many; usage: {usage}",
                 word.escape_debug()
             ),
-            Reason::NoOption { number, word } => write!(
+            Reason::NoOption {
+                number,
+                word,
+                usage,
+            } => write!(
                 f,
-                "word {number}, '{}', begins as an option does, and there is none; usage: {USAGE}",
+                "word {number}, '{}', begins as an option does, and there is none; usage: {usage}",
                 word.escape_debug()
             ),
             Reason::Unopened {

@@ -4,12 +4,12 @@ ghost use Rattle.std.specs.Prelude.{◌≡◌, ◌≤◌, ◌⊎◌, ◌∷◌, 
 ghost use Rattle.script_text.specs.Reading.{IsRead, longest};
 ghost use Rattle.nvme_grammar.specs.Room.{HasTextRoom, HasWordsRoom};
 ghost use Rattle.nvme_spec.specs.Execution.{no_marks};
-ghost use Rattle.nvme_fleet.specs.Fleets.{Run};
-ghost use Rattle.nvme_fleet.specs.FleetStates.{fleet_of, layers_of};
+ghost use Rattle.nvme_fleet.specs.FleetStates.{layers_of};
 ghost use Rattle.nvme_subsys.specs.OverMedium.{over};
 ghost use Rattle.nvme_grammar.specs.Kept.{kept_events};
-ghost use Rattle.nvme_script.specs.Faults.{IsScript, IsReady, Transcribes, StopsAt, Runs, IsEarlyFault, IsFault, IsWrite, ReadsThen, of_reading, of_grammar, of_opening};
-ghost use Rattle.nvme_script.specs.ScriptCalls.{RanCalling, RunsCalling, StopsCalling};
+ghost use Rattle.nvme_script.specs.Faults.{IsScript, IsReady, IsEarlyFault, IsWrite, ReadsThen, of_reading, of_grammar, of_opening};
+ghost use Rattle.nvme_script.specs.ScriptCalls.{RanCalling};
+ghost use Rattle.nvme_script.specs.ScriptWrites.{IsFault, RunsWriting, StopsAtBy, TranscribesBy};
 ghost use Rattle.nvme_script.specs.declared.run.ScriptFault.TheVariants.{NoMemory as MemoryRefused};
 
 use nvme_fleet::{Fleet, NewFault};
@@ -17,32 +17,25 @@ use nvme_grammar::{Buffers, KeptEvent, ParseFault, Script, parse};
 use nvme_medium::Medium;
 use nvme_spec::{ConfigFault, Marks};
 use nvme_transcript::{LONGEST_LINE, TranscriptLine, write_line};
-use script_text::{ReadFault, Source, read_text};
+use script_text::{ReadFault, Sink, Source, read_text};
 use std::alloc::{AllocError, Global};
 use std::io;
-use std::io::Write;
 use thiserror::Error;
 
 /// Why a script was not run to its end. A fault's text is what the program prints.
 #[derive(Clone, Copy, Debug, Error, PartialEq, Eq)]
 pub enum ScriptFault {
     /// The first line that is outside the grammar, counted from 1.
-    #[error("line {0}: not understood")]
     Syntax(usize),
     /// The line `start`, where the configuration before it is refused, and why.
-    #[error("line {0}: {1}")]
     Config(usize, ConfigFault),
     /// The text has more than 4,194,304 bytes.
-    #[error("script too long")]
     TooLong,
     /// Memory was refused.
-    #[error("out of memory")]
     NoMemory,
     /// The reader failed.
-    #[error("file fault")]
     Read,
     /// The writer failed.
-    #[error("file fault")]
     Write,
 }
 
@@ -126,7 +119,7 @@ fn unmark(marks: &mut Marks)
 /// Lets an event happen that was kept of a text, and writes its line of the transcript, which has room in what is lent.
 /// What it marks has room there too, which is empty before and afterwards: it is not cleared for each event. Nothing
 /// happens where the line that it is kept as says no event.
-fn run_event<W: Write, M: Medium>(
+fn run_event<W: Sink, M: Medium>(
     text: &[u8],
     kept: KeptEvent,
     fleet: &mut Fleet<M>,
@@ -140,18 +133,12 @@ fn run_event<W: Write, M: Medium>(
     requires identifiers_room { HasWordsRoom text.now identifiers.old }
     requires unmarked { marks.old ≡ no_marks }
     ensures unmarked { marks.new ≡ no_marks }
-    ensures ok { OnOk result (Transcribes (Run M.tells) (fleet_of fleet.old.state)
-        (kept_events text.now (kept ∷ [])) (fleet_of fleet.new.state) (W.contents writer.old)
-        (W.contents writer.new)) }
-    ensures err { OnErr result (StopsAt (Run M.tells) (fleet_of fleet.old.state)
-        (kept_events text.now (kept ∷ [])) (fleet_of fleet.new.state) (W.contents writer.old)
-        (W.contents writer.new)) }
-    ensures calls { OnOk result (Transcribes (RanCalling M.step M.tells)
+    ensures ok { OnOk result (TranscribesBy (RanCalling M.step M.tells) W.step W.contents
         (over (layers_of fleet.old.state) fleet.old.medium) (kept_events text.now (kept ∷ []))
-        (over (layers_of fleet.new.state) fleet.new.medium) (W.contents writer.old) (W.contents writer.new)) }
-    ensures stopped { OnErr result (StopsAt (RanCalling M.step M.tells)
+        (over (layers_of fleet.new.state) fleet.new.medium) writer.old writer.new) }
+    ensures err { OnErr result (StopsAtBy (RanCalling M.step M.tells) W.step W.contents
         (over (layers_of fleet.old.state) fleet.old.medium) (kept_events text.now (kept ∷ []))
-        (over (layers_of fleet.new.state) fleet.new.medium) (W.contents writer.old) (W.contents writer.new)) }
+        (over (layers_of fleet.new.state) fleet.new.medium) writer.old writer.new) }
 {
     let Some(event) = kept.event(text, bytes, identifiers) else {
         return Ok(());
@@ -168,7 +155,7 @@ fn run_event<W: Write, M: Medium>(
 }
 
 /// Lets the events happen that were kept of a text, in their order, and writes the line of each before the next one.
-pub fn run_events<W: Write, M: Medium>(
+pub fn run_events<W: Sink, M: Medium>(
     text: &[u8],
     events: &[KeptEvent],
     fleet: &mut Fleet<M>,
@@ -179,18 +166,12 @@ pub fn run_events<W: Write, M: Medium>(
 ) -> io::Result<()>
     requires bytes_room { HasTextRoom text.now bytes.old }
     requires identifiers_room { HasWordsRoom text.now identifiers.old }
-    ensures ok { OnOk result (Transcribes (Run M.tells) (fleet_of fleet.old.state)
-        (kept_events text.now events.now) (fleet_of fleet.new.state) (W.contents writer.old)
-        (W.contents writer.new)) }
-    ensures err { OnErr result (StopsAt (Run M.tells) (fleet_of fleet.old.state)
-        (kept_events text.now events.now) (fleet_of fleet.new.state) (W.contents writer.old)
-        (W.contents writer.new)) }
-    ensures calls { OnOk result (Transcribes (RanCalling M.step M.tells)
+    ensures ok { OnOk result (TranscribesBy (RanCalling M.step M.tells) W.step W.contents
         (over (layers_of fleet.old.state) fleet.old.medium) (kept_events text.now events.now)
-        (over (layers_of fleet.new.state) fleet.new.medium) (W.contents writer.old) (W.contents writer.new)) }
-    ensures stopped { OnErr result (StopsAt (RanCalling M.step M.tells)
+        (over (layers_of fleet.new.state) fleet.new.medium) writer.old writer.new) }
+    ensures err { OnErr result (StopsAtBy (RanCalling M.step M.tells) W.step W.contents
         (over (layers_of fleet.old.state) fleet.old.medium) (kept_events text.now events.now)
-        (over (layers_of fleet.new.state) fleet.new.medium) (W.contents writer.old) (W.contents writer.new)) }
+        (over (layers_of fleet.new.state) fleet.new.medium) writer.old writer.new) }
 {
     let mut marks = Marks::none();
     for kept in events {
@@ -209,7 +190,7 @@ pub fn run_events<W: Write, M: Medium>(
 }
 
 /// Runs a script that was judged: opens its configuration over the medium, and lets its events happen.
-fn run_ready<W: Write, M: Medium>(
+fn run_ready<W: Sink, M: Medium>(
     alloc: Global,
     text: &[u8],
     ready: &mut Ready,
@@ -220,16 +201,10 @@ fn run_ready<W: Write, M: Medium>(
     requires bytes_room { HasTextRoom text.now ready.old.buffers.bytes.items }
     requires identifiers_room { HasWordsRoom text.now ready.old.buffers.identifiers.items }
     ensures ok { IfOk result (λ after. IsScript text.now (M.size medium)
-        × Runs M.tells text.now (M.device medium) (M.device after) (W.contents writer.old)
-        (W.contents writer.new)) }
-    ensures fault { IfErr result (λ e.
-        IsFault M.tells e.0 text.now (M.size medium) (M.device medium) (M.device e.1)
-        (W.contents writer.old) (W.contents writer.new)) }
+        × RunsWriting M.step M.tells M.device W.step W.contents text.now medium after writer.old writer.new) }
+    ensures fault { IfErr result (λ e. IsFault M.step M.tells M.device W.step W.contents e.0 text.now
+        (M.size medium) medium e.1 writer.old writer.new) }
     ensures early { IfErr result (λ e. IsWrite e.0 ⊎ ((e.1 ≡ medium) × (writer.new ≡ writer.old))) }
-    ensures calls { IfOk result (λ after. RunsCalling M.step M.tells M.device text.now medium after
-        (W.contents writer.old) (W.contents writer.new)) }
-    ensures stopped { IfErr result (λ e. IsWrite e.0 → StopsCalling M.step M.tells M.device text.now medium
-        e.1 (W.contents writer.old) (W.contents writer.new)) }
 {
     let mut fleet = match Fleet::new(alloc, &ready.script.config, medium) {
         Ok(fleet) => fleet,
@@ -258,23 +233,20 @@ fn run_ready<W: Write, M: Medium>(
 /// The text has at most 4,194,304 bytes. Faults are found in the order grammar (`Syntax`), configuration (`Config`),
 /// writing (`Write`). `NoMemory` may come at any point before the first event, and never later. What holds after each of
 /// them is what `run_script` says.
-pub fn run_text<W: Write, M: Medium>(
+pub fn run_text<W: Sink, M: Medium>(
     alloc: Global,
     text: &[u8],
     writer: &mut W,
     medium: M,
 ) -> Result<M, (ScriptFault, M)>
     requires short { length text.now ≤ longest }
-    // The transcript is that of the text, the medium has what its events left, and the calls that were made of it are
-    // those of these events, and no other.
+    // One run of the text's events: the transcript is that of its replies, written line by line, exactly its calls are
+    // made of the medium, and the medium has what it left.
     ensures ok { IfOk result (λ after. IsScript text.now (M.size medium)
-        × Runs M.tells text.now (M.device medium) (M.device after) (W.contents writer.old) (W.contents writer.new)
-        × RunsCalling M.step M.tells M.device text.now medium after (W.contents writer.old) (W.contents writer.new)) }
+        × RunsWriting M.step M.tells M.device W.step W.contents text.now medium after writer.old writer.new) }
     // What each fault says of the text.
-    ensures fault { IfErr result (λ e. IsFault M.tells e.0 text.now (M.size medium) (M.device medium) (M.device e.1)
-        (W.contents writer.old) (W.contents writer.new)
-        × (IsWrite e.0 → StopsCalling M.step M.tells M.device text.now medium e.1 (W.contents writer.old)
-        (W.contents writer.new))) }
+    ensures fault { IfErr result (λ e. IsFault M.step M.tells M.device W.step W.contents e.0 text.now
+        (M.size medium) medium e.1 writer.old writer.new) }
     // Each fault but one of the writer comes before the first event, and no call is made of the medium.
     ensures early { IfErr result (λ e. IsWrite e.0 ⊎ ((e.1 ≡ medium) × (writer.new ≡ writer.old))) }
 {
@@ -293,25 +265,22 @@ pub fn run_text<W: Write, M: Medium>(
 /// before the first event, and never later. After all but `Write` nothing was written and the medium is as it was, with
 /// no call made of it; after `Write` exactly the events up to and including the one whose line could not be written have
 /// happened, the lines before that one were written whole, and of its own line not all. Of the medium exactly the calls
-/// of the events that happened are made, in their order.
-pub fn run_script<R: Source, W: Write, M: Medium>(
+/// of the events that happened are made, in their order. Each line is written by writes of all that is left of it, and
+/// `Write` comes only where one of them failed, or where a line's text had no room.
+pub fn run_script<R: Source, W: Sink, M: Medium>(
     alloc: Global,
     reader: &mut R,
     writer: &mut W,
     medium: M,
 ) -> Result<M, (ScriptFault, M)>
-    // The transcript is that of the text that was read, the medium has what its events left, and the calls that were
-    // made of it are those of these events, and no other.
+    // One run of the events of the text that was read: the transcript is that of its replies, written line by line,
+    // exactly its calls are made of the medium, and the medium has what it left.
     ensures ok { IfOk result (λ after. (text : List ℕ) × IsRead R.step R.remaining reader.old (Ok text) reader.new
         × IsScript text (M.size medium)
-        × Runs M.tells text (M.device medium) (M.device after) (W.contents writer.old) (W.contents writer.new)
-        × RunsCalling M.step M.tells M.device text medium after (W.contents writer.old) (W.contents writer.new)) }
+        × RunsWriting M.step M.tells M.device W.step W.contents text medium after writer.old writer.new) }
     // What each fault says of the reads, and of the text that they gave.
     ensures fault { IfErr result (λ e. ReadsThen R.step R.remaining reader.old reader.new e.0 (λ text.
-        IsFault M.tells e.0 text (M.size medium) (M.device medium) (M.device e.1) (W.contents writer.old)
-        (W.contents writer.new)
-        × (IsWrite e.0
-        → StopsCalling M.step M.tells M.device text medium e.1 (W.contents writer.old) (W.contents writer.new)))) }
+        IsFault M.step M.tells M.device W.step W.contents e.0 text (M.size medium) medium e.1 writer.old writer.new)) }
     // Each fault but one of the writer comes before the first event, and no call is made of the medium.
     ensures early { IfErr result (λ e. IsWrite e.0 ⊎ ((e.1 ≡ medium) × (writer.new ≡ writer.old))) }
 {

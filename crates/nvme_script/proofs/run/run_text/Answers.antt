@@ -3,9 +3,6 @@ use Rattle.nvme_script.proofs.run.run_text.Goals as goal
 
 pub returns-in-Err-clause-fault : goal.returns-in-Err-clause-fault
 returns-in-Err-clause-fault g c =
-    let medium = c.args.medium in
-    let size = g.M.Medium.size medium in
-    let device = g.M.Medium.device medium in
-    let written = g.W.Write.contents c.args.writer.now in
     let fault = c.in-Err.fault in
-    (early_fault g.M.Medium.tells c.args.text.now size device device written written fault c.in-Err.ensures.early (c.in-Err.ensures.fault size), λ w. absurd (c.in-Err.ensures.early w))
+    let size = g.M.Medium.size c.args.medium in
+    early_fault g.M.Medium.step g.M.Medium.tells g.M.Medium.device g.W.Sink.step g.W.Sink.contents c.args.text.now size c.args.medium c.args.medium c.args.writer.now c.args.writer.now fault c.in-Err.ensures.early (c.in-Err.ensures.fault size)
