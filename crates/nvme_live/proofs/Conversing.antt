@@ -1,5 +1,5 @@
 -- One line more of a session, as its loops go on.
-use Rattle.std.proofs.Common.{◌≡◌, ◌≤◌, ◌<◌, ◌+◌, ◌-◌, ◌^◌, ℕ, Bool, true, false, List, [], length, Option, Ok, Err, refl, sym, ap, subst, ◌∙◌, arith}
+use Rattle.std.proofs.Common.{◌≡◌, ◌≤◌, ◌<◌, ◌+◌, ◌-◌, ◌^◌, ℕ, Bool, true, false, List, [], length, Option, Ok, Err, inr, refl, sym, ap, subst, ◌∙◌, arith}
 use Rattle.std.specs.Prelude.{Result, OnOk, OnErr, MatchResult, nat_lt, codes, is_err}
 use Rattle.std.specs.Io.KnownBytes.{Appends}
 use Rattle.std.proofs.KnownBytes.{Consumes-nil}
@@ -7,6 +7,8 @@ use Rattle.std.proofs.lemmas.Bool.{ltb-true, ltb-false, lt-ltb, false≢true}
 use Rattle.std.proofs.lemmas.List.{length-take}
 use Rattle.std.proofs.lemmas.List.Elements.{All-nil}
 use Rattle.nvme_spec.specs.Blocks.{Device}
+use Rattle.nvme_spec.specs.MediumCalls.{MediumCall}
+use Rattle.nvme_subsys.specs.OverMedium.{over}
 use Rattle.nvme_live.specs.SetUps.{SetUp, with_line}
 use Rattle.nvme_fleet.specs.FleetStates.{Layers}
 use Rattle.nvme_grammar.specs.declared.line.Line.{Line}
@@ -19,12 +21,13 @@ use Rattle.nvme_live.specs.declared.asking.Asked.{Asked}
 use Rattle.nvme_live.specs.declared.asking.Asked.TheVariants.{Fails, Sets}
 use Rattle.nvme_live.specs.declared.setting.Settled.{Settled}
 use Rattle.nvme_live.specs.declared.setting.Settled.TheVariants as settled
-use Rattle.nvme_live.specs.Answers.{Sends, AnswersLine}
+use Rattle.nvme_live.specs.Answers.{Sends}
+use Rattle.nvme_live.specs.AnswerCalls.{AnswersLineBy, TurnOver}
 use Rattle.nvme_live.specs.Asking.{asked}
 use Rattle.nvme_live.specs.Saying.{Breaks, with_feed}
 use Rattle.nvme_live.specs.Settling.{Comes, SettlesAlike}
-use Rattle.nvme_live.specs.Standings.{Standing, Setting, Running, Turn}
-use Rattle.nvme_live.specs.Conversations.{Converses, Ends, EndsBy, BreaksOff, Unread, Starves, ComesToStart}
+use Rattle.nvme_live.specs.Standings.{Standing, Setting, Running, Turn, TurnOf}
+use Rattle.nvme_live.specs.Conversations.{BreaksOff, CanStarve, ComesToStart, Converses, Ends, EndsBy, Starves, Unread, alone}
 use Rattle.nvme_live.specs.Taking.{ReadsLine, TakesFront, kept}
 use Rattle.nvme_live.proofs.Takings.{kept-all, kept-short}
 use Rattle.nvme_live.proofs.Sessions.{conversed-one, conversed-more}
@@ -67,17 +70,17 @@ sets-other n c new (Namespace k) other e = λ blocks d. (refl, ap Setting e)
 sets-other n c new (Attached k m) other e = λ blocks d. (refl, ap Setting e)
 sets-other n c new (Event event) other e = λ blocks d. (refl, ap Setting e)
 
-module _ (tells : Bool) (blocks : ℕ) (d : Device) (a b : Standing) (first k : ℕ) (u v x y : Option (List ℕ)) (h : Converses tells blocks d first a k b u v x y)
-    (w z : Option (List ℕ)) (line : List ℕ) (asks : Asked) (reads : ReadsLine true v w line) (is : asks ≡ asked line) where
-  asks-whole : asks ≡ asked reads.0
-  asks-whole = is ∙ ap asked reads.2 ∙ asked-kept reads.0
+-- what a line asks is what the whole line asks of which this is kept
+asks-whole : (v w : Option (List ℕ)) (line : List ℕ) (asks : Asked) (reads : ReadsLine true v w line) → asks ≡ asked line → asks ≡ asked reads.0
+asks-whole v w line asks reads is = is ∙ ap asked reads.2 ∙ asked-kept reads.0
 
-  pub line-more : (c : Standing) (answer : List ℕ) → Turn tells blocks d k b asks answer c → Appends y z answer → Converses tells blocks d first a (k + 1) c u w x z
+module _ {S : Type 0} (Turns : ℕ → S → List ℕ → List ℕ → S → Type 0) (a b : S) (first k : ℕ) (u v x y : Option (List ℕ)) (h : Converses Turns first a k b u v x y)
+    (w z : Option (List ℕ)) (line : List ℕ) (reads : ReadsLine true v w line) where
+  line-more : (c : S) (answer : List ℕ) → Turns k b reads.0 answer c → Appends y z answer → Converses Turns first a (k + 1) c u w x z
   line-more c answer turn wrote =
-      conversed-more tells blocks d first k (k + 1) a b c u v w x y z h
-      (conversed-one tells blocks d k b c v w y z reads.0 answer reads.1 (subst (λ (q : Asked). Turn tells blocks d k b q answer c) asks-whole turn) wrote)
+      conversed-more Turns first k (k + 1) a b c u v w x y z h (conversed-one Turns k b c v w y z reads.0 answer reads.1 turn wrote)
 
-  pub line-broke : (c : Standing) (answer : List ℕ) → Turn tells blocks d k b asks answer c → Breaks y z answer → BreaksOff tells blocks d first a c u w x z
+  line-broke : (c : S) (answer : List ℕ) → Turns k b reads.0 answer c → Breaks y z answer → BreaksOff Turns first a c u w x z
   line-broke c answer turn broke = record {
     next = k;
     mid = b;
@@ -87,53 +90,57 @@ module _ (tells : Bool) (blocks : ℕ) (d : Device) (a b : Standing) (first k : 
     line = reads.0;
     taken = reads.1;
     answer = answer;
-    turn = subst (λ (q : Asked). Turn tells blocks d k b q answer c) asks-whole turn;
+    turn = turn;
     broke = broke;
   }
 
-  pub line-starves : (says : Line) → asks ≡ Sets says → z ≡ y → Starves tells blocks d first a b u w x z
-  line-starves says sets same = record {
+  line-starves : (standing : S → Standing) (says : Line) → asked reads.0 ≡ Sets says → CanStarve (standing b) says → z ≡ y → Starves Turns standing first a b u w x z
+  line-starves standing says sets starved same = record {
     next = k;
     between = v;
-    conversed = subst (λ (t : Option (List ℕ)). Converses tells blocks d first a k b u v x t) (sym same) h;
+    conversed = subst (λ (t : Option (List ℕ)). Converses Turns first a k b u v x t) (sym same) h;
     line = reads.0;
     taken = reads.1;
     says = says;
-    sets = sym asks-whole ∙ sets;
+    sets = sets;
+    starved = starved;
   }
 
-module _ (tells : Bool) (blocks : ℕ) (d : Device) (a b : Standing) (first k : ℕ) (u v x y : Option (List ℕ)) (h : Converses tells blocks d first a k b u v x y) (w : Option (List ℕ)) where
-  pub no-more : (line : List ℕ) → ReadsLine false v w line → Ends tells blocks d first a b u w x y
+module _ {S : Type 0} (Turns : ℕ → S → List ℕ → List ℕ → S → Type 0) (a b : S) (first k : ℕ) (u v x y : Option (List ℕ)) (h : Converses Turns first a k b u v x y) (w : Option (List ℕ)) where
+  pub no-more : (line : List ℕ) → ReadsLine false v w line → Ends Turns first a b u w x y
   no-more line (end, keeps, none) = record { next = k; end = v; conversed = h; is_end = end; kept = keeps }
 
-  pub not-read : TakesFront v w → Unread tells blocks d first a b u w x y
+  pub not-read : TakesFront v w → Unread Turns first a b u w x y
   not-read front = record { next = k; between = v; conversed = h; front = front }
 
 pub short-read : (v w : Option (List ℕ)) (line : List ℕ) → ReadsLine true v w line → length line ≤ 1048577
 short-read v w line reads = let short = kept-short reads.0 in omega (arith, short, ap length reads.2)
 
 -- A line before `start`, by what it came to.
-module _ (tells : Bool) (blocks : ℕ) (d : Device) (k : ℕ) (c0 c1 c2 : SetUp) (u v x y : Option (List ℕ)) (h : Converses tells blocks d 1 (Setting c0) k (Setting c1) u v x y)
+module _ (tells : Bool) (blocks : ℕ) (d : Device) (k : ℕ) (c0 c1 c2 : SetUp) (u v x y : Option (List ℕ)) (h : Converses (TurnOf tells blocks d) 1 (Setting c0) k (Setting c1) u v x y)
     (w z : Option (List ℕ)) (line : List ℕ) (asks : Asked) (reads : ReadsLine true v w line) (is : asks ≡ asked line) where
-  pub came-answered : Comes (Ok settled.Answered) k c1 asks c2 y z → Converses tells blocks d 1 (Setting c0) (k + 1) (Setting c2) u w x z
-  came-answered (answer, alike, wrote) = line-more tells blocks d (Setting c0) (Setting c1) 1 k u v x y h w z line asks reads is (Setting c2) answer (alike blocks d) wrote
+  settles-whole : (answer : List ℕ) → SettlesAlike k c1 asks answer c2 → TurnOf tells blocks d k (Setting c1) reads.0 answer (Setting c2)
+  settles-whole answer alike = subst (λ (q : Asked). Turn tells blocks d k (Setting c1) q answer (Setting c2)) (asks-whole v w line asks reads is) (alike blocks d)
+
+  pub came-answered : Comes (Ok settled.Answered) k c1 asks c2 y z → Converses (TurnOf tells blocks d) 1 (Setting c0) (k + 1) (Setting c2) u w x z
+  came-answered (answer, alike, wrote) = line-more (TurnOf tells blocks d) (Setting c0) (Setting c1) 1 k u v x y h w z line reads (Setting c2) answer (settles-whole answer alike) wrote
 
   pub came-started : Comes (Ok settled.Started) k c1 asks c2 y z → k < 2 ^ 64 - 1 → ComesToStart tells blocks d k c0 c2 u w x z
   came-started (starts, same, unwritten) countable = record {
     between = v;
-    conversed = subst (λ (t : Option (List ℕ)). Converses tells blocks d 1 (Setting c0) k (Setting c2) u v x t) (sym unwritten)
-        (subst (λ (c : SetUp). Converses tells blocks d 1 (Setting c0) k (Setting c) u v x y) (sym same) h);
+    conversed = subst (λ (t : Option (List ℕ)). Converses (TurnOf tells blocks d) 1 (Setting c0) k (Setting c2) u v x t) (sym unwritten)
+        (subst (λ (c : SetUp). Converses (TurnOf tells blocks d) 1 (Setting c0) k (Setting c) u v x y) (sym same) h);
     line = reads.0;
     taken = reads.1;
-    starts = sym (is ∙ ap asked reads.2 ∙ asked-kept reads.0) ∙ starts;
+    starts = sym (asks-whole v w line asks reads is) ∙ starts;
     countable = countable;
   }
 
-  pub came-to-fault : (fault : ScriptFault) → Comes (Err fault) k c1 asks c2 y z → EndsBy fault tells blocks d 1 (Setting c0) (Setting c2) u w x z
-  came-to-fault Write (answer, alike, broke) = line-broke tells blocks d (Setting c0) (Setting c1) 1 k u v x y h w z line asks reads is (Setting c2) answer (alike blocks d) broke
-  came-to-fault NoMemory (says, sets, same, unwritten) =
-      subst (λ (c : SetUp). Starves tells blocks d 1 (Setting c0) (Setting c) u w x z) (sym same)
-      (line-starves tells blocks d (Setting c0) (Setting c1) 1 k u v x y h w z line asks reads is says sets unwritten)
+  pub came-to-fault : (fault : ScriptFault) → Comes (Err fault) k c1 asks c2 y z → EndsBy fault (TurnOf tells blocks d) alone 1 (Setting c0) (Setting c2) u w x z
+  came-to-fault Write (answer, alike, broke) = line-broke (TurnOf tells blocks d) (Setting c0) (Setting c1) 1 k u v x y h w z line reads (Setting c2) answer (settles-whole answer alike) broke
+  came-to-fault NoMemory (says, sets, crowded, same, unwritten) =
+      subst (λ (c : SetUp). Starves (TurnOf tells blocks d) alone 1 (Setting c0) (Setting c) u w x z) (sym same)
+      (line-starves (TurnOf tells blocks d) (Setting c0) (Setting c1) 1 k u v x y h w z line reads alone says (sym (asks-whole v w line asks reads is) ∙ sets) (inr crowded) unwritten)
   came-to-fault (Syntax i) q = absurd q
   came-to-fault (Config i f) q = absurd q
   came-to-fault TooLong q = absurd q
@@ -148,19 +155,24 @@ broke-from : {T E : Type 0} (r : Result T E) (Of : List ℕ → Type 0) (y z : O
 broke-from (Ok x) Of y z e h = absurd (false≢true e)
 broke-from (Err x) Of y z e h = h
 
-module _ {T E : Type 0} (r : Result T E) (tells : Bool) (blocks : ℕ) (d : Device) (first k : ℕ) (l0 l1 l2 : Layers) (u v x y : Option (List ℕ)) (h : Converses tells blocks d first (Running l0) k (Running l1) u v x y)
-    (w z : Option (List ℕ)) (line : List ℕ) (asks : Asked) (reads : ReadsLine true v w line) (is : asks ≡ asked line) (answers : Sends r (λ answer. AnswersLine tells k asks l1 answer l2) y z) where
-  pub ran-answered : is_err r ≡ false → Converses tells blocks d first (Running l0) (k + 1) (Running l2) u w x z
-  ran-answered ok =
-      let said = said-from r (λ answer. AnswersLine tells k asks l1 answer l2) y z ok answers in
-      line-more tells blocks d (Running l0) (Running l1) first k u v x y h w z line asks reads is (Running l2) said.0 (l2, said.1, refl) said.2
+module _ {T E M : Type 0} (r : Result T E) (step : M → MediumCall → M → Type 0) (tells : Bool) (blocks : ℕ) (d : Device) (first k : ℕ) (l0 : Layers) (m0 : M) (l1 : Layers) (m1 : M) (l2 : Layers) (m2 : M) (u v x y : Option (List ℕ))
+    (h : Converses (TurnOver step tells blocks d) first (over (Running l0) m0) k (over (Running l1) m1) u v x y)
+    (w z : Option (List ℕ)) (line : List ℕ) (asks : Asked) (reads : ReadsLine true v w line) (is : asks ≡ asked line)
+    (answers : Sends r (λ answer. AnswersLineBy step tells k asks (over l1 m1) answer (over l2 m2)) y z) where
+  turned : (answer : List ℕ) → AnswersLineBy step tells k asks (over l1 m1) answer (over l2 m2) → TurnOver step tells blocks d k (over (Running l1) m1) reads.0 answer (over (Running l2) m2)
+  turned answer says = (l2, subst (λ (q : Asked). AnswersLineBy step tells k q (over l1 m1) answer (over l2 m2)) (asks-whole v w line asks reads is) says, refl)
 
-  pub ran-broken : is_err r ≡ true → BreaksOff tells blocks d first (Running l0) (Running l2) u w x z
+  pub ran-answered : is_err r ≡ false → Converses (TurnOver step tells blocks d) first (over (Running l0) m0) (k + 1) (over (Running l2) m2) u w x z
+  ran-answered ok =
+      let said = said-from r (λ answer. AnswersLineBy step tells k asks (over l1 m1) answer (over l2 m2)) y z ok answers in
+      line-more (TurnOver step tells blocks d) (over (Running l0) m0) (over (Running l1) m1) first k u v x y h w z line reads (over (Running l2) m2) said.0 (turned said.0 said.1) said.2
+
+  pub ran-broken : is_err r ≡ true → BreaksOff (TurnOver step tells blocks d) first (over (Running l0) m0) (over (Running l2) m2) u w x z
   ran-broken err =
-      let broke = broke-from r (λ answer. AnswersLine tells k asks l1 answer l2) y z err answers in
-      line-broke tells blocks d (Running l0) (Running l1) first k u v x y h w z line asks reads is (Running l2) broke.0 (l2, broke.1, refl) broke.2
+      let broke = broke-from r (λ answer. AnswersLineBy step tells k asks (over l1 m1) answer (over l2 m2)) y z err answers in
+      line-broke (TurnOver step tells blocks d) (over (Running l0) m0) (over (Running l1) m1) first k u v x y h w z line reads (over (Running l2) m2) broke.0 (turned broke.0 broke.1) broke.2
 
 -- a fault of reading
-pub not-read-by : (fault : ScriptFault) (tells : Bool) (blocks : ℕ) (d : Device) (a b : Standing) (first : ℕ) (u w x y : Option (List ℕ)) → fault ≡ Read → Unread tells blocks d first a b u w x y
-    → EndsBy fault tells blocks d first a b u w x y
-not-read-by fault tells blocks d a b first u w x y is h = subst (λ (f : ScriptFault). EndsBy f tells blocks d first a b u w x y) (sym is) h
+pub not-read-by : {S : Type 0} (Turns : ℕ → S → List ℕ → List ℕ → S → Type 0) (standing : S → Standing) (fault : ScriptFault) (a b : S) (first : ℕ) (u w x y : Option (List ℕ)) → fault ≡ Read → Unread Turns first a b u w x y
+    → EndsBy fault Turns standing first a b u w x y
+not-read-by Turns standing fault a b first u w x y is h = subst (λ (f : ScriptFault). EndsBy f Turns standing first a b u w x y) (sym is) h

@@ -3,6 +3,8 @@ pub mod SetUps
 pub mod Turns
 pub mod Sessions
 pub mod Conversing
+pub mod Lifting
+pub mod Alone
 pub mod Starting
 pub mod Living
 pub mod Kept

@@ -1,20 +1,23 @@
 -- A whole session, by what the script that is run first left.
-use Rattle.std.proofs.Common.{◌≡◌, ℕ, Bool, List, Option, None, Some, Ok, Err, inr, refl, sym, ap, subst, ◌∙◌}
-use Rattle.std.specs.Prelude.{Result, IfOk, IfErr}
+use Rattle.std.proofs.Common.{◌≡◌, ℕ, Bool, List, Option, None, Some, Ok, Err, inl, inr, refl, sym, ap, subst, ◌∙◌}
+use Rattle.std.specs.Prelude.{IfErr, IfOk, MatchResult, Result}
 use Rattle.nvme_spec.specs.Blocks.{Device}
 use Rattle.nvme_spec.specs.MediumCalls.{MediumCall}
+use Rattle.nvme_subsys.specs.OverMedium.{over}
 use Rattle.nvme_live.specs.declared.line_numbers.LineNumbers.{LineNumbers}
 use Rattle.nvme_live.specs.SetUps.{SetUp, no_numbers, nothing_set_up, numbers_in, set_up_of}
 use Rattle.nvme_fleet.specs.FleetStates.{Layers}
 use Rattle.script_text.specs.Lines.{text_lines}
 use Rattle.script_text.specs.Streams.{ReadCall}
 use Rattle.script_text.specs.Reading.{IsRead}
+use Rattle.script_text.specs.declared.reading.ReadFault.{ReadFault}
 use Rattle.nvme_grammar.specs.Script.{start_of}
 use Rattle.nvme_grammar.specs.declared.script.Script.{Script}
 use Rattle.nvme_script.specs.declared.run.ScriptFault.{ScriptFault}
-use Rattle.nvme_script.specs.Faults.{IsReady, IsScript, ReadsThen}
-use Rattle.nvme_live.specs.Conversations.{Ends, EndsBy}
-use Rattle.nvme_live.specs.Lives.{Fails, LivesOn, Opens, Rests, RunsTo}
+use Rattle.nvme_script.specs.Faults.{IsEarlyFault, IsReady, IsScript, ReadsThen, of_reading}
+use Rattle.nvme_live.specs.AnswerCalls.{TurnOver}
+use Rattle.nvme_live.specs.Conversations.{Ends, EndsBy, standing_over}
+use Rattle.nvme_live.specs.Lives.{Fails, FailsBehindReading, FailsFirst, LivesOn, Opens, Rests, RunsTo, surroundings}
 use Rattle.nvme_live.specs.Standings.{Setting, Running}
 use Rattle.nvme_live.proofs.Starting.{nothing-set}
 
@@ -22,47 +25,72 @@ pub not-some : (o : Option ℕ) → ((n : ℕ) → o ≡ Some n → ⊥) → o �
 not-some None h = refl
 not-some (Some n) h = absurd (h n refl)
 
-module _ {S M : Type 0} (read : S → ReadCall → S → Type 0) (remaining : S → Option (List ℕ)) (s t : S) (step : M → MediumCall → M → Type 0) (tells : Bool) (device : M → Device) (blocks : ℕ)
-    (text : List ℕ) (script : Script) (ready : IsReady text script) (is : IsRead read remaining s (Ok text) t) (medium : M) (u w x z : Option (List ℕ)) where
+module _ {S M R W : Type 0} (read : S → ReadCall → S → Type 0) (unread : S → Option (List ℕ)) (s t : S) (step : M → MediumCall → M → Type 0) (tells : Bool) (device : M → Device) (remaining : R → Option (List ℕ)) (contents : W → Option (List ℕ)) (blocks : ℕ)
+    (text : List ℕ) (script : Script) (ready : IsReady text script) (is : IsRead read unread s (Ok text) t) (medium : M) (from to : R) (before after : W) where
+  abbrev u : Option (List ℕ)
+  u = remaining from
+
+  abbrev w : Option (List ℕ)
+  w = remaining to
+
+  abbrev x : Option (List ℕ)
+  x = contents before
+
+  abbrev z : Option (List ℕ)
+  z = contents after
+
   -- without `start` nothing is set up, and no line is numbered
-  module _ (numbers : LineNumbers) (unnumbered : numbers_in numbers ≡ no_numbers) where
-    abbrev set : SetUp
-    set = set_up_of script.config numbers
-
+  module _ (numbers : LineNumbers) (unnumbered : numbers_in numbers ≡ no_numbers) (set : SetUp) (kept : set ≡ set_up_of script.config numbers) where
     nothing-yet : script.start ≡ None → set ≡ nothing_set_up
-    nothing-yet none = λ i. record { configuration = nothing-set text script ready none i; numbers = unnumbered i }
+    nothing-yet none = kept ∙ (λ i. record { configuration = nothing-set text script ready none i; numbers = unnumbered i })
 
-    setting : script.start ≡ None → Opens step tells device blocks text medium (start_of (text_lines text)) (Setting set) x x
+    setting : script.start ≡ None → Opens step tells device blocks text medium (start_of (text_lines text)) (over (Setting set) medium) x x
     setting none =
-        subst (λ (o : Option ℕ). Opens step tells device blocks text medium o (Setting set) x x) (sym (sym ready.says.start ∙ none))
-        (ready.grammar, ap Setting (nothing-yet none), refl)
+        subst (λ (o : Option ℕ). Opens step tells device blocks text medium o (over (Setting set) medium) x x) (sym (sym ready.says.start ∙ none))
+        (ready.grammar, ap (λ c. over (Setting c) medium) (nothing-yet none), refl)
 
     pub live-set-ok : {E : Type 0} (r : Result M E) → script.start ≡ None
-        → IfOk r (λ after. Rests (λ last. Ends tells blocks (device medium) 1 (Setting set) last u w x z) (device medium) (device after))
-        → IfOk r (λ after. (text : List ℕ) × IsRead read remaining s (Ok text) t × LivesOn step tells device blocks text medium after u w x z)
-    live-set-ok (Ok after) none h = (text, is, record { first = Setting set; told = x; opened = setting none; rests = h })
+        → IfOk r (λ left. Rests device (λ last. Ends (TurnOver step tells blocks (device medium)) 1 (over (Setting set) medium) last u w x z) (device medium) left)
+        → IfOk r (λ left. (text : List ℕ) × IsRead read unread s (Ok text) t × LivesOn step tells device remaining contents blocks text (surroundings from before medium) (surroundings to after left))
+    live-set-ok (Ok left) none h = (text, is, record { first = over (Setting set) medium; told = x; opened = setting none; rests = h })
     live-set-ok (Err e) none h = tt
 
     pub live-set-err : {E : Type 0} (r : Result E (ScriptFault × M)) → script.start ≡ None
-        → IfErr r (λ e. Rests (λ last. EndsBy e.0 tells blocks (device medium) 1 (Setting set) last u w x z) (device medium) (device e.1))
-        → IfErr r (λ e. ReadsThen read remaining s t e.0 (λ text. Fails step tells device blocks text medium e.0 e.1 u w x z))
-    live-set-err (Ok after) none h = tt
-    live-set-err (Err e) none h = (Ok text, is, inr (record { first = Setting set; told = x; opened = setting none; rests = h }))
+        → IfErr r (λ e. Rests device (λ last. EndsBy e.0 (TurnOver step tells blocks (device medium)) standing_over 1 (over (Setting set) medium) last u w x z) (device medium) e.1)
+        → IfErr r (λ e. FailsBehindReading read unread s t e.0 (surroundings from before medium) (surroundings to after e.1) (λ text. Fails step tells device remaining contents blocks text e.0 (surroundings from before medium) (surroundings to after e.1)))
+    live-set-err (Ok left) none h = tt
+    live-set-err (Err e) none h = (Ok text, is, inr (record { first = over (Setting set) medium; told = x; opened = setting none; rests = h }))
 
   module _ (n : ℕ) (starts : script.start ≡ Some n) (l : Layers) (mid : M) (y : Option (List ℕ)) (ran : IsScript text blocks × RunsTo step tells device text medium l mid x y) where
-    running : Opens step tells device blocks text medium (start_of (text_lines text)) (Running l) x y
-    running =
-        subst (λ (o : Option ℕ). Opens step tells device blocks text medium o (Running l) x y) (sym (sym ready.says.start ∙ starts))
+    runs : Opens step tells device blocks text medium (start_of (text_lines text)) (over (Running l) mid) x y
+    runs =
+        subst (λ (o : Option ℕ). Opens step tells device blocks text medium o (over (Running l) mid) x y) (sym (sym ready.says.start ∙ starts))
         (ran.0, l, mid, ran.1, refl)
 
     pub live-ran-ok : {E : Type 0} (r : Result M E)
-        → IfOk r (λ after. (size : ℕ) (d : Device) → Rests (λ last. Ends tells size d 1 (Running l) last u w y z) d (device after))
-        → IfOk r (λ after. (text : List ℕ) × IsRead read remaining s (Ok text) t × LivesOn step tells device blocks text medium after u w x z)
-    live-ran-ok (Ok after) h = (text, is, record { first = Running l; told = y; opened = running; rests = h blocks (device medium) })
+        → IfOk r (λ left. (size : ℕ) (d : Device) → Rests device (λ last. Ends (TurnOver step tells size d) 1 (over (Running l) mid) last u w y z) d left)
+        → IfOk r (λ left. (text : List ℕ) × IsRead read unread s (Ok text) t × LivesOn step tells device remaining contents blocks text (surroundings from before medium) (surroundings to after left))
+    live-ran-ok (Ok left) h = (text, is, record { first = over (Running l) mid; told = y; opened = runs; rests = h blocks (device medium) })
     live-ran-ok (Err e) h = tt
 
     pub live-ran-err : {E : Type 0} (r : Result E (ScriptFault × M))
-        → IfErr r (λ e. (size : ℕ) (d : Device) → Rests (λ last. EndsBy e.0 tells size d 1 (Running l) last u w y z) d (device e.1))
-        → IfErr r (λ e. ReadsThen read remaining s t e.0 (λ text. Fails step tells device blocks text medium e.0 e.1 u w x z))
-    live-ran-err (Ok after) h = tt
-    live-ran-err (Err e) h = (Ok text, is, inr (record { first = Running l; told = y; opened = running; rests = h blocks (device medium) }))
+        → IfErr r (λ e. (size : ℕ) (d : Device) → Rests device (λ last. EndsBy e.0 (TurnOver step tells size d) standing_over 1 (over (Running l) mid) last u w y z) d e.1)
+        → IfErr r (λ e. FailsBehindReading read unread s t e.0 (surroundings from before medium) (surroundings to after e.1) (λ text. Fails step tells device remaining contents blocks text e.0 (surroundings from before medium) (surroundings to after e.1)))
+    live-ran-err (Ok left) h = tt
+    live-ran-err (Err e) h = (Ok text, is, inr (record { first = over (Running l) mid; told = y; opened = runs; rests = h blocks (device medium) }))
+
+  -- a script that does not run to its end
+  pub live-stops : (fault : ScriptFault) (left : M) → from ≡ to → FailsFirst step tells device contents blocks text fault medium left before after
+      → FailsBehindReading read unread s t fault (surroundings from before medium) (surroundings to after left) (λ text. Fails step tells device remaining contents blocks text fault (surroundings from before medium) (surroundings to after left))
+  live-stops fault left same h = (Ok text, is, inl (h, sym same))
+
+-- A script that can't be read, or is refused by its text.
+pub live-unready : {S M R W : Type 0} (read : S → ReadCall → S → Type 0) (unread : S → Option (List ℕ)) (s t : S) (step : M → MediumCall → M → Type 0) (tells : Bool) (device : M → Device) (remaining : R → Option (List ℕ)) (contents : W → Option (List ℕ)) (blocks : ℕ)
+    (fault : ScriptFault) (medium : M) (reader : R) (writer : W) → ReadsThen read unread s t fault (λ text. (size : ℕ) → IsEarlyFault fault text size)
+    → FailsBehindReading read unread s t fault (surroundings reader writer medium) (surroundings reader writer medium) (λ text. Fails step tells device remaining contents blocks text fault (surroundings reader writer medium) (surroundings reader writer medium))
+live-unready read unread s t step tells device remaining contents blocks fault medium reader writer h = (h.0, h.1, by h.0 h.2)
+  where
+    by : (outcome : Result (List ℕ) ReadFault) → MatchResult outcome (λ text. (size : ℕ) → IsEarlyFault fault text size) (λ reading. fault ≡ of_reading reading)
+        → MatchResult outcome (λ text. Fails step tells device remaining contents blocks text fault (surroundings reader writer medium) (surroundings reader writer medium)) (λ reading. (fault ≡ of_reading reading) × (surroundings reader writer medium ≡ surroundings reader writer medium))
+    by (Ok text) k = inl (inl (k blocks, refl, refl), refl)
+    by (Err reading) k = (k, refl)

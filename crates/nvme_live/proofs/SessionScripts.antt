@@ -35,6 +35,8 @@ use Rattle.nvme_fleet.specs.FleetStates.{opening_driver}
 use Rattle.nvme_live.proofs.Kept.{AllFine, IsBlank, IsRunOfLines, RunsBehind, all-fine, all-well, asked-look, asked-other, bytes-silent, is_behind, kept-line, looking-line, looks-look, mailboxes-ran, refused-line, runs-amid, runs-behind, runs-well, silent-line}
 use Rattle.nvme_live.specs.SessionScripts.{IsAScript, IsKeptAs, IsPlayed, PlayedIsARun, RefusedIsAFault, ReplaysAlike, SessionIsAScript, SessionIsAScriptAmidLooks}
 use Rattle.nvme_live.specs.Keeping.{LooksWell, RunAmidLooks, bytes_if, event_answers, is_event, is_kept, is_refusal, kept_lines, line_if}
+use Rattle.nvme_subsys.specs.OverMedium.{OverMedium}
+use Rattle.nvme_live.proofs.Alone.{sessions_stand_alone}
 use Rattle.nvme_live.specs.Lives.{Opens, RunsTo}
 use Rattle.nvme_live.specs.Saying.{with_feed}
 use Rattle.nvme_live.specs.Standings.{SetsBy, Over, Running, Session, Setting, Settles, Standing, Starts}
@@ -479,12 +481,12 @@ same-running : (a b : Layers) → Running a ≡ Running b → a ≡ b
 same-running a b e = cc
 
 module _ {M : Type 0} (step : M → MediumCall → M → Type 0) (tells : Bool) (device : M → Device) (blocks : ℕ) (Ran : Layers → List FleetEvent → List Reply → Layers → Type 0) (Fine : ℕ → List ℕ → List ℕ → Type 0) (is : IsRunOfLines tells Ran Fine)
-    (first : List ℕ) (medium : M) (from last : Standing) (before told : Option (List ℕ)) (lines answers : List (List ℕ)) (of_line : AreOfLine lines)
-    (went : Session tells blocks (device medium) 1 from lines answers last) (fine : AllFine Fine 1 lines answers) where
+    (first : List ℕ) (medium : M) (from : OverMedium Standing M) (last : Standing) (before told : Option (List ℕ)) (lines answers : List (List ℕ)) (of_line : AreOfLine lines)
+    (went : Session tells blocks (device medium) 1 from.state lines answers last) (fine : AllFine Fine 1 lines answers) where
   abbrev kept : List (List ℕ)
   kept = kept_lines lines answers
 
-  alone : (text : List ℕ) → text ≡ text_of kept → from ≡ Setting nothing_set_up → IsKeptAs Ran blocks (device medium) text (event_answers lines answers) last
+  alone : (text : List ℕ) → text ≡ text_of kept → from.state ≡ Setting nothing_set_up → IsKeptAs Ran blocks (device medium) text (event_answers lines answers) last
   alone text is_text begins =
       let kept_of_line = kept-of-line lines answers of_line in
       let h = grown tells Ran Fine is blocks (device medium) lines answers 1 [] nothing_set_up last refl refl (subst (λ (s : Standing). Session tells blocks (device medium) 1 s lines answers last) begins went) fine in
@@ -492,7 +494,7 @@ module _ {M : Type 0} (step : M → MediumCall → M → Type 0) (tells : Bool) 
       (kept-as (text_of kept) kept (text-lines kept kept_of_line) Ran blocks (device medium) (event_answers lines answers) (started-text kept kept_of_line) last h)
 
   -- behind the one that was run first, which has a `start`
-  module _ (k : ℕ) (starts : start_of (text_lines first) ≡ Some k) (script : IsScript first blocks) (l : Layers) (mid : M) (ran : RunsTo step tells device first medium l mid before told) (begins : from ≡ Running l) where
+  module _ (k : ℕ) (starts : start_of (text_lines first) ≡ Some k) (script : IsScript first blocks) (l : Layers) (mid : M) (ran : RunsTo step tells device first medium l mid before told) (begins : from.state ≡ Running l) where
     abbrev raw : List (List ℕ)
     raw = text_lines first ++ kept
 
@@ -544,27 +546,30 @@ module _ {M : Type 0} (step : M → MediumCall → M → Type 0) (tells : Bool) 
         (kept-played (first ++ 10 ∷ text_of kept) raw raw-lines Ran blocks (device medium) (first-said ++ event_answers lines answers) runs.runs.last raw-begins raw-started
         (ap (λ c. first_config_fault c blocks) (sym raw-set) ∙ script.accepted) raw-ran)
 
+  at-once : {start : OverMedium Standing M} → from ≡ start → from.state ≡ start.state
+  at-once e = ap (λ (o : OverMedium Standing M). o.state) e
+
   scripted : (o : Option ℕ) → start_of (text_lines first) ≡ o → Opens step tells device blocks first medium o from before told → IsAScript Ran blocks (device medium) first lines answers last before told
   scripted None e (grammar, begins, same) = record {
     said = [];
     wrote = subst (λ (x : Option (List ℕ)). Appends before x []) (sym same) (Appends-nil before);
-    kept = alone (session_text first lines answers) (ap (λ o. behind o first (text_of kept)) e) begins;
+    kept = alone (session_text first lines answers) (ap (λ o. behind o first (text_of kept)) e) (at-once begins);
   }
   scripted (Some k) e (script, l, mid, ran, begins) = record {
-    said = first-said k e script l mid ran begins;
+    said = first-said k e script l mid ran (at-once begins);
     wrote = ran.transcribed.wrote;
-    kept = subst (λ (t : List ℕ). IsKeptAs Ran blocks (device medium) t (first-said k e script l mid ran begins ++ event_answers lines answers) last) (sym (ap (λ o. behind o first (text_of kept)) e))
-        (joined k e script l mid ran begins);
+    kept = subst (λ (t : List ℕ). IsKeptAs Ran blocks (device medium) t (first-said k e script l mid ran (at-once begins) ++ event_answers lines answers) last) (sym (ap (λ o. behind o first (text_of kept)) e))
+        (joined k e script l mid ran (at-once begins));
   }
 
 pub session_is_a_script : {M : Type 0} (step : M → MediumCall → M → Type 0) (tells : Bool) (device : M → Device) → SessionIsAScript step tells device
 session_is_a_script step tells device blocks first medium from last next before told unread left after opens h well =
-    scripted step tells device blocks (Run tells) (LooksWell tells) (runs-well tells) first medium from last before told h.lines h.answers (taken-lines h.lines unread left h.taken) h.went
+    scripted step tells device blocks (Run tells) (LooksWell tells) (runs-well tells) first medium from last.state before told h.lines h.answers (taken-lines h.lines unread left h.taken) (sessions_stand_alone step tells blocks (device medium) 1 from last h.lines h.answers h.went)
     (all-well tells 1 h.lines h.answers well) (start_of (text_lines first)) refl opens
 
 pub session_is_a_script_amid_looks : {M : Type 0} (step : M → MediumCall → M → Type 0) (tells : Bool) (device : M → Device) → SessionIsAScriptAmidLooks step tells device
 session_is_a_script_amid_looks step tells device blocks first medium from last next before told unread left after opens h =
-    scripted step tells device blocks (RunAmidLooks tells) (λ n line answer. Unit {0}) (runs-amid tells) first medium from last before told h.lines h.answers (taken-lines h.lines unread left h.taken) h.went
+    scripted step tells device blocks (RunAmidLooks tells) (λ n line answer. Unit {0}) (runs-amid tells) first medium from last.state before told h.lines h.answers (taken-lines h.lines unread left h.taken) (sessions_stand_alone step tells blocks (device medium) 1 from last h.lines h.answers h.went)
     (all-fine 1 h.lines h.answers) (start_of (text_lines first)) refl opens
 
 fleet-opened : (c : Configuration) (d : Device) → fleet_in (opening_layers c d) ≡ opening c d

@@ -1,14 +1,12 @@
 -- Sessions one behind the other.
-use Rattle.std.proofs.Common.{◌≡◌, ◌+◌, ℕ, suc, Bool, List, [], ◌∷◌, ◌++◌, length, Option, refl, sym, subst, arith, length-append, append-nil}
+use Rattle.std.proofs.Common.{◌≡◌, ◌+◌, ℕ, suc, List, [], ◌∷◌, ◌++◌, length, Option, refl, sym, subst, arith, length-append, append-nil}
 use Rattle.std.specs.List.{concat}
 use Rattle.std.proofs.lemmas.List.Folds.{concat-append}
 use Rattle.std.specs.Io.KnownBytes.{Appends}
 use Rattle.std.proofs.KnownBytes.{Appends-nil, Appends-trans}
-use Rattle.nvme_spec.specs.Blocks.{Device}
 use Rattle.nvme_script.specs.declared.run.ScriptFault.{ScriptFault}
 use Rattle.nvme_script.specs.declared.run.ScriptFault.TheVariants.{Syntax, Config, TooLong, NoMemory, Read, Write}
-use Rattle.nvme_live.specs.Asking.{asked}
-use Rattle.nvme_live.specs.Standings.{Standing, Turn, Session}
+use Rattle.nvme_live.specs.Standings.{LineByLine, Standing}
 use Rattle.nvme_live.specs.Taking.{TakesLine, TakesLines}
 use Rattle.nvme_live.specs.Conversations.{Converses, Ends, EndsBy}
 
@@ -22,23 +20,21 @@ nothing-more n = omega arith
 one-before : (n m : ℕ) → n + suc m ≡ n + 1 + m
 one-before n m = omega arith
 
-module _ (tells : Bool) (blocks : ℕ) (d : Device) where
-  pub session-append : (ls ms rs bs : List (List ℕ)) (n : ℕ) (a b c : Standing) → Session tells blocks d n a ls rs b → Session tells blocks d (n + length ls) b ms bs c
-      → Session tells blocks d n a (ls ++ ms) (rs ++ bs) c
-  session-append [] ms [] bs n a b c h k =
-      subst (λ (s : Standing). Session tells blocks d n s ms bs c) h (subst (λ (i : ℕ). Session tells blocks d i b ms bs c) (nothing-more n) k)
-  session-append [] ms (x ∷ rs) bs n a b c h k = absurd h
-  session-append (l ∷ ls) ms [] bs n a b c h k = absurd h
-  session-append (l ∷ ls) ms (x ∷ rs) bs n a b c h k =
-      (h.0, h.1, session-append ls ms rs bs (n + 1) h.0 b c h.2 (subst (λ (i : ℕ). Session tells blocks d i b ms bs c) (one-before n (length ls)) k))
+module _ {S : Type 0} (Turns : ℕ → S → List ℕ → List ℕ → S → Type 0) where
+  lines-append : (ls ms rs bs : List (List ℕ)) (n : ℕ) (a b c : S) → LineByLine Turns n a ls rs b → LineByLine Turns (n + length ls) b ms bs c → LineByLine Turns n a (ls ++ ms) (rs ++ bs) c
+  lines-append [] ms [] bs n a b c h k =
+      subst (λ (s : S). LineByLine Turns n s ms bs c) h (subst (λ (i : ℕ). LineByLine Turns i b ms bs c) (nothing-more n) k)
+  lines-append [] ms (x ∷ rs) bs n a b c h k = absurd h
+  lines-append (l ∷ ls) ms [] bs n a b c h k = absurd h
+  lines-append (l ∷ ls) ms (x ∷ rs) bs n a b c h k =
+      (h.0, h.1, lines-append ls ms rs bs (n + 1) h.0 b c h.2 (subst (λ (i : ℕ). LineByLine Turns i b ms bs c) (one-before n (length ls)) k))
 
   -- nothing was read
-  pub conversed-none : (n : ℕ) (a : Standing) (u x : Option (List ℕ)) → Converses tells blocks d n a n a u u x x
+  pub conversed-none : (n : ℕ) (a : S) (u x : Option (List ℕ)) → Converses Turns n a n a u u x x
   conversed-none n a u x = record { lines = []; answers = []; counted = sym (nothing-more n); taken = refl; went = refl; wrote = Appends-nil x }
 
   -- one line
-  pub conversed-one : (n : ℕ) (a b : Standing) (u v x y : Option (List ℕ)) (line answer : List ℕ) → TakesLine u line v → Turn tells blocks d n a (asked line) answer b → Appends x y answer
-      → Converses tells blocks d n a (n + 1) b u v x y
+  pub conversed-one : (n : ℕ) (a b : S) (u v x y : Option (List ℕ)) (line answer : List ℕ) → TakesLine u line v → Turns n a line answer b → Appends x y answer → Converses Turns n a (n + 1) b u v x y
   conversed-one n a b u v x y line answer taken turn wrote = record {
     lines = line ∷ [];
     answers = answer ∷ [];
@@ -49,19 +45,18 @@ module _ (tells : Bool) (blocks : ℕ) (d : Device) where
   }
 
   -- lines, and more behind them
-  pub conversed-more : (n k m : ℕ) (a b c : Standing) (u v w x y z : Option (List ℕ)) → Converses tells blocks d n a k b u v x y → Converses tells blocks d k b m c v w y z
-      → Converses tells blocks d n a m c u w x z
+  pub conversed-more : (n k m : ℕ) (a b c : S) (u v w x y z : Option (List ℕ)) → Converses Turns n a k b u v x y → Converses Turns k b m c v w y z → Converses Turns n a m c u w x z
   conversed-more n k m a b c u v w x y z h g = record {
     lines = h.lines ++ g.lines;
     answers = h.answers ++ g.answers;
     counted = (let long = length-append h.lines g.lines in omega (arith, h.counted, g.counted, long));
     taken = takes-append h.lines g.lines u v w h.taken g.taken;
-    went = session-append h.lines g.lines h.answers g.answers n a b c h.went (subst (λ (i : ℕ). Session tells blocks d i b g.lines g.answers c) h.counted g.went);
+    went = lines-append h.lines g.lines h.answers g.answers n a b c h.went (subst (λ (i : ℕ). LineByLine Turns i b g.lines g.answers c) h.counted g.went);
     wrote = subst (Appends x z) (sym (concat-append h.answers g.answers)) (Appends-trans x y z (concat h.answers) (concat g.answers) h.wrote g.wrote);
   }
 
-  module _ (n k : ℕ) (a b : Standing) (u v x y : Option (List ℕ)) (h : Converses tells blocks d n a k b u v x y) where
-    pub ends-behind : (c : Standing) (w z : Option (List ℕ)) → Ends tells blocks d k b c v w y z → Ends tells blocks d n a c u w x z
+  module _ (n k : ℕ) (a b : S) (u v x y : Option (List ℕ)) (h : Converses Turns n a k b u v x y) where
+    pub ends-behind : (c : S) (w z : Option (List ℕ)) → Ends Turns k b c v w y z → Ends Turns n a c u w x z
     ends-behind c w z g = record {
       next = g.next;
       end = g.end;
@@ -70,15 +65,15 @@ module _ (tells : Bool) (blocks : ℕ) (d : Device) where
       kept = g.kept;
     }
 
-    pub ends_by-behind : (fault : ScriptFault) (c : Standing) (w z : Option (List ℕ)) → EndsBy fault tells blocks d k b c v w y z → EndsBy fault tells blocks d n a c u w x z
-    ends_by-behind (Config i f) c w z (next, g, is) = (next, conversed-more n k next a b c u v w x y z h g, is)
-    ends_by-behind Read c w z g = record {
+    pub ends_by-behind : (standing : S → Standing) (fault : ScriptFault) (c : S) (w z : Option (List ℕ)) → EndsBy fault Turns standing k b c v w y z → EndsBy fault Turns standing n a c u w x z
+    ends_by-behind standing (Config i f) c w z (next, g, is) = (next, conversed-more n k next a b c u v w x y z h g, is)
+    ends_by-behind standing Read c w z g = record {
       next = g.next;
       between = g.between;
       conversed = conversed-more n k g.next a b c u v g.between x y z h g.conversed;
       front = g.front;
     }
-    ends_by-behind Write c w z g = record {
+    ends_by-behind standing Write c w z g = record {
       next = g.next;
       mid = g.mid;
       between = g.between;
@@ -90,7 +85,7 @@ module _ (tells : Bool) (blocks : ℕ) (d : Device) where
       turn = g.turn;
       broke = g.broke;
     }
-    ends_by-behind NoMemory c w z g = record {
+    ends_by-behind standing NoMemory c w z g = record {
       next = g.next;
       between = g.between;
       conversed = conversed-more n k g.next a b c u v g.between x y z h g.conversed;
@@ -98,6 +93,7 @@ module _ (tells : Bool) (blocks : ℕ) (d : Device) where
       taken = g.taken;
       says = g.says;
       sets = g.sets;
+      starved = g.starved;
     }
-    ends_by-behind (Syntax i) c w z g = absurd g
-    ends_by-behind TooLong c w z g = absurd g
+    ends_by-behind standing (Syntax i) c w z g = absurd g
+    ends_by-behind standing TooLong c w z g = absurd g

@@ -5,24 +5,20 @@ use Rattle.std.proofs.lemmas.Bool.{false≢true}
 use Rattle.nvme_spec.specs.Blocks.{Device}
 use Rattle.nvme_spec.specs.Configuration.{first_config_fault}
 use Rattle.nvme_spec.specs.declared.config.ConfigFault.{ConfigFault}
-use Rattle.nvme_event.specs.declared.event.FleetEvent.{FleetEvent}
 use Rattle.nvme_fleet.specs.FleetStates.{Layers}
 use Rattle.nvme_grammar.specs.Script.{attachment_in, controller_in, namespace_in}
 use Rattle.nvme_grammar.specs.declared.line.Line.{Line}
 use Rattle.nvme_grammar.specs.declared.line.Line.TheVariants.{Blank, Controller, Namespace, Attached, Start, Event}
-use Rattle.nvme_script.specs.Reasons.{reason_of}
 use Rattle.nvme_script.specs.ReasonLaws.{IsThere}
 use Rattle.nvme_script.proofs.Reasons.{refusal_has_a_reason}
-use Rattle.nvme_script.specs.declared.configuration.BrokenRule.{BrokenRule}
-use Rattle.nvme_script.specs.declared.configuration.ConfigReason.{ConfigReason}
 use Rattle.nvme_script.specs.declared.configuration.SetupLine.{SetupLine}
 use Rattle.nvme_script.specs.declared.configuration.SetupLine.TheVariants as line_of
 use Rattle.nvme_live.specs.declared.asking.Asked.{Asked}
 use Rattle.nvme_live.specs.declared.asking.Asked.TheVariants.{Fails, Nothing, Looks, Sets, Does}
 use Rattle.nvme_live.specs.Asking.{asked}
-use Rattle.nvme_live.specs.SetUps.{Numbers, SetUp, by_number, nothing_set_up, number_of, numbered_by, numbered_reason, with_line}
+use Rattle.nvme_live.specs.SetUps.{Numbers, SetUp, by_number, nothing_set_up, number_of, numbered_by, with_line}
 use Rattle.nvme_live.specs.SetUpLaws.{IsNumbered, IsSettingLine, RefusalNamesALine, SetUpIsNumbered, numbers_from, sets_up}
-use Rattle.nvme_live.specs.Standings.{Standing, Setting, Running, Over, Session, SetsBy, Settles, Starts, Turn}
+use Rattle.nvme_live.specs.Standings.{Standing, Setting, Running, Over, Session, Settles, Starts}
 
 -- Behind `start` nothing is set up any more.
 not-set-up : (l : Layers) (s : SetUp) → Running l ≡ Setting s → ⊥

@@ -1,9 +1,11 @@
 -- What `start` comes to.
-use Rattle.std.proofs.Common.{◌≡◌, ◌≢◌, ◌+◌, ℕ, Bool, List, Option, None, Some, refl, sym, ap, subst, ◌∙◌}
+use Rattle.std.proofs.Common.{◌≡◌, ◌≢◌, ◌+◌, ℕ, Bool, List, Option, None, Some, inl, refl, sym, ap, subst, ◌∙◌}
 use Rattle.std.specs.Prelude.{false, is_some, unwrap_or, Result, Ok, Err, IfOk, IfErr}
 use Rattle.std.specs.List.{list_any}
 use Rattle.std.specs.Io.KnownBytes.{Appends}
 use Rattle.nvme_spec.specs.Blocks.{Device}
+use Rattle.nvme_spec.specs.MediumCalls.{MediumCall}
+use Rattle.nvme_subsys.specs.OverMedium.{over}
 use Rattle.nvme_spec.specs.Configuration.{Configuration, empty_configuration, first_config_fault}
 use Rattle.nvme_script.specs.declared.configuration.BrokenRule.{BrokenRule}
 use Rattle.nvme_live.specs.SetUps.{SetUp, numbered_reason}
@@ -24,11 +26,13 @@ use Rattle.nvme_script.specs.declared.run.ScriptFault.TheVariants.{Syntax, Confi
 use Rattle.nvme_live.specs.declared.asking.Asked.{Asked}
 use Rattle.nvme_live.specs.declared.asking.Asked.TheVariants.{Sets}
 use Rattle.nvme_live.specs.Asking.{asked}
-use Rattle.nvme_live.specs.Conversations.{Converses, Ends, EndsBy, ComesToStart}
+use Rattle.nvme_live.specs.AnswerCalls.{TurnOver}
+use Rattle.nvme_live.specs.Conversations.{ComesToStart, Converses, Ends, EndsBy, standing_over}
 use Rattle.nvme_live.specs.Lives.{Rests, StartFails, StartRefused, device_in}
 use Rattle.nvme_live.specs.Saying.{with_feed}
 use Rattle.nvme_live.specs.Standings.{Standing, Setting, Running, Over, Starts, Turn, refused_text, started_text}
 use Rattle.nvme_live.specs.Taking.{TakesLine}
+use Rattle.nvme_live.proofs.Lifting.{conversed-over}
 use Rattle.nvme_live.proofs.Sessions.{conversed-none, conversed-one, ends-behind, ends_by-behind}
 
 pub accepted-start : (o : Option ConfigFault) (blocks : ℕ) (d : Device) (n : ℕ) (s : SetUp) → o ≡ None → Starts o blocks d n s (with_feed started_text) (Running (opening_layers s.configuration d))
@@ -67,74 +71,107 @@ pub starts-device : (o : Option ConfigFault) (blocks : ℕ) (d : Device) (n : �
 starts-device None blocks d n s answer new (says, is) = ap (device_in d) is ∙ opened-device s.configuration d
 starts-device (Some fault) blocks d n s answer new (says, is) = ap (device_in d) is
 
-module _ (tells : Bool) (blocks : ℕ) (d : Device) (n : ℕ) (c : SetUp) (line : List ℕ) (between u y : Option (List ℕ)) (taken : TakesLine between line u) (starts : asked line ≡ Sets Start) where
-  turn : (answer : List ℕ) (new : Standing) → Starts (first_config_fault c.configuration blocks) blocks d n c answer new → Turn tells blocks d n (Setting c) (asked line) answer new
-  turn answer new s = subst (λ (q : Asked). Turn tells blocks d n (Setting c) q answer new) (sym starts) s
+module _ {M : Type 0} (step : M → MediumCall → M → Type 0) (device : M → Device) (tells : Bool) (blocks : ℕ) (d : Device) (n : ℕ) (c : SetUp) (m : M) (line : List ℕ) (between u y : Option (List ℕ))
+    (taken : TakesLine between line u) (starts : asked line ≡ Sets Start) where
+  turn : (answer : List ℕ) (new : Standing) → Starts (first_config_fault c.configuration blocks) blocks d n c answer new → TurnOver step tells blocks d n (over (Setting c) m) line answer (over new m)
+  turn answer new s = (subst (λ (q : Asked). Turn tells blocks d n (Setting c) q answer new) (sym starts) s, refl)
 
   module _ (l : Layers) (z : Option (List ℕ)) (opened : l ≡ opening_layers c.configuration d) (accepted : first_config_fault c.configuration blocks ≡ None) (said : Appends y z (with_feed started_text)) where
-    begun : Converses tells blocks d n (Setting c) (n + 1) (Running l) between u y z
+    begun : Converses (TurnOver step tells blocks d) n (over (Setting c) m) (n + 1) (over (Running l) m) between u y z
     begun =
-        conversed-one tells blocks d n (Setting c) (Running l) between u y z line (with_feed started_text) taken
+        conversed-one (TurnOver step tells blocks d) n (over (Setting c) m) (over (Running l) m) between u y z line (with_feed started_text) taken
         (turn (with_feed started_text) (Running l) (subst (λ (m : Layers). Starts (first_config_fault c.configuration blocks) blocks d n c (with_feed started_text) (Running m)) (sym opened) (accepted-start (first_config_fault c.configuration blocks) blocks d n c accepted))) said
 
-    pub start-ends : (w x : Option (List ℕ)) (left : Device) → Rests (λ last. Ends tells blocks d (n + 1) (Running l) last u w z x) d left → Rests (λ last. Ends tells blocks d n (Setting c) last between w y x) d left
-    start-ends w x left h = record { last = h.last; ended = ends-behind tells blocks d n (n + 1) (Setting c) (Running l) between u y z begun h.last w x h.ended; rests = h.rests }
+    pub start-ends : (w x : Option (List ℕ)) (left : M) → Rests device (λ last. Ends (TurnOver step tells blocks d) (n + 1) (over (Running l) m) last u w z x) d left
+        → Rests device (λ last. Ends (TurnOver step tells blocks d) n (over (Setting c) m) last between w y x) d left
+    start-ends w x left h = record {
+      last = h.last;
+      ended = ends-behind (TurnOver step tells blocks d) n (n + 1) (over (Setting c) m) (over (Running l) m) between u y z begun h.last w x h.ended;
+      medium = h.medium;
+      rests = h.rests;
+    }
 
-    pub start-ends-by : (fault : ScriptFault) (w x : Option (List ℕ)) (left : Device) → Rests (λ last. EndsBy fault tells blocks d (n + 1) (Running l) last u w z x) d left
-        → Rests (λ last. EndsBy fault tells blocks d n (Setting c) last between w y x) d left
-    start-ends-by fault w x left h = record { last = h.last; ended = ends_by-behind tells blocks d n (n + 1) (Setting c) (Running l) between u y z begun fault h.last w x h.ended; rests = h.rests }
+    pub start-ends-by : (fault : ScriptFault) (w x : Option (List ℕ)) (left : M) → Rests device (λ last. EndsBy fault (TurnOver step tells blocks d) standing_over (n + 1) (over (Running l) m) last u w z x) d left
+        → Rests device (λ last. EndsBy fault (TurnOver step tells blocks d) standing_over n (over (Setting c) m) last between w y x) d left
+    start-ends-by fault w x left h = record {
+      last = h.last;
+      ended = ends_by-behind (TurnOver step tells blocks d) n (n + 1) (over (Setting c) m) (over (Running l) m) between u y z begun standing_over fault h.last w x h.ended;
+      medium = h.medium;
+      rests = h.rests;
+    }
 
-  pub start-fails : (fault : ScriptFault) (z : Option (List ℕ)) (left : Device) → StartFails fault blocks d n c y z → left ≡ d → Rests (λ last. EndsBy fault tells blocks d n (Setting c) last between u y z) d left
-  start-fails (Config k f) z left (at, is, wrote) kept = record {
-    last = Over k f;
+  pub start-fails : (fault : ScriptFault) (z : Option (List ℕ)) (left : M) → StartFails fault blocks d n c y z → left ≡ m → device m ≡ d
+      → Rests device (λ last. EndsBy fault (TurnOver step tells blocks d) standing_over n (over (Setting c) m) last between u y z) d left
+  start-fails (Config k f) z left (at, is, wrote) kept told = record {
+    last = over (Over k f) m;
     ended = (
       n + 1,
-      conversed-one tells blocks d n (Setting c) (Over k f) between u y z line (with_feed (refused_text n f (numbered_reason c blocks f))) taken
+      conversed-one (TurnOver step tells blocks d) n (over (Setting c) m) (over (Over k f) m) between u y z line (with_feed (refused_text n f (numbered_reason c blocks f))) taken
           (turn (with_feed (refused_text n f (numbered_reason c blocks f))) (Over k f) (subst (λ (o : Option ConfigFault). Starts o blocks d n c (with_feed (refused_text n f (numbered_reason c blocks f))) (Over k f)) (sym is) (refl, ap (λ i. Over i f) at))) wrote,
       refl,
     );
-    rests = kept;
+    medium = kept;
+    rests = ap device kept ∙ told;
   }
-  start-fails Write z left (answer, new, s, broke) kept = record {
-    last = new;
+  start-fails Write z left (answer, new, s, broke) kept told = record {
+    last = over new m;
     ended = record {
       next = n;
-      mid = Setting c;
+      mid = over (Setting c) m;
       between = between;
       written = y;
-      conversed = conversed-none tells blocks d n (Setting c) between y;
+      conversed = conversed-none (TurnOver step tells blocks d) n (over (Setting c) m) between y;
       line = line;
       taken = taken;
       answer = answer;
       turn = turn answer new s;
       broke = broke;
     };
-    rests = kept ∙ sym (starts-device (first_config_fault c.configuration blocks) blocks d n c answer new s);
+    medium = kept;
+    rests = ap device kept ∙ told ∙ sym (starts-device (first_config_fault c.configuration blocks) blocks d n c answer new s);
   }
-  start-fails NoMemory z left same kept = record {
-    last = Setting c;
+  start-fails NoMemory z left same kept told = record {
+    last = over (Setting c) m;
     ended = record {
       next = n;
       between = between;
-      conversed = subst (λ (t : Option (List ℕ)). Converses tells blocks d n (Setting c) n (Setting c) between between y t) (sym same) (conversed-none tells blocks d n (Setting c) between y);
+      conversed = subst (λ (t : Option (List ℕ)). Converses (TurnOver step tells blocks d) n (over (Setting c) m) n (over (Setting c) m) between between y t) (sym same)
+          (conversed-none (TurnOver step tells blocks d) n (over (Setting c) m) between y);
       line = line;
       taken = taken;
       says = Start;
       sets = starts;
+      starved = inl refl;
     };
-    rests = kept;
+    medium = kept;
+    rests = ap device kept ∙ told;
   }
-  start-fails (Syntax k) z left h kept = absurd h
-  start-fails TooLong z left h kept = absurd h
-  start-fails Read z left h kept = absurd h
+  start-fails (Syntax k) z left h kept told = absurd h
+  start-fails TooLong z left h kept told = absurd h
+  start-fails Read z left h kept told = absurd h
 
 -- behind the lines before it
-module _ (tells : Bool) (blocks : ℕ) (d : Device) (k : ℕ) (old new : SetUp) (u v x y : Option (List ℕ)) (h : ComesToStart tells blocks d k old new u v x y) (w z : Option (List ℕ)) (left : Device) where
-  pub set-then-ends : Rests (λ last. Ends tells blocks d k (Setting new) last h.between w y z) d left → Rests (λ last. Ends tells blocks d 1 (Setting old) last u w x z) d left
-  set-then-ends g = record { last = g.last; ended = ends-behind tells blocks d 1 k (Setting old) (Setting new) u h.between x y h.conversed g.last w z g.ended; rests = g.rests }
+module _ {M : Type 0} (step : M → MediumCall → M → Type 0) (device : M → Device) (tells : Bool) (blocks : ℕ) (d : Device) (k : ℕ) (old new : SetUp) (m : M) (u v x y : Option (List ℕ)) (h : ComesToStart tells blocks d k old new u v x y)
+    (w z : Option (List ℕ)) (left : M) where
+  before : Converses (TurnOver step tells blocks d) 1 (over (Setting old) m) k (over (Setting new) m) u h.between x y
+  before = conversed-over step tells blocks d m old new k u h.between x y h.conversed
 
-  pub set-then-fault : (fault : ScriptFault) → Rests (λ last. EndsBy fault tells blocks d k (Setting new) last h.between w y z) d left → Rests (λ last. EndsBy fault tells blocks d 1 (Setting old) last u w x z) d left
-  set-then-fault fault g = record { last = g.last; ended = ends_by-behind tells blocks d 1 k (Setting old) (Setting new) u h.between x y h.conversed fault g.last w z g.ended; rests = g.rests }
+  pub set-then-ends : Rests device (λ last. Ends (TurnOver step tells blocks d) k (over (Setting new) m) last h.between w y z) d left → Rests device (λ last. Ends (TurnOver step tells blocks d) 1 (over (Setting old) m) last u w x z) d left
+  set-then-ends g = record {
+    last = g.last;
+    ended = ends-behind (TurnOver step tells blocks d) 1 k (over (Setting old) m) (over (Setting new) m) u h.between x y before g.last w z g.ended;
+    medium = g.medium;
+    rests = g.rests;
+  }
+
+  pub set-then-fault : (fault : ScriptFault) → Rests device (λ last. EndsBy fault (TurnOver step tells blocks d) standing_over k (over (Setting new) m) last h.between w y z) d left
+      → Rests device (λ last. EndsBy fault (TurnOver step tells blocks d) standing_over 1 (over (Setting old) m) last u w x z) d left
+  set-then-fault fault g = record {
+    last = g.last;
+    ended = ends_by-behind (TurnOver step tells blocks d) 1 k (over (Setting old) m) (over (Setting new) m) u h.between x y before standing_over fault g.last w z g.ended;
+    medium = g.medium;
+    rests = g.rests;
+  }
 
 -- What the script that is run first leaves.
 module _ (text : List ℕ) (script : Script) (ready : IsReady text script) where
@@ -146,28 +183,30 @@ module _ (text : List ℕ) (script : Script) (ready : IsReady text script) where
       same_configuration (text_lines text) script ready.says ∙ empty
 
 -- What the lines behind `start` come to, as what they come to with it.
-module _ {T E : Type 0} (device : T → Device) (tells : Bool) (blocks : ℕ) (d : Device) (n : ℕ) (c : SetUp) (l : Layers) (u y z w x : Option (List ℕ))
-    (opened : l ≡ opening_layers c.configuration d) (accepted : first_config_fault c.configuration blocks ≡ None) (said : Appends y z (with_feed started_text)) where
-  pub start-ok : (r : Result T E) → IfOk r (λ after. (size : ℕ) (e : Device) → Rests (λ last. Ends tells size e (n + 1) (Running l) last u w z x) e (device after))
-      → IfOk r (λ after. (line : List ℕ) (between : Option (List ℕ)) → TakesLine between line u → asked line ≡ Sets Start → Rests (λ last. Ends tells blocks d n (Setting c) last between w y x) d (device after))
-  start-ok (Ok after) h = λ line between taken starts. start-ends tells blocks d n c line between u y taken starts l z opened accepted said w x (device after) (h blocks d)
+module _ {T E : Type 0} (step : T → MediumCall → T → Type 0) (device : T → Device) (tells : Bool) (blocks : ℕ) (d : Device) (n : ℕ) (c : SetUp) (l : Layers) (m opened-over : T) (u y z w x : Option (List ℕ))
+    (opened : l ≡ opening_layers c.configuration d) (kept : opened-over ≡ m) (accepted : first_config_fault c.configuration blocks ≡ None) (said : Appends y z (with_feed started_text)) where
+  pub start-ok : (r : Result T E) → IfOk r (λ after. (size : ℕ) (e : Device) → Rests device (λ last. Ends (TurnOver step tells size e) (n + 1) (over (Running l) opened-over) last u w z x) e after)
+      → IfOk r (λ after. (line : List ℕ) (between : Option (List ℕ)) → TakesLine between line u → asked line ≡ Sets Start → Rests device (λ last. Ends (TurnOver step tells blocks d) n (over (Setting c) m) last between w y x) d after)
+  start-ok (Ok after) h = λ line between taken starts. start-ends step device tells blocks d n c m line between u y taken starts l z opened accepted said w x after
+      (subst (λ (o : T). Rests device (λ last. Ends (TurnOver step tells blocks d) (n + 1) (over (Running l) o) last u w z x) d after) kept (h blocks d))
   start-ok (Err e) h = tt
 
-  pub start-err : (r : Result E (ScriptFault × T)) → IfErr r (λ e. (size : ℕ) (f : Device) → Rests (λ last. EndsBy e.0 tells size f (n + 1) (Running l) last u w z x) f (device e.1))
-      → IfErr r (λ e. (line : List ℕ) (between : Option (List ℕ)) → TakesLine between line u → asked line ≡ Sets Start → Rests (λ last. EndsBy e.0 tells blocks d n (Setting c) last between w y x) d (device e.1))
+  pub start-err : (r : Result E (ScriptFault × T)) → IfErr r (λ e. (size : ℕ) (f : Device) → Rests device (λ last. EndsBy e.0 (TurnOver step tells size f) standing_over (n + 1) (over (Running l) opened-over) last u w z x) f e.1)
+      → IfErr r (λ e. (line : List ℕ) (between : Option (List ℕ)) → TakesLine between line u → asked line ≡ Sets Start → Rests device (λ last. EndsBy e.0 (TurnOver step tells blocks d) standing_over n (over (Setting c) m) last between w y x) d e.1)
   start-err (Ok after) h = tt
-  start-err (Err e) h = λ line between taken starts. start-ends-by tells blocks d n c line between u y taken starts l z opened accepted said e.0 w x (device e.1) (h blocks d)
+  start-err (Err e) h = λ line between taken starts. start-ends-by step device tells blocks d n c m line between u y taken starts l z opened accepted said e.0 w x e.1
+      (subst (λ (o : T). Rests device (λ last. EndsBy e.0 (TurnOver step tells blocks d) standing_over (n + 1) (over (Running l) o) last u w z x) d e.1) kept (h blocks d))
 
 -- What the lines behind those that set up come to.
-module _ {T E : Type 0} (device : T → Device) (tells : Bool) (blocks : ℕ) (d : Device) (k : ℕ) (old new : SetUp) (u v x y w z : Option (List ℕ)) (h : ComesToStart tells blocks d k old new u v x y) where
+module _ {T E : Type 0} (step : T → MediumCall → T → Type 0) (device : T → Device) (tells : Bool) (blocks : ℕ) (d : Device) (k : ℕ) (old new : SetUp) (m : T) (u v x y w z : Option (List ℕ)) (h : ComesToStart tells blocks d k old new u v x y) where
   pub set-ok : (r : Result T E)
-      → IfOk r (λ after. (line : List ℕ) (between : Option (List ℕ)) → TakesLine between line v → asked line ≡ Sets Start → Rests (λ last. Ends tells blocks d k (Setting new) last between w y z) d (device after))
-      → IfOk r (λ after. Rests (λ last. Ends tells blocks d 1 (Setting old) last u w x z) d (device after))
-  set-ok (Ok after) g = set-then-ends tells blocks d k old new u v x y h w z (device after) (g h.line h.between h.taken h.starts)
+      → IfOk r (λ after. (line : List ℕ) (between : Option (List ℕ)) → TakesLine between line v → asked line ≡ Sets Start → Rests device (λ last. Ends (TurnOver step tells blocks d) k (over (Setting new) m) last between w y z) d after)
+      → IfOk r (λ after. Rests device (λ last. Ends (TurnOver step tells blocks d) 1 (over (Setting old) m) last u w x z) d after)
+  set-ok (Ok after) g = set-then-ends step device tells blocks d k old new m u v x y h w z after (g h.line h.between h.taken h.starts)
   set-ok (Err e) g = tt
 
   pub set-err : (r : Result E (ScriptFault × T))
-      → IfErr r (λ e. (line : List ℕ) (between : Option (List ℕ)) → TakesLine between line v → asked line ≡ Sets Start → Rests (λ last. EndsBy e.0 tells blocks d k (Setting new) last between w y z) d (device e.1))
-      → IfErr r (λ e. Rests (λ last. EndsBy e.0 tells blocks d 1 (Setting old) last u w x z) d (device e.1))
+      → IfErr r (λ e. (line : List ℕ) (between : Option (List ℕ)) → TakesLine between line v → asked line ≡ Sets Start → Rests device (λ last. EndsBy e.0 (TurnOver step tells blocks d) standing_over k (over (Setting new) m) last between w y z) d e.1)
+      → IfErr r (λ e. Rests device (λ last. EndsBy e.0 (TurnOver step tells blocks d) standing_over 1 (over (Setting old) m) last u w x z) d e.1)
   set-err (Ok after) g = tt
-  set-err (Err e) g = set-then-fault tells blocks d k old new u v x y h w z (device e.1) e.0 (g h.line h.between h.taken h.starts)
+  set-err (Err e) g = set-then-fault step device tells blocks d k old new m u v x y h w z e.1 e.0 (g h.line h.between h.taken h.starts)

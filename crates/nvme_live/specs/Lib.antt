@@ -15,6 +15,7 @@ pub mod Taking
 pub mod SetUps
 pub mod Standings
 pub mod Settling
+pub mod AnswerCalls
 pub mod Conversations
 pub mod Lives
 pub use Rattle.nvme_script.specs.Faults as ScriptFaults

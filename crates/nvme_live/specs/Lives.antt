@@ -1,5 +1,5 @@
 -- A session from the script that is run first to its end.
-use Rattle.std.specs.Prelude.{◌≡◌, ◌≢◌, ◌⊎◌, ℕ, Bool, List, Option, None, Some}
+use Rattle.std.specs.Prelude.{◌≡◌, ◌≢◌, ◌⊎◌, ℕ, Bool, List, Option, None, Some, Result, MatchResult}
 use Rattle.std.specs.Io.KnownBytes.{Appends}
 use Rattle.nvme_spec.specs.Blocks.{Device}
 use Rattle.nvme_spec.specs.Configuration.{first_config_fault}
@@ -8,17 +8,21 @@ use Rattle.nvme_spec.specs.declared.config.ConfigFault.TheVariants.{NoMemory as 
 use Rattle.nvme_spec.specs.MediumCalls.{MediumCall}
 use Rattle.nvme_fleet.specs.FleetStates.{Layers}
 use Rattle.script_text.specs.Lines.{text_lines}
+use Rattle.script_text.specs.Reading.{IsRead}
+use Rattle.script_text.specs.Streams.{ReadCall}
+use Rattle.script_text.specs.declared.reading.ReadFault.{ReadFault}
 use Rattle.nvme_grammar.specs.Script.{Begins, start_of}
 use Rattle.nvme_script.specs.declared.configuration.BrokenRule.{BrokenRule}
 use Rattle.nvme_script.specs.declared.run.ScriptFault.{ScriptFault}
 use Rattle.nvme_script.specs.declared.run.ScriptFault.TheVariants.{Syntax, Config, TooLong, NoMemory, Read, Write}
-use Rattle.nvme_subsys.specs.OverMedium.{over}
-use Rattle.nvme_script.specs.Faults.{IsScript, IsEarlyFault, Transcribes, events_in}
+use Rattle.nvme_subsys.specs.OverMedium.{OverMedium, over}
+use Rattle.nvme_script.specs.Faults.{IsScript, IsEarlyFault, Transcribes, events_in, of_reading}
 use Rattle.nvme_script.specs.ScriptCalls.{RanCalling, RunsCalling, StopsCalling, layers_of_text}
 use Rattle.nvme_live.specs.Saying.{Breaks, with_feed}
 use Rattle.nvme_live.specs.SetUps.{SetUp, nothing_set_up, numbered_reason}
 use Rattle.nvme_live.specs.Standings.{Standing, Setting, Running, Over, Starts, refused_text}
-use Rattle.nvme_live.specs.Conversations.{Ends, EndsBy}
+use Rattle.nvme_live.specs.AnswerCalls.{TurnOver}
+use Rattle.nvme_live.specs.Conversations.{Ends, EndsBy, standing_over}
 
 -- what is on the medium, where a session stands so: until it runs, what was there
 abbrev pub device_in : Device → Standing → Device
@@ -26,11 +30,14 @@ device_in d (Setting s) = d
 device_in d (Running l) = l.subsystem.device
 device_in d (Over k fault) = d
 
--- A session ended somewhere, of which something is said, and that is on the medium.
-pub record Rests (Ended : Standing → Type 0) (d left : Device) : Type 0 where
-  pub last : Standing
+-- A session ended somewhere, of which something is said, over this medium, which is given back; and what is on it is what
+-- the session left there.
+pub record Rests {M : Type 0} (device : M → Device) (Ended : OverMedium Standing M → Type 0) (d : Device) (left : M)
+    : Type 0 where
+  pub last : OverMedium Standing M
   pub ended : Ended last
-  pub rests : left ≡ device_in d last
+  pub medium : left ≡ last.medium
+  pub rests : device left ≡ device_in d last.state
 
 -- What `start`, the n-th line, comes to where its fleet is not opened, or its answer can't be written or flushed.
 abbrev pub StartFails : ScriptFault → ℕ → Device → ℕ → SetUp → Option (List ℕ) → Option (List ℕ) → Type 0
@@ -51,24 +58,24 @@ pub record RunsTo {M : Type 0} (step : M → MediumCall → M → Type 0) (tells
   pub transcribed : Transcribes (RanCalling step tells) (layers_of_text device text old) (events_in text)
       (over last new) before after
 
--- Where the script that is run first leaves a session, by its `start`: without one nothing is set up; with one it runs,
--- and has written its transcript.
+-- Where the script that is run first leaves a session, by its `start`: without one nothing is set up, and no call was
+-- made of the medium; with one it runs, and has written its transcript.
 abbrev pub Opens : {M : Type 0} → (M → MediumCall → M → Type 0) → Bool → (M → Device) → ℕ → List ℕ → M → Option ℕ
-    → Standing → Option (List ℕ) → Option (List ℕ) → Type 0
+    → OverMedium Standing M → Option (List ℕ) → Option (List ℕ) → Type 0
 Opens step tells device blocks text medium None first before told =
-    Begins (text_lines text) × (first ≡ Setting nothing_set_up) × (told ≡ before)
+    Begins (text_lines text) × (first ≡ over (Setting nothing_set_up) medium) × (told ≡ before)
 Opens {M} step tells device blocks text medium (Some n) first before told =
     IsScript text blocks × (last : Layers) × (mid : M) × RunsTo step tells device text medium last mid before told
-    × (first ≡ Running last)
+    × (first ≡ over (Running last) mid)
 
 -- A session behind a script, from where that left it to an end of which something is said.
 pub record Lives {M : Type 0} (step : M → MediumCall → M → Type 0) (tells : Bool) (device : M → Device) (blocks : ℕ)
-    (text : List ℕ) (medium : M) (before : Option (List ℕ)) (left : Device)
-    (Ended : Standing → Option (List ℕ) → Standing → Type 0) : Type 0 where
-  pub first : Standing
+    (text : List ℕ) (medium : M) (before : Option (List ℕ)) (left : M)
+    (Ended : OverMedium Standing M → Option (List ℕ) → OverMedium Standing M → Type 0) : Type 0 where
+  pub first : OverMedium Standing M
   pub told : Option (List ℕ)
   pub opened : Opens step tells device blocks text medium (start_of (text_lines text)) first before told
-  pub rests : Rests (Ended first told) (device medium) left
+  pub rests : Rests device (Ended first told) (device medium) left
 
 -- The script stopped at a line of its transcript that was not written whole; or it was, and not flushed.
 abbrev pub ScriptStops : {M : Type 0} → (M → MediumCall → M → Type 0) → Bool → (M → Device) → ℕ → List ℕ → M → M
@@ -89,24 +96,45 @@ StartRefused (Syntax k) n fault reason before after = ⊥
 StartRefused TooLong n fault reason before after = ⊥
 StartRefused Read n fault reason before after = ⊥
 
--- What becomes of a script that does not run to its end: it is refused, and nothing was changed; or it stops.
-abbrev pub FailsFirst : {M : Type 0} → (M → MediumCall → M → Type 0) → Bool → (M → Device) → ℕ → List ℕ → M
-    → ScriptFault → M → Option (List ℕ) → Option (List ℕ) → Type 0
-FailsFirst step tells device blocks text medium fault left before after =
-    (IsEarlyFault fault text blocks × (left ≡ medium) × (after ≡ before))
-    ⊎ ((fault ≡ Write) × ScriptStops step tells device blocks text medium left before after)
+-- What becomes of a script that does not run to its end: it is refused, nothing was written, and no call was made of the
+-- medium; or it stops.
+abbrev pub FailsFirst : {M W : Type 0} → (M → MediumCall → M → Type 0) → Bool → (M → Device) → (W → Option (List ℕ))
+    → ℕ → List ℕ → ScriptFault → M → M → W → W → Type 0
+FailsFirst step tells device contents blocks text fault medium left old new =
+    (IsEarlyFault fault text blocks × (left ≡ medium) × (new ≡ old))
+    ⊎ ((fault ≡ Write) × ScriptStops step tells device blocks text medium left (contents old) (contents new))
 
--- What a fault says: of the script, and no line of the session was read; or of the session.
-abbrev pub Fails : {M : Type 0} → (M → MediumCall → M → Type 0) → Bool → (M → Device) → ℕ → List ℕ → M
-    → ScriptFault → M → Option (List ℕ) → Option (List ℕ) → Option (List ℕ) → Option (List ℕ) → Type 0
-Fails step tells device blocks text medium fault left unread rest before after =
-    (FailsFirst step tells device blocks text medium fault left before after × (rest ≡ unread))
-    ⊎ Lives step tells device blocks text medium before (device left) (λ first told last.
-    EndsBy fault tells blocks (device medium) 1 first last unread rest told after)
+-- What a session has besides its script: its input, its output, and its medium.
+pub record Surroundings (R W M : Type 0) : Type 0 where
+  pub reader : R
+  pub writer : W
+  pub medium : M
+
+abbrev pub surroundings : {R W M : Type 0} → R → W → M → Surroundings R W M
+surroundings r w m = record { reader = r; writer = w; medium = m }
+
+-- What a fault says: of the script, and the input was not called; or of the session.
+abbrev pub Fails : {M R W : Type 0} → (M → MediumCall → M → Type 0) → Bool → (M → Device) → (R → Option (List ℕ))
+    → (W → Option (List ℕ)) → ℕ → List ℕ → ScriptFault → Surroundings R W M → Surroundings R W M → Type 0
+Fails step tells device remaining contents blocks text fault old new =
+    (FailsFirst step tells device contents blocks text fault old.medium new.medium old.writer new.writer
+    × (new.reader ≡ old.reader))
+    ⊎ Lives step tells device blocks text old.medium (contents old.writer) new.medium (λ first told last.
+    EndsBy fault (TurnOver step tells blocks (device old.medium)) standing_over 1 first last (remaining old.reader)
+    (remaining new.reader) told (contents new.writer))
+
+-- The script was read by its reads and no others. Where it could not be read the fault is that, and neither the input nor
+-- the output nor the medium was called; else something is said of its text.
+abbrev pub FailsBehindReading : {S A : Type 0} → (S → ReadCall → S → Type 0) → (S → Option (List ℕ)) → S → S
+    → ScriptFault → A → A → (List ℕ → Type 0) → Type 0
+FailsBehindReading read remaining script after fault old new With = (outcome : Result (List ℕ) ReadFault)
+    × IsRead read remaining script outcome after
+    × MatchResult outcome With (λ reading. (fault ≡ of_reading reading) × (new ≡ old))
 
 -- A session that came to the end of its input.
-abbrev pub LivesOn : {M : Type 0} → (M → MediumCall → M → Type 0) → Bool → (M → Device) → ℕ → List ℕ → M → M
-    → Option (List ℕ) → Option (List ℕ) → Option (List ℕ) → Option (List ℕ) → Type 0
-LivesOn step tells device blocks text medium left unread rest before after =
-    Lives step tells device blocks text medium before (device left) (λ first told last.
-    Ends tells blocks (device medium) 1 first last unread rest told after)
+abbrev pub LivesOn : {M R W : Type 0} → (M → MediumCall → M → Type 0) → Bool → (M → Device) → (R → Option (List ℕ))
+    → (W → Option (List ℕ)) → ℕ → List ℕ → Surroundings R W M → Surroundings R W M → Type 0
+LivesOn step tells device remaining contents blocks text old new =
+    Lives step tells device blocks text old.medium (contents old.writer) new.medium (λ first told last.
+    Ends (TurnOver step tells blocks (device old.medium)) 1 first last (remaining old.reader) (remaining new.reader)
+    told (contents new.writer))

@@ -2,6 +2,8 @@
 use Rattle.std.specs.Prelude.{◌≡◌, ◌<◌, ◌-◌, ◌^◌, ℕ, Bool, true, false, List, [], ◌∷◌, Option, Some}
 use Rattle.std.specs.List.{list_any}
 use Rattle.nvme_spec.specs.Blocks.{Device}
+use Rattle.nvme_spec.specs.MediumCalls.{MediumCall}
+use Rattle.nvme_subsys.specs.OverMedium.{OverMedium}
 use Rattle.nvme_live.specs.SetUps.{SetUp}
 use Rattle.nvme_event.specs.declared.event.FleetEvent.{FleetEvent}
 use Rattle.nvme_event.specs.Replies.{Reply}
@@ -11,11 +13,25 @@ use Rattle.nvme_fleet.specs.Unique.{HaveTicketsOnce}
 use Rattle.nvme_grammar.specs.Script.{is_start}
 use Rattle.nvme_live.specs.declared.asking.Asked.{Asked}
 use Rattle.nvme_live.specs.declared.asking.Asked.TheVariants.{Fails, Nothing, Looks, Sets, Does}
+use Rattle.nvme_live.specs.AnswerCalls.{TurnOver}
 use Rattle.nvme_live.specs.Asking.{asked}
 use Rattle.nvme_live.specs.Conversations.{Ends}
 use Rattle.nvme_live.specs.Keeping.{is_block_look}
 use Rattle.nvme_live.specs.Lives.{device_in}
-use Rattle.nvme_live.specs.Standings.{Standing, Setting, Running, Over, Session}
+use Rattle.nvme_live.specs.Standings.{LineByLine, Over, Running, Session, Setting, Standing, TurnOf}
+
+-- What went over a medium, by exactly its calls, went so in the session's standings alone, with the same answers.
+abbrev pub SessionsStandAlone : {M : Type 0} → (M → MediumCall → M → Type 0) → Bool → Type 0
+SessionsStandAlone {M} step tells =
+    (blocks : ℕ) (d : Device) (n : ℕ) (old new : OverMedium Standing M) (lines answers : List (List ℕ))
+    → LineByLine (TurnOver step tells blocks d) n old lines answers new
+    → Session tells blocks d n old.state lines answers new.state
+
+abbrev pub EndsStandAlone : {M : Type 0} → (M → MediumCall → M → Type 0) → Bool → Type 0
+EndsStandAlone {M} step tells =
+    (blocks : ℕ) (d : Device) (n : ℕ) (old new : OverMedium Standing M) (unread left before after : Option (List ℕ))
+    → Ends (TurnOver step tells blocks d) n old new unread left before after
+    → Ends (TurnOf tells blocks d) n old.state new.state unread left before after
 
 -- how often a call of the medium has failed, where a session stands so
 abbrev pub failures_at : Device → Standing → ℕ
@@ -41,8 +57,8 @@ abbrev pub EndIsUnique : Type 0
 EndIsUnique =
     (blocks : ℕ) (d : Device) (n : ℕ) (old new other : Standing) (text before : List ℕ)
     (left right after another : Option (List ℕ)) → HasTicketsOnce old
-    → Ends true blocks d n old new (Some text) left (Some before) after
-    → Ends true blocks d n old other (Some text) right (Some before) another
+    → Ends (TurnOf true blocks d) n old new (Some text) left (Some before) after
+    → Ends (TurnOf true blocks d) n old other (Some text) right (Some before) another
     → failures_at d new ≡ failures_at d old → failures_at d other ≡ failures_at d old
     → failures_at d old < 2 ^ 64 - 1 → (other ≡ new) × (another ≡ after)
 

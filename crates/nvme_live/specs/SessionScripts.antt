@@ -7,6 +7,7 @@ use Rattle.nvme_spec.specs.declared.config.ConfigFault.{ConfigFault}
 use Rattle.nvme_spec.specs.MediumCalls.{MediumCall}
 use Rattle.nvme_event.specs.declared.event.FleetEvent.{FleetEvent}
 use Rattle.nvme_event.specs.Replies.{Reply}
+use Rattle.nvme_subsys.specs.OverMedium.{OverMedium}
 use Rattle.nvme_fleet.specs.FleetStates.{Layers, opening_layers}
 use Rattle.nvme_fleet.specs.Layers.{Run}
 use Rattle.script_text.specs.Lines.{text_lines}
@@ -14,6 +15,7 @@ use Rattle.script_text.specs.Reading.{longest}
 use Rattle.nvme_grammar.specs.Script.{Begins, configuration_of, start_of}
 use Rattle.nvme_script.specs.Faults.{IsScript, IsEarlyFault, Runs, Transcribes, events_in}
 use Rattle.nvme_script.specs.declared.run.ScriptFault.TheVariants.{Config}
+use Rattle.nvme_live.specs.AnswerCalls.{TurnOver}
 use Rattle.nvme_live.specs.Conversations.{Converses}
 use Rattle.nvme_live.specs.Keeping.{LookWell, RunAmidLooks, event_answers, kept_lines}
 use Rattle.nvme_live.specs.Lives.{Opens}
@@ -76,21 +78,21 @@ pub record IsAScript (Ran : Layers → List FleetEvent → List Reply → Layers
 -- medium as it was: its text is a script, which set up what the session set up, and whose run is the session's.
 abbrev pub SessionIsAScript : {M : Type 0} → (M → MediumCall → M → Type 0) → Bool → (M → Device) → Type 0
 SessionIsAScript {M} step tells device =
-    (blocks : ℕ) → (first : List ℕ) → (medium : M) → (from last : Standing) → (next : ℕ)
+    (blocks : ℕ) → (first : List ℕ) → (medium : M) → (from last : OverMedium Standing M) → (next : ℕ)
     → (before told unread left after : Option (List ℕ))
     → Opens step tells device blocks first medium (start_of (text_lines first)) from before told
-    → (h : Converses tells blocks (device medium) 1 from next last unread left told after)
+    → (h : Converses (TurnOver step tells blocks (device medium)) 1 from next last unread left told after)
     → LookWell tells 1 h.lines h.answers
-    → IsAScript (Run tells) blocks (device medium) first h.lines h.answers last before told
+    → IsAScript (Run tells) blocks (device medium) first h.lines h.answers last.state before told
 
 -- Of any session it is so but for its run, which is one amid looks at blocks.
 abbrev pub SessionIsAScriptAmidLooks : {M : Type 0} → (M → MediumCall → M → Type 0) → Bool → (M → Device) → Type 0
 SessionIsAScriptAmidLooks {M} step tells device =
-    (blocks : ℕ) → (first : List ℕ) → (medium : M) → (from last : Standing) → (next : ℕ)
+    (blocks : ℕ) → (first : List ℕ) → (medium : M) → (from last : OverMedium Standing M) → (next : ℕ)
     → (before told unread left after : Option (List ℕ))
     → Opens step tells device blocks first medium (start_of (text_lines first)) from before told
-    → (h : Converses tells blocks (device medium) 1 from next last unread left told after)
-    → IsAScript (RunAmidLooks tells) blocks (device medium) first h.lines h.answers last before told
+    → (h : Converses (TurnOver step tells blocks (device medium)) 1 from next last unread left told after)
+    → IsAScript (RunAmidLooks tells) blocks (device medium) first h.lines h.answers last.state before told
 
 -- A text that was played, and is not too long, is a script in the sense of `run_script`, and has run as that says.
 abbrev pub PlayedIsARun : Type 0

@@ -1,5 +1,5 @@
 -- What a session has set up before `start`, and which of its lines did.
-use Rattle.std.specs.Prelude.{ℕ, List, [], ◌∷◌, ◌++◌, slice_get, Option, None, Some, option_map}
+use Rattle.std.specs.Prelude.{◌≤◌, ◌<◌, ◌⊎◌, ℕ, List, [], ◌∷◌, ◌++◌, length, slice_get, vec_capacity, Option, None, Some, option_map}
 use Rattle.nvme_spec.specs.Configuration.{Configuration, empty_configuration}
 use Rattle.nvme_spec.specs.declared.config.Config.{Config}
 use Rattle.nvme_spec.specs.declared.config.ConfigFault.{ConfigFault}
@@ -64,6 +64,25 @@ with_line n s line = record {
   configuration = set_by s.configuration line;
   numbers = numbered_by n s.numbers line;
 }
+
+-- The room that is made before the first line: for one more of each kind than a configuration may have.
+pub record HasSetUpRoom (config : Config) (numbers : LineNumbers) : Type 0 where
+  pub controllers : 17 ≤ vec_capacity config.controllers
+  pub namespaces : 9 ≤ vec_capacity config.namespaces
+  pub attached : 129 ≤ vec_capacity config.attached
+  pub of_controllers : 17 ≤ vec_capacity numbers.controllers
+  pub of_namespaces : 9 ≤ vec_capacity numbers.namespaces
+  pub of_attachments : 129 ≤ vec_capacity numbers.attached
+
+-- There are more lines of this one's kind already than a configuration may have: only then can it want memory.
+abbrev pub IsCrowded : SetUp → Line → Type 0
+IsCrowded s Blank = ⊥
+IsCrowded s (Controller k) =
+    (16 < length s.configuration.controllers) ⊎ (16 < length s.numbers.of_controllers)
+IsCrowded s (Namespace n) = (8 < length s.configuration.namespaces) ⊎ (8 < length s.numbers.of_namespaces)
+IsCrowded s (Attached k n) = (128 < length s.configuration.attached) ⊎ (128 < length s.numbers.of_attachments)
+IsCrowded s Start = ⊥
+IsCrowded s (Event event) = ⊥
 
 -- the number of the i-th line of a kind, from 0
 abbrev pub number_of : Numbers → SetupLine → Option ℕ

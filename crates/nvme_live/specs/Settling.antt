@@ -2,7 +2,7 @@
 use Rattle.std.specs.Prelude.{◌≡◌, ℕ, List, Option, Result, Ok, Err}
 use Rattle.std.specs.Io.KnownBytes.{Appends}
 use Rattle.nvme_spec.specs.Blocks.{Device}
-use Rattle.nvme_live.specs.SetUps.{SetUp}
+use Rattle.nvme_live.specs.SetUps.{IsCrowded, SetUp}
 use Rattle.nvme_grammar.specs.declared.line.Line.{Line}
 use Rattle.nvme_grammar.specs.declared.line.Line.TheVariants.{Start}
 use Rattle.nvme_script.specs.declared.run.ScriptFault.{ScriptFault}
@@ -19,7 +19,7 @@ abbrev pub SettlesAlike : ℕ → SetUp → Asked → List ℕ → SetUp → Typ
 SettlesAlike n old asks answer new = (blocks : ℕ) (d : Device) → Settles blocks d n old asks answer (Setting new)
 
 -- It was answered; or it is `start`, and nothing was written yet; or its answer was not written whole, or not flushed; or
--- no memory was found for it.
+-- there are too many of its kind already, and no memory was found for it.
 abbrev pub Comes : Result Settled ScriptFault → ℕ → SetUp → Asked → SetUp → Option (List ℕ)
     → Option (List ℕ) → Type 0
 Comes (Ok Answered) n old asks new before after =
@@ -28,7 +28,7 @@ Comes (Ok Started) n old asks new before after = (asks ≡ Sets Start) × (new �
 Comes (Err Write) n old asks new before after =
     (answer : List ℕ) × SettlesAlike n old asks answer new × Breaks before after answer
 Comes (Err NoMemory) n old asks new before after =
-    (line : Line) × (asks ≡ Sets line) × (new ≡ old) × (after ≡ before)
+    (line : Line) × (asks ≡ Sets line) × IsCrowded old line × (new ≡ old) × (after ≡ before)
 Comes (Err (Syntax k)) n old asks new before after = ⊥
 Comes (Err (Config k fault)) n old asks new before after = ⊥
 Comes (Err TooLong) n old asks new before after = ⊥

@@ -75,11 +75,19 @@ Turn tells blocks d n (Running old) asks answer new =
     (later : Layers) × AnswersLine tells n asks old answer later × (new ≡ Running later)
 Turn tells blocks d n (Over k fault) asks answer new = ⊥
 
--- Lines from the n-th on, one after the other, and the answer of each. Between two lines the session stands in one way.
+-- what the n-th line is answered, by its bytes
+abbrev pub TurnOf : Bool → ℕ → Device → ℕ → Standing → List ℕ → List ℕ → Standing → Type 0
+TurnOf tells blocks d n old line answer new = Turn tells blocks d n old (asked line) answer new
+
+-- Lines from the n-th on, one after the other, and the answer of each, in some sense of a turn. Between two lines the
+-- session stands in one way.
+abbrev pub LineByLine : {S : Type 0} → (ℕ → S → List ℕ → List ℕ → S → Type 0) → ℕ → S → List (List ℕ)
+    → List (List ℕ) → S → Type 0
+LineByLine Turns n old [] [] new = new ≡ old
+LineByLine {S} Turns n old (line ∷ lines) (answer ∷ answers) new =
+    (mid : S) × Turns n old line answer mid × LineByLine Turns (n + 1) mid lines answers new
+LineByLine Turns n old [] (answer ∷ answers) new = ⊥
+LineByLine Turns n old (line ∷ lines) [] new = ⊥
+
 abbrev pub Session : Bool → ℕ → Device → ℕ → Standing → List (List ℕ) → List (List ℕ) → Standing → Type 0
-Session tells blocks d n old [] [] new = new ≡ old
-Session tells blocks d n old (line ∷ lines) (answer ∷ answers) new =
-    (mid : Standing) × Turn tells blocks d n old (asked line) answer mid
-    × Session tells blocks d (n + 1) mid lines answers new
-Session tells blocks d n old [] (answer ∷ answers) new = ⊥
-Session tells blocks d n old (line ∷ lines) [] new = ⊥
+Session tells blocks d n old lines answers new = LineByLine (TurnOf tells blocks d) n old lines answers new

@@ -2,9 +2,11 @@
 
 ghost use Rattle.std.specs.Prelude.{◌≡◌, ◌<◌, ℕ, IfErr, IfOk, length};
 ghost use Rattle.nvme_spec.specs.Blocks.{Device};
-ghost use Rattle.nvme_live.specs.SetUps.{set_up_of};
+ghost use Rattle.nvme_live.specs.SetUps.{HasSetUpRoom, set_up_of};
 ghost use Rattle.nvme_fleet.specs.FleetStates.{layers_of};
-ghost use Rattle.nvme_live.specs.Conversations.{Ends, EndsBy, SetsUp};
+ghost use Rattle.nvme_subsys.specs.OverMedium.{over};
+ghost use Rattle.nvme_live.specs.AnswerCalls.{TurnOver};
+ghost use Rattle.nvme_live.specs.Conversations.{Ends, EndsBy, SetsUp, standing_over};
 ghost use Rattle.nvme_live.specs.Lives.{Rests};
 ghost use Rattle.nvme_live.specs.Standings.{Running};
 
@@ -36,6 +38,7 @@ pub fn set_up<R: BufRead, W: Write>(
     requires bytes_room { length bytes.old ≡ 2097153 }
     requires identifiers_room { length identifiers.old ≡ 2097153 }
     requires blocks_room { length blocks.old ≡ 2097153 }
+    requires room { HasSetUpRoom config.old numbers.old }
     ensures { SetsUp result (set_up_of config.old numbers.old) (set_up_of config.new numbers.new)
         (R.remaining reader.old) (R.remaining reader.new) (W.contents writer.old) (W.contents writer.new) }
 {
@@ -70,11 +73,14 @@ fn converse<R: BufRead, W: Write, M: Medium>(
     requires bytes_room { length bytes.old ≡ 2097153 }
     requires identifiers_room { length identifiers.old ≡ 2097153 }
     requires blocks_room { length blocks.old ≡ 2097153 }
-    ensures ok { IfOk result (λ _. (size : ℕ) (d : Device) → Ends M.tells size d first
-        (Running (layers_of fleet.old.state)) (Running (layers_of fleet.new.state))
+    ensures ok { IfOk result (λ _. (size : ℕ) (d : Device) → Ends (TurnOver M.step M.tells size d) first
+        (over (Running (layers_of fleet.old.state)) fleet.old.medium)
+        (over (Running (layers_of fleet.new.state)) fleet.new.medium)
         (R.remaining reader.old) (R.remaining reader.new) (W.contents writer.old) (W.contents writer.new)) }
-    ensures fault { IfErr result (λ e. (size : ℕ) (d : Device) → EndsBy e M.tells size d first
-        (Running (layers_of fleet.old.state)) (Running (layers_of fleet.new.state))
+    ensures fault { IfErr result (λ e. (size : ℕ) (d : Device)
+        → EndsBy e (TurnOver M.step M.tells size d) standing_over first
+        (over (Running (layers_of fleet.old.state)) fleet.old.medium)
+        (over (Running (layers_of fleet.new.state)) fleet.new.medium)
         (R.remaining reader.old) (R.remaining reader.new) (W.contents writer.old) (W.contents writer.new)) }
 {
     for number in first..u64::MAX {
@@ -102,12 +108,14 @@ pub fn run_on<R: BufRead, W: Write, M: Medium>(
     requires bytes_room { length rooms.old.bytes.items ≡ 2097153 }
     requires identifiers_room { length rooms.old.identifiers.items ≡ 2097153 }
     requires blocks_room { length rooms.old.blocks.items ≡ 2097153 }
-    ensures ok { IfOk result (λ after. (size : ℕ) (d : Device) → Rests (λ last. Ends M.tells size d first
-        (Running (layers_of fleet.state)) last (R.remaining reader.old) (R.remaining reader.new)
-        (W.contents writer.old) (W.contents writer.new)) d (M.device after)) }
-    ensures fault { IfErr result (λ e. (size : ℕ) (d : Device) → Rests (λ last. EndsBy e.0 M.tells size d first
-        (Running (layers_of fleet.state)) last (R.remaining reader.old) (R.remaining reader.new)
-        (W.contents writer.old) (W.contents writer.new)) d (M.device e.1)) }
+    ensures ok { IfOk result (λ after. (size : ℕ) (d : Device)
+        → Rests M.device (λ last. Ends (TurnOver M.step M.tells size d) first
+        (over (Running (layers_of fleet.state)) fleet.medium) last (R.remaining reader.old) (R.remaining reader.new)
+        (W.contents writer.old) (W.contents writer.new)) d after) }
+    ensures fault { IfErr result (λ e. (size : ℕ) (d : Device)
+        → Rests M.device (λ last. EndsBy e.0 (TurnOver M.step M.tells size d) standing_over first
+        (over (Running (layers_of fleet.state)) fleet.medium) last (R.remaining reader.old) (R.remaining reader.new)
+        (W.contents writer.old) (W.contents writer.new)) d e.1) }
 {
     let ran = converse(
         first,

@@ -1,7 +1,7 @@
 //! What follows from the definition of a session.
 
 ghost use Rattle.nvme_live.specs.Keeping.{KeptLinesAreARun, KeptLinesRunAmidLooks, KeptLinesTranscribe};
-ghost use Rattle.nvme_live.specs.SessionLaws.{EndIsUnique, LinesBeforeStartAreAnswered, LinesOfARunAreAnswered, SessionIsUnique, StartIsAnswered};
+ghost use Rattle.nvme_live.specs.SessionLaws.{EndIsUnique, EndsStandAlone, LinesBeforeStartAreAnswered, LinesOfARunAreAnswered, SessionIsUnique, SessionsStandAlone, StartIsAnswered};
 ghost use Rattle.nvme_live.specs.SessionScripts.{PlayedIsARun, RefusedIsAFault, ReplaysAlike, SessionIsAScript, SessionIsAScriptAmidLooks};
 ghost use Rattle.nvme_live.specs.SetUpLaws.{RefusalNamesALine, SetUpIsNumbered};
 ghost use Rattle.nvme_live.specs.Taking.{LinesAreKnown};
@@ -31,6 +31,13 @@ pub fn session_is_a_script<M: Medium>()
     ensures run { PlayedIsARun }
     ensures refused { RefusedIsAFault }
     ensures alike { ReplaysAlike }
+{}
+
+/// A session over a medium, which its lines call in their order, each by exactly its own calls, is one of what the session
+/// stands at alone, of which the other laws speak: with the same lines, answers and end.
+pub fn session_stands_alone<M: Medium>()
+    ensures lines { SessionsStandAlone M.step M.tells }
+    ensures end { EndsStandAlone M.step M.tells }
 {}
 
 /// Over a medium that tells its content, and none of whose calls fails, a session is determined: its lines have one list

@@ -17,5 +17,5 @@ mod setting;
 mod turn;
 mod views;
 
-pub use program::run_program;
+pub use program::{run_in, run_program};
 pub use session::run_live;

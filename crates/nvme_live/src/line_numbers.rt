@@ -9,6 +9,15 @@ use nvme_script::{BrokenRule, ConfigReason, SetupLine};
 use nvme_spec::{Config, ConfigFault};
 use std::alloc::{AllocError, Global};
 
+/// The most controllers of a configuration.
+const MOST_CONTROLLERS: usize = 16;
+
+/// The most namespaces.
+const MOST_NAMESPACES: usize = 8;
+
+/// The most attachments.
+const MOST_ATTACHMENTS: usize = 128;
+
 /// The numbers of the lines of a session that set up a configuration, in the order of its lists.
 #[derive(Drop)]
 pub struct LineNumbers {
@@ -41,17 +50,33 @@ impl LineNumbers {
     }
 }
 
-/// Adds to a configuration what a line sets up, and the line's number to those of its kind. Where memory is refused
-/// nothing is added to either.
+/// Makes room for one more line of each kind than a configuration may have, so that no memory is taken for these.
+pub(crate) fn make_room(config: &mut Config, numbers: &mut LineNumbers) -> Result<(), AllocError>
+    ensures kept { spec.set_up_of config.new numbers.new ≡ spec.set_up_of config.old numbers.old }
+    ensures room { OnOk result (spec.HasSetUpRoom config.new numbers.new) }
+{
+    config.controllers.reserve(MOST_CONTROLLERS + 1)?;
+    config.namespaces.reserve(MOST_NAMESPACES + 1)?;
+    config.attached.reserve(MOST_ATTACHMENTS + 1)?;
+    numbers.controllers.reserve(MOST_CONTROLLERS + 1)?;
+    numbers.namespaces.reserve(MOST_NAMESPACES + 1)?;
+    numbers.attached.reserve(MOST_ATTACHMENTS + 1)
+}
+
+/// Adds to a configuration what a line sets up, and the line's number to those of its kind. Memory is taken only behind
+/// the room that was made; where it is refused nothing is added to either.
 pub fn set(
     number: u64,
     config: &mut Config,
     numbers: &mut LineNumbers,
     line: Line<'_>,
 ) -> Result<(), AllocError>
+    requires room { spec.HasSetUpRoom config.old numbers.old }
+    ensures room { spec.HasSetUpRoom config.new numbers.new }
     ensures ok { OnOk result (spec.set_up_of config.new numbers.new
         ≡ spec.with_line number (spec.set_up_of config.old numbers.old) (line_by_value line.entry)) }
     ensures err { OnErr result (spec.set_up_of config.new numbers.new ≡ spec.set_up_of config.old numbers.old) }
+    ensures crowded { OnErr result (spec.IsCrowded (spec.set_up_of config.old numbers.old) (line_by_value line.entry)) }
 {
     match line {
         Line::Controller(controller) => {

@@ -7,20 +7,21 @@ ghost use Rattle.nvme_spec.specs.Configuration.{first_config_fault};
 ghost use Rattle.nvme_ns.specs.Configured.{configuration};
 ghost use Rattle.nvme_fleet.specs.FleetStates.{layers_of, opening_layers};
 ghost use Rattle.nvme_grammar.specs.declared.line.Line.TheVariants.{Start};
-ghost use Rattle.nvme_script.specs.Faults.{IsReady, IsScript, ReadsThen, StopsAt, Transcribes, events_in, of_opening};
+ghost use Rattle.nvme_script.specs.Faults.{IsReady, IsScript, StopsAt, Transcribes, events_in, of_opening};
 ghost use Rattle.nvme_script.specs.ScriptCalls.{RanCalling};
 ghost use Rattle.nvme_subsys.specs.OverMedium.{over};
 ghost use Rattle.nvme_live.specs.Asking.{asked};
 ghost use Rattle.nvme_live.specs.declared.asking.Asked.TheVariants.{Sets};
-ghost use Rattle.nvme_live.specs.Conversations.{Ends, EndsBy};
-ghost use Rattle.nvme_live.specs.Lives.{Fails, FailsFirst, LivesOn, Rests, RunsTo, StartFails, StartRefused};
+ghost use Rattle.nvme_live.specs.AnswerCalls.{TurnOver};
+ghost use Rattle.nvme_live.specs.Conversations.{Ends, EndsBy, standing_over};
+ghost use Rattle.nvme_live.specs.Lives.{Fails, FailsBehindReading, FailsFirst, LivesOn, Rests, RunsTo, StartFails, StartRefused, surroundings};
 ghost use Rattle.nvme_live.specs.Saying.{with_feed};
-ghost use Rattle.nvme_live.specs.SetUps.{set_up_of};
+ghost use Rattle.nvme_live.specs.SetUps.{HasSetUpRoom, set_up_of};
 ghost use Rattle.nvme_live.specs.Standings.{Setting, refused_text, started_text};
 ghost use Rattle.nvme_live.specs.Taking.{TakesLine};
 
 use crate::conversation::{run_on, set_up};
-use crate::line_numbers::{LineNumbers, numbered_reason};
+use crate::line_numbers::{LineNumbers, make_room, numbered_reason};
 use crate::names::fault_name;
 use crate::opening::{Opening, prepare};
 use crate::rooms::Rooms;
@@ -103,6 +104,7 @@ fn start<W: Write, M: Medium>(
 ) -> Result<Fleet<M>, (ScriptFault, M)>
     ensures opened { IfOk result (λ fleet. layers_of fleet.state
         ≡ opening_layers (configuration config.now) (M.device medium)) }
+    ensures medium { IfOk result (λ fleet. fleet.medium ≡ medium) }
     ensures accepted { IfOk result (λ _. first_config_fault (configuration config.now) (M.size medium) ≡ None) }
     ensures said { IfOk result (λ _. Appends (W.contents writer.old) (W.contents writer.new) (with_feed started_text)) }
     ensures fault { IfErr result (λ e. StartFails e.0 (M.size medium) (M.device medium) number
@@ -139,14 +141,14 @@ fn run_from_start<R: BufRead, W: Write, M: Medium>(
     requires blocks_room { length rooms.old.blocks.items ≡ 2097153 }
     ensures ok { IfOk result (λ after. (line : List ℕ) (between : Option (List ℕ))
         → TakesLine between line (R.remaining reader.old) → asked line ≡ Sets Start
-        → Rests (λ last. Ends M.tells (M.size medium) (M.device medium) number (Setting (set_up_of config.now numbers.now)) last
-        between (R.remaining reader.new) (W.contents writer.old) (W.contents writer.new)) (M.device medium)
-        (M.device after)) }
+        → Rests M.device (λ last. Ends (TurnOver M.step M.tells (M.size medium) (M.device medium)) number
+        (over (Setting (set_up_of config.now numbers.now)) medium) last between (R.remaining reader.new)
+        (W.contents writer.old) (W.contents writer.new)) (M.device medium) after) }
     ensures fault { IfErr result (λ e. (line : List ℕ) (between : Option (List ℕ))
         → TakesLine between line (R.remaining reader.old) → asked line ≡ Sets Start
-        → Rests (λ last. EndsBy e.0 M.tells (M.size medium) (M.device medium) number (Setting (set_up_of config.now numbers.now))
-        last between (R.remaining reader.new) (W.contents writer.old) (W.contents writer.new)) (M.device medium)
-        (M.device e.1)) }
+        → Rests M.device (λ last. EndsBy e.0 (TurnOver M.step M.tells (M.size medium) (M.device medium)) standing_over
+        number (over (Setting (set_up_of config.now numbers.now)) medium) last between (R.remaining reader.new)
+        (W.contents writer.old) (W.contents writer.new)) (M.device medium) e.1) }
 {
     let started = start(
         alloc,
@@ -174,12 +176,17 @@ fn run_from_setting<R: BufRead, W: Write, M: Medium>(
     requires bytes_room { length opening.old.rooms.bytes.items ≡ 2097153 }
     requires identifiers_room { length opening.old.rooms.identifiers.items ≡ 2097153 }
     requires blocks_room { length opening.old.rooms.blocks.items ≡ 2097153 }
-    ensures ok { IfOk result (λ after. Rests (λ last. Ends M.tells (M.size medium) (M.device medium) 1
-        (Setting (set_up_of opening.old.script.config opening.old.numbers)) last (R.remaining reader.old) (R.remaining reader.new)
-        (W.contents writer.old) (W.contents writer.new)) (M.device medium) (M.device after)) }
-    ensures fault { IfErr result (λ e. Rests (λ last. EndsBy e.0 M.tells (M.size medium) (M.device medium) 1
-        (Setting (set_up_of opening.old.script.config opening.old.numbers)) last (R.remaining reader.old) (R.remaining reader.new)
-        (W.contents writer.old) (W.contents writer.new)) (M.device medium) (M.device e.1)) }
+    requires room { HasSetUpRoom opening.old.script.config opening.old.numbers }
+    ensures ok { IfOk result (λ after.
+        Rests M.device (λ last. Ends (TurnOver M.step M.tells (M.size medium) (M.device medium)) 1
+        (over (Setting (set_up_of opening.old.script.config opening.old.numbers)) medium) last
+        (R.remaining reader.old) (R.remaining reader.new) (W.contents writer.old) (W.contents writer.new))
+        (M.device medium) after) }
+    ensures fault { IfErr result (λ e.
+        Rests M.device (λ last. EndsBy e.0 (TurnOver M.step M.tells (M.size medium) (M.device medium)) standing_over 1
+        (over (Setting (set_up_of opening.old.script.config opening.old.numbers)) medium) last
+        (R.remaining reader.old) (R.remaining reader.new) (W.contents writer.old) (W.contents writer.new))
+        (M.device medium) e.1) }
 {
     let set = set_up(
         &mut opening.script.config,
@@ -220,10 +227,10 @@ fn run_events_of<W: Write, M: Medium>(
     ensures bytes { length opening.new.rooms.bytes.items ≡ 2097153 }
     ensures identifiers { length opening.new.rooms.identifiers.items ≡ 2097153 }
     ensures blocks { length opening.new.rooms.blocks.items ≡ length opening.old.rooms.blocks.items }
-    ensures calls { OnOk result (Transcribes (RanCalling M.step M.tells)
+    ensures ok { OnOk result (Transcribes (RanCalling M.step M.tells)
         (over (layers_of fleet.old.state) fleet.old.medium) (events_in opening.old.text.items)
         (over (layers_of fleet.new.state) fleet.new.medium) (W.contents writer.old) (W.contents writer.new)) }
-    ensures stopped { OnErr result (StopsAt (RanCalling M.step M.tells)
+    ensures err { OnErr result (StopsAt (RanCalling M.step M.tells)
         (over (layers_of fleet.old.state) fleet.old.medium) (events_in opening.old.text.items)
         (over (layers_of fleet.new.state) fleet.new.medium) (W.contents writer.old) (W.contents writer.new)) }
 {
@@ -256,8 +263,8 @@ fn run_first<W: Write, M: Medium>(
     ensures ok { IfOk result (λ fleet. IsScript opening.old.text.items (M.size medium)
         × RunsTo M.step M.tells M.device opening.old.text.items medium (layers_of fleet.state) fleet.medium
         (W.contents writer.old) (W.contents writer.new)) }
-    ensures fault { IfErr result (λ e. FailsFirst M.step M.tells M.device (M.size medium) opening.old.text.items medium
-        e.0 e.1 (W.contents writer.old) (W.contents writer.new)) }
+    ensures fault { IfErr result (λ e. FailsFirst M.step M.tells M.device W.contents (M.size medium)
+        opening.old.text.items e.0 medium e.1 writer.old writer.new) }
 {
     let mut fleet = match Fleet::new(alloc, &opening.script.config, medium) {
         Ok(fleet) => fleet,
@@ -287,12 +294,18 @@ fn refused_at(start: usize, fault: ConfigFault) -> ScriptFault
 /// and behind it the answer of each line, in their order: what `start` and the lines before it set up, what an event
 /// gives, or why a line is not carried out. A line that looks, and one that is not carried out, changes nothing.
 ///
+/// Of the medium exactly the calls of the events that happened and of the looks at blocks are made, in the order of their
+/// lines, and no other.
+///
 /// # Errors
 ///
-/// The faults of the script, which are those of `run_script`, and no line was read then. Behind it: `Config` where the
+/// The faults of the script, which are those of `run_script`. Where it can't be read or is refused, nothing is read of
+/// the input, nothing is written, and no call is made of the medium; where its transcript can't be written, nothing is
+/// read of the input. Behind it: `Config` where the
 /// session's own `start` is refused, with the number of that line, and it is answered so; `Write` where the answer of a
 /// line could not be written and flushed, and what that line does was done; `Read` where the next line could not be read
-/// whole; `NoMemory` where no memory was found for a line before `start`, or for the fleet. The medium is as after the
+/// whole; `NoMemory` where no memory was found for the fleet, or for a line before `start` of whose kind there are more
+/// already than a configuration may have. The medium is as after the
 /// last event.
 pub fn run_live<S: Source, R: BufRead, W: Write, M: Medium>(
     alloc: Global,
@@ -303,18 +316,23 @@ pub fn run_live<S: Source, R: BufRead, W: Write, M: Medium>(
 ) -> Result<M, (ScriptFault, M)>
     // The input was read to its end.
     ensures ok { IfOk result (λ after. (text : List ℕ) × IsRead S.step S.remaining script.old (Ok text) script.new
-        × LivesOn M.step M.tells M.device (M.size medium) text medium after (R.remaining reader.old)
-        (R.remaining reader.new) (W.contents writer.old) (W.contents writer.new)) }
-    // What each fault says of the script's reads, of the text that they gave, and of the session behind it.
-    ensures fault { IfErr result (λ e. ReadsThen S.step S.remaining script.old script.new e.0 (λ text.
-        Fails M.step M.tells M.device (M.size medium) text medium e.0 e.1 (R.remaining reader.old)
-        (R.remaining reader.new) (W.contents writer.old) (W.contents writer.new))) }
+        × LivesOn M.step M.tells M.device R.remaining W.contents (M.size medium) text
+        (surroundings reader.old writer.old medium) (surroundings reader.new writer.new after)) }
+    // What each fault says of the script's reads, of the text that they gave, and of the session behind it. A script that
+    // can't be read, or is refused, leaves the input, the output and the medium uncalled.
+    ensures fault { IfErr result (λ e. FailsBehindReading S.step S.remaining script.old script.new e.0
+        (surroundings reader.old writer.old medium) (surroundings reader.new writer.new e.1) (λ text.
+        Fails M.step M.tells M.device R.remaining W.contents (M.size medium) text e.0
+        (surroundings reader.old writer.old medium) (surroundings reader.new writer.new e.1))) }
 {
     let mut opening = match prepare(alloc, script) {
         Ok(opening) => opening,
         Err(fault) => return Err((fault, medium)),
     };
     let Some(start) = opening.script.start else {
+        if make_room(&mut opening.script.config, &mut opening.numbers).is_err() {
+            return Err((ScriptFault::NoMemory, medium));
+        }
         return run_from_setting(alloc, &mut opening, reader, writer, medium);
     };
     match run_first(alloc, start, &mut opening, writer, medium) {

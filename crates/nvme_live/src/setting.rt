@@ -6,7 +6,7 @@ ghost use Rattle.nvme_script.specs.declared.run.ScriptFault.TheVariants.{Write a
 ghost use Rattle.nvme_live.specs.Asking.{asked_by_value};
 ghost use Rattle.nvme_live.specs.declared.asking.Asked.TheVariants.{Sets};
 ghost use Rattle.nvme_live.specs.Settling.{Comes};
-ghost use Rattle.nvme_live.specs.SetUps.{set_up_of};
+ghost use Rattle.nvme_live.specs.SetUps.{HasSetUpRoom, set_up_of};
 ghost use Rattle.nvme_live.specs.declared.setting.Settled.TheVariants.{Answered as IsAnswered};
 
 use crate::asking::Asked;
@@ -49,7 +49,9 @@ fn take<W: Write>(
     text: &mut String,
     writer: &mut W,
 ) -> Result<Settled, ScriptFault>
-    ensures { Comes result number (set_up_of config.old numbers.old) (Sets (line_by_value line.entry))
+    requires { HasSetUpRoom config.old numbers.old }
+    ensures room { HasSetUpRoom config.new numbers.new }
+    ensures comes { Comes result number (set_up_of config.old numbers.old) (Sets (line_by_value line.entry))
         (set_up_of config.new numbers.new) (W.contents writer.old) (W.contents writer.new) }
 {
     match line {
@@ -70,7 +72,9 @@ pub fn settle<W: Write>(
     text: &mut String,
     writer: &mut W,
 ) -> Result<Settled, ScriptFault>
-    ensures { Comes result number (set_up_of config.old numbers.old) (asked_by_value asked.entry) (set_up_of config.new numbers.new)
+    requires { HasSetUpRoom config.old numbers.old }
+    ensures room { HasSetUpRoom config.new numbers.new }
+    ensures comes { Comes result number (set_up_of config.old numbers.old) (asked_by_value asked.entry) (set_up_of config.new numbers.new)
         (W.contents writer.old) (W.contents writer.new) }
 {
     match asked {

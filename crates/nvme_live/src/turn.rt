@@ -6,7 +6,9 @@ ghost use Rattle.live_text.specs.Faults.{refusal, why_by_value};
 ghost use Rattle.nvme_grammar.specs.Lent.{event_by_value};
 ghost use Rattle.nvme_fleet.specs.FleetStates.{layers_of};
 ghost use Rattle.nvme_live.specs.Asking.{asked_by_value};
-ghost use Rattle.nvme_live.specs.Answers.{AnswersLine, Sends, Happens, Shows, ShowsBlocks, place_of};
+ghost use Rattle.nvme_subsys.specs.OverMedium.{over};
+ghost use Rattle.nvme_live.specs.Answers.{Sends, place_of};
+ghost use Rattle.nvme_live.specs.AnswerCalls.{AnswersLineBy, HappensBy, ShowsBlocksBy, ShowsBy};
 ghost use Rattle.nvme_live.specs.Saying.{Breaks, with_feed};
 
 use crate::asking::Asked;
@@ -41,8 +43,9 @@ fn apply<W: Write, M: Medium>(
     text: &mut String,
     writer: &mut W,
 ) -> io::Result<()>
-    ensures { Sends result (λ answer. Happens M.tells (layers_of fleet.old.state) (event_by_value event.entry) answer
-        (layers_of fleet.new.state)) (W.contents writer.old) (W.contents writer.new) }
+    ensures { Sends result (λ answer. HappensBy M.step M.tells (over (layers_of fleet.old.state) fleet.old.medium)
+        (event_by_value event.entry) answer (over (layers_of fleet.new.state) fleet.new.medium))
+        (W.contents writer.old) (W.contents writer.new) }
 {
     let mut marks = Marks::none();
     let seen = fleet.apply_marking(event, &mut marks);
@@ -66,9 +69,9 @@ fn look_at_blocks<W: Write, M: Medium>(
 ) -> io::Result<()>
     requires { length blocks.old ≡ 2097153 }
     ensures { Sends result (λ answer.
-        ShowsBlocks (place_of place.0 place.1 place.2 (layers_of fleet.old.state)) M.tells number place.0 place.1
-        place.2 (layers_of fleet.old.state) answer (layers_of fleet.new.state))
-        (W.contents writer.old) (W.contents writer.new) }
+        ShowsBlocksBy M.step (place_of place.0 place.1 place.2 (layers_of fleet.old.state)) M.tells number place.0
+        place.1 place.2 (over (layers_of fleet.old.state) fleet.old.medium) answer
+        (over (layers_of fleet.new.state) fleet.new.medium)) (W.contents writer.old) (W.contents writer.new) }
 {
     let (nsid, slba, count) = place;
     if count == 0 || count > 256 {
@@ -101,8 +104,9 @@ fn look<W: Write, M: Medium>(
     writer: &mut W,
 ) -> io::Result<()>
     requires { length blocks.old ≡ 2097153 }
-    ensures { Sends result (λ answer. Shows M.tells number looking (layers_of fleet.old.state) answer
-        (layers_of fleet.new.state)) (W.contents writer.old) (W.contents writer.new) }
+    ensures { Sends result (λ answer. ShowsBy M.step M.tells number looking
+        (over (layers_of fleet.old.state) fleet.old.medium) answer (over (layers_of fleet.new.state) fleet.new.medium))
+        (W.contents writer.old) (W.contents writer.new) }
 {
     match looking {
         Looking::Blocks { nsid, slba, count } => {
@@ -122,8 +126,9 @@ pub fn answer<W: Write, M: Medium>(
     writer: &mut W,
 ) -> io::Result<()>
     requires { length blocks.old ≡ 2097153 }
-    ensures { Sends result (λ answer. AnswersLine M.tells number (asked_by_value asked.entry)
-        (layers_of fleet.old.state) answer (layers_of fleet.new.state)) (W.contents writer.old) (W.contents writer.new) }
+    ensures { Sends result (λ answer. AnswersLineBy M.step M.tells number (asked_by_value asked.entry)
+        (over (layers_of fleet.old.state) fleet.old.medium) answer (over (layers_of fleet.new.state) fleet.new.medium))
+        (W.contents writer.old) (W.contents writer.new) }
 {
     match asked {
         Asked::Fails(why) => refuse(number, why, text, writer),

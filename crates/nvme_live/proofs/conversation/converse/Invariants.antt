@@ -1,6 +1,8 @@
 use Rattle.std.proofs.Common.{◌≡◌, ℕ, length}
 use Rattle.nvme_spec.specs.Blocks.{Device}
 use Rattle.nvme_fleet.specs.FleetStates.{layers_of}
+use Rattle.nvme_subsys.specs.OverMedium.{over}
+use Rattle.nvme_live.specs.AnswerCalls.{TurnOver}
 use Rattle.nvme_live.specs.Conversations.{Converses}
 use Rattle.nvme_live.specs.Standings.{Running}
 use Rattle.nvme_live.proofs.conversation.converse.Given as goal
@@ -10,6 +12,6 @@ invariant-loop-number g l = record {
   bytes : length l.bytes ≡ 2097153;
   identifiers : length l.identifiers ≡ 2097153;
   blocks : length l.blocks ≡ 2097153;
-  conversed : (size : ℕ) (d : Device) → Converses g.M.Medium.tells size d l.first (Running (layers_of l.fn.fleet.state)) l.number (Running (layers_of l.fleet.state))
+  conversed : (size : ℕ) (d : Device) → Converses (TurnOver g.M.Medium.step g.M.Medium.tells size d) l.first (over (Running (layers_of l.fn.fleet.state)) l.fn.fleet.medium) l.number (over (Running (layers_of l.fleet.state)) l.fleet.medium)
       (g.R.Read.remaining l.fn.reader) (g.R.Read.remaining l.reader) (g.W.Write.contents l.fn.writer) (g.W.Write.contents l.writer);
 }

@@ -1,8 +1,8 @@
 use Rattle.std.proofs.Common.{◌≡◌, ℕ, Bool, length}
 use Rattle.nvme_spec.specs.Blocks.{Device}
-use Rattle.nvme_live.specs.SetUps.{set_up_of}
+use Rattle.nvme_live.specs.SetUps.{HasSetUpRoom, set_up_of}
 use Rattle.nvme_live.specs.Conversations.{Converses}
-use Rattle.nvme_live.specs.Standings.{Setting}
+use Rattle.nvme_live.specs.Standings.{Setting, TurnOf}
 use Rattle.nvme_live.proofs.conversation.set_up.Given as goal
 
 abbrev pub invariant-loop-number : goal.invariant-loop-number
@@ -10,6 +10,7 @@ invariant-loop-number g l = record {
   bytes : length l.bytes ≡ 2097153;
   identifiers : length l.identifiers ≡ 2097153;
   blocks : length l.blocks ≡ 2097153;
-  conversed : (tells : Bool) (blocks : ℕ) (d : Device) → Converses tells blocks d 1 (Setting (set_up_of l.fn.config l.fn.numbers)) l.number (Setting (set_up_of l.config l.numbers))
+  room : HasSetUpRoom l.config l.numbers;
+  conversed : (tells : Bool) (blocks : ℕ) (d : Device) → Converses (TurnOf tells blocks d) 1 (Setting (set_up_of l.fn.config l.fn.numbers)) l.number (Setting (set_up_of l.config l.numbers))
       (g.R.Read.remaining l.fn.reader) (g.R.Read.remaining l.reader) (g.W.Write.contents l.fn.writer) (g.W.Write.contents l.writer);
 }

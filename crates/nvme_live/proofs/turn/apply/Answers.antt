@@ -3,11 +3,12 @@ use Rattle.nvme_event.specs.Bare.{seen_of, seen_with}
 use Rattle.nvme_transcript.proofs.Unmarked.{line-unmarked}
 use Rattle.nvme_event.specs.Replies.{Reply}
 use Rattle.nvme_transcript.specs.Transcript.{seen_line}
+use Rattle.nvme_subsys.specs.OverMedium.{over}
 use Rattle.nvme_fleet.specs.FleetStates.{data_in, layers_of}
-use Rattle.nvme_fleet.proofs.LayerCalls.{layer_calls_are_of_a_step, replied}
+use Rattle.nvme_fleet.proofs.LayerCalls.{replied}
 use Rattle.nvme_grammar.specs.Lent.{event_by_value}
 use Rattle.nvme_script.proofs.ByValue.{calls-by_value, line-by_value}
-use Rattle.nvme_live.specs.Answers.{Happens}
+use Rattle.nvme_live.specs.AnswerCalls.{HappensBy}
 use Rattle.nvme_live.proofs.Turns.{answers-by}
 use Rattle.nvme_live.proofs.turn.apply.Goals as goal
 
@@ -19,12 +20,13 @@ returns g c =
     let new = layers_of c.apply_marking-seen.new.self.state in
     let reply : Reply = record { seen = (seen_with c.apply_marking-seen.new.marks c.apply_marking-seen.result); bytes = data_in c.apply_marking-seen.new.self.state } in
     let called = replied g.M.Medium.step tells old new event (seen_with c.apply_marking-seen.new.marks c.apply_marking-seen.result) (data_in c.apply_marking-seen.new.self.state) c.args.fleet.now.medium c.apply_marking-seen.new.self.medium c.apply_marking-seen.ensures.step c.apply_marking-seen.ensures.calls in
-    let step = layer_calls_are_of_a_step tells old new (event_by_value event) reply called.calls (calls-by_value tells old new event reply called.calls called.are) in
-    let happens : Happens tells old (event_by_value event) (seen_line event (seen_of c.apply_marking-seen.result) c.data-data.result.now) new = record {
+    let before = over old c.args.fleet.now.medium in
+    let after = over new c.apply_marking-seen.new.self.medium in
+    let happens : HappensBy g.M.Medium.step tells before (event_by_value event) (seen_line event (seen_of c.apply_marking-seen.result) c.data-data.result.now) after = record {
       reply = reply;
-      step = step;
+      calls = record { calls = called.calls; are = calls-by_value tells old new event reply called.calls called.are; made = called.made };
       says = ap (λ bytes. seen_line event (seen_of c.apply_marking-seen.result) bytes) c.data-data.ensures.value
           ∙ sym (line-unmarked c.apply_marking-seen.new.marks event c.apply_marking-seen.result (data_in c.apply_marking-seen.new.self.state)) ∙ sym (line-by_value event reply);
     } in
-    answers-by c.say.result (λ answer. Happens tells old (event_by_value event) answer new) (seen_line event (seen_of c.apply_marking-seen.result) c.data-data.result.now)
+    answers-by c.say.result (λ answer. HappensBy g.M.Medium.step tells before (event_by_value event) answer after) (seen_line event (seen_of c.apply_marking-seen.result) c.data-data.result.now)
     (g.W.Write.contents c.args.writer.now) (g.W.Write.contents c.say.new.writer) happens c.say.ensures.ok c.say.ensures.err

@@ -3,7 +3,9 @@ use Rattle.std.proofs.lemmas.List.{length-take-le}
 use Rattle.nvme_fleet.specs.FleetStates.{layers_of}
 use Rattle.live_text.specs.Faults.{refusal}
 use Rattle.live_text.specs.declared.fault.Why.TheVariants.{MediumFailed}
-use Rattle.nvme_live.specs.Answers.{ShowsBlocks, place_of}
+use Rattle.nvme_subsys.specs.OverMedium.{over}
+use Rattle.nvme_live.specs.Answers.{place_of}
+use Rattle.nvme_live.specs.AnswerCalls.{ShowsBlocksBy}
 use Rattle.nvme_live.specs.Saying.{with_feed}
 use Rattle.nvme_live.specs.Showing.{blocks_text}
 use Rattle.nvme_live.proofs.Turns.{answers-by, shows-blocks}
@@ -12,33 +14,33 @@ use Rattle.nvme_live.proofs.turn.look_at_blocks.Goals as goal
 pub returns-in-Some-Ok : goal.returns-in-Some-Ok
 returns-in-Some-Ok g c =
     let tells = g.M.Medium.tells in
-    let old = layers_of c.args.fleet.now.state in
-    let new = layers_of c.read_blocks.new.self.state in
+    let old = over (layers_of c.args.fleet.now.state) c.args.fleet.now.medium in
+    let new = over (layers_of c.read_blocks.new.self.state) c.read_blocks.new.self.medium in
     let m = c.args.place.0 in
     let slba = c.args.place.1 in
     let count = c.args.place.2 in
     let bytes = c.read_blocks.new.buffer in
     let long = length-take-le (512 * count) c.args.blocks.now (omega (arith, c.requires, c.if-count-gt256.false)) in
     let whole : length bytes ≡ 512 * count = omega (arith, c.read_blocks.auto.buffer, long) in
-    answers-by c.say.result (λ answer. ShowsBlocks (place_of m slba count old) tells c.args.number m slba count old answer new) (with_feed (blocks_text m slba count bytes))
+    answers-by c.say.result (λ answer. ShowsBlocksBy g.M.Medium.step (place_of m slba count old.state) tells c.args.number m slba count old answer new) (with_feed (blocks_text m slba count bytes))
     (g.W.Write.contents c.args.writer.now) (g.W.Write.contents c.say.new.writer)
-    (shows-blocks tells c.args.number m slba count _ old new bytes c.read_blocks.result (Ok c.in-Some-Ok.field-0-0) _ (c.in-Some-Ok.is ∙ ap Some c.in-Some-Ok.field-0-is) c.if-count-eq0.false c.if-count-gt256.false (omega (arith, long)) whole
-    c.read_blocks.ensures.look c.read_blocks.ensures.drivers refl)
+    (shows-blocks g.M.Medium.step tells c.args.number m slba count old new _ bytes _ c.read_blocks.result (Ok c.in-Some-Ok.field-0-0) _ (c.in-Some-Ok.is ∙ ap Some c.in-Some-Ok.field-0-is) c.if-count-eq0.false c.if-count-gt256.false (omega (arith, long)) whole
+    c.read_blocks.ensures.look c.read_blocks.ensures.calls c.read_blocks.ensures.drivers refl)
     c.say.ensures.ok c.say.ensures.err
 
 pub returns-in-Some-Err : goal.returns-in-Some-Err
 returns-in-Some-Err g c =
     let tells = g.M.Medium.tells in
-    let old = layers_of c.args.fleet.now.state in
-    let new = layers_of c.read_blocks.new.self.state in
+    let old = over (layers_of c.args.fleet.now.state) c.args.fleet.now.medium in
+    let new = over (layers_of c.read_blocks.new.self.state) c.read_blocks.new.self.medium in
     let m = c.args.place.0 in
     let slba = c.args.place.1 in
     let count = c.args.place.2 in
     let bytes = c.read_blocks.new.buffer in
     let long = length-take-le (512 * count) c.args.blocks.now (omega (arith, c.requires, c.if-count-gt256.false)) in
     let whole : length bytes ≡ 512 * count = omega (arith, c.read_blocks.auto.buffer, long) in
-    answers-by c.refuse-in-Some-Err.result (λ answer. ShowsBlocks (place_of m slba count old) tells c.args.number m slba count old answer new) (with_feed (refusal c.args.number MediumFailed))
+    answers-by c.refuse-in-Some-Err.result (λ answer. ShowsBlocksBy g.M.Medium.step (place_of m slba count old.state) tells c.args.number m slba count old answer new) (with_feed (refusal c.args.number MediumFailed))
     (g.W.Write.contents c.args.writer.now) (g.W.Write.contents c.refuse-in-Some-Err.new.writer)
-    (shows-blocks tells c.args.number m slba count _ old new bytes c.read_blocks.result (Err c.in-Some-Err.field-0-0) _ (c.in-Some-Err.is ∙ ap Some c.in-Some-Err.field-0-is) c.if-count-eq0.false c.if-count-gt256.false (omega (arith, long)) whole
-    c.read_blocks.ensures.look c.read_blocks.ensures.drivers refl)
+    (shows-blocks g.M.Medium.step tells c.args.number m slba count old new _ bytes _ c.read_blocks.result (Err c.in-Some-Err.field-0-0) _ (c.in-Some-Err.is ∙ ap Some c.in-Some-Err.field-0-is) c.if-count-eq0.false c.if-count-gt256.false (omega (arith, long)) whole
+    c.read_blocks.ensures.look c.read_blocks.ensures.calls c.read_blocks.ensures.drivers refl)
     c.refuse-in-Some-Err.ensures.ok c.refuse-in-Some-Err.ensures.err

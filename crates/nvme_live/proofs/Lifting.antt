@@ -1,0 +1,106 @@
+-- The lines before `start` over a medium: no call is made of it.
+use Rattle.std.proofs.Common.{◌≡◌, ◌+◌, ℕ, Bool, List, [], ◌∷◌, Option, refl, ap, subst}
+use Rattle.nvme_spec.specs.Blocks.{Device}
+use Rattle.nvme_spec.specs.MediumCalls.{MediumCall}
+use Rattle.nvme_spec.specs.declared.config.ConfigFault.{ConfigFault}
+use Rattle.nvme_subsys.specs.OverMedium.{over}
+use Rattle.nvme_fleet.specs.FleetStates.{Layers}
+use Rattle.nvme_script.specs.declared.run.ScriptFault.{ScriptFault}
+use Rattle.nvme_script.specs.declared.run.ScriptFault.TheVariants.{Syntax, Config, TooLong, NoMemory, Read, Write}
+use Rattle.nvme_live.specs.AnswerCalls.{TurnOver}
+use Rattle.nvme_live.specs.Conversations.{BreaksOff, Converses, Ends, EndsBy, alone, standing_over}
+use Rattle.nvme_live.specs.SetUps.{SetUp}
+use Rattle.nvme_live.specs.Standings.{LineByLine, Over, Running, Setting, Standing, TurnOf}
+
+not-running : (s : SetUp) (l : Layers) → Setting s ≡ Running l → ⊥
+not-running s l e = cc
+
+not-over : (s : SetUp) (k : ℕ) (fault : ConfigFault) → Setting s ≡ Over k fault → ⊥
+not-over s k fault e = cc
+
+module _ {M : Type 0} (step : M → MediumCall → M → Type 0) (tells : Bool) (blocks : ℕ) (d : Device) (m : M) where
+  -- a session that runs sets nothing up any more
+  runs-on : (lines answers : List (List ℕ)) (n : ℕ) (l : Layers) (s : SetUp) → LineByLine (TurnOf tells blocks d) n (Running l) lines answers (Setting s) → ⊥
+  runs-on [] [] n l s h = not-running s l h
+  runs-on [] (answer ∷ answers) n l s h = h
+  runs-on (line ∷ lines) [] n l s h = h
+  runs-on (line ∷ lines) (answer ∷ answers) n l s (mid, (later, says, is), rest) =
+      runs-on lines answers (n + 1) later s (subst (λ (t : Standing). LineByLine (TurnOf tells blocks d) (n + 1) t lines answers (Setting s)) is rest)
+
+  is-over : (lines answers : List (List ℕ)) (n k : ℕ) (fault : ConfigFault) (s : SetUp) → LineByLine (TurnOf tells blocks d) n (Over k fault) lines answers (Setting s) → ⊥
+  is-over [] [] n k fault s h = not-over s k fault h
+  is-over [] (answer ∷ answers) n k fault s h = h
+  is-over (line ∷ lines) [] n k fault s h = h
+  is-over (line ∷ lines) (answer ∷ answers) n k fault s h = h.1
+
+  lines-over : (lines answers : List (List ℕ)) (n : ℕ) (a b : SetUp) → LineByLine (TurnOf tells blocks d) n (Setting a) lines answers (Setting b)
+      → LineByLine (TurnOver step tells blocks d) n (over (Setting a) m) lines answers (over (Setting b) m)
+  lines-over [] [] n a b h = ap (λ s. over s m) h
+  lines-over [] (answer ∷ answers) n a b h = absurd h
+  lines-over (line ∷ lines) [] n a b h = absurd h
+  lines-over (line ∷ lines) (answer ∷ answers) n a b (mid, turn, rest) = by (λ c. lines-over lines answers (n + 1) c b) mid turn rest
+    where
+      by : ((c : SetUp) → LineByLine (TurnOf tells blocks d) (n + 1) (Setting c) lines answers (Setting b) → LineByLine (TurnOver step tells blocks d) (n + 1) (over (Setting c) m) lines answers (over (Setting b) m))
+          → (mid : Standing) → TurnOf tells blocks d n (Setting a) line answer mid → LineByLine (TurnOf tells blocks d) (n + 1) mid lines answers (Setting b)
+          → LineByLine (TurnOver step tells blocks d) n (over (Setting a) m) (line ∷ lines) (answer ∷ answers) (over (Setting b) m)
+      by more (Setting c) turn rest = (over (Setting c) m, (turn, refl), more c rest)
+      by more (Running l) turn rest = absurd (runs-on lines answers (n + 1) l b rest)
+      by more (Over k fault) turn rest = absurd (is-over lines answers (n + 1) k fault b rest)
+
+  pub conversed-over : (a b : SetUp) (k : ℕ) (u v x y : Option (List ℕ)) → Converses (TurnOf tells blocks d) 1 (Setting a) k (Setting b) u v x y
+      → Converses (TurnOver step tells blocks d) 1 (over (Setting a) m) k (over (Setting b) m) u v x y
+  conversed-over a b k u v x y h = record {
+    lines = h.lines;
+    answers = h.answers;
+    counted = h.counted;
+    taken = h.taken;
+    went = lines-over h.lines h.answers 1 a b h.went;
+    wrote = h.wrote;
+  }
+
+  pub ends-over : (a b : SetUp) (u w x y : Option (List ℕ)) → Ends (TurnOf tells blocks d) 1 (Setting a) (Setting b) u w x y → Ends (TurnOver step tells blocks d) 1 (over (Setting a) m) (over (Setting b) m) u w x y
+  ends-over a b u w x y h = record {
+    next = h.next;
+    end = h.end;
+    conversed = conversed-over a b h.next u h.end x y h.conversed;
+    is_end = h.is_end;
+    kept = h.kept;
+  }
+
+  breaks-over : (a b : SetUp) (u w x z : Option (List ℕ)) → BreaksOff (TurnOf tells blocks d) 1 (Setting a) (Setting b) u w x z → BreaksOff (TurnOver step tells blocks d) 1 (over (Setting a) m) (over (Setting b) m) u w x z
+  breaks-over a b u w x z h = by h.mid h.conversed h.turn
+    where
+      by : (mid : Standing) → Converses (TurnOf tells blocks d) 1 (Setting a) h.next mid u h.between x h.written → TurnOf tells blocks d h.next mid h.line h.answer (Setting b)
+          → BreaksOff (TurnOver step tells blocks d) 1 (over (Setting a) m) (over (Setting b) m) u w x z
+      by (Setting c) conversed turn = record {
+        next = h.next;
+        mid = over (Setting c) m;
+        between = h.between;
+        written = h.written;
+        conversed = conversed-over a c h.next u h.between x h.written conversed;
+        line = h.line;
+        taken = h.taken;
+        answer = h.answer;
+        turn = (turn, refl);
+        broke = h.broke;
+      }
+      by (Running l) conversed turn = absurd (not-running b turn.0 turn.2)
+      by (Over k fault) conversed turn = absurd turn
+
+  pub ends_by-over : (fault : ScriptFault) (a b : SetUp) (u w x z : Option (List ℕ)) → EndsBy fault (TurnOf tells blocks d) alone 1 (Setting a) (Setting b) u w x z
+      → EndsBy fault (TurnOver step tells blocks d) standing_over 1 (over (Setting a) m) (over (Setting b) m) u w x z
+  ends_by-over (Config k f) a b u w x z (next, conversed, is) = (next, conversed-over a b next u w x z conversed, is)
+  ends_by-over Read a b u w x z h = record { next = h.next; between = h.between; conversed = conversed-over a b h.next u h.between x z h.conversed; front = h.front }
+  ends_by-over Write a b u w x z h = breaks-over a b u w x z h
+  ends_by-over NoMemory a b u w x z h = record {
+    next = h.next;
+    between = h.between;
+    conversed = conversed-over a b h.next u h.between x z h.conversed;
+    line = h.line;
+    taken = h.taken;
+    says = h.says;
+    sets = h.sets;
+    starved = h.starved;
+  }
+  ends_by-over (Syntax k) a b u w x z h = absurd h
+  ends_by-over TooLong a b u w x z h = absurd h

@@ -1,0 +1,83 @@
+-- What a line is answered over a medium, and what it leaves there: an event makes exactly its own calls of the medium, a
+-- look at blocks reads just these, and no other line makes any.
+use Rattle.std.specs.Prelude.{◌≡◌, ◌*◌, Bool, ℕ, List, length, codes, Option, None, Some, Result}
+use Rattle.nvme_event.specs.declared.event.FleetEvent.{FleetEvent}
+use Rattle.nvme_event.specs.Replies.{Reply}
+use Rattle.nvme_fleet.specs.FleetStates.{Layers}
+use Rattle.nvme_fleet.specs.LayerCalls.{AreCallsOfStep}
+use Rattle.nvme_transcript.specs.Transcript.{line_of}
+use Rattle.nvme_spec.specs.Blocks.{Device}
+use Rattle.nvme_spec.specs.MediumCalls.{MediumCall, MakesCalls, MakesInOrder, reads_from}
+use Rattle.nvme_spec.specs.declared.medium.MediumFault.{MediumFault}
+use Rattle.nvme_subsys.specs.Looking.{Reads}
+use Rattle.nvme_subsys.specs.OverMedium.{OverMedium, over}
+use Rattle.live_text.specs.Faults.{refusal}
+use Rattle.live_text.specs.declared.fault.Why.TheVariants.{BeforeStart, OutsideNamespace}
+use Rattle.live_text.specs.declared.looking.Looking.{Looking}
+use Rattle.live_text.specs.declared.looking.Looking.TheVariants as look
+use Rattle.nvme_live.specs.declared.asking.Asked.{Asked}
+use Rattle.nvme_live.specs.declared.asking.Asked.TheVariants.{Fails, Nothing, Looks, Sets, Does}
+use Rattle.nvme_live.specs.Answers.{place_of}
+use Rattle.nvme_live.specs.Asking.{asked}
+use Rattle.nvme_live.specs.Saying.{with_feed}
+use Rattle.nvme_live.specs.Showing.{shown_text, read_text}
+use Rattle.nvme_live.specs.Standings.{Standing, Setting, Running, Over, Settles}
+
+-- An event happened, by exactly its calls, and it is answered by the line of it and of what it gave.
+pub record HappensBy {M : Type 0} (step : M → MediumCall → M → Type 0) (tells : Bool) (old : OverMedium Layers M)
+    (event : FleetEvent) (answer : List ℕ) (new : OverMedium Layers M) : Type 0 where
+  pub reply : Reply
+  pub calls : MakesCalls step (AreCallsOfStep tells old.state event reply new.state) old.medium new.medium
+  pub says : answer ≡ line_of event reply
+
+-- Blocks were looked at, from this one of the medium on, by reads of just these, up to the first that failed.
+pub record LooksAtBlocksBy {M : Type 0} (step : M → MediumCall → M → Type 0) (tells : Bool)
+    (n m slba count first : ℕ) (old : OverMedium Layers M) (answer : List ℕ) (new : OverMedium Layers M) : Type 0 where
+  pub bytes : List ℕ
+  pub result : Result (Unit {0}) MediumFault
+  pub whole : length bytes ≡ 512 * count
+  pub reads : Reads tells first old.state.subsystem bytes result new.state.subsystem
+  pub calls : MakesInOrder step (reads_from first bytes) count old.medium result new.medium
+  pub drivers : new.state.drivers ≡ old.state.drivers
+  pub says : answer ≡ with_feed (read_text n m slba count bytes result)
+
+-- A look at blocks, at this place of the medium, if they are there; else it is refused, and nothing is called.
+abbrev pub ShowsBlocksBy : {M : Type 0} → (M → MediumCall → M → Type 0) → Option ℕ → Bool → ℕ → ℕ → ℕ → ℕ
+    → OverMedium Layers M → List ℕ → OverMedium Layers M → Type 0
+ShowsBlocksBy step None tells n m slba count old answer new =
+    (answer ≡ with_feed (refusal n OutsideNamespace)) × (new ≡ old)
+ShowsBlocksBy step (Some first) tells n m slba count old answer new =
+    LooksAtBlocksBy step tells n m slba count first old answer new
+
+-- what a looking line is answered
+abbrev pub ShowsBy : {M : Type 0} → (M → MediumCall → M → Type 0) → Bool → ℕ → Looking → OverMedium Layers M → List ℕ
+    → OverMedium Layers M → Type 0
+ShowsBy step tells n (look.Blocks m slba count) old answer new =
+    ShowsBlocksBy step (place_of m slba count old.state) tells n m slba count old answer new
+ShowsBy step tells n looking old answer new = (answer ≡ with_feed (shown_text n looking old.state)) × (new ≡ old)
+
+-- what the n-th line is answered once the fleet is there
+abbrev pub AnswersLineBy : {M : Type 0} → (M → MediumCall → M → Type 0) → Bool → ℕ → Asked → OverMedium Layers M
+    → List ℕ → OverMedium Layers M → Type 0
+AnswersLineBy step tells n (Fails why) old answer new = (answer ≡ with_feed (refusal n why)) × (new ≡ old)
+AnswersLineBy step tells n Nothing old answer new = (answer ≡ with_feed (codes "ok")) × (new ≡ old)
+AnswersLineBy step tells n (Looks looking) old answer new = ShowsBy step tells n looking old answer new
+AnswersLineBy step tells n (Sets line) old answer new = (answer ≡ with_feed (refusal n BeforeStart)) × (new ≡ old)
+AnswersLineBy step tells n (Does event) old answer new = HappensBy step tells old event answer new
+
+-- What the n-th line is answered, and where the session and its medium are then. Before the fleet is there no call is
+-- made.
+abbrev pub TurnBy : {M : Type 0} → (M → MediumCall → M → Type 0) → Bool → ℕ → Device → ℕ → Standing → M → Asked
+    → List ℕ → OverMedium Standing M → Type 0
+TurnBy step tells blocks d n (Setting s) medium asks answer new =
+    Settles blocks d n s asks answer new.state × (new.medium ≡ medium)
+TurnBy step tells blocks d n (Running old) medium asks answer new =
+    (later : Layers) × AnswersLineBy step tells n asks (over old medium) answer (over later new.medium)
+    × (new.state ≡ Running later)
+TurnBy step tells blocks d n (Over k fault) medium asks answer new = ⊥
+
+-- the same, by the bytes of the line
+abbrev pub TurnOver : {M : Type 0} → (M → MediumCall → M → Type 0) → Bool → ℕ → Device → ℕ → OverMedium Standing M
+    → List ℕ → List ℕ → OverMedium Standing M → Type 0
+TurnOver step tells blocks d n old line answer new =
+    TurnBy step tells blocks d n old.state old.medium (asked line) answer new
