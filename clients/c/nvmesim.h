@@ -1,0 +1,154 @@
+/* nvmesim: an NVMe subsystem that several hosts share, as a library.
+ *
+ * A program opens a subsystem (controllers, namespaces, blocks), stores commands in the memory of its hosts, writes
+ * doorbells, and has the controllers fetch and execute. Each call is one event; docs/LIBRARY.md begins with an example,
+ * and says what is proved of a call.
+ *
+ * What the caller has to keep, since nothing checks it:
+ *  - A struct nvmesim begins as NVMESIM_NONE. Only these calls write it from then on, and it is not copied while it is
+ *    open.
+ *  - One call at a time on one struct nvmesim, and all of them on one thread. Two structs have nothing in common.
+ *  - No call from a signal handler, nor in the forked child of a process with threads.
+ *  - No pointer is NULL, also not where the count beside it is 0. Each is aligned, and is for as many values as the
+ *    count says. What a call writes through a pointer overlaps nothing else that it is given. A bool is false or true.
+ *  - Bytes that are lent (nvmesim_open_lent) are left alone until nvmesim_close.
+ *  - malloc, realloc and free are those of the C library, or as good.
+ * All else that is wrong is an answer: a struct that is not open, an address outside the memory, any command.
+ */
+#ifndef NVMESIM_H
+#define NVMESIM_H
+
+#include <stdbool.h>
+#include <stddef.h>
+#include <stdint.h>
+
+#ifdef __cplusplus
+extern "C" {
+#endif
+
+/* The version of this interface, which nvmesim_open compares with the library's. */
+#define NVMESIM_VERSION 1
+
+/* A subsystem that is open, or none. */
+typedef struct nvmesim {
+    void *subsystem;
+    bool is_open;
+} nvmesim;
+
+#define NVMESIM_NONE { NULL, false }
+
+/* What a call answers: up to 9 what it gave, from 16 on why it did nothing. */
+enum {
+    NVMESIM_OK = 0,             /* it was done, and there is no more to say */
+    NVMESIM_STORED = 1,         /* the bytes are stored */
+    NVMESIM_WROTE = 2,          /* the register is written */
+    NVMESIM_VALUE = 3,          /* the value of the register */
+    NVMESIM_TOOK = 4,           /* a command was fetched */
+    NVMESIM_IDLE = 5,           /* there was no command to fetch */
+    NVMESIM_POSTED = 6,         /* the command was executed, and its completion posted */
+    NVMESIM_NO_SUCH = 7,        /* there is no such command */
+    NVMESIM_CQ_FULL = 8,        /* the completion queue has no room; the command waits */
+    NVMESIM_CYCLED = 9,         /* power was lost, and came back */
+
+    NVMESIM_CLOSED = 16,        /* no subsystem is open */
+    NVMESIM_NO_CONTROLLER = 17, /* there is no such controller */
+    NVMESIM_OUTSIDE = 18,       /* not all the bytes lie in the memory, or not all the blocks in such a namespace */
+    NVMESIM_NOT_WHOLE = 19,     /* the bytes are no whole number of blocks */
+    NVMESIM_MEDIUM_FAULT = 20,  /* the medium failed */
+    NVMESIM_BAD_VERSION = 21,   /* the caller's header is of another version */
+    NVMESIM_ALREADY_OPEN = 22,  /* a subsystem is open already */
+    NVMESIM_BAD_ID = 23,        /* an identifier of the configuration is wrong, as nvmesim_controller and others have it */
+    NVMESIM_BAD_SIZE = 24,      /* a namespace has no blocks, or more than 65,536 */
+    NVMESIM_TOO_MANY = 25,      /* more than 16 controllers, 8 namespaces or 128 attachments */
+    NVMESIM_DOES_NOT_FIT = 26,  /* the namespaces have more blocks together than the medium */
+    NVMESIM_NO_MEMORY = 27      /* memory was refused */
+};
+
+/* What an event gave. What does not come with an answer is 0. */
+typedef struct nvmesim_answer {
+    uint32_t what;  /* one of the numbers above */
+    uint32_t value; /* the register's value, or double word 0 of the completion queue entry */
+    uint8_t sct;    /* NVMESIM_POSTED: the Status Code Type */
+    uint8_t sc;     /* and the Status Code */
+    uint8_t rule;   /* the number of the rule that denied the command, or 0 where it was allowed */
+} nvmesim_answer;
+
+/* A controller. Its identifier is k where it is the k-th of a configuration, from 1; the host identifier is not 0. */
+typedef struct nvmesim_controller {
+    uint64_t host_low;  /* the host identifier, its lower 64 bits */
+    uint64_t host_high; /* and its higher ones */
+    uint16_t cntlid;
+} nvmesim_controller;
+
+/* A namespace. */
+typedef struct nvmesim_namespace {
+    uint64_t blocks; /* of 512 bytes each, 1 to 65,536 */
+    uint32_t nsid;   /* 1 to 8 */
+    bool shared;     /* whether more than one controller may be attached at a time */
+} nvmesim_namespace;
+
+/* A controller that is attached to a namespace. */
+typedef struct nvmesim_attached {
+    uint32_t nsid;
+    uint16_t cntlid;
+} nvmesim_attached;
+
+/* Bytes that are lent. */
+typedef struct nvmesim_bytes {
+    uint8_t *at;
+    size_t count;
+} nvmesim_bytes;
+
+/* The version of the library. */
+uint32_t nvmesim_version(void);
+
+/* Opens a subsystem over a copy of these bytes: as many blocks as 512 goes into them. The namespaces lie on them one
+ * after the other, in the order of their array. NVMESIM_OK; or BAD_VERSION, ALREADY_OPEN, the first fault of the
+ * configuration, or NO_MEMORY, and then nothing has changed. */
+uint32_t nvmesim_open(nvmesim *sim, uint32_t version, const nvmesim_controller *controllers, size_t controller_count,
+                      const nvmesim_namespace *namespaces, size_t namespace_count, const nvmesim_attached *attached,
+                      size_t attached_count, const uint8_t *bytes, size_t byte_count);
+
+/* The same over the bytes themselves, without a copy: they are lent until nvmesim_close, or until this returns where it
+ * answers other than NVMESIM_OK. What a command writes stands in them at once. A Flush calls nothing, since memory has
+ * nothing to flush: where the bytes are those of a file (mmap), sync it when a Flush was executed (opcode 00h on an I/O
+ * queue), before the completion is handed on. */
+uint32_t nvmesim_open_lent(nvmesim *sim, uint32_t version, const nvmesim_controller *controllers,
+                           size_t controller_count, const nvmesim_namespace *namespaces, size_t namespace_count,
+                           const nvmesim_attached *attached, size_t attached_count, nvmesim_bytes bytes);
+
+/* Closes it, if it is open, and gives its memory back. */
+void nvmesim_close(nvmesim *sim);
+
+/* The host of a controller stores bytes in its memory, which has 4 MiB: STORED, or OUTSIDE, NO_CONTROLLER, CLOSED. */
+nvmesim_answer nvmesim_store(nvmesim *sim, uint16_t cntlid, uint64_t address, const uint8_t *bytes, size_t count);
+
+/* It writes a register of its controller, such as CC (14h) or a doorbell (1000h on): WROTE, or NO_CONTROLLER, CLOSED.
+ * What no register has at this offset changes nothing. */
+nvmesim_answer nvmesim_write32(nvmesim *sim, uint16_t cntlid, uint64_t offset, uint32_t value);
+
+/* It reads a register: VALUE, with the value, which is 0 where there is no register; or NO_CONTROLLER, CLOSED. */
+nvmesim_answer nvmesim_read32(nvmesim *sim, uint16_t cntlid, uint64_t offset);
+
+/* A controller fetches the next command of a submission queue: TOOK, or IDLE; or NO_CONTROLLER, CLOSED. */
+nvmesim_answer nvmesim_fetch(nvmesim *sim, uint16_t cntlid, uint16_t qid);
+
+/* It executes the i-th, from 0, of the commands that it has fetched and not executed: POSTED, with the status; NO_SUCH,
+ * CQ_FULL; or NO_CONTROLLER, CLOSED. */
+nvmesim_answer nvmesim_execute(nvmesim *sim, uint16_t cntlid, size_t i);
+
+/* Power is lost in all of the subsystem, and comes back: CYCLED, or CLOSED. */
+nvmesim_answer nvmesim_power_cycle(nvmesim *sim);
+
+/* Loads bytes of the memory of a controller's host: OK; or OUTSIDE, NO_CONTROLLER, CLOSED, and nothing is written. */
+uint32_t nvmesim_load(nvmesim *sim, uint16_t cntlid, uint64_t address, uint8_t *bytes, size_t count);
+
+/* Reads blocks of a namespace as the medium has them. No host reads here, so no reservation is asked. OK; or OUTSIDE,
+ * NOT_WHOLE, CLOSED, and nothing is written; or MEDIUM_FAULT. */
+uint32_t nvmesim_read_blocks(nvmesim *sim, uint32_t nsid, uint64_t slba, uint8_t *bytes, size_t count);
+
+#ifdef __cplusplus
+}
+#endif
+
+#endif

@@ -1,0 +1,200 @@
+/* Tests of the library through its header alone. Each check that fails is told with its line; the status is then 1. */
+#include <nvmesim.h>
+#include <stdio.h>
+#include <stdlib.h>
+#include <string.h>
+
+static int failures;
+
+#define CHECK(holds) \
+    do { \
+        if (!(holds)) { \
+            fprintf(stderr, "line %d: not so: %s\n", __LINE__, #holds); \
+            failures++; \
+        } \
+    } while (0)
+
+enum { CC = 0x14, CSTS = 0x1c, AQA = 0x24, ASQ = 0x28, ACQ = 0x30, DOORBELLS = 0x1000 };
+enum { ADMIN_CQ = 0x1000, IO_SQ = 0x2000, IO_CQ = 0x3000, DATA = 0x10000, ENTRIES = 16, WINDOW = 4194304 };
+
+static const nvmesim_controller two[] = {{0xa1, 0, 1}, {0xb2, 0xc3, 2}};
+static const nvmesim_namespace shared[] = {{64, 1, true}};
+static const nvmesim_attached both[] = {{1, 1}, {1, 2}};
+static const uint8_t zeros[64 * 512];
+
+static uint32_t open_two(nvmesim *sim) {
+    return nvmesim_open(sim, NVMESIM_VERSION, two, 2, shared, 1, both, 2, zeros, sizeof zeros);
+}
+
+static void entry(uint8_t bytes[64], uint8_t opcode, uint32_t nsid, uint64_t prp1, uint32_t dw10, uint32_t dw11) {
+    memset(bytes, 0, 64);
+    bytes[0] = opcode;
+    memcpy(bytes + 4, &nsid, 4);
+    memcpy(bytes + 24, &prp1, 8);
+    memcpy(bytes + 40, &dw10, 4);
+    memcpy(bytes + 44, &dw11, 4);
+}
+
+static nvmesim_answer submit(nvmesim *sim, uint16_t cntlid, uint16_t qid, uint32_t at, const uint8_t bytes[64]) {
+    CHECK(nvmesim_store(sim, cntlid, (qid ? IO_SQ : 0) + 64 * at, bytes, 64).what == NVMESIM_STORED);
+    CHECK(nvmesim_write32(sim, cntlid, DOORBELLS + 8 * qid, at + 1).what == NVMESIM_WROTE);
+    CHECK(nvmesim_fetch(sim, cntlid, qid).what == NVMESIM_TOOK);
+    return nvmesim_execute(sim, cntlid, 0);
+}
+
+/* Enables a controller and creates a pair of I/O queues. */
+static void up(nvmesim *sim, uint16_t cntlid) {
+    uint8_t bytes[64];
+    nvmesim_write32(sim, cntlid, AQA, (ENTRIES - 1) << 16 | (ENTRIES - 1));
+    nvmesim_write32(sim, cntlid, ACQ, ADMIN_CQ);
+    nvmesim_write32(sim, cntlid, CC, 4 << 20 | 6 << 16 | 1);
+    entry(bytes, 0x05, 0, IO_CQ, (ENTRIES - 1) << 16 | 1, 1);
+    nvmesim_answer answer = submit(sim, cntlid, 0, 0, bytes);
+    CHECK(answer.what == NVMESIM_POSTED && answer.sct == 0 && answer.sc == 0);
+    entry(bytes, 0x01, 0, IO_SQ, (ENTRIES - 1) << 16 | 1, 1 << 16 | 1);
+    answer = submit(sim, cntlid, 0, 1, bytes);
+    CHECK(answer.what == NVMESIM_POSTED && answer.sct == 0 && answer.sc == 0);
+}
+
+/* Every call on a struct that is not open answers so, and leaves it as it was. */
+static void closed(void) {
+    nvmesim sim = NVMESIM_NONE;
+    uint8_t bytes[512];
+    memset(bytes, 7, sizeof bytes);
+    CHECK(nvmesim_store(&sim, 1, 0, bytes, 1).what == NVMESIM_CLOSED);
+    CHECK(nvmesim_write32(&sim, 1, CC, 1).what == NVMESIM_CLOSED);
+    CHECK(nvmesim_read32(&sim, 1, CC).what == NVMESIM_CLOSED);
+    CHECK(nvmesim_fetch(&sim, 1, 0).what == NVMESIM_CLOSED);
+    CHECK(nvmesim_execute(&sim, 1, 0).what == NVMESIM_CLOSED);
+    CHECK(nvmesim_power_cycle(&sim).what == NVMESIM_CLOSED);
+    CHECK(nvmesim_load(&sim, 1, 0, bytes, 512) == NVMESIM_CLOSED && bytes[0] == 7);
+    CHECK(nvmesim_read_blocks(&sim, 1, 0, bytes, 512) == NVMESIM_CLOSED && bytes[0] == 7);
+    nvmesim_close(&sim);
+    CHECK(sim.subsystem == NULL && !sim.is_open);
+}
+
+/* What is wrong with a configuration is told by its first fault, and nothing is opened. */
+static void configurations(void) {
+    nvmesim sim = NVMESIM_NONE;
+    const nvmesim_controller unnumbered[] = {{0xa1, 0, 2}}, hostless[] = {{0, 0, 1}};
+    const nvmesim_namespace ninth[] = {{64, 9, true}}, empty[] = {{0, 1, true}}, larger[] = {{65, 1, true}};
+    const nvmesim_attached unknown[] = {{1, 3}};
+    nvmesim_controller many[17];
+    for (uint16_t i = 0; i < 17; i++)
+        many[i] = (nvmesim_controller){1, 0, (uint16_t)(i + 1)};
+#define OPENED(version, controllers, n, namespaces, attached, m) \
+    nvmesim_open(&sim, version, controllers, n, namespaces, 1, attached, m, zeros, sizeof zeros)
+    CHECK(OPENED(NVMESIM_VERSION + 1, two, 2, shared, both, 2) == NVMESIM_BAD_VERSION);
+    CHECK(OPENED(NVMESIM_VERSION, unnumbered, 1, shared, both, 0) == NVMESIM_BAD_ID);
+    CHECK(OPENED(NVMESIM_VERSION, hostless, 1, shared, both, 0) == NVMESIM_BAD_ID);
+    CHECK(OPENED(NVMESIM_VERSION, two, 2, ninth, both, 0) == NVMESIM_BAD_ID);
+    CHECK(OPENED(NVMESIM_VERSION, two, 2, shared, unknown, 1) == NVMESIM_BAD_ID);
+    CHECK(OPENED(NVMESIM_VERSION, two, 2, empty, both, 2) == NVMESIM_BAD_SIZE);
+    CHECK(OPENED(NVMESIM_VERSION, two, 2, larger, both, 2) == NVMESIM_DOES_NOT_FIT);
+    CHECK(OPENED(NVMESIM_VERSION, many, 17, shared, both, 0) == NVMESIM_TOO_MANY);
+    CHECK(!sim.is_open);
+    CHECK(OPENED(NVMESIM_VERSION, two, 2, shared, both, 2) == NVMESIM_OK && sim.is_open);
+    void *subsystem = sim.subsystem;
+    CHECK(OPENED(NVMESIM_VERSION, two, 2, shared, both, 2) == NVMESIM_ALREADY_OPEN && sim.subsystem == subsystem);
+#undef OPENED
+    nvmesim_close(&sim);
+    CHECK(!sim.is_open);
+    CHECK(nvmesim_version() == NVMESIM_VERSION);
+}
+
+/* Addresses and identifiers that are not there are answers, and change nothing. */
+static void refusals(void) {
+    nvmesim sim = NVMESIM_NONE;
+    uint8_t bytes[1024];
+    memset(bytes, 7, sizeof bytes);
+    CHECK(open_two(&sim) == NVMESIM_OK);
+    CHECK(nvmesim_store(&sim, 1, WINDOW - 1, bytes, 1).what == NVMESIM_STORED);
+    CHECK(nvmesim_store(&sim, 1, WINDOW - 1, bytes, 2).what == NVMESIM_OUTSIDE);
+    CHECK(nvmesim_store(&sim, 1, UINT64_MAX, bytes, 2).what == NVMESIM_OUTSIDE);
+    CHECK(nvmesim_store(&sim, 0, 0, bytes, 1).what == NVMESIM_NO_CONTROLLER);
+    CHECK(nvmesim_store(&sim, 3, 0, bytes, 1).what == NVMESIM_NO_CONTROLLER);
+    CHECK(nvmesim_load(&sim, 1, WINDOW - 1, bytes, 2) == NVMESIM_OUTSIDE && bytes[1] == 7);
+    CHECK(nvmesim_load(&sim, 65535, 0, bytes, 2) == NVMESIM_NO_CONTROLLER && bytes[1] == 7);
+    CHECK(nvmesim_read_blocks(&sim, 1, 63, bytes, 1024) == NVMESIM_OUTSIDE && bytes[0] == 7);
+    CHECK(nvmesim_read_blocks(&sim, 2, 0, bytes, 512) == NVMESIM_OUTSIDE && bytes[0] == 7);
+    CHECK(nvmesim_read_blocks(&sim, 1, 0, bytes, 511) == NVMESIM_NOT_WHOLE && bytes[0] == 7);
+    CHECK(nvmesim_read_blocks(&sim, 1, 62, bytes, 1024) == NVMESIM_OK && bytes[0] == 0 && bytes[1023] == 0);
+    CHECK(nvmesim_read32(&sim, 1, 0x7fffffff).what == NVMESIM_VALUE);
+    CHECK(nvmesim_fetch(&sim, 1, 0).what == NVMESIM_IDLE);
+    CHECK(nvmesim_execute(&sim, 1, 0).what == NVMESIM_NO_SUCH);
+    nvmesim_close(&sim);
+}
+
+/* Two subsystems at a time have nothing in common, and sixteen controllers with the largest namespaces work. */
+static void largest(void) {
+    enum { COUNT = 16, BLOCKS = 65536 };
+    nvmesim one = NVMESIM_NONE, other = NVMESIM_NONE;
+    nvmesim_controller controllers[COUNT];
+    nvmesim_namespace namespaces[2] = {{BLOCKS, 1, true}, {BLOCKS, 8, true}};
+    nvmesim_attached attached[COUNT];
+    for (uint16_t i = 0; i < COUNT; i++) {
+        controllers[i] = (nvmesim_controller){i + 1u, 5, (uint16_t)(i + 1)};
+        attached[i] = (nvmesim_attached){8, (uint16_t)(i + 1)};
+    }
+    size_t size = (size_t)2 * BLOCKS * 512;
+    uint8_t *bytes = calloc(1, size), block[512], read[512];
+    if (bytes == NULL)
+        exit(2);
+    CHECK(nvmesim_open_lent(&one, NVMESIM_VERSION, controllers, COUNT, namespaces, 2, attached, COUNT,
+                            (nvmesim_bytes){bytes, size}) == NVMESIM_OK);
+    CHECK(open_two(&other) == NVMESIM_OK);
+    up(&one, COUNT);
+    CHECK(nvmesim_read32(&one, COUNT, CSTS).value == 1 && nvmesim_read32(&other, 1, CSTS).value == 0);
+    memset(block, 0x5a, sizeof block);
+    nvmesim_store(&one, COUNT, DATA, block, sizeof block);
+    uint8_t command[64];
+    entry(command, 0x01, 8, DATA, BLOCKS - 1, 0);
+    nvmesim_answer answer = submit(&one, COUNT, 1, 0, command);
+    CHECK(answer.what == NVMESIM_POSTED && answer.sct == 0 && answer.sc == 0);
+    CHECK(nvmesim_read_blocks(&one, 8, BLOCKS - 1, read, 512) == NVMESIM_OK && memcmp(read, block, 512) == 0);
+    entry(command, 0x01, 1, DATA, 0, 0);
+    answer = submit(&one, COUNT, 1, 1, command);
+    CHECK(answer.what == NVMESIM_POSTED && (answer.sct || answer.sc) && answer.rule != 0);
+    CHECK(nvmesim_power_cycle(&one).what == NVMESIM_CYCLED && nvmesim_read32(&one, COUNT, CSTS).value == 0);
+    nvmesim_close(&one);
+    nvmesim_close(&other);
+    CHECK(memcmp(bytes + size - 512, block, 512) == 0 && bytes[0] == 0);
+    free(bytes);
+}
+
+/* A command waits while the completion queue has no room. */
+static void full(void) {
+    nvmesim sim = NVMESIM_NONE;
+    uint8_t command[64];
+    CHECK(open_two(&sim) == NVMESIM_OK);
+    up(&sim, 1);
+    entry(command, 0x00, 1, 0, 0, 0);
+    for (uint32_t i = 0; i + 1 < ENTRIES; i++)
+        CHECK(submit(&sim, 1, 1, i, command).what == NVMESIM_POSTED);
+    nvmesim_store(&sim, 1, IO_SQ + 64 * (ENTRIES - 1), command, 64);
+    CHECK(nvmesim_write32(&sim, 1, DOORBELLS + 8, 0).what == NVMESIM_WROTE);
+    CHECK(nvmesim_fetch(&sim, 1, 1).what == NVMESIM_TOOK);
+    CHECK(nvmesim_execute(&sim, 1, 0).what == NVMESIM_CQ_FULL);
+    CHECK(nvmesim_write32(&sim, 1, DOORBELLS + 12, 1).what == NVMESIM_WROTE);
+    CHECK(nvmesim_execute(&sim, 1, 0).what == NVMESIM_POSTED);
+    nvmesim_close(&sim);
+}
+
+/* What is opened is given back: valgrind and the sanitizer see what is not, and the address space can't hold them all. */
+static void again(int count) {
+    nvmesim sim = NVMESIM_NONE;
+    for (int i = 0; i < count; i++) {
+        CHECK(open_two(&sim) == NVMESIM_OK);
+        nvmesim_close(&sim);
+    }
+}
+
+int main(int count, char **words) {
+    closed();
+    configurations();
+    refusals();
+    largest();
+    full();
+    again(count > 1 ? atoi(words[1]) : 100);
+    return failures ? 1 : 0;
+}

@@ -1,0 +1,334 @@
+//! An NVMe subsystem that several hosts share: controllers, namespaces and reservations, in your own process. Each call
+//! is one event, and libnvmesim is proved to do just that event.
+//!
+//! A command is stored in the memory of its host, a doorbell is written, and the controller fetches and executes:
+//!
+//! ```
+//! use nvmesim::{Attachment, Config, Controller, Fetched, Namespace, Refusal, Subsystem};
+//!
+//! let config = Config {
+//!     controllers: vec![Controller::new(1, 0xa1)],
+//!     namespaces: vec![Namespace { blocks: 64, nsid: 1, shared: false }],
+//!     attached: vec![Attachment { nsid: 1, cntlid: 1 }],
+//! };
+//! let mut subsystem = Subsystem::open(&config, &[0; 64 * 512])?;
+//! subsystem.store(1, 0x10000, &[7; 512])?;
+//! assert_eq!(subsystem.fetch(1, 0)?, Fetched::Idle);
+//! assert_eq!(subsystem.read32(2, 0x1c), Err(Refusal::NoController));
+//! # Ok::<(), Box<dyn std::error::Error>>(())
+//! ```
+//!
+//! Bytes may also be lent, for as long as the subsystem is there; what a Write leaves stands in them:
+//!
+//! ```
+//! # use nvmesim::{Config, Subsystem};
+//! let mut bytes = vec![0; 512];
+//! let subsystem = Subsystem::open_lent(&Config::default(), &mut bytes)?;
+//! drop(subsystem);
+//! bytes[0] = 1;
+//! # Ok::<(), nvmesim::OpenError>(())
+//! ```
+//!
+//! They can't be used before:
+//!
+//! ```compile_fail,E0506
+//! # use nvmesim::{Config, Subsystem};
+//! let mut bytes = [0; 512];
+//! let subsystem = Subsystem::open_lent(&Config::default(), &mut bytes).unwrap();
+//! bytes[0] = 1;
+//! drop(subsystem);
+//! ```
+//!
+//! A subsystem stays on its thread:
+//!
+//! ```compile_fail,E0277
+//! # use nvmesim::{Config, Subsystem};
+//! let subsystem = Subsystem::open(&Config::default(), &[]).unwrap();
+//! std::thread::spawn(move || drop(subsystem));
+//! ```
+
+#![deny(unsafe_code)]
+#![warn(missing_docs)]
+
+#[allow(unsafe_code)]
+mod raw;
+
+use raw::{Answer, Blocks, Handle};
+use std::fmt;
+
+/// The version of `nvmesim.h` that this crate is written for.
+const VERSION: u32 = 1;
+
+/// A controller, and the host that it belongs to.
+#[repr(C)]
+#[derive(Clone, Copy, Debug, PartialEq, Eq)]
+pub struct Controller {
+    host_low: u64,
+    host_high: u64,
+    cntlid: u16,
+}
+
+impl Controller {
+    /// The controller with this identifier, k for the k-th of a configuration, of the host with this identifier, which
+    /// is not 0.
+    pub const fn new(cntlid: u16, host: u128) -> Self {
+        Controller { host_low: host as u64, host_high: (host >> 64) as u64, cntlid }
+    }
+}
+
+/// A namespace.
+#[repr(C)]
+#[derive(Clone, Copy, Debug, PartialEq, Eq)]
+pub struct Namespace {
+    /// Its size in blocks of 512 bytes, 1 to 65,536.
+    pub blocks: u64,
+    /// The namespace identifier, 1 to 8.
+    pub nsid: u32,
+    /// Whether more than one controller may be attached to it at a time.
+    pub shared: bool,
+}
+
+/// A controller that is attached to a namespace.
+#[repr(C)]
+#[derive(Clone, Copy, Debug, PartialEq, Eq)]
+pub struct Attachment {
+    /// The namespace.
+    pub nsid: u32,
+    /// The controller.
+    pub cntlid: u16,
+}
+
+/// The controllers and namespaces of a subsystem, and which are attached to which.
+#[derive(Clone, Debug, Default, PartialEq, Eq)]
+pub struct Config {
+    /// The controllers, in the order of their identifiers.
+    pub controllers: Vec<Controller>,
+    /// The namespaces. They lie on the blocks one after the other.
+    pub namespaces: Vec<Namespace>,
+    /// The attachments.
+    pub attached: Vec<Attachment>,
+}
+
+/// Why a subsystem is not opened.
+#[derive(Clone, Copy, Debug, PartialEq, Eq)]
+#[non_exhaustive]
+pub enum OpenError {
+    /// The library is of another version than this crate.
+    BadVersion,
+    /// An identifier is wrong: of a controller, host or namespace, or of an attachment.
+    BadId,
+    /// A namespace has no blocks, or more than 65,536.
+    BadSize,
+    /// There are more than 16 controllers, 8 namespaces or 128 attachments.
+    TooMany,
+    /// The namespaces have more blocks together than the bytes.
+    DoesNotFit,
+    /// Memory was refused.
+    NoMemory,
+}
+
+/// Why a call did nothing.
+#[derive(Clone, Copy, Debug, PartialEq, Eq)]
+#[non_exhaustive]
+pub enum Refusal {
+    /// There is no such controller.
+    NoController,
+    /// Not all the bytes lie in the memory of the host, or not all the blocks in such a namespace.
+    Outside,
+    /// The bytes are no whole number of blocks.
+    NotWhole,
+    /// The medium failed.
+    MediumFault,
+}
+
+/// What came of a fetch.
+#[derive(Clone, Copy, Debug, PartialEq, Eq)]
+pub enum Fetched {
+    /// A command was fetched.
+    Took,
+    /// There was none.
+    Idle,
+}
+
+/// The completion of a command.
+#[derive(Clone, Copy, Debug, PartialEq, Eq)]
+pub struct Completion {
+    /// The Status Code Type.
+    pub sct: u8,
+    /// The Status Code.
+    pub sc: u8,
+    /// Double word 0.
+    pub dw0: u32,
+    /// The number of the rule that denied the command, where one did.
+    pub denied_by: Option<u8>,
+}
+
+impl Completion {
+    /// Whether the status is Successful Completion.
+    pub fn is_success(&self) -> bool {
+        (self.sct, self.sc) == (0, 0)
+    }
+}
+
+/// What came of an execution.
+#[derive(Clone, Copy, Debug, PartialEq, Eq)]
+pub enum Executed {
+    /// The command was executed, and its completion posted.
+    Posted(Completion),
+    /// There is no such command.
+    NoSuch,
+    /// The completion queue has no room; the command waits.
+    CqFull,
+}
+
+/// A subsystem, over blocks of its own or over bytes that live for `'a`. It is closed when it is dropped.
+pub struct Subsystem<'a> {
+    handle: Handle<'a>,
+}
+
+impl Subsystem<'static> {
+    /// Opens a subsystem over a copy of these bytes.
+    pub fn open(config: &Config, bytes: &[u8]) -> Result<Self, OpenError> {
+        opened(config, Blocks::Copied(bytes))
+    }
+}
+
+impl<'a> Subsystem<'a> {
+    /// Opens a subsystem over these bytes themselves. What a Write leaves stands in them at once; where they are those
+    /// of a file, sync it when a Flush was executed, before its completion is handed on.
+    pub fn open_lent(config: &Config, bytes: &'a mut [u8]) -> Result<Self, OpenError> {
+        opened(config, Blocks::Lent(bytes))
+    }
+
+    /// The host of a controller stores bytes in its memory.
+    pub fn store(&mut self, cntlid: u16, address: u64, bytes: &[u8]) -> Result<(), Refusal> {
+        done(self.handle.store(cntlid, address, bytes))
+    }
+
+    /// The host of a controller writes one of its registers.
+    pub fn write32(&mut self, cntlid: u16, offset: u64, value: u32) -> Result<(), Refusal> {
+        done(self.handle.write32(cntlid, offset, value))
+    }
+
+    /// The host of a controller reads one of its registers.
+    pub fn read32(&mut self, cntlid: u16, offset: u64) -> Result<u32, Refusal> {
+        let answer = self.handle.read32(cntlid, offset);
+        Ok(answer.checked()?.value)
+    }
+
+    /// A controller fetches the next command of a submission queue.
+    pub fn fetch(&mut self, cntlid: u16, qid: u16) -> Result<Fetched, Refusal> {
+        let answer = self.handle.fetch(cntlid, qid).checked()?;
+        Ok(if answer.what == TOOK { Fetched::Took } else { Fetched::Idle })
+    }
+
+    /// A controller executes the `i`-th of the commands that it has fetched and not executed, from 0.
+    pub fn execute(&mut self, cntlid: u16, i: usize) -> Result<Executed, Refusal> {
+        let answer = self.handle.execute(cntlid, i).checked()?;
+        Ok(match answer.what {
+            POSTED => Executed::Posted(Completion {
+                sct: answer.sct,
+                sc: answer.sc,
+                dw0: answer.value,
+                denied_by: (answer.rule != 0).then_some(answer.rule),
+            }),
+            CQ_FULL => Executed::CqFull,
+            _ => Executed::NoSuch,
+        })
+    }
+
+    /// Power is lost in all of the subsystem, and comes back.
+    pub fn power_cycle(&mut self) {
+        self.handle.power_cycle();
+    }
+
+    /// Loads bytes of the memory of a controller's host.
+    pub fn load(&mut self, cntlid: u16, address: u64, bytes: &mut [u8]) -> Result<(), Refusal> {
+        read(self.handle.load(cntlid, address, bytes))
+    }
+
+    /// Reads blocks of a namespace as the medium has them. No host reads here, so no reservation is asked.
+    pub fn read_blocks(&mut self, nsid: u32, slba: u64, bytes: &mut [u8]) -> Result<(), Refusal> {
+        read(self.handle.read_blocks(nsid, slba, bytes))
+    }
+}
+
+// The numbers of answers, as nvmesim.h has them.
+const OK: u32 = 0;
+const TOOK: u32 = 4;
+const POSTED: u32 = 6;
+const CQ_FULL: u32 = 8;
+const FIRST_REFUSAL: u32 = 16;
+
+fn opened<'a>(config: &Config, blocks: Blocks<'_, 'a>) -> Result<Subsystem<'a>, OpenError> {
+    let parts = (&config.controllers[..], &config.namespaces[..], &config.attached[..]);
+    let (answer, handle) = Handle::open(VERSION, parts, blocks);
+    match answer {
+        OK => Ok(Subsystem { handle }),
+        23 => Err(OpenError::BadId),
+        24 => Err(OpenError::BadSize),
+        25 => Err(OpenError::TooMany),
+        26 => Err(OpenError::DoesNotFit),
+        27 => Err(OpenError::NoMemory),
+        _ => Err(OpenError::BadVersion),
+    }
+}
+
+/// The refusal of a number. A subsystem that is not open has no value here.
+fn refusal(number: u32) -> Refusal {
+    match number {
+        17 => Refusal::NoController,
+        18 => Refusal::Outside,
+        19 => Refusal::NotWhole,
+        _ => Refusal::MediumFault,
+    }
+}
+
+impl Answer {
+    fn checked(self) -> Result<Self, Refusal> {
+        if self.what < FIRST_REFUSAL {
+            Ok(self)
+        } else {
+            Err(refusal(self.what))
+        }
+    }
+}
+
+fn done(answer: Answer) -> Result<(), Refusal> {
+    answer.checked().map(|_| ())
+}
+
+fn read(answer: u32) -> Result<(), Refusal> {
+    if answer == OK {
+        Ok(())
+    } else {
+        Err(refusal(answer))
+    }
+}
+
+impl fmt::Display for OpenError {
+    fn fmt(&self, f: &mut fmt::Formatter<'_>) -> fmt::Result {
+        f.write_str(match self {
+            OpenError::BadVersion => "libnvmesim is of another version",
+            OpenError::BadId => "an identifier of the configuration is wrong",
+            OpenError::BadSize => "a namespace has no blocks, or too many",
+            OpenError::TooMany => "there are too many controllers, namespaces or attachments",
+            OpenError::DoesNotFit => "the namespaces have more blocks than the bytes",
+            OpenError::NoMemory => "out of memory",
+        })
+    }
+}
+
+impl fmt::Display for Refusal {
+    fn fmt(&self, f: &mut fmt::Formatter<'_>) -> fmt::Result {
+        f.write_str(match self {
+            Refusal::NoController => "there is no such controller",
+            Refusal::Outside => "not all of it lies inside",
+            Refusal::NotWhole => "the bytes are no whole number of blocks",
+            Refusal::MediumFault => "the medium failed",
+        })
+    }
+}
+
+impl std::error::Error for OpenError {}
+impl std::error::Error for Refusal {}

@@ -1,0 +1,35 @@
+-- A medium over blocks of its own, or over bytes that are lent.
+use Rattle.std.specs.Prelude.{◌≡◌, ◌<◌, ◌^◌, ℕ, ◌*◌, List, length, Bool, false, true}
+use Rattle.nvme_spec.specs.MediumCalls.{MediumCall}
+use Rattle.nvme_medium.specs.Memory.{memory_bytes, memory_step}
+use Rattle.nvme_lent.specs.Lent.{lent_bytes, lent_step}
+use Rattle.nvme_lent.specs.declared.either.OwnOrLent.{OwnOrLent}
+use Rattle.nvme_lent.specs.declared.either.OwnOrLent.TheVariants.{Own, Lent}
+
+-- the bytes of all blocks
+abbrev pub bytes_of : OwnOrLent → List ℕ
+bytes_of (Own m) = memory_bytes m
+bytes_of (Lent m) = lent_bytes m
+
+abbrev pub blocks_of : OwnOrLent → ℕ
+blocks_of (Own m) = m.blocks
+blocks_of (Lent m) = m.blocks
+
+-- a call is one of the medium that stands in it, and which kind that is stays
+abbrev pub step_of : OwnOrLent → MediumCall → OwnOrLent → Type 0
+step_of (Own old) call (Own new) = memory_step old call new
+step_of (Own old) call (Lent new) = ⊥
+step_of (Lent old) call (Own new) = ⊥
+step_of (Lent old) call (Lent new) = lent_step old call new
+
+abbrev pub countable_of : (m : OwnOrLent) → blocks_of m < 2 ^ 64
+countable_of (Own m) = m.countable
+countable_of (Lent m) = m.countable
+
+abbrev pub whole_of : (m : OwnOrLent) → length (bytes_of m) ≡ 512 * blocks_of m
+whole_of (Own m) = m.whole
+whole_of (Lent m) = m.whole
+
+abbrev pub is_lent : OwnOrLent → Bool
+is_lent (Own m) = false
+is_lent (Lent m) = true

@@ -1,0 +1,69 @@
+//! Blocks of one's own, or such as are lent.
+
+ghost use Rattle.std.specs.Prelude.{true};
+
+use crate::LentMedium;
+use nvme_medium::{Medium, MediumFault, MemMedium};
+
+/// A medium over blocks of its own, or over bytes that are lent to it for good. Its calls never fail.
+#[derive(Drop)]
+pub enum OwnOrLent {
+    Own(MemMedium),
+    Lent(LentMedium<'static>),
+}
+
+impl Medium for OwnOrLent {
+    ghost use Rattle.nvme_lent.specs.OwnOrLent.{bytes_of, blocks_of, step_of, countable_of, whole_of};
+
+    ghost tells = { true };
+
+    ghost device = { λ m. record { content = bytes_of m; failures = 0 } };
+
+    ghost size = { blocks_of };
+
+    ghost step = { step_of };
+
+    ghost countable = { countable_of };
+
+    ghost whole = { λ m _. whole_of m };
+
+    #[inline(always)]
+    fn blocks(&self) -> u64 {
+        match self {
+            OwnOrLent::Own(medium) => medium.blocks(),
+            OwnOrLent::Lent(medium) => medium.blocks(),
+        }
+    }
+
+    #[inline(always)]
+    fn read(&mut self, i: u64, buffer: &mut [u8; 512]) -> Result<(), MediumFault> {
+        match self {
+            OwnOrLent::Own(medium) => medium.read(i, buffer),
+            OwnOrLent::Lent(medium) => medium.read(i, buffer),
+        }
+    }
+
+    #[inline(always)]
+    fn read_onto(&mut self, i: u64, target: &mut [u8]) -> Result<(), MediumFault> {
+        match self {
+            OwnOrLent::Own(medium) => medium.read_onto(i, target),
+            OwnOrLent::Lent(medium) => medium.read_onto(i, target),
+        }
+    }
+
+    #[inline(always)]
+    fn write(&mut self, i: u64, block: &[u8; 512]) -> Result<(), MediumFault> {
+        match self {
+            OwnOrLent::Own(medium) => medium.write(i, block),
+            OwnOrLent::Lent(medium) => medium.write(i, block),
+        }
+    }
+
+    #[inline(always)]
+    fn flush(&mut self) -> Result<(), MediumFault> {
+        match self {
+            OwnOrLent::Own(medium) => medium.flush(),
+            OwnOrLent::Lent(medium) => medium.flush(),
+        }
+    }
+}

@@ -1,0 +1,10 @@
+//! Media for a library that C calls: bytes that C lends, and beside them blocks of the library's own.
+#![tactic(auto)]
+
+mod bytes;
+mod either;
+mod lent;
+
+pub use bytes::LentBytes;
+pub use either::OwnOrLent;
+pub use lent::LentMedium;

@@ -1,0 +1,23 @@
+-- What C holds: nothing, or a subsystem on the heap, and the right to free its place.
+use Rattle.std.specs.Prelude.{Option, Some, None}
+use base.Fml.{Fml, ftrue}
+use denote.RattleType.{RattleType}
+use denote.RawPtr.{Ptr}
+use Rattle.std.specs.Box.Ownership.{box_owns}
+use Rattle.std.specs.Global.{Global}
+use Rattle.std.specs.contracts.impls.GlobalAllocator.TheImpl.{ghosts}
+use Rattle.nvme_lent.specs.contracts.either.OwnOrLent as medium
+use Rattle.nvme_lent.specs.contracts.either.OwnOrLentMedium.TheImpl.{ghosts as medium_ghosts}
+use Rattle.nvme_subsys.specs.contracts.subsystem.Subsystem as subsystem
+
+-- a subsystem over a medium of its own blocks or of lent ones
+abbrev pub Row : RattleType
+Row = subsystem.the_row medium.the_row medium_ghosts
+
+-- as contracts see it: its state, and its medium
+abbrev pub Inside : Type 0
+Inside = Row.Denot
+
+abbrev pub holds : Global → Ptr → Option Inside → Fml
+holds alloc at None = ftrue
+holds alloc at (Some inside) = box_owns (ghosts.dealloc_token alloc) Row at inside

@@ -1,0 +1,87 @@
+//! What an event gave, as C sees it.
+
+ghost use Rattle.std.specs.Prelude.{◌≡◌};
+ghost use Rattle.nvme_library.specs.Answers.{answer_of, plain, posted, closed};
+
+use crate::codes;
+use nvme_machine::{BareExecuted, BareOutcome, BareSeen, Fetched};
+
+/// What an event gave: which answer it is, and what comes with it. What does not come with it is 0.
+#[repr(C)]
+#[derive(Clone, Copy)]
+pub struct Answer {
+    /// Which answer it is: one of the numbers of `codes`.
+    pub what: u32,
+    /// The value of the register, or double word 0 of the completion queue entry.
+    pub value: u32,
+    /// The Status Code Type of the completion queue entry.
+    pub sct: u8,
+    /// Its Status Code.
+    pub sc: u8,
+    /// The number of the rule that denied the command, or 0 where it was allowed.
+    pub rule: u8,
+}
+
+impl Answer {
+    /// An answer with nothing beside it.
+    #[inline(always)]
+    fn plain(what: u32) -> Self
+        ensures { result ≡ plain what }
+    {
+        Answer {
+            what,
+            value: 0,
+            sct: 0,
+            sc: 0,
+            rule: 0,
+        }
+    }
+
+    /// A completion was posted.
+    #[inline(always)]
+    fn posted(outcome: BareOutcome) -> Self
+        ensures { result ≡ posted outcome }
+    {
+        Answer {
+            what: codes::POSTED,
+            value: outcome.dw0,
+            sct: outcome.status.sct,
+            sc: outcome.status.sc,
+            rule: outcome.rule,
+        }
+    }
+
+    /// No subsystem is open.
+    #[inline(always)]
+    pub(crate) fn closed() -> Self
+        ensures { result ≡ closed }
+    {
+        Answer::plain(codes::CLOSED)
+    }
+
+    /// What an event gave.
+    #[inline(always)]
+    pub(crate) fn of(seen: BareSeen) -> Self
+        ensures { result ≡ answer_of seen }
+    {
+        match seen {
+            BareSeen::Stored => Answer::plain(codes::STORED),
+            BareSeen::Outside => Answer::plain(codes::OUTSIDE),
+            BareSeen::Wrote => Answer::plain(codes::WROTE),
+            BareSeen::Value(value) => Answer {
+                what: codes::VALUE,
+                value,
+                sct: 0,
+                sc: 0,
+                rule: 0,
+            },
+            BareSeen::Fetched(Fetched::Took) => Answer::plain(codes::TOOK),
+            BareSeen::Fetched(Fetched::Idle) => Answer::plain(codes::IDLE),
+            BareSeen::Executed(BareExecuted::Posted(outcome)) => Answer::posted(outcome),
+            BareSeen::Executed(BareExecuted::NoSuch) => Answer::plain(codes::NO_SUCH),
+            BareSeen::Executed(BareExecuted::CqFull) => Answer::plain(codes::CQ_FULL),
+            BareSeen::Cycled => Answer::plain(codes::CYCLED),
+            BareSeen::NoController => Answer::plain(codes::NO_CONTROLLER),
+        }
+    }
+}

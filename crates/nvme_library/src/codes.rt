@@ -1,0 +1,50 @@
+//! The numbers of answers: up to 9 what a call gave, from 16 on why it did nothing. `nvmesim.h` has the same.
+
+/// It was done, and there is no more to say.
+pub const OK: u32 = 0;
+/// The bytes are stored.
+pub const STORED: u32 = 1;
+/// The register is written.
+pub const WROTE: u32 = 2;
+/// The value of the register.
+pub const VALUE: u32 = 3;
+/// A command was fetched.
+pub const TOOK: u32 = 4;
+/// There was no command to fetch.
+pub const IDLE: u32 = 5;
+/// The command was executed, and its completion posted.
+pub const POSTED: u32 = 6;
+/// There is no such command.
+pub const NO_SUCH: u32 = 7;
+/// The completion queue has no room; the command waits.
+pub const CQ_FULL: u32 = 8;
+/// Power was lost, and came back.
+pub const CYCLED: u32 = 9;
+
+/// No subsystem is open.
+pub const CLOSED: u32 = 16;
+/// There is no such controller.
+pub const NO_CONTROLLER: u32 = 17;
+/// Not all the bytes lie in the memory, or not all the blocks in such a namespace.
+pub const OUTSIDE: u32 = 18;
+/// The bytes are no whole number of blocks.
+pub const NOT_WHOLE: u32 = 19;
+/// The medium failed.
+pub const MEDIUM_FAULT: u32 = 20;
+/// The caller's header is of another version.
+pub const BAD_VERSION: u32 = 21;
+/// A subsystem is open already.
+pub const ALREADY_OPEN: u32 = 22;
+/// An identifier of the configuration is wrong.
+pub const BAD_ID: u32 = 23;
+/// A namespace has no blocks, or too many.
+pub const BAD_SIZE: u32 = 24;
+/// There are too many controllers, namespaces or attachments.
+pub const TOO_MANY: u32 = 25;
+/// The namespaces have more blocks together than the medium.
+pub const DOES_NOT_FIT: u32 = 26;
+/// Memory was refused.
+pub const NO_MEMORY: u32 = 27;
+
+/// The version of the interface. It changes whenever a program that was built for it would have to change.
+pub const VERSION: u32 = 1;

@@ -1,0 +1,110 @@
+//! The events of a subsystem, each in a call of its own.
+
+ghost use Rattle.nvme_machine.specs.Controllers.{after_store, wrote, has_read, after_fetch};
+ghost use Rattle.nvme_library.specs.Events.{Happens, Reacting, Executing, Cycling};
+
+use crate::answer::Answer;
+use crate::handle::Handle;
+use nvme_spec::Marks;
+use nvme_subsys::Event;
+use std::alloc::Global;
+
+/// A host stores bytes in its memory, from this address on: `STORED`; or `OUTSIDE`, `NO_CONTROLLER` or `CLOSED`, and
+/// nothing is stored.
+#[unsafe(no_mangle)]
+pub extern "C" fn nvmesim_store(
+    alloc: Global,
+    sim: &mut Handle,
+    cntlid: u16,
+    address: u64,
+    bytes: &[u8],
+) -> Answer
+    ensures { Happens (Reacting cntlid (after_store address bytes.now)) sim.old.slot.value result sim.new.slot.value }
+{
+    let Some(mut subsystem) = sim.take(alloc) else {
+        return Answer::closed();
+    };
+    let seen = subsystem.react(Event::Store(cntlid, address, bytes));
+    *sim = Handle::of(subsystem);
+    Answer::of(seen)
+}
+
+/// A host writes a register of its controller, a doorbell among them: `WROTE`; or `NO_CONTROLLER` or `CLOSED`.
+#[unsafe(no_mangle)]
+pub extern "C" fn nvmesim_write32(
+    alloc: Global,
+    sim: &mut Handle,
+    cntlid: u16,
+    offset: u64,
+    value: u32,
+) -> Answer
+    ensures { Happens (Reacting cntlid (wrote offset value)) sim.old.slot.value result sim.new.slot.value }
+{
+    let Some(mut subsystem) = sim.take(alloc) else {
+        return Answer::closed();
+    };
+    let seen = subsystem.react(Event::Write32(cntlid, offset, value));
+    *sim = Handle::of(subsystem);
+    Answer::of(seen)
+}
+
+/// A host reads a register of its controller: `VALUE`, with the value; or `NO_CONTROLLER` or `CLOSED`.
+#[unsafe(no_mangle)]
+pub extern "C" fn nvmesim_read32(
+    alloc: Global,
+    sim: &mut Handle,
+    cntlid: u16,
+    offset: u64,
+) -> Answer
+    ensures { Happens (Reacting cntlid (has_read offset)) sim.old.slot.value result sim.new.slot.value }
+{
+    let Some(mut subsystem) = sim.take(alloc) else {
+        return Answer::closed();
+    };
+    let seen = subsystem.react(Event::Read32(cntlid, offset));
+    *sim = Handle::of(subsystem);
+    Answer::of(seen)
+}
+
+/// A controller fetches the next command of a submission queue: `TOOK`, or `IDLE` where there is none to fetch; or
+/// `NO_CONTROLLER` or `CLOSED`.
+#[unsafe(no_mangle)]
+pub extern "C" fn nvmesim_fetch(alloc: Global, sim: &mut Handle, cntlid: u16, qid: u16) -> Answer
+    ensures { Happens (Reacting cntlid (after_fetch qid)) sim.old.slot.value result sim.new.slot.value }
+{
+    let Some(mut subsystem) = sim.take(alloc) else {
+        return Answer::closed();
+    };
+    let seen = subsystem.react(Event::Fetch(cntlid, qid));
+    *sim = Handle::of(subsystem);
+    Answer::of(seen)
+}
+
+/// A controller executes the i-th, from 0, of the commands that it has fetched and not executed, and posts its
+/// completion: `POSTED`, with the status; `NO_SUCH`, or `CQ_FULL` where the command waits; or `NO_CONTROLLER` or
+/// `CLOSED`.
+#[unsafe(no_mangle)]
+pub extern "C" fn nvmesim_execute(alloc: Global, sim: &mut Handle, cntlid: u16, i: usize) -> Answer
+    ensures { Happens (Executing cntlid i) sim.old.slot.value result sim.new.slot.value }
+{
+    let Some(mut subsystem) = sim.take(alloc) else {
+        return Answer::closed();
+    };
+    let mut marks = Marks::none();
+    let seen = subsystem.execute_marking(cntlid, i, &mut marks);
+    *sim = Handle::of(subsystem);
+    Answer::of(seen)
+}
+
+/// Power is lost in all of the subsystem, and comes back: `CYCLED`, or `CLOSED`.
+#[unsafe(no_mangle)]
+pub extern "C" fn nvmesim_power_cycle(alloc: Global, sim: &mut Handle) -> Answer
+    ensures { Happens Cycling sim.old.slot.value result sim.new.slot.value }
+{
+    let Some(mut subsystem) = sim.take(alloc) else {
+        return Answer::closed();
+    };
+    let seen = subsystem.react(Event::PowerCycle);
+    *sim = Handle::of(subsystem);
+    Answer::of(seen)
+}

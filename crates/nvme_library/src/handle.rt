@@ -1,0 +1,66 @@
+//! What C holds of a subsystem.
+
+ghost use Rattle.std.specs.Prelude.{◌≡◌, Some, None, is_some, IfSome, IfNone};
+
+use crate::slot::Slot;
+use box_pointer::BoxPointer;
+use nvme_lent::OwnOrLent;
+use nvme_subsys::Subsystem;
+use std::alloc::Global;
+use std::mem;
+
+/// A subsystem that is open, or none: `is_open` says which.
+#[repr(C)]
+#[derive(Drop)]
+pub struct Handle {
+    pub(crate) slot: Slot,
+    is_open: bool,
+    ghost told: { is_some slot.value ≡ is_open },
+}
+
+impl Handle {
+    /// None.
+    #[inline(always)]
+    pub(crate) fn closed(alloc: Global) -> Handle
+        ensures { result.slot.value ≡ None }
+    {
+        Handle {
+            slot: Slot::empty(alloc),
+            is_open: false,
+        }
+    }
+
+    /// This subsystem.
+    #[inline(always)]
+    pub(crate) fn of(subsystem: Box<Subsystem<OwnOrLent>>) -> Handle
+        ensures { result.slot.value ≡ Some subsystem.entry.value }
+    {
+        Handle {
+            slot: Slot::of(BoxPointer::of(subsystem)),
+            is_open: true,
+        }
+    }
+
+    /// Whether one is open.
+    #[inline(always)]
+    pub(crate) fn is_open(&self) -> bool
+        ensures { result ≡ is_some self.now.slot.value }
+    {
+        self.is_open
+    }
+
+    /// Takes the subsystem out, if one is open.
+    #[inline(always)]
+    pub(crate) fn take(&mut self, alloc: Global) -> Option<Box<Subsystem<OwnOrLent>>>
+        ensures emptied { self.new.slot.value ≡ None }
+        ensures some { IfSome result (λ subsystem. self.old.slot.value ≡ Some subsystem.value) }
+        ensures none { IfNone result (self.old.slot.value ≡ None) }
+    {
+        let Handle { slot, is_open } = mem::replace(self, Handle::closed(alloc));
+        if is_open {
+            Some(slot.into_pointer().into_box())
+        } else {
+            None
+        }
+    }
+}

@@ -1,0 +1,16 @@
+//! The subsystem as a library for C. Each export is one call of `Subsystem`, and repeats what that call promises. What
+//! is wrong with a call is its answer: no export has a `requires`, since nothing checks that C meets one.
+#![tactic(auto)]
+
+mod answer;
+mod codes;
+mod configuration;
+pub mod events;
+mod handle;
+pub mod looking;
+pub mod opening;
+mod slot;
+
+pub use answer::Answer;
+pub use configuration::{Attached, Controller, Namespace};
+pub use handle::Handle;

@@ -1,0 +1,82 @@
+//! What C reads of a host's memory and of the medium.
+
+ghost use Rattle.std.specs.Prelude.{◌≡◌, ◌%◌, ◌/◌, length};
+ghost use Rattle.nvme_machine.specs.Subsystems.{controller_at};
+ghost use Rattle.nvme_library.specs.Looking.{Loads, LoadsFrom, LooksHeld, look_number};
+
+use crate::codes;
+use crate::handle::Handle;
+use nvme_lent::OwnOrLent;
+use nvme_medium::MediumFault;
+use nvme_subsys::Subsystem;
+use std::alloc::Global;
+
+/// Loads bytes of the memory of a controller's host, from this address on: `OK`; or `OUTSIDE`, `NO_CONTROLLER` or
+/// `CLOSED`, and the buffer is as it was.
+#[unsafe(no_mangle)]
+pub extern "C" fn nvmesim_load(
+    alloc: Global,
+    sim: &mut Handle,
+    cntlid: u16,
+    address: u64,
+    bytes: &mut [u8],
+) -> u32
+    ensures loads { Loads sim.old.slot.value cntlid address bytes.old result bytes.new }
+    ensures kept { sim.new.slot.value ≡ sim.old.slot.value }
+{
+    let Some(subsystem) = sim.take(alloc) else {
+        return codes::CLOSED;
+    };
+    let answer = load_from(&subsystem, cntlid, address, bytes);
+    *sim = Handle::of(subsystem);
+    answer
+}
+
+/// Reads blocks of a namespace as the medium has them: `OK`; or `OUTSIDE` where they do not all lie in such a namespace,
+/// `NOT_WHOLE` or `CLOSED`, and the buffer is as it was; or `MEDIUM_FAULT`, and it has the blocks before the fault. No
+/// host reads here, so no reservation is asked.
+#[unsafe(no_mangle)]
+pub extern "C" fn nvmesim_read_blocks(
+    alloc: Global,
+    sim: &mut Handle,
+    nsid: u32,
+    slba: u64,
+    bytes: &mut [u8],
+) -> u32
+    ensures { LooksHeld sim.old.slot.value nsid slba bytes.old result bytes.new sim.new.slot.value }
+{
+    if !bytes.len().is_multiple_of(512) {
+        return codes::NOT_WHOLE;
+    }
+    let Some(mut subsystem) = sim.take(alloc) else {
+        return codes::CLOSED;
+    };
+    let looked = subsystem.read_blocks(nsid, slba, bytes);
+    *sim = Handle::of(subsystem);
+    number_of(looked)
+}
+
+/// Copies bytes out of a controller's window.
+fn load_from(subsystem: &Subsystem<OwnOrLent>, cntlid: u16, address: u64, bytes: &mut [u8]) -> u32
+    ensures { LoadsFrom (controller_at subsystem.now.state cntlid) address bytes.old result bytes.new }
+{
+    let Some(controller) = subsystem.controller(cntlid) else {
+        return codes::NO_CONTROLLER;
+    };
+    let Some(piece) = controller.window().piece(address, bytes.len() as u64) else {
+        return codes::OUTSIDE;
+    };
+    bytes.copy_from_slice(piece);
+    codes::OK
+}
+
+/// The number of what a look at blocks came to.
+fn number_of(looked: Option<Result<(), MediumFault>>) -> u32
+    ensures { result ≡ look_number looked }
+{
+    match looked {
+        Some(Ok(())) => codes::OK,
+        Some(Err(MediumFault)) => codes::MEDIUM_FAULT,
+        None => codes::OUTSIDE,
+    }
+}

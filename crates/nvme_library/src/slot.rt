@@ -1,0 +1,59 @@
+//! Where a subsystem stands that C holds.
+
+ghost use Rattle.std.specs.Prelude.{◌≡◌, Option, Some, None, true, is_some};
+ghost use Rattle.nvme_library.specs.Holding.{Inside, holds};
+
+use box_pointer::BoxPointer;
+use nvme_lent::OwnOrLent;
+use nvme_subsys::Subsystem;
+use std::alloc::Global;
+use std::marker::Model;
+use std::ptr;
+
+/// The place of a subsystem on the heap, or nothing.
+#[repr(C)]
+#[derive(Drop)]
+pub struct Slot {
+    at: *mut u8,
+    alloc: Global,
+    pub ghost value: { Option Inside },
+}
+
+impl Model for Slot {
+    ghost also_owns = { λ slot. holds slot.alloc slot.at slot.value };
+}
+
+impl Slot {
+    /// The place of this one.
+    pub(crate) fn of(pointer: BoxPointer<Subsystem<OwnOrLent>, Global>) -> Slot
+        ensures { result.value ≡ Some pointer.entry.value }
+    {
+        let BoxPointer { at, alloc } = pointer;
+        Slot {
+            at: at as *mut u8,
+            alloc,
+        }
+    }
+
+    /// The one that stands there.
+    pub(crate) fn into_pointer(self) -> BoxPointer<Subsystem<OwnOrLent>, Global>
+        requires { is_some self.value ≡ true }
+        ensures { self.value ≡ Some result.value }
+    {
+        let Slot { at, alloc } = self;
+        BoxPointer {
+            at: at as *mut Subsystem<OwnOrLent>,
+            alloc,
+        }
+    }
+
+    /// Nothing.
+    pub(crate) fn empty(alloc: Global) -> Slot
+        ensures { result.value ≡ None }
+    {
+        Slot {
+            at: ptr::null_mut(),
+            alloc,
+        }
+    }
+}
