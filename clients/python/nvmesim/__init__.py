@@ -14,6 +14,7 @@
 from __future__ import annotations
 
 from .answers import Answer, parse_answer
+from .backends import LibraryHost, LibrarySubsystem
 from .controllers import Controller, RawHost
 from .enums import (AcquireAction, AdminOpcode, ExecuteOutcome, IoOpcode, Persistence, PollOutcome, Protection, Refusal,
                     RegisterAction, ReleaseAction, ReservationType, Rule, Status, UpOutcome)
@@ -28,8 +29,8 @@ from .subsystem import Subsystem
 
 __all__ = [
     "AcquireAction", "AdminOpcode", "Answer", "Command", "ConfigurationRefused", "Controller", "Event",
-    "ExecuteOutcome", "ExpressionError", "Host", "IoOpcode", "LineError", "Namespace", "NotDone", "NvmeError",
-    "NvmesimError", "Persistence", "PollOutcome", "ProgramDied", "ProgramHangs", "ProgramNotFound", "Protection",
+    "ExecuteOutcome", "ExpressionError", "Host", "IoOpcode", "LibraryHost", "LibrarySubsystem", "LineError", "Namespace",
+    "NotDone", "NvmeError", "NvmesimError", "Persistence", "PollOutcome", "ProgramDied", "ProgramHangs", "ProgramNotFound", "Protection",
     "ProtocolError", "RawHost", "Refusal", "RegisterAction", "ReleaseAction", "ReportedController", "RequestAborted",
     "RequestRefused", "ReservationReport", "ReservationType", "Rule", "ScriptError", "Session", "SessionClosed",
     "SessionError", "Status", "Subsystem", "UpOutcome", "parse_answer", "parse_report",

@@ -1,26 +1,24 @@
-"""The command line: `python3 -m nvmesim explain`, `timeline` and `explore`; `--help` of each says the rest."""
+"""The command line: `python3 -m nvmesim` with a command such as `explain`; `--help` of each says the rest."""
 from __future__ import annotations
 
 import argparse
 import os
 import sys
-import time
 from pathlib import Path
-from typing import Callable, List, NoReturn, Optional, Sequence
+from typing import Callable, NoReturn, Optional, Sequence
 
 from . import __version__
+from .conform import command as conforming
 from .errors import NvmesimError
-from .explain import explain
-from .explore import Medium, Plan, Shard, Statistics, explore
-from .explore.dask import explore_on_dask
-from .explore.expressions import Expression
-from .explore.outcomes import Findings
-from .explore.report import Check, Report
-from .explore.shards import json_lines, merge
-from .explore.states import Looks
+from .expect import command as testing
+from .explain import causes_of, explain, run_script
+from .explore import command
 from .process import VARIABLE
+from .scene import MOST, scene
 from .session import SECONDS, Session
-from .timeline import timeline
+from .shell import command as terminal
+from .texts import text_of
+from .timeline import png, svg, timeline, watched
 
 _FAULT = 2
 
@@ -28,9 +26,9 @@ _FAULT = 2
 def main(given: Optional[Sequence[str]] = None) -> int:
     """Carries a command out; its exit status: 0, or 1 where a check fails, or 2 where it can't be carried out."""
     words = _parser().parse_args(given)
-    command: Callable[[argparse.Namespace], int] = words.command
+    carry_out: Callable[[argparse.Namespace], int] = words.command
     try:
-        status = command(words)
+        status = carry_out(words)
         sys.stdout.flush()
         return status
     except BrokenPipeError:
@@ -58,7 +56,8 @@ class _Parser(argparse.ArgumentParser):
 def _parser() -> argparse.ArgumentParser:
     """What the command line may have."""
     parser = _Parser(prog="python3 -m nvmesim", description="Scripts of the proved NVMe subsystem: "
-                                     "what their lines mean, pictures of them, and every order of their events.")
+                                     "what their lines mean, pictures of them, every order of their events, and "
+                                     "scripts as tests.")
     parser.add_argument("--version", action="version", version=f"nvmesim {__version__}")
     commands = parser.add_subparsers(required=True, metavar="COMMAND")
     told = commands.add_parser("explain", help="a script and its transcript side by side, with what each line means")
@@ -66,12 +65,35 @@ def _parser() -> argparse.ArgumentParser:
     told.add_argument("--width", type=int, default=0, metavar="N", help="columns of a line; else those of the terminal")
     told.add_argument("--no-comments", action="store_true", help="leave the script's comments out")
     told.set_defaults(command=_explain)
-    drawn = commands.add_parser("timeline", help="one HTML page with a picture of what happened")
+    drawn = commands.add_parser("timeline", help="a picture of what happened: a page, SVG or PNG")
     _add_texts(drawn)
     drawn.add_argument("-o", "--output", metavar="FILE", help="where the page goes; else to standard output")
+    drawn.add_argument("--format", choices=("html", "svg", "png"), help="of the file; else as the name of -o ends, or "
+                       "a page")
     drawn.add_argument("--title", help="the heading; else the name of the script")
     drawn.set_defaults(command=_timeline)
-    _add_explore(commands.add_parser("explore", help="every order of the marked events of a script"))
+    made = commands.add_parser("scene", help="a script for explore of the lines that a session was sent")
+    made.add_argument("script", metavar="KEPT", help="the lines of a session, or a script; - is standard input")
+    made.add_argument("--from", dest="begin", type=int, default=0, metavar="LINE", help="the line from which on events "
+                      "come in any order; else it is chosen")
+    made.add_argument("--apart", type=int, action="append", default=[], metavar="C",
+                      help="what controller C fetches and executes is a part of its own")
+    made.add_argument("--most", type=int, default=MOST, metavar="N", help="so many states at least the scene may have")
+    made.add_argument("-o", "--output", metavar="FILE", help="where the scene goes; else to standard output")
+    made.set_defaults(command=_scene)
+    explored = commands.add_parser("explore", help="every order of the marked events of a script")
+    command.add_options(explored)
+    _add_program(explored)
+    explored.set_defaults(command=_explore)
+    tested = commands.add_parser("test", help="scripts as tests: the expectations in their comments")
+    testing.add_arguments(tested)
+    _add_program(tested)
+    typed = commands.add_parser("shell", help="a session at a terminal: a prompt, and looks that decode")
+    terminal.add_arguments(typed)
+    _add_program(typed)
+    compared = commands.add_parser("conform", help="a device beside the model: the first answer that differs")
+    conforming.add_arguments(compared)
+    _add_program(compared)
     return parser
 
 
@@ -88,48 +110,14 @@ def _add_texts(parser: argparse.ArgumentParser) -> None:
     _add_program(parser)
 
 
-def _add_explore(parser: argparse.ArgumentParser) -> None:
-    parser.description = ("Runs the marked parts of a script in every order that keeps each part's own, and says what "
-                          "they come to. Exit status 1: something of --always or --never fails.")
-    parser.add_argument("script", metavar="SCRIPT", nargs="?", help="a script whose parts begin with comments "
-                        "'# host NAME' and end with '# then'")
-    parser.add_argument("--always", action="append", default=[], metavar="EXPR", help="must hold of every order")
-    parser.add_argument("--never", action="append", default=[], metavar="EXPR", help="must hold of no order")
-    parser.add_argument("--counterexample", metavar="FILE", help="write the first counterexample there, as a script")
-    parser.add_argument("--image", metavar="IMAGE", help="each run begins with a copy of this image, which is never "
-                        "written; without it, with zeros in memory")
-    parser.add_argument("--jobs", type=int, default=min(4, os.cpu_count() or 1), metavar="N", help="runs at once")
-    parser.add_argument("--shard", metavar="K/N", help="explore the K-th of N parts, and print JSON lines")
-    parser.add_argument("--merge", nargs="+", metavar="FILE", help="join what --shard printed; no script is wanted")
-    parser.add_argument("--dask", metavar="ADDRESS", help="hand the parts to a Dask cluster")
-    parser.add_argument("--shards", type=int, default=32, metavar="N", help="with --dask: so many parts")
-    parser.add_argument("--statistics", action="store_true", help="say on standard error what it took")
-    _add_program(parser)
-    parser.set_defaults(command=_explore)
-
-
-def _text_of(name: str) -> str:
-    """The text of a file, or of standard input."""
-    data = sys.stdin.buffer.read() if name == "-" else Path(name).read_bytes()
-    try:
-        return data.decode("utf-8").replace("\r\n", "\n")
-    except UnicodeDecodeError as fault:
-        raise NvmesimError(f"{name} is no text: its byte {fault.start} is no UTF-8") from None
-
-
-def _transcript(words: argparse.Namespace, script: str) -> str:
-    """The transcript that was given, or the one that the program makes."""
-    if words.transcript is not None:
-        return _text_of(words.transcript)
-    with Session(program=words.program, seconds=words.seconds) as session:
-        session.run(script)
-        return session.transcript
-
-
 def _explain(words: argparse.Namespace) -> int:
-    script = _text_of(words.script)
-    columns = words.width or _columns()
-    for line in explain(script, _transcript(words, script), columns, not words.no_comments):
+    script = text_of(words.script)
+    if words.transcript is None:
+        transcript, causes = run_script(script, words.program, words.seconds)
+    else:
+        transcript = text_of(words.transcript)
+        causes = causes_of(script, transcript, words.program, words.seconds)
+    for line in explain(script, transcript, words.width or _columns(), not words.no_comments, causes):
         print(line)
     return 0
 
@@ -143,83 +131,38 @@ def _columns() -> int:
 
 
 def _timeline(words: argparse.Namespace) -> int:
-    script = _text_of(words.script)
-    page = timeline(script, _transcript(words, script), words.title or Path(words.script).name)
-    if words.output is None:
-        print(page, end="")
+    script = text_of(words.script)
+    title = words.title or Path(words.script).name
+    form = words.format or Path(words.output or "").suffix.lstrip(".").lower()
+    if words.transcript is not None:
+        transcript, told = text_of(words.transcript), []
     else:
-        Path(words.output).write_text(page, encoding="utf-8")
+        with Session(program=words.program, seconds=words.seconds) as session:
+            transcript, told = watched(session, script)
+    if form == "png":
+        if words.output is None:
+            raise NvmesimError("a PNG file needs a name: -o FILE")
+        png(script, transcript, title, Path(words.output), told)
+    else:
+        _write(words.output, (svg if form == "svg" else timeline)(script, transcript, title, told))
     return 0
 
 
-def _explore(words: argparse.Namespace) -> int:
-    if (words.script is None) == (words.merge is None):
-        raise NvmesimError("explore wants a SCRIPT, or --merge and files")
-    if words.jobs < 1 or words.shards < 1:
-        raise NvmesimError("--jobs and --shards are 1 at least")
-    if words.merge is not None and words.image is not None:
-        raise NvmesimError("--image stands where parts are explored, and not at their --merge")
-    if words.merge is not None:
-        plan, found = merge([_text_of(it).splitlines() for it in words.merge], words.merge)
-        return _report(words, plan, _checks(words, plan), found)
-    plan = Plan(_text_of(words.script))
-    checks = _checks(words, plan)
-    if words.shard is not None:
-        if checks or words.dask is not None:
-            raise NvmesimError("--shard prints what --merge judges: give --always and --never there")
-        shard = Shard.parse(words.shard)
-        with Medium(words.image) as medium:
-            found = _found(words, plan, shard, medium)
-        for line in json_lines(plan, shard, found, medium.digest):
-            print(line)
-        return 0
-    if words.dask is not None:
-        found = explore_on_dask(plan, words.dask, words.shards, words.program, words.seconds, words.image)
+def _scene(words: argparse.Namespace) -> int:
+    _write(words.output, scene(text_of(words.script), words.begin, words.most, words.apart))
+    return 0
+
+
+def _write(name: Optional[str], text: str) -> None:
+    """Writes a text to a file, or to standard output."""
+    if name is None:
+        print(text, end="")
     else:
-        with Medium(words.image) as medium:
-            found = _found(words, plan, Shard(1, 1), medium)
-    return _report(words, plan, checks, found)
+        Path(name).write_text(text, encoding="utf-8")
 
 
-def _checks(words: argparse.Namespace, plan: Plan) -> List[Check]:
-    """What must hold, and what must not."""
-    blocks = Looks(plan).blocks
-    return [Check(Expression(text, plan, blocks), is_wanted)
-            for texts, is_wanted in ((words.always, True), (words.never, False)) for text in texts]
-
-
-def _found(words: argparse.Namespace, plan: Plan, shard: Shard, medium: Medium) -> Findings:
-    """Explores here, and shows on a terminal how far it is."""
-    begun, shown = time.monotonic(), [0.0]
-    last = Statistics()
-    is_terminal = sys.stderr.isatty()
-
-    def report(statistics: Statistics) -> None:
-        last.runs, last.lines, last.states = statistics.runs, statistics.lines, statistics.states
-        now = time.monotonic()
-        if is_terminal and now - shown[0] > 0.1:
-            shown[0] = now
-            print(f"\r{_told(statistics)}, {now - begun:.1f} seconds ", end="", file=sys.stderr, flush=True)
-
-    found = explore(plan, words.program, shard.prefixes(plan), words.jobs, words.seconds, report, medium)
-    if is_terminal:
-        print("\r\033[K", end="", file=sys.stderr, flush=True)
-    if words.statistics:
-        print(f"{_told(last)}, {time.monotonic() - begun:.2f} seconds", file=sys.stderr)
-    return found
-
-
-def _told(statistics: Statistics) -> str:
-    return f"{statistics.states} states, {statistics.runs} runs of {statistics.lines} lines"
-
-
-def _report(words: argparse.Namespace, plan: Plan, checks: Sequence[Check], found: Findings) -> int:
-    """Prints what was found; 1 where something is not as it must be."""
-    report = Report(plan, found, checks)
-    print("\n".join(report.lines()))
-    if words.counterexample and not report.is_good:
-        Path(words.counterexample).write_text(report.counterexample(), encoding="utf-8")
-    return 0 if report.is_good else 1
+def _explore(words: argparse.Namespace) -> int:
+    return command.run(words, text_of)
 
 
 if __name__ == "__main__":

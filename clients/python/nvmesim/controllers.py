@@ -1,7 +1,7 @@
 """A controller and its host's raw side, as objects."""
 from __future__ import annotations
 
-from typing import Dict, List, Type, TypeVar
+from typing import Dict, Iterable, List, Protocol, Type, TypeVar, Union
 
 from . import lines, looks
 from .answers import Executed, Fetched, Stored, Wrote32
@@ -18,6 +18,31 @@ def answer_of(event: Event, kind: Type[_A]) -> _A:
     if not isinstance(event.answer, kind):
         raise NotDone(f"{event.line.text!r} was answered {event.text!r}")
     return event.answer
+
+
+class Numbered(Protocol):
+    """What has the number of a controller: a controller, a host with a driver, or a raw host."""
+
+    @property
+    def number(self) -> int:
+        """The number of its controller, from 1."""
+
+
+ControllerLike = Union[int, Numbered]
+"""A controller, by its number or by its host."""
+ControllersLike = Union[ControllerLike, Iterable[ControllerLike]]
+"""One controller or several."""
+
+
+def number_of(controller: ControllerLike) -> int:
+    """The number of a controller."""
+    return controller if isinstance(controller, int) else controller.number
+
+
+def numbers_of(controllers: ControllersLike) -> List[int]:
+    """The numbers of controllers, in their order."""
+    several = controllers if isinstance(controllers, Iterable) else [controllers]
+    return [number_of(it) for it in several]
 
 
 class Controller:

@@ -1,13 +1,23 @@
 """What goes wrong between a client and the subsystem, one class a cause."""
 from __future__ import annotations
 
-from typing import Optional
+from typing import Any, Dict, Optional, Tuple, Type
 
 from .enums import Refusal, Rule, Status
 
 
 class NvmesimError(Exception):
-    """The base of every exception of this package."""
+    """The base of every exception of this package. It can be pickled, so that it comes from a worker of a cluster."""
+
+    def __reduce__(self) -> Tuple[Any, ...]:
+        return _as_it_was, (type(self), self.args, self.__dict__)
+
+
+def _as_it_was(kind: Type[NvmesimError], words: Tuple[Any, ...], attributes: Dict[str, Any]) -> NvmesimError:
+    """An exception without a call of its class, which takes other arguments than the words that it has."""
+    made = kind.__new__(kind, *words)
+    made.__dict__.update(attributes)
+    return made
 
 
 class ProtocolError(NvmesimError):
@@ -145,11 +155,13 @@ class ScriptError(NvmesimError):
 
     Attributes:
         number: the line at fault, from 1, or 0.
+        why: what is wrong, without the line's number.
     """
 
     def __init__(self, number: int, why: str) -> None:
         super().__init__(f"line {number}: {why}" if number else why)
         self.number = number
+        self.why = why
 
 
 class ExpressionError(NvmesimError):

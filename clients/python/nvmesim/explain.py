@@ -2,16 +2,51 @@
 from __future__ import annotations
 
 import textwrap
-from typing import Iterable, Iterator, List, Sequence
+from typing import Dict, Iterable, Iterator, List, Mapping, Optional, Sequence, Tuple
 
+from .causes import event_cause
+from .errors import NvmesimError
 from .history import Event, follow
+from .process import PathLike
 from .script import LineKind, ScriptLine, configuration_of, read_lines
+from .session import SECONDS, Session
 from .words import configuration_words, meaning, shortened
 
 _LEAST_WORDS = 30
 
 
-def explain(script: str, transcript: str, width: int = 120, comments: bool = True) -> Iterator[str]:
+def run_script(script: str, program: Optional[PathLike] = None,
+               seconds: float = SECONDS) -> Tuple[str, Dict[int, str]]:
+    """Runs a script over zeros in memory: its transcript, and by their numbers why events denied a command."""
+    lines = list(read_lines(script))
+    configuration, causes = configuration_of(lines), {}
+    with Session(program=program, seconds=seconds) as session:
+        for line in lines:
+            if line.kind is LineKind.CONFIGURATION:
+                session.configure(line.text)
+            elif line.kind is LineKind.START:
+                session.start()
+            elif line.kind is LineKind.EVENT:
+                event = session.event(line.text)
+                causes[event.number] = event_cause(event, configuration, session.look)
+        return session.transcript, {number: words for number, words in causes.items() if words}
+
+
+def causes_of(script: str, transcript: str, program: Optional[PathLike] = None,
+              seconds: float = SECONDS) -> Dict[int, str]:
+    """Why the events of a transcript denied commands, as far as a run of the script, where one can be had, is
+    answered alike."""
+    try:
+        came, causes = run_script(script, program, seconds)
+    except NvmesimError:
+        return {}
+    pairs = enumerate(zip(came.split("\n"), transcript.split("\n")), 1)
+    same = {number for number, (one, two) in pairs if one == two}
+    return {number: words for number, words in causes.items() if number in same}
+
+
+def explain(script: str, transcript: str, width: int = 120, comments: bool = True,
+            causes: Mapping[int, str] = {}) -> Iterator[str]:
     """The lines of the explanation: a script's line, what was printed for it, and the meaning.
 
     Args:
@@ -19,6 +54,7 @@ def explain(script: str, transcript: str, width: int = 120, comments: bool = Tru
         transcript: what `nvmesim` printed for it.
         width: the columns of a line; meanings are folded, other columns are cut short.
         comments: whether the script's comments and blank lines are shown.
+        causes: why events denied commands, by their numbers.
 
     Raises:
         ScriptError: the script can't be read, or the two have different counts of events.
@@ -31,7 +67,9 @@ def explain(script: str, transcript: str, width: int = 120, comments: bool = Tru
     for line in lines:
         event = events.get(line.number)
         if event is not None:
-            yield from _row(line, event.text, meaning(event, configuration), widths)
+            words = meaning(event, configuration)
+            words += f": {causes[event.number]}" if event.number in causes else ""
+            yield from _row(line, event.text, words, widths)
         elif line.kind in (LineKind.CONFIGURATION, LineKind.START):
             yield from _row(line, "", configuration_words(line), widths)
         elif comments:

@@ -6,7 +6,7 @@ from typing import Dict, Iterable, List, Optional, Sequence
 
 from .answers import (Answer, Executed, Fetched, Placed, Polled, PowerCycled, Reset, Rung, Stored, Up, Wrote32,
                       parse_answer)
-from .enums import ExecuteOutcome, PollOutcome, Rule, Status, UpOutcome
+from .enums import AdminOpcode, ExecuteOutcome, PollOutcome, Rule, Status, UpOutcome
 from .errors import ProtocolError, ScriptError
 from .raw import Entry, RawQueues
 from .script import Configuration, ScriptLine, configuration_of, events_of
@@ -92,6 +92,10 @@ class Follower:
     def outstanding(self, controller: int, ticket: int) -> Optional[Command]:
         """The request with this ticket, if its answer was not delivered yet."""
         return self._side(controller).outstanding.get(ticket)
+
+    def unanswered(self) -> List[Command]:
+        """The requests whose answers were not delivered, those of each controller in turn, the oldest first."""
+        return [it for controller in sorted(self._sides) for it in self._sides[controller].outstanding.values()]
 
     def place_of(self, command: Command) -> Optional[int]:
         """The place of a command among those that its controller has fetched, from 0."""
@@ -195,6 +199,9 @@ def _execute(event: Event, answer: Executed, side: _Side) -> Command:
     command.executed, command.status, command.rule = event.number, answer.status, answer.rule
     if side.raw is not None and command.entry is not None and answer.status is Status.SUCCESSFUL_COMPLETION:
         side.raw.succeed(command.entry)
+        if command.entry.opcode is AdminOpcode.DELETE_IO_SUBMISSION_QUEUE:
+            deleted = command.entry.field(40, 2)  # what was fetched from that queue goes with it
+            side.fetched = [it for it in side.fetched if it.queue != deleted]
     return command
 
 
@@ -219,7 +226,7 @@ def check_fits(line: ScriptLine, text: str) -> None:
         ProtocolError: the answer is another line's.
     """
     words = text.split(" ")
-    if not (text == line.verb if line.is_power_cycle else _is_answered(line, words)):
+    if not (text == line.verb if line.is_of_all else _is_answered(line, words)):
         raise ProtocolError(f"{text!r} does not answer the line {line.text!r}")
 
 

@@ -2,11 +2,11 @@
 from __future__ import annotations
 
 from dataclasses import dataclass
-from typing import Dict, Iterable, Optional, Union
+from typing import Dict, Optional, Union
 
 from . import lines, looks
 from .answers import Polled, Refused, Reset, Rung, Up
-from .controllers import Controller, answer_of
+from .controllers import Controller, ControllersLike, answer_of, numbers_of
 from .enums import (AcquireAction, ExecuteOutcome, Persistence, PollOutcome, Protection, RegisterAction, ReleaseAction,
                     ReservationType, Status)
 from .errors import NotDone, NvmeError, RequestAborted, RequestRefused
@@ -147,13 +147,13 @@ class Host:
         """Places a Get Features: the state of a namespace's write protection, in double word 0 of the answer."""
         return self.place(lines.protection(self.number, nsid_of(namespace)))
 
-    def place_attach(self, namespace: NamespaceLike, controllers: Iterable[int]) -> int:
-        """Places a Namespace Attachment that attaches these controllers, by their numbers, which rise."""
-        return self.place(lines.attach(self.number, nsid_of(namespace), controllers))
+    def place_attach(self, namespace: NamespaceLike, controllers: ControllersLike) -> int:
+        """Places a Namespace Attachment that attaches controllers: hosts or numbers, one or several, which rise."""
+        return self.place(lines.attach(self.number, nsid_of(namespace), numbers_of(controllers)))
 
-    def place_detach(self, namespace: NamespaceLike, controllers: Iterable[int]) -> int:
-        """Places a Namespace Attachment that detaches these controllers, by their numbers, which rise."""
-        return self.place(lines.detach(self.number, nsid_of(namespace), controllers))
+    def place_detach(self, namespace: NamespaceLike, controllers: ControllersLike) -> int:
+        """Places a Namespace Attachment that detaches controllers: hosts or numbers, one or several, which rise."""
+        return self.place(lines.detach(self.number, nsid_of(namespace), numbers_of(controllers)))
 
     def read(self, namespace: NamespaceLike, slba: int, blocks: int = 1) -> bytes:
         """Reads blocks: 512 bytes each."""
@@ -207,12 +207,12 @@ class Host:
         """How a namespace is protected from being written; `Protection.NONE`, which is false, where it is not."""
         return Protection(self.finish(self.place_protection(namespace)).value)
 
-    def attach(self, namespace: NamespaceLike, controllers: Iterable[int]) -> None:
-        """Attaches controllers, by their numbers, which rise."""
+    def attach(self, namespace: NamespaceLike, controllers: ControllersLike) -> None:
+        """Attaches controllers to a namespace: hosts or numbers, one or several, which rise."""
         self.finish(self.place_attach(namespace, controllers))
 
-    def detach(self, namespace: NamespaceLike, controllers: Iterable[int]) -> None:
-        """Detaches controllers, by their numbers, which rise."""
+    def detach(self, namespace: NamespaceLike, controllers: ControllersLike) -> None:
+        """Detaches controllers from a namespace: hosts or numbers, one or several, which rise."""
         self.finish(self.place_detach(namespace, controllers))
 
     def finish(self, ticket: int) -> Polled:

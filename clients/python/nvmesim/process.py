@@ -6,6 +6,7 @@ import os
 import selectors
 import shutil
 import subprocess
+import sys
 import time
 from pathlib import Path
 from typing import IO, List, Optional, Sequence, Union
@@ -17,13 +18,16 @@ PathLike = Union[str, "os.PathLike[str]"]
 VARIABLE = "NVMELIVE"
 """The variable of the environment that names the program."""
 
+INSTALLED = "lib/nvmesim"
+"""Where `scripts/install` puts the programs, under its PREFIX."""
+
 _PIECE = 1 << 16
 _MOST_TOLD = 1 << 16
 
 
 def find_program(given: Optional[PathLike] = None, name: str = "nvmelive", variable: str = VARIABLE) -> Path:
-    """The program: the one that is given, that the environment names, that the repository of this package builds, or
-    that is on the path.
+    """The program: the one that is given, that the environment names, that the repository of this package builds, that
+    is installed beside this package, that is on the path, or that is installed in one of the usual places.
 
     Args:
         given: the program, if the caller knows it.
@@ -42,10 +46,27 @@ def find_program(given: Optional[PathLike] = None, name: str = "nvmelive", varia
     top = Path(__file__).resolve().parents[3]
     if (top / "crates.txt").is_file() and os.access(top / name, os.X_OK):
         return built_program(top / name)
-    found = shutil.which(name)
+    found = _beside(name) or shutil.which(name) or _installed(name)
     if found is None:
-        raise ProgramNotFound(f"there is no program {name} on the path; the variable {variable} can name one")
+        raise ProgramNotFound(f"there is no program {name} on the path, nor in {INSTALLED} under any of "
+                              f"{', '.join(map(str, _prefixes()))}; the variable {variable} can name one")
     return Path(found)
+
+
+def _beside(name: str) -> Optional[str]:
+    """The program of an installation that has this package in its folder `python`."""
+    folder = Path(__file__).resolve().parents[2]
+    return shutil.which(folder / name) if folder.parts[-2:] == tuple(INSTALLED.split("/")) else None
+
+
+def _prefixes() -> List[Path]:
+    """Where programs are installed: with this Python, for this user, for all."""
+    return list(dict.fromkeys((Path(sys.prefix), Path.home() / ".local", Path("/usr/local"), Path("/usr"))))
+
+
+def _installed(name: str) -> Optional[str]:
+    """The program of the first installation that there is."""
+    return next((found for it in _prefixes() if (found := shutil.which(it / INSTALLED / name))), None)
 
 
 @functools.lru_cache(maxsize=None)
@@ -109,19 +130,29 @@ class Process:
             ProgramHangs: an answer did not come in time; the program is killed.
             SessionClosed: the session was closed.
         """
-        if self._is_closed:
-            raise SessionClosed("the session is closed")
         if any("\n" in it for it in lines):
             raise ValueError("a line has no line feed in it")
+        return self._talk(lines, len(lines))
+
+    def receive(self, count: int) -> List[str]:
+        """Reads so many lines that answer none of ours, as the transcript of a script that the program runs first.
+        Raises as `exchange` does."""
+        return self._talk([], count)
+
+    def _talk(self, lines: Sequence[str], count: int) -> List[str]:
+        """Writes lines, and reads so many."""
+        if self._is_closed:
+            raise SessionClosed("the session is closed")
         unsent = memoryview("".join(f"{it}\n" for it in lines).encode("utf-8"))
         answers: List[str] = []
         with selectors.DefaultSelector() as selector:
             selector.register(self._output, selectors.EVENT_READ)
             selector.register(self._errors, selectors.EVENT_READ)
-            selector.register(self._input, selectors.EVENT_WRITE)
+            if unsent:
+                selector.register(self._input, selectors.EVENT_WRITE)
             until = time.monotonic() + self.seconds
-            while len(answers) < len(lines):
-                self._last = lines[len(answers)]  # the first that was not answered
+            while len(answers) < count:
+                self._last = lines[len(answers)] if len(answers) < len(lines) else ""  # the first without an answer
                 ready = selector.select(max(0.0, until - time.monotonic()))
                 if not ready:
                     self._give_up()
@@ -133,8 +164,8 @@ class Process:
                     elif came := self._receive():
                         answers += came
                         until = time.monotonic() + self.seconds
-        if len(answers) > len(lines) or self._pending:
-            extra = answers[len(lines)] if len(answers) > len(lines) else self._pending.decode("utf-8", "replace")
+        if len(answers) > count or self._pending:
+            extra = answers[count] if len(answers) > count else self._pending.decode("utf-8", "replace")
             raise ProtocolError(f"{extra!r} answers no line")
         return answers
 

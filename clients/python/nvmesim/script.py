@@ -4,6 +4,7 @@ from __future__ import annotations
 import enum
 import re
 from dataclasses import dataclass
+from functools import cached_property
 from typing import Dict, Iterable, Iterator, List, Optional, Tuple
 
 from .answers import BLOCK_BYTES
@@ -57,20 +58,30 @@ class ScriptLine:
     kind: LineKind
     words: Tuple[str, ...] = ()
 
-    @property
+    @cached_property
     def verb(self) -> str:
         """Its first word."""
         return self.words[0]
 
-    @property
+    @cached_property
     def controller(self) -> int:
-        """The controller that an event names; 0, which no controller has, for a power cycle."""
-        return 0 if self.is_power_cycle else number_of(self.words[1])
+        """The controller that an event names; 0, which no controller has, for an event of all."""
+        return 0 if self.is_of_all else number_of(self.words[1])
 
     @property
     def is_power_cycle(self) -> bool:
         """Whether it is a power cycle, the event that names no controller and is one of all."""
         return self.verb == "powercycle"
+
+    @property
+    def is_crash(self) -> bool:
+        """Whether it is a crash of the program, which only explorations have."""
+        return self.verb == "crash"
+
+    @cached_property
+    def is_of_all(self) -> bool:
+        """Whether it names no controller, and is an event of all."""
+        return self.is_power_cycle or self.is_crash
 
     @property
     def is_request(self) -> bool:
@@ -84,7 +95,11 @@ class ScriptLine:
 
     def numbers(self) -> List[int]:
         """The numbers behind the verb, in order; data are left out."""
-        return [number_of(it) for n, it in enumerate(self.words) if n and n != _DATA_AT.get(self.verb)]
+        return list(self._numbers)
+
+    @cached_property
+    def _numbers(self) -> Tuple[int, ...]:
+        return tuple(number_of(it) for n, it in enumerate(self.words) if n and n != _DATA_AT.get(self.verb))
 
     def data(self) -> bytes:
         """The bytes that a `write`, `compare` or `store` spells; of `fill:`, as many as its blocks have."""
@@ -139,7 +154,8 @@ def _kind_of(number: int, words: Tuple[str, ...], is_started: bool) -> LineKind:
         raise ScriptError(number, f"there is no line {verb!r}")
     wanted = _WORDS[verb]
     if (wanted is None and len(words) < 3) or (wanted is not None and len(words) != wanted):
-        raise ScriptError(number, f"{verb} has {wanted or 'at least 3'} words, and not {len(words)}")
+        hint = "; a comment has a line of its own, which begins with '#'" if any(it[0] == "#" for it in words) else ""
+        raise ScriptError(number, f"{verb} has {wanted or 'at least 3'} words, and not {len(words)}{hint}")
     is_event = verb in EVENT_VERBS
     if is_event != is_started:
         raise ScriptError(number, f"{verb} can't stand {'behind' if is_started else 'before'} start")

@@ -2,11 +2,12 @@
 from __future__ import annotations
 
 from types import TracebackType
-from typing import Dict, List, Optional, Tuple, Type, Union
+from typing import Any, Dict, List, Optional, Tuple, Type, Union
 
 from . import lines, looks
 from .answers import PowerCycled
-from .controllers import RawHost, answer_of
+from .backends import LibrarySubsystem
+from .controllers import ControllerLike, RawHost, answer_of, number_of
 from .hosts import Host, Namespace, NamespaceLike, nsid_of
 from .process import PathLike
 from .session import SECONDS, Session
@@ -22,8 +23,19 @@ class Subsystem:
         hosts: its hosts, by the numbers of their controllers.
     """
 
+    def __new__(cls, image: Optional[PathLike] = None, program: Optional[PathLike] = None, seconds: float = SECONDS,
+                backend: str = "program") -> Any:
+        """The same over the library, a `LibrarySubsystem`, where `backend` is `"library"`."""
+        if backend == "program":
+            return object.__new__(cls)
+        if backend != "library":
+            raise ValueError(f"{backend!r} is neither 'program' nor 'library'")
+        if image is not None or program is not None:
+            raise ValueError("the library takes no image and no program")
+        return LibrarySubsystem()
+
     def __init__(self, image: Optional[PathLike] = None, program: Optional[PathLike] = None,
-                 seconds: float = SECONDS) -> None:
+                 seconds: float = SECONDS, backend: str = "program") -> None:
         """Starts the program: over an image, or over 1,024 blocks of zeros in memory; `seconds` an answer at most."""
         self.session = Session(image, program, seconds)
         self.hosts: Dict[int, Union[Host, RawHost]] = {}
@@ -71,9 +83,9 @@ class Subsystem:
         self._namespaces.append(Namespace(named, blocks, shared))
         return self._namespaces[-1]
 
-    def attach(self, host: Union[Host, RawHost], namespace: NamespaceLike) -> None:
-        """The host's controller has the namespace from the start."""
-        self.session.configure(lines.attached(host.number, nsid_of(namespace)))
+    def attach(self, controller: ControllerLike, namespace: NamespaceLike) -> None:
+        """The controller, given by its host or by its number, has the namespace from the start."""
+        self.session.configure(lines.attached(number_of(controller), nsid_of(namespace)))
 
     def start(self) -> None:
         """Ends the description. Raises `ConfigurationRefused` where it has a fault."""

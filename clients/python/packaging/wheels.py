@@ -18,6 +18,7 @@ from typing import Any, Dict, Iterator, List, Mapping, Optional, Tuple
 
 TOP = Path(__file__).resolve().parents[1]
 PACKAGE = "nvmesim"
+_ENTRY_POINTS = "project.entry-points."
 Settings = Optional[Mapping[str, Any]]
 Table = Dict[str, Any]
 
@@ -73,7 +74,7 @@ def tables(text: str) -> Dict[str, Table]:
 def _modules() -> Iterator[Path]:
     """The files of the package."""
     for path in sorted((TOP / PACKAGE).rglob("*")):
-        if path.suffix == ".py" or path.name == "py.typed":
+        if path.suffix in (".py", ".c") or path.name == "py.typed":
             yield path
 
 
@@ -92,12 +93,22 @@ def _metadata() -> str:
     return "".join(f"{name}: {value}\n" for name, value in heads) + f"\n{text}"
 
 
+def _entry_points() -> str:
+    """What other programs call in the package, in the form of the file `entry_points.txt`."""
+    said = tables((TOP / "pyproject.toml").read_text(encoding="utf-8"))
+    groups = {head[len(_ENTRY_POINTS):]: table for head, table in said.items() if head.startswith(_ENTRY_POINTS)}
+    groups.update({"console_scripts": said["project.scripts"]} if "project.scripts" in said else {})
+    return "\n".join("".join([f"[{group}]\n", *(f"{name} = {place}\n" for name, place in table.items())])
+                     for group, table in groups.items())
+
+
 def _write_wheel(folder: Path, files: Dict[str, bytes]) -> str:
     """Writes a wheel of these files, with what every wheel has."""
     stem = f"{PACKAGE}-{version()}"
     about = f"{stem}.dist-info"
     told = "Wheel-Version: 1.0\nGenerator: nvmesim\nRoot-Is-Purelib: true\nTag: py3-none-any\n"
-    whole = {**files, f"{about}/METADATA": _metadata().encode(), f"{about}/WHEEL": told.encode()}
+    whole = {**files, f"{about}/METADATA": _metadata().encode(), f"{about}/WHEEL": told.encode(),
+             f"{about}/entry_points.txt": _entry_points().encode()}
     lines = [f"{name},sha256={_digest(content)},{len(content)}" for name, content in whole.items()]
     whole[f"{about}/RECORD"] = "\n".join([*lines, f"{about}/RECORD,,", ""]).encode()
     name = f"{stem}-py3-none-any.whl"

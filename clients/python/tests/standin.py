@@ -400,6 +400,8 @@ class World:
             return " ".join((head, f"type {space.rtype} holder {who} generation {space.generation} persists "
                              f"{int(space.persists)} protected {space.protection}", *parts))
         if word == "blocks":
+            if not 1 <= numbers[2] <= 256 or numbers[1] + numbers[2] > space.blocks:
+                raise ValueError("not all in the namespace")
             data = b"".join(self.block(space, numbers[1] + n) for n in range(numbers[2]))
             return f"{head} {spelled(data).split()[1]}"
         raise ValueError(word)

@@ -25,6 +25,15 @@ def blocks_of(name: str) -> List[str]:
 
 
 class DocumentsTest(unittest.TestCase):
+    def test_the_example_of_a_failover(self) -> None:
+        for program in PROGRAMS:
+            environment = {**os.environ, "NVMELIVE": str(program), "PYTHONPATH": str(PACKAGE)}
+            done = subprocess.run([sys.executable, "-m", "unittest", "failover_test"], capture_output=True, text=True,
+                                  env=environment, cwd=PACKAGE / "examples", timeout=60)
+            with self.subTest(program):
+                self.assertEqual(done.returncode, 0, done.stderr)
+                self.assertIn("Ran 3 tests", done.stderr)
+
     def test_the_session_of_the_page(self) -> None:
         code = next(it for it in blocks_of("docs/CLIENTS.md") if it.startswith("from nvmesim"))
         for program in PROGRAMS:
@@ -56,11 +65,13 @@ class DocumentsTest(unittest.TestCase):
 
     def test_every_option_is_told(self) -> None:
         text = (TOP / "docs" / "CLIENTS.md").read_text(encoding="utf-8")
-        told = io.StringIO()
-        with contextlib.redirect_stdout(told), self.assertRaises(SystemExit):
-            main(["explore", "--help"])
-        options = set(re.findall(r"--[a-z]+", told.getvalue())) - {"--help"}
-        self.assertEqual(options - set(re.findall(r"--[a-z]+", text)), set())
+        for command in ("explore", "test", "conform"):
+            told = io.StringIO()
+            with self.subTest(command), contextlib.redirect_stdout(told), self.assertRaises(SystemExit):
+                main([command, "--help"])
+            options = set(re.findall(r"--[a-z][a-z-]*", told.getvalue())) - {"--help"}
+            self.assertTrue(options)
+            self.assertEqual(options - set(re.findall(r"--[a-z][a-z-]*", text)), set())
 
 
 if __name__ == "__main__":

@@ -3,27 +3,28 @@ from __future__ import annotations
 
 import contextlib
 import io
+import json
+import pickle
 import random
+import re
 import subprocess
 import sys
 import time
 import unittest
 from pathlib import Path
-from typing import Dict, List, Sequence, Tuple
+from typing import List, Sequence, Tuple
 
-from nvmesim import ConfigurationRefused, ProgramDied, ScriptError
+from nvmesim import ConfigurationRefused, ProgramDied, ProgramHangs, ProgramNotFound, ScriptError
 from nvmesim.__main__ import main
-from nvmesim.explore import Plan, Shard, explore, explore_shard
-from nvmesim.explore.dask import explore_on_dask
+from nvmesim.explore import Plan, Shard, Walk, explore, explore_shard, programs_of
+from nvmesim.explore.dask import WorkerLacks, explore_on_dask
 from nvmesim.explore.expressions import Expression
-from nvmesim.explore.outcomes import Findings, Outcome, in_one_form, joined
-from nvmesim.explore.plan import Order
+from nvmesim.explore.outcomes import in_one_form, joined
 from nvmesim.explore.report import Check, Report
-from nvmesim.explore.runs import Runner
 from nvmesim.explore.shards import ShardError, json_lines, merge
-from nvmesim.explore.states import Looks, State, first_state
-from nvmesim.explore.walk import Walk
+from nvmesim.explore.states import Looks
 
+from .inprocess import counts_of, one_by_one, one_by_one_over, orders_of, walk_of
 from .standin import World
 from .support import LIVE, PROGRAMS, RACE, SIM, STANDIN, FolderCase
 
@@ -143,61 +144,6 @@ PROGRAM = LIVE or STANDIN
 RACE_TEXT = RACE.read_text(encoding="utf-8")
 
 
-def orders_of(plan: Plan) -> List[Order]:
-    """All orders of a plan, one by one."""
-    found: List[Order] = []
-
-    def go(order: Order, position: object) -> None:
-        choices = plan.choices(position)  # type: ignore[arg-type]
-        if not choices:
-            found.append(order)
-        for it in choices:
-            go((*order, it), plan.after(position, it))  # type: ignore[arg-type]
-
-    go((), plan.begin())
-    return found
-
-
-def one_by_one(plan: Plan) -> Dict[Outcome, int]:
-    """How many orders come to each outcome: each is run from its begin to its end in a stand-in of its own."""
-    looks, found = Looks(plan), {}  # type: Tuple[Looks, Dict[Outcome, int]]
-    places = {it.name: n for n, it in enumerate(plan.steps)}
-    for order in orders_of(plan):
-        world = World()
-        for line in plan.setup:
-            world.answer(line)
-        state = first_state(plan, {it: world.answer(it) for it in looks.all()})
-        labels: List[Tuple[str, str]] = []
-        for choice, step in zip(order, plan.steps_of(order)):
-            answer = world.answer(step.line.text)
-            label, state = state.next(plan, looks, choice, answer, {it: world.answer(it) for it in looks.behind(step)})
-            labels.append((step.name, label))
-        last = tuple(in_one_form(world.answer(it)) for it in looks.last())
-        outcome = Outcome(tuple(sorted(labels, key=lambda it: places[it[0]])), last)
-        found[outcome] = found.get(outcome, 0) + 1
-    return found
-
-
-def one_by_one_over(plan: Plan, program: Path) -> Dict[Outcome, int]:
-    """The same over the program: each order is run from its begin to its end, and nothing is left out."""
-    looks, found = Looks(plan), {}  # type: Tuple[Looks, Dict[Outcome, int]]
-    runner = Runner(plan, looks, program, 10.0)
-    places = {it.name: n for n, it in enumerate(plan.steps)}
-    for order in orders_of(plan):
-        run = runner.run(order, 0)
-        state, labels = first_state(plan, run.first), []  # type: Tuple[State, List[Tuple[str, str]]]
-        for choice, step, seen in zip(order, plan.steps_of(order), run.steps):
-            label, state = state.next(plan, looks, choice, seen.answer, seen.told)
-            labels.append((step.name, label))
-        outcome = Outcome(tuple(sorted(labels, key=lambda it: places[it[0]])), run.last)
-        found[outcome] = found.get(outcome, 0) + 1
-    return found
-
-
-def counts_of(found: Findings) -> Dict[Outcome, int]:
-    return {outcome: ways.count for outcome, ways in found.items()}
-
-
 def random_script(seed: int) -> str:
     """A small script of two hosts that chance has made, most of whose events do something."""
     chance = random.Random(seed)
@@ -218,18 +164,6 @@ def random_script(seed: int) -> str:
     return "".join(lines)
 
 
-class InProcess(Runner):
-    """Runs orders in stand-ins of this process, which is quicker than programs."""
-
-    def _answers(self, setup: List[str], lines: List[str]) -> List[str]:
-        world = World()
-        return [world.answer(it) for it in (*setup, *lines)]
-
-
-def walk_of(plan: Plan, shard: Shard = Shard(1, 1)) -> Walk:
-    return Walk(InProcess(plan, Looks(plan), STANDIN, 10.0), shard.prefixes(plan))
-
-
 class PlanTest(unittest.TestCase):
     def test_parts_and_orders(self) -> None:
         plan = Plan(SHARED)
@@ -246,14 +180,29 @@ class PlanTest(unittest.TestCase):
                                                              "c.ring1", "then.poll2"])
 
     def test_what_is_no_mark(self) -> None:
-        for comment in ("# host a1h never noticed", "# hosts", "#  a", "# host", "# then we read", "# host 1a",
-                        "# Host a"):
-            with self.subTest(comment), self.assertRaises(ScriptError):
+        for comment in ("# host a1h never noticed", "#  a", "# then we read", "# most hosts", "# the host", "# a host",
+                        "# Host b preempts and aborts", "#", "# host b, as above, writes"):
+            text = HEAD + "# host a\nring 1\n" + comment + "\nring 1\n"
+            with self.subTest(comment):
+                self.assertEqual(Plan(text).parts, {"a": 2})
+            with self.subTest(comment), self.assertRaisesRegex(ScriptError, "^the script has no mark"):
                 Plan(HEAD + comment + "\nring 1\n")
 
-    def test_a_script_without_marks_names_what_looks_like_one(self) -> None:
-        with self.assertRaisesRegex(ScriptError, "^the script has no mark: .*, line 10, has more words$"):
-            Plan(HEAD + "# a comment\n# host a 1\n# then\nring 1\n")
+    def test_what_is_nearly_a_mark(self) -> None:
+        for comment, meant in (("# Host b", "# host b"), ("# hosts b", "# host b"), ("#host c", "# host c"),
+                               ("# host b c", "# host b"), ("# hots b", "# host b"), ("# hst b", "# host b"),
+                               ("# HOST b", "# host b"), ("# host: b", "# host b"), ("## host b", "# host b"),
+                               ("# host b.", "# host b"), ("# host", "# host NAME"), ("# host 1a", "# host NAME"),
+                               ("#then", "# then"), ("# Then", "# then"), ("# then:", "# then"), ("# htne", ""),
+                               ("# tehn", "# then"), ("# thn", "# then"), ("# then c", "# then"), ("# than", "")):
+            text = HEAD + "# host a\nring 1\n# host b\nring 2\n" + comment + "\nring 2\n"
+            with self.subTest(comment):
+                if meant:
+                    with self.assertRaisesRegex(ScriptError, f"^line 13: {comment!r} is nearly the mark '{meant}':"):
+                        Plan(text)
+                else:
+                    Plan(text)
+        Plan("# Two hosts:\n# host b2h.\n" + HEAD + "# host a\nring 1\n")
 
     def test_what_is_refused(self) -> None:
         for text in ("# host a\n" + HEAD, HEAD + "# host then\n", HEAD + "# host before\n"):
@@ -269,7 +218,7 @@ class WalkTest(unittest.TestCase):
             with self.subTest(name):
                 found = walk.explore()
                 self.assertEqual(counts_of(found), one_by_one(plan))
-                self.assertLess(walk.statistics.runs, plan.orders)
+                self.assertLess(walk.statistics.events, plan.orders)
 
     def test_scripts_that_chance_made(self) -> None:
         outcomes = 0
@@ -348,6 +297,25 @@ class ProgramTest(FolderCase):
         self.assertEqual(found, walk_of(plan).explore())
         self.assertEqual(joined([explore_shard(SMALL, Shard(n, 2), PROGRAM) for n in (1, 2)]), found)
 
+    def test_a_worker_without_the_package(self) -> None:
+        class Cluster:
+            """A cluster whose worker can't take a task."""
+
+            def map(self, call: object, given: Sequence[object]) -> List[object]:
+                return []
+
+            def gather(self, futures: List[object]) -> List[object]:
+                raise ModuleNotFoundError("No module named 'nvmesim'")
+
+        with self.assertRaisesRegex(WorkerLacks, "a worker of the cluster does not have this package: No module"):
+            explore_on_dask(Plan(SMALL), "tcp://nowhere:1", 2, str(PROGRAM), 10.0, client=Cluster())
+
+    def test_a_fault_of_a_worker_is_told_as_it_was(self) -> None:
+        for fault in (ProgramDied(4, "ring 1", "ended"), ProgramDied(None, "", ""), ProgramHangs(1.0, "ring 1", ""),
+                      ConfigurationRefused("line 3: BadId"), ScriptError(3, "why"), ProgramNotFound("nowhere")):
+            came = pickle.loads(pickle.dumps(fault))
+            self.assertEqual((type(came), str(came), vars(came)), (type(fault), str(fault), vars(fault)))
+
     def test_what_the_program_refuses(self) -> None:
         with self.assertRaises(ConfigurationRefused):
             explore(Plan(SMALL.replace("attached 1 1", "attached 1 2")), STANDIN)
@@ -379,12 +347,14 @@ class ProgramTest(FolderCase):
         text = text.replace("poll 2\n# then", "poll 2\npoll 2\n# then")
         plan = Plan(text)
         self.assertEqual((plan.orders, plan.parts), (924, {"a": 6, "b": 6}))
-        begun, walk = time.monotonic(), Walk(Runner(plan, Looks(plan), LIVE, 10.0), jobs=4)
-        found = walk.explore()
+        begun = time.monotonic()
+        with programs_of(plan, LIVE) as programs:
+            walk = Walk(plan, programs, jobs=4)
+            found = walk.explore()
         print(f"924 orders: {walk.statistics}, {time.monotonic() - begun:.2f} seconds", file=sys.stderr)
         self.assertEqual(sum(it.count for it in found.values()), 924)
         self.assertEqual(counts_of(found), counts_of(walk_of(plan).explore()))
-        self.assertLess(walk.statistics.runs, 100)
+        self.assertLess(walk.statistics.events, 150)
 
     @unittest.skipUnless(SIM, "NVMESIM does not name the program")
     def test_counterexamples_are_scripts(self) -> None:
@@ -437,6 +407,98 @@ class CommandTest(FolderCase):
         self.assertEqual(status, 1)
         self.assertIn("fails in 126 of 252 orders", told)
         self.assertIn(example.read_text(encoding="utf-8"), told)
+
+    def test_outcomes_by_what_is_asked_for(self) -> None:
+        status, told, _ = self.explored(str(RACE), "--by", "a.write1, block(1,0),reservation(1).holder")
+        self.assertEqual(status, 0)
+        self.assertIn("3 outcomes", told)
+        for row in ("   a.write1               Reservation Conflict (rule 7)\n   block(1, 0)            zeros\n",
+                    "   block(1, 0)            a1\n   reservation(1).holder  0xb2\n"):
+            self.assertIn(row, told)
+        _, told, _ = self.explored(str(RACE), "--by", "block(1, 0) == 'a1'")
+        self.assertIn("252 orders of a 5 events, b 5 events: 2 outcomes", told)
+        self.assertIn("2. 126 orders, such as", told)
+        for words, said in (("a.write2", "there is no answer a.write2"), ("a.write1,,", "is no list of expressions"),
+                            ("block(1, 7)", "the script writes no block 1, 7")):
+            status, told, wrong = self.explored(str(RACE), "--by", words)
+            self.assertEqual((status, told, wrong.count("\n")), (2, "", 1))
+            self.assertIn(said, wrong)
+
+    def test_trifles_tell_no_outcomes_apart(self) -> None:
+        script = self.folder / "polls.nvme"
+        script.write_text(SMALL.replace("# host b", "poll 1\n# host b").replace("# then", "# host c\npoll 1\n# then"),
+                          encoding="utf-8")
+        _, few, _ = self.explored(str(script))
+        _, many, _ = self.explored(str(script), "--trifles")
+        self.assertIn(": 2 outcomes", few)
+        self.assertNotIn("poll", few.split("1. ", 1)[1].split("a.write1", 1)[1])
+        self.assertIn("c.poll1", many)
+        self.assertGreater(int(many.split(": ")[1].split(" ")[0]), 2)
+        counts = [sum(int(it.split(" ")[1]) for it in told.splitlines() if "orders, such as" in it)
+                  for told in (few, many)]
+        self.assertEqual(*counts)
+        power = self.folder / "power.nvme"  # whether a driver comes up is no trifle
+        power.write_text(HEAD + "# host a\nreset 1\npoll 1\n# host b\nup 1\n# host c\nread 1 1 0 1\n", encoding="utf-8")
+        self.assertIn("c.read1  refused NotReady\n   b.up1    AlreadyUp", self.explored(str(power))[1])
+
+    def test_the_whole_report_as_json(self) -> None:
+        status, told, _ = self.explored(str(RACE), "--json", "--never", "a.write1.rule == 7", "--always", "True",
+                                        "--by", "a.write1.rule")
+        report = json.loads(told)
+        self.assertEqual(status, 1)
+        self.assertEqual([report[it] for it in ("orders", "judged", "is_whole", "is_good")], [252, 252, True, False])
+        self.assertEqual(report["script"], RACE_TEXT)
+        self.assertEqual(sorted(it["orders"] for it in report["outcomes"]), [60, 66, 126])
+        first = report["outcomes"][0]
+        self.assertEqual(first["answers"]["then.read1"]["data"], "a1")
+        self.assertEqual(first["blocks"], {"1:0": "a1"})
+        self.assertEqual(first["reservations"]["1"]["holder"], 0xb2)
+        self.assertEqual([it["rows"]["a.write1.rule"] for it in report["groups"]], ["0", "7", "1"])
+        self.assertEqual([(it["is_met"], it["fails_in"]) for it in report["checks"]], [(True, 0), (False, 66)])
+        plan = Plan(report["outcomes"][1]["example"].replace("# a", "# host a").replace("# b", "# host b"))
+        self.assertEqual(plan.length, Plan(RACE_TEXT).length)
+        self.assertEqual(report["checks"][1]["counterexample"], report["outcomes"][1]["example"])
+
+    def test_the_outcomes_as_a_page(self) -> None:
+        page = self.folder / "page.html"
+        status, _, _ = self.explored(str(RACE), "--page", str(page), "--never", "a.write1.rule == 1", "--always",
+                                     "a.write1.rule < 99")
+        self.assertEqual(status, 1)
+        text = page.read_text(encoding="utf-8")
+        for said in ("<h1>preempt-race.nvme</h1>", "<p>252 orders of a 5 events, b 5 events: 3 outcomes.</p>",
+                     "fails in 60 of 252 orders", "A counterexample", "The nearest order that is good",
+                     '<h2 id="outcome-3">Outcome 3: 60 orders, such as this</h2>',
+                     "here it parts from outcome 3, where acquire 2 1 2 1 0x22 0x11 comes next"):
+            self.assertIn(said, text)
+        pictures = re.findall(r'<svg class="part".*?</svg>', text, re.DOTALL)
+        self.assertEqual(len(pictures), 3 + 2)
+        for it in pictures:
+            events = re.findall(r'data-event="(\d+)"', it)
+            self.assertEqual(events, [str(n) for n in range(18, 33)], "from the first mark on")
+        self.assertEqual(text.count("here it parts from the other order, where execute 1 0 comes next") // 2, 1)
+        self.assertNotRegex(text, r"<link|<img|@import|src=|url\((?!#)")
+
+    def test_a_page_of_orders_that_are_not_drawn(self) -> None:
+        script, page = self.folder / "crash.nvme", self.folder / "page.html"
+        script.write_text(SMALL.replace("# then", "# host machine\n# crash\n# then"), encoding="utf-8")
+        self.assertEqual(self.explored(str(script), "--page", str(page))[0], 0)
+        text = page.read_text(encoding="utf-8")
+        self.assertIn("<pre>controller 1 host 0xa1", text)
+        self.assertNotIn('<svg class="part"', text)
+
+    def test_one_order_judges_nothing(self) -> None:
+        script = self.folder / "alone.nvme"
+        for body, why in (("# host a\nring 1\nring 2\n", "The script has one part, a"),
+                          ("# host a\nring 1\n# then\n# host b\nring 2\n", "The script's parts have one order")):
+            script.write_text(HEAD + body, encoding="utf-8")
+            status, told, _ = self.explored(str(script))
+            self.assertEqual(status, 0)
+            self.assertIn(f"{why}, so nothing was tried in another order.\n", told)
+            for words, wanted in ((("--never", "a.ring1 == 'NotUp'"), 2), (("--always", "a.ring1 == 'NotUp'"), 1)):
+                status, told, wrong = self.explored(str(script), *words)
+                self.assertEqual(status, wanted)
+                self.assertEqual(wrong, f"nvmesim: {why}: --always and --never are judged by 2 orders at least\n"
+                                 if wanted == 2 else "")
 
     def test_parts_and_their_merge(self) -> None:
         script, count = self.folder / "small.nvme", 8 if LIVE else 2

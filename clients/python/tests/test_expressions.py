@@ -37,7 +37,7 @@ class ExpressionTest(unittest.TestCase):
                 ("a.fetch1 == 'took' and not a.poll1 == 'nothing'", [True, True, True]),
                 ("block(1, 0) == 'a1'", [True, False, False]),
                 ("then.read1.data in ('a1', '')", [True, True, True]),
-                ("reservation(1).holder == 0xb2 and reservation(1).type == 1", [True, True, True]),
+                ("reservation(1).holder == 0xb2 and reservation(1).rtype == 1", [True, True, True]),
                 ("0xa1 in reservation(1).registrants", [False, False, False]),
                 ("reservation(1).name == 'Write Exclusive'", [True, True, True]),
                 ("implies(a.write1.rule == 0, block(1, 0) == 'a1')", [True, True, True]),
@@ -58,7 +58,7 @@ class ExpressionTest(unittest.TestCase):
 
     def test_kinds_that_can_not_be_compared(self) -> None:
         for text in ("a.write1.rule < 'x'", "a.write1 < 3", "a.write1 == 3", "a.write1.rule == '7'", "1 < 'x' < 2",
-                     "reservation(1).type == 'Write Exclusive'", "a.write1.rule in (1, '7')", "'x' in 3",
+                     "reservation(1).rtype == 'Write Exclusive'", "a.write1.rule in (1, '7')", "'x' in 3",
                      "block(1, 0) == 0xa1", "reservation(1).persists < 1", "(a.write1 == 'aborted') == 'yes'"):
             with self.subTest(text), self.assertRaisesRegex(ExpressionError, "a text|a number|true or false"):
                 Expression(text, self.plan, self.blocks)

@@ -77,6 +77,16 @@ class FollowTest(unittest.TestCase):
         self.assertEqual(events[5].commands, [first])
         self.assertEqual([command_words(it) for it in (first, second) if it], ["Identify, CID 0"] * 2)
 
+    def test_a_queue_that_is_deleted_takes_what_was_fetched_from_it(self) -> None:
+        script = next(script for name, script, _ in examples() if name == "raw-create")
+        transcript = next(transcript for name, _, transcript in examples() if name == "raw-create")
+        lines = script.split("\n")
+        second = next(n for n, line in enumerate(lines) if line.startswith("# A second time there is no such queue."))
+        event = next(it for it in follow(list(read_lines(script)), transcript)
+                     if it.line.number > second and it.line.verb == "execute")
+        assert event.command is not None
+        self.assertEqual(command_words(event.command), "Delete I/O Submission Queue, CID 7, queue 1")
+
     def test_transcripts_that_do_not_fit(self) -> None:
         script = HEAD + "up 1\nflush 1 1\nring 1\nfetch 1 1\nexecute 1 0\npoll 1\n"
         right = ["up 1 ok", "placed 1 1", "rung 1", "fetch 1 1 took", "execute 1 0 posted 0:00 0",

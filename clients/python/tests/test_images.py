@@ -147,7 +147,9 @@ class ImagesTest(FolderCase):
     def test_holes_stay_holes(self) -> None:
         with open(self.image, "r+b") as file:
             file.truncate(1 << 26)
-        with Medium(self.image) as medium, medium.of_a_run() as copied:
+        with Medium(self.image) as medium:
+            copied = medium.fresh()
+            assert copied is not None
             self.assertEqual(os.stat(copied).st_size, 1 << 26)
             self.assertLess(512 * os.stat(copied).st_blocks, 1 << 20)
             with open(copied, "rb") as file:
@@ -155,8 +157,11 @@ class ImagesTest(FolderCase):
         for size in (0, 1, 512 * BLOCKS + 7):
             with open(self.image, "r+b") as file:
                 file.truncate(size)
-            with Medium(self.image) as medium, medium.of_a_run() as copied:
-                self.assertEqual(Path(copied).read_bytes(), self.image.read_bytes())
+            with Medium(self.image) as medium:
+                copied = medium.fresh()
+                assert copied is not None
+                with open(copied, "rb") as file:
+                    self.assertEqual(file.read(), self.image.read_bytes())
 
     def test_the_command_and_its_parts(self) -> None:
         status, whole, _ = self.run_command(self.script(), "--image", str(self.image), "--never", NEVER)

@@ -4,6 +4,7 @@ from __future__ import annotations
 import hashlib
 import os
 import re
+import shutil
 import subprocess
 import sys
 import tarfile
@@ -17,6 +18,8 @@ from typing import Dict, List
 import nvmesim
 
 from .support import DATA, PACKAGE, PROGRAMS, TOP, FolderCase
+
+ABOUT = ("METADATA", "WHEEL", "RECORD", "entry_points.txt")
 
 
 def backend_of(package: Path) -> ModuleType:
@@ -54,9 +57,38 @@ class InstallationTest(FolderCase):
                                "[\"distributed>=2022.1; extra == 'dask'\"]\n")
         self.assertEqual(self.run_python(["-m", "nvmesim", "--version"], **where), f"nvmesim {nvmesim.__version__}\n")
         self.assertIn("explore", self.run_python(["-m", "nvmesim", "--help"], **where))
+        for command in ("explain", "explore", "scene", "test", "timeline"):
+            done = subprocess.run([str(place / "bin" / f"nvmesim-{command}"), "--help"], capture_output=True, text=True,
+                                  cwd=self.folder, timeout=60, env={**os.environ, **where})
+            self.assertEqual((done.returncode, done.stderr), (0, ""))
+            self.assertIn(f"nvmesim {command} ", done.stdout)
+        self.assertFalse((place / "bin" / "nvmesim").exists())
         script = str(DATA / "fenced.nvme")
         for command in (["explain", script], ["timeline", script]):
             self.assertIn("rule 7", self.run_python(["-m", "nvmesim", *command], **where))
+
+    def test_an_installed_package_finds_installed_programs(self) -> None:
+        """Beside itself before all; else on the path, and then under the user's prefix."""
+        prefix, home, path = (self.folder / it for it in ("prefix", "home", "path"))
+        package = prefix / "lib" / "nvmesim" / "python"
+        shutil.copytree(PACKAGE / "nvmesim", package / "nvmesim", ignore=shutil.ignore_patterns("__pycache__"))
+        shutil.copytree(package, self.folder / "elsewhere")
+        beside, local, on_path = (prefix / "lib/nvmesim/nvmelive", home / ".local/lib/nvmesim/nvmelive", path / "nvmelive")
+        words = ["-c", "from nvmesim.process import find_program; print(find_program())"]
+        environment = {"NVMELIVE": "", "HOME": str(home), "PATH": str(path)}
+        missing = self.run_python(["-c", "import nvmesim.process as it\ntry: print(it.find_program())\n"
+                                   "except it.ProgramNotFound as fault: print(fault)"],
+                                  PYTHONPATH=str(self.folder / "elsewhere"), **environment)
+        if "there is no program" in missing:  # else something is installed on this machine
+            self.assertIn(f"{home}/.local", missing)
+        for program in (local, on_path, beside):
+            program.parent.mkdir(parents=True, exist_ok=True)
+            program.write_text("#!/bin/sh\n", encoding="utf-8")
+            program.chmod(0o755)
+            for place in ("elsewhere", "prefix/lib/nvmesim/python"):
+                found = self.run_python(words, PYTHONPATH=str(self.folder / place), **environment)
+                wanted = on_path if program is beside and place == "elsewhere" else program
+                self.assertEqual(found, f"{wanted}\n")
 
     def test_the_wheel_has_the_package_and_nothing_else(self) -> None:
         name = backend_of(PACKAGE).build_wheel(str(self.folder))
@@ -66,8 +98,8 @@ class InstallationTest(FolderCase):
         modules = {str(it.relative_to(PACKAGE)): it.read_bytes() for it in (PACKAGE / "nvmesim").rglob("*.py")}
         about = f"nvmesim-{nvmesim.__version__}.dist-info"
         self.assertEqual({it: files[it] for it in files if it.endswith(".py")}, modules)
-        self.assertEqual(set(files) - set(modules),
-                         {"nvmesim/py.typed", *(f"{about}/{it}" for it in ("METADATA", "WHEEL", "RECORD"))})
+        self.assertEqual(set(files) - set(modules), {"nvmesim/py.typed", "nvmesim/explore/forking.c", *(
+            f"{about}/{it}" for it in ABOUT)})
         lines = [it.split(",") for it in files[f"{about}/RECORD"].decode().splitlines()]
         self.assertEqual([(path, size) for path, _, size in lines[:-1]],
                          [(path, str(len(content))) for path, content in files.items()][:-1])

@@ -196,9 +196,9 @@ class UserTest(unittest.TestCase):
             with self.assertRaises(LineError):
                 subsystem.session.look("?driver 1")
             host.up()
-            host.attach(disk, [2])
+            host.attach(disk, host)
             self.assertEqual(host.identify(2)[:4], b"\1\0\0\0")
-            host.detach(disk, [1, 2])
+            host.detach(disk, [raw, 2])
             self.assertEqual(subsystem.attached(), [])
 
 

@@ -1,18 +1,26 @@
 """Pictures: one page that needs nothing beside it, with each event, each command and each denial."""
 from __future__ import annotations
 
+import base64
+import gzip
+import json
+import os
 import re
 import unittest
 import xml.etree.ElementTree as xml
+from unittest import mock
 
+from nvmesim import Session
 from nvmesim.script import read_lines
 from nvmesim.history import follow
-from nvmesim.timeline import timeline
+from nvmesim.timeline import png, svg, timeline, watched
+from nvmesim.timeline.bands import bands_of
+from nvmesim.timeline.formats import NoFormat
 from nvmesim.timeline.layout import ROWS_OF_A_PART, commands_of, lay_out
 from nvmesim.script import configuration_of
 
 from .standin import World
-from .support import examples
+from .support import PROGRAMS, FolderCase, examples
 
 SPACE = "{http://www.w3.org/2000/svg}"
 HEAD = "controller 1 host 0xa1\nnamespace 1 blocks 8 shared\nattached 1 1\nstart\nup 1\n"
@@ -21,7 +29,7 @@ HEAD = "controller 1 host 0xa1\nnamespace 1 blocks 8 shared\nattached 1 1\nstart
 def transcript_of(script: str) -> str:
     """What the stand-in answers."""
     world = World()
-    told = [(world.started, world.answer(it)) for it in script.splitlines()]
+    told = [(world.started, world.answer(it)) for it in script.splitlines() if not it.startswith("#")]
     return "".join(f"{answer}\n" for is_event, answer in told if is_event)
 
 
@@ -34,7 +42,7 @@ def with_class(parts: "list[xml.Element]", name: str) -> "list[xml.Element]":
     return [it for part in parts for it in part.iter() if name in it.get("class", "").split(" ")]
 
 
-class TimelineTest(unittest.TestCase):
+class TimelineTest(FolderCase):
     def test_each_event_and_command_is_there(self) -> None:
         for name, script, transcript in examples():
             page = timeline(script, transcript, name)
@@ -69,6 +77,88 @@ class TimelineTest(unittest.TestCase):
         parts = pictures(timeline(script, transcript_of(script)))
         self.assertEqual([it.text for it in with_class(parts, "band-text")], ["up", "power", "power"])
         self.assertEqual(len(with_class(parts, "aborted")), 1)
+
+    def test_comments_are_captions(self) -> None:
+        script = "# What <it> is\n# about.\n" + HEAD + "# First\n# of all\nflush 1 1\n# host a\nring 1\nring 1\n"
+        page = timeline(script, transcript_of(script))
+        parts = pictures(page)
+        self.assertIn('<p class="head">What &lt;it&gt; is about.</p>', page)
+        captions = with_class(parts, "caption")
+        self.assertEqual([it.findtext(f"{SPACE}title") for it in captions], ["First of all", "host a"])
+        places = [float(it.find(f"{SPACE}rect").get("y", 0))  # type: ignore[union-attr]
+                  for it in (*with_class(parts, "event"), *captions)]
+        self.assertEqual(len(set(places)), len(places), "no caption lies over an event")
+
+    def test_bands_say_who_is_registered_and_who_holds(self) -> None:
+        script = HEAD.replace("start", "controller 2 host 0xb2\nattached 2 1\nstart\nup 2")
+        for number, line in ((1, "register 1 1 0 0 0 0 0x11"), (2, "register 2 1 0 0 0 0 0x22"),
+                             (1, "acquire 1 1 0 1 0x11 0"), (2, "acquire 2 1 2 1 0x22 0x11")):
+            script += f"{line}\nring {number}\nfetch {number} 1\nexecute {number} 0\npoll {number}\n"
+        script += "powercycle\n"
+        with Session(program=PROGRAMS[-1]) as session:
+            transcript, told = watched(session, script)
+        self.assertEqual(transcript, transcript_of(script))
+        bands = [(it.host, it.held, it.begin, it.end) for it in bands_of(told, 23)]
+        self.assertEqual(bands, [(0xa1, "", 6, 21), (0xb2, "", 11, 23), (0xa1, "Write Exclusive", 16, 21),
+                                 (0xb2, "Write Exclusive", 21, 23)])
+        parts = pictures(timeline(script, transcript, "bands", told))
+        self.assertEqual(len(with_class(parts, "holds")), 2)
+        self.assertEqual(len(with_class(parts, "key")), 2)
+
+    def test_the_first_denied_command_is_said_at_once(self) -> None:
+        script = HEAD + "read 1 1 8 1\nring 1\nfetch 1 1\nexecute 1 0\npoll 1\n"
+        page = timeline(script, transcript_of(script))
+        self.assertIn('<p class="first"><a href="#" data-go="5">Event 5</a>', page)
+        self.assertLess(page.index("is the first command that is denied"), page.index('<svg class="part"'))
+        self.assertNotIn("is the first command", timeline(HEAD, transcript_of(HEAD)))
+
+    def test_twenty_thousand_events_of_sixteen_hosts(self) -> None:
+        head = "".join(f"controller {it} host {it}\n" for it in range(1, 17)) + "namespace 1 blocks 8 shared\n"
+        head += "".join(f"attached {it} 1\n" for it in range(1, 17)) + "start\n" + "".join(
+            f"up {it}\n" for it in range(1, 17))
+        script = head + "".join(f"read {n} 1 {8 if n == 7 else 0} 1\nring {n}\nfetch {n} 1\nexecute {n} 0\npoll {n}\n"
+                                for n in range(1, 17)) * 250
+        page = timeline(script, transcript_of(script), "many")
+        self.assertLess(len(page), 4_000_000)
+        packed = re.search(r'id="packed">([^<]*)<', page)
+        assert packed is not None
+        data = json.loads(gzip.decompress(base64.b64decode(packed[1])))
+        self.assertEqual((len(data["texts"]), len(data["denied"])), (20016, 250))
+        rooms = re.findall(r'<div class="room" data-first="(\d+)" data-last="(\d+)"', page)
+        self.assertEqual([int(it[0]) for it in rooms[1:]], [int(it[1]) + 1 for it in rooms[:-1]])
+        inline = [it.get("data-event") for it in with_class(pictures(page), "event")]
+        later = with_class([xml.fromstring(it) for it in data["parts"] if it], "event")
+        self.assertEqual([*inline, *(it.get("data-event") for it in later)], [str(n) for n in range(1, 20017)])
+        self.assertIn(' data-go="', page)
+        self.assertEqual(page.count("<tr><td>"), 200)
+
+    def test_an_svg_file_is_well_formed_and_has_its_style(self) -> None:
+        for name, script, transcript in examples():
+            with self.subTest(name):
+                picture = xml.fromstring(svg(script, transcript, "<a & b>"))
+                self.assertEqual(picture.get("aria-label"), "<a & b>")
+                style = picture.findtext(f"{SPACE}style") or ""
+                self.assertIn("prefers-color-scheme: dark", style)
+                self.assertNotIn("@page", style)
+                self.assertEqual(style.count("{"), style.count("}"))
+                self.assertEqual(len(with_class([picture], "event")), len(transcript.splitlines()))
+
+    def test_a_png_file(self) -> None:
+        script = HEAD + "flush 1 1\n"
+        target = self.folder / "picture.png"
+        path = mock.patch.dict(os.environ, PATH=str(self.folder))
+        with path, self.assertRaisesRegex(NoFormat, "a browser on the path"):
+            png(script, transcript_of(script), "none", target)
+        (self.folder / "rsvg-convert").write_text('#!/bin/sh\n/bin/cp "$3" "$2"\n', encoding="utf-8")
+        (self.folder / "rsvg-convert").chmod(0o755)
+        with path:
+            png(script, transcript_of(script), "one", target)
+        self.assertIn(b"<svg", target.read_bytes())  # this converter copies
+        (self.folder / "rsvg-convert").write_text("#!/bin/sh\necho no; exit 1\n", encoding="utf-8")
+        with path, self.assertRaisesRegex(NoFormat, "makes no PNG.*: no$"):
+            png(script, transcript_of(script), "none", target)
+        with self.assertRaisesRegex(NoFormat, "is the most"):
+            png(HEAD + "ring 1\n" * 1500, transcript_of(HEAD + "ring 1\n" * 1500), "tall", target)
 
     def test_five_hundred_events(self) -> None:
         script = HEAD + "write 1 1 0 1 hex:01\nread 1 1 0 1\nring 1\nfetch 1 1\nfetch 1 1\nexecute 1 1\nexecute 1 0\n" \

@@ -1,38 +1,59 @@
 """Every order of the marked events of a script: what each comes to, and whether something always or never holds."""
 from __future__ import annotations
 
-from pathlib import Path
 from typing import Callable, Optional, Sequence
 
 from ..process import PathLike, find_program
 from ..session import SECONDS
+from .branches import Programs
+from .library import NoLibrary, library
 from .medium import Medium
 from .outcomes import Findings
 from .plan import Order, Plan
-from .runs import Runner
 from .shards import Shard
-from .states import Looks
 from .walk import Statistics, Walk
 
-__all__ = ["Medium", "Plan", "Shard", "Statistics", "explore", "explore_shard"]
+__all__ = ["Medium", "Plan", "Programs", "Shard", "Statistics", "Walk", "explore", "explore_shard", "programs_of"]
 
 
 def explore(plan: Plan, program: Optional[PathLike] = None, prefixes: Sequence[Order] = ((),), jobs: int = 1,
             seconds: float = SECONDS, report: Callable[[Statistics], None] = lambda statistics: None,
-            medium: Optional[Medium] = None) -> Findings:
+            medium: Optional[Medium] = None, is_reduced: bool = True) -> Findings:
     """What the orders of a plan come to.
 
     Args:
         plan: the script with its parts.
         program: the program `nvmelive`; None for the one that `find_program` finds.
         prefixes: the beginnings of the orders that are explored; by default all orders.
-        jobs: so many runs of the program at once.
+        jobs: so many events are run at once.
         seconds: the time limit of each answer.
         report: is told what was done, while it goes on.
         medium: what each run begins with; None for 1,024 blocks of zeros in memory.
+        is_reduced: whether the second order of two events that commute is spared.
     """
-    found: Path = find_program(program)
-    return Walk(Runner(plan, Looks(plan), found, seconds, medium), prefixes, jobs, report).explore()
+    with programs_of(plan, program, seconds, medium) as programs:
+        walk = Walk(plan, programs, prefixes, jobs, report, is_reduced)
+        found = walk.explore()
+    if not walk.is_whole:
+        raise KeyboardInterrupt
+    return found
+
+
+def programs_of(plan: Plan, program: Optional[PathLike] = None, seconds: float = SECONDS,
+                medium: Optional[Medium] = None, tell: Callable[[str], None] = lambda why: None) -> Programs:
+    """The programs that explore a plan: forked where they wait, or else begun anew; `tell` is told why."""
+    found = find_program(program)
+    try:
+        loaded = library()
+    except NoLibrary as fault:
+        if plan.fails:
+            raise NoLibrary(f"{fault}, so no call of the image can fail") from None
+        loaded = None
+        tell(str(fault))
+    medium = medium or Medium()
+    if plan.has_crash or plan.fails:
+        medium.make_file()
+    return Programs(found, plan.setup, seconds, medium, loaded, tell, plan.fails)
 
 
 def explore_shard(text: str, shard: Shard, program: Optional[PathLike] = None, jobs: int = 1,

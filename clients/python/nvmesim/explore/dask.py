@@ -14,6 +14,10 @@ class DaskMissing(NvmesimError):
     """Dask is not installed."""
 
 
+class WorkerLacks(NvmesimError):
+    """A worker of the cluster does not find this package."""
+
+
 def _connect(address: str) -> Any:
     try:
         from distributed import Client
@@ -35,13 +39,19 @@ def explore_on_dask(plan: Plan, address: str, shards: int, program: Optional[str
         seconds: the time limit of each answer.
         image: the image, which the workers find where it lies here; None for zeros in memory.
         client: a client of the cluster, if there is one.
+
+    Raises:
+        DaskMissing, WorkerLacks: Dask is not installed here, or this package not where a worker runs.
     """
     whole = client if client is not None else _connect(address)
     parts = [Shard(number, shards) for number in range(1, shards + 1)]
     with Medium(image) as medium:
         digest = medium.digest
-    futures: List[Any] = whole.map(_task, [(plan.text, it, program, seconds, image, digest) for it in parts])
-    return joined(whole.gather(futures))
+    try:
+        futures: List[Any] = whole.map(_task, [(plan.text, it, program, seconds, image, digest) for it in parts])
+        return joined(whole.gather(futures))
+    except ImportError as fault:
+        raise WorkerLacks(f"a worker of the cluster does not have this package: {fault}") from None
 
 
 def _task(given: Any) -> Findings:

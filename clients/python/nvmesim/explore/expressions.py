@@ -11,7 +11,7 @@ from __future__ import annotations
 import ast
 import difflib
 import operator
-from typing import Any, Callable, Dict, Iterable, List, Set, Type, Union
+from typing import Any, Callable, Dict, Iterable, List, Set, Tuple, Type, Union
 
 from ..errors import ExpressionError
 from .kinds import fault_of
@@ -20,12 +20,22 @@ from .values import FIELDS, Value, Values, texts_of
 
 Scalar = Union[str, int, bool, None]
 
-_RESERVATION_FIELDS = ("type", "name", "holder", "generation", "persists", "protection", "is_protected", "registrants")
+_RESERVATION_FIELDS = ("rtype", "name", "holder", "generation", "persists", "protection", "is_protected", "registrants")
 _OPERATORS: Dict[Type[ast.cmpop], Callable[[Any, Any], bool]] = {
     ast.Eq: operator.eq, ast.NotEq: operator.ne, ast.Lt: operator.lt, ast.LtE: operator.le, ast.Gt: operator.gt,
     ast.GtE: operator.ge, ast.In: lambda one, many: one in many, ast.NotIn: lambda one, many: one not in many,
 }
 _CALLS = {"implies": 2, "reservation": 1, "block": 2}
+
+
+def parts_of(text: str) -> List[str]:
+    """The expressions of a list, which commas part: `a.write1,block(1,0)`. Raises `ExpressionError` for none."""
+    try:
+        found = ast.parse(f"({text},)".strip(), mode="eval").body
+    except (SyntaxError, ValueError):
+        raise ExpressionError(f"{text!r} is no list of expressions, such as a.write1,block(1,0)") from None
+    assert isinstance(found, ast.Tuple)
+    return [ast.unparse(it) for it in found.elts]
 
 
 class Expression:
@@ -60,6 +70,25 @@ class Expression:
             return bool(self._plain(self._evaluate(self._tree, values)))
         except TypeError as fault:
             raise ExpressionError(f"{self.text!r} compares what can't be compared: {fault}") from None
+
+    def looked_at(self, values: Values) -> Tuple[Any, ...]:
+        """Each answer, reservation and block that it names, as it is in an outcome."""
+        names = (ast.Attribute, ast.Call)
+        return tuple(repr(self._evaluate(it, values)) for it in ast.walk(self._tree) if isinstance(it, names)
+                     and not (isinstance(it, ast.Call) and ast.unparse(it.func) == "implies"))
+
+    def told(self, values: Values) -> str:
+        """What it comes to in an outcome, in short."""
+        try:
+            found = self._evaluate(self._tree, values)
+        except TypeError as fault:
+            raise ExpressionError(f"{self.text!r} compares what can't be compared: {fault}") from None
+        if isinstance(found, Value):
+            return str(found)
+        if found == "" and self.text.startswith("block"):
+            return "zeros"
+        is_host = isinstance(found, int) and self.text.endswith(".holder")
+        return f"{found:#x}" if is_host else found if isinstance(found, str) and found else repr(found)
 
     def _fault(self, why: str) -> ExpressionError:
         return ExpressionError(f"{self.text!r}: {why}")
@@ -166,7 +195,7 @@ class Expression:
             return values.blocks[arguments[0], arguments[1]].rstrip(b"\0").hex()
         told = values.reservations[arguments[0]]
         holder: Scalar = "all" if told.is_held_by_all else told.holder
-        return {"type": int(told.rtype), "name": told.rtype.text, "holder": holder, "generation": told.generation,
+        return {"rtype": int(told.rtype), "name": told.rtype.text, "holder": holder, "generation": told.generation,
                 "persists": told.persists, "protection": int(told.protection), "is_protected": told.is_protected,
                 "registrants": tuple(told.registrants)}
 

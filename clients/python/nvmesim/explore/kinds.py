@@ -6,7 +6,7 @@ from typing import Iterable, Optional
 
 TEXT, NUMBER, TRUTH = "a text", "a number", "true or false"
 
-_FIELDS = {"type": NUMBER, "generation": NUMBER, "protection": NUMBER, "rule": NUMBER, "value": NUMBER,
+_FIELDS = {"rtype": NUMBER, "generation": NUMBER, "protection": NUMBER, "rule": NUMBER, "value": NUMBER,
            "persists": TRUTH, "is_protected": TRUTH, "holder": None, "registrants": None}
 _ORDERING = (ast.Lt, ast.LtE, ast.Gt, ast.GtE)
 

@@ -18,6 +18,7 @@ from ..errors import NvmesimError
 from ..process import PathLike
 
 _PIECE = 1 << 20
+_ZEROS = 1024 * 512
 
 
 class MediumError(NvmesimError):
@@ -26,6 +27,9 @@ class MediumError(NvmesimError):
 
 class Medium:
     """What each run of an exploration begins with. Use it in a `with`, or close it.
+
+    Its copies are files without a name, in the folder for temporary files: whatever becomes of the explorer, none of
+    them stays.
 
     Attributes:
         digest: what tells images apart, in hexadecimal digits; an empty text for zeros in memory.
@@ -39,18 +43,14 @@ class Medium:
             OSError: it can't be read, or not be copied.
         """
         self.digest = ""
-        self._folder: Optional[tempfile.TemporaryDirectory[str]] = None
+        self._kept: Optional[int] = None
         if image is None:
             return
         if not stat.S_ISREG(os.stat(image).st_mode):
             raise MediumError(f"{os.fspath(image)} is no regular file, as an image has to be")
-        self._folder = tempfile.TemporaryDirectory(prefix="nvmesim-explore-")
-        try:
-            _copy(image, self._kept)
-            self.digest = _digest_of(self._kept)
-        except OSError:
-            self.close()
-            raise
+        with open(image, "rb") as file:
+            self._kept = self.copy_of(file.fileno())
+        self.digest = _digest_of(self._kept)
 
     def __enter__(self) -> Medium:
         return self
@@ -61,41 +61,55 @@ class Medium:
 
     def close(self) -> None:
         """Removes the copy."""
-        if self._folder is not None:
-            self._folder.cleanup()
+        if self._kept is not None:
+            os.close(self._kept)
+            self._kept = None
 
-    @property
-    def _kept(self) -> str:
-        """Where the copy lies that those of the runs are made of."""
-        assert self._folder is not None
-        return os.path.join(self._folder.name, "image")
+    def fresh(self) -> Optional[int]:
+        """A copy for one run, which the caller closes: the number of an open file; None for zeros in memory."""
+        return None if self._kept is None else self.copy_of(self._kept)
 
     @contextmanager
     def of_a_run(self) -> Iterator[str]:
         """The word IMAGE of the program for one run: `-`, or a copy of the run's own, which goes with it."""
-        if self._folder is None:
+        copy = self.fresh()
+        if copy is None:
             yield "-"
             return
-        number, name = tempfile.mkstemp(dir=self._folder.name, prefix="run-")
-        os.close(number)
         try:
-            _copy(self._kept, name)
-            yield name
+            yield f"/proc/{os.getpid()}/fd/{copy}"
         finally:
-            os.unlink(name)
+            os.close(copy)
+
+    def make_file(self) -> None:
+        """Puts the zeros in memory into a file, as an image that outlasts its program."""
+        if self._kept is None:
+            with tempfile.TemporaryFile(buffering=0) as file:
+                file.truncate(_ZEROS)
+                self._kept = os.dup(file.fileno())
+
+    def copy_of(self, source: int) -> int:
+        """A copy of an open file, which the caller closes: the number of an open file."""
+        with tempfile.TemporaryFile(buffering=0) as file:
+            target = os.dup(file.fileno())
+        try:
+            _copy(source, target)
+        except OSError:
+            os.close(target)
+            raise
+        return target
 
 
-def _copy(source: PathLike, target: PathLike) -> None:
+def _copy(source: int, target: int) -> None:
     """Copies the bytes of a file, with its holes."""
-    with open(source, "rb") as read, open(target, "wb") as written:
-        written.truncate(os.fstat(read.fileno()).st_size)
-        for begin, end in _pieces(read.fileno()):
-            while begin < end:
-                piece = os.pread(read.fileno(), min(_PIECE, end - begin), begin)
-                if not piece:
-                    return
-                os.pwrite(written.fileno(), piece, begin)
-                begin += len(piece)
+    os.truncate(target, os.fstat(source).st_size)
+    for begin, end in _pieces(source):
+        while begin < end:
+            piece = os.pread(source, min(_PIECE, end - begin), begin)
+            if not piece:
+                return
+            os.pwrite(target, piece, begin)
+            begin += len(piece)
 
 
 def _pieces(file: int) -> Iterator[Tuple[int, int]]:
@@ -112,9 +126,9 @@ def _pieces(file: int) -> Iterator[Tuple[int, int]]:
         yield begin, end
 
 
-def _digest_of(name: str) -> str:
-    digest = hashlib.sha256()
-    with open(name, "rb") as file:
-        while piece := file.read(_PIECE):
-            digest.update(piece)
+def _digest_of(file: int) -> str:
+    digest, place = hashlib.sha256(), 0
+    while piece := os.pread(file, _PIECE, place):
+        digest.update(piece)
+        place += len(piece)
     return digest.hexdigest()

@@ -45,10 +45,6 @@ class Ways:
         best = min((self.changes, self.order), (other.changes, other.order))
         return Ways(self.count + other.count, *best)
 
-    def longer(self, choice: int, is_change: bool) -> Ways:
-        """The same orders with one event more."""
-        return Ways(self.count, self.changes + is_change, (*self.order, choice))
-
 
 Findings = Dict[Outcome, Ways]
 

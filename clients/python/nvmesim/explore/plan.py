@@ -6,20 +6,13 @@ mark come first, in their order.
 """
 from __future__ import annotations
 
-import re
 from dataclasses import dataclass
-from math import comb
-from typing import Dict, Iterator, List, Optional, Tuple
+from math import comb, prod
+from typing import Dict, Iterator, List, NamedTuple, Tuple
 
 from ..errors import ScriptError
 from ..script import Configuration, LineKind, ScriptLine, configuration_of, read_lines
-
-BEFORE = "before"
-"""The name of the part before all marks."""
-THEN = "then"
-"""The name of the parts behind a mark `# then`."""
-
-_MARK = re.compile(r"#[ \t]+(?:host[ \t]+([A-Za-z_]\w*)|(then))[ \t\r]*\Z", re.ASCII)
+from .marks import BEFORE, CRASH, THEN, is_crash, mark_of
 
 Choice = int
 Order = Tuple[Choice, ...]
@@ -55,8 +48,7 @@ class Phase:
         return count
 
 
-@dataclass(frozen=True)
-class Position:
+class Position(NamedTuple):
     """How far an order is: its phase, and how many events of each part of it have come."""
 
     phase: int
@@ -68,18 +60,20 @@ class Plan:
 
     Attributes:
         text: the script.
+        fails: the call of the image that fails in each order, 0 where none does.
         setup: its lines up to `start`, without comments.
         phases: its phases; the first one has the events before all marks, and may be empty.
         configuration: what it says before `start`.
     """
 
-    def __init__(self, text: str) -> None:
-        """Reads a script.
+    def __init__(self, text: str, fails: int = 0) -> None:
+        """Reads a script; the call of the image that fails in each order, or 0.
 
         Raises:
-            ScriptError: it is no script, has no mark, or a part has a name that it can't have.
+            ScriptError: it is no script, has no mark or a comment that is nearly one, or a part has a name that it
+                can't have.
         """
-        self.text = text
+        self.text, self.fails = text, fails
         lines = list(read_lines(text))
         self.configuration: Configuration = configuration_of(lines)
         self.setup = [it.text for it in lines if it.kind in (LineKind.CONFIGURATION, LineKind.START)]
@@ -93,11 +87,24 @@ class Plan:
         return len(self.steps)
 
     @property
+    def has_crash(self) -> bool:
+        """Whether the program crashes in it."""
+        return any(it.line.is_crash for it in self.steps)
+
+    @property
     def orders(self) -> int:
         """How many orders there are."""
         count = 1
         for phase in self.phases:
             count *= phase.orders
+        return count
+
+    @property
+    def positions(self) -> int:
+        """How many positions there are, the last one too: as many states at least."""
+        count = 1
+        for phase in self.phases:
+            count += prod(len(part) + 1 for part in phase.parts) - 1
         return count
 
     @property
@@ -126,8 +133,8 @@ class Plan:
 
     def after(self, position: Position, choice: Choice) -> Position:
         """How far an order is behind that."""
-        done = tuple(it + (n == choice) for n, it in enumerate(position.done))
-        return self._settled(position.phase, done)
+        number, done = position
+        return self._settled(number, (*done[:choice], done[choice] + 1, *done[choice + 1:]))
 
     def _settled(self, number: int, done: Tuple[int, ...]) -> Position:
         """Phases that are done are left."""
@@ -157,36 +164,16 @@ class Plan:
         return order + tuple(rest)
 
 
-def _mark_of(line: ScriptLine) -> Optional[str]:
-    """The name that a mark gives, or `then`; None for another comment."""
-    found = _MARK.match(line.text) if line.kind is LineKind.COMMENT else None
-    if found is None:
-        return None
-    if found[1] in (BEFORE, THEN):
-        raise ScriptError(line.number, f"no host can be called {found[1]}")
-    return THEN if found[2] else found[1]
-
-
-def _near_mark(lines: List[ScriptLine]) -> str:
-    """Says of the first comment that begins like a mark that it is none."""
-    for line in lines:
-        words = line.text.split()
-        if line.kind is LineKind.COMMENT and words[1:2] == ["host"] and len(words) != 3:
-            return f", and {line.text!r}, line {line.number}, has {'more' if len(words) > 3 else 'fewer'} words"
-    return ""
-
-
 def _phases(lines: List[ScriptLine]) -> Iterator[Phase]:
     """The phases of a script."""
     phases: List[Dict[str, List[Step]]] = [{BEFORE: []}]
     counts: Dict[Tuple[str, str], int] = {}
     part = BEFORE
     is_started = False
-    for line in lines:
-        mark = _mark_of(line)
+    for it in lines:
+        line = ScriptLine(it.number, it.text, LineKind.EVENT, (CRASH,)) if is_started and is_crash(it) else it
+        mark = mark_of(line, is_started)
         if mark is not None:
-            if not is_started:
-                raise ScriptError(line.number, f"the mark {line.text!r} stands before start")
             if part in (BEFORE, THEN) or mark == THEN:
                 phases.append({})
             part = mark
@@ -196,7 +183,6 @@ def _phases(lines: List[ScriptLine]) -> Iterator[Phase]:
             phases[-1][part].append(Step(f"{part}.{line.verb}{number}", part, line))
         is_started = is_started or line.kind is LineKind.START
     if all(part in (BEFORE, THEN) for parts in phases for part in parts):
-        raise ScriptError(0, "the script has no mark: a comment '# host NAME' begins the events of a host"
-                          + _near_mark(lines))
+        raise ScriptError(0, "the script has no mark: a comment '# host NAME' begins the events of a host")
     for parts in phases:
         yield Phase(tuple(tuple(it) for it in parts.values()))

@@ -3,12 +3,13 @@ from __future__ import annotations
 
 import textwrap
 from itertools import groupby
-from typing import Dict, Iterator, List, Sequence, Tuple
+from typing import Callable, Dict, Hashable, Iterator, List, Sequence, Tuple
 
 from ..enums import Protection
 from ..looks import ReservationState
 from ..words import data_words, hexadecimal, shortened
 from .expressions import Expression
+from .groups import Group, grouped, matters
 from .outcomes import Findings, Outcome, Ways, ranked
 from .plan import BEFORE, THEN, Order, Plan, Step
 from .states import Looks
@@ -16,6 +17,8 @@ from .values import Values
 
 _COLUMNS = 110
 _FEW_BLOCKS = 16
+FEWEST_ORDERS = 2
+"""Fewer orders than these are no exploration: no expression is found to hold by them."""
 
 
 class Check:
@@ -36,35 +39,75 @@ class Check:
 
 
 class Report:
-    """What an exploration found, ready to be printed."""
+    """What an exploration found, ready to be printed.
 
-    def __init__(self, plan: Plan, found: Findings, checks: Sequence[Check] = ()) -> None:
-        """Takes the outcomes of a plan."""
-        self.plan, self.checks = plan, checks
+    Attributes:
+        found: the outcomes, ranked.
+        values: what each of them says.
+        groups: those that are alike in what matters, together.
+        shorter: of a check, by its name, a counterexample that was cut down.
+    """
+
+    def __init__(self, plan: Plan, found: Findings, checks: Sequence[Check] = (), is_whole: bool = True,
+                 by: Sequence[Expression] = (), has_trifles: bool = False) -> None:
+        """Takes the outcomes of a plan.
+
+        Args:
+            plan: the script with its parts.
+            found: the outcomes.
+            checks: what they must be.
+            is_whole: whether they are those of all orders.
+            by: what outcomes are grouped by; without it, by what matters.
+            has_trifles: whether outcomes are also told apart by events that do not matter.
+        """
+        self.plan, self.checks, self.is_whole = plan, checks, is_whole
+        self.by, self.has_trifles = by, has_trifles
         self.looks = Looks(plan).last()
         self.found: List[Tuple[Outcome, Ways]] = ranked(found)
         self.values = [Values(plan, outcome, self.looks) for outcome, _ in self.found]
         self.blocks = list(self._block_ranges())
+        self._table = [self._rows(it) for it in self.values]
+        self.shorter: Dict[str, List[str]] = {}
+        self.groups = grouped(self.found, self.values, self._key())
+
+    def _key(self) -> Callable[[Values], Hashable]:
+        """What outcomes are alike in that are told together."""
+        if self.by:
+            return lambda it: tuple(expression.told(it) for expression in self.by)
+        rows = dict(zip(map(id, self.values), self._table))
+        return lambda it: tuple(rows[id(it)].items())
 
     @property
     def is_good(self) -> bool:
         """Whether all checks are met by all outcomes."""
         return all(check.is_met(it) for check in self.checks for it in self.values)
 
+    @property
+    def orders(self) -> int:
+        """How many orders were judged."""
+        return sum(ways.count for _, ways in self.found)
+
+    def why_one_order(self) -> str:
+        """Why there is but one order: a script of one part, or parts that have no events beside one another."""
+        names = list(self.plan.parts)
+        return f"The script has one part, {names[0]}" if len(names) == 1 else "The script's parts have one order"
+
     def lines(self) -> Iterator[str]:
         """The whole report."""
         told = ", ".join(f"{name} {_count(count, 'event')}" for name, count in self.plan.parts.items())
-        total = sum(ways.count for _, ways in self.found)
-        yield f"{_count(total, 'order')} of {told}: {_count(len(self.found), 'outcome')}"
-        rows = [self._rows(it) for it in self.values]
-        first = rows[0] if rows else {}
-        same = {name: text for name, text in first.items() if all(it.get(name) == text for it in rows)}
-        for number, ((_, ways), row) in enumerate(zip(self.found, rows), 1):
+        total = self.orders
+        if not self.is_whole:
+            yield f"PARTIAL: {_count(total, 'order')} of {self.plan.orders} were judged, and others may come to more."
+        yield f"{_count(total, 'order')} of {told}: {_count(len(self.groups), 'outcome')}"
+        if self.plan.orders < FEWEST_ORDERS:
+            yield f"{self.why_one_order()}, so nothing was tried in another order."
+        same = self.same()
+        for number, group in enumerate(self.groups, 1):
             yield ""
-            yield f"{number}. {_count(ways.count, 'order')}, such as"
-            yield from self._telling(ways.order)
-            yield from _table({name: text for name, text in row.items() if name not in same}, "   ")
-        if same and len(rows) > 1:
+            yield f"{number}. {_count(group.ways.count, 'order')}, such as"
+            yield from self._telling(group.ways.order)
+            yield from _table({name: text for name, text in self.rows_of(group).items() if name not in same}, "   ")
+        if same and len(self.groups) > 1:
             yield ""
             yield "The same in all outcomes:"
         elif same:
@@ -73,11 +116,24 @@ class Report:
         for check in self.checks:
             yield from self._checked(check, total)
 
+    def same(self) -> Dict[str, str]:
+        """What is the same in all outcomes, by names."""
+        first = self._table[0] if self._table else {}
+        return {name: text for name, text in first.items() if all(it.get(name) == text for it in self._table)}
+
+    def rows_of(self, group: Group) -> Dict[str, str]:
+        """What all outcomes of a group say, by names; what was asked for comes first."""
+        rows = {it.text: it.told(self.values[group.first]) for it in self.by}
+        for name, text in self._table[group.first].items():
+            if name not in rows and all(self._table[it].get(name) == text for it in group.members):
+                rows[name] = text
+        return rows
+
     def _rows(self, values: Values) -> Dict[str, str]:
-        """What an outcome says, by names: requests, other events whose answers differ, and the last state."""
+        """What an outcome says, by names: requests, other events that matter and differ, and the last state."""
         rows = {step.name: str(values.answers[step.name]) for step in self.plan.steps if step.line.is_request}
         for step in self.plan.steps:
-            if not step.line.is_request and self._differs(step):
+            if not step.line.is_request and (self.has_trifles or matters(self.plan, step)) and self._differs(step):
                 rows[step.name] = str(values.answers[step.name])
         for nsid, told in values.reservations.items():
             rows[f"reservation {nsid}"] = reservation_words(told)
@@ -117,24 +173,35 @@ class Report:
             yield from textwrap.wrap(text, _COLUMNS, initial_indent=head, subsequent_indent=" " * len(head),
                                      break_on_hyphens=False)
 
+    def broken(self, check: Check) -> List[Tuple[Outcome, Ways]]:
+        """The outcomes that do not meet a check."""
+        return [it for it, values in zip(self.found, self.values) if not check.is_met(values)]
+
     def _checked(self, check: Check, total: int) -> Iterator[str]:
         """Whether a check is met, and by what order it is not."""
-        broken = [it for it, values in zip(self.found, self.values) if not check.is_met(values)]
+        broken = self.broken(check)
         count = sum(ways.count for _, ways in broken)
         yield ""
         if not broken:
-            yield f"{check.name}: holds in all {_count(total, 'order')}"
+            judged = "" if self.is_whole else " that were judged"
+            yield f"{check.name}: holds in all {_count(total, 'order')}{judged}"
             return
         yield f"{check.name}: fails in {count} of {_count(total, 'order')}, for instance by this script:"
         yield ""
-        yield from script_of(self.plan, broken[0][1].order)
+        yield from self.example(check)
+
+    def example(self, check: Check) -> List[str]:
+        """A script that does not meet a check; an empty one where all do."""
+        broken = self.broken(check)
+        if not broken:
+            return []
+        return self.shorter.get(check.name) or list(script_of(self.plan, broken[0][1].order))
 
     def counterexample(self) -> str:
         """The first counterexample as a script; an empty text where all checks are met."""
         for check in self.checks:
-            for (_, ways), values in zip(self.found, self.values):
-                if not check.is_met(values):
-                    return "".join(f"{it}\n" for it in script_of(self.plan, ways.order))
+            if self.broken(check):
+                return "".join(f"{it}\n" for it in self.example(check))
         return ""
 
 

@@ -36,20 +36,29 @@ class Looks:
         self.namespaces = list(plan.configuration.namespaces)
         self.ranges = list(_written(plan) if not plan.configuration.raw else _all_blocks(plan))
         total = sum(count for _, _, count in self.ranges)
-        self.are_blocks_seen = total <= _MOST_BLOCKS and not plan.configuration.raw
-        """Whether blocks are looked at behind each event; else the commands that wrote stand for them."""
+        self.are_blocks_seen = total <= _MOST_BLOCKS and not plan.configuration.raw and not plan.fails
+        """Whether blocks are looked at behind each event; else the commands that wrote stand for them. A look would be
+        the call of the image that fails."""
         self.blocks = [f"?blocks {n} {slba} {count}" for n, slba, count in self.ranges]
         self.access = [*(f"?reservation {n}" for n in self.namespaces), "?attached"]
         self.shared = [*self.access, *(self.blocks if self.are_blocks_seen else ())]
         self._raw = plan.configuration.raw
+        self._behind: Dict[str, List[str]] = {}
 
     def behind(self, step: Step) -> List[str]:
         """The lines that are asked behind an event: what it can have changed.
 
-        An execution may change what hosts share and mark what other controllers have fetched, and a power cycle may
-        change everything; every other event changes its own controller and host alone.
+        An execution may change what hosts share and mark what other controllers have fetched, and a power cycle or a
+        crash may change everything; every other event changes its own controller and host alone.
         """
-        if step.line.is_power_cycle:
+        found = self._behind.get(step.name)
+        if found is None:
+            found = self._behind[step.name] = self._changed(step)
+        return found
+
+    def _changed(self, step: Step) -> List[str]:
+        """The same."""
+        if step.line.is_of_all:
             return self.all()
         number = step.line.controller
         own = self._own(number) if number in self.controllers else []
@@ -103,7 +112,7 @@ class State:
 
     Attributes:
         position: how far the order is.
-        looks: what the looking lines told last.
+        looks: what the looking lines told last, in the order in which they are first asked.
         tracks: the requests on their way through each controller.
         raw: what stands for each raw host's controller and window: all that happened there.
         medium: what stands for the medium where its blocks are not looked at: all that was written.
@@ -122,20 +131,24 @@ class State:
         number, seen, tracks = step.line.controller, dict(self.looks), dict(self.tracks)
         name = _executing(step, seen.get(f"?fetched {number}", ""), number)
         found = self._shared(looks, seen) if name in _TELLING else b""
-        if step.line.is_power_cycle:
+        if step.line.is_crash:
+            label, tracks = answer, {}
+        elif step.line.is_power_cycle:
             label, tracks = answer, {it: track.emptied() for it, track in tracks.items()}
         else:
             label, tracks[number] = labelled(step, answer, tracks.get(number, Track()), found)
         chains, medium = dict(self.raw), self.medium
         for it in plan.configuration.raw:
-            if it == number or step.line.is_power_cycle:
+            if step.line.is_crash:
+                chains.pop(it, None)
+            elif it == number or step.line.is_power_cycle:
                 chains[it] = _digest(chains.get(it, b""), step.name.encode(), answer.encode(), found)
         raw = tuple(sorted(chains.items()))
         if name in _WRITING and not looks.are_blocks_seen:
             medium = _digest(medium, label.encode(), dict(raw).get(number, b""))
         seen.update(told)
-        return label, State(plan.after(self.position, choice), tuple(sorted(seen.items())),
-                            tuple(sorted(tracks.items())), raw, medium)
+        return label, State(plan.after(self.position, choice), tuple(seen.items()), tuple(sorted(tracks.items())), raw,
+                            medium)
 
     def _shared(self, looks: Looks, seen: Dict[str, str]) -> bytes:
         """What stands for all that hosts share, where a command brings data of it."""
@@ -144,7 +157,7 @@ class State:
 
 def first_state(plan: Plan, told: Dict[str, str]) -> State:
     """The state in which every order begins."""
-    return State(plan.begin(), tuple(sorted(told.items())))
+    return State(plan.begin(), tuple(told.items()))
 
 
 def _digest(*pieces: bytes) -> bytes:

@@ -16,7 +16,7 @@ Pair = Tuple[int, int]
 
 @dataclass(frozen=True)
 class Posted:
-    """A completion that was not handed up: its request, its status, how many commands its queue had given by then, and
+    """A completion that was not delivered: its request, its status, how many commands its queue had given by then, and
     what stands for the data that it brings."""
 
     name: str
@@ -96,7 +96,7 @@ class Track:
         return replace(self, posted=posted, heard=heard)
 
     def emptied(self) -> Track:
-        """The queues are gone; the requests that wait will be handed up as aborted."""
+        """The queues are gone; the requests that wait will be delivered as aborted."""
         return replace(self, lanes=((), ()), fetched=(), posted=((), ()), taken=(0, 0), heard=(0, 0))
 
 

@@ -27,13 +27,14 @@ _TEXTS: Dict[str, FrozenSet[str]] = {
     "store": frozenset(("stored", "outside")),
     "write32": frozenset(("wrote32",)),
     "powercycle": frozenset(("powercycle",)),
+    "crash": frozenset(("crash",)),
 }
 _OF_REQUESTS = _STATUSES | {ABORTED, UNANSWERED} | {f"refused {it.value}" for it in Refusal}
 
 
 def texts_of(line: ScriptLine) -> FrozenSet[str]:
     """All texts that the answer of a line can be."""
-    misses = frozenset() if line.is_power_cycle else _MISSES
+    misses = frozenset() if line.is_of_all else _MISSES
     return (_OF_REQUESTS if line.is_request else _TEXTS[line.verb]) | misses
 
 
@@ -141,7 +142,7 @@ def _value(line: ScriptLine, label: str, executed: Optional[List[str]], polled: 
 
 
 def _polled(words: List[str], rule: int, done: str, request: str) -> Value:
-    """What a poll handed up."""
+    """What a poll delivered."""
     if words == [ABORTED]:
         return Value(ABORTED, rule, done, request=request)
     status = status_in(words[0])

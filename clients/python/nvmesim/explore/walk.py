@@ -1,127 +1,236 @@
 """Walks all orders, and runs each event once from each state: what was met before is not run again.
 
-A subsystem can't go back, so each run begins anew and goes to the end of one order. Where it meets a state that is
-known, the rest of it tells nothing new. From each new state the other events that may come are begun in runs of their
-own, several at once.
+From a state the events that may come next are run, each in a branch of its own. Where one leads to a state that is
+known, the rest of it tells nothing new. Where two events commute, the second order of them is not run either: its
+answers and its state are those of the first.
 """
 from __future__ import annotations
 
-from concurrent.futures import FIRST_COMPLETED, Future, ThreadPoolExecutor, wait
+import time
 from dataclasses import dataclass, field
 from typing import Callable, Dict, List, Optional, Sequence, Set, Tuple, Union
 
-from .outcomes import Findings, Labels, Outcome, Ways
+from .branches import MOST_BRANCHES, Branch, Branches
+from .gathering import gather
+from .independence import Independence
+from .marks import CRASH
+from .outcomes import Findings, in_one_form
 from .plan import Choice, Order, Plan, Position
-from .runs import Run, Runner
 from .states import Looks, State, first_state
 
 
 @dataclass
 class Statistics:
-    """What an exploration took: runs of the program, lines that were sent, states that were met."""
+    """What an exploration took.
 
-    runs: int = 0
-    lines: int = 0
+    Attributes:
+        states: states that were met.
+        positions: how far orders were, told apart by how many events of each part had come.
+        events: events that were run.
+        spared: events that were not run, since they commute with one that was.
+        lines: lines that were sent.
+        most_live: the most branches that waited or ran at once.
+    """
+
     states: int = 0
+    positions: int = 0
+    events: int = 0
+    spared: int = 0
+    lines: int = 0
+    most_live: int = 0
 
 
 Key = Union[State, Tuple[Order, State]]
-Reaching = Dict[Tuple[Labels, int], Ways]
-"""The orders that lead to a state, by the answers so far and the part that came last."""
 Report = Callable[[Statistics], None]
+Edge = Tuple["Node", Choice]
 
 
 @dataclass(eq=False)
 class Node:
-    """A state that was met: one order that leads to it, and what each choice gives."""
+    """A state that was met: one order that leads to it, and what each choice gives.
+
+    Attributes:
+        edges: what each choice gave: the label of its answer, and the state behind it.
+        came_by: the choices that lead here, each with the state before it.
+        left: how many choices were not begun.
+        branch: a branch that waits here.
+        last: what looking lines told at the end of an order.
+    """
 
     state: State
     path: Order
     edges: Dict[Choice, Tuple[str, Node]] = field(default_factory=dict)
-    begun: Set[Choice] = field(default_factory=set)
+    came_by: List[Tuple[Node, Choice]] = field(default_factory=list)
+    left: int = 0
+    branch: Optional[Branch] = None
     last: Optional[Tuple[str, ...]] = None
+
+    @property
+    def phase(self) -> int:
+        """The phase of the plan in which it is."""
+        return self.state.position.phase
+
+
+@dataclass
+class Asked:
+    """An event that is being run from a state, and the lines that were sent for it."""
+
+    node: Node
+    choice: Choice
+    looked: List[str]
+    is_last: bool
 
 
 class Walk:
-    """An exploration of the orders that begin with one of some prefixes."""
+    """An exploration of the orders that begin with one of some prefixes.
 
-    def __init__(self, runner: Runner, prefixes: Sequence[Order] = ((),), jobs: int = 1,
-                 report: Report = lambda statistics: None) -> None:
+    Attributes:
+        is_whole: whether it went to the end.
+    """
+
+    def __init__(self, plan: Plan, branches: Branches, prefixes: Sequence[Order] = ((),), jobs: int = 1,
+                 report: Report = lambda statistics: None, is_reduced: bool = True) -> None:
         """Prepares it.
 
         Args:
-            runner: what runs an order.
+            plan: the script with its parts.
+            branches: what runs events.
             prefixes: the beginnings of the orders that are explored, all equally long.
-            jobs: so many runs at once.
+            jobs: so many events are run at once.
             report: is told of what has been done, now and then.
+            is_reduced: whether the second order of two events that commute is spared.
         """
-        self.runner, self.jobs, self.report = runner, jobs, report
-        self.plan: Plan = runner.plan
-        self.looks: Looks = runner.looks
+        self.plan, self.branches, self.jobs, self.report = plan, branches, jobs, report
+        self.looks = Looks(plan)
         self.depth = len(prefixes[0]) if prefixes else 0
         self.allowed = {prefix[:n] for prefix in prefixes for n in range(self.depth + 1)}
         self.statistics = Statistics()
+        self.is_whole = True
+        self._commuting = Independence(plan) if is_reduced else None
         self._nodes: Dict[Key, Node] = {}
-        self._root: Optional[Node] = None
+        self._positions: Set[Position] = set()
+        self._waiting: List[Edge] = []
+        self._running: Dict[Branch, Asked] = {}
+        self._awaited: Dict[Edge, List[Edge]] = {}
+        self._is_begun: Set[Edge] = set()
 
-    def explore(self) -> Findings:
-        """What the orders come to."""
+    def explore(self, until: Optional[float] = None) -> Findings:
+        """What the orders come to.
+
+        Args:
+            until: the time, as `time.monotonic` has it, at which it is stopped. It is stopped by an interruption of
+                the keyboard too: what was found so far is returned, and `is_whole` is false.
+        """
         if not self.allowed:
             return {}
-        with ThreadPoolExecutor(self.jobs) as pool:
-            waiting: List[Tuple[Order, int]] = [(self._whole(()), 0)]
-            running: Dict[Future[Run], Tuple[Order, int]] = {}
-            try:
-                while waiting or running:
-                    while waiting and len(running) < 2 * self.jobs:
-                        order, known = waiting.pop()
-                        running[pool.submit(self.runner.run, order, known)] = order, known
-                    done, _ = wait(running, return_when=FIRST_COMPLETED)
-                    for future in done:
-                        waiting += self._take(*running.pop(future), future.result())
-                    self.report(self.statistics)
-            finally:
-                for future in running:
-                    future.cancel()
-        return self._gather()
+        branch = self.branches.begin()
+        branch.ask(self.looks.all())
+        while not (found := self.branches.wait([branch])):
+            pass
+        root, _ = self._meet((), first_state(self.plan, dict(zip(self.looks.all(), found[0][1]))))
+        self._arrive(root, branch)
+        try:
+            while self._waiting or self._running:
+                self._step()
+                if until is not None and time.monotonic() > until:
+                    self.is_whole = not self._waiting and not self._running
+                    break
+        except KeyboardInterrupt:
+            self.is_whole = False
+        return gather(self.plan, root)
+
+    def _step(self) -> None:
+        """Begins what can be begun, and takes in what has come of what was."""
+        while self._waiting and len(self._running) < self.jobs:
+            self._begin(*self._waiting.pop())
+        if self._running:
+            for branch, answers in self.branches.wait(self._running):
+                self._take(branch, self._running.pop(branch), answers)
+            self.report(self.statistics)
 
     def _choices(self, path: Order, position: Position) -> List[Choice]:
         """The choices from a state that a path leads to."""
         found = self.plan.choices(position)
         return found if len(path) >= self.depth else [it for it in found if (*path, it) in self.allowed]
 
-    def _whole(self, path: Order) -> Order:
-        """A whole order that begins so."""
-        while len(path) < self.depth:
-            position = self.plan.begin()
-            for choice in path:
-                position = self.plan.after(position, choice)
-            path = (*path, self._choices(path, position)[0])
-        return self.plan.completed(path)
+    def _begin(self, node: Node, choice: Choice) -> None:
+        """Runs an event from a state, unless what it gives is known already, or will be soon."""
+        node.left -= 1
+        twin = self._twin(node, choice)
+        if twin is not None and twin[1] in twin[0].edges:
+            self._spare(node, choice, twin)
+        elif twin is not None and twin in self._is_begun:
+            self._awaited.setdefault(twin, []).append((node, choice))
+            self._is_begun.add((node, choice))
+        else:
+            self._run(node, choice)
+        if not node.left and node.branch is not None:
+            node.branch.close()
+            node.branch = None
 
-    def _take(self, order: Order, known: int, run: Run) -> List[Tuple[Order, int]]:
-        """Takes in what a run gave; the runs that it calls for."""
-        self.statistics.runs += 1
-        self.statistics.lines += run.lines
-        found: List[Tuple[Order, int]] = []
-        if self._root is None:
-            self._root, _ = self._meet((), first_state(self.plan, run.first))
-            found += self._branches(self._root, order[0] if order else None)
-        node = self._root
-        for place, choice in enumerate(order):
-            if place < known:
-                node = node.edges[choice][1]
-                continue
-            seen = run.steps[place]
-            label, state = node.state.next(self.plan, self.looks, choice, seen.answer, seen.told)
-            follower, is_new = self._meet(order[:place + 1], state)
-            node.edges[choice] = label, follower
-            node = follower
-            if not is_new:
-                return found
-            found += self._branches(node, order[place + 1] if place + 1 < len(order) else None)
-        node.last = run.last
-        return found
+    def _run(self, node: Node, choice: Choice) -> None:
+        """Runs an event from a state."""
+        step = self.plan.step(node.state.position, choice)
+        looked = self.looks.behind(step)
+        is_last = not self.plan.choices(self.plan.after(node.state.position, choice))
+        asked = Asked(node, choice, looked, is_last)
+        branch = self._branch_at(node)
+        if step.line.is_crash:
+            branch = self.branches.reopen(branch)
+        self._running[branch] = asked
+        self._is_begun.add((node, choice))
+        event = () if step.line.is_crash else (" ".join(step.line.words),)
+        lines = [*event, *looked, *(self.looks.last() if is_last and not self.plan.fails else ())]
+        branch.ask(lines)
+        self.statistics.events += 1
+        self.statistics.lines += len(lines)
+        self.statistics.most_live = max(self.statistics.most_live, self.branches.live)
+
+    def _branch_at(self, node: Node) -> Branch:
+        """A branch at a state that may go on from there: the one that waits there, where nothing else wants it."""
+        waiting = node.branch
+        if waiting is None:
+            return self.branches.begin([" ".join(it.line.words) for it in self.plan.steps_of(node.path)])
+        if node.left and self.branches.can_fork:
+            return waiting.fork()
+        node.branch = None
+        return waiting
+
+    def _take(self, branch: Branch, asked: Asked, answers: List[str]) -> None:
+        """Takes in what an event gave."""
+        node, choice = asked.node, asked.choice
+        if self.plan.step(node.state.position, choice).line.is_crash:
+            answers = [CRASH, *answers]
+        end = 1 + len(asked.looked)
+        told = dict(zip(asked.looked, answers[1:end]))
+        if self.plan.fails:
+            told["calls left"] = str(branch.calls_left)
+        label, state = node.state.next(self.plan, self.looks, choice, answers[0], told)
+        follower, is_new = self._meet((*node.path, choice), state)
+        self._join(node, choice, label, follower)
+        if is_new and asked.is_last:
+            last = self._looked(branch, self.looks.last()) if self.plan.fails else answers[end:]
+            follower.last = tuple(map(in_one_form, last))
+        if is_new and not asked.is_last:
+            self._arrive(follower, branch)
+        else:
+            branch.close()
+
+    def _looked(self, branch: Branch, lines: List[str]) -> List[str]:
+        """What looking lines tell whose calls of the image are to pass."""
+        branch.end_faults()
+        branch.ask(lines)
+        while not (found := self.branches.wait([branch])):
+            pass
+        return found[0][1]
+
+    def _join(self, node: Node, choice: Choice, label: str, follower: Node) -> None:
+        """Notes what a choice gave, and what waited to know it."""
+        node.edges[choice] = label, follower
+        self._is_begun.discard((node, choice))
+        follower.came_by.append((node, choice))
+        for edge in self._awaited.pop((node, choice), ()):
+            self._spare(*edge, (node, choice))
 
     def _meet(self, path: Order, state: State) -> Tuple[Node, bool]:
         """The node of a state, and whether it is new. Prefixes are kept apart, since they may go on differently."""
@@ -130,47 +239,38 @@ class Walk:
         if node is not None:
             return node, False
         self.statistics.states += 1
+        self._positions.add(state.position)
+        self.statistics.positions = len(self._positions)
         node = self._nodes[key] = Node(state, path)
         return node, True
 
-    def _branches(self, node: Node, taken: Optional[Choice]) -> List[Tuple[Order, int]]:
-        """The runs that begin the other choices of a new state."""
-        known = len(node.path)
-        others = [it for it in self._choices(node.path, node.state.position) if it != taken]
-        return [(self._whole((*node.path, it)), known) for it in reversed(others)]
+    def _arrive(self, node: Node, branch: Branch) -> None:
+        """Lets a branch wait at a new state, whose choices are to be begun. Where too many wait, the first one ends."""
+        choices = self._choices(node.path, node.state.position)
+        node.left, node.branch = len(choices), branch
+        self._waiting += [(node, it) for it in reversed(choices)]
+        if self.branches.live > MOST_BRANCHES:
+            for other, _ in self._waiting:
+                if other.branch is not None and other is not node:
+                    other.branch.close()
+                    other.branch = None
+                    break
 
-    def _gather(self) -> Findings:
-        """Counts the orders: each state hands on what leads to it."""
-        assert self._root is not None
-        ways: Dict[Node, Reaching] = {self._root: {((), -1): Ways(1, 0, ())}}
-        found: Findings = {}
-        level = [self._root]
-        while level:
-            following: Dict[Node, None] = {}
-            for node in level:
-                for choice, (label, follower) in node.edges.items():
-                    self._hand_on(node, choice, label, ways[node], ways.setdefault(follower, {}))
-                    following[follower] = None
-                if node.last is not None:
-                    _conclude(self.plan, node.last, ways[node], found)
-                del ways[node]
-            level = list(following)
-        return found
+    def _twin(self, node: Node, choice: Choice) -> Optional[Edge]:
+        """The same two events in the other order, of which this choice is the second, where they commute: the state
+        behind this choice's event, and the other event."""
+        if self._commuting is None:
+            return None
+        for before, other in node.came_by:
+            if before.phase != node.phase or len(before.path) < self.depth or choice not in before.edges:
+                continue
+            if self._commuting.commute(before.state, choice, other):
+                return before.edges[choice][1], other
+        return None
 
-    def _hand_on(self, node: Node, choice: Choice, label: str, ways: Reaching, following: Reaching) -> None:
-        """Hands the orders that lead to a state on to one behind it."""
-        name = self.plan.step(node.state.position, choice).name
-        phase = node.state.position.phase
-        mark = 1000 * phase + choice
-        for (labels, last), it in ways.items():
-            longer = it.longer(choice, last != mark)
-            key = (tuple(sorted((*labels, (name, label)))), mark)
-            following[key] = following[key].joined(longer) if key in following else longer
-
-
-def _conclude(plan: Plan, last: Tuple[str, ...], ways: Reaching, found: Findings) -> None:
-    """Adds the orders that end in a state to what was found."""
-    places = {step.name: n for n, step in enumerate(plan.steps)}
-    for (labels, _), it in ways.items():
-        outcome = Outcome(tuple(sorted(labels, key=lambda pair: places[pair[0]])), last)
-        found[outcome] = found[outcome].joined(it) if outcome in found else it
+    def _spare(self, node: Node, choice: Choice, twin: Edge) -> None:
+        """Takes what a choice gives from the same two events in the other order."""
+        between, other = twin
+        before = next(it for it, by in node.came_by if by == other and it.edges.get(choice, ("", None))[1] is between)
+        self.statistics.spared += 1
+        self._join(node, choice, before.edges[choice][0], between.edges[other][1])

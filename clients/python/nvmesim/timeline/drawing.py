@@ -2,18 +2,20 @@
 from __future__ import annotations
 
 from html import escape
-from typing import Iterator, List, Sequence, Tuple
+from typing import Dict, Iterator, List, Optional, Sequence, Tuple
 
 from ..answers import Executed, Fetched, Polled, PowerCycled, Reset, Rung, Up
 from ..enums import ExecuteOutcome, UpOutcome
 from ..history import Command, Event
 from ..words import (command_label, command_words, rule_words, short_meaning, shortened, status_words, tickets_words,
                      verdict_words)
-from .layout import HEAD, ROW, Layout, begin_of, commands_of
+from .bands import Band
+from .layout import HEAD, ROW, Layout, begin_of
 
 _ALTERING = ("write", "zeroes")
 _READING = ("read", "compare")
 _MOST_WORDS = 112
+_FEW_WORDS = 44
 
 
 def state_of(command: Command) -> str:
@@ -41,13 +43,19 @@ class Part:
     """Some events that follow one another, as one SVG picture."""
 
     def __init__(self, layout: Layout, events: Sequence[Event], texts: Sequence[Tuple[str, str]],
-                 all_events: Sequence[Event]) -> None:
-        """Draws `events`, each with its line and its meaning, of a picture of `all_events`."""
+                 commands: Sequence[Command], captions: Optional[Dict[int, str]] = None,
+                 bands: Sequence[Band] = ()) -> None:
+        """Draws `events`, each with its line and its meaning, of a picture with these commands; `captions` stand above
+        events, by their numbers."""
         self.layout, self.events, self.texts = layout, events, texts
         self.first, self.last = events[0].number, events[-1].number
-        self.commands = [it for it in commands_of(all_events)
-                         if begin_of(it) <= self.last and layout.end_of(it) >= self.first]
-        self.height = HEAD + ROW * len(events) + 8
+        self.commands = [it for it in commands if begin_of(it) <= self.last and layout.end_of(it) >= self.first]
+        self.bands = [it for it in bands if it.begin <= self.last and it.end >= self.first]
+        self.captions = {it.number: (captions or {})[it.number] for it in events if it.number in (captions or {})}
+        self._places: Dict[int, int] = {}
+        for event in events:
+            self._places[event.number] = len(self._places) + sum(it <= event.number for it in self.captions)
+        self.height = HEAD + ROW * (len(events) + len(self.captions)) + 8
 
     def svg(self) -> str:
         """The picture."""
@@ -55,13 +63,13 @@ class Part:
         label = f"Events {self.first} to {self.last}"
         head = (f'<svg class="part" role="group" aria-label="{label}" viewBox="0 0 {width} {self.height}" '
                 f'width="{width}" height="{self.height}" xmlns="http://www.w3.org/2000/svg">')
-        body = [*self._lanes(), '<g role="list" aria-label="Events">', *self._rows(), "</g>", *self._spans(),
-                *self._marks()]
+        body = [*self._lanes(), *self._bands(), *self._captions(), '<g role="list" aria-label="Events">', *self._rows(),
+                "</g>", *self._spans(), *self._marks()]
         return "\n".join([head, *body, "</svg>"])
 
     def y(self, number: int) -> float:
         """The middle of an event's row."""
-        return HEAD + ROW * (number - self.first) + ROW / 2
+        return HEAD + ROW * self._places[number] + ROW / 2
 
     def _lanes(self) -> Iterator[str]:
         for lane in self.layout.lanes:
@@ -71,16 +79,37 @@ class Part:
                    f'{escape(lane.title)}</text>')
             yield f'<text class="subtitle" x="{lane.middle}" y="35">{escape(lane.subtitle)}</text>'
 
+    def _bands(self) -> Iterator[str]:
+        """Who is registered and who holds a reservation; each band begins and ends at the middle of its event."""
+        for band in self.bands:
+            top = self.y(band.begin) if band.begin >= self.first else float(HEAD)
+            bottom = self.y(band.end) if band.end <= self.last else self.height - 4.0
+            left, width, look = self.layout.band_left(band), (9, 7)[not band.held], "holds" if band.held else "key"
+            yield (f'<g class="access {look}"><title>{escape(band.words)}</title><rect x="{left - (width - 7) / 2}" '
+                   f'y="{top}" width="{width}" height="{max(2.0, bottom - top)}"/></g>')
+
+    def _captions(self) -> Iterator[str]:
+        """Comments of the script above their events."""
+        for number, text in self.captions.items():
+            y = self.y(number) - ROW
+            yield (f'<g class="caption"><title>{escape(text)}</title><rect x="0" y="{y - ROW / 2 + 2}" '
+                   f'width="{self.layout.width}" height="{ROW - 4}"/>'
+                   f'<text x="{self.layout.text_left}" y="{y + 4}">{escape(shortened(text, _MOST_WORDS))}</text></g>')
+
     def _rows(self) -> Iterator[str]:
         """The rows: what takes the focus, and the words beside the lanes."""
         left = self.layout.text_left
         for event, (line, words) in zip(self.events, self.texts):
             y, top = self.y(event.number), self.y(event.number) - ROW / 2
-            told = escape(f"Event {event.number}, line {event.line.number}: {event.line.text} — {event.text} — {words}",
-                          quote=True)
-            look = "denied" if isinstance(event.answer, (Executed, Polled)) and any(
-                it.is_denied for it in event.commands) else "plain"
-            yield (f'<g class="event {look}" tabindex="0" role="listitem" aria-label="{told}"><title>{told}</title>'
+            where = f"Event {event.number}, line {event.line.number}"
+            told = escape(f"{where}: {event.line.text} — {event.text} — {words}", quote=True)
+            is_denied = isinstance(event.answer, (Executed, Polled)) and any(it.is_denied for it in event.commands)
+            place = self.layout.hosts.get(event.line.controller)
+            lane = place.left if place is not None else 0
+            look = "plain" if not is_denied else "denied stopped" if isinstance(event.answer, Executed) else "denied"
+            yield (f'<g class="event {look}" data-event="{event.number}" data-x="{lane}" tabindex="0" role="listitem" '
+                   f'aria-label="{told}">'
+                   f'<title>{told}</title>'
                    f'<rect class="row" x="0" y="{top}" width="{self.layout.width}" height="{ROW}"/>'
                    f'<text class="number" x="34" y="{y + 4}">{event.number}</text>'
                    f'<text x="{left}" y="{y + 4}"><tspan class="line">{escape(line)}</tspan>'
@@ -175,8 +204,11 @@ def _arrow(begin: float, end: float, y: float, kind: str) -> str:
     return f'<path class="arrow {kind}" d="M{begin} {y}H{end}m{back} -4l{-back} 4l{back} 4"/>'
 
 
-def event_texts(event: Event) -> Tuple[str, str]:
-    """What stands beside an event: its line, and in few words what came of it."""
+def event_texts(event: Event, is_short: bool = False) -> Tuple[str, str]:
+    """What stands beside an event: its line, and in few words what came of it; of both less where `is_short`."""
+    if is_short:
+        line, words = event_texts(event)
+        return shortened(line, 22), shortened(words, _FEW_WORDS)
     line = shortened(event.line.text, 34)
     answer, command = event.answer, event.command
     if isinstance(answer, Executed) and command is not None:

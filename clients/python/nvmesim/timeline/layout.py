@@ -7,6 +7,7 @@ from typing import Dict, List, Optional, Sequence, Set, Tuple
 from ..history import Command, Event
 from ..script import Configuration
 from ..words import host_words
+from .bands import Band
 
 ROW = 22
 """The height of an event, in pixels."""
@@ -17,6 +18,8 @@ GUTTER = 44
 ROWS_OF_A_PART = 36
 """The most events of one part: a part is not broken over pages."""
 _LETTER = 7.0
+_MANY_HOSTS = 6
+"""Beside more hosts than these the words stand left of the lanes, and are shorter."""
 _BAR = 12
 _RULE = 42
 
@@ -45,6 +48,8 @@ class Layout:
     hosts: Dict[int, Lane]
     controllers: Dict[int, Lane]
     media: Lane
+    access: Dict[int, Lane]
+    registered: Dict[int, List[int]]
     slots: Dict[Command, int]
     held: Dict[Command, int]
     text_left: int
@@ -55,7 +60,11 @@ class Layout:
     def lanes(self) -> List[Lane]:
         """All lanes, from the left."""
         pairs = (it for n in self.hosts for it in (self.hosts[n], self.controllers[n]))
-        return [*pairs, self.media]
+        return [*pairs, self.media, *self.access.values()]
+
+    def band_left(self, band: Band) -> float:
+        """Where the band of a host begins in the lane of its namespace, from the left."""
+        return self.access[band.nsid].left + 8 + _BAR * self.registered[band.nsid].index(band.host)
 
     def slot_left(self, command: Command) -> float:
         """Where the span of a request begins, from the left."""
@@ -101,13 +110,21 @@ def _host_title(host: int, columns: int) -> str:
     return f"{digits[:kept]}..{digits[-kept:]}h"
 
 
-def lay_out(events: Sequence[Event], configuration: Configuration, texts: Sequence[str]) -> Layout:
+def is_wide(configuration: Configuration) -> bool:
+    """Whether the words stand left of the lanes."""
+    return len(configuration.hosts) > _MANY_HOSTS
+
+
+def lay_out(events: Sequence[Event], configuration: Configuration, texts: Sequence[str],
+            bands: Sequence[Band] = ()) -> Layout:
     """The layout of a picture whose events have these texts beside them."""
     last, commands = len(events), commands_of(events)
     slots = _slots({it: (begin_of(it), it.polled or last) for it in commands if it.ticket is not None})
     held = _slots({it: (it.fetched, it.executed or it.reset or last) for it in commands if it.fetched is not None})
     is_narrow = len(configuration.hosts) > 4
-    left = GUTTER
+    has_words_first = is_wide(configuration)
+    text_width = round(_LETTER * max((len(it) for it in texts), default=10)) + 12
+    left = GUTTER + 8 + text_width if has_words_first else GUTTER
     hosts: Dict[int, Lane] = {}
     controllers: Dict[int, Lane] = {}
     for number, host in configuration.hosts.items():
@@ -121,9 +138,18 @@ def lay_out(events: Sequence[Event], configuration: Configuration, texts: Sequen
         controllers[number] = Lane("controller", title, "", left, width, f"controller {number} of {name}")
         left += width + 10
     media = Lane("media", "media", "", left, 72, "media")
-    text_left = left + media.width + 14
-    width = text_left + round(_LETTER * max((len(it) for it in texts), default=10)) + 12
-    return Layout(hosts, controllers, media, slots, held, text_left, width, last)
+    left += media.width
+    registered = {nsid: sorted({it.host for it in bands if it.nsid == nsid})
+                  for nsid in sorted({it.nsid for it in bands})}
+    access: Dict[int, Lane] = {}
+    for nsid, found in registered.items():
+        width = max(76, 16 + _BAR * len(found))
+        access[nsid] = Lane("access", f"reserved {nsid}", "held, or key", left + 10, width, f"namespace {nsid}: who is "
+                            "registered, and who holds the reservation")
+        left += 10 + width
+    text_left = GUTTER + 8 if has_words_first else left + 14
+    width = left + 12 if has_words_first else text_left + text_width
+    return Layout(hosts, controllers, media, access, registered, slots, held, text_left, width, last)
 
 
 def _most(slots: Dict[Command, int], controller: int) -> int:

@@ -1,46 +1,84 @@
 """Makes the page of a picture: one HTML file that needs nothing beside it."""
 from __future__ import annotations
 
+import base64
+import gzip
+import json
 from html import escape
 from typing import Dict, List, Sequence
 
-from ..history import Command, Event, follow
-from ..script import configuration_of, read_lines
+from ..history import Command, Event
 from ..words import command_words, meaning, rule_words, status_words
-from .drawing import Part, event_texts, state_of
-from .layout import ROWS_OF_A_PART, commands_of, lay_out
+from .bands import Told
+from .drawing import state_of
+from .picture import Picture, is_denial
 from .style import SCRIPT, STYLE
 
+MOST_INLINE = 1500
+"""The most events of a page whose parts all stand in it as they are."""
+_FIRST_PARTS = 4
+_MOST_DENIED = 200
 _STATES = {
     "done": "carried out", "denied": "denied by a rule", "failed": "failed", "aborted": "aborted",
     "waiting": "without an answer",
 }
 
 
-def timeline(script: str, transcript: str, title: str = "Timeline") -> str:
+def timeline(script: str, transcript: str, title: str = "Timeline", told: Sequence[Told] = ()) -> str:
     """The page for a script and its transcript.
 
     Args:
         script: the script's text.
         transcript: what `nvmesim` printed for it.
         title: the heading of the page.
+        told: what looks told of reservations, for the bands of who holds them and who is registered.
 
     Raises:
         ScriptError: the script can't be read, or the two have different counts of events.
         ProtocolError: a line of the transcript isn't the answer of its event.
     """
-    lines = list(read_lines(script))
-    configuration = configuration_of(lines)
-    events = follow(lines, transcript)
-    commands = commands_of(events)
-    texts = [event_texts(it) for it in events]
-    layout = lay_out(events, configuration, [f"{line}  {words}" for line, words in texts])
-    parts = [Part(layout, events[n:n + ROWS_OF_A_PART], texts[n:n + ROWS_OF_A_PART], events).svg()
-             for n in range(0, len(events), ROWS_OF_A_PART)]
-    told = [meaning(it, configuration) for it in events]
-    body = [f"<h1>{escape(title)}</h1>", _summary(events, commands), _LEGEND, *parts, _denied(commands),
-            _list_of(events, told)]
-    return _PAGE.format(title=escape(title), style=STYLE, script=SCRIPT, body="\n".join(body))
+    picture = Picture(script, transcript, told)
+    is_long = len(picture.events) > MOST_INLINE
+    body = [f"<h1>{escape(title)}</h1>", _paragraph(picture.head), _summary(picture.events, picture.commands),
+            _first_denied(picture), _LEGEND, _TOOLS, f'<div class="pictures">{_rooms(picture, is_long)}</div>',
+            _denied(picture.commands), "" if is_long else _list_of(picture)]
+    return PAGE.format(title=escape(title), style=STYLE, script=SCRIPT, body="\n".join(filter(None, body)),
+                       packed=_packed(picture) if is_long else "")
+
+
+def _paragraph(text: str) -> str:
+    return f'<p class="head">{escape(text)}</p>' if text else ""
+
+
+def _rooms(picture: Picture, is_long: bool) -> str:
+    """The parts, each in a room of its own; of a long picture the later ones come as the reader comes to them."""
+    rooms: List[str] = []
+    for number, part in enumerate(picture.parts):
+        is_later = is_long and number >= _FIRST_PARTS
+        size = f' style="height:{part.height + 12}px;width:{picture.layout.width}px"' if is_later else ""
+        rooms.append(f'<div class="room" data-first="{part.first}" data-last="{part.last}"{size}>'
+                     f'{"" if is_later else part.svg()}</div>')
+    return "\n".join(rooms)
+
+
+def _packed(picture: Picture) -> str:
+    """The later parts of a long picture, and all texts that are searched, in few bytes."""
+    data = {"parts": ["" if number < _FIRST_PARTS else part.svg() for number, part in enumerate(picture.parts)],
+            "texts": [f"{it.line.text} — {it.text} — {words}"
+                      for it, (_, words) in zip(picture.events, picture.texts)],
+            "denied": [it.number for it in picture.events if is_denial(it)]}
+    packed = gzip.compress(json.dumps(data).encode("utf-8"), 9, mtime=0)
+    return f'<script type="text/plain" id="packed">{base64.b64encode(packed).decode("ascii")}</script>'
+
+
+def _first_denied(picture: Picture) -> str:
+    """The first command that a rule denied, at once."""
+    for event in picture.events:
+        if is_denial(event) and event.command is not None:
+            return (f'<p class="first"><a href="#" data-go="{event.number}">Event {event.number}</a>: '
+                    f"{escape(command_words(event.command))} is the first command that is denied, by "
+                    f"{escape(rule_words(event.command))}.</p>")
+    return ""
 
 
 def _summary(events: Sequence[Event], commands: Sequence[Command]) -> str:
@@ -59,8 +97,9 @@ def _count(number: int, what: str) -> str:
 def _denied(commands: Sequence[Command]) -> str:
     """The commands that a rule denied, as a table."""
     rows: List[str] = []
-    for command in commands:
-        if command.is_denied and command.status is not None:
+    denied = [it for it in commands if it.is_denied and it.status is not None]
+    for command in denied[:_MOST_DENIED]:
+        if command.status is not None:
             cells = (str(command.executed), str(command.controller), str(command.ticket or ""),
                      command_words(command), status_words(command.status), rule_words(command))
             rows.append("<tr>" + "".join(f"<td>{escape(it)}</td>" for it in cells) + "</tr>")
@@ -68,13 +107,15 @@ def _denied(commands: Sequence[Command]) -> str:
         return ""
     heads = "".join(f'<th scope="col">{it}</th>' for it in
                     ("Event", "Controller", "Ticket", "Command", "Status", "Rule"))
-    return f"<h2>Denied</h2>\n<table><thead><tr>{heads}</tr></thead><tbody>\n" + "\n".join(rows) + "\n</tbody></table>"
+    more = f"<p>And {len(denied) - _MOST_DENIED} more.</p>" if len(denied) > _MOST_DENIED else ""
+    body = "\n".join(rows)
+    return f"<h2>Denied</h2>\n{more}<table><thead><tr>{heads}</tr></thead><tbody>\n{body}\n</tbody></table>"
 
 
-def _list_of(events: Sequence[Event], told: Sequence[str]) -> str:
+def _list_of(picture: Picture) -> str:
     """All events in words, for who does not look at pictures."""
-    items = "\n".join(f"<li><code>{escape(it.line.text)}</code> {escape(words)}.</li>"
-                      for it, words in zip(events, told))
+    items = "\n".join(f"<li><code>{escape(it.line.text)}</code> {escape(meaning(it, picture.configuration))}.</li>"
+                      for it in picture.events)
     return f"<details><summary>All events in words</summary>\n<ol>\n{items}\n</ol>\n</details>"
 
 
@@ -93,9 +134,20 @@ _LEGEND = """<ul class="legend" aria-label="Legend">
 <li><svg width="16" height="20"><rect class="changes" x="2" y="4" width="12" height="12"/></svg> changes blocks</li>
 <li><svg width="16" height="20"><circle class="looks" cx="8" cy="10" r="6"/></svg> reads blocks</li>
 <li><svg width="16" height="20"><path class="other" d="M8 3l7 7l-7 7l-7 -7z"/></svg> else</li>
+<li><svg width="14" height="20"><g class="access key"><rect x="3" y="1" width="7" height="18"/></g></svg>
+registered</li>
+<li><svg width="14" height="20"><g class="access holds"><rect x="2" y="1" width="9" height="18"/></g></svg> holds the
+reservation</li>
 </ul>"""
 
-_PAGE = """<!DOCTYPE html>
+_TOOLS = """<form class="tools" role="search"><input id="search" type="search" placeholder="search events"
+aria-label="Search events"><button type="submit">Find</button>
+<button type="button" data-do="denied">Next denied</button><button type="button" data-do="smaller">−</button>
+<button type="button" data-do="larger">+</button><button type="button" data-do="fit">Fit</button>
+<span class="keys">arrows: event to event; n, N: next and previous denied; /: search; +, −, 0: zoom</span></form>
+<noscript><p>Without JavaScript there is no search, and a long picture has its first part only.</p></noscript>"""
+
+PAGE = """<!DOCTYPE html>
 <html lang="en">
 <head>
 <meta charset="utf-8">
@@ -113,6 +165,7 @@ _PAGE = """<!DOCTYPE html>
 {body}
 </main>
 <aside id="details" role="status" aria-live="polite" hidden></aside>
+{packed}
 <script>{script}</script>
 </body>
 </html>

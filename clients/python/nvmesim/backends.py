@@ -1,0 +1,147 @@
+"""A subsystem over the library instead of the program, with the same names."""
+from __future__ import annotations
+
+from typing import Callable, List, Tuple
+
+from . import library
+from .answers import BLOCK_BYTES, Executed, Fetched, PowerCycled, Stored, Wrote32
+from .controllers import ControllerLike, number_of
+from .errors import NotDone
+from .hosts import Namespace, NamespaceLike, nsid_of
+from .lines import Bytes
+
+BLOCKS = 1024
+"""The blocks of the medium, as of a program without an image."""
+
+_Opened = Callable[[], library.Open]
+
+
+class LibraryController:
+    """The subsystem's side of a controller. Nothing is fetched or executed by itself."""
+
+    def __init__(self, opened: _Opened, number: int) -> None:
+        self._opened = opened
+        self.number = number
+
+    def fetch(self, queue: int = 1) -> Fetched:
+        """Takes the oldest command of a queue: 0 is the admin queue."""
+        return self._opened().fetch(self.number, queue)
+
+    def execute(self, place: int = 0) -> Executed:
+        """Executes the command at this place, from 0, of those that were fetched."""
+        return self._opened().execute(self.number, place)
+
+    def register(self, offset: int) -> int:
+        """What a read of 32 bits at this offset gives. Changes nothing."""
+        return self._opened().read32(self.number, offset)
+
+    def window(self, address: int, length: int) -> bytes:
+        """Bytes of the host memory that it shares with its host. Changes nothing."""
+        return self._opened().window(self.number, address, length)
+
+
+class LibraryHost:
+    """A host without a driver, as `RawHost` is over the program.
+
+    Attributes:
+        host: its identifier.
+        controller: its controller.
+    """
+
+    def __init__(self, opened: _Opened, number: int, host: int) -> None:
+        self._opened = opened
+        self.host = host
+        self.controller = LibraryController(opened, number)
+
+    @property
+    def number(self) -> int:
+        """The number of its controller."""
+        return self.controller.number
+
+    def store(self, address: int, data: Bytes) -> Stored:
+        """Stores bytes from this address of its window on; nothing is stored where they don't lie in it."""
+        return self._opened().store(self.number, address, bytes(data))
+
+    def write32(self, offset: int, value: int) -> Wrote32:
+        """Writes 32 bits to the register at this offset."""
+        return self._opened().write32(self.number, offset, value)
+
+    def window(self, address: int, length: int) -> bytes:
+        """Bytes of its window. Changes nothing."""
+        return self.controller.window(address, length)
+
+    def register(self, offset: int) -> int:
+        """What a read of the register at this offset gives, 32 bits. Changes nothing."""
+        return self.controller.register(offset)
+
+
+class LibrarySubsystem:
+    """A subsystem of the library: raw hosts, over 1,024 blocks of zeros. Use it in a `with`, or close it.
+
+    First it is described: `raw_controller`, `namespace`, `attach`. Behind `start` its hosts do things. It has no script
+    and no transcript, and its hosts no drivers: those are the program's.
+
+    Attributes:
+        hosts: its hosts, in the order of their controllers.
+    """
+
+    def __init__(self) -> None:
+        library.load(library.find_library())
+        self.hosts: List[LibraryHost] = []
+        self._namespaces: List[Namespace] = []
+        self._attached: List[Tuple[int, int]] = []
+        self._open: List[library.Open] = []
+
+    def __enter__(self) -> LibrarySubsystem:
+        return self
+
+    def __exit__(self, *fault: object) -> None:
+        self.close()
+
+    def close(self) -> int:
+        """Closes it; 0, as of a session that ended well."""
+        for it in self._open:
+            it.close()
+        return 0
+
+    def raw_controller(self, host: int) -> LibraryHost:
+        """The next controller, which belongs to a raw host."""
+        self._describes()
+        self.hosts.append(LibraryHost(self._opened, len(self.hosts) + 1, host))
+        return self.hosts[-1]
+
+    def namespace(self, blocks: int, shared: bool = True, number: int = 0) -> Namespace:
+        """A namespace of so many blocks of 512 bytes, by the next identifier or by this one, 1 to 8."""
+        self._describes()
+        named = number or max((it.number for it in self._namespaces), default=0) + 1
+        self._namespaces.append(Namespace(named, blocks, shared))
+        return self._namespaces[-1]
+
+    def attach(self, controller: ControllerLike, namespace: NamespaceLike) -> None:
+        """The controller, given by its host or by its number, has the namespace from the start."""
+        self._describes()
+        self._attached.append((number_of(controller), nsid_of(namespace)))
+
+    def start(self) -> None:
+        """Ends the description. Raises `ConfigurationRefused` where it has a fault."""
+        self._describes()
+        namespaces = [(it.number, it.blocks, it.is_shared) for it in self._namespaces]
+        hosts = [it.host for it in self.hosts]
+        self._open.append(library.Open(hosts, namespaces, self._attached, bytes(BLOCKS * BLOCK_BYTES)))
+
+    def power_cycle(self) -> PowerCycled:
+        """Power is lost in the whole subsystem, and comes back."""
+        return self._opened().power_cycle()
+
+    def blocks(self, namespace: NamespaceLike, slba: int, count: int = 1) -> bytes:
+        """Blocks as the medium has them, 512 bytes each. Changes nothing."""
+        return self._opened().blocks(nsid_of(namespace), slba, count)
+
+    def _opened(self) -> library.Open:
+        if not self._open:
+            raise NotDone("the subsystem was not started")
+        return self._open[0]
+
+    def _describes(self) -> None:
+        if self._open:
+            raise NotDone("the subsystem was started")

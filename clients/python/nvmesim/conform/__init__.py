@@ -1,0 +1,9 @@
+"""A device beside the model: the same commands on both, and the first answer that differs."""
+from __future__ import annotations
+
+from .device import Abilities, Answer, Commands, Device, DeviceFault
+from .judge import Difference, Judge
+from .scenes import scene
+from .steps import Step
+
+__all__ = ["Abilities", "Answer", "Commands", "Device", "DeviceFault", "Difference", "Judge", "Step", "scene"]

@@ -1,0 +1,102 @@
+"""The command `python3 -m nvmesim conform`."""
+from __future__ import annotations
+
+import argparse
+import sys
+from pathlib import Path
+from typing import Iterator, List
+
+from ..reports import parse_report
+from .device import Abilities, Device, DeviceFault
+from .judge import Judge
+from .scenes import scene
+from .steps import REGION, Step
+
+_DIFFERS = 1
+
+
+def add_arguments(parser: argparse.ArgumentParser) -> None:
+    """What the command takes beside the program."""
+    parser.description = ("Plays commands at random on a device and on the model, and prints the first difference as a "
+                          "script. It writes to the device, so it needs --destroy-data. Exit status: 0 no difference, "
+                          "1 one, 2 it can't be compared.")
+    parser.add_argument("--device", metavar="DEVICE", required=True, help="a namespace, such as /dev/nvme0n1, that "
+                        "nothing else uses")
+    parser.add_argument("--second", metavar="DEVICE", help="the same namespace by another controller, for scenes of "
+                        "two hosts")
+    parser.add_argument("--destroy-data", action="store_true", help="write to the device")
+    parser.add_argument("--dry-run", action="store_true", help="say what would be written, and do nothing")
+    parser.add_argument("--seed", type=int, default=1, metavar="N", help="the first scene")
+    parser.add_argument("--scenes", type=int, default=50, metavar="N", help="how many scenes")
+    parser.add_argument("--length", type=int, default=40, metavar="N", help="how many commands a scene has")
+    parser.add_argument("--output", metavar="FILE", help="write the script there as well")
+    parser.set_defaults(command=run)
+
+
+def run(words: argparse.Namespace) -> int:
+    """Carries the command out; its exit status."""
+    if words.scenes < 1 or words.length < 1:
+        raise DeviceFault("--scenes and --length are 1 at least")
+    devices: List[Device] = []
+    try:
+        for path in [words.device, *([words.second] if words.second else [])]:
+            devices.append(Device(path))
+        hosts = [Abilities.of(it) for it in devices]
+        order = sorted(range(len(devices)), key=lambda n: hosts[n].cntlid)
+        judge = Judge([devices[n] for n in order], [hosts[n] for n in order], words.program, words.seconds)
+        for line in _plan([devices[n] for n in order], judge.hosts):
+            print(line)
+        if words.dry_run:
+            return 0
+        if not words.destroy_data:
+            raise DeviceFault("nothing was written: --destroy-data is needed for that, --dry-run for the plan alone")
+        _check_free(devices[0], judge)
+        return _compare(words, judge)
+    finally:
+        for device in devices:
+            device.close()
+
+
+def _plan(devices: List[Device], hosts: List[Abilities]) -> Iterator[str]:
+    """What would be written where, and what is left out."""
+    for device, it in zip(devices, hosts):
+        yield f"{device.path}: {it.model}, controller {it.cntlid}, namespace {device.nsid} of {it.blocks} blocks"
+    if any((it.blocks, device.nsid) != (hosts[0].blocks, devices[0].nsid) for it, device in zip(hosts, devices)):
+        raise DeviceFault("the two devices are not the same namespace")
+    last = hosts[0].blocks - 1
+    yield f"written: blocks 0 to {REGION - 1} and {last - REGION + 1} to {last}, with data and with zeros"
+    has = {"Compare": all(it.has_compare for it in hosts), "Write Zeroes": all(it.has_zeroes for it in hosts),
+           "write protection": all(it.has_protection for it in hosts),
+           "attachment": all(it.has_attachment for it in hosts), "reservations": all(it.rtypes for it in hosts)}
+    if has["reservations"]:
+        yield "set and cleared: registrations, reservations and what persists of the namespace"
+    if has["write protection"]:
+        yield "set and ended: write protection of the namespace, but not the one until a power cycle"
+    if has["attachment"]:
+        yield "tried: attachments that are refused; nothing is attached or detached"
+    missing = [name for name, is_there in has.items() if not is_there]
+    if missing:
+        yield f"left out, since a device says that it lacks it: {', '.join(missing)}"
+
+
+def _check_free(device: Device, judge: Judge) -> None:
+    """Refuses a namespace that somebody has registered for."""
+    if judge.hosts[0].rtypes:
+        answer = device.submit(Step(0, "report").command([]))
+        if answer.status == "0:00" and parse_report(answer.data).count:
+            raise DeviceFault(f"{device.path} has registrants: somebody uses it; nothing was written")
+
+
+def _compare(words: argparse.Namespace, judge: Judge) -> int:
+    for number in range(words.seed, words.seed + words.scenes):
+        found = judge.play(scene(number, judge.hosts, words.length))
+        if found is None:
+            continue
+        print(f"scene {number} differs behind {len(found.steps)} commands; it is made shorter", file=sys.stderr)
+        text = "".join(f"{it}\n" for it in judge.script(judge.shortened(found)))
+        print(text, end="")
+        if words.output:
+            Path(words.output).write_text(text, encoding="utf-8")
+        return _DIFFERS
+    print(f"no difference in {words.scenes} scenes of {words.length} commands, from seed {words.seed} on")
+    return 0

@@ -1,0 +1,14 @@
+"""Scripts as tests: comments that say what an event must be answered, and what became of them.
+
+    from nvmesim.expect import read_test, try_script
+
+    trial = try_script(read_test("fenced.nvme", text))
+    print(trial.is_good)
+"""
+from __future__ import annotations
+
+from .marks import AnswerExpected, BlocksExpected, Expectation, ScriptTest, has_marks, read_test
+from .trials import Judged, Trial, try_script
+
+__all__ = ["AnswerExpected", "BlocksExpected", "Expectation", "Judged", "ScriptTest", "Trial", "has_marks", "read_test",
+           "try_script"]

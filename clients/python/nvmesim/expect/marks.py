@@ -1,0 +1,190 @@
+"""Reads the expectations of a script: comments `# expect ..` and `# expect-blocks ..` behind its events.
+
+They are comments, so every program runs such a script as it is. What nearly is such a comment is refused: a slip must
+not make a test that can't fail.
+"""
+from __future__ import annotations
+
+import re
+from dataclasses import dataclass
+from typing import List, Optional, Sequence, Tuple, Union
+
+from ..answers import BLOCK_BYTES
+from ..errors import ScriptError
+from ..script import MOST_BLOCKS, LineKind, ScriptLine, number_of, read_lines
+from . import patterns
+
+EXPECT = "expect"
+"""The word of a comment that says what the event above it is answered."""
+EXPECT_BLOCKS = "expect-blocks"
+"""The word of a comment that says what blocks have behind the event above it."""
+
+_COMMENT = re.compile(r"#([ \t]*)(\S*)[ \t\r]*(.*?)[ \t\r]*\Z")
+_SLIPS = ("expected", "expecting", "expectation", "expectations", "expected-blocks")
+_HEX = re.compile(r"(?:[0-9a-fA-F]{2})+\Z")
+_FILL = re.compile(r"fill:([0-9a-fA-F]{2})\Z")
+
+
+@dataclass(frozen=True)
+class AnswerExpected:
+    """What an event must be answered.
+
+    Attributes:
+        line: the comment's line, from 1.
+        text: the comment.
+        event: the number of the event that it stands behind, from 1.
+        words: the answer's words, `*` among them.
+    """
+
+    line: int
+    text: str
+    event: int
+    words: Tuple[str, ...]
+
+    @property
+    def wanted(self) -> str:
+        """The answer that is expected, as the comment has it."""
+        return " ".join(self.words)
+
+    def holds(self, answer: str) -> bool:
+        """Whether an answer is as expected."""
+        return patterns.holds(self.words, answer)
+
+
+@dataclass(frozen=True)
+class BlocksExpected:
+    """What blocks of a namespace must have at a place of the script.
+
+    Attributes:
+        line: the comment's line, from 1.
+        text: the comment.
+        event: the number of the event that it stands behind; 0 where it stands before all.
+        nsid, slba, count: the namespace, the first block, and how many, 1 to 256.
+        data: the bytes of all of them.
+    """
+
+    line: int
+    text: str
+    event: int
+    nsid: int
+    slba: int
+    count: int
+    data: bytes
+
+
+Expectation = Union[AnswerExpected, BlocksExpected]
+
+
+@dataclass(frozen=True)
+class ScriptTest:
+    """A script with expectations: its name, its text, its lines, and the expectations in their order."""
+
+    name: str
+    text: str
+    lines: Tuple[ScriptLine, ...]
+    expectations: Tuple[Expectation, ...]
+
+
+def read_test(name: str, text: str) -> ScriptTest:
+    """Reads a script that is a test.
+
+    Raises:
+        ScriptError: it is no script, has no expectation, has one that can never hold, or a comment that nearly is one.
+    """
+    lines = tuple(read_lines(text))
+    found: List[Expectation] = []
+    last: Optional[ScriptLine] = None
+    events, is_started = 0, False
+    for line in lines:
+        if line.kind is LineKind.EVENT:
+            last, events = line, events + 1
+        is_started = is_started or line.kind is LineKind.START
+        word, rest = _mark_of(line)
+        if word == EXPECT_BLOCKS and not is_started:
+            raise ScriptError(line.number, f"{line.text!r} stands before start")
+        if word == EXPECT_BLOCKS:
+            found.append(_blocks_expected(line, rest, events))
+        elif word == EXPECT:
+            found.append(_answer_expected(line, rest, events, last))
+    if not found:
+        raise ScriptError(0, "the script has no expectation: a comment '# expect ANSWER' behind an event, or "
+                             "'# expect-blocks N SLBA COUNT HEX'")
+    return ScriptTest(name, text, lines, tuple(found))
+
+
+def has_marks(text: str) -> bool:
+    """Whether a script has an expectation, or a comment that nearly is one."""
+    return any(_nearest(it) is not None for it in text.split("\n") if it.startswith("#"))
+
+
+def _nearest(text: str) -> Optional[str]:
+    """The word of expectations that a comment begins with, or nearly begins with; None for another comment."""
+    found = _COMMENT.match(text)
+    if found is None:
+        return None
+    word = found[2].lower().replace("_", "-").strip(":,;=-#")
+    if word in _SLIPS:
+        return EXPECT
+    return next((it for it in (EXPECT_BLOCKS, EXPECT) if word == it or _is_near(word, it)), None)
+
+
+def _mark_of(line: ScriptLine) -> Tuple[str, Tuple[str, ...]]:
+    """The word of an expectation and the words behind it; an empty word for another line."""
+    near = _nearest(line.text) if line.kind is LineKind.COMMENT else None
+    if near is None:
+        return "", ()
+    found = _COMMENT.match(line.text)
+    assert found is not None
+    if found[2] != near or not found[1]:
+        raise ScriptError(line.number, f"{line.text!r} nearly is an expectation; did you mean '# {near} ..'?")
+    return near, tuple(re.split(r"[ \t\r]+", found[3])) if found[3] else ()
+
+
+def _answer_expected(line: ScriptLine, words: Sequence[str], events: int, last: Optional[ScriptLine]) -> AnswerExpected:
+    if last is None:
+        raise ScriptError(line.number, f"{line.text!r} stands behind no event")
+    if not words:
+        raise ScriptError(line.number, "'# expect' names no answer: '# expect ANSWER'")
+    if words[0] == "blocks":
+        raise ScriptError(line.number, f"{line.text!r}: did you mean '# expect-blocks ..'?")
+    try:
+        patterns.check_pattern(last, words)
+    except patterns.NeverAnswered as fault:
+        raise ScriptError(line.number, str(fault)) from None
+    return AnswerExpected(line.number, line.text, events, tuple(words))
+
+
+def _blocks_expected(line: ScriptLine, words: Sequence[str], events: int) -> BlocksExpected:
+    try:
+        nsid_word, slba_word, count_word, data_word = words
+        nsid, slba, count = number_of(nsid_word), number_of(slba_word), number_of(count_word)
+    except ValueError:
+        raise ScriptError(line.number, f"{line.text!r} is not '# expect-blocks N SLBA COUNT HEX'") from None
+    if not 1 <= count <= MOST_BLOCKS:
+        raise ScriptError(line.number, f"{line.text!r}: COUNT is 1 to {MOST_BLOCKS}")
+    data = _data_of(data_word, count * BLOCK_BYTES)
+    if data is None:
+        raise ScriptError(line.number, f"{line.text!r}: HEX is an even number of hexadecimal digits for at most "
+                                       f"{count * BLOCK_BYTES} bytes, '-' for zeros, or fill:HH")
+    return BlocksExpected(line.number, line.text, events, nsid, slba, count, data)
+
+
+def _data_of(word: str, size: int) -> Optional[bytes]:
+    """The bytes that a word spells, with zeros up to the size; None where it spells none or more."""
+    fill = _FILL.match(word)
+    if fill:
+        return bytes.fromhex(fill[1]) * size
+    if word != "-" and not _HEX.match(word):
+        return None
+    spelled = b"" if word == "-" else bytes.fromhex(word)
+    return spelled.ljust(size, b"\0") if len(spelled) <= size else None
+
+
+def _is_near(word: str, wanted: str) -> bool:
+    """Whether one letter of a word is wrong, missing or too many, or two that stand together are exchanged."""
+    if abs(len(word) - len(wanted)) > 1 or word == wanted:
+        return False
+    same = next((n for n, (one, two) in enumerate(zip(word, wanted)) if one != two), min(len(word), len(wanted)))
+    rest, wanted_rest = word[same:], wanted[same:]
+    exchanged = len(rest) > 1 and rest[1::-1] + rest[2:] == wanted_rest
+    return exchanged or rest[1:] == wanted_rest[1:] or rest[1:] == wanted_rest or rest == wanted_rest[1:]

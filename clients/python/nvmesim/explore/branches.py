@@ -1,0 +1,314 @@
+"""Programs that wait where an order has come to. Each is branched from where it waits, or its order is run again.
+
+With the library that forks it, a program that waits for a line is copied there: the copy has all that the program has
+in memory, and a copy of its image if it has one. Without it a branch is a program of its own, to which the order so far
+is sent again.
+"""
+from __future__ import annotations
+
+import os
+import signal
+import socket
+import subprocess
+import tempfile
+from pathlib import Path
+from types import TracebackType
+from typing import IO, Callable, Collection, Dict, List, Optional, Protocol, Sequence, Set, Tuple, Type
+
+from ..errors import (ConfigurationRefused, NvmesimError, ProgramDied, ProgramHangs, ProgramNotFound, ProtocolError,
+                      ScriptError)
+from .channels import Channel, Ended, wait_for
+from .marks import CRASH
+from .medium import Medium
+
+MOST_BRANCHES = 256
+"""So many programs wait at once at the most."""
+_HEADS = ("ok", "started")
+_MOST_TOLD = 1 << 16
+_LARGE_PAGES = "glibc.malloc.hugetlb=1:glibc.malloc.mmap_threshold=1073741824:glibc.malloc.top_pad=4194304"
+
+
+class NoFork(NvmesimError):
+    """The system does not let a program be forked."""
+
+
+class Branch(Protocol):
+    """A subsystem that waits somewhere in an order."""
+
+    @property
+    def calls_left(self) -> int:
+        """The call of its image that fails, counted from now; 0 where none does."""
+
+    def end_faults(self) -> None:
+        """Lets no more call of its image fail."""
+
+    def ask(self, lines: Sequence[str]) -> None:
+        """Begins to ask lines; `Branches.wait` gives the answers."""
+
+    def fork(self) -> Branch:
+        """Another branch that waits there too."""
+
+    def close(self) -> None:
+        """Ends it."""
+
+
+class Branches(Protocol):
+    """What an exploration branches.
+
+    Attributes:
+        can_fork: whether a branch can be forked; else it can only go on.
+        live: how many branches there are.
+    """
+
+    can_fork: bool
+
+    @property
+    def live(self) -> int:
+        """How many branches there are."""
+
+    def begin(self, lines: Sequence[str] = ()) -> Branch:
+        """A branch that waits behind these events, which it runs with its first question."""
+
+    def reopen(self, branch: Branch) -> Branch:
+        """Ends a branch as a crash does: a branch that was just begun, over its medium as it was left."""
+
+    def wait(self, asked: Collection[Branch]) -> List[Tuple[Branch, List[str]]]:
+        """Waits until branches that were asked have answered: which, and the answers."""
+
+
+class _Program:
+    """A branch that is a program."""
+
+    def __init__(self, owner: Programs, channel: Channel, image: Optional[int],
+                 child: Optional[subprocess.Popen[bytes]] = None) -> None:
+        self.owner, self.channel, self.image, self.child = owner, channel, image, child
+        self.owed: List[str] = []  # lines that are to be run first, whose answers nobody wants
+        owner.branches.add(self)
+
+    @property
+    def calls_left(self) -> int:
+        return self.channel.calls_left
+
+    def end_faults(self) -> None:
+        self.channel.let_fail(0)
+
+    def ask(self, lines: Sequence[str]) -> None:
+        self.channel.ask([*self.owed, *lines])
+
+    def fork(self) -> Branch:
+        return self.forked(self.image)
+
+    def forked(self, image: Optional[int]) -> _Program:
+        """A copy of the program, over a copy of this image."""
+        ours, theirs = socket.socketpair()
+        image = None if image is None else self.owner.medium.copy_of(image)
+        with theirs:
+            self.channel.send_word([theirs.fileno(), *([] if image is None else [image])])
+        branch = _Program(self.owner, Channel(ours), image)
+        branch.channel.calls_left = self.channel.calls_left
+        return branch
+
+    def close(self) -> None:
+        self.owner.branches.discard(self)
+        self.channel.close()
+        if self.image is not None:
+            os.close(self.image)
+        if self.child is not None and not self.owner.can_fork:
+            self.child.kill()
+            self.child.wait()
+
+
+class Programs:
+    """Branches that are programs. Use it in a `with`: behind it none of them runs.
+
+    Attributes:
+        can_fork: whether they are forked.
+        branches: all that wait or run.
+    """
+
+    def __init__(self, program: Path, setup: Sequence[str], seconds: float, medium: Optional[Medium] = None,
+                 library: Optional[Path] = None, tell: Callable[[str], None] = lambda why: None,
+                 fails: int = 0) -> None:
+        """Takes what each program is.
+
+        Args:
+            program: the program `nvmelive`.
+            setup: the lines that set its subsystem up.
+            seconds: the time limit of each answer.
+            medium: what each begins with; None for zeros in memory.
+            library: the library that forks it; None to run orders again.
+            tell: is told why programs can't be forked, though there is a library.
+            fails: the call of the image that fails, 0 for none; only where they can be forked.
+        """
+        self.program, self.setup, self.seconds, self.fails = program, list(setup), seconds, fails
+        self.medium = medium or Medium()
+        self.can_fork, self._library, self._tell = library is not None, library, tell
+        self.branches: Set[_Program] = set()
+        self._errors: IO[bytes] = tempfile.TemporaryFile()
+        self._base: Optional[_Program] = None
+
+    def __enter__(self) -> Programs:
+        return self
+
+    def __exit__(self, kind: Optional[Type[BaseException]], fault: Optional[BaseException],
+                 trace: Optional[TracebackType]) -> None:
+        self.close()
+
+    def close(self) -> None:
+        """Ends all programs, and those that do not end too."""
+        base = self._base
+        if base is not None and base.child is not None and self.can_fork:
+            os.killpg(base.child.pid, signal.SIGKILL)  # not waited for yet, so that no other has its number
+            base.child.wait()
+        for it in list(self.branches):
+            it.close()
+        self._base = None
+        self._errors.close()
+
+    @property
+    def live(self) -> int:
+        return len(self.branches)
+
+    def begin(self, lines: Sequence[str] = ()) -> Branch:
+        """A branch behind the setup and these events.
+
+        Raises:
+            ConfigurationRefused: the setup has a fault.
+            SessionError: the program ended, or does not answer.
+        """
+        if not self.can_fork:
+            branch = self._started()
+        else:
+            if self._base is None:
+                self._base = self._started()
+                if self.fails and self.can_fork:
+                    self._base.channel.let_fail(self.fails)
+            if not self.can_fork:
+                branch, self._base = self._base, None
+            else:
+                branch = self._base.forked(self._base.image)
+        return self._behind(branch, list(lines))
+
+    def _behind(self, branch: _Program, lines: List[str]) -> _Program:
+        """A branch behind these events too, the last of which it runs with its first question."""
+        while CRASH in lines:
+            place = lines.index(CRASH)
+            if place:
+                branch.ask(lines[:place])
+                self._answered(branch)
+            branch, lines = self.reopen(branch), lines[place + 1:]
+        branch.owed = lines
+        return branch
+
+    def reopen(self, branch: Branch) -> _Program:
+        """A program that has just opened the image of a branch, which ends."""
+        assert isinstance(branch, _Program)
+        if branch.owed:
+            branch.ask(())
+            self._answered(branch)
+        opened = self._started(branch.image) if self._base is None else self._base.forked(branch.image)
+        branch.close()
+        return opened
+
+    def _started(self, left: Optional[int] = None) -> _Program:
+        """A program of its own, behind the setup, over a fresh medium or a copy of one that was left. Without its
+        greeting it has no library, and can't be forked."""
+        ours, theirs = socket.socketpair()
+        image = self.medium.fresh() if left is None else self.medium.copy_of(left)
+        kept = [] if image is None else [image]
+        words = [os.fspath(self.program), "-" if image is None else f"/dev/fd/{image}"]
+        loaded = {} if self._library is None else _loading(self._library)
+        with theirs:
+            try:
+                child = subprocess.Popen(words, stdin=theirs, stdout=theirs, stderr=self._errors, pass_fds=kept,
+                                         env={**os.environ, **loaded}, start_new_session=True)
+            except OSError as fault:
+                ours.close()
+                raise ProgramNotFound(f"{words[0]} can't be run: {fault.strerror}") from None
+        branch = _Program(self, Channel(ours), image, child)
+        branch.channel.has_greeted = self._library is None
+        try:
+            branch.ask(self.setup)
+            [(_, answers)] = self._answered(branch)
+            _check_setup(self.setup, answers)
+        except BaseException:
+            self.can_fork = False
+            branch.close()
+            raise
+        if self.can_fork and not branch.channel.has_greeted:
+            self.can_fork = False
+            if self.fails:
+                raise NoFork(f"{words[0]} can't be forked, so no call of its image can fail")
+            self._tell(f"{words[0]} can't be forked")
+        return branch
+
+    def _answered(self, branch: _Program) -> List[Tuple[Branch, List[str]]]:
+        """Waits for one branch."""
+        while not (found := self.wait([branch])):
+            pass
+        return found
+
+    def wait(self, asked: Collection[Branch]) -> List[Tuple[Branch, List[str]]]:
+        """Waits for answers.
+
+        Raises:
+            ScriptError: a line is outside the grammar.
+            SessionError: a program ended, or does not answer.
+        """
+        by_channel: Dict[Channel, _Program] = {it.channel: it for it in asked if isinstance(it, _Program)}
+        came, late = wait_for(by_channel, self.seconds)
+        if late:
+            raise ProgramHangs(self.seconds, late[0].line, self._told())
+        found: List[Tuple[Branch, List[str]]] = []
+        for channel in came:
+            branch = by_channel[channel]
+            try:
+                answers = channel.receive()
+            except Ended:
+                raise self._end_of(branch) from None
+            if answers is not None:
+                _check(channel, answers)
+                found.append((branch, answers[len(branch.owed):]))
+                branch.owed = []
+        return found
+
+    def _end_of(self, branch: _Program) -> NvmesimError:
+        """How a program ended."""
+        if branch.child is None and not branch.channel.has_greeted:
+            return NoFork("the system lets no more programs be forked: try fewer with --jobs 1")
+        status = None
+        if branch.child is not None:
+            try:
+                status = branch.child.wait(1.0)
+            except subprocess.TimeoutExpired:
+                pass
+        return ProgramDied(status, branch.channel.line, self._told())
+
+    def _told(self) -> str:
+        """The last of what stood on standard error."""
+        end = self._errors.seek(0, os.SEEK_END)
+        self._errors.seek(max(0, end - _MOST_TOLD))
+        return self._errors.read().decode("utf-8", "replace")
+
+
+def _loading(library: Path) -> Dict[str, str]:
+    """The environment that loads the library before all else; with large pages, of which there are fewer to copy."""
+    before = os.environ.get("LD_PRELOAD")
+    return {"LD_PRELOAD": f"{library}:{before}" if before else os.fspath(library),
+            "GLIBC_TUNABLES": os.environ.get("GLIBC_TUNABLES", _LARGE_PAGES)}
+
+
+def _check_setup(setup: Sequence[str], answers: Sequence[str]) -> None:
+    """Refuses a program that does not take the setup."""
+    for line, answer in zip(setup, answers):
+        if answer not in _HEADS:
+            raise ProtocolError(f"{line!r} was answered {answer!r}, and neither ok nor started")
+
+
+def _check(channel: Channel, answers: Sequence[str]) -> None:
+    """Refuses what a script is refused for."""
+    for line, answer in zip(channel.lines, answers):
+        if answer.startswith("refused line"):
+            raise ConfigurationRefused(answer[len("refused "):])
+        if answer.startswith("!"):
+            raise ScriptError(0, f"{line!r} was answered {answer!r}")

@@ -1,0 +1,183 @@
+"""The command `python3 -m nvmesim explore`: its options, and what it prints."""
+from __future__ import annotations
+
+import argparse
+import json
+import os
+import sys
+import time
+from pathlib import Path
+from typing import Callable, List, Optional, Sequence, Tuple
+
+from ..errors import NvmesimError
+from ..session import Session
+from ..timeline import watched
+from ..timeline.bands import Told
+from . import Medium, Plan, Shard, Statistics, Walk, programs_of
+from .dask import explore_on_dask
+from .expressions import Expression, parts_of
+from .jsonreport import json_report
+from .outcomes import Findings
+from .picture import page
+from .progress import Progress
+from .report import FEWEST_ORDERS, Check, Report, script_of
+from .shards import json_lines, merge
+from .shrink import shrunk
+from .states import Looks
+
+TextOf = Callable[[str], str]
+
+
+def add_options(parser: argparse.ArgumentParser) -> None:
+    """The options of the command; those of the program come beside them."""
+    parser.description = ("Runs the marked parts of a script in every order that keeps each part's own, and says what "
+                          "they come to. Exit status 1: something of --always or --never fails. 2: it could not be "
+                          "carried out, or was stopped before its end.")
+    parser.add_argument("script", metavar="SCRIPT", nargs="?", help="a script whose parts begin with comments "
+                        "'# host NAME' and end with '# then'")
+    parser.add_argument("--always", action="append", default=[], metavar="EXPR", help="must hold of every order")
+    parser.add_argument("--never", action="append", default=[], metavar="EXPR", help="must hold of no order")
+    parser.add_argument("--by", metavar="EXPR,..", help="group outcomes by these: a.write1,block(1,0)")
+    parser.add_argument("--trifles", action="store_true", help="tell outcomes apart by each event's answer, also by a "
+                        "poll that finds nothing")
+    parser.add_argument("--json", action="store_true", help="print the whole report as JSON")
+    parser.add_argument("--page", metavar="FILE", help="write the outcomes as a page, with a timeline of each")
+    parser.add_argument("--counterexample", metavar="FILE", help="write the first counterexample there, as a script")
+    parser.add_argument("--shrink", action="store_true", help="cut counterexamples down to the fewest events that "
+                        "still show it")
+    parser.add_argument("--image", metavar="IMAGE", help="each run begins with a copy of this image, which is never "
+                        "written; without it, with zeros in memory")
+    parser.add_argument("--fail", type=int, default=0, metavar="K", help="the K-th read, write or sync of the image "
+                        "fails")
+    parser.add_argument("--jobs", type=int, default=os.cpu_count() or 1, metavar="N",
+                        help="events that are run at once; else one for each processor")
+    parser.add_argument("--all-orders", action="store_true", help="run both orders of two events also where they "
+                        "commute; the report is the same")
+    parser.add_argument("--within", type=float, metavar="S", help="stop after S seconds, with a partial report")
+    parser.add_argument("--shard", metavar="K/N", help="explore the K-th of N parts, and print JSON lines")
+    parser.add_argument("--merge", nargs="+", metavar="FILE", help="join what --shard printed; no script is wanted")
+    parser.add_argument("--dask", metavar="ADDRESS", help="hand the parts to a Dask cluster")
+    parser.add_argument("--shards", type=int, default=32, metavar="N", help="with --dask: so many parts")
+    parser.add_argument("--statistics", action="store_true", help="say on standard error what it took")
+
+
+def run(words: argparse.Namespace, text_of: TextOf) -> int:
+    """Explores; the exit status."""
+    _check_words(words)
+    if words.merge is not None:
+        plan, found = merge([text_of(it).splitlines() for it in words.merge], words.merge)
+        return _report(words, plan, _checks(words, plan), found)
+    plan = Plan(text_of(words.script), words.fail)
+    checks = _checks(words, plan)
+    _by(words, plan)  # refused before anything is run
+    if words.shard is not None:
+        return _shard(words, plan)
+    if words.dask is not None:
+        found = explore_on_dask(plan, words.dask, words.shards, words.program, words.seconds, words.image)
+        return _report(words, plan, checks, found)
+    with Medium(words.image) as medium:
+        found, is_whole = _found(words, plan, Shard(1, 1), medium)
+    return _report(words, plan, checks, found, is_whole)
+
+
+def _check_words(words: argparse.Namespace) -> None:
+    """Refuses options that do not go together."""
+    if (words.script is None) == (words.merge is None):
+        raise NvmesimError("explore wants a SCRIPT, or --merge and files")
+    if words.jobs < 1 or words.shards < 1:
+        raise NvmesimError("--jobs and --shards are 1 at least")
+    if words.merge is not None and words.image is not None:
+        raise NvmesimError("--image stands where parts are explored, and not at their --merge")
+    if words.fail < 0 or words.fail and (words.merge is not None or words.dask is not None or words.shard is not None):
+        raise NvmesimError("--fail K is of a whole exploration, and not of --merge, --shard or --dask; K is 1 at least")
+    if words.within is not None and (words.dask is not None or words.shard is not None):
+        raise NvmesimError("--within stops a whole exploration, and not one of --shard or --dask")
+    if words.shard is not None and (words.always or words.never or words.dask is not None):
+        raise NvmesimError("--shard prints what --merge judges: give --always and --never there")
+
+
+def _shard(words: argparse.Namespace, plan: Plan) -> int:
+    """Explores one part, and prints what it found."""
+    shard = Shard.parse(words.shard)
+    with Medium(words.image) as medium:
+        found, is_whole = _found(words, plan, shard, medium)
+    if not is_whole:
+        raise NvmesimError("the part was stopped before its end, and nothing of it is printed")
+    for line in json_lines(plan, shard, found, medium.digest):
+        print(line)
+    return 0
+
+
+def _checks(words: argparse.Namespace, plan: Plan) -> List[Check]:
+    """What must hold, and what must not."""
+    blocks = Looks(plan).blocks
+    return [Check(Expression(text, plan, blocks), is_wanted)
+            for texts, is_wanted in ((words.always, True), (words.never, False)) for text in texts]
+
+
+def _write_page(words: argparse.Namespace, report: Report) -> None:
+    """Writes the outcomes as a page; the orders that it shows are run."""
+    with Medium(words.image) as medium:
+        def run_script(script: str) -> Tuple[str, List[Told]]:
+            with medium.of_a_run() as image:
+                with Session(None if image == "-" else image, words.program, words.seconds) as session:
+                    return watched(session, script)
+
+        title = Path(words.script).name if words.script else "What was merged"
+        Path(words.page).write_text(page(report, title, run_script), encoding="utf-8")
+
+
+def _shrink(words: argparse.Namespace, plan: Plan, report: Report) -> None:
+    """Cuts the counterexamples down."""
+    with Medium(words.image) as medium, programs_of(plan, words.program, words.seconds, medium) as programs:
+        for check in report.checks:
+            for _, ways in report.broken(check)[:1]:
+                report.shorter[check.name] = list(script_of(*shrunk(plan, programs, check, ways.order)))
+
+
+def _by(words: argparse.Namespace, plan: Plan) -> List[Expression]:
+    """What outcomes are grouped by."""
+    blocks = Looks(plan).blocks
+    return [Expression(it, plan, blocks) for it in (parts_of(words.by) if words.by is not None else ())]
+
+
+def _tell(what: str) -> None:
+    print(f"nvmesim: {what}", file=sys.stderr, flush=True)
+
+
+def _found(words: argparse.Namespace, plan: Plan, shard: Shard, medium: Medium) -> Tuple[Findings, bool]:
+    """Explores here, and shows how far it is; what was found, and whether it went to its end."""
+    progress = Progress(plan, sys.stderr)
+    until: Optional[float] = None if words.within is None else time.monotonic() + words.within
+    with programs_of(plan, words.program, words.seconds, medium,
+                     lambda why: _tell(f"{why}: orders are run again from their begin, which is slower")) as programs:
+        walk = Walk(plan, programs, shard.prefixes(plan), words.jobs, progress.report, not words.all_orders)
+        found = walk.explore(until)
+    progress.end()
+    if words.statistics:
+        print(progress.told(walk.statistics), file=sys.stderr)
+    return found, walk.is_whole
+
+
+def _report(words: argparse.Namespace, plan: Plan, checks: Sequence[Check], found: Findings,
+            is_whole: bool = True) -> int:
+    """Prints what was found; 1 where something is not as it must be, 2 where too little was judged to say so."""
+    report = Report(plan, found, checks, is_whole, _by(words, plan), words.trifles)
+    if words.shrink and not report.is_good:
+        _shrink(words, plan, report)
+    if words.page:
+        _write_page(words, report)
+    if words.json:
+        print(json.dumps(json_report(report), indent=1))
+    else:
+        print("\n".join(report.lines()))
+    if words.counterexample and not report.is_good:
+        Path(words.counterexample).write_text(report.counterexample(), encoding="utf-8")
+    if not report.is_good:
+        return 1
+    if not is_whole:
+        raise NvmesimError("the exploration was stopped before its end: the report is of the orders that were judged")
+    if checks and report.orders < FEWEST_ORDERS:
+        raise NvmesimError(f"{report.why_one_order()}: --always and --never are judged by {FEWEST_ORDERS} orders at "
+                           "least")
+    return 0

@@ -1,0 +1,61 @@
+"""The library that forks the program: compiled on first use, and again where its source has changed."""
+from __future__ import annotations
+
+import hashlib
+import os
+import shutil
+import subprocess
+import tempfile
+from pathlib import Path
+
+from ..errors import NvmesimError
+
+SOURCE = Path(__file__).with_name("forking.c")
+FLAGS = ["-std=c11", "-O2", "-Wall", "-Wextra", "-Wpedantic", "-fPIC", "-shared", "-U_FORTIFY_SOURCE"]
+
+
+class NoLibrary(NvmesimError):
+    """The library can't be had: there is no C compiler, or it does not compile the library."""
+
+
+def folder() -> Path:
+    """Where compiled libraries are kept: the caller's folder of caches."""
+    named = os.environ.get("XDG_CACHE_HOME")
+    return (Path(named) if named else Path.home() / ".cache") / "nvmesim"
+
+
+def library() -> Path:
+    """The library, compiled if it is not there yet. Its name has its source's digest.
+
+    Raises:
+        NoLibrary: it can't be had.
+    """
+    digest = hashlib.sha256("\0".join(FLAGS).encode() + b"\0" + SOURCE.read_bytes())
+    compiler = os.environ.get("CC", "cc")
+    if not shutil.which(compiler):
+        raise NoLibrary(f"there is no C compiler {compiler!r}")
+    try:
+        place = folder() / f"libforking-{digest.hexdigest()[:16]}.so"
+        if not place.exists():
+            place.parent.mkdir(parents=True, exist_ok=True)
+            _compile(compiler, place)
+    except (OSError, RuntimeError) as fault:
+        raise NoLibrary(f"the library has no place to be kept: {fault}") from None
+    return place
+
+
+def _compile(compiler: str, place: Path) -> None:
+    """Compiles the library beside its place, and puts it there whole."""
+    number, new = tempfile.mkstemp(dir=place.parent, suffix=".new")
+    os.close(number)
+    try:
+        done = subprocess.run([compiler, *FLAGS, "-o", new, str(SOURCE), "-ldl"], stdin=subprocess.DEVNULL,
+                              stdout=subprocess.PIPE, stderr=subprocess.STDOUT, text=True)
+        if done.returncode != 0:
+            said = done.stdout.splitlines() or ["it says nothing"]
+            raise NoLibrary(f"{compiler!r} does not compile the library: {said[0]}")
+        os.chmod(new, 0o755)
+        os.replace(new, place)
+    finally:
+        if os.path.exists(new):
+            os.unlink(new)

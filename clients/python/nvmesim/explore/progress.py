@@ -1,0 +1,74 @@
+"""How far an exploration is, and how long it will still take."""
+from __future__ import annotations
+
+import time
+from typing import TextIO
+
+from .plan import Plan
+from .walk import Statistics
+
+_EVERY = 0.1
+_FIRST = 3.0
+"""So many seconds pass before a long exploration says that it is one."""
+_LONG = 20.0
+
+
+class Progress:
+    """Tells on standard error how far an exploration is: on a terminal all along, else once where it will be long."""
+
+    def __init__(self, plan: Plan, stream: TextIO) -> None:
+        """Begins to count the time."""
+        self.plan, self.stream = plan, stream
+        self._begun, self._shown = time.monotonic(), 0.0
+        self._is_said = False
+        self._is_terminal = stream.isatty()
+
+    def report(self, statistics: Statistics) -> None:
+        """Tells it, if it is time to."""
+        now = time.monotonic()
+        if self._is_terminal and now - self._shown > _EVERY:
+            self._shown = now
+            print(f"\r{self.told(statistics)}{self._left(statistics)}\033[K", end="", file=self.stream, flush=True)
+        if not self._is_said and now - self._begun > _FIRST:
+            self._is_said = True
+            if seconds_left(self.plan, statistics, now - self._begun) > _LONG:
+                self.end()
+                print(f"nvmesim: {self.size(statistics)}; Ctrl-C prints what was found so far", file=self.stream,
+                      flush=True)
+
+    def size(self, statistics: Statistics) -> str:
+        """How large it is, in short."""
+        return (f"{self.plan.orders:,} orders, of {self.plan.positions:,} states at least and about "
+                f"{states_in_all(self.plan, statistics):,}{self._left(statistics)}")
+
+    def told(self, statistics: Statistics) -> str:
+        """What it took so far."""
+        return (f"{statistics.states:,} states, {statistics.events:,} events run, {statistics.spared:,} spared, "
+                f"{time.monotonic() - self._begun:.2f} seconds")
+
+    def _left(self, statistics: Statistics) -> str:
+        left = seconds_left(self.plan, statistics, time.monotonic() - self._begun)
+        return f", about {in_words(left)} to go" if left >= 1 else ""
+
+    def end(self) -> None:
+        """Clears the line."""
+        if self._is_terminal:
+            print("\r\033[K", end="", file=self.stream, flush=True)
+
+
+def states_in_all(plan: Plan, statistics: Statistics) -> int:
+    """How many states there may be: as many for each position of the parts as there were so far."""
+    return statistics.states * plan.positions // max(1, statistics.positions)
+
+
+def seconds_left(plan: Plan, statistics: Statistics, seconds: float) -> float:
+    """How long the rest may take, if it goes on as so far."""
+    return seconds * (states_in_all(plan, statistics) / max(1, statistics.states) - 1)
+
+
+def in_words(seconds: float) -> str:
+    """A time in its largest unit."""
+    for size, unit in ((86400, "days"), (3600, "hours"), (60, "minutes")):
+        if seconds >= 2 * size:
+            return f"{seconds / size:,.0f} {unit}"
+    return f"{seconds:.0f} seconds"

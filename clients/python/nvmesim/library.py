@@ -1,0 +1,234 @@
+"""The library libnvmesim by ctypes, in place of the program: raw hosts without a process between, some ten times as
+quick. `Subsystem(backend="library")` uses it.
+
+What a script's line could not say is a `ValueError` here: numbers that are negative or too large for their field."""
+from __future__ import annotations
+
+import ctypes
+import ctypes.util
+import functools
+import os
+import sys
+from pathlib import Path
+from types import TracebackType
+from typing import Dict, Optional, Sequence, Tuple, Type
+
+from .answers import BLOCK_BYTES, Executed, Fetched, PowerCycled, Stored, Wrote32
+from .enums import ExecuteOutcome, Rule, Status
+from .errors import ConfigurationRefused, NotDone, ProgramNotFound, SessionClosed
+
+VARIABLE = "NVMESIM_LIBRARY"
+"""The variable of the environment that names the shared object."""
+
+VERSION = 1
+"""The version of the library's interface that is used here."""
+
+# The numbers of answers, as nvmesim.h has them.
+STORED, WROTE, VALUE, TOOK, IDLE, POSTED, NO_SUCH, CQ_FULL, CYCLED = range(1, 10)
+OK, CLOSED, NO_CONTROLLER, OUTSIDE = 0, 16, 17, 18
+_FAULTS = {21: "BadVersion", 23: "BadId", 24: "BadSize", 25: "TooMany", 26: "DoesNotFit", 27: "NoMemory"}
+_STATUSES = {(int(it.code[0], 16), int(it.code[2:], 16)): it for it in Status}
+_OUTCOMES = {NO_SUCH: ExecuteOutcome.NONE, CQ_FULL: ExecuteOutcome.FULL}
+
+
+class _Sim(ctypes.Structure):
+    _fields_ = [("subsystem", ctypes.c_void_p), ("is_open", ctypes.c_bool)]
+
+
+class _Controller(ctypes.Structure):
+    _fields_ = [("host_low", ctypes.c_uint64), ("host_high", ctypes.c_uint64), ("cntlid", ctypes.c_uint16)]
+
+
+class _Namespace(ctypes.Structure):
+    _fields_ = [("blocks", ctypes.c_uint64), ("nsid", ctypes.c_uint32), ("shared", ctypes.c_bool)]
+
+
+class _Attached(ctypes.Structure):
+    _fields_ = [("nsid", ctypes.c_uint32), ("cntlid", ctypes.c_uint16)]
+
+
+class _Answer(ctypes.Structure):
+    _fields_ = [("what", ctypes.c_uint32), ("value", ctypes.c_uint32), ("sct", ctypes.c_uint8), ("sc", ctypes.c_uint8),
+                ("rule", ctypes.c_uint8)]
+
+
+_ADDRESS, _COUNT, _NUMBER, _LONG = ctypes.c_void_p, ctypes.c_size_t, ctypes.c_uint32, ctypes.c_uint64
+_CNTLID, _SLICE = ctypes.c_uint16, (ctypes.c_char_p, ctypes.c_size_t)
+_SIM = ctypes.POINTER(_Sim)
+_CALLS: Dict[str, Tuple[object, Sequence[object]]] = {
+    "nvmesim_version": (_NUMBER, ()),
+    "nvmesim_open": (_NUMBER, (_SIM, _NUMBER, _ADDRESS, _COUNT, _ADDRESS, _COUNT, _ADDRESS, _COUNT, *_SLICE)),
+    "nvmesim_close": (None, (_SIM,)),
+    "nvmesim_store": (_Answer, (_SIM, _CNTLID, _LONG, *_SLICE)),
+    "nvmesim_write32": (_Answer, (_SIM, _CNTLID, _LONG, _NUMBER)),
+    "nvmesim_read32": (_Answer, (_SIM, _CNTLID, _LONG)),
+    "nvmesim_fetch": (_Answer, (_SIM, _CNTLID, ctypes.c_uint16)),
+    "nvmesim_execute": (_Answer, (_SIM, _CNTLID, _COUNT)),
+    "nvmesim_power_cycle": (_Answer, (_SIM,)),
+    "nvmesim_load": (_NUMBER, (_SIM, _CNTLID, _LONG, _ADDRESS, _COUNT)),
+    "nvmesim_read_blocks": (_NUMBER, (_SIM, _NUMBER, _LONG, _ADDRESS, _COUNT)),
+}
+
+
+def find_library() -> str:
+    """The shared object: the one that the environment names, that is installed beside this package or in one of the
+    usual places, or that the system knows.
+
+    Raises:
+        ProgramNotFound: there is none.
+    """
+    named = os.environ.get(VARIABLE)
+    if named:
+        return named
+    package = Path(__file__).resolve()
+    prefixes = [*package.parents[4:5], Path(sys.prefix), Path.home() / ".local", Path("/usr/local"), Path("/usr")]
+    for prefix in prefixes:
+        file = prefix / "lib" / f"libnvmesim.so.{VERSION}"
+        if file.is_file():
+            return os.fspath(file)
+    known = ctypes.util.find_library("nvmesim")
+    if known is None:
+        raise ProgramNotFound(f"there is no libnvmesim; `scripts/library FOLDER` builds it, and the variable {VARIABLE} "
+                              "can name its shared object")
+    return known
+
+
+@functools.lru_cache(maxsize=None)
+def load(path: str) -> ctypes.CDLL:
+    """The shared object with its calls.
+
+    Raises:
+        ProgramNotFound: it can't be loaded, or is of another version.
+    """
+    try:
+        found = ctypes.CDLL(path)
+        for name, (result, parameters) in _CALLS.items():
+            call = getattr(found, name)
+            call.restype, call.argtypes = result, parameters
+    except (OSError, AttributeError) as error:
+        raise ProgramNotFound(f"{path} is no libnvmesim: {error}") from error
+    if found.nvmesim_version() != VERSION:
+        raise ProgramNotFound(f"{path} has version {found.nvmesim_version()} of the interface, not {VERSION}")
+    return found
+
+
+def fits(*given: Tuple[int, int]) -> None:
+    """Numbers and the bits that they have to fit in, which ctypes would cut them to."""
+    for number, bits in given:
+        if number >> bits:
+            raise ValueError(f"{number} does not fit in {bits} bits")
+
+
+class Open:
+    """A subsystem of the library, by the numbers that its calls take and give. All of its calls are made on one thread,
+    that of the first."""
+
+    def __init__(self, controllers: Sequence[int], namespaces: Sequence[Tuple[int, int, bool]],
+                 attached: Sequence[Tuple[int, int]], blocks: bytes) -> None:
+        """Opens it over a copy of these bytes.
+
+        Args:
+            controllers: the hosts' identifiers, controller by controller.
+            namespaces: identifier, blocks, whether it is shared.
+            attached: controller, namespace.
+
+        Raises:
+            ConfigurationRefused: by its first fault.
+        """
+        for host in controllers:
+            fits((host, 128))
+        for nsid, size, _ in namespaces:
+            fits((nsid, 32), (size, 64))
+        for cntlid, nsid in attached:
+            fits((cntlid, 16), (nsid, 32))
+        self._library = load(find_library())
+        self._sim = _Sim(None, False)
+        self._at = ctypes.byref(self._sim)
+        cs = (_Controller * len(controllers))(*((it % 2**64, it >> 64, k + 1) for k, it in enumerate(controllers)))
+        ns = (_Namespace * len(namespaces))(*((size, nsid, shared) for nsid, size, shared in namespaces))
+        at = (_Attached * len(attached))(*((nsid, cntlid) for cntlid, nsid in attached))
+        answer = self._library.nvmesim_open(self._at, VERSION, cs, len(cs), ns, len(ns), at, len(at), blocks,
+                                            len(blocks))
+        if answer != OK:
+            raise ConfigurationRefused(_FAULTS.get(answer, str(answer)))
+
+    def close(self) -> None:
+        """Closes it. Every call from then on raises `SessionClosed`."""
+        self._library.nvmesim_close(self._at)
+
+    def __enter__(self) -> Open:
+        return self
+
+    def __exit__(self, kind: Optional[Type[BaseException]], fault: Optional[BaseException],
+                 trace: Optional[TracebackType]) -> None:
+        self.close()
+
+    def __del__(self) -> None:
+        if getattr(self, "_at", None) is not None:
+            self.close()
+
+    def store(self, cntlid: int, address: int, data: bytes) -> Stored:
+        """The host of a controller stores bytes."""
+        fits((cntlid, 16), (address, 64))
+        what = self._checked(self._library.nvmesim_store(self._at, cntlid, address, data, len(data)), cntlid).what
+        return Stored(cntlid, what == STORED)
+
+    def write32(self, cntlid: int, offset: int, value: int) -> Wrote32:
+        """It writes a register."""
+        fits((cntlid, 16), (offset, 64), (value, 32))
+        self._checked(self._library.nvmesim_write32(self._at, cntlid, offset, value), cntlid)
+        return Wrote32(cntlid)
+
+    def read32(self, cntlid: int, offset: int) -> int:
+        """It reads a register."""
+        fits((cntlid, 16), (offset, 64))
+        return int(self._checked(self._library.nvmesim_read32(self._at, cntlid, offset), cntlid).value)
+
+    def fetch(self, cntlid: int, queue: int) -> Fetched:
+        """A controller fetches a command."""
+        fits((cntlid, 16), (queue, 16))
+        answer = self._checked(self._library.nvmesim_fetch(self._at, cntlid, queue), cntlid)
+        return Fetched(cntlid, queue, answer.what == TOOK)
+
+    def execute(self, cntlid: int, place: int) -> Executed:
+        """It executes one that it has fetched."""
+        fits((cntlid, 16), (place, 64))
+        answer = self._checked(self._library.nvmesim_execute(self._at, cntlid, place), cntlid)
+        if answer.what != POSTED:
+            return Executed(cntlid, place, _OUTCOMES[answer.what])
+        return Executed(cntlid, place, ExecuteOutcome.POSTED, _STATUSES[answer.sct, answer.sc], Rule(answer.rule))
+
+    def power_cycle(self) -> PowerCycled:
+        """Power is lost, and comes back."""
+        self._checked(self._library.nvmesim_power_cycle(self._at), 0)
+        return PowerCycled()
+
+    def window(self, cntlid: int, address: int, length: int) -> bytes:
+        """Bytes of the memory of a controller's host."""
+        fits((cntlid, 16), (address, 64), (length, 32))
+        room = ctypes.create_string_buffer(max(length, 1))
+        self._done(self._library.nvmesim_load(self._at, cntlid, address, room, length), cntlid)
+        return room.raw[:length]
+
+    def blocks(self, nsid: int, slba: int, count: int) -> bytes:
+        """Blocks of a namespace as the medium has them."""
+        fits((nsid, 32), (slba, 64), (count, 17))
+        length = count * BLOCK_BYTES
+        room = ctypes.create_string_buffer(max(length, 1))
+        self._done(self._library.nvmesim_read_blocks(self._at, nsid, slba, room, length), 0)
+        return room.raw[:length]
+
+    def _checked(self, answer: _Answer, cntlid: int) -> _Answer:
+        if answer.what >= CLOSED and answer.what != OUTSIDE:
+            self._done(answer.what, cntlid)
+        return answer
+
+    def _done(self, what: int, cntlid: int) -> None:
+        if what == CLOSED:
+            raise SessionClosed("the subsystem was closed")
+        if what == NO_CONTROLLER:
+            raise NotDone(f"there is no controller {cntlid}")
+        if what == OUTSIDE:
+            raise NotDone("not all of it lies inside")
+        if what != OK:
+            raise NotDone(f"the library answered {what}")

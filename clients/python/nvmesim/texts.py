@@ -1,0 +1,21 @@
+"""Reads the files that are named on a command line."""
+from __future__ import annotations
+
+import sys
+from pathlib import Path
+
+from .errors import NvmesimError
+
+
+def text_of(name: str) -> str:
+    """The text of a file, or of standard input where the name is `-`.
+
+    Raises:
+        NvmesimError: it is no text.
+        OSError: it can't be read.
+    """
+    data = sys.stdin.buffer.read() if name == "-" else Path(name).read_bytes()
+    try:
+        return data.decode("utf-8").replace("\r\n", "\n")
+    except UnicodeDecodeError as fault:
+        raise NvmesimError(f"{name} is no text: its byte {fault.start} is no UTF-8") from None

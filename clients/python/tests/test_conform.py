@@ -1,0 +1,108 @@
+"""A device beside the model, without a device: scenes, and what a step is for either side. The lab's trials have the
+rest."""
+from __future__ import annotations
+
+import struct
+import unittest
+from dataclasses import replace
+from typing import List
+
+from nvmesim.conform import Abilities, Answer, Judge, Step, scene
+from nvmesim.conform.device import Command, DeviceFault
+from nvmesim.conform.steps import Places
+
+from .support import STANDIN
+
+ABLE = Abilities(2048, True, 1, 0xA1, "model", 256, True, True, True, True, (1, 2, 3, 4, 5, 6), True)
+PLAIN = replace(ABLE, has_compare=False, has_zeroes=False, has_protection=False, has_attachment=False, rtypes=(),
+                has_persistence=False)
+
+
+class Zeros:
+    """A device whose blocks are all zeros, whatever is written."""
+
+    def __init__(self) -> None:
+        self.came: List[Command] = []
+
+    def submit(self, command: Command) -> Answer:
+        self.came.append(command)
+        return Answer("0:00", data=bytes(command.wanted))
+
+
+class SceneTest(unittest.TestCase):
+    def test_a_seed_has_one_scene(self) -> None:
+        self.assertEqual(scene(7, [ABLE, ABLE], 50), scene(7, [ABLE, ABLE], 50))
+        self.assertNotEqual(scene(7, [ABLE, ABLE], 50), scene(8, [ABLE, ABLE], 50))
+
+    def test_what_a_device_lacks_is_left_out(self) -> None:
+        able = {it.verb for it in scene(1, [ABLE, ABLE], 2000)}
+        self.assertEqual(able, {"read", "write", "flush", "compare", "zeroes", "identify", "protect", "protection",
+                                "attach", "detach", "register", "acquire", "release", "report"})
+        self.assertEqual({it.verb for it in scene(1, [ABLE, PLAIN], 2000)}, {"read", "write", "flush", "identify"})
+        few = replace(ABLE, rtypes=(1, 3))
+        tried = {it.numbers[1] for it in scene(1, [few], 2000) if it.verb == "acquire"}
+        self.assertEqual(tried, {0, 1, 3, 7})
+        self.assertEqual({it.numbers[2] for it in scene(1, [replace(ABLE, has_persistence=False)], 900)
+                          if it.verb == "register"}, {0})
+
+    def test_only_blocks_of_the_plan_are_written(self) -> None:
+        for it in scene(3, [ABLE, ABLE], 3000):
+            if it.verb in ("write", "zeroes"):
+                slba, count, *_ = it.numbers
+                self.assertTrue(slba + count <= 16 or slba >= 2048 - 16, it)
+            if it.verb == "protect":
+                self.assertNotEqual(it.numbers[0], 2)
+            if it.verb == "detach":  # such a list is always refused
+                self.assertFalse(it.numbers and it.numbers == tuple(sorted(set(it.numbers))), it)
+
+
+class StepTest(unittest.TestCase):
+    places = Places(1 << 40, 1024)
+
+    def test_lines_and_commands(self) -> None:
+        last = (1 << 40) - 2
+        write = Step(1, "write", (last, 1, 2))
+        self.assertTrue(write.line(self.places).startswith("write 2 1 1022 1 hex:02000100"))
+        command = write.command([3, 4])
+        self.assertEqual((command.opcode, command.cdw10, command.cdw11, command.cdw12, len(command.sent)),
+                         (1, last & 0xFFFFFFFF, last >> 32, 0, 512))
+        self.assertEqual(len({Step(0, "write", (0, 3, 1)).data[n:n + 512] for n in range(0, 1536, 512)}), 3)
+        register = Step(0, "register", (2, 1, 3, 0x11, 0x22))
+        self.assertEqual(register.line(self.places), "register 1 1 2 1 3 17 34")
+        self.assertEqual(register.command([1]), Command(False, 0x0D, 0xC000000A, sent=struct.pack("<QQ", 0x11, 0x22)))
+        attach = Step(0, "attach", (0, 1))
+        self.assertEqual(attach.line(self.places), "attach 1 1 1 2")
+        self.assertEqual(attach.command([5, 9]).sent[:6], struct.pack("<HHH", 2, 5, 9))
+        self.assertEqual(Step(0, "acquire", (1, 6, 1, 2)).command([1]).cdw10, 0x601)
+        self.assertEqual(Step(0, "identify").line(self.places), "identify 1 0 1")
+
+    def test_a_device_that_forgets_is_found_and_made_short(self) -> None:
+        device = Zeros()
+        judge = Judge([device], [PLAIN], STANDIN)
+        # The stand-in of the program knows no Identify.
+        steps = [it for it in scene(1, [PLAIN], 30) if it.verb != "identify"]
+        found = judge.play(steps)
+        assert found is not None
+        shortest = judge.shortened(found)
+        self.assertLessEqual(len(shortest.steps), 2)
+        self.assertIn("write", [it.verb for it in shortest.steps])
+        script = list(judge.script(shortest))
+        self.assertTrue(script[0].startswith("# The device answers 0:00"), script[0])
+        self.assertEqual(script[-1], f"# expect * {shortest.model[0]}")
+
+    def test_devices_that_can_t_be_compared(self) -> None:
+        class Told:
+            def __init__(self, blocks: int, lbads: int) -> None:
+                self.space = bytearray(4096)
+                struct.pack_into("<Q", self.space, 0, blocks)
+                self.space[130] = lbads
+
+            def submit(self, command: Command) -> Answer:
+                return Answer("0:00", data=bytes(self.space) if command.cdw10 == 0 else bytes(command.wanted))
+
+        with self.assertRaisesRegex(DeviceFault, "has 63 blocks"):
+            Abilities.of(Told(63, 9))
+        with self.assertRaisesRegex(DeviceFault, "blocks of 4096 bytes"):
+            Abilities.of(Told(64, 12))
+        told = Abilities.of(Told(64, 9))
+        self.assertEqual((told.blocks, told.rtypes, told.has_compare, told.most_blocks), (64, (), False, 256))
