@@ -17,11 +17,7 @@
 #include <sys/xattr.h>
 #include <unistd.h>
 
-// The function of the same name that comes after this one, found once. A C library may lack it; then nothing calls it.
-#define NEXT(name) (__extension__(__typeof__(&name))next_of(#name, &next_##name))
-#define FOUND_ONCE(name) static void *next_##name
-
-static void *next_of(const char *name, void **found) {
+void *lab_next(const char *name, void **found) {
     if (!*found) {
         *found = dlsym(RTLD_NEXT, name);
     }
@@ -37,6 +33,8 @@ FOUND_ONCE(__open_2);
 FOUND_ONCE(__openat64_2);
 FOUND_ONCE(__openat_2);
 FOUND_ONCE(access);
+FOUND_ONCE(creat);
+FOUND_ONCE(creat64);
 FOUND_ONCE(euidaccess);
 FOUND_ONCE(faccessat);
 FOUND_ONCE(fopen);
@@ -56,8 +54,8 @@ FOUND_ONCE(scandir64);
 
 // Opening.
 
-// Opens the file that stands for a device, by a descriptor that can be neither read nor written: all that can be done
-// with a device of the lab are control calls. A device whose server is gone is a node without a device.
+// Opens the file that stands for a device: a block device by disk.c, others by a descriptor with which control calls can
+// be made and nothing else. A device whose server is gone is a node without a device.
 static int open_device(const char *place, int flags) {
     struct lab_request look = {.asking = LAB_LOOK};
     if (NEXT(access)(place, F_OK)) {
@@ -74,6 +72,9 @@ static int open_device(const char *place, int flags) {
     if (flags & O_DIRECTORY) {
         errno = ENOTDIR;
         return -1;
+    }
+    if (look.device.is_block) {
+        return lab_open_disk(place, flags);
     }
     return NEXT(openat)(AT_FDCWD, place, O_PATH | (flags & O_CLOEXEC));
 }
@@ -122,6 +123,16 @@ OPENS_AS(open)
 OPENS_AS(open64)
 OPENS_AT_AS(openat)
 OPENS_AT_AS(openat64)
+
+int creat(const char *path, mode_t mode) {
+    int fd;
+    return opens(path, O_CREAT | O_WRONLY | O_TRUNC, &fd) ? fd : NEXT(creat)(path, mode);
+}
+
+int creat64(const char *path, mode_t mode) {
+    int fd;
+    return opens(path, O_CREAT | O_WRONLY | O_TRUNC, &fd) ? fd : NEXT(creat64)(path, mode);
+}
 
 // The forms that checked builds call where no mode is given.
 int __open_2(const char *path, int flags);
@@ -235,6 +246,16 @@ ssize_t lgetxattr(const char *path, const char *name, void *value, size_t room) 
 
 // Control calls.
 
+// Zeros on a range of a block device, which Write Zeroes writes.
+static int zero_range(int fd, const uint64_t range[2]) {
+    struct lab_disk disk;
+    if (!lab_disk_of(fd, &disk)) {
+        errno = ENOTTY;
+        return -1;
+    }
+    return lab_zero(&disk, range[0], range[1]);
+}
+
 int ioctl(int fd, unsigned long request, ...) {
     struct lab_device device;
     va_list words;
@@ -244,6 +265,9 @@ int ioctl(int fd, unsigned long request, ...) {
     // NVMe's own, and those of block devices.
     bool may_be_ours = _IOC_TYPE(request) == 'N' || _IOC_TYPE(request) == _IOC_TYPE(BLKROGET);
     if (may_be_ours && lab_opened(fd, &device)) {
+        if (request == BLKZEROOUT && argument) {
+            return zero_range(fd, argument);
+        }
         return lab_control(&device, request, argument);
     }
     return NEXT(ioctl)(fd, request, argument);

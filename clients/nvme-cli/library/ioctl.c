@@ -173,6 +173,9 @@ static int control_block(const struct lab_device *device, unsigned long request,
     case BLKROGET:
         *(int *)argument = 0;
         return 0;
+    case BLKDISCARD:
+    case BLKSECDISCARD:
+        return refuse(EOPNOTSUPP);
     default:
         return refuse(ENOTTY);
     }

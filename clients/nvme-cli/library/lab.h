@@ -21,6 +21,30 @@ struct lab_device {
     bool is_block;
 };
 
+// An open block device.
+struct lab_disk {
+    struct lab_device device;
+    uint64_t size, position;
+    int access;
+    bool is_direct, is_sync;
+};
+
+// The function of the same name that comes after this one, found once. A C library may lack it; then nothing calls it.
+#define NEXT(name) (__extension__(__typeof__(&name))lab_next(#name, &next_##name))
+#define FOUND_ONCE(name) static void *next_##name
+void *lab_next(const char *name, void **found);
+
+// disk.c
+int lab_open_disk(const char *place, int flags);
+bool lab_disk_of(int fd, struct lab_disk *disk);
+int lab_flags_of(const struct lab_disk *disk);
+int lab_set_flags(int fd, struct lab_disk *disk, int flags);
+off_t lab_seek(int fd, struct lab_disk *disk, off_t offset, int whence);
+int lab_flush(const struct lab_disk *disk);
+int lab_zero(const struct lab_disk *disk, uint64_t at, uint64_t length);
+ssize_t lab_move(const struct lab_disk *disk, const struct iovec *parts, int count, off_t offset, bool writes);
+ssize_t lab_move_on(int fd, struct lab_disk *disk, const struct iovec *parts, int count, bool writes);
+
 // paths.c
 enum lab_kind lab_place(const char *path, char place[PATH_MAX]);
 bool lab_says_nothing(const char *path);

@@ -15,6 +15,7 @@ from dataclasses import dataclass
 from pathlib import Path
 from typing import Dict, List, Optional
 
+from nvmelab import server
 from nvmelab.configuration import Configuration, read_configuration
 from nvmelab.faults import LabFault
 
@@ -97,8 +98,26 @@ class Lab:
         finally:
             os.close(held)
 
+    def power_cycle(self) -> None:
+        """Has the lab that runs lose power and get it back."""
+        said = self.say(server.POWER_CYCLE)
+        if said is None:
+            raise LabFault(f"no lab of {self.name} runs, so there is no power to cycle")
+        if said != server.POWER_IS_BACK:
+            raise LabFault(f"{self.name}: {said or 'the lab has ended'}")
+
     def ask_to_join(self, host: str) -> Optional[Path]:
         """Joins the lab that runs; None where none does."""
+        said = self.say(host)
+        kind, _, rest = (said or "").partition(" ")
+        if kind == "joined":
+            return Path(rest)
+        if said:
+            raise LabFault(f"{self.name}: {said}")
+        return None
+
+    def say(self, word: str) -> Optional[str]:
+        """Says a word to the lab that runs, and gives its answer; None where none runs."""
         with socket.socket(socket.AF_UNIX, socket.SOCK_STREAM) as stream:
             try:
                 stream.connect(str(self.folder / "socket"))
@@ -106,16 +125,10 @@ class Lab:
                 return None
             self.compare()
             try:
-                stream.sendall(f"{host}\n".encode())
-                said = stream.makefile("r").readline().strip()
+                stream.sendall(f"{word}\n".encode())
+                return stream.makefile("r").readline().strip()
             except OSError:
                 return None
-        kind, _, rest = said.partition(" ")
-        if kind == "joined":
-            return Path(rest)
-        if said:
-            raise LabFault(f"{self.name}: {said}")
-        return None
 
     def compare(self) -> None:
         """A lab that runs already has lines and options of its own; they must be those that are asked for."""
@@ -139,19 +152,19 @@ class Lab:
             words = [sys.executable, "-c", "from nvmelab.main import serve_here; serve_here()", str(self.folder),
                      str(self.lock), self.name, image, self.script or "", *self.program]
             with open(self.log, "wb") as log:
-                server = subprocess.Popen(words, cwd="/", env=server_environment(), stdin=subprocess.DEVNULL,
+                started = subprocess.Popen(words, cwd="/", env=server_environment(), stdin=subprocess.DEVNULL,
                                           stdout=subprocess.PIPE, stderr=log, start_new_session=True)
         except OSError as fault:
             raise LabFault(f"the lab can't be started: {fault.strerror}: {fault.filename}") from fault
         try:
-            said = self.wait_for(server)
+            said = self.wait_for(started)
         except BaseException:
-            os.killpg(server.pid, signal.SIGTERM)
+            os.killpg(started.pid, signal.SIGTERM)
             raise
         if said != "ready":
-            server.wait()
+            started.wait()
             raise LabFault(said or f"the lab has not started; what it said is in {self.log}")
-        server.returncode = 0
+        started.returncode = 0
 
     def make_image(self) -> str:
         """A file of zeros for the blocks, which takes no room until they are written, and goes with the lab."""
@@ -160,10 +173,10 @@ class Lab:
             file.truncate(self.configuration.image_bytes)
         return str(image)
 
-    def wait_for(self, server: "subprocess.Popen[bytes]") -> str:
+    def wait_for(self, started: "subprocess.Popen[bytes]") -> str:
         """The server's first line. Meanwhile what it tells is shown, where it takes long."""
         limit = QUIET_SECONDS
-        with server.stdout as answers, open(self.log, "rb") as log:
+        with started.stdout as answers, open(self.log, "rb") as log:
             while not select.select([answers], [], [], limit)[0]:
                 limit = SHOW_SECONDS
                 sys.stderr.write(log.read().decode("utf-8", "replace"))

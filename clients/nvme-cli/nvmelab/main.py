@@ -18,6 +18,7 @@ FAILED, NOT_RUN, NOT_FOUND = 125, 126, 127
 
 USAGE = """\
 lab [--host H] [--drivers] [--image IMAGE] [--script FILE] [--program PROGRAM] CONFIG [-- COMMAND ..]
+lab --power-cycle CONFIG
 
 Runs COMMAND, or a shell, with the controllers and namespaces of CONFIG as /dev/nvme0, /dev/nvme0n1 and so on. CONFIG
 has the lines of a script before its `start`. Labs of one CONFIG that run at the same time are one lab, which ends with
@@ -29,6 +30,9 @@ the last of their COMMANDs.
 --image IMAGE       keep the blocks in this file, which must be long enough; without it they are gone after the lab
 --script FILE       write everything that happens as a script, which nvmesim can run again
 --program PROGRAM   run this nvmelive; without it ./nvmelive of this repository, which is built on first use
+
+--power-cycle       power is lost in the whole subsystem of the lab of CONFIG, which has to run, and comes back; the
+                    hosts bring their controllers up again
 
 The status is COMMAND's; 125 where the lab fails, 126 or 127 where COMMAND can't be run or is not found.
 """
@@ -44,6 +48,7 @@ class Words:
     script: Optional[str] = None
     program: str = ""
     has_drivers: bool = False
+    is_power_cycle: bool = False
 
 
 def take_apart(given: List[str]) -> Words:
@@ -61,6 +66,8 @@ def take_apart(given: List[str]) -> Words:
             setattr(found, word[2:], value)
         elif word == "--drivers":
             found.has_drivers = True
+        elif word == "--power-cycle":
+            found.is_power_cycle = True
         elif word.startswith("-"):
             raise LabFault(f"there is no option {word}; --help says which there are")
         elif found.config:
@@ -69,6 +76,8 @@ def take_apart(given: List[str]) -> Words:
             found.config = word
     if not found.config:
         raise LabFault("which CONFIG? --help says more")
+    if found.is_power_cycle and (found.command or len(given) > 2):
+        raise LabFault("--power-cycle takes CONFIG and nothing else")
     if found.host != server.ALL_HOSTS:
         found.host = host_name(found.host)
     return found
@@ -137,6 +146,9 @@ def main(given: List[str]) -> NoReturn:
         sys.exit(0)
     try:
         words = take_apart(given)
+        if words.is_power_cycle:
+            Lab.of(words.config, [], None, None, False).power_cycle()
+            sys.exit(0)
         lab = Lab.of(words.config, program_words(words.program), words.image, words.script, words.has_drivers)
         preloaded = library(library_folder())
         view = lab.join(words.host)

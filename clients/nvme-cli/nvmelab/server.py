@@ -36,6 +36,8 @@ ASK_AGAIN_SECONDS = 0.1
 JOINING_SECONDS = 5.0
 LONGEST_JOINING = 256
 ALL_HOSTS = "all"
+# What is said in the place of a host by who wants a power cycle, and what the answer is then.
+POWER_CYCLE, POWER_IS_BACK = "power-cycle", "power is back"
 
 
 def listen(place: Path) -> socket.socket:
@@ -158,11 +160,11 @@ class Server:
                 user = os.pidfd_open(process)
             except OSError:
                 return
-            try:
-                view = self.view_of(wanted)
-            except ValueError:
-                view = None
-            said = f"joined {view.folder}" if view else f"no controller belongs to host {wanted}"
+            if wanted == POWER_CYCLE:
+                view, said = None, self.power_cycle()
+            else:
+                view = self.view_of_word(wanted)
+                said = f"joined {view.folder}" if view else f"no controller belongs to host {wanted}"
             try:
                 stream.sendall(said.encode() + b"\n")
             except OSError:
@@ -172,6 +174,23 @@ class Server:
             return
         self.users.append(user)
         self.watch(user, lambda: self.drop_user(user))
+
+    def power_cycle(self) -> str:
+        """A loss and return of power in the whole subsystem; then each host brings its controller up again."""
+        answer, = self.subsystem.ask(["powercycle"])
+        if answer != "powercycle":
+            raise Ended(f"`powercycle` was answered `{answer[:60]}`")
+        for host in self.hosts.values():
+            host.bring_up()
+        self.refresh()
+        return POWER_IS_BACK
+
+    def view_of_word(self, wanted: str) -> Optional[View]:
+        """The view of a host as it was asked for; None where there is no such host."""
+        try:
+            return self.view_of(wanted)
+        except ValueError:
+            return None
 
     def drop_user(self, user: int) -> None:
         self.waiting.unregister(user)

@@ -8,9 +8,10 @@ from typing import List
 
 from support import CONFIG, LONGEST_SECONDS, Bench, Fault, check_is, children_of, server_of, view_of, wait_until
 
-CLIENT_TRIALS = ("files", "admin", "queues", "unread", "attachment", "blocks", "pointers", "reservations", "others")
+CLIENT_TRIALS = ("files", "admin", "queues", "unread", "attachment", "blocks", "pointers", "reservations", "disk",
+                 "others")
 # No request of a driver says queues; what else none says is tried in their place.
-DRIVER_TRIALS = ("files", "admin", "unsaid", "unread", "attachment", "blocks", "pointers", "reservations")
+DRIVER_TRIALS = ("files", "admin", "unsaid", "unread", "attachment", "blocks", "pointers", "reservations", "disk")
 DRIVERS = ["--drivers"]
 
 # Says what is wrong to the server in each way, in the lab: nothing, a part, too much, no sense, and no wish to hear.

@@ -1,9 +1,12 @@
 """Trials of the lab itself: what lasts and what does not, what it says when it can't, and that it disturbs nobody."""
+import json
 import os
+import re
 import shutil
+import sys
 from pathlib import Path
 
-from support import CONFIG, PACKAGE, Bench, Fault, check_is
+from support import CONFIG, HERE, LAB, PACKAGE, Bench, Fault, check_is
 
 # Programs that have nothing to do with devices, and what they say of themselves.
 ORDINARY = (
@@ -13,6 +16,43 @@ ORDINARY = (
     "dd if=/dev/zero bs=512 count=1 2>/dev/null | od", "ls /proc/self/fd | wc -l", "yes | head -n 1",
     "ls -U /etc | wc -l", "cat; exit 3", "kill -TERM $$",
 )
+
+
+# What people do with a block device, and what comes of it; the last ones are tried where the program is installed.
+DISKS = (
+    ("yes | head -c 100000 >zero && dd if=zero of=/dev/nvme0n1 bs=4k status=none && "
+     "head -c 100000 /dev/nvme0n1 | cmp - zero && echo same", "same\n"),
+    ("cat /dev/nvme0n1 >one; cat </dev/nvme0n1 >two; cp /dev/nvme0n1 three; cmp one two && cmp one three && wc -c <one",
+     "1048576\n"),
+    ("dd if=/dev/nvme0n1 of=four iflag=direct bs=64k status=none && cmp one four && echo same", "same\n"),
+    ("dd if=/dev/zero of=/dev/nvme0n2 bs=512 oflag=direct 2>&1 | head -n 3",
+     "dd: error writing '/dev/nvme0n2': No space left on device\n65+0 records in\n64+0 records out\n"),
+    ("printf hello >/dev/nvme0n2; printf ' you' | dd of=/dev/nvme0n2 bs=1 seek=5 conv=fsync status=none; "
+     "dd if=/dev/nvme0n2 bs=1 skip=3 count=6 status=none", "lo you"),
+    ("tail -c 2 /dev/nvme0n1 | od -An -tx1", " 00 00\n"),
+    ("od -An -tx1 /dev/nvme0n1 2>&1", "od: /dev/nvme0n1: Operation not supported\n"),
+)
+DISK_TOOLS = (
+    ("mkfs.ext4", "mkfs.ext4 -F -q /dev/nvme0n1 2>/dev/null && e2fsck -fn /dev/nvme0n1 >/dev/null 2>&1; echo $?",
+     "0\n"),
+    ("tar", "tar -c -f /dev/nvme0n1 -C / etc/passwd && tar -t -f /dev/nvme0n1", "etc/passwd\n"),
+    ("fio", "fio --name=a --filename=/dev/nvme0n1 --rw=randrw --bs=4k --size=256k --direct=1 --ioengine=psync "
+     "--verify=crc32c --fsync=8 | grep -o 'err= *[0-9]*'", "err= 0\n"),
+    ("fio", "fio --name=a --filename=/dev/nvme0n1 --rw=write --bs=4k --size=4k --ioengine=libaio 2>&1 | "
+     "grep -o 'Bad file descriptor' | head -n 1", "Bad file descriptor\n"),
+)
+
+
+def disks(bench: Bench) -> None:
+    """Programs that read and write block devices, which know nothing of NVMe."""
+    own = sorted(Path("/dev").glob("nvme*"))
+    tools = [(line, wanted) for tool, line, wanted in DISK_TOOLS if shutil.which(tool)]
+    for drivers in ([], ["--drivers"]):
+        with bench.held(drivers):
+            for line, wanted in (*DISKS, *tools):
+                done = bench.run(["sh", "-c", line])
+                check_is(f"`{line}`, which says {done.errors!r},", done.output, wanted)
+    check_is("what the machine's own /dev has", sorted(Path("/dev").glob("nvme*")), own)
 
 
 def lasting(bench: Bench) -> None:
@@ -63,6 +103,57 @@ def kept_and_run_again(bench: Bench, drivers: "list[str]") -> None:
     check_is("whether the script leaves the same image", again.read_bytes() == image.read_bytes(), True)
 
 
+def kept_and_explored(bench: Bench) -> None:
+    """What two hosts did in a lab runs again to the same answers, and is explored in every other order."""
+    image, again, fresh, kept, scene = (bench.place / it for it in
+                                        ("image", "again", "fresh", "kept.nvme", "scene.nvme"))
+    for each in (image, again, fresh):
+        with open(each, "wb") as file:
+            file.truncate((2048 + 64) * 512)
+    let_two_hosts_write(bench, ["--drivers", "--host", "0xa1", "--image", str(image), "--script", str(kept)])
+    done = bench.run_words([bench.program, str(again)], kept.read_text())
+    check_is(f"the end of the kept lines, with {done.errors!r},", done.status, 0)
+    posted = [it for it in done.output.splitlines() if it.startswith("execute ")]
+    check_is("what register, acquire and both writes are answered again", [posted[-n] for n in (7, 6, 5, 1)],
+             [*["execute 1 0 posted 0:00 0"] * 3, "execute 2 0 posted 0:83 7"])
+    check_is("whether the kept lines leave the same image", again.read_bytes() == image.read_bytes(), True)
+    bench.others["PYTHONPATH"] = str(PACKAGE.parent / "python")
+    try:
+        explore_scene(bench, kept, scene, fresh)
+    finally:
+        del bench.others["PYTHONPATH"]
+
+
+def let_two_hosts_write(bench: Bench, options: "list[str]") -> None:
+    """One host reserves the namespace and writes; then the other host's write is refused."""
+    nvme = HERE / "standin" / "nvme"
+    other = f"echo from b2 | '{nvme}' write /dev/nvme0n1 --start-block=7 --data-size=512"
+    done = bench.run(["sh", "-c", f"""
+        '{nvme}' resv-register /dev/nvme0n1 --rrega=0 --nrkey=0xa
+        '{nvme}' resv-acquire /dev/nvme0n1 --racqa=0 --crkey=0xa --rtype=1
+        echo from a1 | '{nvme}' write /dev/nvme0n1 --start-block=7 --data-size=512
+        '{LAB}' --host 0xb2 '{CONFIG}' -- sh -c "{other}"
+        """], options)
+    check_is("what the hosts are told", done.output.splitlines(),
+             ["NVME Reservation  success", "NVME Reservation Acquire success", "write: Success"])
+    check_is("whether the other host's write is refused", "Reservation Conflict" in done.errors, True)
+    bench.wait_over()
+
+
+def explore_scene(bench: Bench, kept: Path, scene: Path, fresh: Path) -> None:
+    """A scene of kept lines has a part for each host, and the other host's write is not refused in every order."""
+    nvmesim = [sys.executable, "-m", "nvmesim"]
+    done = bench.run_words([*nvmesim, "scene", str(kept), "-o", str(scene)])
+    check_is(f"the end of scene, with {done.errors!r},", (done.status, done.output), (0, ""))
+    check_is("its parts", re.findall("^#.*$", scene.read_text(), re.M), ["# host ha1", "# host hb2"])
+    done = bench.run_words([*nvmesim, "explore", str(scene), "--image", str(fresh), "--json"])
+    check_is(f"the end of explore, with {done.errors!r},", done.status, 0)
+    found = json.loads(done.output)
+    check_is("whether all orders were judged", (found["judged"], found["is_whole"]), (found["orders"], True))
+    outcomes = sorted((it["answers"]["hb2.write1"]["status"], it["blocks"]["1:7"]) for it in found["outcomes"])
+    check_is("what comes of the write", outcomes, [(it, b"from a1\n".hex()) for it in ("0:00", "0:83")])
+
+
 def undisturbed(bench: Bench) -> None:
     """A command that opens none of the devices ends as it would without a lab."""
     with bench.held():
@@ -81,6 +172,26 @@ def expect_fault(bench: Bench, words: "list[str]", text: str, status: int = 125,
     is_said = done.errors == f"lab: {text}\n" if whole else text in done.errors and done.errors.count("\n") == 1
     if done.status != status or done.output or not is_said or not done.errors.startswith("lab: "):
         raise Fault(f"lab {' '.join(words)} ended with {done.status} and said {done.errors!r}{done.output!r}")
+
+
+def power_cycles(bench: Bench) -> None:
+    """A power cycle needs a lab that runs; each is a line of its script, and the devices go on behind it."""
+    def cycled(*words: str) -> "tuple[int, str]":
+        done = bench.run_words([str(bench.lab), "--power-cycle", *words])
+        return done.status, done.errors + done.output
+
+    said = f"lab: no lab of {CONFIG} runs, so there is no power to cycle\n"
+    check_is("a power cycle without a lab", cycled(str(CONFIG)), (125, said))
+    said = "lab: --power-cycle takes CONFIG and nothing else\n"
+    for words in ([str(CONFIG), "--", "true"], ["--drivers", str(CONFIG)], ["--host", "0xa1", str(CONFIG)]):
+        check_is("a power cycle with more words", cycled(*words), (125, said))
+    script = bench.place / "script.nvme"
+    for drivers in ([], ["--drivers"]):
+        with bench.held([*drivers, "--script", str(script)]):
+            for _ in range(2):
+                check_is("a power cycle", cycled(str(CONFIG)), (0, ""))
+                bench.try_client("hammer", "/dev/nvme0n1", "0", "2")
+        check_is("the power cycles of the script", script.read_text().count("\npowercycle\n"), 2)
 
 
 def faults(bench: Bench) -> None:
@@ -147,4 +258,4 @@ def without_compiler(bench: Bench) -> None:
         library.unlink()
 
 
-TRIALS = (lasting, shells, images, undisturbed, faults, without_compiler)
+TRIALS = (lasting, shells, images, kept_and_explored, disks, power_cycles, undisturbed, faults, without_compiler)

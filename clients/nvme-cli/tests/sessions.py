@@ -5,7 +5,7 @@ import shutil
 import subprocess
 from typing import Dict, Iterator, List, Optional, Tuple
 
-from support import HERE, Bench, Fault, check_is
+from support import CONFIG, HERE, LAB, Bench, Fault, check_is
 
 # The first version that is tried, whose words the sessions have. Of a later one the statuses alone are compared: its
 # tables may look otherwise.
@@ -51,8 +51,14 @@ class Shells:
     """A shell for each host, all in one lab."""
 
     def __init__(self, bench: Bench, options: List[str]) -> None:
+        bin_folder = bench.place / "bin"
+        bin_folder.mkdir(exist_ok=True)
+        if not (bin_folder / "nvmelab").exists():
+            (bin_folder / "nvmelab").symlink_to(LAB)
+        path = f"{bench.others.get('PATH', os.environ['PATH'])}{os.pathsep}{bin_folder}"
+        start = f"exec env CONFIG='{CONFIG}' PATH='{path}' sh 2>&1"
         self.shells: Dict[str, "subprocess.Popen[str]"] = {
-            name: bench.begin(["sh", "-c", "exec sh 2>&1"], [*options, "--host", host])
+            name: bench.begin(["sh", "-c", start], [*options, "--host", host])
             for name, host in HOSTS.items()}
 
     def type(self, name: str, line: str) -> List[str]:
@@ -111,10 +117,17 @@ def fencing_by_stand_in(bench: Bench) -> None:
     """The same where nvme-cli is not installed, by a program that makes the same control calls, word for word."""
     bench.others["PATH"] = f"{HERE / 'standin'}{os.pathsep}{os.environ['PATH']}"
     try:
-        run_session(bench, "fencing.session", is_whole=True)
-        run_session(bench, "fencing.session", has_drivers=True, is_whole=True)
+        for name in ("fencing.session", "power-cycle.session"):
+            run_session(bench, name, is_whole=True)
+            run_session(bench, name, has_drivers=True, is_whole=True)
     finally:
         del bench.others["PATH"]
+
+
+def power_cycle(bench: Bench) -> None:
+    """What persists through a power cycle, and what does not, by nvme-cli."""
+    run_session(bench, "power-cycle.session")
+    run_session(bench, "power-cycle.session", has_drivers=True)
 
 
 def tour(bench: Bench) -> None:
@@ -123,4 +136,10 @@ def tour(bench: Bench) -> None:
     run_session(bench, "tour.session", has_drivers=True)
 
 
-TRIALS = (fencing, tour)
+def refused(bench: Bench) -> None:
+    """Each command of nvme-cli that this subsystem does not have, with its status."""
+    run_session(bench, "refused.session")
+    run_session(bench, "refused.session", has_drivers=True)
+
+
+TRIALS = (fencing, power_cycle, tour, refused)

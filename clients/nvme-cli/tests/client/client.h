@@ -72,6 +72,7 @@ void try_reservations(void);
 void try_unsaid(void);
 void try_unread(void);
 void try_files(void);
+void try_disk(void);
 void try_others(void);
 void hammer(const char *device, unsigned first, unsigned rounds);
 

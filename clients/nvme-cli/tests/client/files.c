@@ -52,10 +52,14 @@ static void try_descriptors(void) {
     CHECK_IS(bytes, 2048 * BLOCK);
     CHECK_IS(ioctl(fd, BLKSSZGET, &size), 0);
     CHECK_IS(size, 512);
-    CHECK_FAILS(ioctl(fd, BLKDISCARD, &bytes), ENOTTY);
-    // What is no control call is refused, and never waits.
-    CHECK_FAILS((int)read(fd, &byte, 1), EBADF);
-    CHECK_FAILS((int)write(fd, &byte, 1), EBADF);
+    CHECK_FAILS(ioctl(fd, BLKDISCARD, &bytes), EOPNOTSUPP);
+    // A controller and a generic device have control calls alone, and streams are refused where they are opened.
+    int controller = open_device("/dev/nvme0"), generic = open_device("/dev/ng0n1");
+    CHECK_FAILS((int)read(controller, &byte, 1), EBADF);
+    CHECK_FAILS((int)write(generic, &byte, 1), EBADF);
+    CHECK(!fopen("/dev/nvme0n1", "r") && errno == EOPNOTSUPP);
+    close(controller);
+    close(generic);
     int copy = dup(fd);
     close(fd);
     CHECK_IS(ioctl(copy, NVME_IOCTL_ID), 1);

@@ -25,7 +25,7 @@ static const struct {
 } trials[] = {
     {"admin", try_admin}, {"queues", try_queues}, {"attachment", try_attachment}, {"blocks", try_blocks},
     {"pointers", try_pointers}, {"reservations", try_reservations}, {"unsaid", try_unsaid}, {"unread", try_unread},
-    {"files", try_files}, {"others", try_others},
+    {"files", try_files}, {"disk", try_disk}, {"others", try_others},
 };
 
 // `gone DEVICE SECONDS`: opens a device, waits for a byte, and says what a command then comes to.
