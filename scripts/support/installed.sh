@@ -2,6 +2,8 @@
 # Who takes these lines in has set `name` and `support`, and has `tell`, `give_up` and `bad_words`.
 
 readonly help_on_builds=()
+# The folder of the Python package.
+readonly package=$support/python
 
 # Makes the program ready to be run: `program` is its path.
 prepare() {

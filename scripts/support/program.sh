@@ -3,6 +3,8 @@
 # on standard error tells. Who takes these lines in has set `name` and `top`, and has `tell` and `give_up`.
 
 readonly builds=$top/out
+# The folder of the Python package.
+readonly package=$top/clients/python
 # What --help says of builds.
 readonly help_on_builds=(
     "$(printf '%-35s%s' "$name --prove [--background]" 'prove and build nvmesim and nvmelive')"

@@ -51,6 +51,25 @@ CHANGED = (
     ("docs/WORKING.md", "| `Window::new` |", "| `Window::store` |", "no public call Window::store takes memory"),
     ("crates/nvme_ring/src/sq_head.rt", "    pub fn ", "    pub fn kept(alloc: Global) {}\n    pub fn ",
      "kept takes memory, and no row"),
+    ("crates/nvme_medium/src/file.rt", "\nimpl<F: RawFile> FileMedium<F> {",
+     "\nimpl<F>\n    Drop for FileMedium<F> {\n    fn drop(self) {}\n}\n\nimpl<F: RawFile> FileMedium<F> {",
+     "file.rt:14: no clause speaks of what goes"),
+    ("crates/nvme_subsys/src/power.rt", "controllers[i].power_cycle();",
+     "let _kept = ManuallyDrop::new(&controllers[i]); controllers[i].power_cycle();",
+     "never does: let _kept = ManuallyDrop"),
+    ("crates/nvme_live/src/session.rt", "\nuse ", "\nuse std::mem::{replace, forget};\nuse ",
+     "never does: use std::mem::{replace, forget};"),
+    ("crates/nvme_mem/src/window.rt", "        if !is_inside(addr, len) {\n            return Err",
+     "        let _copy = self.bytes.clone();\n        if !is_inside(addr, len) {\n            return Err",
+     "store is given no allocator, and has .clone("),
+    ("crates/nvme_medium/src/memory.rt", "        let at = 512 * i as usize;\n        self.",
+     "        let at = 512 * i as usize;\n        let _more = self.bytes.reserve(1 << 30);\n        self.",
+     "write is given no allocator, and has .reserve("),
+    ("crates/nvme_fleet/src/fleet.rt", "        &self.buffer[..self.filled]",
+     "        let _grown = self.buffer.push(0);\n        &self.buffer[..self.filled]",
+     "data is given no allocator, and has .push("),
+    ("crates/nvme_live/src/reading.rt", "line.extend_from_slice(&bytes[..room])",
+     "line.extend_from_slice(&bytes[..room + 1])", "has no line line.extend_from_slice"),
     (PICTURE, ">nvme_ring<", ">nvme_rings<", "nvme_rings stands there twice, or is no crate"),
     (PICTURE, 'x="438" y="120">controller_tests', 'x="316" y="120">controller_tests',
      "controller_tests lies over another crate"),
@@ -66,7 +85,8 @@ CHANGED = (
 )
 # What else is told of these.
 ALSO = ("no definition or function is called nvme_gone", "layers.svg:1: nvme_ring is not there",
-        "nvme_mem is no crate, or is not here exactly once", "Window::new takes memory, and no row")
+        "nvme_mem is no crate, or is not here exactly once", "Window::new takes memory, and no row",
+        "is given no allocator, and has .extend_from_slice(")
 
 
 def copy_of(top: Path, room: Path) -> Path:

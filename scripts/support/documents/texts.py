@@ -143,7 +143,7 @@ def texts(top: Path) -> Iterator[Tuple[str, str]]:
     for part in CRATE_PARTS:
         paths += sorted(top.glob(f"crates/*/{part}/**/*"))
     for path in paths:
-        if path.is_file() and not {"__pycache__", "out"} & set(path.relative_to(top).parts):
+        if path.is_file() and not {"__pycache__", "out", "target"} & set(path.relative_to(top).parts):
             yield str(path.relative_to(top)), path.read_text(encoding="utf-8", errors="replace")
 
 
@@ -156,4 +156,5 @@ def uses(top: Path) -> List[Tuple[str, List[str]]]:
     """Each crate of crates.txt with the names behind it."""
     lines = (top / "crates.txt").read_text(encoding="utf-8").split("\n")
     parts = [line.partition(":") for line in lines if line and not line.startswith("#")]
-    return [(name, rest.split()) for name, _, rest in parts]
+    # A name may have its kind behind it, as in `nvme_library staticlib:`.
+    return [(name.split()[0], rest.split()) for name, _, rest in parts]

@@ -12,6 +12,8 @@ from typing import Any, Callable, Dict, Iterable, Iterator, List, Optional, Sequ
 
 # The kinds of calls that the library counts, in its order.
 KINDS = ("alloc", "open", "stat", "read", "write", "pread", "pwrite", "sync")
+# What it counts behind these: the requests for memory since the last read.
+SINCE_READ = "since read"
 # How many seconds a run may take; it takes a few hundredths.
 WITHIN = 60
 SOURCE = Path(__file__).resolve().parent / "refuse.c"
@@ -101,9 +103,9 @@ class Bench:
             started.communicate()
             raise Wrong(f"a run that did not end within {WITHIN} seconds") from None
         image, told, counted = room / "image", room / "told", room / "counted"
-        counts = struct.unpack(f"{len(KINDS)}Q", counted.read_bytes()) if counted.exists() else ()
+        counts = struct.unpack(f"{len(KINDS) + 1}Q", counted.read_bytes()) if counted.exists() else ()
         return Shown(started.returncode, output or b"", errors or b"", image.read_bytes() if image.is_file() else None,
-                     told.stat().st_size if told.exists() else 0, dict(zip(KINDS, counts)))
+                     told.stat().st_size if told.exists() else 0, dict(zip((*KINDS, SINCE_READ), counts)))
 
 
 # A check of a group over the repository: it says what was tried, or that something is wrong.

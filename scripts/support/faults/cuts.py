@@ -79,10 +79,8 @@ def try_endless(bench: Bench, top: Path) -> str:
     return "a script without end: as it must be"
 
 
-def try_cuts(bench: Bench, top: Path) -> str:
-    """The first example cut after each byte."""
-    data = top / "crates/nvme_examples/data"
-    script, transcript = (data / "first-steps.nvme").read_bytes(), (data / "first-steps.out").read_bytes()
+def try_cuts_of(bench: Bench, script: bytes, transcript: bytes) -> Tuple[int, int]:
+    """A script cut after each of its bytes: how often that is a script, and how often it is refused."""
     before = bytes(64 * 512) + b"behind"
 
     def work(at: int) -> bool:
@@ -91,8 +89,16 @@ def try_cuts(bench: Bench, top: Path) -> str:
     whole = each(work, range(len(script) + 1))
     if not whole[-1] or all(whole):
         raise Wrong("the example is refused whole, or wherever it is cut it is a script")
-    counts: Tuple[int, int] = (sum(whole), len(whole) - sum(whole))
-    return f"the first example cut after each byte: {counts[0]} scripts and {counts[1]} refused, as they must be"
+    return sum(whole), len(whole) - sum(whole)
+
+
+def try_cuts(bench: Bench, top: Path) -> str:
+    """The first example, and the script that the program is run on, cut after each byte."""
+    data, program = top / "crates/nvme_examples/data", top / "crates/nvmesim"
+    counts = [try_cuts_of(bench, script.read_bytes(), transcript.read_bytes()) for script, transcript in
+              ((data / "first-steps.nvme", data / "first-steps.out"), (program / "stdin", program / "stdout"))]
+    return "; ".join(f"{what} cut after each byte: {good} scripts and {refused} refused, as they must be"
+                     for what, (good, refused) in zip(("the first example", "the program's own script"), counts))
 
 
 CHECKS: Dict[str, Check] = {"each": try_cuts, "lengths": try_lengths, "endless": try_endless}

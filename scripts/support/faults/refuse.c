@@ -5,7 +5,8 @@
 // HOW is the number of an errno; `none`, which moves nothing and is no error; `fewer`, a third of the bytes and one at
 // least; `torn`, half of the bytes and then EIO; or `kill`, which ends the program by SIGKILL before the call.
 // FAULTS_TOLD names a file that gets a byte for each call that was made to fail. FAULTS_COUNTED names one that gets,
-// when the program ends by itself, how many calls of each kind it made, as numbers of eight bytes in their order.
+// when the program ends by itself, how many calls of each kind it made, as numbers of eight bytes in their order, and
+// behind them how many requests for memory it made since its last read.
 //
 // FAULTS_LIE is for trying the checks themselves: the program then does something that no check may let pass.
 //   unharmed  no call is made to fail, though that is told
@@ -18,6 +19,7 @@
 //   bold      a file that can't be opened for reading and writing is opened for reading alone
 //   smooth    what the system refuses to write to the image is told as written
 //   filled    what is read of the image behind its end is told to be zeros
+//   hungry    memory is taken whenever a part of the transcript is written
 //
 // It includes nothing and links with nothing, so that a compiler without headers can make it: what it takes of the C
 // library and of Linux on x86-64 is declared here.
@@ -55,7 +57,7 @@ static unsigned long planned_at;
 static int is_onward;
 static enum how planned_how;
 static int planned_errno;
-static unsigned long counts[KINDS];
+static unsigned long counts[KINDS], taken_at_read;
 static const char *told, *counted;
 static const char *lie = "";
 static int is_ready;
@@ -194,6 +196,7 @@ int statx(int folder, const char *path, int flags, unsigned mask, void *found) {
 // The script and the transcript
 
 ssize_t read(int fd, void *bytes, size_t length) {
+    taken_at_read = counts[ALLOC];
     if (!fails(READ))
         return syscall(SYS_read, fd, bytes, length);
     size_t part = part_of(length);
@@ -211,6 +214,8 @@ static ssize_t write_changed(int fd, const void *bytes, size_t length, size_t at
 }
 
 ssize_t write(int fd, const void *bytes, size_t length) {
+    if (fd == STDOUT && lies("hungry"))
+        free(malloc(length));
     if (fd == STDERR && length && lies("blurred"))
         return write_changed(fd, bytes, length, length - 1);
     if (fd == STDOUT && length && counts[WRITE] == 0 && lies("garbled")) {
@@ -290,8 +295,11 @@ __attribute__((destructor)) static void end(void) {
     int fd = late_count ? (int)syscall(SYS_openat, HERE, getenv("FAULTS_IMAGE"), O_WRONLY, 0) : -1;
     for (size_t i = 0; i < late_count; i++)
         syscall(SYS_pwrite64, fd, late[i].bytes, late[i].length, late[i].at);
-    if (counted)
+    if (counted) {
+        unsigned long taken = counts[ALLOC] - taken_at_read;
         put(counted, O_TRUNC, counts, sizeof counts);
+        put(counted, O_APPEND, &taken, sizeof taken);
+    }
     if (lies("calm"))
         _exit(0);
 }

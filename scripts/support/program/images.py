@@ -23,6 +23,13 @@ def two_namespaces(private_blocks: int) -> str:
 
 
 TAIL = b"\7" * 5000
+
+
+def hello_over(blocks: int) -> str:
+    """The program's first script, whose namespace has so many blocks."""
+    return HELLO.replace("blocks 64", f"blocks {blocks}")
+
+
 # An image of 72 blocks that differ.
 MARKED = b"\1" + b"\7" * 36862 + b"\x09"
 DOES_NOT_FIT = ("DoesNotFit", "namespace 2 ends behind the 72 blocks of the medium, where the namespaces lie one after "
@@ -81,6 +88,11 @@ CASES = (
     Case("nine blocks on 5,000 bytes", ("image",), last_block(9), {"image": TAIL},
          output="up 1 ok\nplaced 1 1\nrung 1\nfetch 1 1 took\nexecute 1 0 posted 0:00 0\n",
          left={"image": TAIL[:4096] + b"\x5a" * 512 + TAIL[4608:]}),
+    Case("the first script with ten blocks on 5,000 bytes", ("image",), hello_over(10), {"image": TAIL}, 1,
+         errors="nvmesim: line 4: DoesNotFit\nnvmesim: line 2: namespace 1 ends behind the 9 blocks of the medium, "
+                "where the namespaces lie one after the other\n"),
+    Case("the first script with nine blocks on 5,000 bytes", ("image",), hello_over(9), {"image": TAIL},
+         output=HELLO_SHOWN, left={"image": b"Hello" + bytes(507) + TAIL[512:]}),
     Case("a block that is written in place", ("image",), HELLO, {"image": bytes(32768)}, output=HELLO_SHOWN,
          left={"image": b"Hello" + bytes(32763)}),
     alone("no command", (), ()),

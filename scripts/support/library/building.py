@@ -1,0 +1,106 @@
+"""Builds the library for C of the crate nvme_library."""
+import os
+import shutil
+import subprocess
+import tempfile
+from pathlib import Path
+
+from support import proving, toolchain
+
+# The interface's number, as in nvmesim.h: that of the shared object's name.
+VERSION = "1"
+CRATE = "nvme_library"
+MOST_TOLD = 4000
+PKGCONFIG = """prefix=${{pcfiledir}}/../..
+
+Name: nvmesim
+Description: A proved NVMe subsystem that several hosts share
+Version: {version}
+Cflags: -I${{prefix}}/include
+Libs: -L${{prefix}}/lib -lnvmesim
+"""
+
+
+class NotBuilt(Exception):
+    """It can't be built, with the reason."""
+
+
+def call(words, folder):
+    """Runs a tool, whose output is the reason where it fails."""
+    try:
+        ran = subprocess.run(words, cwd=folder, stdin=subprocess.DEVNULL, stdout=subprocess.PIPE,
+                             stderr=subprocess.STDOUT, text=True, errors="replace")
+    except OSError as error:
+        raise NotBuilt(f"{words[0]}: {error}") from error
+    if ran.returncode != 0:
+        raise NotBuilt(f"{' '.join(map(str, words[:3]))} .. failed\n{ran.stdout[-MOST_TOLD:]}")
+    return ran.stdout
+
+
+def is_built_over_ci(top):
+    """Builds the archive over the libraries that `rt ci` has just built, where they stand; whether it could. Elsewhere
+    `rt lib` takes those that are kept: it would prove all of them again here."""
+    rt = toolchain.load(top)
+    crate = toolchain.crates_of(rt, str(top))[CRATE]
+    if not all(map(proving.is_left_by_ci, crate.below())):
+        return False
+    Path(crate.folder, "out").mkdir(exist_ok=True)
+    with open(os.devnull, "w", encoding="utf-8") as crate.out:
+        return crate.build_static([]) == 0
+
+
+def proved_archive(top):
+    """Proves the crate and builds its archive; nothing is done twice."""
+    folder = top / "crates" / CRATE
+    if not is_built_over_ci(top):
+        call(["rt", "lib"], folder)
+    return folder / "out" / f"lib{CRATE}.a"
+
+
+def built_archive(top):
+    """The archive, where it is built and no source is newer; else None."""
+    try:
+        rt = toolchain.load(top)
+    except toolchain.NoToolchain:
+        return None
+    crate = toolchain.crates_of(rt, str(top))[CRATE]
+    archive = Path(crate.folder, "out", f"lib{CRATE}.a")
+    newest = max(proving.newest_source(it) for it in [*crate.below(), crate])
+    return archive if archive.is_file() and archive.stat().st_mtime > newest else None
+
+
+def whole_object(archive, room):
+    """One object of the archive and of what it needs of the toolchain's, in which only the library's calls have names
+    for others."""
+    heap = Path(toolchain.ask("doc")).parent / "c" / "liblibc_c.a"
+    call(["ar", "x", str(archive)], room)
+    parts = sorted(str(it) for it in room.glob("*.o"))
+    call(["ld", "-r", "-o", "all", *parts, str(heap)], room)
+    call(["objcopy", "--wildcard", "--keep-global-symbol=nvmesim_*", "all", "nvmesim.o"], room)
+    return room / "nvmesim.o"
+
+
+def build(top, prefix):
+    """Builds the library and puts it under a folder."""
+    put(top, proved_archive(top), prefix)
+
+
+def put(top, archive, prefix):
+    """Puts the library of this archive under a folder."""
+    for part in ("include", "lib/pkgconfig"):
+        (prefix / part).mkdir(parents=True, exist_ok=True)
+    with tempfile.TemporaryDirectory(prefix="nvmesim-object-") as place:
+        room = Path(place)
+        made = whole_object(archive, room)
+        call(["ar", "rcs", "libnvmesim.a", made.name], room)
+        shared = f"libnvmesim.so.{VERSION}"
+        call(["cc", "-shared", "-o", shared, f"-Wl,-soname,{shared}", made.name], room)
+        for name in ("libnvmesim.a", shared):
+            shutil.copyfile(room / name, prefix / "lib" / name)
+    link = prefix / "lib" / "libnvmesim.so"
+    if link.is_symlink() or link.exists():
+        link.unlink()
+    os.symlink(shared, link)
+    shutil.copyfile(top / "clients" / "c" / "nvmesim.h", prefix / "include" / "nvmesim.h")
+    text = PKGCONFIG.format(version=VERSION)
+    (prefix / "lib" / "pkgconfig" / "nvmesim.pc").write_text(text, encoding="utf-8")

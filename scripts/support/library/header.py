@@ -1,0 +1,82 @@
+"""Whether nvmesim.h says what the crate nvme_library has: its exports, their parameters, its structs and its numbers."""
+import re
+
+# What a parameter or a result of an export is in C.
+TYPES = {
+    "Global": [], "&mut Handle": ["nvmesim *"], "u8": ["uint8_t"], "u16": ["uint16_t"], "u32": ["uint32_t"],
+    "u64": ["uint64_t"], "usize": ["size_t"], "bool": ["bool"], "&[u8]": ["const uint8_t *", "size_t"],
+    "&mut [u8]": ["uint8_t *", "size_t"], "&[Controller]": ["const nvmesim_controller *", "size_t"],
+    "&[Namespace]": ["const nvmesim_namespace *", "size_t"], "&[Attached]": ["const nvmesim_attached *", "size_t"],
+    "LentBytes": ["nvmesim_bytes"], "Answer": ["nvmesim_answer"], "()": ["void"],
+}
+# The structs that C sees whole, by their names there.
+STRUCTS = {"Answer": "nvmesim_answer", "Controller": "nvmesim_controller", "Namespace": "nvmesim_namespace",
+           "Attached": "nvmesim_attached"}
+EXPORT = re.compile(r'#\[unsafe\(no_mangle\)\]\s*pub extern "C" fn (\w+)\(([^)]*)\)(?: -> (\w+))?')
+NUMBER = re.compile(r"^pub const (\w+): u32 = (\d+);", re.M)
+
+
+def sources(top):
+    """The text of the crate."""
+    folder = top / "crates" / "nvme_library" / "src"
+    return "\n".join(it.read_text(encoding="utf-8") for it in sorted(folder.glob("*.rt")))
+
+
+def without_comments(text):
+    return re.sub(r"/\*.*?\*/", " ", text, flags=re.S)
+
+
+def exports(text):
+    """The exports of the crate, as C declares them: the result's type and those of the parameters, by their names."""
+    found = {}
+    for name, parameters, result in EXPORT.findall(text):
+        kinds = [it.split(":", 1)[1].strip() for it in parameters.split(",") if it.strip()]
+        found[name] = (TYPES[result or "()"][0], [it for kind in kinds for it in TYPES[kind]] or ["void"])
+    return found
+
+
+def declarations(header):
+    """The functions that the header declares, in the same form."""
+    found = {}
+    for result, name, parameters in re.findall(r"^(\w+) (nvmesim_\w+)\(([^)]*)\);", without_comments(header), re.M):
+        kinds = [re.sub(r"\s*\w+$", "", " ".join(it.split())) or it.strip() for it in parameters.split(",")]
+        found[name] = (result, [re.sub(r"\s*\*$", " *", it) for it in kinds])
+    return found
+
+
+def rattle_fields(text, name):
+    """The fields of a struct of the crate, and their types in C."""
+    body = re.search(rf"pub struct {name} \{{(.*?)\n\}}", text, re.S).group(1)
+    return [(field, TYPES[kind][0]) for field, kind in re.findall(r"^\s*pub (\w+): (\w+),", body, re.M)]
+
+
+def c_fields(header, name):
+    """The fields of a struct of the header, and their types."""
+    body = re.search(rf"typedef struct {name} \{{(.*?)\}} {name};", without_comments(header), re.S).group(1)
+    return [(field.strip(), kind) for kind, fields in re.findall(r"(\w+) ([\w, ]+);", body)
+            for field in fields.split(",")]
+
+
+def numbers(text):
+    return {name: int(number) for name, number in NUMBER.findall(text)}
+
+
+def header_numbers(header):
+    text = without_comments(header)
+    found = {name: int(number) for name, number in re.findall(r"^\s*NVMESIM_(\w+) = (\d+)", text, re.M)}
+    found.update((name, int(number)) for name, number in re.findall(r"^#define NVMESIM_(\w+) (\d+)$", text, re.M))
+    return found
+
+
+def differences(top, header):
+    """What the header says otherwise than the crate, line by line."""
+    text = sources(top)
+    pairs = [("exports", exports(text), declarations(header)), ("numbers", numbers(text), header_numbers(header))]
+    pairs += [(it, dict(rattle_fields(text, it)), dict(c_fields(header, STRUCTS[it]))) for it in STRUCTS]
+    pairs += [(f"the order in {it}", list(rattle_fields(text, it)), list(c_fields(header, STRUCTS[it])))
+              for it in STRUCTS]
+    for what, crate, c in pairs:
+        if not crate:
+            yield f"{what}: the crate has none"
+        elif crate != c:
+            yield f"{what}: the crate has {crate}, the header {c}"

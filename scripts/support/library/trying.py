@@ -1,0 +1,175 @@
+"""Tests the library for C as it stands in a folder, as a program of C that uses it would."""
+import os
+import resource
+import shutil
+import subprocess
+import sys
+from pathlib import Path
+
+from support.library import header
+
+# What the library needs of the C library, and nothing else.
+NEEDED = {"malloc", "realloc", "free", "memcpy", "memmove", "memset"}
+STRICT = ["-std=c99", "-Wall", "-Wextra", "-Werror", "-pedantic"]
+# How many times a subsystem is opened and closed, and how much memory there is meanwhile: each has 8 MiB.
+OPENED, MOST = 1000, 700 << 20
+TIME = 300
+# The random events of hostile hosts.
+EVENTS = 50000
+# The lines of the crate's file that may be unsafe, at most.
+UNSAFE = 150
+
+
+class Trial:
+    """Tests of the library under a folder; it tells each that fails, and counts them."""
+
+    def __init__(self, top, room):
+        self.top, self.clients, self.room, self.failed = top, top / "clients" / "c", room, 0
+        self.prefix = room / "installed"
+        self.archive = self.prefix / "lib" / "libnvmesim.a"
+
+    def check(self, what, problem):
+        if problem:
+            self.failed += 1
+            print(f"library: {what}: FAILED\n{problem}", flush=True)
+        else:
+            print(f"library: {what}: as it must be", flush=True)
+
+    def run(self, words, **how):
+        """Runs a command: its status, and all that it wrote."""
+        ran = subprocess.run([str(it) for it in words], cwd=self.room, stdin=subprocess.DEVNULL, timeout=TIME,
+                             stdout=subprocess.PIPE, stderr=subprocess.STDOUT, text=True, errors="replace", **how)
+        return ran.returncode, ran.stdout
+
+    def compiled(self, words):
+        """What is wrong with a compilation, if anything."""
+        status, text = self.run(words)
+        return text or "the compiler failed" if status else ""
+
+    def symbols(self, file, words):
+        _, text = self.run(["nm", *words, file])
+        return {line.split()[-1] for line in text.splitlines() if line.strip() and not line.endswith(":")}
+
+    def names(self):
+        """The names that it exports are those of the header, and it needs no others than it says."""
+        declared = set(header.declarations((self.prefix / "include/nvmesim.h").read_text(encoding="utf-8")))
+        for file, words in ((self.archive, ["-g", "--defined-only"]),
+                            (self.prefix / "lib/libnvmesim.so", ["-D", "--defined-only"])):
+            found = self.symbols(file, words)
+            self.check(f"the names in {file.name}", found != declared and f"{sorted(found ^ declared)}")
+        needed = self.symbols(self.archive, ["-u"]) - {"_GLOBAL_OFFSET_TABLE_"}
+        self.check("what it needs", needed - NEEDED and f"{sorted(needed - NEEDED)}")
+
+    def example(self, name, flags, words=()):
+        """An example prints what stands beside it."""
+        program = self.room / name
+        problem = self.compiled(["cc", *STRICT, self.clients / "examples" / f"{name}.c", "-o", program, *flags])
+        if not problem:
+            environment = {**os.environ, "LD_LIBRARY_PATH": str(self.prefix / "lib")}
+            status, text = self.run([program, *words], env=environment)
+            wanted = (self.clients / "examples" / f"{name}.out").read_text(encoding="utf-8")
+            problem = (status or text != wanted) and f"status {status}, printed\n{text}"
+        self.check(f"the example {name}", problem)
+
+    def flags(self):
+        """How a program finds the library: by pkg-config where that is installed."""
+        if not shutil.which("pkg-config"):
+            return [f"-I{self.prefix}/include", f"-L{self.prefix}/lib", "-lnvmesim"]
+        environment = {**os.environ, "PKG_CONFIG_PATH": str(self.prefix / "lib/pkgconfig")}
+        status, text = self.run(["pkg-config", "--cflags", "--libs", "nvmesim"], env=environment)
+        self.check("pkg-config", status and text)
+        return text.split() if status == 0 else []
+
+    def tests(self, what, flags, before=(), limit=False, count=3):
+        """The tests, compiled with these flags and run behind these words."""
+        program = self.room / "tests"
+        problem = self.compiled(["cc", *STRICT, "-g", *flags, f"-I{self.prefix}/include",
+                                 self.clients / "tests/library.c", self.archive, "-o", program])
+        if not problem:
+            how = {"preexec_fn": lambda: resource.setrlimit(resource.RLIMIT_AS, (MOST, MOST))} if limit else {}
+            status, text = self.run([*before, program, str(count)], **how)
+            problem = (status or text) and f"status {status}\n{text}"
+        self.check(what, problem)
+
+    def rust(self):
+        """The crate: its tests, those in its documents, the example, and where it is unsafe."""
+        crate = self.top / "clients" / "rust"
+        words = ["cargo", "--offline", "--quiet"]
+        environment = {**os.environ, "NVMESIM_LIB": str(self.prefix / "lib"), "CARGO_TARGET_DIR": str(self.room / "target")}
+        status, text = self.run([*words[:1], "test", *words[1:], "--locked", "--manifest-path", crate / "Cargo.toml"],
+                                env=environment)
+        self.check("the crate for Rust", status and text)
+        status, text = self.run([*words[:1], "run", *words[1:], "--locked", "--manifest-path", crate / "Cargo.toml",
+                                 "--example", "two_hosts"], env=environment)
+        wanted = (self.clients / "examples/two_hosts.out").read_text(encoding="utf-8")
+        self.check("its example", (status or text != wanted) and f"status {status}, printed\n{text}")
+        lines = {it.name: len(it.read_text(encoding="utf-8").splitlines()) for it in (crate / "src").glob("*.rs")
+                 if "unsafe {" in it.read_text(encoding="utf-8")}
+        self.check("where it is unsafe", (list(lines) != ["raw.rs"] or lines["raw.rs"] >= UNSAFE) and str(lines))
+
+    def live(self):
+        """The program nvmelive where it is built, which has to give the same as the library."""
+        built = self.top / "crates/nvmelive/out/nvmelive"
+        return built if built.is_file() else os.environ.get("NVMELIVE")
+
+    def hostile(self, flags):
+        """Random events of hostile hosts give what they give over the program, and leave the same blocks."""
+        program, files = self.room / "hostile", [self.room / it for it in ("one.img", "lines", "answers", "other.img")]
+        problem = self.compiled(["cc", *STRICT, "-O1", self.clients / "examples/hostile.c", "-o", program, *flags])
+        if not problem:
+            status, text = self.run([program, str(EVENTS), "1", *files[:3]])
+            problem = (status or text) and f"status {status}\n{text}"
+        if not problem and self.live():
+            files[3].write_bytes(bytes(files[0].stat().st_size))
+            with open(files[1], "rb") as lines:
+                ran = subprocess.run([self.live(), files[3]], stdin=lines, stdout=subprocess.PIPE, timeout=TIME)
+            answers, wanted = ran.stdout.splitlines(), files[2].read_bytes().splitlines()
+            at = next((k for k, pair in enumerate(zip(answers, wanted)) if pair[0] != pair[1]), None)
+            if at is not None or len(answers) != len(wanted):
+                problem = f"of {len(wanted)} answers, {len(answers)} came; the first other is the one at {at}"
+            elif files[0].read_bytes() != files[3].read_bytes():
+                problem = "the blocks are others"
+        self.check("hostile hosts", problem)
+
+    def python(self):
+        """The package over the library, and over the program."""
+        environment = {**os.environ, "NVMESIM_LIBRARY": str(self.prefix / "lib/libnvmesim.so.1"),
+                       "PYTHONPATH": str(self.top / "clients/python"), "PYTHONDONTWRITEBYTECODE": "1"}
+        if self.live():
+            environment["NVMELIVE"] = str(self.live())
+        status, text = self.run([sys.executable, "-m", "unittest", "tests.test_library"], env=environment)
+        self.check("the package for Python", status and text)
+
+    def sanitizes(self):
+        """Whether the compiler has its sanitizers."""
+        source = self.room / "empty.c"
+        source.write_text("int main(void) { return 0; }\n", encoding="utf-8")
+        status, _ = self.run(["cc", "-fsanitize=address,undefined", source, "-o", self.room / "empty"])
+        return status == 0
+
+
+def run(top, room):
+    """Tests the library under the folder `installed` of a room; the status."""
+    trial = Trial(top, Path(room))
+    text = (trial.prefix / "include/nvmesim.h").read_text(encoding="utf-8")
+    trial.check("the header and the crate", "\n".join(header.differences(top, text)))
+    trial.names()
+    flags = trial.flags()
+    trial.example("two_hosts", flags)
+    trial.example("image", [f"-I{trial.prefix}/include", trial.archive], [trial.room / "disk.img"])
+    (trial.room / "header.cc").write_text('#include "nvmesim.h"\n', encoding="utf-8")
+    trial.check("the header in C++", trial.compiled(
+        ["c++", "-std=c++11", *STRICT[1:], f"-I{trial.prefix}/include", "-c", "header.cc", "-o", "header.o"]))
+    trial.tests("the tests", ["-O2"], limit=True, count=OPENED)
+    if shutil.which("valgrind"):
+        trial.tests("the tests under valgrind", ["-O1"],
+                    ["valgrind", "-q", "--error-exitcode=9", "--leak-check=full", "--show-leak-kinds=all"])
+    if trial.sanitizes():
+        trial.tests("the tests under the sanitizers", ["-fsanitize=address,undefined", "-fno-sanitize-recover=all"])
+    if not trial.live():
+        print("library: nvmelive is not built; what compares with it is skipped", flush=True)
+    trial.hostile([f"-I{trial.prefix}/include", trial.archive])
+    trial.python()
+    if shutil.which("cargo"):
+        trial.rust()
+    return 1 if trial.failed else 0
