@@ -5,7 +5,7 @@
  * descriptor, a socket of its own, as standard input and output, and the second, if there is one, in place of every
  * regular file that is open behind standard error, which is its image. The parent goes on waiting. Each process says
  * its number on its socket before it reads, after a byte 0, which begins no answer. Where the explorer has gone, a read
- * gives the end of the input, and the program ends as it does at the end of any input.
+ * gives the end of the input: the first program ends as it does at the end of any input, a child at once.
  *
  * What it writes to standard output is gathered, and sent when it waits for the next line or ends: so the explorer is
  * woken once for all answers of an event.
@@ -27,6 +27,10 @@ enum { STREAM = 0, FIRST_FILE = 3, LAST_FILE = 63, MOST_SENT = 2 };
 
 /* The process that has told its number; a child has another. */
 static pid_t told;
+
+/* Whether this process was forked. It ends at the end of its input without going to the end of the program, which only
+ * gives memory back, and takes longer than all else: an answer stands for calls that were made. */
+static int was_forked;
 
 static ssize_t read_as_before(int file, void *to, size_t size)
 {
@@ -151,6 +155,7 @@ static void branch(const int *sent, int count)
     send_gathered();          /* the child has nothing of it to send */
     signal(SIGCHLD, SIG_IGN); /* children that end leave nothing behind */
     if (fork() == 0) {
+        was_forked = 1;
         if (count == MOST_SENT)
             take_image(sent[1]);
         if (dup2(sent[0], STDIN_FILENO) < 0 || dup2(sent[0], STDOUT_FILENO) < 0)
@@ -202,6 +207,8 @@ ssize_t read(int file, void *to, size_t size)
             send_gathered();
             continue;
         }
+        if (got == 0 && was_forked)
+            _exit(0);
         if (got <= 0)
             return got;
         int count = sent_with(&message, sent);

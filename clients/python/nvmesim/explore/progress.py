@@ -2,7 +2,7 @@
 from __future__ import annotations
 
 import time
-from typing import TextIO
+from typing import Optional, TextIO
 
 from .plan import Plan
 from .walk import Statistics
@@ -17,15 +17,18 @@ class Progress:
     """Tells on standard error how far an exploration is: on a terminal all along, else once where it will be long."""
 
     def __init__(self, plan: Plan, stream: TextIO) -> None:
-        """Begins to count the time."""
+        """Waits for the first report, from which on the time counts: before it the program may be built."""
         self.plan, self.stream = plan, stream
-        self._begun, self._shown = time.monotonic(), 0.0
+        self._begun: Optional[float] = None
+        self._shown = 0.0
         self._is_said = False
         self._is_terminal = stream.isatty()
 
     def report(self, statistics: Statistics) -> None:
         """Tells it, if it is time to."""
         now = time.monotonic()
+        if self._begun is None:
+            self._begun = now
         if self._is_terminal and now - self._shown > _EVERY:
             self._shown = now
             print(f"\r{self.told(statistics)}{self._left(statistics)}\033[K", end="", file=self.stream, flush=True)
@@ -44,10 +47,14 @@ class Progress:
     def told(self, statistics: Statistics) -> str:
         """What it took so far."""
         return (f"{statistics.states:,} states, {statistics.events:,} events run, {statistics.spared:,} spared, "
-                f"{time.monotonic() - self._begun:.2f} seconds")
+                f"{self._seconds():.2f} seconds")
+
+    def _seconds(self) -> float:
+        """How long it has taken."""
+        return 0.0 if self._begun is None else time.monotonic() - self._begun
 
     def _left(self, statistics: Statistics) -> str:
-        left = seconds_left(self.plan, statistics, time.monotonic() - self._begun)
+        left = seconds_left(self.plan, statistics, self._seconds())
         return f", about {in_words(left)} to go" if left >= 1 else ""
 
     def end(self) -> None:
