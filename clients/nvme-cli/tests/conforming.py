@@ -41,6 +41,9 @@ def careful(bench: Bench) -> None:
             (BOTH, 2, UNASKED)):
         done = conform(bench, words, ["--image", str(image)])
         check_is(f"{words}", (done.status, done.output, done.errors), (status, PLAN, said))
+    done = conform(bench, [*BOTH, "--dry-run", "--without", "reservations", "--without", "compare"], [])
+    left_out = "left out, since a device lacks it or --without names it: Compare, reservations\n"
+    check_is("what is left out", done.output.endswith(left_out) and "registrations" not in done.output, True)
     register = f"{HERE / 'standin' / 'nvme'} resv-register /dev/nvme0n1 --rrega=0 --nrkey=0xa"
     done = bench.run(["sh", "-c", f"{register} >&2; exec {sys.executable} -m nvmesim conform --device /dev/nvme0n1 "
                       "--destroy-data"], ["--image", str(image)])

@@ -2,16 +2,20 @@
 rest."""
 from __future__ import annotations
 
+import argparse
+import contextlib
+import io
 import struct
 import unittest
 from dataclasses import replace
 from typing import List
 
 from nvmesim.conform import Abilities, Answer, Judge, Step, scene
+from nvmesim.conform.command import compare
 from nvmesim.conform.device import Command, DeviceFault
 from nvmesim.conform.steps import Places
 
-from .support import STANDIN
+from .support import LIVE, STANDIN
 
 ABLE = Abilities(2048, True, 1, 0xA1, "model", 256, True, True, True, True, (1, 2, 3, 4, 5, 6), True)
 PLAIN = replace(ABLE, has_compare=False, has_zeroes=False, has_protection=False, has_attachment=False, rtypes=(),
@@ -89,6 +93,21 @@ class StepTest(unittest.TestCase):
         script = list(judge.script(shortest))
         self.assertTrue(script[0].startswith("# The device answers 0:00"), script[0])
         self.assertEqual(script[-1], f"# expect * {shortest.model[0]}")
+
+    @unittest.skipUnless(LIVE, "nvmelive is not built")
+    def test_each_kind_of_difference_is_told_once(self) -> None:
+        told: List[List[str]] = []
+        for is_all in (False, True):
+            words = argparse.Namespace(seed=1, scenes=4, length=30, all=is_all, output=None)
+            shown = io.StringIO()
+            with contextlib.redirect_stdout(shown), contextlib.redirect_stderr(io.StringIO()):
+                self.assertEqual(compare(words, Judge([Zeros()], [PLAIN], LIVE)), 1)
+            told.append([it for it in shown.getvalue().splitlines() if it.startswith("# The device answers")])
+        first, each = told
+        self.assertEqual(first, each[:1])
+        self.assertGreater(len(each), 1)
+        self.assertEqual(len(set(each)), len(each), each)
+        self.assertIn("# The device answers 0:00, and the model 0:80.", each)
 
     def test_devices_that_can_t_be_compared(self) -> None:
         class Told:

@@ -3,16 +3,22 @@ from __future__ import annotations
 
 import argparse
 import sys
+from dataclasses import replace
 from pathlib import Path
-from typing import Iterator, List
+from typing import Any, Dict, Iterator, List, Set, Tuple
 
 from ..reports import parse_report
 from .device import Abilities, Device, DeviceFault
-from .judge import Judge
+from .judge import Difference, Judge
 from .scenes import scene
 from .steps import REGION, Step
 
 _DIFFERS = 1
+_FIELDS: Dict[str, Dict[str, Any]] = {
+    "compare": {"has_compare": False}, "write-zeroes": {"has_zeroes": False},
+    "write-protection": {"has_protection": False}, "attachment": {"has_attachment": False},
+    "reservations": {"rtypes": ()}}
+"""What a device may lack, and how it says so."""
 
 
 def add_arguments(parser: argparse.ArgumentParser) -> None:
@@ -29,7 +35,10 @@ def add_arguments(parser: argparse.ArgumentParser) -> None:
     parser.add_argument("--seed", type=int, default=1, metavar="N", help="the first scene")
     parser.add_argument("--scenes", type=int, default=50, metavar="N", help="how many scenes")
     parser.add_argument("--length", type=int, default=40, metavar="N", help="how many commands a scene has")
-    parser.add_argument("--output", metavar="FILE", help="write the script there as well")
+    parser.add_argument("--without", metavar="NAME", action="append", default=[], choices=list(_FIELDS),
+                        help=f"leave out as if a device lacked it: {', '.join(_FIELDS)}")
+    parser.add_argument("--all", action="store_true", help="go on behind a difference, and tell each kind once")
+    parser.add_argument("--output", metavar="FILE", help="write the script there as well, the last one with --all")
     parser.set_defaults(command=run)
 
 
@@ -41,7 +50,8 @@ def run(words: argparse.Namespace) -> int:
     try:
         for path in [words.device, *([words.second] if words.second else [])]:
             devices.append(Device(path))
-        hosts = [Abilities.of(it) for it in devices]
+        lacking = {key: value for name in words.without for key, value in _FIELDS[name].items()}
+        hosts = [replace(Abilities.of(it), **lacking) for it in devices]
         order = sorted(range(len(devices)), key=lambda n: hosts[n].cntlid)
         judge = Judge([devices[n] for n in order], [hosts[n] for n in order], words.program, words.seconds)
         for line in _plan([devices[n] for n in order], judge.hosts):
@@ -51,7 +61,7 @@ def run(words: argparse.Namespace) -> int:
         if not words.destroy_data:
             raise DeviceFault("nothing was written: --destroy-data is needed for that, --dry-run for the plan alone")
         _check_free(devices[0], judge)
-        return _compare(words, judge)
+        return compare(words, judge)
     finally:
         for device in devices:
             device.close()
@@ -76,7 +86,7 @@ def _plan(devices: List[Device], hosts: List[Abilities]) -> Iterator[str]:
         yield "tried: attachments that are refused; nothing is attached or detached"
     missing = [name for name, is_there in has.items() if not is_there]
     if missing:
-        yield f"left out, since a device says that it lacks it: {', '.join(missing)}"
+        yield f"left out, since a device lacks it or --without names it: {', '.join(missing)}"
 
 
 def _check_free(device: Device, judge: Judge) -> None:
@@ -87,16 +97,30 @@ def _check_free(device: Device, judge: Judge) -> None:
             raise DeviceFault(f"{device.path} has registrants: somebody uses it; nothing was written")
 
 
-def _compare(words: argparse.Namespace, judge: Judge) -> int:
+def compare(words: argparse.Namespace, judge: Judge) -> int:
+    """Plays the scenes, and prints the first difference, or one of each kind; the exit status."""
+    told: Set[Tuple[str, str, str]] = set()
     for number in range(words.seed, words.seed + words.scenes):
         found = judge.play(scene(number, judge.hosts, words.length))
         if found is None:
             continue
+        if _kind(found) in told:
+            continue
         print(f"scene {number} differs behind {len(found.steps)} commands; it is made shorter", file=sys.stderr)
-        text = "".join(f"{it}\n" for it in judge.script(judge.shortened(found)))
+        shortest = judge.shortened(found)
+        told |= {_kind(found), _kind(shortest)}
+        text = "".join(f"{it}\n" for it in judge.script(shortest))
         print(text, end="")
         if words.output:
             Path(words.output).write_text(text, encoding="utf-8")
+        if not words.all:
+            break
+    if told:
         return _DIFFERS
     print(f"no difference in {words.scenes} scenes of {words.length} commands, from seed {words.seed} on")
     return 0
+
+
+def _kind(found: Difference) -> Tuple[str, str, str]:
+    """The command that is answered differently, and the two statuses."""
+    return found.step.verb, found.device[0], found.model[0]

@@ -8,7 +8,7 @@ from typing import Dict, Iterator, List, Optional, Sequence, Tuple
 from ..process import PathLike
 from ..reports import parse_report
 from ..session import SECONDS
-from .device import Abilities, Answer, Commands
+from .device import Abilities, Answer, Commands, DeviceFault
 from .model import Model, host_identifiers, setup_lines, step_lines
 from .scenes import KEYS
 from .steps import REGION, Step
@@ -81,7 +81,7 @@ class Judge:
         with Model(self.hosts, self._program, self._seconds) as model:
             for part, several in enumerate((self.preparation(), steps, self.ending())):
                 for place, step in enumerate(several):
-                    answers = (self._devices[step.host].submit(step.command(self._cntlids)), model.submit(step))
+                    answers = (self._submit(step, several[:place]), model.submit(step))
                     if part == 0 and step.verb == "report":
                         bases = [_generation(it, base) for it, base in zip(answers, bases)]
                     told = [self._told(step, it, base, side == 1)
@@ -90,6 +90,14 @@ class Judge:
                         done = steps[:place + 1] if part == 1 else steps if part == 2 else ()
                         return Difference(tuple(done), step, told[0], told[1])
         return None
+
+    def _submit(self, step: Step, before: Sequence[Step]) -> Answer:
+        """A step on its device. A fault of the system tells which step, and the one before it, which may be why."""
+        try:
+            return self._devices[step.host].submit(step.command(self._cntlids))
+        except DeviceFault as fault:
+            behind = f", behind {before[-1].words}" if before else ""
+            raise DeviceFault(f"{fault}; it was {step.words}{behind}") from None
 
     def shortened(self, found: Difference) -> Difference:
         """The same with as few steps as can be: none can be left out without the difference going."""

@@ -42,6 +42,11 @@ class Step:
         return b"".join(struct.pack("<HH", seed, n + 1).ljust(16, bytes([seed % 251 + 1])).ljust(BLOCK_BYTES, b"\0")
                         for n in range(count)) if seed else bytes(BLOCK_BYTES * count)
 
+    @property
+    def words(self) -> str:
+        """The step in a message: its word and numbers, and the host."""
+        return f"'{' '.join(map(str, (self.verb, *self.numbers)))}' of host {self.host + 1}"
+
     def line(self, places: Places) -> str:
         """The step as a line of a script, whose namespace is 1."""
         c = self.host + 1
