@@ -1,0 +1,124 @@
+"""How large files and functions are: so large that each is read in one go, and no larger."""
+import re
+from pathlib import Path
+from typing import Dict, Iterator, List, Tuple
+
+from support import source
+from support.documents.texts import Finding, crates
+
+MOST_LINES = 499
+MOST_BODY = 39
+MOST_PARAMETERS = 6
+SUFFIXES = ("*.rt", "*.py", "*.c", "*.h", "*.rs")
+FOLDERS = ("crates", "clients", "scripts", "bench")
+# Files that have more lines, and functions whose bodies have, or that have more parameters: so many, and why. These lists
+# only become shorter, and their numbers smaller.
+LONG_FILES: Dict[str, Tuple[int, str]] = {}
+TABLE = "a table, of a line or two for each case"
+LONG_BODIES: Dict[Tuple[str, str], Tuple[int, str]] = {
+    ("crates/nvme_grammar/src/keyword.rt", "Keyword::places"): (67, TABLE),
+    ("crates/nvme_script/src/reason.rt", "ReasonDisplay::fmt"): (56, TABLE),
+    ("crates/controller_tests/src/tests/ns.rt", "tests::ns::faults_are_named"): (43, TABLE),
+    ("crates/controller_tests/src/tests/driver.rt", "tests::driver::an_unknown_completion_fails_the_driver"):
+        (43, TABLE),
+    ("crates/nvme_transcript/src/short.rt", "short::put_line"): (41, TABLE),
+}
+LENT = "what is lent stands apart, so that a contract can name it: streams, medium, window, marks"
+MANY_PARAMETERS: Dict[Tuple[str, str], Tuple[int, str]] = {
+    ("crates/nvme_exec/src/admission.rt", "admission::admit"): (7, LENT),
+    ("crates/nvme_exec/src/carrying.rt", "carrying::carry_out"): (7, LENT),
+    ("crates/nvme_exec/src/execution.rt", "execution::execute_marking"): (7, LENT),
+    ("crates/nvme_exec/src/execution.rt", "execution::perform"): (7, LENT),
+    ("crates/nvme_library/src/opening.rt", "opening::nvmesim_open"): (7, "what C hands over: lists and their lengths"),
+    ("crates/nvme_library/src/opening.rt", "opening::nvmesim_open_lent"):
+        (7, "what C hands over: lists and their lengths"),
+    ("crates/nvme_script/src/program.rt", "program::run_named"): (7, LENT),
+    ("crates/nvme_script/src/program.rt", "program::run_image"): (7, LENT),
+    ("crates/nvme_script/src/run.rt", "run::run_event"): (8, LENT),
+    ("crates/nvme_script/src/run.rt", "run::run_events"): (7, LENT),
+    ("crates/nvme_live/src/conversation.rt", "conversation::set_up"): (9, LENT),
+    ("crates/nvme_live/src/conversation.rt", "conversation::converse"): (9, LENT),
+    ("crates/nvme_live/src/program.rt", "program::run_over"): (7, LENT),
+    ("crates/nvme_live/src/program.rt", "program::run_named"): (7, LENT),
+    ("crates/nvme_live/src/program.rt", "program::run_image"): (7, LENT),
+    ("crates/nvme_live/src/session.rt", "session::start"): (7, LENT),
+    ("crates/nvme_live/src/session.rt", "session::run_from_start"): (8, LENT),
+}
+SELF = re.compile(r"(?:&(?:'\w+ )?)?(?:mut )?self(?:: .*)?")
+NAME = re.compile(r"\bfn \w+")
+HERE = "scripts/support/documents/shape.py"
+
+
+def parameters_of(head: str) -> int:
+    """How many parameters the head of a function has, without `self`."""
+    plain = head.replace("->", "  ")
+    begin = plain.index("(", end_of_name(plain))
+    depth, parts = 0, [""]
+    for letter in plain[begin:]:
+        depth += (letter in "([{<") - (letter in ")]}>")
+        if depth == 0:
+            break
+        if depth == 1 and letter == ",":
+            parts.append("")
+        else:
+            parts[-1] += letter
+    parts[0] = parts[0][1:]
+    return sum(bool(it.strip()) and not SELF.fullmatch(it.strip()) for it in parts)
+
+
+def end_of_name(head: str) -> int:
+    """Where the name of a function ends, and the types that it is generic in."""
+    at, depth = NAME.search(head).end(), 0
+    while head[at] == "<" or depth:
+        depth += (head[at] == "<") - (head[at] == ">")
+        at += 1
+    return at
+
+
+def too_large(name, size: int, most: int, known: Dict, seen: Dict) -> bool:
+    """Whether something is larger than it may be; what is known to be is noted, with its size."""
+    if size <= most:
+        return False
+    seen[name] = size
+    return size > known.get(name, (most, ""))[0]
+
+
+def check_functions(path: str, text: str, bodies: Dict, heads: Dict) -> Iterator[Finding]:
+    """The functions of one file of a crate."""
+    lines = text.split("\n")
+    for it in source.functions_of(text, path.split("/src/", 1)[1] if "/src/" in path else path):
+        name, body = (path, it.name), it.last - it.body + 1
+        if too_large(name, body, MOST_BODY, LONG_BODIES, bodies):
+            yield Finding(path, it.first + 1, f"the body of {it.name} has {body} lines, where {MOST_BODY} are the most")
+        head = "\n".join(line for line in lines[it.first:it.body + 1]
+                         if not line.lstrip().startswith(("//", "#[")))
+        count = parameters_of(head)
+        if too_large(name, count, MOST_PARAMETERS, MANY_PARAMETERS, heads):
+            yield Finding(path, it.first + 1, f"{it.name} has {count} parameters, where {MOST_PARAMETERS} are the most")
+
+
+def known_still(known: Dict, seen: Dict) -> Iterator[Finding]:
+    """Entries of a list of exceptions that allow more than there is."""
+    for name, (size, _) in known.items():
+        if seen.get(name, 0) < size:
+            yield Finding(HERE, 1, f"{name} has {seen.get(name, 'no more than others')}, and {size} are allowed")
+
+
+def check(top: Path) -> Iterator[Finding]:
+    """Files have fewer than 500 lines, functions fewer than 40, and six parameters at most."""
+    files: Dict[str, int] = {}
+    bodies: Dict[Tuple[str, str], int] = {}
+    heads: Dict[Tuple[str, str], int] = {}
+    paths: List[Path] = sorted(path for folder in FOLDERS for it in SUFFIXES for path in (top / folder).glob(f"**/{it}")
+                               if not {"out", "target"} & set(path.relative_to(top).parts))
+    for path in paths:
+        name, text = str(path.relative_to(top)), path.read_text(encoding="utf-8")
+        size = text.count("\n")
+        if too_large(name, size, MOST_LINES, LONG_FILES, files):
+            yield Finding(name, 1, f"{size} lines, where {MOST_LINES} are the most")
+    for crate in crates(top):
+        for path in sorted((top / "crates" / crate / "src").glob("**/*.rt")):
+            yield from check_functions(str(path.relative_to(top)), path.read_text(encoding="utf-8"), bodies, heads)
+    yield from known_still(LONG_FILES, files)
+    yield from known_still(LONG_BODIES, bodies)
+    yield from known_still(MANY_PARAMETERS, heads)
