@@ -1,0 +1,136 @@
+"""Builds the library for C without its proofs, in half a minute.
+
+The toolchain makes a static library of proved crates alone, but compiles a program of unproved ones. So the crate gets
+a `main` that calls each export, in a copy. Of the module that comes of that the exports are given their names for
+others, and those that answer a structure a function of C before them: Rattle's own calls leave it in memory that the
+caller names.
+"""
+import re
+import shutil
+import tempfile
+from pathlib import Path
+from typing import Dict, List, Tuple
+
+from support.building import unproved
+from support.library import header
+from support.library.building import CRATE, NotBuilt, call, put
+
+LENT = "nvme_lent"
+# What the header declares of a call: its result, and its parameters.
+Declared = Tuple[str, List[str]]
+EXPORT = re.compile(r'pub extern "C" fn (nvmesim_\w+)\(([^)]*)\)')
+# The values of the calls. None is known before the program runs, so that nothing is computed from them.
+VALUES = {"Global": "alloc", "&mut Handle": "&mut sim", "u16": "n as u16", "u32": "n as u32", "u64": "n as u64",
+          "usize": "n", "bool": "n == 3", "&[u8]": "&bytes", "&mut [u8]": "&mut bytes", "&[Controller]": "&controllers",
+          "&[Namespace]": "&namespaces", "&[Attached]": "&attached",
+          "LentBytes": "LentBytes { at: ptr::null_mut(), len: n }"}
+MAIN = """
+use nvme_lent::LentBytes;
+use std::process::ExitCode;
+use std::rt::Env;
+use std::{{env, io, ptr}};
+
+fn main(rt: HostRuntime) -> io::Result<ExitCode> {{
+    let alloc = rt.alloc();
+    let n = env::args(&rt)?.count();
+    let mut sim = Handle::closed(alloc);
+    let mut bytes = [0u8; 512];
+    let controllers = [Controller {{ host_low: n as u64, host_high: n as u64, cntlid: n as u16 }}];
+    let namespaces = [Namespace {{ blocks: n as u64, nsid: n as u32, shared: n == 3 }}];
+    let attached = [Attached {{ nsid: n as u32, cntlid: n as u16 }}];
+{calls}
+    Ok(ExitCode::from(0))
+}}
+"""
+# How an export is named in the module, and what its definition begins with.
+NAMED = re.compile(r'@"nvme_library::\w+::(nvmesim_\w+)"')
+DEFINED = re.compile(r'^define internal (.*@"nvme_library::\w+::(nvmesim_\w+)".*)$', re.M)
+# What stands before the name of an export that C calls by another function.
+BEHIND = "rattle_"
+
+
+def calls(sources: Path) -> List[str]:
+    """A call of each export."""
+    found = []
+    for path in sorted(sources.glob("*.rt")):
+        for name, words in EXPORT.findall(path.read_text(encoding="utf-8")):
+            kinds = [" ".join(it.split(":", 1)[1].split()) for it in words.split(",") if ":" in it]
+            unknown = [it for it in kinds if it not in VALUES]
+            if unknown:
+                raise NotBuilt(f"{name} takes {unknown[0]}, which is not known here")
+            found.append(f"    let _ = {path.stem}::{name}({', '.join(VALUES[it] for it in kinds)});")
+    return found
+
+
+def copies(top: Path, room: Path) -> Dict[str, Path]:
+    """Copies of both crates as a program, by their names."""
+    for name in (CRATE, LENT):
+        shutil.copytree(top / "crates" / name, room / name, ignore=shutil.ignore_patterns("out", "wrong-bodies"))
+    lent = room / LENT / "src" / "bytes.rt"
+    text = lent.read_text(encoding="utf-8")
+    lent.write_text(re.sub(r"^    (at|len):", r"    pub \1:", text, flags=re.M), encoding="utf-8")
+    root = room / CRATE / "src" / "lib.rt"
+    text = root.read_text(encoding="utf-8") + MAIN.format(calls="\n".join(calls(root.parent)))
+    root.with_name("main.rt").write_text(text, encoding="utf-8")
+    root.unlink()
+    return {name: room / name for name in (CRATE, LENT)}
+
+
+def answering(declared: Dict[str, Declared]) -> List[str]:
+    """The calls that answer a structure."""
+    return [name for name, (result, _) in declared.items() if result == "nvmesim_answer"]
+
+
+def shims(declared: Dict[str, Declared]) -> str:
+    """Functions of C before the exports that answer a structure."""
+    text = ['#include "nvmesim.h"']
+    for name in answering(declared):
+        kinds = declared[name][1]
+        words = ", ".join(f"{kind} a{at}" for at, kind in enumerate(kinds))
+        given = ", ".join(f"a{at}" for at in range(len(kinds)))
+        text += [f"void {BEHIND}{name}(nvmesim_answer *, {words});",
+                 f"nvmesim_answer {name}({words}) {{ nvmesim_answer it; {BEHIND}{name}(&it, {given}); return it; }}"]
+    return "\n".join(text) + "\n"
+
+
+def exported(module: str, behind: List[str]) -> str:
+    """The module with names for others: those of the header, or such as only the functions of C know."""
+
+    def name(found: "re.Match[str]") -> str:
+        return f"@{BEHIND if found.group(1) in behind else ''}{found.group(1)}"
+
+    module = DEFINED.sub(r"define \1", module)
+    return NAMED.sub(name, module).replace("define i32 @main(", "define internal i32 @unused_main(")
+
+
+def compiled(kit: unproved.Kit, room: Path, top: Path) -> Path:
+    """The archive of the module that is kept in the room."""
+    declared = header.declarations((top / "clients/c/nvmesim.h").read_text(encoding="utf-8"))
+    words = (room / unproved.WORDS).read_text(encoding="utf-8").splitlines()
+    words = [it for it in words if not it.startswith(("-fsanitize", "-O", "--sysroot=", "-fPIE"))]
+    words = words[:words.index("-o")] + words[words.index("-o") + 2:]
+    clang = [f"{kit.tools}/bin/clang", f"--sysroot={kit.tools}", "-fPIC"]
+    text = ["-S", "-emit-llvm", "-O0", "-Xclang", "-disable-llvm-passes", "-o", "module.ll"]
+    call([*clang, *[it for it in words if it != "-c"], *text], room)
+    module = (room / "module.ll").read_text(encoding="utf-8")
+    (room / "library.ll").write_text(exported(module, answering(declared)), encoding="utf-8")
+    (room / "shims.c").write_text(shims(declared), encoding="utf-8")
+    call([*clang, *["library.ll" if it == unproved.MODULE else it for it in words], "-O1", "-o", "library.o"], room)
+    call(["cc", "-O1", "-fPIC", "-I", str(top / "clients/c"), "-c", "shims.c", "-o", "shims.o"], room)
+    call(["ar", "rcs", "unproved.a", "library.o", "shims.o"], room)
+    return room / "unproved.a"
+
+
+def build(top: Path, prefix: Path) -> None:
+    """Builds the library without its proofs, and puts it under a folder."""
+    with tempfile.TemporaryDirectory(prefix="nvmesim-unproved-") as place:
+        room = Path(place)
+        try:
+            kit = unproved.Kit(top)
+            kit.is_free.set()
+            for name, folder in copies(top, room).items():
+                kit.crates[name].folder = str(folder)
+            unproved.kept_module(kit, CRATE, room)
+        except (unproved.NotBuilt, unproved.toolchain.NoToolchain) as error:
+            raise NotBuilt(str(error)) from error
+        put(top, compiled(kit, room, top), prefix)
