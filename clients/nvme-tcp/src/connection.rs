@@ -1,0 +1,348 @@
+//! A connection: bytes become PDUs, PDUs become commands, and their answers go back.
+
+use crate::answer::{Answer, Payload};
+use crate::association::{HostQueue, Session};
+use crate::bytes::{put, u16_at};
+use crate::controller::{Data, ENTRY};
+use crate::fabrics;
+use crate::fault::{Fault, Outcome};
+use crate::pdu::{self, Agreed, Fatal, Layout, COMMON};
+use crate::pointer::Pointer;
+use crate::status::{Status, COMMAND_ID_CONFLICT, COMMAND_SEQUENCE, SUCCESS, TRANSIENT_TRANSPORT};
+use crate::target::Target;
+use crate::transfers::{Part, Transfers};
+use std::io::{self, Read, Write};
+use std::mem;
+use std::net::{Shutdown, TcpStream};
+use std::time::{Duration, Instant};
+
+/// How long a connection may take until its Connect has succeeded.
+const BEFORE_CONNECT: Duration = Duration::from_secs(5);
+/// How long a discovery controller waits for a command.
+const DISCOVERY_IDLE: Duration = Duration::from_secs(120);
+/// How long a connection that has ended waits for its host to close it.
+const BEFORE_CLOSE: Duration = Duration::from_secs(1);
+/// The room for what is received and not taken yet: the longest PDU, and short ones beside it.
+const INPUT: usize = pdu::MOST + (64 << 10);
+/// With so many bytes that the host has not taken, nothing more of it is carried out.
+const OUTPUT_FULL: usize = 1 << 20;
+
+/// How far a connection is.
+#[derive(Clone, Copy, Debug, PartialEq, Eq)]
+enum Phase {
+    /// It waits for ICReq.
+    Begun,
+    Open,
+    /// It says what is to be said, and hears nothing more.
+    Ending,
+}
+
+/// Why no PDU is taken.
+enum Stop {
+    /// The host has broken the transport's rules: the connection ends.
+    Fatal(Fatal),
+    /// The target ends.
+    Fault(Fault),
+}
+
+impl From<Fatal> for Stop {
+    fn from(fatal: Fatal) -> Self {
+        Stop::Fatal(fatal)
+    }
+}
+
+impl From<Fault> for Stop {
+    fn from(fault: Fault) -> Self {
+        Stop::Fault(fault)
+    }
+}
+
+/// A connection of a host.
+pub struct Connection {
+    pub socket: TcpStream,
+    pub queue: HostQueue,
+    phase: Phase,
+    agreed: Agreed,
+    transfers: Transfers,
+    /// What was received, and which part of it was not taken yet.
+    input: Vec<u8>,
+    begin: usize,
+    end: usize,
+    /// What is to be sent, and how much of it was.
+    output: Vec<u8>,
+    sent: usize,
+    /// Whether PDUs wait until the host has taken answers.
+    waits: bool,
+    /// When the connection is closed, unless something happens before.
+    deadline: Option<Instant>,
+    /// Whether it is gone.
+    pub is_closed: bool,
+}
+
+impl Connection {
+    pub fn new(socket: TcpStream, queue: HostQueue) -> Connection {
+        Connection {
+            socket,
+            queue,
+            phase: Phase::Begun,
+            agreed: Agreed::default(),
+            transfers: Transfers::default(),
+            input: vec![0; INPUT],
+            begin: 0,
+            end: 0,
+            output: Vec::new(),
+            sent: 0,
+            waits: false,
+            deadline: Some(Instant::now() + BEFORE_CONNECT),
+            is_closed: false,
+        }
+    }
+
+    /// Whether its Connect has not succeeded yet.
+    pub fn is_pending(&self) -> bool {
+        self.queue.session == Session::None
+    }
+
+    pub fn is_late(&self, now: Instant) -> bool {
+        self.deadline.map_or(false, |deadline| now > deadline)
+    }
+
+    /// Whether more is to be received, and whether there is something to send.
+    pub fn wants(&self) -> (bool, bool) {
+        (self.phase == Phase::Ending || !self.is_full(), self.sent < self.output.len())
+    }
+
+    /// Whether PDUs can be taken that had to wait.
+    pub fn has_more(&self) -> bool {
+        self.waits && !self.is_full() && !self.is_closed
+    }
+
+    fn is_full(&self) -> bool {
+        self.output.len() - self.sent >= OUTPUT_FULL
+    }
+
+    /// Receives what has come, and takes all PDUs that are whole.
+    pub fn receive(&mut self, target: &mut Target<'_>) -> Outcome<()> {
+        self.input.copy_within(self.begin..self.end, 0);
+        self.end -= self.begin;
+        self.begin = 0;
+        match self.socket.read(&mut self.input[self.end..]) {
+            Ok(0) => self.is_closed = true,
+            Ok(count) => self.end += count,
+            Err(error) if is_passing(&error) => (),
+            Err(_) => self.is_closed = true,
+        }
+        self.take_all(target)
+    }
+
+    /// Takes the PDUs that are whole, as long as there is room for their answers.
+    pub fn take_all(&mut self, target: &mut Target<'_>) -> Outcome<()> {
+        let input = mem::take(&mut self.input);
+        let mut result = Ok(());
+        while result.is_ok() && self.phase != Phase::Ending && !self.is_full() {
+            let bytes = &input[self.begin..self.end];
+            match self.take_one(target, bytes) {
+                Ok(0) => break,
+                Ok(length) => self.begin += length,
+                Err(Stop::Fatal(fatal)) => self.terminate(target, fatal, bytes),
+                Err(Stop::Fault(fault)) => result = Err(fault),
+            }
+        }
+        self.input = input;
+        self.waits = self.is_full();
+        if self.phase == Phase::Ending {
+            (self.begin, self.end) = (0, 0);
+        }
+        result
+    }
+
+    /// Takes the first PDU, if it is whole: its length, or 0.
+    fn take_one(&mut self, target: &mut Target<'_>, bytes: &[u8]) -> Result<usize, Stop> {
+        if bytes.len() < COMMON {
+            return Ok(0);
+        }
+        if (self.phase == Phase::Begun) != (bytes[0] == pdu::IC_REQUEST) {
+            return Err(pdu::OUT_OF_SEQUENCE.into());
+        }
+        let layout = Layout::of(bytes, self.agreed)?;
+        if bytes.len() < layout.length {
+            return Ok(0);
+        }
+        let unit = &bytes[..layout.length];
+        if !layout.has_right_header(unit) {
+            return Err(pdu::WRONG_HEADER_DIGEST.into());
+        }
+        match layout.kind {
+            pdu::IC_REQUEST => self.open(unit)?,
+            pdu::COMMAND_CAPSULE => self.capsule(target, &layout, unit)?,
+            pdu::HOST_DATA => self.host_data(target, &layout, unit)?,
+            _ => {
+                target.say(format_args!("a host ends its connection, with status {}", u16_at(unit, 8)));
+                self.is_closed = true;
+            }
+        }
+        Ok(layout.length)
+    }
+
+    fn open(&mut self, unit: &[u8]) -> Result<(), Fatal> {
+        self.agreed = Agreed::of(unit)?;
+        pdu::ic_response(&mut self.output, self.agreed);
+        self.phase = Phase::Open;
+        Ok(())
+    }
+
+    /// A command. It is carried out as soon as it has its data.
+    fn capsule(&mut self, target: &mut Target<'_>, layout: &Layout, unit: &[u8]) -> Result<(), Stop> {
+        let mut entry = [0; ENTRY];
+        entry.copy_from_slice(&unit[COMMON..COMMON + ENTRY]);
+        let cid = u16_at(&entry, 2);
+        self.queue.advance();
+        if self.transfers.count() >= usize::from(self.queue.entries) {
+            return Err(pdu::OUT_OF_SEQUENCE.into());
+        }
+        if let Some(status) = self.refusal(target, &entry, layout, unit) {
+            return Ok(self.answer(target, cid, Answer::of(status))?);
+        }
+        let data = layout.data_in(unit);
+        match Pointer::of(&entry, data.len()) {
+            Err(status) => self.answer(target, cid, Answer::of(status))?,
+            Ok(Pointer::OnRequest(_)) if self.is_pending() => {
+                self.answer(target, cid, Answer::of(COMMAND_SEQUENCE))?;
+            }
+            Ok(Pointer::OnRequest(length)) => {
+                self.transfers.begin(entry, length);
+                self.request_data();
+            }
+            Ok(Pointer::InCapsule(range)) => self.carry_out(target, &entry, Data::ToController(&data[range]))?,
+            Ok(Pointer::FromController(length)) => self.carry_out(target, &entry, Data::FromController(length))?,
+        }
+        Ok(())
+    }
+
+    /// Why a command is not looked at, if it is not.
+    fn refusal(&self, target: &Target<'_>, entry: &[u8; ENTRY], layout: &Layout, unit: &[u8]) -> Option<Status> {
+        let cid = u16_at(entry, 2);
+        let waits = match self.queue.session {
+            Session::None if !fabrics::is_connect(entry) => return Some(COMMAND_SEQUENCE),
+            Session::Controller { index, qid: 0 } => target.waits(index, cid),
+            _ => false,
+        };
+        if !layout.has_right_data(unit) {
+            Some(TRANSIENT_TRANSPORT)
+        } else if waits || self.transfers.has(cid) {
+            Some(COMMAND_ID_CONFLICT)
+        } else {
+            None
+        }
+    }
+
+    /// Asks for data of commands that wait for them.
+    fn request_data(&mut self) {
+        while let Some(it) = self.transfers.next_request() {
+            pdu::ready_to_transfer(&mut self.output, self.agreed, it.cid, it.tag, it.length);
+        }
+    }
+
+    fn host_data(&mut self, target: &mut Target<'_>, layout: &Layout, unit: &[u8]) -> Result<(), Stop> {
+        let (cid, tag, offset, length) = pdu::host_data_fields(unit);
+        let data = layout.data_in(unit);
+        if length != data.len() {
+            return Err(pdu::invalid_field(16).into());
+        }
+        let (is_last, is_sound) = (layout.flags & pdu::LAST != 0, layout.has_right_data(unit));
+        let part = Part { cid, tag, offset, is_last, is_sound, data };
+        if let Some(transfer) = self.transfers.take(&part)? {
+            if transfer.is_sound {
+                self.carry_out(target, &transfer.entry, Data::ToController(&transfer.data))?;
+            } else {
+                self.answer(target, cid, Answer::of(TRANSIENT_TRANSPORT))?;
+            }
+            self.transfers.end(transfer.data);
+            self.request_data();
+        }
+        Ok(())
+    }
+
+    fn carry_out(&mut self, target: &mut Target<'_>, entry: &[u8; ENTRY], data: Data<'_>) -> Outcome<()> {
+        let answer = target.carry_out(&mut self.queue, entry, data)?;
+        self.deadline = match self.queue.session {
+            Session::None => self.deadline,
+            Session::Discovery(_) => Some(Instant::now() + DISCOVERY_IDLE),
+            Session::Controller { .. } => None,
+        };
+        if let Some(answer) = answer {
+            self.answer(target, u16_at(entry, 2), answer)?;
+        }
+        if self.queue.is_over {
+            self.end();
+        }
+        Ok(())
+    }
+
+    /// Answers a command: its data, and then its completion.
+    pub fn answer(&mut self, target: &mut Target<'_>, cid: u16, answer: Answer) -> Outcome<()> {
+        if answer.status != SUCCESS {
+            target.say(format_args!("command {cid} has status {:x}:{:02x}", answer.status.sct, answer.status.sc));
+        }
+        let (out, agreed) = (&mut self.output, self.agreed);
+        match answer.data {
+            Payload::None => (),
+            Payload::Bytes(bytes) => pdu::controller_data::<Fault>(out, agreed, cid, bytes.len(), |room| {
+                room.copy_from_slice(&bytes);
+                Ok(())
+            })?,
+            Payload::Memory { cntlid, address, length } => {
+                pdu::controller_data(out, agreed, cid, length, |room| target.machine.load(cntlid, address, room))?;
+            }
+        }
+        let mut entry = [0; 16];
+        put(&mut entry, 0, &answer.dw0.to_le_bytes());
+        put(&mut entry, 4, &answer.dw1.to_le_bytes());
+        put(&mut entry, 8, &self.queue.sqhd().to_le_bytes());
+        put(&mut entry, 12, &cid.to_le_bytes());
+        put(&mut entry, 14, &answer.status.field().to_le_bytes());
+        pdu::response(&mut self.output, self.agreed, &entry);
+        Ok(())
+    }
+
+    /// Tells the host what it has done, and ends.
+    fn terminate(&mut self, target: &Target<'_>, fatal: Fatal, bytes: &[u8]) {
+        target.say(format_args!("a connection is ended: {fatal:?}"));
+        // What goes before it is answers to commands, which may be on their way in part.
+        pdu::termination(&mut self.output, fatal, &bytes[..bytes.len().min(pdu::IC)]);
+        self.end();
+    }
+
+    /// Sends what is to be sent, hears nothing more, and waits for a moment that the host closes the connection: if the
+    /// target did so while bytes of the host are on their way, what it has said last would be lost.
+    fn end(&mut self) {
+        self.phase = Phase::Ending;
+        self.deadline = Some(Instant::now() + BEFORE_CLOSE);
+    }
+
+    /// Sends as much as the system takes.
+    pub fn send(&mut self) {
+        while self.sent < self.output.len() && !self.is_closed {
+            match self.socket.write(&self.output[self.sent..]) {
+                Ok(count) => self.sent += count,
+                Err(error) if error.kind() == io::ErrorKind::Interrupted => (),
+                Err(error) if is_passing(&error) => {
+                    self.output.drain(..self.sent);
+                    self.sent = 0;
+                    return;
+                }
+                Err(_) => self.is_closed = true,
+            }
+        }
+        self.output.clear();
+        self.sent = 0;
+        if self.phase == Phase::Ending && self.socket.shutdown(Shutdown::Write).is_err() {
+            self.is_closed = true;
+        }
+    }
+}
+
+/// Whether an error of a socket says no more than that nothing can be done now.
+fn is_passing(error: &io::Error) -> bool {
+    matches!(error.kind(), io::ErrorKind::WouldBlock | io::ErrorKind::Interrupted)
+}

@@ -1,0 +1,289 @@
+//! A controller of the subsystem, whose host's memory the target keeps: the way of a command through its queues.
+
+use crate::bytes::{put, u16_at};
+use crate::fault::Outcome;
+use crate::machine::Machine;
+use crate::status::{Status, COMMAND_SEQUENCE, SUCCESS};
+use crate::window::{self, Room};
+use nvmesim::{Executed, Fetched};
+
+/// The size of a submission queue entry.
+pub const ENTRY: usize = 64;
+
+/// Offsets of registers.
+pub const CAP: u64 = 0x00;
+pub const VS: u64 = 0x08;
+pub const CC: u64 = 0x14;
+pub const CSTS: u64 = 0x1c;
+const AQA: u64 = 0x24;
+const ASQ: u64 = 0x28;
+const ACQ: u64 = 0x30;
+const DOORBELLS: u64 = 0x1000;
+/// CC.EN.
+pub const ENABLE: u32 = 1;
+
+/// Opcodes of admin commands that make and end queues.
+const DELETE_SUBMISSION: u8 = 0x00;
+const CREATE_SUBMISSION: u8 = 0x01;
+const DELETE_COMPLETION: u8 = 0x04;
+const CREATE_COMPLETION: u8 = 0x05;
+
+/// Where a command's data go.
+#[derive(Clone, Copy)]
+pub enum Data<'d> {
+    /// Nowhere: it has none, or keeps the data pointer that it has.
+    None,
+    /// These go to the controller.
+    ToController(&'d [u8]),
+    /// So many bytes come from it.
+    FromController(usize),
+}
+
+impl Data<'_> {
+    fn length(self) -> usize {
+        match self {
+            Data::None => 0,
+            Data::ToController(bytes) => bytes.len(),
+            Data::FromController(length) => length,
+        }
+    }
+}
+
+/// What became of a command. Its data are in the memory from `data` on until the next command is carried out.
+#[derive(Clone, Copy, Debug, PartialEq, Eq)]
+pub struct Completed {
+    pub status: Status,
+    pub dw0: u32,
+    pub data: u64,
+    /// Whether a rule denied it, so that it has changed nothing.
+    pub is_denied: bool,
+}
+
+impl Completed {
+    fn without_queue() -> Completed {
+        Completed { status: COMMAND_SEQUENCE, dw0: 0, data: 0, is_denied: true }
+    }
+}
+
+/// A pair of queues of one size.
+#[derive(Clone, Copy)]
+struct Pair {
+    size: u16,
+    tail: u16,
+    head: u16,
+}
+
+/// A controller, and the queues that it has.
+pub struct Controller {
+    pub cntlid: u16,
+    pub host: u128,
+    queues: [Option<Pair>; window::MOST_QUEUE as usize + 1],
+    /// The queues of the commands that were fetched and wait to be executed, in the order of their fetches.
+    held: Vec<u16>,
+    /// How many commands went through its queues.
+    pub commands: u64,
+}
+
+impl Controller {
+    pub fn new(cntlid: u16, host: u128) -> Controller {
+        Controller { cntlid, host, queues: [None; 5], held: Vec::new(), commands: 0 }
+    }
+
+    pub fn has_queue(&self, qid: u16) -> bool {
+        matches!(self.queues.get(usize::from(qid)), Some(Some(_)))
+    }
+
+    /// How many commands are held.
+    pub fn held(&self) -> usize {
+        self.held.len()
+    }
+
+    /// What is forgotten when the controller is reset or power is lost: queues, and what was fetched.
+    pub fn forget(&mut self) {
+        self.queues = [None; 5];
+        self.held.clear();
+    }
+
+    /// The controller is reset: CC is 0.
+    pub fn reset(&mut self, machine: &mut Machine<'_>) -> Outcome<()> {
+        self.forget();
+        machine.write32(self.cntlid, CC, 0)
+    }
+
+    /// CC is written. Before CC.EN is set, the admin queues of so many entries get their places.
+    pub fn configure(&mut self, machine: &mut Machine<'_>, value: u32, admin_entries: u16) -> Outcome<()> {
+        if value & ENABLE == 0 {
+            self.forget();
+        } else if !self.has_queue(0) {
+            self.place_admin_queues(machine, admin_entries)?;
+            self.queues[0] = Some(Pair { size: admin_entries, tail: 0, head: 0 });
+        }
+        machine.write32(self.cntlid, CC, value)
+    }
+
+    /// What a host with a bus does before it sets CC.EN, and the PRP list.
+    fn place_admin_queues(&self, machine: &mut Machine<'_>, entries: u16) -> Outcome<()> {
+        let last = u32::from(entries) - 1;
+        let (submission, completion) = (window::submission_queue(0), window::completion_queue(0));
+        for (offset, value) in [(AQA, last << 16 | last), (ASQ, submission as u32), (ASQ + 4, 0)] {
+            machine.write32(self.cntlid, offset, value)?;
+        }
+        machine.write32(self.cntlid, ACQ, completion as u32)?;
+        machine.write32(self.cntlid, ACQ + 4, 0)?;
+        machine.store(self.cntlid, completion, &[0; window::PAGE as usize])?;
+        let (list, pages) = window::prp_list();
+        machine.store(self.cntlid, list, &pages)
+    }
+
+    /// Create I/O Completion Queue and Create I/O Submission Queue, by the admin queue: the first status that is not
+    /// success, or success.
+    pub fn create_queues(&mut self, machine: &mut Machine<'_>, qid: u16, entries: u16) -> Outcome<Status> {
+        let place = qid.min(window::MOST_QUEUE + 1);
+        let size = (u32::from(entries) - 1) << 16 | u32::from(qid);
+        machine.store(self.cntlid, window::completion_queue(place), &[0; window::PAGE as usize])?;
+        let completion = own_entry(CREATE_COMPLETION, window::completion_queue(place), size, 1);
+        let made = self.run(machine, 0, &completion, Data::None)?.status;
+        if made != SUCCESS {
+            return Ok(made);
+        }
+        let link = u32::from(qid) << 16 | 1;
+        let submission = own_entry(CREATE_SUBMISSION, window::submission_queue(place), size, link);
+        let made = self.run(machine, 0, &submission, Data::None)?.status;
+        if made == SUCCESS {
+            self.queues[usize::from(qid)] = Some(Pair { size: entries, tail: 0, head: 0 });
+        }
+        Ok(made)
+    }
+
+    /// Delete I/O Submission Queue and Delete I/O Completion Queue: what was fetched from it is dropped.
+    pub fn delete_queues(&mut self, machine: &mut Machine<'_>, qid: u16) -> Outcome<()> {
+        if !self.has_queue(qid) || !self.has_queue(0) {
+            return Ok(());
+        }
+        self.queues[usize::from(qid)] = None;
+        self.held.retain(|queue| *queue != qid);
+        for opcode in [DELETE_SUBMISSION, DELETE_COMPLETION] {
+            self.run(machine, 0, &own_entry(opcode, 0, u32::from(qid), 0), Data::None)?;
+        }
+        Ok(())
+    }
+
+    /// Has a command carried out: stores it, rings, has it fetched and executed, and takes its completion.
+    pub fn run(
+        &mut self,
+        machine: &mut Machine<'_>,
+        qid: u16,
+        entry: &[u8; ENTRY],
+        data: Data<'_>,
+    ) -> Outcome<Completed> {
+        if !self.submit(machine, qid, entry, data, Room::AT_ONCE)? {
+            return Ok(Completed::without_queue());
+        }
+        let at = self.held.len();
+        self.execute(machine, qid, at, Room::AT_ONCE.start(data.length()))
+    }
+
+    /// Has a command fetched, and not executed; whether it was.
+    pub fn hold(
+        &mut self,
+        machine: &mut Machine<'_>,
+        qid: u16,
+        entry: &[u8; ENTRY],
+        data: Data<'_>,
+        room: Room,
+    ) -> Outcome<bool> {
+        let is_fetched = self.submit(machine, qid, entry, data, room)?;
+        if is_fetched {
+            self.held.push(qid);
+        }
+        Ok(is_fetched)
+    }
+
+    /// Has the first of the commands that are held executed, whose data lie at this place.
+    pub fn release(&mut self, machine: &mut Machine<'_>, data: u64) -> Outcome<Completed> {
+        let qid = self.held.remove(0);
+        self.execute(machine, qid, 0, data)
+    }
+
+    /// Stores a command and its data, rings, and has it fetched; whether it was.
+    fn submit(
+        &mut self,
+        machine: &mut Machine<'_>,
+        qid: u16,
+        entry: &[u8; ENTRY],
+        data: Data<'_>,
+        room: Room,
+    ) -> Outcome<bool> {
+        let mut pair = match self.queues.get(usize::from(qid)) {
+            Some(Some(pair)) => *pair,
+            _ => return Ok(false),
+        };
+        let c = self.cntlid;
+        let place = window::submission_queue(qid) + ENTRY as u64 * u64::from(pair.tail);
+        pair.tail = (pair.tail + 1) % pair.size;
+        machine.store(c, place, &placed(entry, data, room))?;
+        match data {
+            Data::ToController(bytes) if !bytes.is_empty() => machine.store(c, room.start(bytes.len()), bytes)?,
+            Data::FromController(length) if !fills(entry, qid, length) => {
+                machine.store(c, room.start(length), &vec![0; length])?;
+            }
+            _ => (),
+        }
+        machine.write32(c, doorbell(qid), u32::from(pair.tail))?;
+        let is_fetched = machine.fetch(c, qid)? == Fetched::Took;
+        // A controller that was shut down fetches nothing more until it is reset.
+        self.queues[usize::from(qid)] = if is_fetched { Some(pair) } else { None };
+        Ok(is_fetched)
+    }
+
+    /// Has the i-th of the commands that were fetched executed, and takes its completion.
+    fn execute(&mut self, machine: &mut Machine<'_>, qid: u16, i: usize, data: u64) -> Outcome<Completed> {
+        self.commands += 1;
+        let posted = match machine.execute(self.cntlid, i)? {
+            Executed::Posted(completion) => completion,
+            Executed::NoSuch | Executed::CqFull => return Ok(Completed::without_queue()),
+        };
+        if let Some(pair) = &mut self.queues[usize::from(qid)] {
+            pair.head = (pair.head + 1) % pair.size;
+            machine.write32(self.cntlid, doorbell(qid) + 4, u32::from(pair.head))?;
+        }
+        let status = Status { sct: posted.sct, sc: posted.sc };
+        Ok(Completed { status, dw0: posted.dw0, data, is_denied: posted.denied_by.is_some() })
+    }
+}
+
+/// The tail doorbell of a queue; the head doorbell stands 4 behind it.
+fn doorbell(qid: u16) -> u64 {
+    DOORBELLS + 8 * u64::from(qid)
+}
+
+/// An entry as it goes to the subsystem: PRPs in the place of an SGL, PSDT 0.
+fn placed(entry: &[u8; ENTRY], data: Data<'_>, room: Room) -> [u8; ENTRY] {
+    let mut placed = *entry;
+    placed[1] &= 0x3f;
+    if !matches!(data, Data::None) {
+        let (first, second) = room.pointers(data.length());
+        put(&mut placed, 24, &first.to_le_bytes());
+        put(&mut placed, 32, &second.to_le_bytes());
+    }
+    placed
+}
+
+/// Whether a command, where it succeeds, writes all of these bytes: a Read of just so many blocks. Elsewhere zeros
+/// stand there before it, so that its host gets nothing of commands before.
+fn fills(entry: &[u8; ENTRY], qid: u16, length: usize) -> bool {
+    const READ: u8 = 0x02;
+    qid != 0 && entry[0] == READ && length == 512 * (usize::from(u16_at(entry, 48)) + 1)
+}
+
+/// An entry of the target's own.
+fn own_entry(opcode: u8, place: u64, dw10: u32, dw11: u32) -> [u8; ENTRY] {
+    let mut entry = [0; ENTRY];
+    entry[0] = opcode;
+    // No command of a host has this identifier at the same time: each of these runs to its end.
+    put(&mut entry, 2, &[0xfe, 0xff]);
+    put(&mut entry, 24, &place.to_le_bytes());
+    put(&mut entry, 40, &dw10.to_le_bytes());
+    put(&mut entry, 44, &dw11.to_le_bytes());
+    entry
+}

@@ -1,0 +1,66 @@
+//! CRC32C, the digest of NVMe/TCP, eight bytes at a time.
+
+/// What each byte adds, with 0 to 7 bytes behind it.
+static TABLES: [[u32; 256]; 8] = tables();
+
+const fn tables() -> [[u32; 256]; 8] {
+    let mut tables = [[0; 256]; 8];
+    let mut n = 0;
+    while n < 256 {
+        let mut value = n as u32;
+        let mut bit = 0;
+        while bit < 8 {
+            value = if value & 1 == 1 { value >> 1 ^ 0x82f6_3b78 } else { value >> 1 };
+            bit += 1;
+        }
+        tables[0][n] = value;
+        n += 1;
+    }
+    shifted(tables)
+}
+
+const fn shifted(mut tables: [[u32; 256]; 8]) -> [[u32; 256]; 8] {
+    let mut at = 256;
+    while at < 8 * 256 {
+        let before = tables[at / 256 - 1][at % 256];
+        tables[at / 256][at % 256] = before >> 8 ^ tables[0][(before & 255) as usize];
+        at += 1;
+    }
+    tables
+}
+
+/// The CRC32C of bytes.
+pub fn crc32c(bytes: &[u8]) -> u32 {
+    let mut value = !0;
+    let mut parts = bytes.chunks_exact(8);
+    for part in &mut parts {
+        let low = value ^ u32::from_le_bytes([part[0], part[1], part[2], part[3]]);
+        value = TABLES[7][(low & 255) as usize]
+            ^ TABLES[6][(low >> 8 & 255) as usize]
+            ^ TABLES[5][(low >> 16 & 255) as usize]
+            ^ TABLES[4][(low >> 24) as usize]
+            ^ TABLES[3][usize::from(part[4])]
+            ^ TABLES[2][usize::from(part[5])]
+            ^ TABLES[1][usize::from(part[6])]
+            ^ TABLES[0][usize::from(part[7])];
+    }
+    for byte in parts.remainder() {
+        value = value >> 8 ^ TABLES[0][((value ^ u32::from(*byte)) & 255) as usize];
+    }
+    !value
+}
+
+#[cfg(test)]
+mod tests {
+    use super::crc32c;
+
+    #[test]
+    fn values_of_rfc_3720() {
+        assert_eq!(crc32c(b""), 0);
+        assert_eq!(crc32c(b"123456789"), 0xe306_9283);
+        assert_eq!(crc32c(&[0; 32]), 0x8a91_36aa);
+        assert_eq!(crc32c(&[0xff; 32]), 0x62a8_ab43);
+        let rising: Vec<u8> = (0..32).collect();
+        assert_eq!(crc32c(&rising), 0x46dd_794e);
+    }
+}

@@ -1,0 +1,121 @@
+//! Discovery controllers, which tell hosts where the subsystem is. None of them is a controller of the subsystem.
+
+use crate::answer::Answer;
+use crate::association::{ConnectionId, HostQueue};
+use crate::bytes::{put, u16_at, u32_at, u64_at};
+use crate::controller::{Data, CAP, CC, CSTS, ENABLE, ENTRY, VS};
+use crate::identify;
+use crate::status::{COMMAND_SEQUENCE, INVALID_FIELD, INVALID_LOG_PAGE, INVALID_OPCODE, SUCCESS};
+use crate::target::{Target, GET_LOG_PAGE, IDENTIFY, KEEP_ALIVE};
+use crate::window::MOST_ENTRIES;
+use std::net::SocketAddr;
+
+/// The name of every discovery subsystem.
+pub const NAME: &str = "nqn.2014-08.org.nvmexpress.discovery";
+/// The discovery log page, and the size of its head and of each entry.
+const LOG_PAGE: u8 = 0x70;
+const ENTRY_BYTES: usize = 1024;
+/// CC.SHN, and CSTS.SHST of a controller that is shut down.
+const SHUTDOWN: u32 = 3 << 14;
+const SHUT_DOWN: u64 = 2 << 2;
+
+/// The state of a discovery controller: its identifier, and its CC.
+#[derive(Clone, Copy, Debug, PartialEq, Eq)]
+pub struct Discovery {
+    pub cntlid: u16,
+    configuration: u32,
+}
+
+impl Discovery {
+    /// The discovery controller of a connection. Its identifier is its own among those that are there.
+    pub fn of(connection: ConnectionId) -> Discovery {
+        const IDENTIFIERS: u64 = 0xffef;
+        Discovery { cntlid: (connection % IDENTIFIERS) as u16 + 1, configuration: 0 }
+    }
+
+    pub fn configure(&mut self, value: u32) {
+        self.configuration = value;
+    }
+
+    fn is_ready(self) -> bool {
+        self.configuration & ENABLE != 0
+    }
+
+    /// The value of a property, where it has one of this size.
+    pub fn property(self, offset: u64, size: usize) -> Option<u64> {
+        match (offset, size) {
+            // MQES, CQR, TO: ten seconds, CSS: the NVM command set.
+            (CAP, 8) => Some(u64::from(MOST_ENTRIES - 1) | 1 << 16 | 20 << 24 | 1 << 37),
+            (VS, 4) => Some(0x0002_0000),
+            (CC, 4) => Some(self.configuration.into()),
+            (CSTS, 4) if self.configuration & SHUTDOWN != 0 => Some(u64::from(self.is_ready()) | SHUT_DOWN),
+            (CSTS, 4) => Some(self.is_ready().into()),
+            _ => None,
+        }
+    }
+}
+
+impl Target<'_> {
+    /// Carries out a command of a discovery controller.
+    pub fn discover(&mut self, queue: &HostQueue, discovery: Discovery, entry: &[u8; ENTRY], data: Data<'_>) -> Answer {
+        let length = match data {
+            Data::FromController(length) => length,
+            _ => 0,
+        };
+        if !discovery.is_ready() {
+            return Answer::of(COMMAND_SEQUENCE);
+        }
+        match entry[0] {
+            KEEP_ALIVE => Answer::of(SUCCESS),
+            IDENTIFY if entry[40] == identify::CONTROLLER => {
+                Answer::with(identify::discovery(discovery.cntlid, NAME), length)
+            }
+            IDENTIFY => Answer::of(INVALID_FIELD),
+            GET_LOG_PAGE if entry[40] == LOG_PAGE => log_page(&self.log(queue), entry, length),
+            GET_LOG_PAGE => Answer::of(INVALID_LOG_PAGE),
+            _ => Answer::of(INVALID_OPCODE),
+        }
+    }
+
+    /// The discovery log page: one entry, the subsystem.
+    fn log(&self, queue: &HostQueue) -> Vec<u8> {
+        let mut page = vec![0; 2 * ENTRY_BYTES];
+        // GENCTR, NUMREC.
+        put(&mut page, 0, &1u64.to_le_bytes());
+        put(&mut page, 8, &1u64.to_le_bytes());
+        let address = self.settings.advertised.unwrap_or(queue.local);
+        fill(&mut page[ENTRY_BYTES..], address, &self.settings.name);
+        page
+    }
+}
+
+/// Fills an entry: where a subsystem of this name is.
+fn fill(entry: &mut [u8], address: SocketAddr, name: &str) {
+    const TCP: u8 = 3;
+    const NVM_SUBSYSTEM: u8 = 2;
+    // TREQ: security not specified, and hosts may do without flow control.
+    const TREQ: u8 = 1 << 2;
+    let family = if address.is_ipv4() { 1 } else { 2 };
+    put(entry, 0, &[TCP, family, NVM_SUBSYSTEM, TREQ]);
+    // PORTID, CNTLID: any, ASQSZ.
+    put(entry, 4, &1u16.to_le_bytes());
+    put(entry, 6, &0xffffu16.to_le_bytes());
+    put(entry, 8, &32u16.to_le_bytes());
+    entry[32..64].fill(b' ');
+    put(entry, 32, address.port().to_string().as_bytes());
+    put(entry, 256, name.as_bytes());
+    entry[512..768].fill(b' ');
+    put(entry, 512, address.ip().to_string().as_bytes());
+}
+
+/// The part of a log page that Get Log Page asks for.
+fn log_page(page: &[u8], entry: &[u8; ENTRY], length: usize) -> Answer {
+    let asked = (u64::from(u16_at(entry, 42)) | u64::from(u32_at(entry, 44) & 0xffff) << 16) * 4 + 4;
+    let offset = u64_at(entry, 48);
+    if offset % 4 != 0 || offset > page.len() as u64 {
+        return Answer::of(INVALID_FIELD);
+    }
+    let rest = &page[offset as usize..];
+    let count = rest.len().min(asked.min(length as u64) as usize);
+    Answer::with(rest[..count].to_vec(), length)
+}

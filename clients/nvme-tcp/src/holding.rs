@@ -1,0 +1,67 @@
+//! Commands that are held between their fetch and their execution, so that a race can be set up.
+
+use crate::answer::Answer;
+use crate::association::ConnectionId;
+use crate::bytes::u16_at;
+use crate::controller::{Data, ENTRY};
+use crate::fault::Outcome;
+use crate::status::SUCCESS;
+use crate::target::{Effect, Target};
+use crate::window::{Room, MOST_HELD, MOST_HELD_DATA};
+
+/// A command that was fetched and waits to be executed.
+pub struct Held {
+    connection: ConnectionId,
+    pub qid: u16,
+    entry: [u8; ENTRY],
+    /// The data that it has, or how many bytes come from the controller; and where they lie.
+    data: Vec<u8>,
+    length: usize,
+    place: u64,
+}
+
+impl Target<'_> {
+    /// Holds a command behind its fetch; whether it does. Only a few with little data have room.
+    pub fn hold(
+        &mut self,
+        connection: ConnectionId,
+        index: usize,
+        qid: u16,
+        entry: &[u8; ENTRY],
+        data: Data<'_>,
+    ) -> Outcome<bool> {
+        let (length, bytes) = match data {
+            Data::FromController(length) => (length, &[][..]),
+            Data::ToController(bytes) => (0, bytes),
+            Data::None => (0, &[][..]),
+        };
+        let size = length.max(bytes.len());
+        let count = self.held[index].len();
+        if size > MOST_HELD_DATA || count == MOST_HELD {
+            return Ok(false);
+        }
+        let room = Room::held(count);
+        let is_held = self.controllers[index].hold(&mut self.machine, qid, entry, data, room)?;
+        if is_held {
+            let held = Held { connection, qid, entry: *entry, data: bytes.to_vec(), length, place: room.start(size) };
+            self.held[index].push_back(held);
+        }
+        Ok(is_held)
+    }
+
+    /// Has the commands of a controller executed that are held, in the order of their fetches.
+    pub fn release(&mut self, index: usize) -> Outcome<()> {
+        self.holds[index] = false;
+        while let Some(held) = self.held[index].pop_front() {
+            let completed = self.controllers[index].release(&mut self.machine, held.place)?;
+            if !completed.is_denied {
+                let is_done = completed.status == SUCCESS;
+                self.follow(index, held.qid, &held.entry, Data::ToController(&held.data), is_done)?;
+            }
+            let cntlid = self.controllers[index].cntlid;
+            let answer = self.kept(Answer::completed(completed, cntlid, held.length))?;
+            self.effects.push_back(Effect::Answer(held.connection, u16_at(&held.entry, 2), answer));
+        }
+        Ok(())
+    }
+}

@@ -1,0 +1,76 @@
+//! The subsystem, event by event: each is a call of the library, and a line of the script where one is kept.
+
+use crate::fault::Outcome;
+use crate::script::Script;
+use nvmesim::{Executed, Fetched, Subsystem};
+
+/// The subsystem of this process.
+pub struct Machine<'a> {
+    subsystem: Subsystem<'a>,
+    script: Option<Script>,
+}
+
+impl<'a> Machine<'a> {
+    pub fn new(subsystem: Subsystem<'a>, script: Option<Script>) -> Self {
+        Machine { subsystem, script }
+    }
+
+    pub fn store(&mut self, cntlid: u16, address: u64, bytes: &[u8]) -> Outcome<()> {
+        self.subsystem.store(cntlid, address, bytes)?;
+        if let Some(script) = &mut self.script {
+            script.stored(cntlid, address, bytes);
+        }
+        Ok(())
+    }
+
+    pub fn write32(&mut self, cntlid: u16, offset: u64, value: u32) -> Outcome<()> {
+        self.subsystem.write32(cntlid, offset, value)?;
+        if let Some(script) = &mut self.script {
+            script.wrote(cntlid, offset, value);
+        }
+        Ok(())
+    }
+
+    pub fn fetch(&mut self, cntlid: u16, qid: u16) -> Outcome<Fetched> {
+        let fetched = self.subsystem.fetch(cntlid, qid)?;
+        if let Some(script) = &mut self.script {
+            script.fetched(cntlid, qid, fetched);
+        }
+        Ok(fetched)
+    }
+
+    pub fn execute(&mut self, cntlid: u16, i: usize) -> Outcome<Executed> {
+        let executed = self.subsystem.execute(cntlid, i)?;
+        if let Some(script) = &mut self.script {
+            script.executed(cntlid, i, executed);
+        }
+        Ok(executed)
+    }
+
+    pub fn power_cycle(&mut self) {
+        self.subsystem.power_cycle();
+        if let Some(script) = &mut self.script {
+            script.cycled();
+        }
+    }
+
+    /// Reads a register. That changes nothing, so no script has it.
+    pub fn read32(&mut self, cntlid: u16, offset: u64) -> Outcome<u32> {
+        Ok(self.subsystem.read32(cntlid, offset)?)
+    }
+
+    /// Looks at the memory of a controller's host.
+    pub fn load(&mut self, cntlid: u16, address: u64, bytes: &mut [u8]) -> Outcome<()> {
+        Ok(self.subsystem.load(cntlid, address, bytes)?)
+    }
+
+    /// Looks at blocks of a namespace; whether they are there.
+    pub fn read_blocks(&mut self, nsid: u32, slba: u64, bytes: &mut [u8]) -> bool {
+        self.subsystem.read_blocks(nsid, slba, bytes).is_ok()
+    }
+
+    /// Hands the lines that are kept to the system.
+    pub fn flush_script(&mut self) -> Outcome<()> {
+        self.script.as_mut().map_or(Ok(()), Script::flush)
+    }
+}

@@ -1,0 +1,108 @@
+//! The system's poll, epoll(7): one of the two files where something is unsafe. The other is that of the library's
+//! calls, clients/rust/src/raw.rs.
+//!
+//! What makes it safe: `Event` is laid out as the kernel's `struct epoll_event` on x86-64, which is packed; the arrays
+//! that the calls are given are as long as they are told; and a descriptor that a call has returned is owned by nobody
+//! else.
+
+use std::io;
+use std::os::unix::io::{AsRawFd, FromRawFd, OwnedFd, RawFd};
+
+/// What a descriptor is waited for.
+#[derive(Clone, Copy, Debug, PartialEq, Eq)]
+pub struct Interest {
+    pub read: bool,
+    pub write: bool,
+}
+
+/// A descriptor on which something can be done. What is neither of these two is that it can be written.
+#[derive(Clone, Copy, Debug)]
+pub struct Ready {
+    pub name: u64,
+    pub read: bool,
+    /// The other side is gone.
+    pub is_over: bool,
+}
+
+#[repr(C, packed)]
+#[derive(Clone, Copy)]
+struct Event {
+    events: u32,
+    name: u64,
+}
+
+const ADD: i32 = 1;
+const DELETE: i32 = 2;
+const CHANGE: i32 = 3;
+const CLOSE_ON_EXEC: i32 = 0o2_000_000;
+const READ: u32 = 0x001;
+const WRITE: u32 = 0x004;
+const FAULT: u32 = 0x008;
+const HANG_UP: u32 = 0x010;
+/// How many events one call gives.
+const MOST: usize = 64;
+
+extern "C" {
+    fn epoll_create1(flags: i32) -> i32;
+    fn epoll_ctl(poll: i32, what: i32, descriptor: i32, event: *mut Event) -> i32;
+    fn epoll_wait(poll: i32, events: *mut Event, most: i32, milliseconds: i32) -> i32;
+}
+
+/// The descriptors that are waited for.
+pub struct Poll {
+    descriptor: OwnedFd,
+    events: [Event; MOST],
+}
+
+impl Poll {
+    pub fn new() -> io::Result<Poll> {
+        let number = unsafe { epoll_create1(CLOSE_ON_EXEC) };
+        if number < 0 {
+            return Err(io::Error::last_os_error());
+        }
+        let descriptor = unsafe { OwnedFd::from_raw_fd(number) };
+        Ok(Poll { descriptor, events: [Event { events: 0, name: 0 }; MOST] })
+    }
+
+    /// Waits for a descriptor too, under a name.
+    pub fn add(&self, descriptor: &impl AsRawFd, name: u64, interest: Interest) -> io::Result<()> {
+        self.control(ADD, descriptor.as_raw_fd(), name, interest)
+    }
+
+    /// Waits for something else of a descriptor.
+    pub fn change(&self, descriptor: &impl AsRawFd, name: u64, interest: Interest) -> io::Result<()> {
+        self.control(CHANGE, descriptor.as_raw_fd(), name, interest)
+    }
+
+    /// Waits for a descriptor no more.
+    pub fn remove(&self, descriptor: &impl AsRawFd) -> io::Result<()> {
+        self.control(DELETE, descriptor.as_raw_fd(), 0, Interest { read: false, write: false })
+    }
+
+    fn control(&self, what: i32, descriptor: RawFd, name: u64, interest: Interest) -> io::Result<()> {
+        let events = if interest.read { READ } else { 0 } | if interest.write { WRITE } else { 0 };
+        let mut event = Event { events, name };
+        match unsafe { epoll_ctl(self.descriptor.as_raw_fd(), what, descriptor, &mut event) } {
+            0 => Ok(()),
+            _ => Err(io::Error::last_os_error()),
+        }
+    }
+
+    /// Waits until something can be done, or so long: puts that in the place of what stands in `ready`. A signal ends
+    /// the wait too.
+    pub fn wait(&mut self, milliseconds: i32, ready: &mut Vec<Ready>) -> io::Result<()> {
+        ready.clear();
+        let poll = self.descriptor.as_raw_fd();
+        let count = unsafe { epoll_wait(poll, self.events.as_mut_ptr(), MOST as i32, milliseconds) };
+        if count < 0 {
+            let error = io::Error::last_os_error();
+            return if error.kind() == io::ErrorKind::Interrupted { Ok(()) } else { Err(error) };
+        }
+        ready.extend(self.events[..count as usize].iter().map(|event| {
+            let Event { events, name } = *event;
+            let is_over = events & (FAULT | HANG_UP) != 0;
+            Ready { name, read: events & READ != 0, is_over }
+        }));
+        Ok(())
+    }
+}

@@ -1,0 +1,237 @@
+"""An image: it follows the commands, also where the target is killed at any moment; and the script of a run."""
+import os
+import random
+import struct
+import subprocess
+import tempfile
+import threading
+import time
+import unittest
+from pathlib import Path
+
+from tests.host import BLOCK, Ended, Host
+from tests.targets import BLOCKS, LIVE, SIM, TWO_HOSTS, Target, TargetTest
+
+FORCE_UNIT_ACCESS = 1 << 30
+
+
+class Images(TargetTest):
+    image = BLOCKS
+
+    def test_it_follows(self) -> None:
+        rng, host = random.Random(4), self.host()
+        for _ in range(40):
+            blocks = rng.randint(1, 256)
+            slba = rng.randint(0, BLOCKS - blocks)
+            if rng.random() < 0.2:
+                host.queues[0].call(0x08, 1, struct.pack("<QI", slba, blocks - 1))
+            else:
+                host.write(slba, rng.randbytes(BLOCK * blocks))
+            self.assertEqual(self.target.image.read_bytes()[BLOCK * slba:BLOCK * (slba + blocks)],
+                             host.read(slba, blocks).data)
+
+    def test_what_is_denied_writes_nothing(self) -> None:
+        a, b = self.host(), self.host(0xb2)
+        a.register(0, 0xa), a.acquire(0xa)
+        before = os.stat(self.target.image).st_mtime_ns
+        time.sleep(0.02)
+        self.assertEqual(b.write(0, b"\1" * 512), 0x4083)
+        self.assertEqual(os.stat(self.target.image).st_mtime_ns, before)
+
+    def test_hosts_are_told_to_flush(self) -> None:
+        host = self.host()
+        self.assertEqual(host.identify(1).data[525], 5)
+        self.assertEqual(host.flush(), 0)
+        self.assertEqual(host.write(0, bytes(512), flags=FORCE_UNIT_ACCESS), 0)
+
+    def test_several_namespaces(self) -> None:
+        config = TWO_HOSTS + "namespace 3 blocks 8 private\nattached 1 3\n"
+        with tempfile.TemporaryDirectory() as room:
+            target = Target(Path(room), config, BLOCKS + 8)
+            host = Host(target.port, 0xa1)
+            self.assertEqual(host.write(7, b"\3" * BLOCK, nsid=3), 0)
+            self.assertEqual(target.image.read_bytes(), bytes(BLOCK * (BLOCKS + 7)) + b"\3" * BLOCK)
+            host.close()
+            target.close()
+
+    def test_what_is_refused(self) -> None:
+        for what, config, status in (("too short", TWO_HOSTS.replace("2048", "2049"), 2),
+                                     ("no controller", "namespace 1 blocks 4 shared\n", 1),
+                                     ("a wrong identifier", "controller 2 host 0xa1\n", 1),
+                                     ("not understood", "controller\n", 1)):
+            (self.folder / "wrong.nvme").write_text(config)
+            words = [self.target.process.args[0], "--listen", "127.0.0.1:0", "--image", str(self.target.image),
+                     str(self.folder / "wrong.nvme")]
+            ran = subprocess.run(words, stdout=subprocess.PIPE, stderr=subprocess.PIPE, text=True, timeout=10)
+            self.assertEqual((ran.returncode, ran.stdout), (status, ""), what)
+            self.assertTrue(ran.stderr.startswith("nvmetcp: "), what)
+
+
+class Killed(TargetTest):
+    """Two hosts write under reservations, and the target is killed at any moment."""
+
+    image = BLOCKS
+
+    def test_kills(self) -> None:
+        rng = random.Random(5)
+        for turn in range(12):
+            self.one(turn, rng.uniform(0.02, 0.15))
+            self.target.start()
+
+    def one(self, turn: int, seconds: float) -> None:
+        hosts = [Host(self.target.port, 0xa1), Host(self.target.port, 0xb2)]
+        # Of each host: what was answered for each of its blocks, and what was asked behind that.
+        told = [{}, {}]
+        hosts[0].register(0, 0xa), hosts[0].acquire(0xa, kind=3), hosts[1].register(0, 0xb)
+        before = self.target.image.read_bytes()
+        threads = [threading.Thread(target=self.writes, args=(it, host, told[it], turn))
+                   for it, host in enumerate(hosts)]
+        for thread in threads:
+            thread.start()
+        time.sleep(seconds)
+        self.target.kill()
+        for thread in threads:
+            thread.join()
+        content = self.target.image.read_bytes()
+        for it in told:
+            for place, (answered, asked) in it.items():
+                found = content[BLOCK * place:BLOCK * (place + 1)]
+                old = before[BLOCK * place:BLOCK * (place + 1)] if answered is None else answered
+                self.assertIn(found, (old, asked), "a block is torn, or what was answered is lost")
+        for host in hosts:
+            host.close()
+
+    def writes(self, which: int, host: Host, told: dict, turn: int) -> None:
+        rng = random.Random(turn * 2 + which)
+        try:
+            while True:
+                blocks = rng.choice((1, 8, 100))
+                place = 1024 * which + rng.randint(0, 1024 - blocks)
+                data = b"".join(struct.pack("<QQ", place + at, rng.getrandbits(64)) * 32 for at in range(blocks))
+                pieces = {place + at: data[BLOCK * at:BLOCK * (at + 1)] for at in range(blocks)}
+                for at, piece in pieces.items():
+                    told[at] = (told.get(at, (None, b""))[0], piece)
+                assert host.write(place, data) == 0
+                for at, piece in pieces.items():
+                    told[at] = (piece, piece)
+        except (Ended, OSError):
+            pass
+
+
+@unittest.skipUnless(LIVE, "NVMELIVE names no program")
+class Scripts(TargetTest):
+    image = BLOCKS
+
+    def setUp(self) -> None:
+        self.kept = tempfile.TemporaryDirectory()
+        self.addCleanup(self.kept.cleanup)
+        self.script = Path(self.kept.name, "kept.nvme")
+        self.options = ["--script", str(self.script)]
+        super().setUp()
+
+    def test_a_run_is_a_script(self) -> None:
+        rng, a, b = random.Random(6), self.host(), self.host(0xb2)
+        a.register(0, 0xa), a.acquire(0xa), b.register(0, 0xb)
+        for _ in range(30):
+            host, blocks = rng.choice((a, b)), rng.choice((1, 3, 17, 64))
+            host.write(rng.randint(0, 1000), rng.randbytes(BLOCK * blocks))
+        self.target.ask("hold 1")
+        a.queues[0].send_command(0x01, 1, struct.pack("<QI", 7, 0), b"\1" * 512)
+        self.wait_for(lambda: self.target.ask("held 1") == "held 1 1")
+        b.acquire(0xb, 0xa, action=2)
+        self.target.ask("go 1")
+        a.queues[0].completion()
+        self.target.ask("powercycle")
+        self.host().identify(1)
+        self.replayed(LIVE, "ok\n" * 5 + "started\n")
+
+    def replayed(self, program: str, before: str) -> None:
+        again = self.folder / "again.img"
+        again.write_bytes(bytes(BLOCK * BLOCKS))
+        with open(self.script, "rb") as lines:
+            ran = subprocess.run([program, str(again)], stdin=lines, stdout=subprocess.PIPE, text=True, check=True)
+        self.assertEqual(ran.stdout, before + Path(f"{self.script}.out").read_text())
+        self.assertEqual(again.read_bytes(), self.target.image.read_bytes())
+
+    @unittest.skipUnless(SIM, "NVMESIM names no program")
+    def test_a_short_run_over_nvmesim(self) -> None:
+        host = self.host()
+        host.write(0, b"\5" * 65536)
+        self.replayed(SIM, "")
+
+
+class Lasts(TargetTest):
+    """`--state`: what persists is there in the next target."""
+
+    image = 64
+
+    def setUp(self) -> None:
+        self.kept = tempfile.TemporaryDirectory()
+        self.addCleanup(self.kept.cleanup)
+        self.journal = Path(self.kept.name, "journal")
+        self.options = ["--state", self.kept.name]
+        self.config = TWO_HOSTS.replace(str(BLOCKS), "64")
+        super().setUp()
+
+    def again(self) -> None:
+        self.target.kill()
+        self.target.start()
+
+    def test_a_fenced_host_stays_fenced(self) -> None:
+        a, b = self.host(), self.host(0xb2)
+        a.register(0, 0xa), a.acquire(0xa, kind=3), b.register(0, 0xb), b.acquire(0xb, 0xa, action=1, kind=3)
+        self.assertEqual(a.write(7, bytes(512)), 0x4083)
+        for _ in range(3):
+            self.again()
+            a, b = self.host(), self.host(0xb2)
+            self.assertEqual([a.write(7, bytes(512)), b.write(7, b"\2" * 512)], [0x4083, 0])
+        self.assertEqual([b.reserve(0x15, 3 << 8, 0xb), a.write(7, bytes(512))], [0, 0])
+        self.again()
+        self.assertEqual(self.host().write(7, bytes(512)), 0)
+
+    def test_what_does_not_persist_is_gone(self) -> None:
+        a = self.host()
+        a.register(0, 0xa, persist=2), a.acquire(0xa)
+        self.again()
+        self.assertEqual(self.host(0xb2).write(7, bytes(512)), 0)
+
+    def test_attachments_and_write_protection(self) -> None:
+        a, b = self.host(), self.host(0xb2)
+        controllers = struct.pack("<HH", 1, 2).ljust(4096, b"\0")
+        self.assertEqual(a.admin.call(0x15, 1, struct.pack("<I", 1), controllers).status, 0)
+        self.assertEqual(a.admin.call(0x09, 1, struct.pack("<II", 0x84, 1)).status, 0)
+        self.again()
+        a, b = self.host(), self.host(0xb2)
+        self.assertEqual((a.write(0, bytes(512)), b.read(0, 1).status), (0x4020, 0x4002))
+
+    def test_a_torn_journal(self) -> None:
+        a, b = self.host(), self.host(0xb2)
+        a.register(0, 0xa), a.acquire(0xa)
+        self.target.kill()
+        whole = self.journal.read_bytes()
+        for cut, fenced in ((1, 0x4083), (13, 0x4083), (60, 0x4083)):
+            self.journal.write_bytes(whole + whole[-100:][:cut])
+            self.target.start()
+            self.assertEqual(self.host(0xb2).write(7, bytes(512)), fenced)
+            self.assertIn(f"the last {cut} bytes", (self.folder / "errors").read_text())
+            self.target.kill()
+        self.journal.write_bytes(whole[:-1])
+        self.target.start()
+        self.assertEqual(self.host(0xb2).write(7, bytes(512)), 0, "the Acquire was not whole")
+
+    def test_what_is_refused(self) -> None:
+        self.host().register(0, 0xa)
+        self.host(0xb2).register(0, 0xb)
+        self.target.kill()
+        whole = self.journal.read_bytes()
+        damaged = bytearray(whole)
+        damaged[-150] ^= 1
+        for content, text in ((bytes(damaged), "is damaged"), (b"x" + whole[1:], "another configuration")):
+            self.journal.write_bytes(content)
+            ran = subprocess.run(self.target.process.args, stdout=subprocess.PIPE, stderr=subprocess.PIPE, text=True,
+                                 timeout=10)
+            self.assertEqual((ran.returncode, ran.stdout), (2, ""))
+            self.assertIn(text, ran.stderr)
+            self.assertEqual(self.journal.read_bytes(), content)
+        self.journal.write_bytes(whole)
+        self.target.start()
