@@ -25,9 +25,25 @@ pub fn text_of(field: &[u8]) -> &[u8] {
     field.split(|byte| *byte == 0).next().unwrap_or(field)
 }
 
-/// The bytes of a number in two digits each, behind what stands in a text.
+/// The two digits of each byte.
+static DIGITS: [[u8; 2]; 256] = digits();
+
+const fn digits() -> [[u8; 2]; 256] {
+    const EACH: &[u8; 16] = b"0123456789abcdef";
+    let mut pairs = [[0; 2]; 256];
+    let mut byte = 0;
+    while byte < 256 {
+        pairs[byte] = [EACH[byte >> 4], EACH[byte & 15]];
+        byte += 1;
+    }
+    pairs
+}
+
+/// Puts the digits of bytes behind what stands in a text.
 pub fn push_hex(text: &mut Vec<u8>, bytes: &[u8]) {
-    const DIGITS: &[u8; 16] = b"0123456789abcdef";
-    text.reserve(2 * bytes.len());
-    text.extend(bytes.iter().flat_map(|byte| [DIGITS[usize::from(byte >> 4)], DIGITS[usize::from(byte & 15)]]));
+    let begin = text.len();
+    text.resize(begin + 2 * bytes.len(), 0);
+    for (pair, byte) in text[begin..].chunks_exact_mut(2).zip(bytes) {
+        pair.copy_from_slice(&DIGITS[usize::from(*byte)]);
+    }
 }

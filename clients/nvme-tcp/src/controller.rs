@@ -224,7 +224,7 @@ impl Controller {
         machine.store(c, place, &placed(entry, data, room))?;
         match data {
             Data::ToController(bytes) if !bytes.is_empty() => machine.store(c, room.start(bytes.len()), bytes)?,
-            Data::FromController(length) if !fills(entry, qid, length) => {
+            Data::FromController(length) if length != 0 && !fills(entry, qid, length) => {
                 machine.store(c, room.start(length), &vec![0; length])?;
             }
             _ => (),

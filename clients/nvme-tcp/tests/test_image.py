@@ -135,6 +135,8 @@ class Scripts(TargetTest):
         for _ in range(30):
             host, blocks = rng.choice((a, b)), rng.choice((1, 3, 17, 64))
             host.write(rng.randint(0, 1000), rng.randbytes(BLOCK * blocks))
+            host.flush()
+        self.assertEqual(a.queues[0].call(0x0e, 1, struct.pack("<II", 31, 1), length=128).status, 0)
         self.target.ask("hold 1")
         a.queues[0].send_command(0x01, 1, struct.pack("<QI", 7, 0), b"\1" * 512)
         self.wait_for(lambda: self.target.ask("held 1") == "held 1 1")
