@@ -37,8 +37,8 @@ class Target:
             self.options += ["--image", str(self.image)]
         self.start()
 
-    def start(self) -> None:
-        words = [PROGRAM, "--listen", "127.0.0.1:0", "--control", str(self.folder / "control/socket"),
+    def start(self, port: int = 0) -> None:
+        words = [PROGRAM, "--listen", f"127.0.0.1:{port}", "--control", str(self.folder / "control/socket"),
                  *self.options, str(self.folder / "config.nvme")]
         self.errors = open(self.folder / "errors", "a", encoding="utf-8")
         self.process = subprocess.Popen(words, stdout=subprocess.PIPE, stderr=self.errors, text=True)

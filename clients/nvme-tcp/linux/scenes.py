@@ -1,0 +1,354 @@
+"""The scenes. Each plays some guests over a target, and asks at its end what has to hold."""
+import contextlib
+import subprocess
+import time
+from pathlib import Path
+from typing import Callable, Dict, Iterator
+
+from linux.machines import ADDRESS, Guest, say
+from linux.record import Recorder
+from tests.targets import BLOCKS, LIVE, Target
+
+BLOCK = 512
+READ = "dd if=/dev/nvme0n1 bs=512 skip=7 count=1 iflag=direct 2>/dev/null | head -n 1"
+LIVELY = "for n in $(seq 60); do grep -q live /sys/class/nvme/nvme0/state && break; sleep 1; done; " \
+    "cat /sys/class/nvme/nvme0/state"
+AGAIN = "--reconnect-delay=2 --ctrl-loss-tmo=120"
+FENCED = "Invalid exchange"
+
+
+def write(text: str, device: str = "nvme0n1") -> str:
+    """A line that writes a text to block 7."""
+    return f"echo {text} | dd of=/dev/{device} bs=512 seek=7 conv=sync,notrunc oflag=direct 2>&1 | grep -v records"
+
+
+def config(blocks: int, *hosts: str) -> str:
+    """A disk of so many blocks, which these hosts share."""
+    lines = [f"controller {n} host 0x{host}" for n, host in enumerate(hosts, 1)]
+    return "\n".join([*lines, f"namespace 1 blocks {blocks} shared",
+                      *[f"attached {n} 1" for n in range(1, len(hosts) + 1)]]) + "\n"
+
+
+class Stage:
+    """A target over an image, with what has to hold at the end."""
+
+    def __init__(self, built: Path, folder: Path, blocks: int, *hosts: str, state: bool = False) -> None:
+        self.built, self.folder, self.blocks, self.kept = built, folder, blocks, []
+        self.guests: list = []
+        self.faults: list = []
+        self.options = ["--state", str(folder / "state")] if state else []
+        self.image_before = folder / "before.img"
+        self.image_before.write_bytes(bytes(BLOCK * blocks))
+        self.target = Target(folder, config(blocks, *hosts), blocks, self.script())
+        self.port = self.target.port
+
+    def script(self) -> list:
+        """The options of the next target, which keeps a script of its own."""
+        self.kept.append(self.folder / f"kept-{len(self.kept)}.nvme")
+        return [*self.options, "--script", str(self.kept[-1])]
+
+    def guest(self, host: str, **how) -> Guest:
+        guest = Guest(self.built, self.folder, host, **how)
+        self.guests.append(guest)
+        return guest
+
+    def connected(self, host: str, options: str = AGAIN, **how) -> Guest:
+        guest = self.guest(host, **how)
+        self.connect(guest, options)
+        return guest
+
+    def connect(self, guest: Guest, options: str = "") -> None:
+        guest.run(f"nvme connect -t tcp -a {ADDRESS} -s {self.port} -n $nqn $me {options}")
+        guest.run("sleep 2; ls /dev/nvme*")
+
+    def ask(self, line: str) -> str:
+        answer = self.target.ask(line)
+        print(f"{line}: {answer}", flush=True)
+        return answer
+
+    def wants(self, what: str, holds: bool) -> None:
+        """Something that has to hold."""
+        say(f"{what}: {'as it must be' if holds else 'NOT SO'}")
+        if not holds:
+            self.faults.append(what)
+
+    def hold(self, guest: Guest, line: str) -> None:
+        """Has a line of the first host under way: its command is fetched, and not executed."""
+        self.ask("hold 1")
+        guest.type(line)
+        self.wait_until_held()
+
+    def wait_until_held(self) -> None:
+        last = time.monotonic() + 30
+        while self.target.ask("held 1") == "held 1 0" and time.monotonic() < last:
+            time.sleep(0.1)
+
+    def restart(self) -> None:
+        """The target is killed, and started again with its state."""
+        self.target.kill()
+        self.target.options = [*self.script(), "--image", str(self.target.image)]
+        self.target.start(self.port)
+
+    def replay(self) -> None:
+        """Has nvmelive run the kept lines again, over an image as it was, and compares the images."""
+        again = self.folder / "again.img"
+        again.write_bytes(self.image_before.read_bytes())
+        for kept in self.kept:
+            with open(kept, "rb") as lines:
+                ran = subprocess.run([LIVE, str(again)], stdin=lines, stdout=subprocess.PIPE, text=True)
+            answers = ran.stdout.split("started\n", 1)[-1]
+            self.wants(f"the {answers.count(chr(10))} events of {kept.name} give the same again",
+                       answers == Path(f"{kept}.out").read_text())
+        self.wants("the image of the run again is that of the run",
+                   again.read_bytes() == self.target.image.read_bytes())
+
+
+@contextlib.contextmanager
+def stage(built: Path, folder: Path, blocks: int, *hosts: str, **how: bool) -> Iterator[Stage]:
+    """A stage, which is cleared at the end; the run is compared with its replay then."""
+    set_up = Stage(built, folder, blocks, *hosts, **how)
+    try:
+        yield set_up
+    finally:
+        for guest in set_up.guests:
+            guest.close()
+        set_up.target.close()
+    set_up.replay()
+    if set_up.faults:
+        raise AssertionError("; ".join(set_up.faults))
+
+
+def disk(built: Path, folder: Path) -> None:
+    """One host, its disk, and a file system on it; then what else Linux may ask: digests, discovery, a reset."""
+    with stage(built, folder, 65536, "a1") as it:
+        a = it.connected("a1", "", cpus=2)
+        a.run("nvme list")
+        a.run("nvme id-ctrl /dev/nvme0 | grep -E '^(sn|mdts|cntlid|ver|oaes|kas|oncs|vwc|maxcmd|sgls|subnqn|ioccsz) '")
+        a.run("cat /sys/block/nvme0n1/queue/write_cache /sys/block/nvme0n1/queue/fua")
+        a.run("dd if=/dev/urandom of=/room/there bs=64k count=64 2>/dev/null")
+        a.run("dd if=/room/there of=/dev/nvme0n1 bs=64k oflag=direct")
+        a.run("dd if=/dev/nvme0n1 of=/room/back bs=128k count=32 iflag=direct")
+        it.wants("the same bytes come back", "the same" in a.run("cmp /room/there /room/back && echo the same"))
+        a.run("mkfs.ext4 -q -b 1024 /dev/nvme0n1 && mount -t ext4 /dev/nvme0n1 /disk && df /disk")
+        a.run("cp /bin/busybox /room/there /disk/ && sync && umount /disk && e2fsck -f -n /dev/nvme0n1")
+        a.run("nvme disconnect -n $nqn; ls /dev/nvme*")
+        for options in ("--disable-sqflow", "--hdr-digest", "--data-digest", "--hdr-digest --data-digest"):
+            it.connect(a, options)
+            text = a.run("mount -t ext4 -o ro /dev/nvme0n1 /disk && cmp /disk/there /room/there && echo the same")
+            a.run("umount /disk")
+            it.wants(f"the file is there with {options}", "the same" in text)
+            a.run("nvme disconnect -n $nqn")
+        it.connect(a)
+        text = a.run("nvme reset /dev/nvme0; sleep 3; cat /sys/class/nvme/nvme0/state")
+        it.wants("it is live after a reset", "live" in text.split("state")[-1])
+        a.run("nvme disconnect -n $nqn")
+        say("discovery, and a host that no controller is of")
+        found = a.run(f"nvme discover -t tcp -a {ADDRESS} -s {it.port} $me")
+        it.wants("discovery finds the subsystem", "nqn.2024-01.example:suvmileh" in found)
+        other = "--hostnqn=nqn.2024-01.example:c3 --hostid=c3000000-0000-0000-0000-000000000000"
+        text = a.run(f"nvme connect -t tcp -a {ADDRESS} -s {it.port} -n $nqn {other}; ls /dev/nvme*")
+        it.wants("an unknown host is refused", "nvme0" not in text.splitlines()[-1])
+
+
+def fencing(built: Path, folder: Path) -> None:
+    """Two guests, nvme-cli, and Linux's own calls; then a power cycle."""
+    with stage(built, folder, 2048, "a1", "b2") as it:
+        a, b = it.connected("a1"), it.connected("b2")
+        say("with nvme-cli")
+        a.run("nvme resv-register /dev/nvme0n1 --rrega=0 --nrkey=0xa")
+        a.run("nvme resv-acquire /dev/nvme0n1 --racqa=0 --crkey=0xa --rtype=1")
+        a.run(write("written by a1"))
+        b.run(READ)
+        it.wants("b2 is fenced", FENCED in b.run(write("written by b2")))
+        b.run("nvme resv-register /dev/nvme0n1 --rrega=0 --nrkey=0xb")
+        b.run("nvme resv-acquire /dev/nvme0n1 --racqa=1 --crkey=0xb --prkey=0xa --rtype=1")
+        it.wants("a1 is fenced once it is preempted", FENCED in a.run(write("written by a1 again")))
+        a.run("nvme flush /dev/nvme0n1")
+        b.run(write("written by b2"))
+        it.wants("a1 reads what b2 wrote", "written by b2" in a.run(READ))
+        b.run("nvme resv-report /dev/nvme0n1 --eds")
+        b.run("nvme resv-release /dev/nvme0n1 --rrela=1 --crkey=0xb")
+        say("with the calls of Linux that cluster software makes: type 3, Write Exclusive, Registrants Only")
+        a.run("pr register /dev/nvme0n1 0 0xa")
+        b.run("pr register /dev/nvme0n1 0 0xb")
+        a.run("pr reserve /dev/nvme0n1 0xa 3")
+        a.run(write("written by a1, a registrant"))
+        b.run(write("written by b2, a registrant"))
+        b.run("pr reserve /dev/nvme0n1 0xb 3")
+        b.run("pr preempt /dev/nvme0n1 0xb 0xa 3")
+        it.wants("a1 is fenced", FENCED in a.run(write("written by a1, fenced")))
+        a.run("echo buffered >/room/y")
+        text = a.run("dd if=/room/y of=/dev/nvme0n1 bs=512 seek=9 count=1 conv=fsync,notrunc 2>&1 | grep -v records")
+        it.wants("behind the page cache, fsync says so", "fsync failed" in text)
+        say("power is lost in the subsystem")
+        it.ask("powercycle")
+        a.rest(1)
+        b.rest(1)
+        it.wants("both come back", all("live" in guest.run(LIVELY).split("state")[-1] for guest in (a, b)))
+        it.wants("a1 is still fenced", FENCED in a.run(write("written by a1, fenced, behind the power cycle")))
+        b.run(write("written by b2, behind the power cycle"))
+        it.wants("b2 writes", "behind the power cycle" in a.run(READ))
+        say("a1 comes back: it registers, preempts and aborts")
+        a.run("pr register /dev/nvme0n1 0 0xa2")
+        a.run("pr preempt-abort /dev/nvme0n1 0xa2 0xb 3")
+        a.run(write("written by a1, the holder"))
+        it.wants("b2 is fenced now", FENCED in b.run(write("written by b2, fenced")))
+        a.run("pr release /dev/nvme0n1 0xa2 3")
+        a.run("pr clear /dev/nvme0n1 0xa2")
+        b.run(write("written by b2, free"))
+
+
+def failover(built: Path, folder: Path) -> None:
+    """A file system that one host has mounted, and another takes over: as in a cluster."""
+    with stage(built, folder, 16384, "a1", "b2") as it:
+        a, b = it.connected("a1"), it.connected("b2")
+        a.run("pr register /dev/nvme0n1 0 0xa; pr reserve /dev/nvme0n1 0xa 1")
+        a.run("mkfs.ext4 -q -b 1024 /dev/nvme0n1 && mount -t ext4 -o errors=remount-ro /dev/nvme0n1 /disk")
+        a.run("echo written by a1 >/disk/file; cp /init /disk; sync; ls /disk")
+        say("b2 takes over")
+        b.run("pr register /dev/nvme0n1 0 0xb; pr preempt-abort /dev/nvme0n1 0xb 0xa 1")
+        a.run("echo written by a1, fenced >/disk/file; cp /bin/busybox /disk; sync; touch /disk/other", 200)
+        a.run("umount /disk", 200)
+        text = b.run("blockdev --flushbufs /dev/nvme0n1; e2fsck -y /dev/nvme0n1; mount -t ext4 /dev/nvme0n1 /disk && "
+                     "cat /disk/file && ls /disk && cmp /disk/init /init && echo the same", 200)
+        it.wants("b2 finds what a1 wrote before it was fenced", "written by a1\n" in text and "the same" in text)
+        b.run("echo written by b2 >/disk/file; sync; umount /disk; e2fsck -f -n /dev/nvme0n1", 200)
+
+
+def in_flight(built: Path, folder: Path) -> None:
+    """A write that is under way, fetched and not executed, when its host is preempted; and one when power is lost."""
+    with stage(built, folder, 2048, "a1", "b2") as it:
+        a, b = it.connected("a1"), it.connected("b2")
+        a.run("pr register /dev/nvme0n1 0 0xa; pr reserve /dev/nvme0n1 0xa 3")
+        b.run("pr register /dev/nvme0n1 0 0xb")
+        b.run(write("written by b2, a registrant"))
+        say("a1 writes; its command is fetched, and not executed yet")
+        it.hold(a, write("written by a1, under way"))
+        b.run("pr preempt-abort /dev/nvme0n1 0xb 0xa 3")
+        say("now it is executed")
+        it.ask("go 1")
+        it.wants("it is answered 0:1b", "sc 0x1b" in a.ended())
+        it.wants("it has not landed", "b2, a registrant" in b.run(READ))
+        say("a1 registers again and writes; power is lost while its command is under way")
+        a.run("pr register /dev/nvme0n1 0 0xa")
+        it.hold(a, write("written by a1, when power was lost"))
+        it.ask("powercycle")
+        a.ended()
+        b.run(LIVELY)
+        it.wants("Linux has sent it again, since it was not answered", "when power was lost" in b.run(READ))
+
+
+def retried(built: Path, folder: Path) -> None:
+    """A write that Preempt and Abort has aborted is not tried again: its status says Do Not Retry."""
+    with stage(built, folder, 2048, "a1", "b2") as it:
+        a, b = it.connected("a1"), it.connected("b2")
+        a.run("pr register /dev/nvme0n1 0 0xa; pr reserve /dev/nvme0n1 0xa 3")
+        b.run("pr register /dev/nvme0n1 0 0xb")
+        it.ask("hold 1")
+        a.run(f"( {write('a1, before it was preempted')} ) &")
+        it.wait_until_held()
+        b.run("pr preempt-abort /dev/nvme0n1 0xb 0xa 3")
+        b.run(write("written by b2, the holder"))
+        it.ask("go 1")
+        it.ask("hold 1")
+        a.rest(2)
+        it.wants("nothing is sent again", it.ask("held 1") == "held 1 0")
+        it.ask("go 1")
+        a.run("pr register /dev/nvme0n1 0 0xa2")
+        it.wants("the block is b2's", "b2, the holder" in b.run(READ))
+
+
+def one_guest(built: Path, folder: Path) -> None:
+    """Two hosts in one Linux, without native multipath: they are two disks, and fence each other."""
+    with stage(built, folder, 2048, "a1", "b2") as it:
+        a = it.connected("a1", "", more="multipath=N")
+        a.run(f"echo nqn=$nqn,transport=tcp,traddr={ADDRESS},trsvcid={it.port},hostnqn=nqn.2024-01.example:b2,"
+              "hostid=b2000000-0000-0000-0000-000000000000 >/dev/nvme-fabrics; sleep 2; ls /dev/nvme*")
+        a.run("pr register /dev/nvme0n1 0 0xa; pr reserve /dev/nvme0n1 0xa 1")
+        it.wants("the other is fenced", FENCED in a.run(write("written by b2", "nvme1n1")))
+        a.run("pr register /dev/nvme1n1 0 0xb; pr preempt /dev/nvme1n1 0xb 0xa 1")
+        it.wants("and then the first", FENCED in a.run(write("written by a1", "nvme0n1")))
+
+
+def quorum(built: Path, folder: Path) -> None:
+    """Three hosts, of which two are a quorum. Write Exclusive, Registrants Only: who loses contact is preempted."""
+    with stage(built, folder, 2048, "a1", "b2", "c3") as it:
+        a, b, c = it.connected("a1"), it.connected("b2"), it.connected("c3")
+        for guest, key in ((a, "0xa"), (b, "0xb"), (c, "0xc")):
+            guest.run(f"pr register /dev/nvme0n1 0 {key}")
+        a.run("pr reserve /dev/nvme0n1 0xa 3")
+        for guest in (a, b, c):
+            guest.run(write(f"written by {guest.host}"))
+        it.wants("all three write", "written by c3" in a.run(READ))
+        say("a1, the holder, is alone; b2 and c3 are a quorum, and b2 preempts it")
+        b.run("pr preempt-abort /dev/nvme0n1 0xb 0xa 3")
+        it.wants("a1 is fenced", FENCED in a.run(write("written by a1, alone")))
+        c.run(write("written by c3, of the quorum"))
+        it.wants("c3 writes as before", "of the quorum" in b.run(READ))
+        say("a1 tries the same; it is no registrant any more")
+        it.wants("a1 can't preempt", "result 0x" in a.run("pr preempt-abort /dev/nvme0n1 0xa 0xb 3"))
+        say("a1 is let in again, by a key of its own")
+        a.run("pr register /dev/nvme0n1 0 0xa2")
+        a.run(write("written by a1, back"))
+        it.wants("it writes", "written by a1, back" in c.run(READ))
+
+
+def restart(built: Path, folder: Path) -> None:
+    """The target is killed and started again under a mounted file system, and a fenced host stays fenced."""
+    with stage(built, folder, 16384, "a1", "b2", state=True) as it:
+        a, b = it.connected("a1"), it.connected("b2")
+        a.run("pr register /dev/nvme0n1 0 0xa; pr reserve /dev/nvme0n1 0xa 1")
+        a.run("mkfs.ext4 -q -b 1024 /dev/nvme0n1 && mount -t ext4 /dev/nvme0n1 /disk && cp /init /disk/before && sync")
+        it.wants("b2 is fenced", FENCED in b.run(write("written by b2")))
+        say("the target is killed, and started again")
+        it.restart()
+        a.run("cp /bin/busybox /disk/behind; sync; echo sync ended")
+        text = a.run("umount /disk; e2fsck -f -n /dev/nvme0n1; mount -t ext4 /dev/nvme0n1 /disk && "
+                     "cmp /disk/before /init && cmp /disk/behind /bin/busybox && echo the same; umount /disk")
+        it.wants("all files are there", "the same" in text and "clean" not in text.lower().split("e2fsck")[0])
+        b.run(LIVELY)
+        it.wants("b2 is still fenced", FENCED in b.run(write("written by b2, behind the restart")))
+
+
+def verify(built: Path, folder: Path) -> None:
+    """fio writes and verifies at one host, until another preempts it: no block is of neither."""
+    with stage(built, folder, 16384, "a1", "b2") as it:
+        a, b = it.connected("a1", has_fio=True), it.connected("b2", has_fio=True)
+        a.run("pr register /dev/nvme0n1 0 0xa; pr reserve /dev/nvme0n1 0xa 1")
+        fio = "fio --name=v --filename=/dev/nvme0n1 --direct=1 --ioengine=psync --bs=4k --verify=crc32c " \
+            "--output-format=terse --terse-version=3"
+        text = a.run(f"{fio} --rw=randwrite --size=4m --do_verify=1 >/dev/null; echo rc $?")
+        it.wants("fio verifies", "rc 0" in text)
+        say("fio writes at a1, and b2 preempts it meanwhile")
+        long = f"{fio} --rw=randwrite --size=8m --time_based --runtime=20 --do_verify=0"
+        a.run(f"( {long} >/room/out 2>&1; echo $? >/room/rc ) &")
+        b.run("sleep 3; pr register /dev/nvme0n1 0 0xb; pr preempt-abort /dev/nvme0n1 0xb 0xa 1")
+        a.run("while [ ! -e /room/rc ]; do sleep 1; done; tail -n 2 /room/out; cat /room/rc")
+        text = b.run(f"{fio} --rw=randwrite --size=8m --do_verify=1 >/dev/null; echo rc $?")
+        it.wants("fio verifies at b2: nothing of a1 lands any more", "rc 0" in text)
+
+
+def recorded(built: Path, folder: Path, path: Path) -> None:
+    """Two hosts connect, read, write, are fenced and leave. What they and the target say is written down."""
+    with stage(built, folder, BLOCKS, "a1", "b2") as it:
+        recorder = Recorder(it.target.port)
+        it.port = recorder.port
+        a, b = it.connected("a1", "--hdr-digest --data-digest"), it.connected("b2", "")
+        a.run("nvme resv-register /dev/nvme0n1 --rrega=0 --nrkey=0xa")
+        a.run("nvme resv-acquire /dev/nvme0n1 --racqa=0 --crkey=0xa --rtype=1")
+        a.run(write("written by a1"))
+        it.wants("b2 is fenced", FENCED in b.run(write("written by b2")))
+        b.run(READ)
+        b.run("pr register /dev/nvme0n1 0 0xb; pr preempt-abort /dev/nvme0n1 0xb 0xa 1")
+        it.wants("a1 is fenced", FENCED in a.run(write("written by a1, fenced")))
+        b.run("dd if=/init of=/dev/nvme0n1 bs=64k count=1 seek=1 conv=sync,fsync 2>/dev/null")
+        b.run("nvme resv-report /dev/nvme0n1 --eds")
+        for guest in (a, b):
+            guest.run("nvme disconnect -n $nqn")
+        time.sleep(1)
+        recorder.save(path)
+
+
+SCENES: Dict[str, Callable[[Path, Path], None]] = {
+    "disk": disk, "fencing": fencing, "failover": failover, "in-flight": in_flight, "retried": retried,
+    "one-guest": one_guest, "quorum": quorum, "restart": restart, "verify": verify}
