@@ -68,13 +68,11 @@ fn end<E: Display>(status: u8, what: impl Display) -> impl FnOnce(E) -> End {
 
 fn main() -> ExitCode {
     let words: Vec<OsString> = env::args_os().skip(1).collect();
-    let asks_for_help = matches!(words.first().and_then(|it| it.to_str()), Some("--help" | "-h"));
-    let done = if asks_for_help {
-        print(options::HELP)
-    } else if words.first().map_or(false, |word| word == "ctl") {
-        control_line(&words[1..])
-    } else {
-        serve(words)
+    let done = match words.first().and_then(|word| word.to_str()) {
+        Some("--help" | "-h") => print(options::HELP),
+        Some("--version") => print(concat!("nvmetcp ", env!("CARGO_PKG_VERSION"), "\n")),
+        Some("ctl") => control_line(&words[1..]),
+        _ => serve(words),
     };
     match done {
         Ok(()) => ExitCode::SUCCESS,

@@ -23,6 +23,7 @@ CONFIG has the lines of a script before `start`: controllers with their hosts, n
   --control SOCKET             answer lines of control at this socket; its folder is its user's alone
   --trace                      tell on standard error what hosts do
   --help, -h                   print this
+  --version                    print the version
 
 Lines of control: powercycle, hold C, held C, go C, hosts, counts, ?register C OFF, ?window C ADDR LEN,
 ?blocks N SLBA COUNT. Exit status: 1 the configuration is refused, 2 a file, a socket or the system failed, 3 bad
