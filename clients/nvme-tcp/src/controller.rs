@@ -161,10 +161,10 @@ impl Controller {
             return Ok(());
         }
         self.queues[usize::from(qid)] = None;
+        self.run(machine, 0, &own_entry(DELETE_SUBMISSION, 0, u32::from(qid), 0), Data::None)?;
+        // What was fetched from it counts until then, in the places of commands.
         self.held.retain(|queue| *queue != qid);
-        for opcode in [DELETE_SUBMISSION, DELETE_COMPLETION] {
-            self.run(machine, 0, &own_entry(opcode, 0, u32::from(qid), 0), Data::None)?;
-        }
+        self.run(machine, 0, &own_entry(DELETE_COMPLETION, 0, u32::from(qid), 0), Data::None)?;
         Ok(())
     }
 

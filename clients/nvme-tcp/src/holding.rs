@@ -18,6 +18,8 @@ pub struct Held {
     data: Vec<u8>,
     length: usize,
     place: u64,
+    /// The number of its room.
+    room: usize,
 }
 
 impl Target<'_> {
@@ -36,15 +38,15 @@ impl Target<'_> {
             Data::None => (0, &[][..]),
         };
         let size = length.max(bytes.len());
-        let count = self.held[index].len();
-        if size > MOST_HELD_DATA || count == MOST_HELD {
-            return Ok(false);
-        }
-        let room = Room::held(count);
+        let number = match (0..MOST_HELD).find(|number| self.held[index].iter().all(|it| it.room != *number)) {
+            Some(number) if size <= MOST_HELD_DATA => number,
+            _ => return Ok(false),
+        };
+        let room = Room::held(number);
         let is_held = self.controllers[index].hold(&mut self.machine, qid, entry, data, room)?;
         if is_held {
-            let held = Held { connection, qid, entry: *entry, data: bytes.to_vec(), length, place: room.start(size) };
-            self.held[index].push_back(held);
+            let (entry, data, place) = (*entry, bytes.to_vec(), room.start(size));
+            self.held[index].push_back(Held { connection, qid, entry, data, length, place, room: number });
         }
         Ok(is_held)
     }

@@ -156,7 +156,8 @@ impl<'a> Server<'a> {
         while let Some(Ok((stream, _))) = self.control.as_ref().map(UnixListener::accept) {
             let name = self.next;
             self.next += 1;
-            let is_set = stream.set_nonblocking(true).and_then(|()| self.poll.add(&stream, name, TO_READ));
+            // Whoever asks takes the answer at once, or none.
+            let is_set = stream.set_write_timeout(Some(LOOK)).and_then(|()| self.poll.add(&stream, name, TO_READ));
             if is_set.is_ok() && self.consoles.len() < MOST_CONSOLES {
                 self.consoles.insert(name, Console::new(stream));
             }

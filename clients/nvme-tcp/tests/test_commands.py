@@ -125,8 +125,29 @@ class Reservations(TargetTest):
         self.wait_for(lambda: self.target.ask("held 1") == "held 1 2")
         a.queues[0].close()
         self.wait_for(lambda: self.target.ask("held 1") == "held 1 1")
+        b = self.host(0xb2)
+        self.assertEqual(b.read(7, 1).data, bytes(512), "none is executed yet")
         self.target.ask("go 1")
         self.assertEqual(a.queues[1].completion().status, 0)
+        self.assertEqual(b.read(7, 1).data, b"\1" * 512)
+
+    def test_rooms_of_held_commands(self) -> None:
+        """One that is held when others are gone has room of its own."""
+        a = self.host(queues=2)
+        a.write(0, b"\1" * 512), a.write(1, b"\2" * 512)
+        self.target.ask("hold 1")
+        a.queues[0].send_command(0x02, 1, struct.pack("<QI", 0, 0), length=512)
+        self.wait_for(lambda: self.target.ask("held 1") == "held 1 1")
+        a.queues[1].send_command(0x02, 1, struct.pack("<QI", 0, 0), length=512)
+        self.wait_for(lambda: self.target.ask("held 1") == "held 1 2")
+        a.queues[0].close()
+        self.wait_for(lambda: self.target.ask("held 1") == "held 1 1")
+        a.queues[1].send_command(0x02, 1, struct.pack("<QI", 1, 0), length=512)
+        self.wait_for(lambda: self.target.ask("held 1") == "held 1 2")
+        self.target.ask("go 1")
+        answers = [a.queues[1].completion() for _ in range(2)]
+        self.assertEqual([it.status for it in answers], [0, 0])
+        self.assertEqual([it.data for it in answers], [b"\1" * 512, b"\2" * 512])
 
     def test_a_power_cycle(self) -> None:
         a, b = self.host(), self.host(0xb2)
@@ -175,6 +196,8 @@ class Controls(TargetTest):
         self.assertEqual(self.target.ask("?blocks 1 3 1"), "blocks 1 3 1 -")
         self.assertEqual(self.target.ask("?register 1 0x1c"), "register 1 0x1c 0x00000001")
         self.assertTrue(self.target.ask("?window 1 0 16").startswith("window 1 0 16 "))
+        host.write(100, b"\xab" * 131072)
+        self.assertEqual(self.target.ask("?blocks 1 100 256"), "blocks 1 100 256 " + "ab" * 131072)
         for line in ("?blocks 1 2048 1", "?blocks 1 0 257", "?blocks 9 0 1", "?register 3 0", "?window 1 4194304 1",
                      "hold 0", "hold 3", "go x", "nothing", "powercycle now"):
             self.assertEqual(self.target.ask(line), f"! {line}")

@@ -9,7 +9,7 @@ import time
 import unittest
 from pathlib import Path
 
-from tests.host import BLOCK, Ended, Host
+from tests.host import BLOCK, Ended, Host, Queue
 from tests.targets import BLOCKS, LIVE, SIM, TWO_HOSTS, Target, TargetTest
 
 FORCE_UNIT_ACCESS = 1 << 30
@@ -68,52 +68,81 @@ class Images(TargetTest):
 
 
 class Killed(TargetTest):
-    """Two hosts write under reservations, and the target is killed at any moment."""
+    """Two hosts write, one preempts the other, and the target is killed at any moment, and started again."""
 
     image = BLOCKS
+
+    def setUp(self) -> None:
+        self.kept = tempfile.TemporaryDirectory()
+        self.addCleanup(self.kept.cleanup)
+        self.options = ["--state", self.kept.name]
+        super().setUp()
 
     def test_kills(self) -> None:
         rng = random.Random(5)
         for turn in range(12):
-            self.one(turn, rng.uniform(0.02, 0.15))
-            self.target.start()
+            self.one(turn, rng)
 
-    def one(self, turn: int, seconds: float) -> None:
+    def one(self, turn: int, rng: random.Random) -> None:
         hosts = [Host(self.target.port, 0xa1), Host(self.target.port, 0xb2)]
         # Of each host: what was answered for each of its blocks, and what was asked behind that.
-        told = [{}, {}]
-        hosts[0].register(0, 0xa), hosts[0].acquire(0xa, kind=3), hosts[1].register(0, 0xb)
-        before = self.target.image.read_bytes()
-        threads = [threading.Thread(target=self.writes, args=(it, host, told[it], turn))
+        told, fenced = [{}, {}], threading.Event()
+        hosts[1].register(0, 0xb), hosts[1].reserve(0x11, 1 | 3 << 8, 0xb, 0xa), hosts[1].reserve(0x15, 1, 0xb)
+        self.assertEqual([hosts[0].register(0, 0xa), hosts[0].acquire(0xa, kind=3), hosts[1].register(0, 0xb)], [0] * 3)
+        before, late = self.target.image.read_bytes(), []
+        preempter = Host.__new__(Host)
+        preempter.queues = [Queue(self.target.port)]
+        self.assertEqual(preempter.queues[0].connect(2, 0xb2, hosts[1].cntlid).status, 0)
+        threads = [threading.Thread(target=self.writes, args=(it, host, told[it], turn, fenced, late))
                    for it, host in enumerate(hosts)]
         for thread in threads:
             thread.start()
-        time.sleep(seconds)
+        time.sleep(rng.uniform(0.01, 0.05))
+        if turn % 2:
+            self.assertEqual(preempter.acquire(0xb, 0xa, action=rng.choice((1, 2)), kind=3), 0)
+            fenced.set()
+        time.sleep(rng.uniform(0.01, 0.05))
         self.target.kill()
         for thread in threads:
             thread.join()
+        self.judge(before, told, late)
+        for queue in [hosts[0].admin, hosts[1].admin, *preempter.queues, *hosts[0].queues, *hosts[1].queues]:
+            queue.close()
+        self.target.start()
+        again = Host(self.target.port, 0xa1)
+        self.assertEqual(again.write(0, bytes(512)), 0x4083 if turn % 2 else 0, "what persists is there")
+        again.close()
+        self.wait_for(lambda: self.target.hosts() == [])
+
+    def judge(self, before: bytes, told: list, late: list) -> None:
         content = self.target.image.read_bytes()
         for it in told:
             for place, (answered, asked) in it.items():
                 found = content[BLOCK * place:BLOCK * (place + 1)]
                 old = before[BLOCK * place:BLOCK * (place + 1)] if answered is None else answered
-                self.assertIn(found, (old, asked), "a block is torn, or what was answered is lost")
-        for host in hosts:
-            host.close()
+                self.assertIn(found, (old, *asked), "a block is torn, or what was answered is lost")
+        for piece in late:
+            self.assertNotIn(piece, content, "a write of a fenced host has landed")
 
-    def writes(self, which: int, host: Host, told: dict, turn: int) -> None:
+    def writes(self, which: int, host: Host, told: dict, turn: int, fenced: threading.Event, late: list) -> None:
+        """Writes until it is fenced, or the target is gone. Each block has a content that no other has."""
         rng = random.Random(turn * 2 + which)
         try:
             while True:
-                blocks = rng.choice((1, 8, 100))
-                place = 1024 * which + rng.randint(0, 1024 - blocks)
+                blocks, is_late = rng.choice((1, 8, 100)), which == 0 and fenced.is_set()
+                place = 1024 * which + rng.randint(1, 1024 - blocks)
                 data = b"".join(struct.pack("<QQ", place + at, rng.getrandbits(64)) * 32 for at in range(blocks))
                 pieces = {place + at: data[BLOCK * at:BLOCK * (at + 1)] for at in range(blocks)}
-                for at, piece in pieces.items():
-                    told[at] = (told.get(at, (None, b""))[0], piece)
-                assert host.write(place, data) == 0
-                for at, piece in pieces.items():
-                    told[at] = (piece, piece)
+                if is_late:
+                    late += pieces.values()
+                for at, piece in pieces.items() if not is_late else ():
+                    answered, asked = told.get(at, (None, ()))
+                    told[at] = (answered, (*asked, piece))
+                status = host.write(place, data)
+                assert status in ((0, 0x4083, 0x401b) if which == 0 else (0,)), hex(status)
+                assert not (is_late and status == 0), "a fenced host's write has succeeded"
+                if status == 0:
+                    told.update({at: (piece, (piece,)) for at, piece in pieces.items()})
         except (Ended, OSError):
             pass
 
@@ -237,3 +266,44 @@ class Lasts(TargetTest):
             self.assertEqual(self.journal.read_bytes(), content)
         self.journal.write_bytes(whole)
         self.target.start()
+
+    def test_a_restart_is_a_power_cycle(self) -> None:
+        """Hosts that ask at random are answered the same by a target that is started again and again, and by one in
+        which power is lost in place of that."""
+        with tempfile.TemporaryDirectory() as room:
+            other = Target(Path(room), self.config, 64)
+            rng = random.Random(7)
+            for _ in range(12):
+                words = [self.any_command(rng) for _ in range(30)]
+                answers = [self.answers(target.port, words) for target in (self.target, other)]
+                self.assertEqual(*answers)
+                self.again()
+                other.ask("powercycle")
+            other.close()
+
+    def any_command(self, rng: random.Random) -> tuple:
+        """The host that asks, the queue, and the words of a command."""
+        key, other = rng.randrange(3), rng.randrange(3)
+        opcode = rng.choice((0x0d, 0x0d, 0x11, 0x11, 0x15, 0x01, 0x0e, 0x84, 0x115))
+        if opcode == 0x115:
+            controllers = struct.pack("<HH", 1, rng.choice((1, 2))).ljust(4096, b"\0")
+            return rng.randrange(2), 0, (0x15, 1, struct.pack("<I", rng.choice((0, 0, 0, 1))), controllers)
+        if opcode == 0x84:
+            return rng.randrange(2), 0, (0x09, 1, struct.pack("<II", 0x84, rng.choice((0, 0, 1, 2))))
+        if opcode == 0x01:
+            return rng.randrange(2), 1, (0x01, 1, struct.pack("<QI", 3, 0), bytes([key]) * 512)
+        if opcode == 0x0e:
+            return rng.randrange(2), 1, (0x0e, 1, struct.pack("<II", 31, 1), b"", 128)
+        word = rng.choice((0, 1, 2)) | rng.choice((0, 0, 8)) | rng.choice((0, 1, 3, 5)) << 8
+        word |= rng.choice((0, 2, 3)) << 30
+        return rng.randrange(2), 1, (opcode, 1, struct.pack("<I", word), struct.pack("<QQ", key, other))
+
+    def answers(self, port: int, words: list) -> list:
+        hosts = [Host(port, 0xa1), Host(port, 0xb2)]
+        told = []
+        for which, qid, command in words:
+            answer = (hosts[which].admin if qid == 0 else hosts[which].queues[0]).call(*command)
+            told.append((which, command[0], answer.status, answer.value, answer.data))
+        for host in hosts:
+            host.close()
+        return told
