@@ -96,9 +96,10 @@ class Stage:
         for kept in self.kept:
             with open(kept, "rb") as lines:
                 ran = subprocess.run([LIVE, str(again)], stdin=lines, stdout=subprocess.PIPE, text=True)
-            answers = ran.stdout.split("started\n", 1)[-1]
-            self.wants(f"the {answers.count(chr(10))} events of {kept.name} give the same again",
-                       answers == Path(f"{kept}.out").read_text())
+            answers, told = ran.stdout.split("started\n", 1)[-1], Path(f"{kept}.out").read_text()
+            # A target that is killed may have kept lines, and not yet what they gave.
+            self.wants(f"the {told.count(chr(10))} events of {kept.name} give the same again",
+                       answers.startswith(told) and answers.count("\n") - told.count("\n") < 100)
         self.wants("the image of the run again is that of the run",
                    again.read_bytes() == self.target.image.read_bytes())
 
