@@ -6,7 +6,7 @@ import subprocess
 import sys
 from pathlib import Path
 
-from support.library import header
+from support.library import building, header, unproved
 
 # What the library needs of the C library, and nothing else.
 NEEDED = {"malloc", "realloc", "free", "memcpy", "memmove", "memset"}
@@ -91,6 +91,20 @@ class Trial:
             problem = (status or text) and f"status {status}\n{text}"
         self.check(what, problem)
 
+    def unproved(self):
+        """The library that is built without its proofs passes the tests too."""
+        folder, program = self.room / "unproved", self.room / "unproved-tests"
+        try:
+            unproved.build(self.top, folder)
+            problem = self.compiled(["cc", *STRICT, "-O1", f"-I{folder}/include", self.clients / "tests/library.c",
+                                     folder / "lib/libnvmesim.a", "-o", program])
+        except building.NotBuilt as error:
+            problem = str(error)
+        if not problem:
+            status, text = self.run([program, "3"])
+            problem = (status or text) and f"status {status}\n{text}"
+        self.check("the tests of the one without proofs", problem)
+
     def rust(self):
         """The crate: its tests, those in its documents, the example, and where it is unsafe."""
         crate = self.top / "clients" / "rust"
@@ -168,6 +182,7 @@ def run(top, room):
         trial.tests("the tests under the sanitizers", ["-fsanitize=address,undefined", "-fno-sanitize-recover=all"])
     if not trial.live():
         print("library: nvmelive is not built; what compares with it is skipped", flush=True)
+    trial.unproved()
     trial.hostile([f"-I{trial.prefix}/include", trial.archive])
     trial.python()
     if shutil.which("cargo"):

@@ -20,8 +20,9 @@ LENT = "nvme_lent"
 Declared = Tuple[str, List[str]]
 EXPORT = re.compile(r'pub extern "C" fn (nvmesim_\w+)\(([^)]*)\)')
 # The values of the calls. None is known before the program runs, so that nothing is computed from them.
-VALUES = {"Global": "alloc", "&mut Handle": "&mut sim", "u16": "n as u16", "u32": "n as u32", "u64": "n as u64",
-          "usize": "n", "bool": "n == 3", "&[u8]": "&bytes", "&mut [u8]": "&mut bytes", "&[Controller]": "&controllers",
+VALUES = {"Global": "alloc", "&mut Handle": "&mut sim", "u8": "n as u8", "u16": "n as u16", "u32": "n as u32",
+          "u64": "n as u64", "usize": "n", "bool": "n == 3", "&[u8]": "&bytes", "&mut [u8]": "&mut bytes",
+          "&[u8; 64]": "&entry", "&mut [u8; 16]": "&mut completion", "&[Controller]": "&controllers",
           "&[Namespace]": "&namespaces", "&[Attached]": "&attached",
           "LentBytes": "LentBytes { at: ptr::null_mut(), len: n }"}
 MAIN = """
@@ -34,7 +35,7 @@ fn main(rt: HostRuntime) -> io::Result<ExitCode> {{
     let alloc = rt.alloc();
     let n = env::args(&rt)?.count();
     let mut sim = Handle::closed(alloc);
-    let mut bytes = [0u8; 512];
+    let (mut bytes, entry, mut completion) = ([0u8; 512], [0u8; 64], [0u8; 16]);
     let controllers = [Controller {{ host_low: n as u64, host_high: n as u64, cntlid: n as u16 }}];
     let namespaces = [Namespace {{ blocks: n as u64, nsid: n as u32, shared: n == 3 }}];
     let attached = [Attached {{ nsid: n as u32, cntlid: n as u16 }}];
@@ -78,18 +79,18 @@ def copies(top: Path, room: Path) -> Dict[str, Path]:
 
 def answering(declared: Dict[str, Declared]) -> List[str]:
     """The calls that answer a structure."""
-    return [name for name, (result, _) in declared.items() if result == "nvmesim_answer"]
+    return [name for name, (result, _) in declared.items() if result.startswith("nvmesim_")]
 
 
 def shims(declared: Dict[str, Declared]) -> str:
     """Functions of C before the exports that answer a structure."""
     text = ['#include "nvmesim.h"']
     for name in answering(declared):
-        kinds = declared[name][1]
+        result, kinds = declared[name]
         words = ", ".join(f"{kind} a{at}" for at, kind in enumerate(kinds))
         given = ", ".join(f"a{at}" for at in range(len(kinds)))
-        text += [f"void {BEHIND}{name}(nvmesim_answer *, {words});",
-                 f"nvmesim_answer {name}({words}) {{ nvmesim_answer it; {BEHIND}{name}(&it, {given}); return it; }}"]
+        text += [f"void {BEHIND}{name}({result} *, {words});",
+                 f"{result} {name}({words}) {{ {result} it; {BEHIND}{name}(&it, {given}); return it; }}"]
     return "\n".join(text) + "\n"
 
 
@@ -99,6 +100,9 @@ def exported(module: str, behind: List[str]) -> str:
     def name(found: "re.Match[str]") -> str:
         return f"@{BEHIND if found.group(1) in behind else ''}{found.group(1)}"
 
+    others = [it for it in DEFINED.findall(module) if it[1] in behind and not it[0].startswith("void @")]
+    if others:
+        raise NotBuilt(f"{others[0][1]} does not leave its answer in memory: {others[0][0][:80]}")
     module = DEFINED.sub(r"define \1", module)
     return NAMED.sub(name, module).replace("define i32 @main(", "define internal i32 @unused_main(")
 
