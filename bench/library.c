@@ -151,6 +151,26 @@ static void whole(const char *what, int rounds) {
     printf("%s: %.0f ns\n", what, (double)best / ENTRIES);
 }
 
+/* Reads, one at a time, each in one call: of one block, or of more through the list of pages. */
+static void in_one_call(const char *what, uint32_t blocks, int rounds) {
+    uint64_t best = UINT64_MAX;
+    uint8_t bytes[64], completion[16];
+    for (int r = 0; r < rounds; r++) {
+        uint64_t begun = now(), taken;
+        int posted = 0;
+        for (uint32_t i = 0; i < ENTRIES; i++) {
+            entry(bytes, 0x02, DATA, blocks > 16 ? LIST : 0, blocks > 1 ? 0 : i, 0, blocks - 1);
+            posted += nvmesim_submit(&sim, cntlid, 1, bytes, completion).what == NVMESIM_POSTED;
+            statuses += completion[14];
+        }
+        taken = now() - begun;
+        must(posted == ENTRIES, "a command was not submitted");
+        if (taken < best)
+            best = taken;
+    }
+    printf("%s: %.0f ns\n", what, (double)best / ENTRIES);
+}
+
 int main(int count, char **words) {
     int rounds = count > 1 ? atoi(words[1]) : 20000;
     printf("| Nanoseconds | store | doorbell | fetch | execute | head doorbell | these five | load of the completion |\n"
@@ -161,8 +181,11 @@ int main(int count, char **words) {
         batches(hosts == 1 ? "one controller, denied Read" : "the last of 16, denied Read", BLOCKS, 1, 0x80, rounds);
         batches(hosts == 1 ? "one controller, Read of 256 blocks" : "the last of 16, Read of 256 blocks", 0, 256, 0,
                 rounds / 20);
-        if (hosts == 16)
+        if (hosts == 16) {
             whole("a whole Read of a block by six calls", rounds / 10);
+            in_one_call("the same by nvmesim_submit", 1, rounds / 10);
+            in_one_call("a Read of 256 blocks by nvmesim_submit", 256, rounds / 200);
+        }
         nvmesim_close(&sim);
     }
     return statuses == 0;

@@ -10,7 +10,8 @@
  *  - One call at a time on one struct nvmesim, and all of them on one thread. Two structs have nothing in common.
  *  - No call from a signal handler, nor in the forked child of a process with threads.
  *  - No pointer is NULL, also not where the count beside it is 0. Each is aligned, and is for as many values as the
- *    count says. What a call writes through a pointer overlaps nothing else that it is given. A bool is false or true.
+ *    count, or the call, says. What a call writes through a pointer overlaps nothing else that it is given. A bool is
+ *    false or true.
  *  - Bytes that are lent (nvmesim_open_lent) are left alone until nvmesim_close.
  *  - malloc, realloc and free are those of the C library, or as good.
  * All else that is wrong is an answer: a struct that is not open, an address outside the memory, any command.
@@ -57,11 +58,16 @@ enum {
     NVMESIM_MEDIUM_FAULT = 20,  /* the medium failed */
     NVMESIM_BAD_VERSION = 21,   /* the caller's header is of another version */
     NVMESIM_ALREADY_OPEN = 22,  /* a subsystem is open already */
-    NVMESIM_BAD_ID = 23,        /* an identifier of the configuration is wrong, as nvmesim_controller and others have it */
+    NVMESIM_BAD_ID = 23,        /* an identifier of the configuration is wrong */
     NVMESIM_BAD_SIZE = 24,      /* a namespace has no blocks, or more than 65,536 */
     NVMESIM_TOO_MANY = 25,      /* more than 16 controllers, 8 namespaces or 128 attachments */
     NVMESIM_DOES_NOT_FIT = 26,  /* the namespaces have more blocks together than the medium */
-    NVMESIM_NO_MEMORY = 27      /* memory was refused */
+    NVMESIM_NO_MEMORY = 27,     /* memory was refused */
+    NVMESIM_NO_QUEUE = 28,      /* the controller has no such queue */
+    NVMESIM_NOT_READY = 29,     /* the controller does not run: its CSTS (1Ch) is not 1 */
+    NVMESIM_BUSY = 30,          /* something waits at the queue already, or the controller has 64 commands */
+    NVMESIM_NO_NAMESPACE = 31,  /* there is no such namespace */
+    NVMESIM_NO_REGISTRANT = 32  /* there is no such registrant */
 };
 
 /* What an event gave. What does not come with an answer is 0. */
@@ -98,6 +104,46 @@ typedef struct nvmesim_bytes {
     uint8_t *at;
     size_t count;
 } nvmesim_bytes;
+
+/* A queue, as its controller has it. What does not come with an answer is 0, here and below. */
+typedef struct nvmesim_queue {
+    uint64_t base; /* its address in the memory of the host */
+    uint32_t what; /* NVMESIM_OK, or why there is none */
+    uint16_t size; /* how many entries it has */
+    uint16_t head; /* the slot of the next command to fetch, or of the first completion that is not consumed */
+    uint16_t tail; /* the slot behind the last command, or that of the next completion */
+    uint16_t cqid; /* the completion queue: itself, or where the completions of a submission queue go */
+    bool phase;    /* of a completion queue, the phase tag of the next completion */
+} nvmesim_queue;
+
+/* A command that was fetched and not executed. */
+typedef struct nvmesim_command {
+    size_t count;      /* how many there are, whether this is one or not */
+    uint32_t what;     /* NVMESIM_OK, or why there is none */
+    uint16_t qid;      /* its submission queue */
+    bool marked;       /* whether a Preempt and Abort has caught it: it will be aborted */
+    uint8_t entry[64]; /* its submission queue entry */
+} nvmesim_command;
+
+/* The reservation of a namespace. */
+typedef struct nvmesim_hold {
+    uint64_t host_low;   /* the host that holds it: 0 where none does, and under types 5 and 6, where each does that */
+    uint64_t host_high;  /* is registered */
+    size_t registrants;  /* how many hosts are registered */
+    uint32_t what;       /* NVMESIM_OK, or why there is none */
+    uint32_t generation; /* the generation counter, PRgeneration */
+    uint32_t protection; /* the write protection of the namespace: 0 none, 1 protected, 2 that until a power cycle */
+    uint8_t rtype;       /* the reservation type, 1 to 6, or 0 where none holds it */
+    bool ptpl;           /* whether all this persists through power loss */
+} nvmesim_hold;
+
+/* A host that is registered with a namespace. */
+typedef struct nvmesim_registered {
+    uint64_t host_low;
+    uint64_t host_high;
+    uint64_t key;  /* its reservation key */
+    uint32_t what; /* NVMESIM_OK, or why there is none */
+} nvmesim_registered;
 
 /* The version of the library. */
 uint32_t nvmesim_version(void);
@@ -137,6 +183,13 @@ nvmesim_answer nvmesim_fetch(nvmesim *sim, uint16_t cntlid, uint16_t qid);
  * CQ_FULL; or NO_CONTROLLER, CLOSED. */
 nvmesim_answer nvmesim_execute(nvmesim *sim, uint16_t cntlid, size_t i);
 
+/* One command from its entry (64 bytes) to its completion queue entry (16 bytes), for a host that wants no order of its
+ * own: store at the tail of the submission queue, tail doorbell, fetch, execute, load of the completion, head doorbell.
+ * These are the events, and no other comes between. POSTED, with the status; or NOT_READY, NO_QUEUE, NO_CONTROLLER,
+ * CLOSED, or BUSY where a command waits at the queue, a completion at its completion queue, or the controller has 64
+ * commands; then nothing has happened, and the completion is not written. */
+nvmesim_answer nvmesim_submit(nvmesim *sim, uint16_t cntlid, uint16_t qid, const uint8_t *entry, uint8_t *completion);
+
 /* Power is lost in all of the subsystem, and comes back: CYCLED, or CLOSED. */
 nvmesim_answer nvmesim_power_cycle(nvmesim *sim);
 
@@ -146,6 +199,31 @@ uint32_t nvmesim_load(nvmesim *sim, uint16_t cntlid, uint64_t address, uint8_t *
 /* Reads blocks of a namespace as the medium has them. No host reads here, so no reservation is asked. OK; or OUTSIDE,
  * NOT_WHOLE, CLOSED, and nothing is written; or MEDIUM_FAULT. */
 uint32_t nvmesim_read_blocks(nvmesim *sim, uint32_t nsid, uint64_t slba, uint8_t *bytes, size_t count);
+
+/* What follows looks, and changes nothing. */
+
+/* A submission and a completion queue of a controller, 0 to 4: OK, NO_QUEUE, NO_CONTROLLER, CLOSED. */
+nvmesim_queue nvmesim_submission_queue(nvmesim *sim, uint16_t cntlid, uint16_t qid);
+nvmesim_queue nvmesim_completion_queue(nvmesim *sim, uint16_t cntlid, uint16_t qid);
+
+/* The i-th, from 0, of the commands that a controller has fetched and not executed: OK, NO_SUCH, NO_CONTROLLER,
+ * CLOSED. */
+nvmesim_command nvmesim_fetched(nvmesim *sim, uint16_t cntlid, size_t i);
+
+/* Whether a controller is attached to a namespace: VALUE, with 1 or 0, or CLOSED. */
+nvmesim_answer nvmesim_is_attached(nvmesim *sim, uint16_t cntlid, uint32_t nsid);
+
+/* The reservation of a namespace: OK, NO_NAMESPACE, CLOSED. */
+nvmesim_hold nvmesim_reservation(nvmesim *sim, uint32_t nsid);
+
+/* The i-th, from 0, of the hosts that are registered with it, by rising identifier: OK, NO_REGISTRANT, NO_NAMESPACE,
+ * CLOSED. */
+nvmesim_registered nvmesim_registrant(nvmesim *sim, uint32_t nsid, size_t i);
+
+/* The standard's name of a status, as "Reservation Conflict" for 0 and 83h, or "Unlisted" for one that no command
+ * answers: as many of its bytes as the buffer takes, and zeros behind them. The result is the length of the name: no
+ * name has more than 47 bytes. */
+size_t nvmesim_status_name(uint8_t sct, uint8_t sc, uint8_t *bytes, size_t count);
 
 #ifdef __cplusplus
 }

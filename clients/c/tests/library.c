@@ -35,7 +35,7 @@ static void entry(uint8_t bytes[64], uint8_t opcode, uint32_t nsid, uint64_t prp
     memcpy(bytes + 44, &dw11, 4);
 }
 
-static nvmesim_answer submit(nvmesim *sim, uint16_t cntlid, uint16_t qid, uint32_t at, const uint8_t bytes[64]) {
+static nvmesim_answer by_calls(nvmesim *sim, uint16_t cntlid, uint16_t qid, uint32_t at, const uint8_t bytes[64]) {
     CHECK(nvmesim_store(sim, cntlid, (qid ? IO_SQ : 0) + 64 * at, bytes, 64).what == NVMESIM_STORED);
     CHECK(nvmesim_write32(sim, cntlid, DOORBELLS + 8 * qid, at + 1).what == NVMESIM_WROTE);
     CHECK(nvmesim_fetch(sim, cntlid, qid).what == NVMESIM_TOOK);
@@ -49,10 +49,10 @@ static void up(nvmesim *sim, uint16_t cntlid) {
     nvmesim_write32(sim, cntlid, ACQ, ADMIN_CQ);
     nvmesim_write32(sim, cntlid, CC, 4 << 20 | 6 << 16 | 1);
     entry(bytes, 0x05, 0, IO_CQ, (ENTRIES - 1) << 16 | 1, 1);
-    nvmesim_answer answer = submit(sim, cntlid, 0, 0, bytes);
+    nvmesim_answer answer = by_calls(sim, cntlid, 0, 0, bytes);
     CHECK(answer.what == NVMESIM_POSTED && answer.sct == 0 && answer.sc == 0);
     entry(bytes, 0x01, 0, IO_SQ, (ENTRIES - 1) << 16 | 1, 1 << 16 | 1);
-    answer = submit(sim, cntlid, 0, 1, bytes);
+    answer = by_calls(sim, cntlid, 0, 1, bytes);
     CHECK(answer.what == NVMESIM_POSTED && answer.sct == 0 && answer.sc == 0);
 }
 
@@ -69,6 +69,13 @@ static void closed(void) {
     CHECK(nvmesim_power_cycle(&sim).what == NVMESIM_CLOSED);
     CHECK(nvmesim_load(&sim, 1, 0, bytes, 512) == NVMESIM_CLOSED && bytes[0] == 7);
     CHECK(nvmesim_read_blocks(&sim, 1, 0, bytes, 512) == NVMESIM_CLOSED && bytes[0] == 7);
+    CHECK(nvmesim_submit(&sim, 1, 0, bytes, bytes + 64).what == NVMESIM_CLOSED && bytes[64] == 7);
+    CHECK(nvmesim_submission_queue(&sim, 1, 0).what == NVMESIM_CLOSED);
+    CHECK(nvmesim_completion_queue(&sim, 1, 0).what == NVMESIM_CLOSED);
+    CHECK(nvmesim_fetched(&sim, 1, 0).what == NVMESIM_CLOSED);
+    CHECK(nvmesim_is_attached(&sim, 1, 1).what == NVMESIM_CLOSED);
+    CHECK(nvmesim_reservation(&sim, 1).what == NVMESIM_CLOSED);
+    CHECK(nvmesim_registrant(&sim, 1, 0).what == NVMESIM_CLOSED);
     nvmesim_close(&sim);
     CHECK(sim.subsystem == NULL && !sim.is_open);
 }
@@ -149,11 +156,11 @@ static void largest(void) {
     nvmesim_store(&one, COUNT, DATA, block, sizeof block);
     uint8_t command[64];
     entry(command, 0x01, 8, DATA, BLOCKS - 1, 0);
-    nvmesim_answer answer = submit(&one, COUNT, 1, 0, command);
+    nvmesim_answer answer = by_calls(&one, COUNT, 1, 0, command);
     CHECK(answer.what == NVMESIM_POSTED && answer.sct == 0 && answer.sc == 0);
     CHECK(nvmesim_read_blocks(&one, 8, BLOCKS - 1, read, 512) == NVMESIM_OK && memcmp(read, block, 512) == 0);
     entry(command, 0x01, 1, DATA, 0, 0);
-    answer = submit(&one, COUNT, 1, 1, command);
+    answer = by_calls(&one, COUNT, 1, 1, command);
     CHECK(answer.what == NVMESIM_POSTED && (answer.sct || answer.sc) && answer.rule != 0);
     CHECK(nvmesim_power_cycle(&one).what == NVMESIM_CYCLED && nvmesim_read32(&one, COUNT, CSTS).value == 0);
     nvmesim_close(&one);
@@ -170,7 +177,7 @@ static void full(void) {
     up(&sim, 1);
     entry(command, 0x00, 1, 0, 0, 0);
     for (uint32_t i = 0; i + 1 < ENTRIES; i++)
-        CHECK(submit(&sim, 1, 1, i, command).what == NVMESIM_POSTED);
+        CHECK(by_calls(&sim, 1, 1, i, command).what == NVMESIM_POSTED);
     nvmesim_store(&sim, 1, IO_SQ + 64 * (ENTRIES - 1), command, 64);
     CHECK(nvmesim_write32(&sim, 1, DOORBELLS + 8, 0).what == NVMESIM_WROTE);
     CHECK(nvmesim_fetch(&sim, 1, 1).what == NVMESIM_TOOK);
@@ -180,11 +187,170 @@ static void full(void) {
     nvmesim_close(&sim);
 }
 
-/* What is opened is given back: valgrind and the sanitizer see what is not, and the address space can't hold them all. */
+/* One call does what six do: the same answers, completions and blocks, round and round the queues. */
+static void submitting(void) {
+    nvmesim one = NVMESIM_NONE, other = NVMESIM_NONE;
+    uint8_t command[64], completion[16], wanted[16], block[512];
+    CHECK(open_two(&one) == NVMESIM_OK && open_two(&other) == NVMESIM_OK);
+    up(&one, 2);
+    up(&other, 2);
+    memset(block, 0x5a, sizeof block);
+    for (uint32_t i = 0; i < 3 * ENTRIES + 1; i++) {
+        uint32_t slot = i % ENTRIES, slba = 8 * (i % 9);
+        entry(command, i % 3 ? 0x01 : 0x02, 1, DATA, slba, 0);
+        CHECK(nvmesim_store(&one, 2, DATA, block, sizeof block).what == NVMESIM_STORED);
+        CHECK(nvmesim_store(&other, 2, DATA, block, sizeof block).what == NVMESIM_STORED);
+        nvmesim_answer answer = nvmesim_submit(&one, 2, 1, command, completion);
+        CHECK(nvmesim_store(&other, 2, IO_SQ + 64 * slot, command, 64).what == NVMESIM_STORED);
+        CHECK(nvmesim_write32(&other, 2, DOORBELLS + 8, (slot + 1) % ENTRIES).what == NVMESIM_WROTE);
+        CHECK(nvmesim_fetch(&other, 2, 1).what == NVMESIM_TOOK);
+        nvmesim_answer same = nvmesim_execute(&other, 2, 0);
+        CHECK(nvmesim_load(&other, 2, IO_CQ + 16 * slot, wanted, 16) == NVMESIM_OK);
+        CHECK(nvmesim_write32(&other, 2, DOORBELLS + 12, (slot + 1) % ENTRIES).what == NVMESIM_WROTE);
+        CHECK(answer.what == NVMESIM_POSTED && answer.sct == same.sct && answer.sc == same.sc);
+        CHECK(answer.rule == same.rule && answer.value == same.value);
+        CHECK(memcmp(completion, wanted, 16) == 0);
+        block[i % 512]++;
+    }
+    uint8_t left[64 * 512], right[64 * 512];
+    CHECK(nvmesim_read_blocks(&one, 1, 0, left, sizeof left) == NVMESIM_OK);
+    CHECK(nvmesim_read_blocks(&other, 1, 0, right, sizeof right) == NVMESIM_OK);
+    CHECK(memcmp(left, right, sizeof left) == 0);
+    nvmesim_close(&one);
+    nvmesim_close(&other);
+}
+
+/* A turn that can't be taken is refused, and nothing has happened. */
+static void no_turn(void) {
+    nvmesim sim = NVMESIM_NONE;
+    uint8_t command[64], completion[16];
+    CHECK(open_two(&sim) == NVMESIM_OK);
+    entry(command, 0x00, 1, 0, 0, 0);
+    memset(completion, 7, sizeof completion);
+#define REFUSED(cntlid, qid, why) \
+    CHECK(nvmesim_submit(&sim, cntlid, qid, command, completion).what == (why) && completion[0] == 7)
+    REFUSED(1, 0, NVMESIM_NOT_READY);
+    REFUSED(0, 0, NVMESIM_NO_CONTROLLER);
+    REFUSED(3, 0, NVMESIM_NO_CONTROLLER);
+    up(&sim, 1);
+    REFUSED(1, 0, NVMESIM_BUSY);
+    CHECK(nvmesim_completion_queue(&sim, 1, 0).head == 0 && nvmesim_completion_queue(&sim, 1, 0).tail == 2);
+    REFUSED(1, 2, NVMESIM_NO_QUEUE);
+    REFUSED(1, 65535, NVMESIM_NO_QUEUE);
+    CHECK(nvmesim_store(&sim, 1, IO_SQ, command, 64).what == NVMESIM_STORED);
+    CHECK(nvmesim_write32(&sim, 1, DOORBELLS + 8, 1).what == NVMESIM_WROTE);
+    REFUSED(1, 1, NVMESIM_BUSY);
+    CHECK(nvmesim_submission_queue(&sim, 1, 1).head == 0 && nvmesim_submission_queue(&sim, 1, 1).tail == 1);
+    CHECK(nvmesim_fetch(&sim, 1, 1).what == NVMESIM_TOOK);
+    CHECK(nvmesim_submit(&sim, 1, 1, command, completion).what == NVMESIM_POSTED);
+    CHECK(nvmesim_fetched(&sim, 1, 0).count == 1 && completion[8] == 2);
+    memset(completion, 7, sizeof completion);
+    CHECK(nvmesim_write32(&sim, 1, CC, 4 << 20 | 6 << 16 | 1 << 14 | 1).what == NVMESIM_WROTE);
+    REFUSED(1, 1, NVMESIM_NOT_READY);
+#undef REFUSED
+    nvmesim_close(&sim);
+}
+
+/* Looks at queues and at fetched commands. */
+static void looks(void) {
+    nvmesim sim = NVMESIM_NONE;
+    uint8_t command[64];
+    CHECK(open_two(&sim) == NVMESIM_OK);
+    CHECK(nvmesim_submission_queue(&sim, 1, 0).what == NVMESIM_NO_QUEUE);
+    CHECK(nvmesim_completion_queue(&sim, 3, 0).what == NVMESIM_NO_CONTROLLER);
+    CHECK(nvmesim_fetched(&sim, 3, 0).what == NVMESIM_NO_CONTROLLER);
+    up(&sim, 1);
+    for (uint32_t i = 0; i < 3; i++) {
+        entry(command, 0x00, 1, 0, i, 0);
+        CHECK(nvmesim_store(&sim, 1, IO_SQ + 64 * i, command, 64).what == NVMESIM_STORED);
+    }
+    CHECK(nvmesim_write32(&sim, 1, DOORBELLS + 8, 3).what == NVMESIM_WROTE);
+    CHECK(nvmesim_fetch(&sim, 1, 1).what == NVMESIM_TOOK && nvmesim_fetch(&sim, 1, 1).what == NVMESIM_TOOK);
+    nvmesim_queue queue = nvmesim_submission_queue(&sim, 1, 1);
+    CHECK(queue.what == NVMESIM_OK && queue.base == IO_SQ && queue.size == ENTRIES && queue.cqid == 1);
+    CHECK(queue.head == 2 && queue.tail == 3);
+    nvmesim_command second = nvmesim_fetched(&sim, 1, 1);
+    CHECK(second.what == NVMESIM_OK && second.count == 2 && second.qid == 1 && !second.marked);
+    CHECK(second.entry[40] == 1 && second.entry[4] == 1);
+    CHECK(nvmesim_fetched(&sim, 1, 2).what == NVMESIM_NO_SUCH && nvmesim_fetched(&sim, 1, 2).count == 2);
+    CHECK(nvmesim_execute(&sim, 1, 0).what == NVMESIM_POSTED);
+    queue = nvmesim_completion_queue(&sim, 1, 1);
+    CHECK(queue.what == NVMESIM_OK && queue.base == IO_CQ && queue.size == ENTRIES && queue.cqid == 1);
+    CHECK(queue.head == 0 && queue.tail == 1 && queue.phase);
+    CHECK(nvmesim_fetched(&sim, 1, 0).entry[40] == 1);
+    nvmesim_close(&sim);
+}
+
+/* The reservation, its registrants, and what a Preempt and Abort marks. */
+static void reservations(void) {
+    nvmesim sim = NVMESIM_NONE;
+    uint8_t command[64], completion[16];
+    const uint64_t first[] = {0, 0x11}, second[] = {0, 0x22}, current[] = {0x11, 0}, preempt[] = {0x11, 0x22};
+    CHECK(open_two(&sim) == NVMESIM_OK);
+    CHECK(nvmesim_is_attached(&sim, 2, 1).what == NVMESIM_VALUE && nvmesim_is_attached(&sim, 2, 1).value == 1);
+    CHECK(nvmesim_is_attached(&sim, 2, 2).value == 0 && nvmesim_is_attached(&sim, 0, 1).value == 0);
+    CHECK(nvmesim_reservation(&sim, 2).what == NVMESIM_NO_NAMESPACE);
+    CHECK(nvmesim_registrant(&sim, 2, 0).what == NVMESIM_NO_NAMESPACE);
+    CHECK(nvmesim_registrant(&sim, 1, 0).what == NVMESIM_NO_REGISTRANT);
+    nvmesim_hold hold = nvmesim_reservation(&sim, 1);
+    CHECK(hold.what == NVMESIM_OK && hold.registrants == 0 && hold.rtype == 0 && hold.generation == 0 && !hold.ptpl);
+    up(&sim, 1);
+    up(&sim, 2);
+#define DONE(cntlid, opcode, keys, dw10) \
+    do { \
+        CHECK(nvmesim_store(&sim, cntlid, DATA, (const uint8_t *)(keys), sizeof(keys)).what == NVMESIM_STORED); \
+        entry(command, opcode, 1, DATA, dw10, 0); \
+        nvmesim_answer answer = nvmesim_submit(&sim, cntlid, 1, command, completion); \
+        CHECK(answer.what == NVMESIM_POSTED && answer.sct == 0 && answer.sc == 0); \
+    } while (0)
+    DONE(1, 0x0d, first, 0);
+    DONE(2, 0x0d, second, 3u << 30);
+    DONE(1, 0x11, current, 1 << 8);
+    hold = nvmesim_reservation(&sim, 1);
+    CHECK(hold.what == NVMESIM_OK && hold.registrants == 2 && hold.rtype == 1 && hold.generation == 2 && hold.ptpl);
+    CHECK(hold.host_low == 0xa1 && hold.host_high == 0 && hold.protection == 0);
+    nvmesim_registered one = nvmesim_registrant(&sim, 1, 0), other = nvmesim_registrant(&sim, 1, 1);
+    CHECK(one.what == NVMESIM_OK && one.host_low == 0xa1 && one.host_high == 0 && one.key == 0x11);
+    CHECK(other.what == NVMESIM_OK && other.host_low == 0xb2 && other.host_high == 0xc3 && other.key == 0x22);
+    CHECK(nvmesim_registrant(&sim, 1, 2).what == NVMESIM_NO_REGISTRANT);
+    entry(command, 0x02, 1, DATA, 0, 0);
+    CHECK(nvmesim_store(&sim, 2, IO_SQ + 64, command, 64).what == NVMESIM_STORED);
+    CHECK(nvmesim_write32(&sim, 2, DOORBELLS + 8, 2).what == NVMESIM_WROTE);
+    CHECK(nvmesim_fetch(&sim, 2, 1).what == NVMESIM_TOOK && !nvmesim_fetched(&sim, 2, 0).marked);
+    DONE(1, 0x11, preempt, 1 << 8 | 2);
+    CHECK(nvmesim_fetched(&sim, 2, 0).marked && nvmesim_reservation(&sim, 1).registrants == 1);
+    nvmesim_answer aborted = nvmesim_execute(&sim, 2, 0);
+    CHECK(aborted.what == NVMESIM_POSTED && aborted.sct == 0 && aborted.sc == 0x1b && aborted.rule == 1);
+#undef DONE
+    nvmesim_close(&sim);
+}
+
+/* The names of statuses. */
+static void names(void) {
+    char name[48];
+    CHECK(nvmesim_status_name(0, 0x83, (uint8_t *)name, sizeof name) == 20);
+    CHECK(strcmp(name, "Reservation Conflict") == 0);
+    CHECK(nvmesim_status_name(2, 0x85, (uint8_t *)name, 7) == 15 && memcmp(name, "Compare Conflict", 7) == 0);
+    int unlisted = 0;
+    for (unsigned code = 0; code < 0x10000; code++) {
+        CHECK(nvmesim_status_name((uint8_t)(code >> 8), (uint8_t)code, (uint8_t *)name, sizeof name) == strlen(name));
+        unlisted += strcmp(name, "Unlisted") == 0;
+    }
+    CHECK(0x10000 - unlisted == 25);
+}
+
+/* What is opened is given back: valgrind and the sanitizer see what is not, and the address space can't hold them all.
+ * Two controllers have 8 MiB of windows; without a controller there are the blocks. */
 static void again(int count) {
     nvmesim sim = NVMESIM_NONE;
+    const nvmesim_namespace one[] = {{256, 1, true}};
+    static const uint8_t blocks[256 * 512];
     for (int i = 0; i < count; i++) {
         CHECK(open_two(&sim) == NVMESIM_OK);
+        nvmesim_close(&sim);
+    }
+    for (int i = 0; i < 10 * count; i++) {
+        CHECK(nvmesim_open(&sim, NVMESIM_VERSION, two, 0, one, 1, both, 0, blocks, sizeof blocks) == NVMESIM_OK);
         nvmesim_close(&sim);
     }
 }
@@ -195,6 +361,11 @@ int main(int count, char **words) {
     refusals();
     largest();
     full();
+    submitting();
+    no_turn();
+    looks();
+    reservations();
+    names();
     again(count > 1 ? atoi(words[1]) : 100);
     return failures ? 1 : 0;
 }

@@ -9,6 +9,7 @@ from .controllers import ControllerLike, number_of
 from .errors import NotDone
 from .hosts import Namespace, NamespaceLike, nsid_of
 from .lines import Bytes
+from .looks import FetchedCommand, Queue, ReservationState
 
 BLOCKS = 1024
 """The blocks of the medium, as of a program without an image."""
@@ -30,6 +31,14 @@ class LibraryController:
     def execute(self, place: int = 0) -> Executed:
         """Executes the command at this place, from 0, of those that were fetched."""
         return self._opened().execute(self.number, place)
+
+    def fetched(self) -> List[FetchedCommand]:
+        """The commands that were fetched and not executed, by their places. Changes nothing."""
+        return self._opened().fetched(self.number)
+
+    def queues(self) -> List[Queue]:
+        """The queues. Changes nothing."""
+        return self._opened().queues(self.number)
 
     def register(self, offset: int) -> int:
         """What a read of 32 bits at this offset gives. Changes nothing."""
@@ -65,6 +74,12 @@ class LibraryHost:
     def write32(self, offset: int, value: int) -> Wrote32:
         """Writes 32 bits to the register at this offset."""
         return self._opened().write32(self.number, offset, value)
+
+    def submit(self, queue: int, entry: Bytes) -> library.Submitted:
+        """One command from its submission queue entry to its completion, with no other event between: store at the
+        tail of the queue, doorbell, fetch, execute, completion, doorbell. `NotDone` where something waits there, and
+        nothing has happened then."""
+        return self._opened().submit(self.number, queue, bytes(entry))
 
     def window(self, address: int, length: int) -> bytes:
         """Bytes of its window. Changes nothing."""
@@ -136,6 +151,14 @@ class LibrarySubsystem:
     def blocks(self, namespace: NamespaceLike, slba: int, count: int = 1) -> bytes:
         """Blocks as the medium has them, 512 bytes each. Changes nothing."""
         return self._opened().blocks(nsid_of(namespace), slba, count)
+
+    def reservation(self, namespace: NamespaceLike) -> ReservationState:
+        """The reservation of a namespace, with its registrants. Changes nothing."""
+        return self._opened().reservation(nsid_of(namespace))
+
+    def is_attached(self, controller: ControllerLike, namespace: NamespaceLike) -> bool:
+        """Whether a controller has a namespace. Changes nothing."""
+        return self._opened().is_attached(number_of(controller), nsid_of(namespace))
 
     def _opened(self) -> library.Open:
         if not self._open:

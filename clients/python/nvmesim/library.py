@@ -9,13 +9,15 @@ import ctypes.util
 import functools
 import os
 import sys
+from dataclasses import dataclass
 from pathlib import Path
 from types import TracebackType
-from typing import Dict, Optional, Sequence, Tuple, Type
+from typing import Any, Dict, List, Optional, Sequence, Tuple, Type
 
 from .answers import BLOCK_BYTES, Executed, Fetched, PowerCycled, Stored, Wrote32
-from .enums import ExecuteOutcome, Rule, Status
+from .enums import AdminOpcode, ExecuteOutcome, IoOpcode, Protection, ReservationType, Rule, Status
 from .errors import ConfigurationRefused, NotDone, ProgramNotFound, SessionClosed
+from .looks import FetchedCommand, Queue, ReservationState
 
 VARIABLE = "NVMESIM_LIBRARY"
 """The variable of the environment that names the shared object."""
@@ -25,7 +27,9 @@ VERSION = 1
 
 # The numbers of answers, as nvmesim.h has them.
 STORED, WROTE, VALUE, TOOK, IDLE, POSTED, NO_SUCH, CQ_FULL, CYCLED = range(1, 10)
-OK, CLOSED, NO_CONTROLLER, OUTSIDE = 0, 16, 17, 18
+OK, CLOSED, NO_CONTROLLER, OUTSIDE, NO_QUEUE = 0, 16, 17, 18, 28
+_REASONS = {OUTSIDE: "not all of it lies inside", NO_QUEUE: "there is no such queue", 29: "the controller does not run",
+            30: "something waits at the queue", 31: "there is no such namespace"}
 _FAULTS = {21: "BadVersion", 23: "BadId", 24: "BadSize", 25: "TooMany", 26: "DoesNotFit", 27: "NoMemory"}
 _STATUSES = {(int(it.code[0], 16), int(it.code[2:], 16)): it for it in Status}
 _OUTCOMES = {NO_SUCH: ExecuteOutcome.NONE, CQ_FULL: ExecuteOutcome.FULL}
@@ -52,6 +56,28 @@ class _Answer(ctypes.Structure):
                 ("rule", ctypes.c_uint8)]
 
 
+class _Queue(ctypes.Structure):
+    _fields_ = [("base", ctypes.c_uint64), ("what", ctypes.c_uint32), ("size", ctypes.c_uint16),
+                ("head", ctypes.c_uint16), ("tail", ctypes.c_uint16), ("cqid", ctypes.c_uint16),
+                ("phase", ctypes.c_bool)]
+
+
+class _Command(ctypes.Structure):
+    _fields_ = [("count", ctypes.c_size_t), ("what", ctypes.c_uint32), ("qid", ctypes.c_uint16),
+                ("marked", ctypes.c_bool), ("entry", ctypes.c_uint8 * 64)]
+
+
+class _Hold(ctypes.Structure):
+    _fields_ = [("host_low", ctypes.c_uint64), ("host_high", ctypes.c_uint64), ("registrants", ctypes.c_size_t),
+                ("what", ctypes.c_uint32), ("generation", ctypes.c_uint32), ("protection", ctypes.c_uint32),
+                ("rtype", ctypes.c_uint8), ("ptpl", ctypes.c_bool)]
+
+
+class _Registered(ctypes.Structure):
+    _fields_ = [("host_low", ctypes.c_uint64), ("host_high", ctypes.c_uint64), ("key", ctypes.c_uint64),
+                ("what", ctypes.c_uint32)]
+
+
 _ADDRESS, _COUNT, _NUMBER, _LONG = ctypes.c_void_p, ctypes.c_size_t, ctypes.c_uint32, ctypes.c_uint64
 _CNTLID, _SLICE = ctypes.c_uint16, (ctypes.c_char_p, ctypes.c_size_t)
 _SIM = ctypes.POINTER(_Sim)
@@ -64,10 +90,35 @@ _CALLS: Dict[str, Tuple[object, Sequence[object]]] = {
     "nvmesim_read32": (_Answer, (_SIM, _CNTLID, _LONG)),
     "nvmesim_fetch": (_Answer, (_SIM, _CNTLID, ctypes.c_uint16)),
     "nvmesim_execute": (_Answer, (_SIM, _CNTLID, _COUNT)),
+    "nvmesim_submit": (_Answer, (_SIM, _CNTLID, ctypes.c_uint16, ctypes.c_char_p, _ADDRESS)),
     "nvmesim_power_cycle": (_Answer, (_SIM,)),
     "nvmesim_load": (_NUMBER, (_SIM, _CNTLID, _LONG, _ADDRESS, _COUNT)),
     "nvmesim_read_blocks": (_NUMBER, (_SIM, _NUMBER, _LONG, _ADDRESS, _COUNT)),
+    "nvmesim_submission_queue": (_Queue, (_SIM, _CNTLID, ctypes.c_uint16)),
+    "nvmesim_completion_queue": (_Queue, (_SIM, _CNTLID, ctypes.c_uint16)),
+    "nvmesim_fetched": (_Command, (_SIM, _CNTLID, _COUNT)),
+    "nvmesim_is_attached": (_Answer, (_SIM, _CNTLID, _NUMBER)),
+    "nvmesim_reservation": (_Hold, (_SIM, _NUMBER)),
+    "nvmesim_registrant": (_Registered, (_SIM, _NUMBER, _COUNT)),
+    "nvmesim_status_name": (_COUNT, (ctypes.c_uint8, ctypes.c_uint8, _ADDRESS, _COUNT)),
 }
+
+
+@dataclass(frozen=True)
+class Submitted:
+    """What a command in one call came to.
+
+    Attributes:
+        status: its status.
+        rule: the rule that denied it, or NONE.
+        value: double word 0 of its completion queue entry.
+        entry: that entry, 16 bytes.
+    """
+
+    status: Status
+    rule: Rule
+    value: int
+    entry: bytes
 
 
 def find_library() -> str:
@@ -110,6 +161,25 @@ def load(path: str) -> ctypes.CDLL:
     if found.nvmesim_version() != VERSION:
         raise ProgramNotFound(f"{path} has version {found.nvmesim_version()} of the interface, not {VERSION}")
     return found
+
+
+def command_name(queue: int, opcode: int) -> str:
+    """The name of a command, as a session shows it."""
+    try:
+        named = AdminOpcode(opcode).name.replace("_IO_", "_") if queue == 0 else IoOpcode(opcode).name
+    except ValueError:
+        return "unknown"
+    return named.lower()
+
+
+def _command(place: int, seen: _Command) -> FetchedCommand:
+    entry = bytes(seen.entry)
+    return FetchedCommand(place, seen.qid, int.from_bytes(entry[2:4], "little"), entry[0],
+                          command_name(seen.qid, entry[0]), int.from_bytes(entry[4:8], "little"), seen.marked)
+
+
+def _identifier(seen: Any) -> int:
+    return int(seen.host_low) | int(seen.host_high) << 64
 
 
 def fits(*given: Tuple[int, int]) -> None:
@@ -198,6 +268,22 @@ class Open:
             return Executed(cntlid, place, _OUTCOMES[answer.what])
         return Executed(cntlid, place, ExecuteOutcome.POSTED, _STATUSES[answer.sct, answer.sc], Rule(answer.rule))
 
+    def submit(self, cntlid: int, queue: int, entry: bytes) -> Submitted:
+        """One command from its entry to its completion: store, tail doorbell, fetch, execute, load, head doorbell.
+
+        Raises:
+            NotDone: there is no such queue, the controller does not run, or something waits at the queue already;
+                nothing has happened then.
+        """
+        fits((cntlid, 16), (queue, 16))
+        if len(entry) != 64:
+            raise ValueError(f"a submission queue entry has 64 bytes, not {len(entry)}")
+        room = ctypes.create_string_buffer(16)
+        answer = self._library.nvmesim_submit(self._at, cntlid, queue, entry, room)
+        if answer.what != POSTED:
+            self._done(answer.what, cntlid)
+        return Submitted(_STATUSES[answer.sct, answer.sc], Rule(answer.rule), answer.value, room.raw)
+
     def power_cycle(self) -> PowerCycled:
         """Power is lost, and comes back."""
         self._checked(self._library.nvmesim_power_cycle(self._at), 0)
@@ -218,6 +304,45 @@ class Open:
         self._done(self._library.nvmesim_read_blocks(self._at, nsid, slba, room, length), 0)
         return room.raw[:length]
 
+    def queues(self, cntlid: int) -> List[Queue]:
+        """The queues of a controller."""
+        fits((cntlid, 16))
+        found: List[Queue] = []
+        for number in range(5):
+            sq = self._library.nvmesim_submission_queue(self._at, cntlid, number)
+            cq = self._library.nvmesim_completion_queue(self._at, cntlid, number)
+            for it in (sq, cq):
+                if it.what != NO_QUEUE:
+                    self._done(it.what, cntlid)
+            if sq.what == OK:
+                found.append(Queue(True, number, sq.base, sq.size, sq.head, sq.tail, sq.cqid))
+            if cq.what == OK:
+                found.append(Queue(False, number, cq.base, cq.size, cq.head, cq.tail, None, int(cq.phase)))
+        return found
+
+    def fetched(self, cntlid: int) -> List[FetchedCommand]:
+        """The commands that a controller has fetched and not executed."""
+        fits((cntlid, 16))
+        first = self._library.nvmesim_fetched(self._at, cntlid, 0)
+        if first.what != NO_SUCH:
+            self._done(first.what, cntlid)
+        return [_command(i, self._library.nvmesim_fetched(self._at, cntlid, i)) for i in range(first.count)]
+
+    def is_attached(self, cntlid: int, nsid: int) -> bool:
+        """Whether a controller has a namespace."""
+        fits((cntlid, 16), (nsid, 32))
+        return bool(self._checked(self._library.nvmesim_is_attached(self._at, cntlid, nsid), cntlid).value)
+
+    def reservation(self, nsid: int) -> ReservationState:
+        """The reservation of a namespace."""
+        fits((nsid, 32))
+        hold = self._library.nvmesim_reservation(self._at, nsid)
+        self._done(hold.what, 0)
+        registered = [self._library.nvmesim_registrant(self._at, nsid, i) for i in range(hold.registrants)]
+        rtype = ReservationType(hold.rtype)
+        return ReservationState(rtype, _identifier(hold) or None, rtype.value > 4, hold.generation, hold.ptpl,
+                                Protection(hold.protection), {_identifier(it): it.key for it in registered})
+
     def _checked(self, answer: _Answer, cntlid: int) -> _Answer:
         if answer.what >= CLOSED and answer.what != OUTSIDE:
             self._done(answer.what, cntlid)
@@ -228,7 +353,5 @@ class Open:
             raise SessionClosed("the subsystem was closed")
         if what == NO_CONTROLLER:
             raise NotDone(f"there is no controller {cntlid}")
-        if what == OUTSIDE:
-            raise NotDone("not all of it lies inside")
         if what != OK:
-            raise NotDone(f"the library answered {what}")
+            raise NotDone(_REASONS.get(what, f"the library answered {what}"))

@@ -1,15 +1,18 @@
 """The subsystem over the library: the same answers and bytes as over the program, and what is refused."""
 from __future__ import annotations
 
+import ctypes
 import os
 import random
+import subprocess
+import sys
 import unittest
 from typing import Any, List
 
 from nvmesim import (ConfigurationRefused, LibrarySubsystem, NotDone, ProgramNotFound, SessionClosed, Status, Subsystem,
                      library)
 
-from .support import LIVE
+from .support import LIVE, PACKAGE
 
 HERE = bool(os.environ.get(library.VARIABLE))
 ENTRIES = 16
@@ -67,6 +70,8 @@ def hostile(subsystem: Any, seed: int, count: int) -> List[Any]:
             seen.append(subsystem.power_cycle())
             for it in hosts:
                 up(it)
+        if chance.randrange(20) == 0:
+            seen += [host.controller.queues(), host.controller.fetched(), subsystem.reservation(1)]
     return [*seen, *(host.window(at, 0x8000) for host in hosts for at in (0, 0x10000)), subsystem.blocks(1, 0, 64)]
 
 
@@ -101,6 +106,43 @@ class LibraryTest(unittest.TestCase):
             self.assertEqual([it.status.code for it in answers], ["0:00", "0:00", "0:83", "0:00"])
             self.assertEqual([int(it.rule) for it in answers], [0, 0, 7, 0])
             self.assertEqual(subsystem.blocks(1, 0), data)
+
+    def test_commands_in_one_call(self) -> None:
+        with Subsystem(backend="library") as one, Subsystem(backend="library") as other:
+            host, same = described(one)[0], described(other)[0]
+            up(host)
+            up(same)
+            for k in range(3 * ENTRIES):
+                made = entry(1 + k % 2, 1, 0x10000, k % 66)
+                host.store(0x10000, bytes([k]) * 512)
+                same.store(0x10000, bytes([k]) * 512)
+                came = host.submit(1, made)
+                same.store(0x2000 + 64 * (k % ENTRIES), made)
+                same.write32(0x1008, (k + 1) % ENTRIES)
+                same.controller.fetch()
+                done = same.controller.execute()
+                self.assertEqual((came.status, came.rule), (done.status, done.rule))
+                self.assertEqual(came.entry, same.window(0x3000 + 16 * (k % ENTRIES), 16))
+                same.write32(0x100C, (k + 1) % ENTRIES)
+            self.assertEqual(one.blocks(1, 0, 64), other.blocks(1, 0, 64))
+            self.assertEqual(host.controller.queues(), same.controller.queues())
+            self.assertTrue(one.is_attached(1, 1) and not one.is_attached(1, 2))
+            host.write32(0x1008, 1)
+            self.assertRaises(NotDone, lambda: host.submit(1, entry(2, 1, 0x10000)))
+            self.assertRaises(ValueError, lambda: host.submit(1, b"short"))
+
+    def test_the_example(self) -> None:
+        environment = {**os.environ, "PYTHONPATH": str(PACKAGE)}
+        done = subprocess.run([sys.executable, str(PACKAGE / "examples/two_hosts.py")], capture_output=True, text=True,
+                              env=environment, timeout=60)
+        wanted = (PACKAGE.parent / "c/examples/two_hosts.out").read_text(encoding="utf-8")
+        self.assertEqual((done.returncode, done.stderr, done.stdout), (0, "", wanted))
+
+    def test_names_of_statuses(self) -> None:
+        loaded, room = library.load(library.find_library()), ctypes.create_string_buffer(48)
+        for it in Status:
+            length = loaded.nvmesim_status_name(int(it.code[0], 16), int(it.code[2:], 16), room, 48)
+            self.assertEqual((room.value.decode(), length), (it.text, len(it.text)))
 
     def test_what_is_refused(self) -> None:
         subsystem = Subsystem(backend="library")

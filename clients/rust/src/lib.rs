@@ -50,10 +50,14 @@
 #![deny(unsafe_code)]
 #![warn(missing_docs)]
 
+mod layout;
+mod looks;
 #[allow(unsafe_code)]
 mod raw;
 
-use raw::{Answer, Blocks, Handle};
+use layout::Answer;
+pub use looks::{status_name, Command, Holder, Queue, Registrant, Reservation};
+use raw::{Blocks, Handle};
 use std::fmt;
 
 /// The version of `nvmesim.h` that this crate is written for.
@@ -139,6 +143,14 @@ pub enum Refusal {
     NotWhole,
     /// The medium failed.
     MediumFault,
+    /// The controller has no such queue.
+    NoQueue,
+    /// The controller does not run: its CSTS is not 1.
+    NotReady,
+    /// A command waits at the queue already, a completion at its completion queue, or the controller has 64 commands.
+    Busy,
+    /// There is no such namespace.
+    NoNamespace,
 }
 
 /// What came of a fetch.
@@ -167,6 +179,11 @@ impl Completion {
     /// Whether the status is Successful Completion.
     pub fn is_success(&self) -> bool {
         (self.sct, self.sc) == (0, 0)
+    }
+
+    /// The standard's name of the status.
+    pub fn name(&self) -> String {
+        status_name(self.sct, self.sc)
     }
 }
 
@@ -226,15 +243,19 @@ impl<'a> Subsystem<'a> {
     pub fn execute(&mut self, cntlid: u16, i: usize) -> Result<Executed, Refusal> {
         let answer = self.handle.execute(cntlid, i).checked()?;
         Ok(match answer.what {
-            POSTED => Executed::Posted(Completion {
-                sct: answer.sct,
-                sc: answer.sc,
-                dw0: answer.value,
-                denied_by: (answer.rule != 0).then_some(answer.rule),
-            }),
+            POSTED => Executed::Posted(answer.completion()),
             CQ_FULL => Executed::CqFull,
             _ => Executed::NoSuch,
         })
+    }
+
+    /// One command from its submission queue entry to its completion queue entry: the host stores it at the tail of the
+    /// queue and writes the doorbell, the controller fetches and executes it, and the host reads its completion and
+    /// writes the head doorbell. Nothing may wait at these queues; else nothing happens.
+    pub fn submit(&mut self, cntlid: u16, qid: u16, entry: &[u8; 64]) -> Result<(Completion, [u8; 16]), Refusal> {
+        let mut completion = [0; 16];
+        let answer = self.handle.submit(cntlid, qid, entry, &mut completion).checked()?;
+        Ok((answer.completion(), completion))
     }
 
     /// Power is lost in all of the subsystem, and comes back.
@@ -244,12 +265,12 @@ impl<'a> Subsystem<'a> {
 
     /// Loads bytes of the memory of a controller's host.
     pub fn load(&mut self, cntlid: u16, address: u64, bytes: &mut [u8]) -> Result<(), Refusal> {
-        read(self.handle.load(cntlid, address, bytes))
+        checked(self.handle.load(cntlid, address, bytes))
     }
 
     /// Reads blocks of a namespace as the medium has them. No host reads here, so no reservation is asked.
     pub fn read_blocks(&mut self, nsid: u32, slba: u64, bytes: &mut [u8]) -> Result<(), Refusal> {
-        read(self.handle.read_blocks(nsid, slba, bytes))
+        checked(self.handle.read_blocks(nsid, slba, bytes))
     }
 }
 
@@ -280,6 +301,10 @@ fn refusal(number: u32) -> Refusal {
         17 => Refusal::NoController,
         18 => Refusal::Outside,
         19 => Refusal::NotWhole,
+        28 => Refusal::NoQueue,
+        29 => Refusal::NotReady,
+        30 => Refusal::Busy,
+        31 => Refusal::NoNamespace,
         _ => Refusal::MediumFault,
     }
 }
@@ -292,13 +317,17 @@ impl Answer {
             Err(refusal(self.what))
         }
     }
+
+    fn completion(&self) -> Completion {
+        Completion { sct: self.sct, sc: self.sc, dw0: self.value, denied_by: (self.rule != 0).then_some(self.rule) }
+    }
 }
 
 fn done(answer: Answer) -> Result<(), Refusal> {
     answer.checked().map(|_| ())
 }
 
-fn read(answer: u32) -> Result<(), Refusal> {
+fn checked(answer: u32) -> Result<(), Refusal> {
     if answer == OK {
         Ok(())
     } else {
@@ -326,6 +355,10 @@ impl fmt::Display for Refusal {
             Refusal::Outside => "not all of it lies inside",
             Refusal::NotWhole => "the bytes are no whole number of blocks",
             Refusal::MediumFault => "the medium failed",
+            Refusal::NoQueue => "the controller has no such queue",
+            Refusal::NotReady => "the controller does not run",
+            Refusal::Busy => "something waits at the queue",
+            Refusal::NoNamespace => "there is no such namespace",
         })
     }
 }

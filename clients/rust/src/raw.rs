@@ -3,30 +3,10 @@
 //! What the header asks of its caller is kept here: a [`Handle`] begins closed, is neither copied nor shared, and is
 //! closed when it is dropped; references and slices are never null, and are for as many values as they say.
 
+use crate::layout::{Answer, Bytes, Command, Hold, Queue, Registered, Sim};
 use crate::{Attachment, Controller, Namespace};
 use std::marker::PhantomData;
 use std::ptr;
-
-#[repr(C)]
-struct Sim {
-    subsystem: *mut u8,
-    is_open: bool,
-}
-
-#[repr(C)]
-struct Bytes {
-    at: *mut u8,
-    count: usize,
-}
-
-#[repr(C)]
-pub struct Answer {
-    pub what: u32,
-    pub value: u32,
-    pub sct: u8,
-    pub sc: u8,
-    pub rule: u8,
-}
 
 macro_rules! opening {
     ($name:ident, $($bytes:ident: $kind:ty),+) => {
@@ -49,13 +29,39 @@ extern "C" {
     opening!(nvmesim_open_lent, bytes: Bytes);
     fn nvmesim_close(sim: *mut Sim);
     fn nvmesim_store(sim: *mut Sim, cntlid: u16, address: u64, bytes: *const u8, count: usize) -> Answer;
-    fn nvmesim_write32(sim: *mut Sim, cntlid: u16, offset: u64, value: u32) -> Answer;
-    fn nvmesim_read32(sim: *mut Sim, cntlid: u16, offset: u64) -> Answer;
-    fn nvmesim_fetch(sim: *mut Sim, cntlid: u16, qid: u16) -> Answer;
-    fn nvmesim_execute(sim: *mut Sim, cntlid: u16, i: usize) -> Answer;
-    fn nvmesim_power_cycle(sim: *mut Sim) -> Answer;
+    fn nvmesim_submit(sim: *mut Sim, cntlid: u16, qid: u16, entry: *const u8, completion: *mut u8) -> Answer;
     fn nvmesim_load(sim: *mut Sim, cntlid: u16, address: u64, bytes: *mut u8, count: usize) -> u32;
     fn nvmesim_read_blocks(sim: *mut Sim, nsid: u32, slba: u64, bytes: *mut u8, count: usize) -> u32;
+    fn nvmesim_status_name(sct: u8, sc: u8, bytes: *mut u8, count: usize) -> usize;
+}
+
+/// Declares the calls that take numbers alone, and makes each a method of a handle.
+macro_rules! plain_calls {
+    ($($name:ident = $call:ident($($word:ident: $kind:ty),*) -> $result:ty;)+) => {
+        extern "C" {
+            $(fn $call(sim: *mut Sim $(, $word: $kind)*) -> $result;)+
+        }
+
+        impl Handle<'_> {
+            $(pub fn $name(&mut self $(, $word: $kind)*) -> $result {
+                unsafe { $call(&mut self.sim $(, $word)*) }
+            })+
+        }
+    };
+}
+
+plain_calls! {
+    write32 = nvmesim_write32(cntlid: u16, offset: u64, value: u32) -> Answer;
+    read32 = nvmesim_read32(cntlid: u16, offset: u64) -> Answer;
+    fetch = nvmesim_fetch(cntlid: u16, qid: u16) -> Answer;
+    execute = nvmesim_execute(cntlid: u16, i: usize) -> Answer;
+    power_cycle = nvmesim_power_cycle() -> Answer;
+    submission_queue = nvmesim_submission_queue(cntlid: u16, qid: u16) -> Queue;
+    completion_queue = nvmesim_completion_queue(cntlid: u16, qid: u16) -> Queue;
+    fetched = nvmesim_fetched(cntlid: u16, i: usize) -> Command;
+    is_attached = nvmesim_is_attached(cntlid: u16, nsid: u32) -> Answer;
+    reservation = nvmesim_reservation(nsid: u32) -> Hold;
+    registrant = nvmesim_registrant(nsid: u32, i: usize) -> Registered;
 }
 
 /// A subsystem that is open. It has a raw pointer, so it stays on its thread, as the header wants.
@@ -96,24 +102,8 @@ impl<'a> Handle<'a> {
         unsafe { nvmesim_store(&mut self.sim, cntlid, address, bytes.as_ptr(), bytes.len()) }
     }
 
-    pub fn write32(&mut self, cntlid: u16, offset: u64, value: u32) -> Answer {
-        unsafe { nvmesim_write32(&mut self.sim, cntlid, offset, value) }
-    }
-
-    pub fn read32(&mut self, cntlid: u16, offset: u64) -> Answer {
-        unsafe { nvmesim_read32(&mut self.sim, cntlid, offset) }
-    }
-
-    pub fn fetch(&mut self, cntlid: u16, qid: u16) -> Answer {
-        unsafe { nvmesim_fetch(&mut self.sim, cntlid, qid) }
-    }
-
-    pub fn execute(&mut self, cntlid: u16, i: usize) -> Answer {
-        unsafe { nvmesim_execute(&mut self.sim, cntlid, i) }
-    }
-
-    pub fn power_cycle(&mut self) -> Answer {
-        unsafe { nvmesim_power_cycle(&mut self.sim) }
+    pub fn submit(&mut self, cntlid: u16, qid: u16, entry: &[u8; 64], completion: &mut [u8; 16]) -> Answer {
+        unsafe { nvmesim_submit(&mut self.sim, cntlid, qid, entry.as_ptr(), completion.as_mut_ptr()) }
     }
 
     pub fn load(&mut self, cntlid: u16, address: u64, bytes: &mut [u8]) -> u32 {
@@ -129,4 +119,9 @@ impl Drop for Handle<'_> {
     fn drop(&mut self) {
         unsafe { nvmesim_close(&mut self.sim) }
     }
+}
+
+/// The length of the name of a status, which is written as far as it fits.
+pub fn status_name(sct: u8, sc: u8, bytes: &mut [u8]) -> usize {
+    unsafe { nvmesim_status_name(sct, sc, bytes.as_mut_ptr(), bytes.len()) }
 }

@@ -1,6 +1,8 @@
 //! Tests over the library itself.
 
-use nvmesim::{Attachment, Config, Controller, Executed, Namespace, OpenError, Refusal, Subsystem};
+use nvmesim::{
+    status_name, Attachment, Config, Controller, Executed, Holder, Namespace, OpenError, Refusal, Registrant, Subsystem,
+};
 
 fn config() -> Config {
     Config {
@@ -53,4 +55,71 @@ fn what_is_lent_comes_back() {
     drop(subsystem);
     bytes[0] = 6;
     assert_eq!((read, bytes[0], bytes[2047]), ([5; 512], 6, 5));
+}
+
+const LAST: u32 = 15;
+
+/// A submission queue entry of these fields.
+fn entry(opcode: u8, nsid: u32, prp1: u64, dw10: u32, dw11: u32) -> [u8; 64] {
+    let mut bytes = [0; 64];
+    bytes[0] = opcode;
+    bytes[4..8].copy_from_slice(&nsid.to_le_bytes());
+    bytes[24..32].copy_from_slice(&prp1.to_le_bytes());
+    bytes[40..44].copy_from_slice(&dw10.to_le_bytes());
+    bytes[44..48].copy_from_slice(&dw11.to_le_bytes());
+    bytes
+}
+
+/// Enables a controller, and creates a pair of I/O queues.
+fn up(subsystem: &mut Subsystem, cntlid: u16) {
+    for (offset, value) in [(0x24, LAST << 16 | LAST), (0x28, 0), (0x30, 0x1000), (0x14, 0x0046_0001)] {
+        subsystem.write32(cntlid, offset, value).unwrap();
+    }
+    for made in [entry(5, 0, 0x3000, LAST << 16 | 1, 1), entry(1, 0, 0x2000, LAST << 16 | 1, 1 << 16 | 1)] {
+        assert!(subsystem.submit(cntlid, 0, &made).unwrap().0.is_success());
+    }
+}
+
+#[test]
+fn a_command_in_one_call() {
+    let mut subsystem = Subsystem::open(&config(), &[0; 4 * 512]).unwrap();
+    let write = entry(1, 1, 0x10000, 3, 0);
+    assert_eq!(subsystem.submit(1, 0, &write), Err(Refusal::NotReady));
+    up(&mut subsystem, 1);
+    assert_eq!(subsystem.submit(1, 2, &write), Err(Refusal::NoQueue));
+    subsystem.store(1, 0x10000, &[0x5a; 512]).unwrap();
+    let (completion, bytes) = subsystem.submit(1, 1, &write).unwrap();
+    assert!(completion.is_success() && completion.name() == "Successful Completion");
+    assert_eq!((bytes[8], bytes[10], bytes[14]), (1, 1, 1));
+    let mut block = [0; 512];
+    subsystem.read_blocks(1, 3, &mut block).unwrap();
+    assert_eq!(block, [0x5a; 512]);
+    let (tail, head) = (subsystem.submission_queue(1, 1).unwrap().tail, subsystem.completion_queue(1, 1).unwrap().head);
+    assert_eq!((tail, head), (1, 1));
+    assert_eq!(subsystem.submission_queue(1, 4), Err(Refusal::NoQueue));
+    subsystem.write32(1, 0x1008, 2).unwrap();
+    assert_eq!(subsystem.submit(1, 1, &write), Err(Refusal::Busy));
+    subsystem.fetch(1, 1).unwrap();
+    let fetched = subsystem.fetched(1).unwrap();
+    assert_eq!((fetched.len(), fetched[0].qid, fetched[0].marked), (1, 1, false));
+    assert_eq!(subsystem.fetched(2), Ok(vec![]));
+    assert_eq!(subsystem.fetched(3), Err(Refusal::NoController));
+}
+
+#[test]
+fn a_reservation_is_seen() {
+    let mut subsystem = Subsystem::open(&config(), &[0; 4 * 512]).unwrap();
+    assert!(subsystem.is_attached(2, 1) && !subsystem.is_attached(2, 2));
+    assert_eq!(subsystem.reservation(2), Err(Refusal::NoNamespace));
+    assert_eq!(subsystem.reservation(1).unwrap().holder, Holder::Nobody);
+    up(&mut subsystem, 2);
+    let keys: Vec<u8> = [0_u64, 0x22, 0x22, 0].iter().flat_map(|it| it.to_le_bytes()).collect();
+    subsystem.store(2, 0x10000, &keys).unwrap();
+    assert!(subsystem.submit(2, 1, &entry(0x0d, 1, 0x10000, 0, 0)).unwrap().0.is_success());
+    assert!(subsystem.submit(2, 1, &entry(0x11, 1, 0x10010, 6 << 8, 0)).unwrap().0.is_success());
+    let seen = subsystem.reservation(1).unwrap();
+    assert_eq!(seen.holder, Holder::EachRegistrant(6));
+    assert_eq!(seen.registrants, [Registrant { host: u128::MAX, key: 0x22 }]);
+    assert_eq!((seen.generation, seen.ptpl), (1, false));
+    assert_eq!(status_name(7, 7), "Unlisted");
 }

@@ -11,6 +11,10 @@ use Rattle.nvme_library.specs.declared.answer.Answer.{Answer}
 abbrev pub plain : ℕ → Answer
 plain what = record { what = what; value = 0; sct = 0; sc = 0; rule = 0 }
 
+-- a number is the answer
+abbrev pub value_answer : ℕ → Answer
+value_answer v = record (plain 3) { value = v }
+
 -- a completion, and which rule denied its command
 abbrev pub posted : BareOutcome → Answer
 posted o = record { what = 6; value = o.dw0; sct = o.status.sct; sc = o.status.sc; rule = o.rule }
@@ -19,7 +23,7 @@ posted o = record { what = 6; value = o.dw0; sct = o.status.sct; sc = o.status.s
 abbrev pub answer_of : BareSeen → Answer
 answer_of Stored = plain 1
 answer_of Wrote = plain 2
-answer_of (Value v) = record (plain 3) { value = v }
+answer_of (Value v) = value_answer v
 answer_of (Fetched Took) = plain 4
 answer_of (Fetched Idle) = plain 5
 answer_of (Executed (Posted o)) = posted o

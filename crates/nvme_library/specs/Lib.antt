@@ -1,6 +1,10 @@
+pub mod Access
 pub mod Answers
 pub mod Events
 pub mod Given
 pub mod Holding
 pub mod Looking
 pub mod Opening
+pub mod Queues
+pub mod Submitting
+pub mod Turns

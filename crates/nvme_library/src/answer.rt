@@ -1,7 +1,7 @@
 //! What an event gave, as C sees it.
 
 ghost use Rattle.std.specs.Prelude.{◌≡◌};
-ghost use Rattle.nvme_library.specs.Answers.{answer_of, plain, posted, closed};
+ghost use Rattle.nvme_library.specs.Answers.{answer_of, plain, value_answer, posted, closed};
 
 use crate::codes;
 use nvme_machine::{BareExecuted, BareOutcome, BareSeen, Fetched};
@@ -25,12 +25,26 @@ pub struct Answer {
 impl Answer {
     /// An answer with nothing beside it.
     #[inline(always)]
-    fn plain(what: u32) -> Self
+    pub(crate) fn plain(what: u32) -> Self
         ensures { result ≡ plain what }
     {
         Answer {
             what,
             value: 0,
+            sct: 0,
+            sc: 0,
+            rule: 0,
+        }
+    }
+
+    /// A number is the answer.
+    #[inline(always)]
+    pub(crate) fn value(value: u32) -> Self
+        ensures { result ≡ value_answer value }
+    {
+        Answer {
+            what: codes::VALUE,
+            value,
             sct: 0,
             sc: 0,
             rule: 0,
@@ -68,13 +82,7 @@ impl Answer {
             BareSeen::Stored => Answer::plain(codes::STORED),
             BareSeen::Outside => Answer::plain(codes::OUTSIDE),
             BareSeen::Wrote => Answer::plain(codes::WROTE),
-            BareSeen::Value(value) => Answer {
-                what: codes::VALUE,
-                value,
-                sct: 0,
-                sc: 0,
-                rule: 0,
-            },
+            BareSeen::Value(value) => Answer::value(value),
             BareSeen::Fetched(Fetched::Took) => Answer::plain(codes::TOOK),
             BareSeen::Fetched(Fetched::Idle) => Answer::plain(codes::IDLE),
             BareSeen::Executed(BareExecuted::Posted(outcome)) => Answer::posted(outcome),

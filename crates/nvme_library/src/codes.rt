@@ -45,6 +45,16 @@ pub const TOO_MANY: u32 = 25;
 pub const DOES_NOT_FIT: u32 = 26;
 /// Memory was refused.
 pub const NO_MEMORY: u32 = 27;
+/// The controller has no such queue.
+pub const NO_QUEUE: u32 = 28;
+/// The controller does not run: its CSTS is not 1.
+pub const NOT_READY: u32 = 29;
+/// Something waits at the queue already, or the controller keeps as many commands as it can.
+pub const BUSY: u32 = 30;
+/// There is no such namespace.
+pub const NO_NAMESPACE: u32 = 31;
+/// There is no such registrant.
+pub const NO_REGISTRANT: u32 = 32;
 
 /// The version of the interface. It changes whenever a program that was built for it would have to change.
 pub const VERSION: u32 = 1;

@@ -57,7 +57,12 @@ pub extern "C" fn nvmesim_read_blocks(
 }
 
 /// Copies bytes out of a controller's window.
-fn load_from(subsystem: &Subsystem<OwnOrLent>, cntlid: u16, address: u64, bytes: &mut [u8]) -> u32
+pub(crate) fn load_from(
+    subsystem: &Subsystem<OwnOrLent>,
+    cntlid: u16,
+    address: u64,
+    bytes: &mut [u8],
+) -> u32
     ensures { LoadsFrom (controller_at subsystem.now.state cntlid) address bytes.old result bytes.new }
 {
     let Some(controller) = subsystem.controller(cntlid) else {

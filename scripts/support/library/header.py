@@ -8,10 +8,14 @@ TYPES = {
     "&mut [u8]": ["uint8_t *", "size_t"], "&[Controller]": ["const nvmesim_controller *", "size_t"],
     "&[Namespace]": ["const nvmesim_namespace *", "size_t"], "&[Attached]": ["const nvmesim_attached *", "size_t"],
     "LentBytes": ["nvmesim_bytes"], "Answer": ["nvmesim_answer"], "()": ["void"],
+    "&[u8; 64]": ["const uint8_t *"], "&mut [u8; 16]": ["uint8_t *"], "[u8; 64]": ["uint8_t[64]"],
+    "Queue": ["nvmesim_queue"], "Command": ["nvmesim_command"], "Hold": ["nvmesim_hold"],
+    "Registrant": ["nvmesim_registered"],
 }
 # The structs that C sees whole, by their names there.
 STRUCTS = {"Answer": "nvmesim_answer", "Controller": "nvmesim_controller", "Namespace": "nvmesim_namespace",
-           "Attached": "nvmesim_attached"}
+           "Attached": "nvmesim_attached", "Queue": "nvmesim_queue", "Command": "nvmesim_command",
+           "Hold": "nvmesim_hold", "Registrant": "nvmesim_registered"}
 EXPORT = re.compile(r'#\[unsafe\(no_mangle\)\]\s*pub extern "C" fn (\w+)\(([^)]*)\)(?: -> (\w+))?')
 NUMBER = re.compile(r"^pub const (\w+): u32 = (\d+);", re.M)
 
@@ -47,13 +51,13 @@ def declarations(header):
 def rattle_fields(text, name):
     """The fields of a struct of the crate, and their types in C."""
     body = re.search(rf"pub struct {name} \{{(.*?)\n\}}", text, re.S).group(1)
-    return [(field, TYPES[kind][0]) for field, kind in re.findall(r"^\s*pub (\w+): (\w+),", body, re.M)]
+    return [(field, TYPES[kind][0]) for field, kind in re.findall(r"^\s*pub (\w+): (.+),$", body, re.M)]
 
 
 def c_fields(header, name):
     """The fields of a struct of the header, and their types."""
     body = re.search(rf"typedef struct {name} \{{(.*?)\}} {name};", without_comments(header), re.S).group(1)
-    return [(field.strip(), kind) for kind, fields in re.findall(r"(\w+) ([\w, ]+);", body)
+    return [(field.strip(), kind + size) for kind, fields, size in re.findall(r"(\w+) ([\w, ]+)((?:\[\d+\])?);", body)
             for field in fields.split(",")]
 
 

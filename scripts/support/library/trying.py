@@ -11,7 +11,8 @@ from support.library import building, header, unproved
 # What the library needs of the C library, and nothing else.
 NEEDED = {"malloc", "realloc", "free", "memcpy", "memmove", "memset"}
 STRICT = ["-std=c99", "-Wall", "-Wextra", "-Werror", "-pedantic"]
-# How many times a subsystem is opened and closed, and how much memory there is meanwhile: each has 8 MiB.
+# How many times a subsystem is opened and closed, and how much memory there is meanwhile: each has 8 MiB, and ten times
+# as many have 128 KiB.
 OPENED, MOST = 1000, 700 << 20
 TIME = 300
 # The random events of hostile hosts.
