@@ -1,14 +1,7 @@
 -- How long the data are that an admin command gives back.
-use Rattle.std.proofs.Common.{◌≡◌, ℕ, ◌+◌, ◌*◌, ◌≤◌, nat_lt, ◌==◌, ◌&&◌, Bool, true, false, cond, List, [], ◌∷◌, length, filter, Option, None, Some, refl, ◌∙◌, arith, length-append}
-use Rattle.std.proofs.lemmas.List.{length-replicate}
-use Rattle.std.specs.Prelude.{flat_map, if◌then◌else◌}
-use Rattle.std.specs.List.{AllByRecursion, range_with_len}
+use Rattle.nvme_fleet.proofs.Words.{◌≡◌, ℕ, ◌+◌, ◌*◌, ◌≤◌, nat_lt, ◌==◌, ◌&&◌, Bool, true, false, cond, List, [], ◌∷◌, length, filter, Option, None, Some, refl, ◌∙◌, arith, length-append, length-replicate, flat_map, if◌then◌else◌, AllByRecursion, range_with_len, nsid, World, Namespace, namespace_of, is_attached, cns, namespace_structure, controller_structure, identify_data}
 use Rattle.std.specs.Int.{w32, to_le_bytes}
-use Rattle.nvme_wire.specs.Submission.{nsid}
-use Rattle.nvme_spec.specs.World.{World, Namespace, namespace_of, is_attached}
 use Rattle.nvme_spec.specs.Identify.{Field, with_fields, no_fields, namespace_fields, controller_fields, identify_namespace, identify_controller, namespace_list, identify_attached}
-use Rattle.nvme_spec.specs.AdminCommands.{cns, namespace_structure, controller_structure}
-use Rattle.nvme_spec.specs.AdminEffects.{identify_data}
 use Rattle.nvme_spec.proofs.Splices.{length-with_bytes}
 
 abbrev LiesIn : ℕ → Field → Type 0

@@ -1,16 +1,12 @@
 -- Admin commands with the same fields are judged alike and do the same. The creation of queues is left out, since it reads
 -- the data pointer; it is none of a driver's requests.
-use Rattle.std.proofs.Common.{◌≡◌, ℕ, List, Option, Some, refl}
-use Rattle.nvme_wire.specs.Submission.{opcode, nsid}
-use Rattle.nvme_spec.specs.declared.command.AdminCommand.{AdminCommand}
+use Rattle.nvme_fleet.proofs.Words.{◌≡◌, ℕ, List, Option, Some, refl, opcode, nsid, AdminCommand, Queues, World, Namespace, namespace_of, cns, fid, sv, nsqr, ncqr, wps, exhid, sel, double_word_0, data_out}
 use Rattle.nvme_spec.specs.declared.command.AdminCommand.TheVariants as admin
-use Rattle.nvme_spec.specs.declared.queues.Queues.{Queues}
-use Rattle.nvme_spec.specs.World.{World, Namespace, namespace_of}
-use Rattle.nvme_spec.specs.AdminCommands.{command_of, cns, fid, sv, nsqr, ncqr, wps, exhid, sel}
+use Rattle.nvme_spec.specs.AdminCommands.{command_of}
 use Rattle.nvme_spec.specs.AdminRules as rules
-use Rattle.nvme_spec.specs.AdminEffects.{double_word_0, data_out, world_after}
+use Rattle.nvme_spec.specs.AdminEffects.{world_after}
 use Rattle.nvme_fleet.proofs.Commands.{SameFields}
-use Rattle.nvme_fleet.proofs.Judging.{form-same}
+use Rattle.nvme_fleet.proofs.Judging.{same-form}
 
 same-cns : (x y : List ℕ) → SameFields x y → cns y ≡ cns x
 unfolding cns
@@ -73,7 +69,7 @@ same-attachment o w k x y h = rw (h.nsid, same-fid x y h) refl
 pub admin-access-same : (w : World) (queues : Queues) (k : ℕ) (x y : List ℕ) (command : AdminCommand) → IsAsked command → command_of (opcode x) ≡ Some command → SameFields x y
     → rules.admin_access_rules w queues k y ≡ rules.admin_access_rules w queues k x
 admin-access-same w queues k x y command a o h =
-    rw (h.opcode, o, h.nsid, form-same x y h, same-nsid (Some command) x y h, same-attachment (Some command) w k x y h, same-field command queues (namespace_of w (nsid x)) x y a h) refl
+    rw (h.opcode, o, h.nsid, same-form x y h, same-nsid (Some command) x y h, same-attachment (Some command) w k x y h, same-field command queues (namespace_of w (nsid x)) x y a h) refl
 
 -- the rule that looks at a list of controllers
 pub list-same : (w : World) (x y sent : List ℕ) (command : AdminCommand) → IsAsked command → SameFields x y

@@ -1,24 +1,11 @@
 -- The admin commands that a driver's requests ask for, what they move, and the fetched command of the admin lane.
-use Rattle.std.proofs.Common.{◌≡◌, ◌⊎◌, ℕ, ◌^◌, ◌<◌, ◌==◌, Bool, true, false, ◌||◌, List, length, Option, None, Some, refl, sym, ap, ◌∙◌, arith, inl, inr}
-use Rattle.std.proofs.lemmas.Bool.{and_parts, eqb-true}
-use Rattle.std.specs.Prelude.{if◌then◌else◌}
+use Rattle.nvme_fleet.proofs.Words.{◌≡◌, ◌⊎◌, ℕ, ◌^◌, ◌<◌, ◌==◌, Bool, true, false, ◌||◌, List, length, Option, None, Some, refl, sym, ap, ◌∙◌, arith, inl, inr, and_parts, eqb-true, if◌then◌else◌, opcode, nsid, cdw10, Open, AdminCommand, Keep, World, Namespace, namespace_of, opcode_of, state_of, fid, number_of_queues, write_protection, protection_value, double_word_0, data_out, queue_change, Admin, Driver, entry_length, Asked, FetchedCommand, Controller, Slot, asked_in, is_plain, is_plain_in, lane_in}
 use Rattle.nvme_wire.specs.Entry.{bits}
-use Rattle.nvme_wire.specs.Submission.{opcode, nsid, cdw10}
 use Rattle.nvme_spec.specs.declared.access.Protection.{Protection}
-use Rattle.nvme_spec.specs.declared.access.Protection.TheVariants.{Open, Protected, UntilCycle}
-use Rattle.nvme_spec.specs.declared.command.AdminCommand.{AdminCommand}
 use Rattle.nvme_spec.specs.declared.command.AdminCommand.TheVariants as admin
-use Rattle.nvme_spec.specs.declared.queues.QueueChange.TheVariants.{Keep}
-use Rattle.nvme_spec.specs.World.{World, Namespace, namespace_of}
-use Rattle.nvme_spec.specs.AdminCommands.{opcode_of, command_of, state_of, fid, number_of_queues, write_protection, data_length, data_length_of}
+use Rattle.nvme_spec.specs.AdminCommands.{command_of, data_length, data_length_of}
 use Rattle.nvme_spec.specs.AdminRules as rules
-use Rattle.nvme_spec.specs.AdminEffects.{protection_value, double_word_0, data_out, world_after, queue_change}
-use Rattle.nvme_driver.specs.declared.lane.Lane.TheVariants.{Admin}
-use Rattle.nvme_driver.specs.Drivers.{Driver, entry_length}
-use Rattle.nvme_driver.specs.Requests.{Asked}
-use Rattle.nvme_machine.specs.declared.fetched.FetchedCommand.{FetchedCommand}
-use Rattle.nvme_machine.specs.Controllers.{Controller}
-use Rattle.nvme_fleet.specs.Views.{Slot, asked_in, is_plain, is_plain_in, lane_in}
+use Rattle.nvme_spec.specs.AdminEffects.{world_after}
 use Rattle.nvme_fleet.proofs.AdminData.{length-identify_data}
 use Rattle.nvme_fleet.proofs.AdminJudging.{IsAsked}
 use Rattle.nvme_fleet.proofs.HeldStep.{IsHeld}
@@ -130,8 +117,7 @@ if-below false x y n f g = g
 
 state-small : (p : Protection) → state_of p < 2 ^ 32
 state-small Open = omega arith
-state-small Protected = omega arith
-state-small UntilCycle = omega arith
+state-small p = omega arith
 
 protection-small : (o : Option Namespace) → protection_value o < 2 ^ 32
 protection-small None = omega arith

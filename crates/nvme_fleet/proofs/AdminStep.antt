@@ -1,36 +1,9 @@
 -- An admin command is judged as its request, and what it is answered is what its request is answered.
-use Rattle.std.proofs.Common.{◌≡◌, ℕ, ◌^◌, ◌<◌, ◌≤◌, Bool, List, [], ◌∷◌, ◌++◌, length, take, Some, Ok, Err, refl, sym, ap, subst, ◌∙◌, arith, slice_get}
-use Rattle.std.proofs.lemmas.List.{take_all}
-use Rattle.nvme_wire.specs.Submission.{cid, opcode}
-use Rattle.nvme_spec.specs.declared.command.AdminCommand.{AdminCommand}
-use Rattle.nvme_spec.specs.declared.queues.Queues.{Queues}
-use Rattle.nvme_spec.specs.declared.queues.QueueChange.TheVariants.{Keep}
-use Rattle.nvme_spec.specs.Blocks.{Device}
-use Rattle.nvme_spec.specs.World.{World}
-use Rattle.nvme_spec.specs.Rules.{Judgement, judgement_by, first_failing}
-use Rattle.nvme_spec.specs.DataRules.{pointer_rule, data_in, data_addresses}
-use Rattle.nvme_spec.specs.Transfers.{with_scattered}
-use Rattle.nvme_spec.specs.Bytes.{with_bytes}
+use Rattle.nvme_fleet.proofs.Words.{◌≡◌, ℕ, ◌^◌, ◌<◌, ◌≤◌, Bool, List, [], ◌∷◌, ◌++◌, length, take, Some, Ok, Err, refl, sym, ap, subst, ◌∙◌, arith, slice_get, take_all, cid, opcode, AdminCommand, Queues, Keep, Device, World, Judgement, judgement_by, first_failing, pointer_rule, data_in, data_addresses, with_scattered, with_bytes, admin_execution, execution_by, performance, data_out, scene, no_marks, Fits, JudgementRefuses, admin_execution_fits, Admin, data_area, Driver, Asked, FetchedCommand, CommandExecution, admin_command_execution, Controller, queues_of, FetchedItem, lane_of, Site, RequestExecution, command_entry, queue_pairs, admin_judgement, admin_served, admin_request_execution_by, admin_request_execution, RequestComesToAs, RequestComesTo, Sound, IsPaired, mailbox, lane_of_queue, IsAnsweredInItsSlot, AdminJudgedAsItsRequest, AdminAnswersItsRequest, request_execution_with}
 use Rattle.nvme_spec.specs.AdminCommands.{command_of, data_length, data_length_of}
 use Rattle.nvme_spec.specs.AdminRules as rules
-use Rattle.nvme_spec.specs.AdminEffects.{admin_execution, execution_by, performance, data_out}
-use Rattle.nvme_spec.specs.Execution.{scene, no_marks}
 use Rattle.nvme_spec.specs.Statuses as status
-use Rattle.nvme_spec.specs.StatusLaws.{Fits}
-use Rattle.nvme_spec.proofs.Denials.{JudgementRefuses}
 use Rattle.nvme_spec.proofs.AdminDenials.{admin-refuses}
-use Rattle.nvme_spec.proofs.StatusLaws.{admin_execution_fits}
-use Rattle.nvme_driver.specs.declared.lane.Lane.TheVariants.{Admin}
-use Rattle.nvme_driver.specs.Layout.{data_area}
-use Rattle.nvme_driver.specs.Drivers.{Driver}
-use Rattle.nvme_driver.specs.Requests.{Asked}
-use Rattle.nvme_machine.specs.declared.fetched.FetchedCommand.{FetchedCommand}
-use Rattle.nvme_machine.specs.CommandExecutions.{CommandExecution, admin_command_execution}
-use Rattle.nvme_machine.specs.Controllers.{Controller, queues_of}
-use Rattle.nvme_fleet.specs.Mailboxes.{FetchedItem, lane_of}
-use Rattle.nvme_fleet.specs.Executions.{Site, RequestExecution, command_entry, queue_pairs, admin_judgement, admin_served, admin_request_execution_by, admin_request_execution, RequestComesToAs, RequestComesTo}
-use Rattle.nvme_fleet.specs.Sound.{Sound, IsPaired, mailbox, lane_of_queue}
-use Rattle.nvme_fleet.specs.Steps.{IsAnsweredInItsSlot, AdminJudgedAsItsRequest, AdminAnswersItsRequest, request_execution_with}
 use Rattle.nvme_fleet.proofs.Windows.{stored-none}
 use Rattle.nvme_fleet.proofs.AdminJudging.{IsAsked, admin-access-same, list-same, dw0-same, data-out-same, world-same}
 use Rattle.nvme_fleet.proofs.AdminKinds.{dw0-small, MovesAs, IsPlainAdmin, asked_by, plain-held, moved-is, length-out, keeps-queues, list-matters, world-matters}

@@ -1,32 +1,9 @@
 -- A controller that fetches from its admin queue alone executes admin commands alone, and these mark nothing.
-use Rattle.std.proofs.Common.{◌≡◌, ℕ, ◌+◌, ◌==◌, Bool, true, false, cond, List, [], ◌∷◌, ◌++◌, length, filter, Option, None, Some, refl, sym, ap, subst, ◌∙◌}
-use Rattle.std.specs.Prelude.{slice_get, remove, nat_le, if◌then◌else◌}
-use Rattle.std.specs.List.{AllByRecursion}
-use Rattle.std.proofs.lemmas.Option.{none-some, same_Some}
-use Rattle.nvme_spec.specs.declared.queues.QueueChange.{QueueChange}
-use Rattle.nvme_spec.specs.declared.queues.QueueChange.TheVariants.{Keep, MakeCq, MakeSq, DropCq, DropSq}
-use Rattle.nvme_spec.specs.declared.registers.AdminQueues.{AdminQueues}
-use Rattle.nvme_spec.specs.declared.registers.RegEffect.{RegEffect}
-use Rattle.nvme_spec.specs.declared.registers.RegEffect.TheVariants.{Nothing, Enable, Disable, Shutdown, SqTail, CqHead}
-use Rattle.nvme_spec.specs.Bytes.{with_bytes}
-use Rattle.nvme_spec.specs.Execution.{no_marks}
-use Rattle.nvme_spec.specs.Memory.{window_size}
+use Rattle.nvme_fleet.proofs.Words.{all-filter, all-joined, ◌≡◌, ℕ, ◌+◌, ◌==◌, Bool, true, false, List, length, Option, None, Some, refl, sym, ap, subst, ◌∙◌, slice_get, nat_le, if◌then◌else◌, AllByRecursion, QueueChange, DropSq, AdminQueues, RegEffect, Enable, Disable, with_bytes, no_marks, window_size, World, FetchedCommand, Executed, NoSuch, CqFull, Stored, Outside, CommandComesTo, CommandComesToAs, CommandExecution, Controller, SubmissionQueue, QueuePair, reaction, queues_of, open_pair, after_store, after_write32, after_fetch, fetched_from, fetchable, taking_effect, with_admin_queues, after_posting, after_queue_change, Setting, FinishesOne, FinishesOver, scene_in, after_completion, unmarked, Call, Stores, Writes, Reads, Turns, marks_after, fetch-id, store-id, write-id, LinkStep, with_controller}
+use Rattle.nvme_fleet.proofs.Lists.{all-get, all-removed}
 use Rattle.nvme_spec.specs.Registers as register
-use Rattle.nvme_spec.specs.World.{World}
-use Rattle.nvme_machine.specs.declared.fetched.FetchedCommand.{FetchedCommand}
-use Rattle.nvme_machine.specs.declared.seen.Executed.{Executed}
-use Rattle.nvme_machine.specs.declared.seen.Executed.TheVariants.{NoSuch, CqFull}
-use Rattle.nvme_machine.specs.declared.seen.Seen.TheVariants.{Stored, Outside}
-use Rattle.nvme_machine.specs.CommandExecutions.{CommandComesTo, CommandComesToAs, CommandExecution}
-use Rattle.nvme_machine.specs.Controllers.{Controller, SubmissionQueue, QueuePair, reaction, queues_of, open_pair, after_store, after_write32, after_fetch, fetched_from, fetchable, taking_effect, with_admin_queues, after_posting, after_queue_change}
-use Rattle.nvme_machine.specs.Executing.{Setting, FinishesOne, FinishesOver, scene_in}
-use Rattle.nvme_machine.specs.Subsystems.{marked_from, after_completion}
-use Rattle.nvme_machine.proofs.Denials.{unmarked}
-use Rattle.nvme_driver.specs.Calls.{Call, Stores, Writes, Reads, Turns}
-use Rattle.nvme_subsys.specs.Marked.{marks_after}
-use Rattle.nvme_subsys.proofs.Sound.{fetch-id, store-id, write-id}
-use Rattle.nvme_fleet.specs.Links.{LinkStep, with_controller}
-use Rattle.nvme_fleet.proofs.Numbered.{one-id}
+use Rattle.nvme_machine.specs.Subsystems.{marked_from}
+use Rattle.nvme_fleet.proofs.EachHost.{one-id}
 
 -- Only admin commands were fetched.
 
@@ -35,27 +12,6 @@ IsAdmin t = (t.queue == 0) ≡ true
 
 abbrev pub AreAdmin : Controller → Type 0
 AreAdmin c = AllByRecursion IsAdmin c.fetched
-
-all-joined : (xs ys : List FetchedCommand) → AllByRecursion IsAdmin xs → AllByRecursion IsAdmin ys → AllByRecursion IsAdmin (xs ++ ys)
-all-joined [] ys h g = g
-all-joined (x ∷ xs) ys h g = (h.0, all-joined xs ys h.1 g)
-
-all-filtered : (q : FetchedCommand → Bool) (xs : List FetchedCommand) → AllByRecursion IsAdmin xs → AllByRecursion IsAdmin (filter q xs)
-all-filtered q [] h = tt
-all-filtered q (x ∷ xs) h =
-    let rest = all-filtered q xs h.1 in
-    elim (q x) as (λ b. AllByRecursion IsAdmin (cond b (x ∷ filter q xs) (filter q xs))) [
-      | true ↦ (h.0, rest)
-      | false ↦ rest
-    ]
-
-pub first-of : (xs : List FetchedCommand) (t : FetchedCommand) → AllByRecursion IsAdmin xs → slice_get xs 0 ≡ Some t → IsAdmin t
-first-of [] t h at = absurd (none-some _ at)
-first-of (x ∷ xs) t h at = subst IsAdmin (same_Some _ _ at) h.0
-
-pub all-but-first : (xs : List FetchedCommand) → AllByRecursion IsAdmin xs → AllByRecursion IsAdmin (remove xs 0)
-all-but-first [] h = tt
-all-but-first (x ∷ xs) h = h.1
 
 pub store-admin : (address : ℕ) (bytes : List ℕ) (c : Controller) → AreAdmin c → AreAdmin (after_store address bytes c).controller
 unfolding after_store
@@ -72,12 +28,9 @@ enabled-admin (Some q) c = tt
 
 effect-admin : (effect : RegEffect) (c : Controller) → AreAdmin c → AreAdmin (taking_effect effect c)
 unfolding taking_effect
-effect-admin Nothing c h = h
 effect-admin Enable c h = enabled-admin (register.admin_queues c.registers) c
 effect-admin Disable c h = tt
-effect-admin Shutdown c h = h
-effect-admin (SqTail q v) c h = h
-effect-admin (CqHead q v) c h = h
+effect-admin effect c h = h
 
 pub write-admin : (offset v : ℕ) (c : Controller) → AreAdmin c → AreAdmin (after_write32 offset v c)
 unfolding after_write32
@@ -85,7 +38,7 @@ write-admin offset v c h = effect-admin (register.after_write c.registers offset
 
 from-admin : (c : Controller) (o : Option SubmissionQueue) → AreAdmin c → AreAdmin (fetched_from 0 c o).controller
 from-admin c None h = h
-from-admin c (Some q) h = all-joined c.fetched _ h (refl, tt)
+from-admin c (Some q) h = all-joined IsAdmin c.fetched _ h (refl, tt)
 
 pub fetch-admin : (c : Controller) → AreAdmin c → AreAdmin (after_fetch 0 c).controller
 unfolding after_fetch
@@ -93,11 +46,8 @@ fetch-admin c h = from-admin c (fetchable c 0) h
 
 pub change-admin : (change : QueueChange) (c : Controller) → AreAdmin c → AreAdmin (after_queue_change change c)
 unfolding after_queue_change
-change-admin Keep c h = h
-change-admin (MakeCq qid size at) c h = h
-change-admin (MakeSq qid size at to) c h = h
-change-admin (DropCq qid) c h = h
-change-admin (DropSq qid) c h = all-filtered _ c.fetched h
+change-admin (DropSq qid) c h = all-filter IsAdmin _ c.fetched h
+change-admin change c h = h
 
 -- The execution of an admin command marks nothing.
 pub record IsQuiet (x : Executed) (left : Setting) : Type 0 where
@@ -120,12 +70,12 @@ over-quiet (Some p) tells t old x left is h f =
     record {
       marks = λ w cs. ap (λ z. marks_after w z cs) f.gives ∙ ap (λ m. marked_from w m 1 cs) none ∙ unmarked w 1 cs;
       admin = subst AreAdmin (sym f.controller)
-          (change-admin a.change (after_posting 0 t p a.outcome.status a.outcome.dw0 (record old.controller { window = a.left.window })) (all-but-first old.controller.fetched h));
+          (change-admin a.change (after_posting 0 t p a.outcome.status a.outcome.dw0 (record old.controller { window = a.left.window })) (all-removed IsAdmin old.controller.fetched 0 h));
     }
 
 pub one-quiet : (o : Option FetchedCommand) (tells : Bool) (old : Setting) (x : Executed) (left : Setting) → slice_get old.controller.fetched 0 ≡ o → AreAdmin old.controller → FinishesOne o tells 0 old x left → IsQuiet x left
 one-quiet None tells old x left at h f = left-alone old left x NoSuch f.0 (λ w cs. refl) f.1 h
-one-quiet (Some t) tells old x left at h f = over-quiet (open_pair old.controller t) tells t old x left (first-of old.controller.fetched t h at) h f
+one-quiet (Some t) tells old x left at h f = over-quiet (open_pair old.controller t) tells t old x left (all-get IsAdmin old.controller.fetched 0 t at h) h f
 
 -- Over calls of a link.
 

@@ -1,37 +1,14 @@
 -- Each call of the medium that a fleet makes is that of a command that all rules let pass, and fenced hosts write none.
-use Rattle.std.proofs.Common.{◌≡◌, ℕ, Bool, false, List, [], ◌∷◌, Some, refl, sym, ap, subst, ◌∙◌}
-use Rattle.std.specs.List.{AllByRecursion}
-use Rattle.nvme_spec.specs.Layout.{Extent, extent_of, may_write}
-use Rattle.nvme_spec.specs.MediumCalls.{MediumCall}
+use Rattle.nvme_fleet.proofs.Words.{◌≡◌, ℕ, Bool, false, List, [], ◌∷◌, Some, refl, sym, ap, subst, ◌∙◌, AllByRecursion, Extent, extent_of, may_write, MediumCall, Cycled, HaveTheirOwn, KeepsOff, HasSameExtents, same-extents, all-joined, all-mapped, all-of-none, calls_are_allowed as machine_calls_are_allowed, step-extents, FleetEvent, Execute, PowerCycle, OfItsHost, Reply, CallsAreAllowed, CallsOfRunsAreAllowed, ComesFrom, FencedCommandsCallNothing, FencedHostsWriteNoBlock, MayCall, Layers, AreCallsOfStep}
 use Rattle.nvme_machine.specs.declared.event.Event.TheVariants as event
-use Rattle.nvme_machine.specs.declared.seen.Seen.TheVariants.{Cycled}
-use Rattle.nvme_machine.specs.AllowedCalls.{HaveTheirOwn, KeepsOff}
-use Rattle.nvme_machine.proofs.AdminWorlds.{HasSameExtents, same-extents}
-use Rattle.nvme_machine.proofs.AllowedCalls.{all-joined, all-mapped, all-of-none, calls_are_allowed as machine_calls_are_allowed}
 use Rattle.nvme_machine.proofs.FencedCalls.{elsewhere, fenced_commands_call_nothing as machine_fenced_commands_call_nothing}
-use Rattle.nvme_machine.proofs.Layouts.{step-extents}
-use Rattle.nvme_event.specs.declared.event.FleetEvent.{FleetEvent}
-use Rattle.nvme_event.specs.declared.event.FleetEvent.TheVariants.{BringUp, Place, Ring, Fetch, Execute, Poll, Reset, RawStore, RawWrite32, PowerCycle}
-use Rattle.nvme_event.specs.Events.{OfItsHost}
-use Rattle.nvme_event.specs.Replies.{Reply}
-use Rattle.nvme_fleet.specs.AllowedCalls.{CallsAreAllowed, CallsOfRunsAreAllowed, ComesFrom, FencedCommandsCallNothing, FencedHostsWriteNoBlock, MayCall}
-use Rattle.nvme_fleet.specs.FleetStates.{Layers}
-use Rattle.nvme_fleet.specs.LayerCalls.{AreCallsOfStep}
 use Rattle.nvme_fleet.specs.Layers.{Step}
 use Rattle.nvme_fleet.proofs.Bytes.{by-event, permissions_stay, still-fenced}
 use Rattle.nvme_fleet.proofs.LayerCalls.{layer_calls_are_of_a_step}
 
 pub calls_are_allowed : CallsAreAllowed
-calls_are_allowed tells old new (BringUp k) reply calls h = all-of-none (MayCall old (BringUp k)) calls h.below.1
-calls_are_allowed tells old new (Place k request) reply calls h = all-of-none (MayCall old (Place k request)) calls h.below.1
-calls_are_allowed tells old new (Ring k) reply calls h = all-of-none (MayCall old (Ring k)) calls h.below.1
-calls_are_allowed tells old new (Fetch k q) reply calls h = all-of-none (MayCall old (Fetch k q)) calls h.below.1
 calls_are_allowed tells old new (Execute k i) reply calls h = machine_calls_are_allowed tells old.subsystem new.subsystem (event.Execute k i) h.below.given calls h.below.step
-calls_are_allowed tells old new (Poll k) reply calls h = all-of-none (MayCall old (Poll k)) calls h.below.1
-calls_are_allowed tells old new (Reset k) reply calls h = all-of-none (MayCall old (Reset k)) calls h.below.1
-calls_are_allowed tells old new (RawStore k address bytes) reply calls h = all-of-none (MayCall old (RawStore k address bytes)) calls h.below.1
-calls_are_allowed tells old new (RawWrite32 k offset v) reply calls h = all-of-none (MayCall old (RawWrite32 k offset v)) calls h.below.1
-calls_are_allowed tells old new PowerCycle reply calls h = all-of-none (MayCall old PowerCycle) calls h.below.1
+calls_are_allowed tells old new e reply calls h = all-of-none (MayCall old e) calls h.below.1
 
 behind-it : (tells : Bool) (old mid : Layers) (event : FleetEvent) (reply : Reply) (here : List MediumCall) (events : List FleetEvent) (call : MediumCall) → AreCallsOfStep tells old event reply mid here
     → ComesFrom tells mid events call → ComesFrom tells old (event ∷ events) call

@@ -1,36 +1,9 @@
 -- What an I/O command may be answered is what its request may be answered.
-use Rattle.std.proofs.Common.{◌≡◌, ℕ, Bool, not, false, List, [], Option, None, Some, Ok, Err, refl, sym, ap, subst, ◌∙◌, arith, slice_get}
-use Rattle.std.proofs.lemmas.Bool.{not-true}
-use Rattle.std.specs.Prelude.{if◌then◌else◌}
-use Rattle.nvme_wire.specs.Submission.{cid, opcode}
-use Rattle.nvme_wire.specs.declared.status.Status.{Status}
-use Rattle.nvme_spec.specs.declared.command.Command.{Command}
-use Rattle.nvme_spec.specs.declared.verdict.Verdict.{Verdict}
-use Rattle.nvme_spec.specs.declared.verdict.Verdict.TheVariants.{Allowed, Denied}
-use Rattle.nvme_spec.specs.Blocks.{Device}
-use Rattle.nvme_spec.specs.World.{World}
-use Rattle.nvme_spec.specs.Commands.{command_of, plan_of, is_one_of, ranged}
-use Rattle.nvme_spec.specs.Rules.{Judgement}
-use Rattle.nvme_spec.specs.IoRules.{conclusion}
+use Rattle.nvme_fleet.proofs.Words.{◌≡◌, ℕ, Bool, not, false, List, [], Option, None, Some, Ok, Err, refl, sym, ap, subst, ◌∙◌, arith, slice_get, not-true, if◌then◌else◌, cid, opcode, Status, Command, Verdict, Allowed, Denied, Device, World, command_of, plan_of, is_one_of, ranged, Judgement, conclusion, scene, ExecutesBy, denial_outcome, denials, Refuses, VerdictRefuses, verdict-refuses, of-each, Io, data_area, is_success, Driver, FetchedCommand, CommandExecution, Controller, FetchedItem, lane_of, Site, RequestExecution, command_entry, io_judgement, io_verdict, denied_request_execution, IoRequestComesTo, RequestComesToAs, RequestComesTo, Sound, mailbox, lane_of_queue, IsServedInItsSlot, IsAnsweredInItsSlot, AnswersItsRequest, request_execution_with}
 use Rattle.nvme_spec.specs.IoData as spec
-use Rattle.nvme_spec.specs.Execution.{scene, ExecutesBy, denial_outcome}
-use Rattle.nvme_spec.specs.StatusLaws.{denials}
-use Rattle.nvme_spec.proofs.Denials.{Refuses, VerdictRefuses, verdict-refuses}
-use Rattle.nvme_spec.proofs.StatusLaws.{of-each}
-use Rattle.nvme_driver.specs.declared.lane.Lane.TheVariants.{Io}
-use Rattle.nvme_driver.specs.Layout.{data_area}
-use Rattle.nvme_driver.specs.Polls.{is_success}
-use Rattle.nvme_driver.specs.Drivers.{Driver}
-use Rattle.nvme_machine.specs.declared.fetched.FetchedCommand.{FetchedCommand}
-use Rattle.nvme_machine.specs.CommandExecutions.{CommandExecution}
-use Rattle.nvme_machine.specs.Controllers.{Controller}
-use Rattle.nvme_fleet.specs.Mailboxes.{FetchedItem, lane_of}
-use Rattle.nvme_fleet.specs.Executions.{Site, RequestExecution, command_entry, io_judgement, io_verdict, denied_request_execution, IoRequestComesTo, RequestComesToAs, RequestComesTo}
-use Rattle.nvme_fleet.specs.Sound.{Sound, mailbox, lane_of_queue}
-use Rattle.nvme_fleet.specs.Steps.{IsServedInItsSlot, IsAnsweredInItsSlot, AnswersItsRequest, request_execution_with}
 use Rattle.nvme_fleet.proofs.Windows.{stored-none}
 use Rattle.nvme_fleet.proofs.Commands.{SameFields}
-use Rattle.nvme_fleet.proofs.Judging.{length-same, count-same, lba-same}
+use Rattle.nvme_fleet.proofs.Judging.{length-same, same-count, same-lba}
 use Rattle.nvme_fleet.proofs.PostStep.{lane-of-item}
 use Rattle.nvme_fleet.proofs.HeldStep.{item-is}
 use Rattle.nvme_fleet.proofs.JudgeStep.{io-known, asked-is, judged_as_its_request}
@@ -39,8 +12,8 @@ use Rattle.nvme_fleet.proofs.ServeStep.{asked_by, allowed_serves_its_request}
 plan-same : (command : Command) (x y : List ℕ) → SameFields x y → plan_of command y ≡ plan_of command x
 plan-same command x y f i = record {
   kind = command;
-  first = if is_one_of (Some command) ranged then lba-same x y f i else 0;
-  blocks = if is_one_of (Some command) ranged then count-same x y f i else 0;
+  first = if is_one_of (Some command) ranged then same-lba x y f i else 0;
+  blocks = if is_one_of (Some command) ranged then same-count x y f i else 0;
   bytes = length-same x y command f i;
 }
 

@@ -1,64 +1,12 @@
 -- Each answer that a mailbox holds is of an execution in the run, of a request that was placed in the run.
-use Rattle.std.proofs.Common.{◌≡◌, ◌⊎◌, inl, inr, ℕ, zero, suc, ◌+◌, Bool, true, false, List, [], ◌∷◌, ◌++◌, length, map, Option, None, Some, Ok, Err, refl, sym, ap, subst, ◌∙◌}
-use Rattle.std.specs.Prelude.{if◌then◌else◌, slice_get}
-use Rattle.std.specs.List.{AllByRecursion, remove}
-use Rattle.nvme_wire.specs.declared.status.Status.{Status}
-use Rattle.nvme_spec.proofs.Registrants.{all-map}
-use Rattle.nvme_driver.specs.declared.lane.Lane.{Lane}
-use Rattle.nvme_driver.specs.declared.lane.Lane.TheVariants.{Admin, Io}
-use Rattle.nvme_driver.specs.declared.answer.Answer.TheVariants.{Done}
-use Rattle.nvme_driver.specs.declared.request.Request.{Request}
-use Rattle.nvme_driver.specs.declared.faults.PlaceRefusal.{PlaceRefusal}
-use Rattle.nvme_driver.specs.declared.faults.UpFault.TheVariants.{AlreadyUp}
-use Rattle.nvme_driver.specs.declared.faults.PollFault.TheVariants as poll_fault
-use Rattle.nvme_driver.specs.Requests.{asked_of}
-use Rattle.nvme_event.specs.declared.event.FleetEvent.{FleetEvent}
-use Rattle.nvme_event.specs.declared.event.FleetEvent.TheVariants.{BringUp, Place, Ring, Fetch, Execute, Poll, Reset, RawStore, RawWrite32, PowerCycle}
-use Rattle.nvme_event.specs.declared.seen.FleetSeen.{FleetSeen}
+use Rattle.nvme_fleet.proofs.Words.{all-joined, ◌≡◌, ◌⊎◌, inl, inr, ℕ, ◌+◌, Bool, true, false, List, [], ◌∷◌, ◌++◌, length, map, Some, Ok, refl, sym, ap, subst, ◌∙◌, if◌then◌else◌, AllByRecursion, Status, Lane, Admin, Io, Done, asked_of, FleetEvent, Poll, FleetSeen, Reply, concerns, Item, FetchedItem, PostedAnswer, LaneBox, Mailbox, box_at, with_box, lane_of, names, with_mark, ring_lane, new_item, with_placed, placed, rung, answer_reply, WithDriver, Fleet, Run, Is, called_at, host_at, after_answer, with_posted, answer_for, HasMailbox, OwnStep, MailboxStep, waiting, posted_answers, requests_in, Conclusion, Executes, HappensThen, IsClear, ResetClears, NewIsClear, WasPlacedAndExecuted, DoneIsItsExecution, done_in, remove, all-map}
+use Rattle.nvme_fleet.proofs.Lists.{all-left, all-right, all-over, all-get, all-removed}
+use Rattle.nvme_fleet.specs.Deliveries.{polled}
 use Rattle.nvme_event.specs.declared.seen.FleetSeen.TheVariants as seen
-use Rattle.nvme_event.specs.Replies.{Reply}
-use Rattle.nvme_event.specs.Events.{concerns}
-use Rattle.nvme_fleet.specs.Mailboxes.{Item, FetchedItem, PostedAnswer, LaneBox, Mailbox, box_at, with_box, lane_of, names, with_mark}
-use Rattle.nvme_fleet.specs.Deliveries.{MailboxReaction, mailbox_reaction, recounted, ring_lane, brought_up, refusal, new_item, with_placed, placed_by, placed, rung, fetched_first, lane_at, fetched_of, answer_reply, handed_up, polled_io, polled_admin, polled_aborted, polled}
-use Rattle.nvme_fleet.specs.Executions.{RequestExecution}
-use Rattle.nvme_fleet.specs.Fleets.{WithDriver, Fleet, Run, Is, called_at, host_at, after_answer, with_posted, answer_for}
-use Rattle.nvme_fleet.proofs.MailboxMarks.{DiffersInMarks, differs, others-differ}
-use Rattle.nvme_fleet.specs.Apart.{HasMailbox, ExecutesOwn, OwnStep, MailboxStep}
-use Rattle.nvme_fleet.specs.Tickets.{waiting, posted_answers, requests_in}
-use Rattle.nvme_fleet.specs.Answered.{Places, Conclusion, conclusion_of, Executes, Happens, HappensThen, IsClear, ResetClears, NewIsClear, WasPlacedAndExecuted, DoneIsItsExecution}
-use Rattle.nvme_fleet.proofs.Apart.{is-same, hosts_are_apart}
-
--- Lists of which each is so.
-
-pub all-append : {A : Type 0} (P : A → Type 0) (xs ys : List A) → AllByRecursion P xs → AllByRecursion P ys → AllByRecursion P (xs ++ ys)
-all-append P [] ys a b = b
-all-append P (x ∷ xs) ys a b = (a.0, all-append P xs ys a.1 b)
-
-all-left : {A : Type 0} (P : A → Type 0) (xs ys : List A) → AllByRecursion P (xs ++ ys) → AllByRecursion P xs
-all-left P [] ys a = tt
-all-left P (x ∷ xs) ys a = (a.0, all-left P xs ys a.1)
-
-all-right : {A : Type 0} (P : A → Type 0) (xs ys : List A) → AllByRecursion P (xs ++ ys) → AllByRecursion P ys
-all-right P [] ys a = a
-all-right P (x ∷ xs) ys a = all-right P xs ys a.1
-
-all-over : {A B : Type 0} (P : B → Type 0) (g : A → B) (xs : List A) → AllByRecursion P (map g xs) → AllByRecursion (λ x. P (g x)) xs
-all-over P g [] a = tt
-all-over P g (x ∷ xs) a = (a.0, all-over P g xs a.1)
-
-some-is : {A : Type 0} (x y : A) → Some x ≡ Some y → x ≡ y
-some-is x y h = cc
-
-pub all-get : {A : Type 0} (P : A → Type 0) (xs : List A) (i : ℕ) (x : A) → slice_get xs i ≡ Some x → AllByRecursion P xs → P x
-all-get P [] i x h a = absurd (cc)
-all-get P (y ∷ xs) zero x h a = subst P (some-is y x h) a.0
-all-get P (y ∷ xs) (suc i) x h a = all-get P xs i x h a.1
-
-all-removed : {A : Type 0} (P : A → Type 0) (xs : List A) (i : ℕ) → AllByRecursion P xs → AllByRecursion P (remove xs i)
-all-removed P [] zero a = tt
-all-removed P [] (suc i) a = tt
-all-removed P (x ∷ xs) zero a = a.1
-all-removed P (x ∷ xs) (suc i) a = (a.0, all-removed P xs i a.1)
+use Rattle.nvme_fleet.proofs.MailboxMarks.{DiffersInMarks, others-differ}
+use Rattle.nvme_fleet.specs.Answered.{Places, Happens}
+use Rattle.nvme_fleet.proofs.Apart.{same-is, hosts_are_apart}
+use Rattle.nvme_fleet.proofs.Moves.{Move, Stay, Take, RingBoth, FetchFirst, HandUp, Clear, Answer, May, IsOf, moved, reply_of, own-moved}
 
 -- What is known of each request that waits, and of each answer.
 
@@ -86,79 +34,43 @@ with-known : (P : Item → Type 0) (Q : PostedAnswer → Type 0) (l : Lane) (b :
 with-known P Q Admin b m k h = (h, k.1, k.2)
 with-known P Q Io b m k h = (k.0, h, k.2)
 
--- Events move requests and answers.
+-- Moves move requests and answers.
 
-abbrev pub KnownBy : (Item → Type 0) → (PostedAnswer → Type 0) → MailboxReaction → Type 0
-KnownBy P Q r = Known P Q r.mailbox
+-- what a move brings is known: the request that it takes, and the answer to the one that it executes
+abbrev pub Brings : (Item → Type 0) → (PostedAnswer → Type 0) → Move → Mailbox → Type 0
+Brings P Q (Take request) m = P (new_item m request)
+Brings P Q (Answer i x r) m = (since : ℕ) → Q (answer_for x r since)
+Brings P Q other m = Unit {0}
 
-pub brought-up : (P : Item → Type 0) (Q : PostedAnswer → Type 0) (m : Mailbox) → Known P Q m → KnownBy P Q (brought_up m)
-brought-up P Q m k = by m.up
-  where
-    by : (b : Bool) → KnownBy P Q (if b then mailbox_reaction m (seen.Up (Err AlreadyUp)) else mailbox_reaction (record m { up = true; admin = recounted m.admin; io = recounted m.io }) (seen.Up (Ok tt)))
-    by true = k
-    by false = k
+ring-known : (P : Item → Type 0) (Q : PostedAnswer → Type 0) (b : LaneBox) → KnownIn P Q b → KnownIn P Q (ring_lane b)
+ring-known P Q b h = (tt, all-joined P b.rung b.placed h.1 h.0, h.2)
 
-pub places : (P : Item → Type 0) (Q : PostedAnswer → Type 0) (o : Option PlaceRefusal) (m : Mailbox) (request : Request) → (o ≡ None → P (new_item m request)) → Known P Q m → KnownBy P Q (placed_by o m request)
-places P Q (Some why) m request new k = k
-places P Q None m request new k =
+pub moves-known : (P : Item → Type 0) (Q : PostedAnswer → Type 0) (v : Move) (m : Mailbox) → May v m → Brings P Q v m → Known P Q m → Known P Q (moved v m)
+unfolding after_answer
+moves-known P Q (Take request) m may new k =
     let l : Lane = (asked_of request).command.lane in
     let b : LaneBox = box_at l m in
     let h = box-known P Q l m k in
     with-known P Q l (with_placed b (new_item m request)) (record m { next = m.next + 1 }) k
-    (all-append P b.placed (new_item m request ∷ []) h.0 (new refl, tt), h.1, h.2)
-
-pub rings : (P : Item → Type 0) (Q : PostedAnswer → Type 0) (m : Mailbox) → Known P Q m → KnownBy P Q (rung m)
-rings P Q m k = by m.up
-  where
-    lane : (b : LaneBox) → KnownIn P Q b → KnownIn P Q (ring_lane b)
-    lane b h = (tt, all-append P b.rung b.placed h.1 h.0, h.2)
-
-    by : (b : Bool) → KnownBy P Q (if b then mailbox_reaction (record m { admin = ring_lane m.admin; io = ring_lane m.io }) (seen.Rung (Ok tt)) else mailbox_reaction m (seen.Rung (Err (record {}))))
-    by true = (lane m.admin k.0, lane m.io k.1, k.2)
-    by false = k
-
-first-fetched : (P : Item → Type 0) (Q : PostedAnswer → Type 0) (l : Lane) (xs : List Item) (m : Mailbox) → (box_at l m).rung ≡ xs → Known P Q m → KnownBy P Q (fetched_first l xs m)
-first-fetched P Q l [] m e k = k
-first-fetched P Q l (x ∷ rest) m e k =
+    (all-joined P b.placed (new_item m request ∷ []) h.0 (new, tt), h.1, h.2)
+moves-known P Q RingBoth m may new k = (ring-known P Q m.admin k.0, ring-known P Q m.io k.1, k.2)
+moves-known P Q (FetchFirst l x rest) m e new k =
     let h = box-known P Q l m k in
     let r : AllByRecursion P (x ∷ rest) = subst (AllByRecursion P) e h.1 in
     with-known P Q l _ (record m { fetched = m.fetched ++ record { item = x; marked = false } ∷ [] })
-    (k.0, k.1, all-append (OfItem P) m.fetched (record { item = x; marked = false } ∷ []) k.2 (r.0, tt)) (h.0, r.1, h.2)
-
-pub fetches : (P : Item → Type 0) (Q : PostedAnswer → Type 0) (o : Option Lane) (m : Mailbox) → Known P Q m → KnownBy P Q (fetched_of o m)
-fetches P Q None m k = k
-fetches P Q (Some l) m k = first-fetched P Q l (box_at l m).rung m refl k
-
-hands-up : (P : Item → Type 0) (Q : PostedAnswer → Type 0) (l : Lane) (first : PostedAnswer) (rest : List PostedAnswer) (m : Mailbox) → (box_at l m).posted ≡ first ∷ rest → Known P Q m → KnownBy P Q (handed_up l first rest m)
-hands-up P Q l first rest m e k =
+    (k.0, k.1, all-joined (OfItem P) m.fetched (record { item = x; marked = false } ∷ []) k.2 (r.0, tt)) (h.0, r.1, h.2)
+moves-known P Q (HandUp l first rest) m e new k =
     let h = box-known P Q l m k in
     let r : AllByRecursion Q (first ∷ rest) = subst (AllByRecursion Q) e h.2 in
     with-known P Q l _ m k (h.0, h.1, r.1)
-
-io-polled : (P : Item → Type 0) (Q : PostedAnswer → Type 0) (xs : List PostedAnswer) (m : Mailbox) → m.io.posted ≡ xs → Known P Q m → KnownBy P Q (polled_io xs m)
-io-polled P Q [] m e k = k
-io-polled P Q (first ∷ rest) m e k = hands-up P Q Io first rest m e k
-
-admin-polled : (P : Item → Type 0) (Q : PostedAnswer → Type 0) (xs : List PostedAnswer) (m : Mailbox) → m.admin.posted ≡ xs → Known P Q m → KnownBy P Q (polled_admin xs m)
-admin-polled P Q [] m e k = io-polled P Q m.io.posted m refl k
-admin-polled P Q (first ∷ rest) m e k = hands-up P Q Admin first rest m e k
-
-pub polls : (P : Item → Type 0) (Q : PostedAnswer → Type 0) (ts : List ℕ) (m : Mailbox) → Known P Q m → KnownBy P Q (polled_aborted ts m)
-polls P Q [] m k = by m.up
-  where
-    by : (b : Bool) → KnownBy P Q (if b then polled_admin m.admin.posted m else mailbox_reaction m (seen.Polled (Err poll_fault.NotUp)))
-    by true = admin-polled P Q m.admin.posted m refl k
-    by false = k
-polls P Q (t ∷ ts) m k = k
-
-pub answered : (P : Item → Type 0) (Q : PostedAnswer → Type 0) (i : ℕ) (x : FetchedItem) (r : RequestExecution) (m : Mailbox) → ((since : ℕ) → Q (answer_for x r since)) → Known P Q m → Known P Q (after_answer i x r m)
-unfolding after_answer
-answered P Q i x r m new k =
+moves-known P Q (Clear what) m may new k = ((tt, tt, tt), (tt, tt, tt), tt)
+moves-known P Q (Answer i x r) m may new k =
     let l : Lane = lane_of x.item in
     let b : LaneBox = box_at l m in
     let h = box-known P Q l m k in
     with-known P Q l (with_posted b x r) (record m { fetched = remove m.fetched i }) (k.0, k.1, all-removed (OfItem P) m.fetched i k.2)
-    (h.0, h.1, all-append Q b.posted (answer_for x r b.since ∷ []) h.2 (new b.since, tt))
+    (h.0, h.1, all-joined Q b.posted (answer_for x r b.since ∷ []) h.2 (new b.since, tt))
+moves-known P Q v m may new k = k
 
 pub all-marked : (P : Item → Type 0) (n : ℕ) (xs : List FetchedItem) → AllByRecursion (OfItem P) xs → AllByRecursion (OfItem P) (map (with_mark n) xs)
 all-marked P n [] a = tt
@@ -168,7 +80,7 @@ all-marked P n (x ∷ xs) a = (by (names n x), all-marked P n xs a.1)
     by true = a.0
     by false = a.0
 
-marks : (P : Item → Type 0) (Q : PostedAnswer → Type 0) (m n : Mailbox) → DiffersInMarks m n → Known P Q m → Known P Q n
+pub marks : (P : Item → Type 0) (Q : PostedAnswer → Type 0) (m n : Mailbox) → DiffersInMarks m n → Known P Q m → Known P Q n
 marks P Q m n (inl e) k = subst (Known P Q) (sym e) k
 marks P Q m n (inr h) k = subst (Known P Q) (sym h.1) (k.0, k.1, all-marked P h.0 m.fetched k.2)
 
@@ -196,72 +108,40 @@ before : (P : Item → Type 0) (Q : PostedAnswer → Type 0) (tells : Bool) (k :
 before P Q tells k old event reply new m h =
     known-map P (ItemsNow P k old event reply new) Q (AnswersNow P Q tells k old event reply new) (λ i p. inl p) (λ a q. inl q) m h
 
--- the request that is placed
-placing : (P : Item → Type 0) (j k : ℕ) (request : Request) (old new : Fleet) (m : Mailbox) (reply : Reply) → j ≡ k → reply ≡ (placed m request).reply → refusal m request ≡ None
-    → ItemsNow P k old (Place j request) reply new (new_item m request)
-placing P j k request old new m reply same gives taken = inr (record {
-  request = request;
-  event_is = ap (λ n. Place n request) same;
-  asked = refl;
-  gives = gives ∙ ap (λ o. (placed_by o m request).reply) taken;
+-- what the move of an event brings is known now
+brings : (P : Item → Type 0) (Q : PostedAnswer → Type 0) (v : Move) (tells : Bool) (k : ℕ) (old : Fleet) (event : FleetEvent) (reply : Reply) (new : Fleet) (m : Mailbox) → HasMailbox old k m → May v m
+    → IsOf v tells k old.site event new.site → reply ≡ reply_of v m → Known P Q m → Brings (ItemsNow P k old event reply new) (AnswersNow P Q tells k old event reply new) v m
+brings P Q (Take request) tells k old event reply new m at may is gives g = inr (record { request = request; event_is = is; asked = refl; gives = gives })
+brings P Q (Answer i x r) tells k old event reply new m at found is gives g = λ since. inr (record {
+  item = x.item;
+  ticket_is = refl;
+  known = all-get (OfItem P) m.fetched i x found g.2;
+  executes = record {
+    place = i;
+    event_is = is.0;
+    mailbox = m;
+    host = at;
+    fetched = x;
+    found = found;
+    item_is = refl;
+    execution = r;
+    comes_to = is.1;
+    gives = gives;
+    leaves = is.2;
+    conclusion_is = refl;
+  };
 })
-
-executed-known : (P : Item → Type 0) (Q : PostedAnswer → Type 0) (o : Option FetchedItem) (tells : Bool) (j k i : ℕ) (old new : Fleet) (m n : Mailbox) (reply : Reply) → j ≡ k → HasMailbox old k m
-    → slice_get m.fetched i ≡ o → ExecutesOwn o tells k old.site m i reply new.site n → Known P Q m
-    → Known (ItemsNow P k old (Execute j i) reply new) (AnswersNow P Q tells k old (Execute j i) reply new) n
-executed-known P Q None tells j k i old new m n reply same at found h g =
-    subst (Known (ItemsNow P k old (Execute j i) reply new) (AnswersNow P Q tells k old (Execute j i) reply new)) (sym h.1) (before P Q tells k old (Execute j i) reply new m g)
-executed-known P Q (Some x) tells j k i old new m n reply same at found h g =
-    marks R S (after_answer i x h.execution m) n (differs h.execution.outcome.marks h.execution.left.world k (after_answer i x h.execution m) n h.leaves)
-    (answered R S i x h.execution m (λ since. inr (record { item = x.item; ticket_is = refl; known = all-get (OfItem P) m.fetched i x found g.2; executes = now }))
-    (before P Q tells k old (Execute j i) reply new m g))
-  where
-    R : Item → Type 0
-    R = ItemsNow P k old (Execute j i) reply new
-
-    S : PostedAnswer → Type 0
-    S = AnswersNow P Q tells k old (Execute j i) reply new
-
-    now : Executes tells k x.item (conclusion_of h.execution) old (Execute j i) reply new
-    now = record {
-      place = i;
-      event_is = ap (λ n. Execute n i) same;
-      mailbox = m;
-      host = at;
-      fetched = x;
-      found = found;
-      item_is = refl;
-      execution = h.execution;
-      comes_to = h.comes_to;
-      gives = h.gives;
-      leaves = h.site;
-      conclusion_is = refl;
-    }
+brings P Q other tells k old event reply new m at may is gives g = tt
 
 own-known : (P : Item → Type 0) (Q : PostedAnswer → Type 0) (event : FleetEvent) (tells : Bool) (k : ℕ) (old new : Fleet) (m n : Mailbox) (reply : Reply) → concerns event k ≡ true → HasMailbox old k m
     → OwnStep event tells k old.site m reply new.site n → Known P Q m
     → Known (ItemsNow P k old event reply new) (AnswersNow P Q tells k old event reply new) n
-own-known P Q (BringUp j) tells k old new m n reply same at h g =
-    subst (Known _ _) (sym h.1) (brought-up _ _ m (before P Q tells k old (BringUp j) reply new m g))
-own-known P Q (Place j request) tells k old new m n reply same at h g =
-    subst (Known _ _) (sym h.1)
-    (places _ _ (refusal m request) m request (placing P j k request old new m reply (is-same j k same) h.0) (before P Q tells k old (Place j request) reply new m g))
-own-known P Q (Ring j) tells k old new m n reply same at h g =
-    subst (Known _ _) (sym h.1) (rings _ _ m (before P Q tells k old (Ring j) reply new m g))
-own-known P Q (Fetch j q) tells k old new m n reply same at h g =
-    subst (Known _ _) (sym h.1) (fetches _ _ (lane_at q) m (before P Q tells k old (Fetch j q) reply new m g))
-own-known P Q (Execute j i) tells k old new m n reply same at h g =
-    executed-known P Q (slice_get m.fetched i) tells j k i old new m n reply (is-same j k same) at refl h g
-own-known P Q (Poll j) tells k old new m n reply same at h g =
-    subst (Known _ _) (sym h.1) (polls _ _ m.aborted m (before P Q tells k old (Poll j) reply new m g))
-own-known P Q (Reset j) tells k old new m n reply same at h g =
-    subst (Known (ItemsNow P k old (Reset j) reply new) (AnswersNow P Q tells k old (Reset j) reply new)) (sym h.1) ((tt, tt, tt), (tt, tt, tt), tt)
-own-known P Q (RawStore j address bytes) tells k old new m n reply same at h g =
-    subst (Known _ _) (sym h.1) (before P Q tells k old (RawStore j address bytes) reply new m g)
-own-known P Q (RawWrite32 j offset v) tells k old new m n reply same at h g =
-    subst (Known _ _) (sym h.1) (before P Q tells k old (RawWrite32 j offset v) reply new m g)
-own-known P Q PowerCycle tells k old new m n reply same at h g =
-    subst (Known (ItemsNow P k old PowerCycle reply new) (AnswersNow P Q tells k old PowerCycle reply new)) (sym h.1) ((tt, tt, tt), (tt, tt, tt), tt)
+own-known P Q event tells k old new m n reply same at h g =
+    let v = own-moved event tells k old.site new.site m n reply same h in
+    let R : Item → Type 0 = ItemsNow P k old event reply new in
+    let S : PostedAnswer → Type 0 = AnswersNow P Q tells k old event reply new in
+    marks R S (moved v.move m) n v.leaves
+    (moves-known R S v.move m v.may (brings P Q v.move tells k old event reply new m at v.may v.of v.gives g) (before P Q tells k old event reply new m g))
 
 step-known : (P : Item → Type 0) (Q : PostedAnswer → Type 0) (b : Bool) (event : FleetEvent) (tells : Bool) (k : ℕ) (old new : Fleet) (m n : Mailbox) (reply : Reply) → concerns event k ≡ b → HasMailbox old k m
     → MailboxStep b event tells k old.site m reply new.site n → Known P Q m
@@ -363,26 +243,15 @@ abbrev IsDone : FleetSeen → Type 0
 IsDone (seen.Polled (Ok (Some (Done ticket status dw0 len)))) = Unit {0}
 IsDone other = ⊥
 
-first-of : (Q : PostedAnswer → Type 0) (xs : List PostedAnswer) (l : Lane) (m : Mailbox) (first : PostedAnswer) (rest : List PostedAnswer) → xs ≡ first ∷ rest → AllByRecursion Q xs
-    → HandsUp Q (handed_up l first rest m).reply
-first-of Q xs l m first rest e a = record { answer = first; known = (subst (AllByRecursion Q) e a).0; is = refl }
+not-done : (what : FleetSeen) → done_in what ≡ [] → IsDone what → ⊥
+not-done (seen.Polled (Ok (Some (Done ticket status dw0 len)))) e d = absurd (cc)
+not-done other e d = d
 
-io-done : (Q : PostedAnswer → Type 0) (xs : List PostedAnswer) (m : Mailbox) → m.io.posted ≡ xs → Known Any Q m → IsDone (polled_io xs m).reply.seen → HandsUp Q (polled_io xs m).reply
-io-done Q [] m e k d = absurd d
-io-done Q (first ∷ rest) m e k d = first-of Q m.io.posted Io m first rest e k.1.2
-
-admin-done : (Q : PostedAnswer → Type 0) (xs : List PostedAnswer) (m : Mailbox) → m.admin.posted ≡ xs → Known Any Q m → IsDone (polled_admin xs m).reply.seen → HandsUp Q (polled_admin xs m).reply
-admin-done Q [] m e k d = io-done Q m.io.posted m refl k d
-admin-done Q (first ∷ rest) m e k d = first-of Q m.admin.posted Admin m first rest e k.0.2
-
-poll-done : (Q : PostedAnswer → Type 0) (ts : List ℕ) (m : Mailbox) → Known Any Q m → IsDone (polled_aborted ts m).reply.seen → HandsUp Q (polled_aborted ts m).reply
-poll-done Q [] m k d = by m.up d
-  where
-    by : (b : Bool) → IsDone (if b then polled_admin m.admin.posted m else mailbox_reaction m (seen.Polled (Err poll_fault.NotUp))).reply.seen
-        → HandsUp Q (if b then polled_admin m.admin.posted m else mailbox_reaction m (seen.Polled (Err poll_fault.NotUp))).reply
-    by true d = admin-done Q m.admin.posted m refl k d
-    by false d = absurd d
-poll-done Q (t ∷ ts) m k d = absurd d
+hands : (Q : PostedAnswer → Type 0) (v : Move) (m : Mailbox) → May v m → Known Any Q m → IsDone (reply_of v m).seen → HandsUp Q (reply_of v m)
+hands Q (HandUp l first rest) m e k d = record { answer = first; known = (subst (AllByRecursion Q) e (box-known Any Q l m k).2).0; is = refl }
+hands Q (Stay what) m q k d = absurd (not-done what q.done d)
+hands Q (Clear what) m q k d = absurd (not-done what q.done d)
+hands Q other m may k d = absurd d
 
 -- what is read off it
 
@@ -441,10 +310,10 @@ pub done_is_its_execution : DoneIsItsExecution
 done_is_its_execution tells old mid new events replies run k m at clear reply step ticket dw0 len status h =
     let x = walk Nothing NoAnswer k m tells old events replies mid run at (known-clear Nothing NoAnswer m clear) in
     let so : Is (called_at (Some (WithDriver x.mailbox)) mid k polled) reply new = subst (λ o. Is (called_at o mid k polled) reply new) x.host step in
-    let gives : (polled x.mailbox).reply ≡ reply = sym so.0 in
-    let done : IsDone (polled x.mailbox).reply.seen = subst IsDone (sym (ap (λ (r : Reply). r.seen) gives ∙ h)) tt in
-    let y = poll-done (KnownBehind Nothing NoAnswer k tells old events replies mid run) x.mailbox.aborted x.mailbox x.known done in
-    let is : answer_reply y.answer ≡ reply = sym y.is ∙ gives in
+    let v = own-moved (Poll k) tells k mid.site new.site x.mailbox (polled x.mailbox).mailbox reply (same-is k k refl) (so.0, refl) in
+    let done : IsDone (reply_of v.move x.mailbox).seen = subst IsDone (sym h ∙ ap (λ (r : Reply). r.seen) v.gives) tt in
+    let y = hands (KnownBehind Nothing NoAnswer k tells old events replies mid run) v.move x.mailbox v.may x.known done in
+    let is : answer_reply y.answer ≡ reply = sym (v.gives ∙ y.is) in
     let s = same-done y.answer ticket status dw0 len (ap (λ (r : Reply). r.seen) is ∙ h) in
     let bytes : y.answer.bytes ≡ reply.bytes = ap (λ (r : Reply). r.bytes) is in
     let conclusion : conclusion_in y.answer ≡ record { status = status; dw0 = dw0; bytes = reply.bytes } = λ i. record { status = s.status_is i; dw0 = s.dw0_is i; bytes = bytes i } in

@@ -1,22 +1,7 @@
 -- A host's mailbox goes by its own events, but for the marks of others' executions.
-use Rattle.std.proofs.Common.{◌≡◌, ◌≢◌, ℕ, ◌==◌, Bool, true, false, Option, None, Some, refl, sym, ap, subst, ◌∙◌, arith}
-use Rattle.std.specs.Prelude.{slice_get}
-use Rattle.std.proofs.lemmas.Grind.{common_steps}
-use Rattle.nvme_spec.specs.declared.outcome.Marks.{Marks}
-use Rattle.nvme_machine.specs.declared.seen.Executed.{Executed}
-use Rattle.nvme_machine.specs.declared.seen.Executed.TheVariants.{Posted, NoSuch}
-use Rattle.nvme_machine.specs.Controllers.{Controller}
-use Rattle.nvme_event.specs.declared.event.FleetEvent.{FleetEvent}
-use Rattle.nvme_event.specs.declared.event.FleetEvent.TheVariants.{BringUp, Place, Ring, Fetch, Execute, Poll, Reset, RawStore, RawWrite32, PowerCycle}
-use Rattle.nvme_event.specs.declared.seen.FleetSeen.{FleetSeen}
-use Rattle.nvme_event.specs.declared.seen.FleetSeen.TheVariants.{Executed as ExecutedSeen, NoController, NotRaw, Cycled}
-use Rattle.nvme_event.specs.Replies.{Reply}
-use Rattle.nvme_event.specs.Events.{concerns}
-use Rattle.nvme_fleet.specs.Mailboxes.{FetchedItem, Mailbox}
-use Rattle.nvme_fleet.specs.Deliveries.{MailboxReaction, plain, fetched, reset}
-use Rattle.nvme_fleet.specs.Executions.{Site, RequestComesTo}
-use Rattle.nvme_fleet.specs.Fleets.{Host, WithDriver, Raw, Fleet, Is, Completes, ExecutesItem, ExecutesAt, host_at, with_host, power_cycled, called_at, raw_at, fetched_at, settled, after_answer, site_of, marks_in, replaced, numbered}
-use Rattle.nvme_fleet.specs.Apart.{HasMailbox, Becomes, Posts, ExecutesOwn, OwnStep, OthersStep, MailboxStep, MovesOn, HostsAreApart, marks_seen, marked_by}
+use Rattle.nvme_fleet.proofs.Words.{◌≡◌, ◌≢◌, ℕ, ◌==◌, Bool, true, false, Option, None, Some, refl, sym, ap, subst, ◌∙◌, arith, slice_get, common_steps, Marks, Executed, Posted, NoSuch, Controller, FleetEvent, BringUp, Place, Ring, Fetch, Execute, Poll, Reset, RawStore, RawWrite32, PowerCycle, FleetSeen, NotRaw, Reply, concerns, FetchedItem, Mailbox, MailboxReaction, plain, fetched, reset, Site, RequestComesTo, WithDriver, Raw, Fleet, Is, Completes, ExecutesItem, ExecutesAt, host_at, with_host, power_cycled, called_at, raw_at, fetched_at, settled, after_answer, site_of, marks_in, replaced, numbered, HasMailbox, Becomes, Posts, ExecutesOwn, OwnStep, OthersStep, MailboxStep, MovesOn, HostsAreApart, marks_seen, marked_by}
+use Rattle.nvme_fleet.specs.Fleets.{Host}
+use Rattle.nvme_event.specs.declared.seen.FleetSeen.TheVariants.{Executed as ExecutedSeen, NoController, Cycled}
 use Rattle.nvme_fleet.proofs.MailboxMarks.{spared}
 use Rattle.nvme_fleet.proofs.HostPlaces.{cycled-host, replaced-other, replaced-here, own-set, called-other, raw-other, fetched-other, marks-numbered}
 

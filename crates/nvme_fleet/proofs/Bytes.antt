@@ -1,46 +1,17 @@
 -- Bytes of namespaces change only by executions, which are one event of the subsystem each; and windows of other hosts
 -- stay over every event.
-use Rattle.std.proofs.Common.{◌≡◌, ◌≢◌, ◌⊎◌, inl, inr, ℕ, Bool, true, false, List, [], ◌∷◌, ◌++◌, Option, None, Some, Result, Ok, Err, refl, sym, ap, subst, ◌∙◌}
-use Rattle.std.specs.Prelude.{option_map}
-use Rattle.std.specs.List.{AllByRecursion}
-use Rattle.nvme_spec.specs.Blocks.{Device}
-use Rattle.nvme_spec.specs.Layout.{IsLaidOut, bytes_of, may_write}
-use Rattle.nvme_spec.specs.World.{World}
-use Rattle.nvme_driver.specs.declared.faults.NotUp.{NotUp}
-use Rattle.nvme_driver.specs.declared.faults.PlaceRefusal.{PlaceRefusal}
-use Rattle.nvme_driver.specs.declared.faults.UpFault.{UpFault}
-use Rattle.nvme_driver.specs.declared.request.Request.{Request}
-use Rattle.nvme_driver.specs.declared.ticket.Ticket.{Ticket}
-use Rattle.nvme_driver.specs.Calls.{Call, Stores, Writes, Reads, Turns}
-use Rattle.nvme_driver.specs.Drivers.{Driver, stores_of}
-use Rattle.nvme_driver.specs.Polls.{polled}
-use Rattle.nvme_driver.specs.Rises.{Rises}
-use Rattle.nvme_driver.proofs.Mapped.{IsMapped, rises-mapped}
-use Rattle.nvme_machine.specs.declared.event.Event.{Event}
+use Rattle.nvme_fleet.proofs.Words.{fault_free_step, ◌≡◌, ◌≢◌, ◌⊎◌, inl, inr, ℕ, Bool, true, false, List, [], ◌∷◌, ◌++◌, Option, None, Some, Result, Ok, Err, refl, sym, ap, subst, ◌∙◌, option_map, AllByRecursion, Device, IsLaidOut, bytes_of, may_write, World, NotUp, PlaceRefusal, UpFault, Request, Ticket, Call, Turns, Driver, stores_of, Rises, IsMapped, rises-mapped, Event, Seen, Cycled, Controller, with_marks, Subsystem, controller_at, FleetEvent, BringUp, Place, Ring, Fetch, Execute, Poll, Reset, RawStore, RawWrite32, PowerCycle, FleetSeen, OfItsHost, Reply, DriverCall, FencedEventsWriteNothing, LayoutStays, OthersWindowsStay, RunsOfMailboxes, is_laid_out, namespace_bytes, CallStep, ComesUp, Does, DoesIfAny, Places, Rings, events_of, events_of_calls, reset_events, ring_events, window_at, window_of, Site, Fleet, Is, Moment, Layers, fleet_in, Applies, AppliesRaw, CallsAt, Cycles, driver_at, polled}
 use Rattle.nvme_machine.specs.declared.event.Event.TheVariants as event
-use Rattle.nvme_machine.specs.declared.seen.Seen.{Seen}
-use Rattle.nvme_machine.specs.declared.seen.Seen.TheVariants.{Cycled}
-use Rattle.nvme_machine.specs.Controllers.{Controller, power_cycled, with_marks}
+use Rattle.nvme_machine.specs.Controllers.{power_cycled}
 use Rattle.nvme_machine.specs.Runs.{IsMarkedBy}
 use Rattle.nvme_machine.specs.Subsystems as machine
-use Rattle.nvme_machine.specs.Subsystems.{Subsystem, controller_at}
 use Rattle.nvme_machine.proofs.Fencing as fencing
 use Rattle.nvme_machine.proofs.Layouts as layouts
 use Rattle.nvme_machine.proofs.Others.{cycled-at, others_change_in_marks_alone}
-use Rattle.nvme_event.specs.declared.event.FleetEvent.{FleetEvent}
-use Rattle.nvme_event.specs.declared.event.FleetEvent.TheVariants.{BringUp, Place, Ring, Fetch, Execute, Poll, Reset, RawStore, RawWrite32, PowerCycle}
-use Rattle.nvme_event.specs.declared.seen.FleetSeen.{FleetSeen}
-use Rattle.nvme_event.specs.Events.{OfItsHost}
-use Rattle.nvme_event.specs.Replies.{Reply}
-use Rattle.nvme_fleet.specs.declared.delivery.DriverCall.{DriverCall}
 use Rattle.nvme_fleet.specs.declared.delivery.DriverCall.TheVariants as call
-use Rattle.nvme_fleet.specs.Bytes.{FencedEventsWriteNothing, FencingHolds, LayoutStays, LeavesReservation, OthersWindowsStay, PermissionsStay, RunsOfMailboxes, is_laid_out, namespace_bytes}
-use Rattle.nvme_fleet.specs.Deeds.{CallStep, ComesUp, Does, DoesIfAny, Places, Rings, events_of, events_of_calls, reset_events, ring_events, window_at, window_of}
-use Rattle.nvme_fleet.specs.Executions.{Site}
-use Rattle.nvme_fleet.specs.Fleets.{Fleet, Is, Moment, host_at}
-use Rattle.nvme_fleet.specs.FleetStates.{Layers, fleet_in}
-use Rattle.nvme_fleet.specs.Layers.{Applies, AppliesRaw, CallsAt, Cycles, Step, driver_at}
-use Rattle.nvme_fleet.proofs.Existing.{called-site, fetched-site, raw-site}
+use Rattle.nvme_fleet.specs.Bytes.{FencingHolds, LeavesReservation, PermissionsStay}
+use Rattle.nvme_fleet.specs.Layers.{Step}
+use Rattle.nvme_fleet.proofs.Existing.{other-site}
 
 -- Runs of the mailboxes.
 pub runs_of_mailboxes : RunsOfMailboxes
@@ -67,16 +38,9 @@ same-site old new m reply same h =
 pub by-event : (tells : Bool) (old new : Layers) (e : FleetEvent) (reply : Reply) (P : Type 0) → Step tells old e reply new → (IsSameSite old new → P)
     → ((k i : ℕ) → e ≡ Execute k i → (given : Seen) → machine.Step tells old.subsystem (event.Execute k i) given new.subsystem → P)
     → (e ≡ PowerCycle → machine.Step tells old.subsystem event.PowerCycle Cycled new.subsystem → P) → P
-by-event tells old new (BringUp k) reply P s alone executes cycles = alone (same-site old new _ reply (called-site (host_at (fleet_in old) k) (fleet_in old) k _) s.mailboxes)
-by-event tells old new (Place k request) reply P s alone executes cycles = alone (same-site old new _ reply (called-site (host_at (fleet_in old) k) (fleet_in old) k _) s.mailboxes)
-by-event tells old new (Ring k) reply P s alone executes cycles = alone (same-site old new _ reply (called-site (host_at (fleet_in old) k) (fleet_in old) k _) s.mailboxes)
-by-event tells old new (Fetch k q) reply P s alone executes cycles = alone (same-site old new _ reply (fetched-site (host_at (fleet_in old) k) (fleet_in old) k q) s.mailboxes)
 by-event tells old new (Execute k i) reply P s alone executes cycles = (let b = s.below in executes k i refl b.given b.step)
-by-event tells old new (Poll k) reply P s alone executes cycles = alone (same-site old new _ reply (called-site (host_at (fleet_in old) k) (fleet_in old) k _) s.mailboxes)
-by-event tells old new (Reset k) reply P s alone executes cycles = alone (same-site old new _ reply (called-site (host_at (fleet_in old) k) (fleet_in old) k _) s.mailboxes)
-by-event tells old new (RawStore k address bytes) reply P s alone executes cycles = alone (same-site old new _ reply (raw-site (host_at (fleet_in old) k) (fleet_in old) k _ _) s.mailboxes)
-by-event tells old new (RawWrite32 k offset v) reply P s alone executes cycles = alone (same-site old new _ reply (raw-site (host_at (fleet_in old) k) (fleet_in old) k _ _) s.mailboxes)
 by-event tells old new PowerCycle reply P s alone executes cycles = (let b = s.below in cycles refl (refl, b.cycled))
+by-event tells old new event reply P s alone executes cycles = alone (same-site old new (fault_free_step (fleet_in old) event) reply (other-site (fleet_in old) event tt) s.mailboxes)
 
 pub fenced_events_write_nothing : FencedEventsWriteNothing
 fenced_events_write_nothing old new e reply n laid step may =
@@ -161,10 +125,8 @@ ran-window tells k j (e ∷ events) (x ∷ given) old new other own (mid, step, 
     ran-window tells k j events given mid new other own.1 rest ∙ step-window tells old mid e x j step (λ is. other (is ∙ own.0))
 
 of-call : (k : ℕ) (one : Call) → AreOf k (events_of k one)
-of-call k (Stores address bytes) = (refl, tt)
-of-call k (Writes offset v) = (refl, tt)
-of-call k (Reads offset v) = (refl, tt)
 of-call k Turns = (refl, (refl, tt))
+of-call k one = (refl, tt)
 
 of-both : (k : ℕ) (es fs : List Event) → AreOf k es → AreOf k fs → AreOf k (es ++ fs)
 of-both k [] fs h g = g

@@ -1,26 +1,14 @@
 -- The calls that the events of a fleet make of the medium, by the laws of the machine.
-use Rattle.std.proofs.Common.{◌≡◌, ℕ, ◌-◌, ◌^◌, ◌<◌, Bool, true, List, [], ◌∷◌, ◌++◌, Ok, refl, sym, ap, subst, ◌∙◌, arith}
-use Rattle.nvme_spec.specs.declared.outcome.Outcome.{Outcome}
+use Rattle.nvme_fleet.proofs.Words.{◌≡◌, ◌-◌, true, [], ◌∷◌, ◌++◌, refl, sym, ap, subst, ◌∙◌, arith, Outcome, Executed, Posted, Seen, Execute, AreCallsOfStep, AreCallsOfRun, told}
 use Rattle.nvme_spec.specs.FaultFreeCalls.{content_step}
-use Rattle.nvme_spec.specs.MediumCalls.{MediumCall, Calls}
+use Rattle.nvme_spec.specs.MediumCalls.{Calls}
 use Rattle.nvme_spec.proofs.PassingCalls.{content-alone, calls-split}
 use Rattle.nvme_machine.specs.declared.event.Event.TheVariants as event
-use Rattle.nvme_machine.specs.declared.seen.Executed.{Executed}
-use Rattle.nvme_machine.specs.declared.seen.Executed.TheVariants.{Posted}
-use Rattle.nvme_machine.specs.declared.seen.Seen.{Seen}
 use Rattle.nvme_machine.specs.declared.seen.Seen.TheVariants as given
 use Rattle.nvme_machine.specs.EventCalls as machine
-use Rattle.nvme_machine.specs.Subsystems.{Subsystem}
 use Rattle.nvme_machine.proofs.CallLaws as machine_laws
-use Rattle.nvme_event.specs.declared.event.FleetEvent.{FleetEvent}
-use Rattle.nvme_event.specs.declared.event.FleetEvent.TheVariants.{Execute}
 use Rattle.nvme_event.specs.declared.seen.FleetSeen.TheVariants as seen
-use Rattle.nvme_event.specs.Replies.{Reply}
 use Rattle.nvme_fleet.specs.CallLaws.{StepsHaveCalls, RunsHaveCalls, StepCallsAreUnique, RunCallsAreUnique, FlushedIsOneFlush}
-use Rattle.nvme_fleet.specs.FleetStates.{Layers}
-use Rattle.nvme_fleet.specs.LayerCalls.{AreCallsOfStep, AreCallsOfRun}
-use Rattle.nvme_fleet.specs.Layers.{Run, told}
-use Rattle.nvme_fleet.specs.Unique.{HaveTicketsOnce}
 use Rattle.nvme_fleet.proofs.LayerCalls.{layer_calls_are_of_a_step, layer_calls_are_of_a_run}
 use Rattle.nvme_fleet.proofs.Unique.{AreCalm, count, happens-once, layers-alone, low, run-counted, step-counted}
 

@@ -1,18 +1,5 @@
 -- A command that suits its slot: its fields, and the same command as its request is judged by.
-use Rattle.std.proofs.Common.{◌≡◌, ℕ, ◌^◌, ◌<◌, ◌≤◌, true, List, length, take, sym, ap, subst, ◌∙◌, arith, inl, inr}
-use Rattle.std.proofs.lemmas.Bool.{and_parts, cases_Bool}
-use Rattle.std.proofs.lemmas.Slice.Eq.{bytes_eq-Decides}
-use Rattle.std.specs.Str.{bytes_eq}
-use Rattle.std.specs.Prelude.{nat_le}
-use Rattle.std.proofs.lemmas.Bool.{leb-true}
-use Rattle.nvme_wire.specs.declared.sqe.fields.SqeFields.{SqeFields}
-use Rattle.nvme_wire.specs.Submission.{submission_entry, submission_of, opcode, fuse, psdt, cid, nsid, cdw10, cdw11, cdw12, FitsSqeFields}
-use Rattle.nvme_wire.proofs.Made.{submission_is_read_back, submission_is_plain}
-use Rattle.nvme_spec.specs.Limits.{most_bytes}
-use Rattle.nvme_driver.specs.Pointers.{stored_list, first_entry, second_entry}
-use Rattle.nvme_driver.specs.Drivers.{entry_fields}
-use Rattle.nvme_fleet.specs.Views.{Slot, asked_in, suits, is_plain}
-use Rattle.nvme_fleet.specs.Executions.{command_entry, command_fields}
+use Rattle.nvme_fleet.proofs.Words.{◌≡◌, ℕ, ◌^◌, ◌<◌, ◌≤◌, true, List, length, take, sym, ap, subst, ◌∙◌, arith, inl, inr, and_parts, cases_Bool, bytes_eq-Decides, bytes_eq, nat_le, leb-true, SqeFields, submission_entry, submission_of, opcode, fuse, psdt, cid, nsid, cdw10, cdw11, cdw12, FitsSqeFields, submission_is_read_back, submission_is_plain, most_bytes, stored_list, first_entry, second_entry, entry_fields, Slot, asked_in, suits, is_plain, command_entry, command_fields}
 
 -- what suits says
 pub record IsSuited (s : Slot) (x : List ℕ) : Type 0 where

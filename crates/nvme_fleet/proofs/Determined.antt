@@ -1,47 +1,13 @@
 -- Without a fault of the medium there is one run over each list of events.
-use Rattle.std.proofs.Common.{◌≡◌, ℕ, ◌-◌, ◌^◌, ◌<◌, ◌≤◌, Bool, true, ◌==◌, [], ◌∷◌, Option, None, Some, Ok, Err, refl, sym, ap, subst, ◌∙◌, arith}
-use Rattle.std.specs.Prelude.{slice_get}
-use Rattle.nvme_wire.specs.Submission.{opcode}
-use Rattle.nvme_spec.specs.declared.command.Command.{Command}
-use Rattle.nvme_spec.specs.declared.command.AdminCommand.{AdminCommand}
-use Rattle.nvme_spec.specs.declared.verdict.Verdict.{Verdict}
-use Rattle.nvme_spec.specs.declared.verdict.Verdict.TheVariants.{Allowed, Denied}
-use Rattle.nvme_spec.specs.Rules.{Judgement}
-use Rattle.nvme_spec.specs.AdminCommands as admin_commands
+use Rattle.nvme_fleet.proofs.Words.{◌≡◌, ℕ, ◌-◌, ◌^◌, ◌<◌, ◌≤◌, Bool, true, ◌==◌, [], ◌∷◌, Option, None, Some, refl, sym, ap, subst, ◌∙◌, arith, slice_get, Command, Verdict, Allowed, Denied, Lane, Admin, Io, Asked, FetchedCommand, Executed, Posted, Controller, QueuePair, queues_of, open_pair, after_completion, Setting, FinishesOne, FinishesOver, scene_in, CommandComesTo, CommandExecution, FleetEvent, Execute, Reply, FetchedItem, Mailbox, lane_of, plain, Site, RequestExecution, scene_at, IsServed, IoRequestComesTo, RequestComesToAs, RequestComesTo, io_verdict, bytes_with, command_entry, WithDriver, Raw, Fleet, Is, Step, host_at, settled, after_execution, after_raw, ExecutesItem, ExecutesRaw, ExecutesAt, setting_of, served, performance_of, io_request_execution, request_execution_as, request_execution, executing_item, RawExecution, raw_over, raw_one, executing, fault_free_step, fault_free_replies, fault_free_left, failures_in, FailuresNeverFall, RunIsUnique}
+use Rattle.nvme_fleet.proofs.Existing.{admin-calm}
+use Rattle.nvme_fleet.proofs.Sites.{Leaves, AsItWas, ByRequest, ByCommand, PowerLost, leaves}
+use Rattle.nvme_fleet.specs.Fleets.{Host}
 use Rattle.nvme_spec.proofs.FaultFree as spec
-use Rattle.nvme_driver.specs.declared.lane.Lane.{Lane}
-use Rattle.nvme_driver.specs.declared.lane.Lane.TheVariants.{Admin, Io}
-use Rattle.nvme_driver.specs.Requests.{Asked}
-use Rattle.nvme_machine.specs.declared.fetched.FetchedCommand.{FetchedCommand}
-use Rattle.nvme_machine.specs.declared.seen.Executed.{Executed}
-use Rattle.nvme_machine.specs.declared.seen.Executed.TheVariants.{Posted}
-use Rattle.nvme_machine.specs.Controllers.{Controller, QueuePair, queues_of, open_pair}
-use Rattle.nvme_machine.specs.Subsystems.{after_completion}
-use Rattle.nvme_machine.specs.Executing.{Setting, FinishesOne, FinishesOver, scene_in}
-use Rattle.nvme_machine.specs.CommandExecutions.{CommandComesTo, CommandExecution}
 use Rattle.nvme_machine.proofs.Determined as machine_proofs
-use Rattle.nvme_event.specs.declared.event.FleetEvent.{FleetEvent}
-use Rattle.nvme_event.specs.declared.event.FleetEvent.TheVariants.{BringUp, Place, Ring, Fetch, Execute, Poll, Reset, RawStore, RawWrite32, PowerCycle}
-use Rattle.nvme_event.specs.declared.seen.FleetSeen.{FleetSeen}
 use Rattle.nvme_event.specs.declared.seen.FleetSeen.TheVariants.{Executed as ExecutedSeen}
-use Rattle.nvme_event.specs.Replies.{Reply}
-use Rattle.nvme_fleet.specs.Mailboxes.{FetchedItem, Mailbox, lane_of}
-use Rattle.nvme_fleet.specs.Deliveries.{MailboxReaction, plain}
-use Rattle.nvme_fleet.specs.Executions.{Site, RequestExecution, scene_at, IsServed, IoRequestComesTo, RequestComesToAs, RequestComesTo, io_verdict, admin_judgement, admin_request_execution_by, admin_request_execution, bytes_with, command_entry}
-use Rattle.nvme_fleet.specs.Fleets.{Host, WithDriver, Raw, Fleet, Moment, Is, Step, host_at, with_host, power_cycled, settled, called_at, raw_at, fetched_at, after_execution, after_raw, ExecutesItem, ExecutesRaw, ExecutesAt, setting_of}
-use Rattle.nvme_fleet.specs.FaultFree.{served, performance_of, io_request_execution, request_execution_as, request_execution, executing_item, RawExecution, raw_over, raw_one, executing, fault_free_step, fault_free_replies, fault_free_left}
-use Rattle.nvme_fleet.specs.Determined.{failures_in, FailuresNeverFall, RunIsUnique}
 
 -- The count of failures never falls.
-
-admin-by-calm : (j : Judgement) (command : Option AdminCommand) (s : Site) (k : ℕ) (a : Asked) → (admin_request_execution_by j command s k a).left.device.failures ≡ s.device.failures
-admin-by-calm (Err d) command s k a = refl
-admin-by-calm (Ok u) None s k a = refl
-admin-by-calm (Ok u) (Some command) s k a = refl
-
-pub admin-calm : (s : Site) (k : ℕ) (a : Asked) → (admin_request_execution s k a).left.device.failures ≡ s.device.failures
-unfolding admin_request_execution
-admin-calm s k a = admin-by-calm (admin_judgement s.world k a) (admin_commands.command_of (opcode (command_entry a))) s k a
 
 io-counts : (v : Verdict) (tells : Bool) (k : ℕ) (a : Asked) (s : Site) (r : RequestExecution) → IoRequestComesTo v tells k a s r
     → s.device.failures ≤ r.left.device.failures
@@ -57,81 +23,21 @@ execution-counts Io tells k a marked s r h = io-counts (io_verdict s.world k a m
 whole-counts : (old new : Fleet) → new ≡ old → failures_in old ≤ failures_in new
 whole-counts old new e = let f = ap failures_in e in omega (arith, f)
 
-item-counts : (o : Option FetchedItem) (tells : Bool) (old new : Fleet) (k : ℕ) (m : Mailbox) (i : ℕ) (reply : Reply)
-    → ExecutesItem o tells old k m i reply new → failures_in old ≤ failures_in new
-unfolding RequestComesTo settled
-item-counts None tells old new k m i reply h = whole-counts old new h.1
-item-counts (Some x) tells old new k m i reply h =
-    let e = ap failures_in h.leaves in
-    let less = execution-counts (lane_of x.item) tells k x.item.asked x.marked old.site h.execution h.comes_to in
+site-counts : (tells : Bool) (old new : Fleet) (event : FleetEvent) → Leaves tells old new event → failures_in old ≤ failures_in new
+unfolding RequestComesTo CommandComesTo
+site-counts tells old new event (AsItWas e) = let same = ap (λ (s : Site). s.device.failures) e in omega (arith, same)
+site-counts tells old new event (ByRequest k i is m x r at found comes left) =
+    let e = ap (λ (s : Site). s.device.failures) left in
+    let less = execution-counts (lane_of x.item) tells k x.item.asked x.marked old.site r comes in
     omega (arith, e, less)
-
-over-counts : (o : Option QueuePair) (tells : Bool) (i : ℕ) (t : FetchedCommand) (old : Setting) (executed : Executed) (new : Setting)
-    → FinishesOver o tells i t old executed new → old.device.failures ≤ new.device.failures
-unfolding CommandComesTo
-over-counts None tells i t old executed new h = let e = ap (λ (s : Setting). s.device.failures) h.1 in omega (arith, e)
-over-counts (Some p) tells i t old executed new h =
-    let e = ap (λ d. d.failures) h.device in
-    let less = machine_proofs.answer-counts (t.queue == 0) tells (queues_of old.controller) old.controller.cntlid t (scene_in old) h.execution h.comes_to in
+site-counts tells old new event (ByCommand k i is c t a at found comes left) =
+    let e = ap (λ (s : Site). s.device.failures) left in
+    let less = machine_proofs.answer-counts (t.queue == 0) tells (queues_of c) c.cntlid t (scene_in (setting_of old c)) a comes in
     omega (arith, e, less)
-
-one-counts : (o : Option FetchedCommand) (tells : Bool) (i : ℕ) (old : Setting) (executed : Executed) (new : Setting)
-    → FinishesOne o tells i old executed new → old.device.failures ≤ new.device.failures
-one-counts None tells i old executed new h = let e = ap (λ (s : Setting). s.device.failures) h.1 in omega (arith, e)
-one-counts (Some t) tells i old executed new h = over-counts (open_pair old.controller t) tells i t old executed new h
-
-raw-counts : (tells : Bool) (old new : Fleet) (k : ℕ) (c : Controller) (i : ℕ) (reply : Reply) → ExecutesRaw tells old k c i reply new
-    → failures_in old ≤ failures_in new
-unfolding settled
-raw-counts tells old new k c i reply h =
-    let e = ap failures_in h.leaves in
-    let less = one-counts (slice_get c.fetched i) tells i (setting_of old c) h.executed h.left h.executes in
-    omega (arith, e, less)
-
-executes-counts : (o : Option Host) (tells : Bool) (old new : Fleet) (k i : ℕ) (reply : Reply) → ExecutesAt o tells old k i reply new
-    → failures_in old ≤ failures_in new
-executes-counts None tells old new k i reply h = whole-counts old new h.1
-executes-counts (Some (WithDriver m)) tells old new k i reply h = item-counts (slice_get m.fetched i) tells old new k m i reply h
-executes-counts (Some (Raw c)) tells old new k i reply h = raw-counts tells old new k c i reply h
-
--- every other event leaves the medium
-
-called-calm : (o : Option Host) (f : Fleet) (k : ℕ) (call : Mailbox → MailboxReaction) → failures_in (called_at o f k call).fleet ≡ failures_in f
-unfolding with_host
-called-calm None f k call = refl
-called-calm (Some (WithDriver m)) f k call = refl
-called-calm (Some (Raw c)) f k call = refl
-
-raw-calm : (o : Option Host) (f : Fleet) (k : ℕ) (change : Controller → Controller) (what : FleetSeen) → failures_in (raw_at o f k change what).fleet ≡ failures_in f
-unfolding with_host
-raw-calm None f k change what = refl
-raw-calm (Some (WithDriver m)) f k change what = refl
-raw-calm (Some (Raw c)) f k change what = refl
-
-fetched-calm : (o : Option Host) (f : Fleet) (k q : ℕ) → failures_in (fetched_at o f k q).fleet ≡ failures_in f
-unfolding with_host
-fetched-calm None f k q = refl
-fetched-calm (Some (WithDriver m)) f k q = refl
-fetched-calm (Some (Raw c)) f k q = refl
-
-cycled-calm : (f : Fleet) → failures_in (power_cycled f) ≡ failures_in f
-unfolding power_cycled
-cycled-calm f = refl
-
-is-calm : (old new : Fleet) (m : Moment) (reply : Reply) → failures_in m.fleet ≡ failures_in old → Is m reply new → failures_in old ≤ failures_in new
-is-calm old new m reply same h = let e = ap failures_in h.1 in omega (arith, same, e)
+site-counts tells old new event (PowerLost is left) = let e = ap (λ (s : Site). s.device.failures) left in omega (arith, e)
 
 pub step-counts : (tells : Bool) (old new : Fleet) (event : FleetEvent) (reply : Reply) → Step tells old event reply new → failures_in old ≤ failures_in new
-step-counts tells old new (BringUp k) reply h = is-calm old new _ reply (called-calm (host_at old k) old k _) h
-step-counts tells old new (Place k request) reply h = is-calm old new _ reply (called-calm (host_at old k) old k _) h
-step-counts tells old new (Ring k) reply h = is-calm old new _ reply (called-calm (host_at old k) old k _) h
-step-counts tells old new (Fetch k q) reply h = is-calm old new _ reply (fetched-calm (host_at old k) old k q) h
-step-counts tells old new (Execute k i) reply h = executes-counts (host_at old k) tells old new k i reply h
-step-counts tells old new (Poll k) reply h = is-calm old new _ reply (called-calm (host_at old k) old k _) h
-step-counts tells old new (Reset k) reply h = is-calm old new _ reply (called-calm (host_at old k) old k _) h
-step-counts tells old new (RawStore k address bytes) reply h = is-calm old new _ reply (raw-calm (host_at old k) old k _ _) h
-step-counts tells old new (RawWrite32 k offset v) reply h = is-calm old new _ reply (raw-calm (host_at old k) old k _ _) h
-step-counts tells old new PowerCycle reply h = is-calm old new _ reply (cycled-calm old) h
+step-counts tells old new event reply h = site-counts tells old new event (leaves tells old new event reply h)
 
 pub failures_never_fall : FailuresNeverFall
 failures_never_fall tells old new [] [] run = whole-counts old new run

@@ -1,8 +1,5 @@
 -- A slot that no live request holds may be emptied: the lane holds as before, and its mailbox is the same.
-use Rattle.std.proofs.Common.{◌≡◌, ℕ, ◌+◌, ◌-◌, ◌%◌, List, [], ◌∷◌, refl, ap, sym, ◌∙◌, arith, zero, suc, inl, inr, slice_set}
-use Rattle.std.proofs.lemmas.List.{length-set}
-use Rattle.std.proofs.lemmas.Bool.{cases_Bool}
-use Rattle.nvme_fleet.specs.Views.{Host, State, Slot, empty, box, in_flight, commands, completions, heard, commands_of, answers_of, live_at, live_in, total, holds, Running, Resting, Holds}
+use Rattle.nvme_fleet.proofs.Words.{◌≡◌, ℕ, ◌+◌, ◌-◌, ◌%◌, List, [], ◌∷◌, refl, ap, sym, ◌∙◌, arith, zero, suc, inl, inr, slice_set, length-set, cases_Bool, State, Slot, empty, box, in_flight, commands, completions, heard, commands_of, answers_of, live_at, live_in, total, holds, Running, Resting, Holds, Host}
 use Rattle.nvme_fleet.proofs.Slots.{apart-set, same-items, same-odd, same-answers}
 use Rattle.nvme_fleet.proofs.Queues.{same-box}
 use Rattle.nvme_fleet.proofs.Places.{Bare, bare}

@@ -1,32 +1,8 @@
 -- An execution of a command of either lane is the step of the mailbox.
-use Rattle.std.proofs.Common.{◌≡◌, ℕ, ◌^◌, ◌<◌, ◌==◌, Bool, true, List, map, Some, refl, sym, ap, subst, ◌∙◌, arith, slice_get}
-use Rattle.std.proofs.lemmas.Option.{slice_get-map}
+use Rattle.nvme_fleet.proofs.Words.{same_Some, ◌≡◌, ℕ, ◌^◌, ◌<◌, ◌==◌, Bool, List, map, Some, refl, sym, ap, subst, ◌∙◌, arith, slice_get, slice_get-map, FitsCompletion, Outcome, Verdict, Allowed, Denied, Keep, admin_execution, Scene, ExecutesBy, Fits, execution_fits, Lane, Admin, Io, queue_id, Driver, FetchedCommand, Executed, Controller, QueuePair, open_pair, queues_of, CommandExecution, admin_command_execution, CommandComesToAs, CommandComesTo, IoCommandComesTo, Setting, ExecutesNth, Finishes, FinishesOver, FinishesOne, scene_in, FetchedItem, RequestComesTo, held_by, fetched_by, Sound, host_side, mailbox, taken_by, lane_of_queue, IsAnsweredInItsSlot, IsExecuted, request_execution_with, IoExecutionIsAStep, AdminExecutionIsAStep, ExecutionIsAStep}
+use Rattle.nvme_fleet.proofs.FetchStep.{side-small}
 use Rattle.std.specs.Option.{option_map}
-use Rattle.nvme_wire.specs.Completion.{FitsCompletion}
-use Rattle.nvme_spec.specs.declared.outcome.Outcome.{Outcome}
-use Rattle.nvme_spec.specs.declared.verdict.Verdict.{Verdict}
-use Rattle.nvme_spec.specs.declared.verdict.Verdict.TheVariants.{Allowed, Denied}
-use Rattle.nvme_spec.specs.declared.queues.QueueChange.TheVariants.{Keep}
-use Rattle.nvme_spec.specs.AdminEffects.{admin_execution}
 use Rattle.nvme_spec.specs.IoData as spec
-use Rattle.nvme_spec.specs.Execution.{Scene, ExecutesBy}
-use Rattle.nvme_spec.specs.StatusLaws.{Fits}
-use Rattle.nvme_spec.proofs.StatusLaws.{execution_fits}
-use Rattle.nvme_driver.specs.declared.lane.Lane.{Lane}
-use Rattle.nvme_driver.specs.declared.lane.Lane.TheVariants.{Admin, Io}
-use Rattle.nvme_driver.specs.Layout.{queue_id}
-use Rattle.nvme_driver.specs.Drivers.{Driver, is_up}
-use Rattle.nvme_machine.specs.declared.fetched.FetchedCommand.{FetchedCommand}
-use Rattle.nvme_machine.specs.declared.seen.Executed.{Executed}
-use Rattle.nvme_machine.specs.Controllers.{Controller, QueuePair, open_pair, queues_of}
-use Rattle.nvme_machine.specs.CommandExecutions.{CommandExecution, admin_command_execution, CommandComesToAs, CommandComesTo, IoCommandComesTo}
-use Rattle.nvme_machine.specs.Executing.{Setting, ExecutesNth, Finishes, FinishesOver, FinishesOne, scene_in}
-use Rattle.nvme_fleet.specs.Mailboxes.{FetchedItem}
-use Rattle.nvme_fleet.specs.Executions.{RequestComesTo}
-use Rattle.nvme_fleet.specs.Lanes.{DeviceSide, DeviceEnds, Both, pair, state, held_by, fetched_by}
-use Rattle.nvme_fleet.specs.Sound.{Sound, IsPaired, host_side, device_side, mailbox, taken_by, lane_of_queue}
-use Rattle.nvme_fleet.specs.Steps.{IsAnsweredInItsSlot, IsExecuted, request_execution_with, IoExecutionIsAStep, AdminExecutionIsAStep, ExecutionIsAStep}
-use Rattle.nvme_fleet.proofs.Linking.{of, pair-is}
 use Rattle.nvme_fleet.proofs.PostStep.{known, up-of, open-is, pair_in, fields_of, item_at, posting_has_room, posting_is_a_step}
 use Rattle.nvme_fleet.proofs.HeldStep.{held-known}
 use Rattle.nvme_fleet.proofs.AdminStep.{admin_answers_its_request, admin-fits}
@@ -40,23 +16,11 @@ executes-zero (Allowed plan) tells k x old new o h = h.dw0
 
 -- Of the queue's head.
 
-head-small : (lane : Lane) (d : Driver) (c : Controller) (p : IsPaired c) → Sound d c → is_up d.state ≡ true → (of lane c p).fetched < 8
-head-small lane d c p s u =
-    let b : Both (host_side d) (device_side c) = s.both in
-    let r = (b.each lane).up u in
-    subst (λ (x : DeviceEnds). x.fetched < 8) (pair-is lane c p) (state-fetched lane (device_side c) 8 r.fetched)
-  where
-    state-fetched : (l : Lane) (k : DeviceSide) (n : ℕ) → (state l k).fetched < n → (pair l k).fetched < n
-    state-fetched l k n h = h
-
 pair-head : (d : Driver) (c : Controller) (i : ℕ) (t : FetchedCommand) (p : QueuePair) → Sound d c → slice_get c.fetched i ≡ Some t → open_pair c t ≡ Some p → p.submission.head.fetched < 8
 pair-head d c i t p s g e =
     let k = known d c i t s g in
-    let same : p ≡ pair_in k.lane c k.paired = some-is p (pair_in k.lane c k.paired) (sym e ∙ open-is k.lane c k.paired t k.queue k.room) in
-    subst (λ (z : QueuePair). z.submission.head.fetched < 8) (sym same) (head-small k.lane d c k.paired s (up-of d c i t s g))
-  where
-    some-is : (y z : QueuePair) → Some y ≡ Some z → y ≡ z
-    some-is y z h = cc
+    let same : p ≡ pair_in k.lane c k.paired = same_Some p (pair_in k.lane c k.paired) (sym e ∙ open-is k.lane c k.paired t k.queue k.room) in
+    subst (λ (z : QueuePair). z.submission.head.fetched < 8) (sym same) (side-small k.lane d c k.paired s (up-of d c i t s g))
 
 pub completion-fits : (lane : Lane) (d : Driver) (c : Controller) (i : ℕ) (t : FetchedCommand) (p : QueuePair) (a : CommandExecution) → Sound d c → slice_get c.fetched i ≡ Some t → t.queue ≡ queue_id lane
     → open_pair c t ≡ Some p → Fits a.outcome.status × (a.outcome.dw0 < 2 ^ 32) → FitsCompletion (fields_of t p a)
@@ -106,7 +70,7 @@ finished tells d i t p old executed new s g e h x =
     let f = found-at d old.controller i t g in
     let y = x.slot in
     let r = posting_is_a_step d old.controller i t p h.execution s g e (record { bytes = y.bytes; queues = x.keeps; window = y.window; few = y.few; whole = y.whole; fits = x.fits_so }) in
-    let same : item_at d old.controller t ≡ r.item = some-is (item_at d old.controller t) r.item (sym f ∙ r.found) in
+    let same : item_at d old.controller t ≡ r.item = same_Some (item_at d old.controller t) r.item (sym f ∙ r.found) in
     record {
       item = r.item;
       execution = request_execution_with d t h.execution y.bytes;
@@ -118,9 +82,6 @@ finished tells d i t p old executed new s g e h x =
       world = h.world;
       device = h.device;
     }
-  where
-    some-is : (y z : FetchedItem) → Some y ≡ Some z → y ≡ z
-    some-is y z h = cc
 
 -- the command of a lane's execution, whose completion queue has room
 pub finishes : (tells : Bool) (d : Driver) (i : ℕ) (t : FetchedCommand) (old : Setting) (executed : Executed) (new : Setting) → (s : Sound d old.controller)

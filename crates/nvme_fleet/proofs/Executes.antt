@@ -1,17 +1,6 @@
 -- An execution in one lane: a request goes from those that were fetched to the answers that were posted.
-use Rattle.std.proofs.Common.{◌≡◌, ℕ, ◌+◌, ◌-◌, ◌%◌, ◌<◌, ◌≤◌, List, [], ◌∷◌, ◌++◌, length, map, refl, ap, sym, ◌∙◌, arith, true, false, not, cond, eqb, Bool, Some, inl, inr, take, slice_get}
-use Rattle.std.proofs.lemmas.List.{take-take, length-set}
-use Rattle.std.proofs.lemmas.List.Edits.{length-remove}
-use Rattle.std.proofs.lemmas.Option.{slice_get_within}
-use Rattle.std.proofs.lemmas.Bool.{cases_Bool, eqb-true, ne_eqb, lt-ltb, cases_eq}
-use Rattle.std.proofs.lemmas.Grind.{common_steps}
-use Rattle.std.specs.Prelude.{nat_lt, remove}
-use Rattle.nvme_wire.specs.Submission.{cid}
-use Rattle.nvme_wire.specs.Completion.{Completion, completion_of}
-use Rattle.nvme_driver.specs.Layout.{queue_id}
-use Rattle.nvme_driver.specs.Polls.{answer_len}
-use Rattle.nvme_fleet.specs.Mailboxes.{PostedAnswer}
-use Rattle.nvme_fleet.specs.Views.{Effect, Host, State, Slot, finished, finished_bytes, executed, executed_state, completion_bytes, phase_of, ticket_in, received_in, AreOf, in_flight, commands, completions, item, answer, box, Running, Holds, Heads, last_head, heard, unread, since, steps, commands_of, answers_of, live_at, slot_at, answers, holds, total, odd, suits, bears, replies, Carried, Phases}
+use Rattle.nvme_fleet.proofs.Words.{◌≡◌, ℕ, ◌+◌, ◌-◌, ◌%◌, ◌<◌, ◌≤◌, List, [], ◌∷◌, ◌++◌, length, map, refl, ap, sym, ◌∙◌, arith, true, false, not, cond, eqb, Bool, Some, inl, inr, take, slice_get, take-take, length-set, length-remove, slice_get_within, cases_Bool, eqb-true, ne_eqb, lt-ltb, cases_eq, common_steps, nat_lt, cid, Completion, completion_of, queue_id, answer_len, PostedAnswer, Effect, State, Slot, finished, finished_bytes, executed, executed_state, completion_bytes, phase_of, ticket_in, received_in, AreOf, in_flight, commands, completions, item, answer, box, Running, Holds, Heads, last_head, heard, unread, since, steps, commands_of, answers_of, live_at, slot_at, answers, holds, total, odd, suits, bears, replies, Carried, Phases, Host}
+use Rattle.std.proofs.Common.{remove}
 use Rattle.nvme_fleet.proofs.Totals.{total-append, total-removed, live-within, live-small, live-set, slot-same}
 use Rattle.nvme_fleet.proofs.Slots.{few, Apart, apart-set, same-items, same-odd, same-answers}
 use Rattle.nvme_fleet.proofs.Keeps.{EntersCompletion, answered, commands-same, completions-kept}
@@ -88,9 +77,6 @@ written d c ans i x bytes h = answered c.window (finished_bytes c ans x) (c.post
 
 apart : (d : Host) (x bytes : List ℕ) → Apart (cid x) (holds d) (holds (executed d x bytes))
 apart d x bytes = apart-set d.slots (cid x) (record (slot_at d.slots (cid x)) { bytes = bytes })
-
-posted-small : (d : Host) (c : State) → Running d c → c.posted < 64
-posted-small d c s = omega (arith, s.posted)
 
 -- the slot keeps its request, and gets the data
 here : (d : Host) (x bytes : List ℕ) → cid x < length d.slots → holds (executed d x bytes) (cid x) ≡ record (slot_at d.slots (cid x)) { bytes = bytes }

@@ -1,26 +1,9 @@
 -- An execution over both lanes of a window: the lane of the command executes it, and the other lane stays.
-use Rattle.nvme_driver.specs.Polls.{answer_len}
-use Rattle.nvme_driver.specs.Polls.{waiting_at}
-use Rattle.nvme_fleet.specs.Mailboxes.{with_box}
-use Rattle.nvme_fleet.specs.Mailboxes.{LaneBox}
-use Rattle.nvme_wire.specs.Completion.{completion_of}
-use Rattle.nvme_wire.specs.Submission.{cid}
-use Rattle.nvme_driver.specs.Layout.{data_area}
-use Rattle.std.proofs.Common.{◌≡◌, ℕ, ◌+◌, ◌*◌, ◌%◌, ◌<◌, ◌≤◌, List, [], ◌∷◌, ◌++◌, length, map, refl, ap, sym, ◌∙◌, arith, true, false, eqb, Some, None, inl, inr, slice_get, slice_set, take}
-use Rattle.std.proofs.lemmas.Option.{slice_get-map}
-use Rattle.std.proofs.lemmas.Bool.{cases_Bool}
-use Rattle.std.proofs.lemmas.Grind.{common_steps}
-use Rattle.std.specs.Prelude.{remove, Bool}
-use Rattle.std.specs.Option.{option_map}
-use Rattle.nvme_spec.specs.Limits.{most_bytes}
-use Rattle.nvme_spec.specs.Bytes.{with_bytes}
-use Rattle.nvme_fleet.specs.Views.{Host, State, Slot, box, finished, finished_bytes, received_in, Effect, Resting, Holds, live_in, slot_at, commands_of, holds, executed as executed_one, executed_state}
+use Rattle.nvme_fleet.proofs.Words.{none-some, answer_len, waiting_at, with_box, LaneBox, completion_of, cid, data_area, ◌≡◌, ℕ, ◌+◌, ◌*◌, ◌%◌, ◌<◌, ◌≤◌, List, [], ◌∷◌, ◌++◌, length, map, refl, ap, sym, ◌∙◌, arith, true, false, eqb, Some, inl, inr, slice_get, slice_set, take, cases_Bool, Bool, most_bytes, with_bytes, State, Slot, box, finished, finished_bytes, received_in, Effect, Resting, Holds, live_in, slot_at, commands_of, holds, executed as executed_one, executed_state, Lane, Admin, Io, other, Taken, HostSide, DeviceSide, Both, pair, base, pages_of, area, listed, slot_in, slots_in, commands_in, host, state, fetched_by, held_by, mail, executed_window, executed_at, Host}
+use Rattle.std.proofs.Common.{remove}
 use Rattle.nvme_fleet.proofs.Totals.{map-removed}
 use Rattle.nvme_fleet.proofs.Slots.{apart-set}
 use Rattle.nvme_fleet.proofs.Executes.{Fetched as FetchedOne, fetched as fetched_one, Executes, given, execute-box, execute-holds}
-use Rattle.nvme_driver.specs.declared.lane.Lane.{Lane}
-use Rattle.nvme_driver.specs.declared.lane.Lane.TheVariants.{Admin, Io}
-use Rattle.nvme_fleet.specs.Lanes.{other, Taken, HostSide, DeviceSide, Both, pair, base, pages_of, area, listed, slot_in, slots_in, commands_in, host, state, fetched_by, held_by, mail, executed_window, executed_at}
 use Rattle.nvme_fleet.proofs.LaneWindows.{Same, same-both, Leaves, leaves-data, lists-data, Pages, pages, area-front}
 use Rattle.nvme_fleet.proofs.LaneSlots.{slots-set, slot-in, set-slot, set-waiting, slot-here, slot-there, same-fetched}
 use Rattle.nvme_fleet.proofs.Ranks.{rank, rank-here, remove-here, remove-there, same-self}
@@ -55,14 +38,11 @@ stores lane w bytes entry s at l a b h =
       there = two.there ∙ one.pages (other lane);
     }
 
-not-none : (x : List ℕ) → None ≡ Some x → ⊥
-not-none x h = grind (arith, common_steps, h)
-
 -- what was fetched was fetched from a driver that is up
 off-none : (d : Host) (c : State) (i : ℕ) (x : List ℕ) → Resting d c → slice_get c.taken i ≡ Some x → ⊥
 off-none d c i x r g =
     let e : c.taken ≡ [] = ap (λ (s : State). s.taken) r.off in
-    not-none x (sym (ap (λ ts. slice_get ts i) e) ∙ g)
+    none-some x (sym (ap (λ ts. slice_get ts i) e) ∙ g)
 
 is-up : (first : ℕ) (d : Host) (c : State) (i : ℕ) (x : List ℕ) → Holds first d c → slice_get c.taken i ≡ Some x → d.up ≡ true
 is-up first d c i x s g = elim (cases_Bool d.up) [
@@ -214,10 +194,6 @@ execute-mail Admin d c i x ans h =
 execute-mail Io d c i x ans h =
     let p = parts Io d c i x ans h in
     step-of Io (λ l. box (host l d (executed_window Io c x ans)) (state l (executed_at Io c i x ans))) (λ l. box (host l d c.window) (state l c)) d.up d.next _ _ _ _ _ p.here p.there p.fetched refl
-
--- there is a command to fetch from the list just where the mailbox has a fetched request
-pub there-is : (d : HostSide) (c : DeviceSide) (i : ℕ) → slice_get (mail d c).fetched i ≡ option_map (fetched_by (held_by d c.window)) (slice_get c.taken i)
-there-is d c i = slice_get-map (fetched_by (held_by d c.window)) c.taken i
 
 -- its completion queue has room
 pub has-room : (lane : Lane) (d : HostSide) (c : DeviceSide) (i : ℕ) (x : List ℕ) → Takes lane d c i x → (pair lane c).unread < 24

@@ -1,46 +1,23 @@
 -- Without a fault there is a run over each list of events, from each fleet whose namespaces lie on its medium.
-use Rattle.std.proofs.Common.{◌≡◌, ℕ, ◌+◌, ◌*◌, ◌≤◌, ◌==◌, Bool, true, List, [], ◌∷◌, ◌++◌, length, take, drop, Option, None, Some, Ok, Err, refl, sym, ap, ◌∙◌, arith, length-append, length-drop}
-use Rattle.std.specs.Prelude.{slice_get, replicate}
-use Rattle.std.proofs.lemmas.List.{length-take-le}
-use Rattle.nvme_wire.specs.Submission.{opcode}
-use Rattle.nvme_spec.specs.declared.command.Command.{Command}
-use Rattle.nvme_spec.specs.declared.command.Command.TheVariants.{Write, WriteZeroes}
-use Rattle.nvme_spec.specs.declared.command.AdminCommand.{AdminCommand}
+use Rattle.nvme_fleet.proofs.Words.{◌≡◌, ℕ, ◌+◌, ◌*◌, ◌≤◌, ◌==◌, Bool, true, List, [], ◌∷◌, ◌++◌, length, take, drop, Option, None, Some, Ok, Err, refl, sym, ap, ◌∙◌, arith, length-append, length-drop, ◌-◌, slice_get, replicate, length-take-le, opcode, Command, WriteZeroes, AdminCommand, Verdict, Allowed, Denied, with_bytes, Judgement, action_rule, medium_block, IsLaidOut, extent_of, HasPassed, planned, passes, cycle_keeps_places, Lane, Admin, Io, Asked, FetchedCommand, Controller, QueuePair, queues_of, open_pair, Setting, FinishesOne, FinishesOver, scene_in, CommandComesTo, command-becomes, still, answer-extents, answer-size, FleetEvent, BringUp, Place, Ring, Fetch, Execute, Poll, Reset, RawStore, RawWrite32, PowerCycle, FleetSeen, FetchedItem, Mailbox, lane_of, MailboxReaction, Site, RequestExecution, scene_at, IsServed, IoRequestComesTo, RequestComesToAs, RequestComesTo, action_of, io_judgement, io_verdict, admin_judgement, admin_request_execution_by, admin_request_execution, command_entry, WithDriver, Raw, Fleet, Step, host_at, with_host, power_cycled, settled, called_at, raw_at, fetched_at, ExecutesItem, ExecutesAt, setting_of, served, performance_of, io_request_execution, request_execution_as, request_execution, executing_item, raw_over, raw_one, raw_execution, executing, fault_free_step, failures_in, RunExists}
+use Rattle.nvme_spec.specs.declared.command.Command.TheVariants.{Write}
 use Rattle.nvme_spec.specs.declared.verdict.Plan.{Plan}
-use Rattle.nvme_spec.specs.declared.verdict.Verdict.{Verdict}
-use Rattle.nvme_spec.specs.declared.verdict.Verdict.TheVariants.{Allowed, Denied}
-use Rattle.nvme_spec.specs.Bytes.{with_bytes}
 use Rattle.nvme_spec.specs.Commands as io_commands
 use Rattle.nvme_spec.specs.AdminCommands as admin_commands
-use Rattle.nvme_spec.specs.Rules.{Judgement}
-use Rattle.nvme_spec.specs.IoData.{action_rule}
-use Rattle.nvme_spec.specs.Execution.{medium_block}
-use Rattle.nvme_spec.specs.Layout.{IsLaidOut, extent_of}
-use Rattle.nvme_spec.proofs.Passing.{HasPassed, planned, passes}
 use Rattle.nvme_spec.proofs.FaultFree as spec
 use Rattle.nvme_spec.proofs.Fencing.{performs-rest}
-use Rattle.nvme_spec.proofs.Power.{cycle_keeps_places}
-use Rattle.nvme_driver.specs.declared.lane.Lane.{Lane}
-use Rattle.nvme_driver.specs.declared.lane.Lane.TheVariants.{Admin, Io}
-use Rattle.nvme_driver.specs.Requests.{Asked}
-use Rattle.nvme_machine.specs.declared.fetched.FetchedCommand.{FetchedCommand}
-use Rattle.nvme_machine.specs.Controllers.{Controller, QueuePair, queues_of, open_pair}
-use Rattle.nvme_machine.specs.Executing.{Setting, FinishesOne, FinishesOver, scene_in}
-use Rattle.nvme_machine.specs.CommandExecutions.{CommandComesTo}
 use Rattle.nvme_machine.specs.FaultFree.{fault_free_command_execution}
-use Rattle.nvme_machine.proofs.AdminWorlds.{command-becomes, still}
-use Rattle.nvme_machine.proofs.Layouts.{answer-extents, answer-size}
 use Rattle.nvme_machine.proofs.Determined as machine_proofs
-use Rattle.nvme_event.specs.declared.event.FleetEvent.{FleetEvent}
-use Rattle.nvme_event.specs.declared.event.FleetEvent.TheVariants.{BringUp, Place, Ring, Fetch, Execute, Poll, Reset, RawStore, RawWrite32, PowerCycle}
-use Rattle.nvme_event.specs.declared.seen.FleetSeen.{FleetSeen}
-use Rattle.nvme_fleet.specs.Mailboxes.{FetchedItem, Mailbox, lane_of}
-use Rattle.nvme_fleet.specs.Deliveries.{MailboxReaction}
-use Rattle.nvme_fleet.specs.Executions.{Site, RequestExecution, scene_at, IsServed, IoRequestComesTo, RequestComesToAs, RequestComesTo, action_of, io_judgement, io_verdict, admin_judgement, admin_request_execution_by, admin_request_execution, command_entry}
-use Rattle.nvme_fleet.specs.Fleets.{Host, WithDriver, Raw, Fleet, Step, host_at, with_host, power_cycled, settled, called_at, raw_at, fetched_at, ExecutesItem, ExecutesAt, setting_of}
-use Rattle.nvme_fleet.specs.FaultFree.{served, performance_of, io_request_execution, request_execution_as, request_execution, executing_item, raw_over, raw_one, raw_execution, executing, fault_free_step}
-use Rattle.nvme_fleet.specs.Determined.{failures_in, RunExists}
-use Rattle.nvme_fleet.proofs.Determined.{admin-calm}
+use Rattle.nvme_fleet.specs.Fleets.{Host}
+
+admin-by-calm : (j : Judgement) (command : Option AdminCommand) (s : Site) (k : ℕ) (a : Asked) → (admin_request_execution_by j command s k a).left.device.failures ≡ s.device.failures
+admin-by-calm (Err d) command s k a = refl
+admin-by-calm (Ok u) None s k a = refl
+admin-by-calm (Ok u) (Some command) s k a = refl
+
+pub admin-calm : (s : Site) (k : ℕ) (a : Asked) → (admin_request_execution s k a).left.device.failures ≡ s.device.failures
+unfolding admin_request_execution
+admin-calm s k a = admin-by-calm (admin_judgement s.world k a) (admin_commands.command_of (opcode (command_entry a))) s k a
 
 -- The namespaces lie on the medium as before, which is at least as long.
 record StillLies (old new : Site) : Type 0 where
@@ -195,29 +172,46 @@ executes (Some (Raw c)) f k i laid =
     }
 
 -- every other event leaves the medium and the world
-pub called-site : (o : Option Host) (f : Fleet) (k : ℕ) (call : Mailbox → MailboxReaction) → (called_at o f k call).fleet.site ≡ f.site
+called-site : (o : Option Host) (f : Fleet) (k : ℕ) (call : Mailbox → MailboxReaction) → (called_at o f k call).fleet.site ≡ f.site
 unfolding with_host
 called-site None f k call = refl
 called-site (Some (WithDriver m)) f k call = refl
 called-site (Some (Raw c)) f k call = refl
 
-pub raw-site : (o : Option Host) (f : Fleet) (k : ℕ) (change : Controller → Controller) (what : FleetSeen) → (raw_at o f k change what).fleet.site ≡ f.site
+raw-site : (o : Option Host) (f : Fleet) (k : ℕ) (change : Controller → Controller) (what : FleetSeen) → (raw_at o f k change what).fleet.site ≡ f.site
 unfolding with_host
 raw-site None f k change what = refl
 raw-site (Some (WithDriver m)) f k change what = refl
 raw-site (Some (Raw c)) f k change what = refl
 
-pub fetched-site : (o : Option Host) (f : Fleet) (k q : ℕ) → (fetched_at o f k q).fleet.site ≡ f.site
+fetched-site : (o : Option Host) (f : Fleet) (k q : ℕ) → (fetched_at o f k q).fleet.site ≡ f.site
 unfolding with_host
 fetched-site None f k q = refl
 fetched-site (Some (WithDriver m)) f k q = refl
 fetched-site (Some (Raw c)) f k q = refl
 
-abbrev Calm : Fleet → Fleet → Type 0
-Calm f g = StillLies f.site g.site × (failures_in g ≡ failures_in f)
+-- neither an execution nor a power cycle
+abbrev pub IsOther : FleetEvent → Type 0
+IsOther (Execute k i) = ⊥
+IsOther PowerCycle = ⊥
+IsOther event = Unit {0}
 
-calm-site : (f g : Fleet) → g.site ≡ f.site → Calm f g
-calm-site f g e = (lies-same f.site g.site e, ap (λ (s : Site). s.device.failures) e)
+pub other-site : (f : Fleet) (event : FleetEvent) → IsOther event → (fault_free_step f event).fleet.site ≡ f.site
+other-site f (BringUp k) h = called-site (host_at f k) f k _
+other-site f (Place k request) h = called-site (host_at f k) f k _
+other-site f (Ring k) h = called-site (host_at f k) f k _
+other-site f (Fetch k q) h = fetched-site (host_at f k) f k q
+other-site f (Execute k i) h = absurd h
+other-site f (Poll k) h = called-site (host_at f k) f k _
+other-site f (Reset k) h = called-site (host_at f k) f k _
+other-site f (RawStore k address bytes) h = raw-site (host_at f k) f k _ _
+other-site f (RawWrite32 k offset v) h = raw-site (host_at f k) f k _ _
+other-site f PowerCycle h = absurd h
+
+other-steps : (f : Fleet) (event : FleetEvent) → IsOther event → Step true f event (fault_free_step f event).reply (fault_free_step f event).fleet → Steps f event
+other-steps f event other step =
+    let e = other-site f event other in
+    record { step = step; lies = lies-same f.site (fault_free_step f event).fleet.site e; calm = ap (λ (s : Site). s.device.failures) e }
 
 cycled-lies : (f : Fleet) → StillLies f.site (power_cycled f).site
 unfolding power_cycled
@@ -228,16 +222,9 @@ unfolding power_cycled
 cycled-steps f = record { step = (refl, refl); lies = cycled-lies f; calm = refl }
 
 steps : (f : Fleet) (event : FleetEvent) → IsLaidOut f.site.world f.site.device.content → Steps f event
-steps f (BringUp k) laid = let r = calm-site f (fault_free_step f (BringUp k)).fleet (called-site (host_at f k) f k _) in record { step = (refl, refl); lies = r.0; calm = r.1 }
-steps f (Place k request) laid = let r = calm-site f (fault_free_step f (Place k request)).fleet (called-site (host_at f k) f k _) in record { step = (refl, refl); lies = r.0; calm = r.1 }
-steps f (Ring k) laid = let r = calm-site f (fault_free_step f (Ring k)).fleet (called-site (host_at f k) f k _) in record { step = (refl, refl); lies = r.0; calm = r.1 }
-steps f (Fetch k q) laid = let r = calm-site f (fault_free_step f (Fetch k q)).fleet (fetched-site (host_at f k) f k q) in record { step = (refl, refl); lies = r.0; calm = r.1 }
 steps f (Execute k i) laid = let r = executes (host_at f k) f k i laid in record { step = r.step; lies = r.lies; calm = r.calm }
-steps f (Poll k) laid = let r = calm-site f (fault_free_step f (Poll k)).fleet (called-site (host_at f k) f k _) in record { step = (refl, refl); lies = r.0; calm = r.1 }
-steps f (Reset k) laid = let r = calm-site f (fault_free_step f (Reset k)).fleet (called-site (host_at f k) f k _) in record { step = (refl, refl); lies = r.0; calm = r.1 }
-steps f (RawStore k address bytes) laid = let r = calm-site f (fault_free_step f (RawStore k address bytes)).fleet (raw-site (host_at f k) f k _ _) in record { step = (refl, refl); lies = r.0; calm = r.1 }
-steps f (RawWrite32 k offset v) laid = let r = calm-site f (fault_free_step f (RawWrite32 k offset v)).fleet (raw-site (host_at f k) f k _ _) in record { step = (refl, refl); lies = r.0; calm = r.1 }
 steps f PowerCycle laid = cycled-steps f
+steps f event laid = other-steps f event tt (refl, refl)
 
 pub run_exists : RunExists
 run_exists old [] laid = (refl, refl)

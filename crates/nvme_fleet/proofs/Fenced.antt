@@ -1,28 +1,8 @@
 -- Who may write over runs of a fleet.
-use Rattle.std.proofs.Common.{◌≡◌, ◌⊎◌, inl, inr, ℕ, ◌==◌, Bool, true, List, [], ◌∷◌, refl, sym, ap, subst, ◌∙◌}
-use Rattle.std.proofs.lemmas.Bool.{cases_Bool, eqb-true, eqb-false}
-use Rattle.nvme_wire.specs.Submission.{nsid}
-use Rattle.nvme_spec.specs.Commands.{reserving}
-use Rattle.nvme_spec.specs.IoData.{reservation_outcome}
-use Rattle.nvme_spec.specs.Blocks.{Device}
-use Rattle.nvme_spec.specs.Layout.{reservation_of, may_write, may_read}
-use Rattle.nvme_spec.specs.Power.{cycled_world}
-use Rattle.nvme_spec.specs.World.{World, host_of}
-use Rattle.nvme_spec.proofs.Namespaces.{IsReserved, is-reserved}
-use Rattle.nvme_spec.proofs.Power.{cycle_keeps_places}
-use Rattle.nvme_machine.proofs.AdminWorlds.{HasSameExtents}
+use Rattle.nvme_fleet.proofs.Words.{◌≡◌, ◌⊎◌, inl, inr, ℕ, ◌==◌, Bool, true, List, [], ◌∷◌, refl, sym, ap, subst, ◌∙◌, cases_Bool, eqb-true, eqb-false, nsid, reserving, reservation_outcome, Device, reservation_of, may_write, may_read, cycled_world, World, host_of, IsReserved, is-reserved, cycle_keeps_places, HasSameExtents, Cycled, IsFleeting, Subsystem, after_power_cycle, FleetEvent, PowerCycle, Reply, Fleet, Step, Run, IoCommand, Allows, Forgets, OnlyAllowedActionsReserve, LeavesReservation, PermissionsStay, RunWhere}
 use Rattle.nvme_machine.specs.declared.event.Event.TheVariants as machine_event
-use Rattle.nvme_machine.specs.declared.seen.Seen.TheVariants.{Cycled}
-use Rattle.nvme_machine.specs.Fencing.{IsFleeting}
-use Rattle.nvme_machine.specs.Subsystems.{Subsystem, after_power_cycle}
 use Rattle.nvme_machine.proofs.Fencing.{may-still, read-still}
 use Rattle.nvme_machine.proofs.Layouts as machine
-use Rattle.nvme_event.specs.declared.event.FleetEvent.{FleetEvent}
-use Rattle.nvme_event.specs.declared.event.FleetEvent.TheVariants.{PowerCycle}
-use Rattle.nvme_event.specs.Replies.{Reply}
-use Rattle.nvme_fleet.specs.Fleets.{Fleet, Step, Run}
-use Rattle.nvme_fleet.specs.IoCommands.{IoCommand}
-use Rattle.nvme_fleet.specs.Fencing.{Allows, Forgets, OnlyAllowedActionsReserve, LeavesReservation, PermissionsStay, RunWhere}
 use Rattle.nvme_fleet.proofs.IoExecutions.{ActsOn, Acts, Rests, Reserves, Loses, acts}
 use Rattle.nvme_fleet.proofs.Sites.{leaves}
 
@@ -83,26 +63,24 @@ step-acts tells old new event reply step = acts tells old new event (leaves tell
 pub only_allowed_actions_reserve : OnlyAllowedActionsReserve
 only_allowed_actions_reserve tells old new event reply n step = action old new event n (step-acts tells old new event reply step)
 
-stays-one : (tells : Bool) (old new : Fleet) (event : FleetEvent) (reply : Reply) (n : ℕ) → Step tells old event reply new → LeavesReservation n old event
-    → (k : ℕ) → may_write new.site.world k n ≡ may_write old.site.world k n
-stays-one tells old new event reply n step quiet k =
+-- so what is permitted stays, where that goes by hosts and reservations
+permission-stays : (may : World → ℕ → ℕ → Bool) → ((v w : World) → (n k : ℕ) → host_of w k ≡ host_of v k → reservation_of w n ≡ reservation_of v n → may w k n ≡ may v k n)
+    → (tells : Bool) (old new : Fleet) (event : FleetEvent) (reply : Reply) (n : ℕ) → Step tells old event reply new → LeavesReservation n old event → (k : ℕ) → may new.site.world k n ≡ may old.site.world k n
+permission-stays may still tells old new event reply n step quiet k =
     let h = step-acts tells old new event reply step in
     elim (action old new event n h) [
-      | inl reservation ↦ may-still old.site.world new.site.world n k (hosts-stay old new event h k) reservation
+      | inl reservation ↦ still old.site.world new.site.world n k (hosts-stay old new event h k) reservation
       | inr (inl allowed) ↦ absurd (quiet.0 allowed)
       | inr (inr forgotten) ↦ absurd (quiet.1 forgotten)
     ]
 
--- so of reading
+stays-one : (tells : Bool) (old new : Fleet) (event : FleetEvent) (reply : Reply) (n : ℕ) → Step tells old event reply new → LeavesReservation n old event
+    → (k : ℕ) → may_write new.site.world k n ≡ may_write old.site.world k n
+stays-one tells old new event reply n step quiet k = permission-stays may_write may-still tells old new event reply n step quiet k
+
 pub reading-stays : (tells : Bool) (old new : Fleet) (event : FleetEvent) (reply : Reply) (n : ℕ) → Step tells old event reply new → LeavesReservation n old event
     → (k : ℕ) → may_read new.site.world k n ≡ may_read old.site.world k n
-reading-stays tells old new event reply n step quiet k =
-    let h = step-acts tells old new event reply step in
-    elim (action old new event n h) [
-      | inl reservation ↦ read-still old.site.world new.site.world n k (hosts-stay old new event h k) reservation
-      | inr (inl allowed) ↦ absurd (quiet.0 allowed)
-      | inr (inr forgotten) ↦ absurd (quiet.1 forgotten)
-    ]
+reading-stays tells old new event reply n step quiet k = permission-stays may_read read-still tells old new event reply n step quiet k
 
 pub permissions_stay : PermissionsStay
 permissions_stay tells old new [] [] n run k = ap (λ (f : Fleet). may_write f.site.world k n) run

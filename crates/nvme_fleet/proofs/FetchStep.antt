@@ -1,23 +1,6 @@
 -- A fetch is a step of the mailbox.
-use Rattle.std.proofs.Common.{◌≡◌, ℕ, zero, suc, ◌<◌, true, List, [], ◌∷◌, ◌++◌, length, Option, None, Some, refl, sym, ap, subst, ◌∙◌, arith, inl, inr, nat_lt}
-use Rattle.std.proofs.lemmas.Bool.{cases_Bool, cases_lt, lt-ltb, ne_eqb}
-use Rattle.std.proofs.lemmas.List.{length-map, map-append}
-use Rattle.std.specs.Prelude.{slice_index_or}
-use Rattle.std.specs.List.{AllByRecursion}
-use Rattle.nvme_driver.specs.declared.lane.Lane.{Lane}
-use Rattle.nvme_driver.specs.declared.lane.Lane.TheVariants.{Admin, Io}
-use Rattle.nvme_driver.specs.Layout.{queue_id}
-use Rattle.nvme_driver.specs.Drivers.{Driver, is_up}
-use Rattle.nvme_machine.specs.declared.fetched.FetchedCommand.{FetchedCommand}
-use Rattle.nvme_machine.specs.declared.seen.Fetched.TheVariants.{Idle}
-use Rattle.nvme_machine.specs.Controllers.{Controller, SubmissionQueue, fetchable, after_fetch, fetched_from, submission_at, most_fetched}
+use Rattle.nvme_fleet.proofs.Words.{all-joined, ◌≡◌, ℕ, zero, suc, ◌<◌, true, List, [], ◌∷◌, length, Option, None, Some, refl, sym, ap, subst, ◌∙◌, arith, inl, inr, nat_lt, cases_Bool, cases_lt, lt-ltb, ne_eqb, length-map, map-append, slice_index_or, Lane, Admin, Io, queue_id, Driver, is_up, Idle, Controller, SubmissionQueue, fetchable, after_fetch, fetched_from, submission_at, most_fetched, Item, Mailbox, box_at, MailboxReaction, mailbox_reaction, plain, fetched, fetched_first, fetched_of, lane_at, raw_fetch, DeviceEnds, DeviceSide, Both, mail, pair, state, fetch, fetched_pair, Sound, IsPaired, IsOff, IsOfLane, host_side, device_side, mailbox, submission_as, taken_by, waiting_count, IsStep, FetchIsAStep}
 use Rattle.nvme_event.specs.declared.seen.FleetSeen.TheVariants.{Fetched}
-use Rattle.nvme_fleet.specs.Mailboxes.{Item, Mailbox, box_at}
-use Rattle.nvme_fleet.specs.Deliveries.{MailboxReaction, mailbox_reaction, plain, fetched, fetched_first, fetched_of, lane_at}
-use Rattle.nvme_fleet.specs.Fleets.{raw_fetch}
-use Rattle.nvme_fleet.specs.Lanes.{DeviceEnds, DeviceSide, Both, mail, pair, state, fetch, fetched_pair}
-use Rattle.nvme_fleet.specs.Sound.{Sound, IsPaired, IsOff, IsOfLane, host_side, device_side, mailbox, submission_as, taken_by, waiting_count}
-use Rattle.nvme_fleet.specs.Steps.{IsStep, FetchIsAStep}
 use Rattle.nvme_fleet.proofs.Places.{no-way}
 use Rattle.nvme_fleet.proofs.Linking.{of, submission-is, pair-is, entry-in}
 use Rattle.nvme_fleet.proofs.Fetching.{fetch-both, fetch-mail, fetch-idle, taken-few}
@@ -48,10 +31,6 @@ open-queue : (lane : Lane) (c : Controller) (p : IsPaired c) → length c.fetche
 unfolding fetchable
 open-queue lane c p few some = rw (p.ready, lt-ltb (length c.fetched) 64 few, submission-is lane c p, lt-ltb 0 (of lane c p).waiting some) refl
 
-more-fetched : (ts : List FetchedCommand) (t : FetchedCommand) → AllByRecursion IsOfLane ts → IsOfLane t → AllByRecursion IsOfLane (ts ++ t ∷ [])
-more-fetched [] t h g = (g, tt)
-more-fetched (x ∷ xs) t h g = (h.0, more-fetched xs t h.1 g)
-
 -- the controller once it fetched in a lane
 abbrev taken_in : (lane : Lane) (c : Controller) → IsPaired c → Controller
 taken_in lane c p = (fetched_from (queue_id lane) c (Some (submission_as lane (of lane c p)))).controller
@@ -66,7 +45,7 @@ paired-taken Admin c p = record {
   io = p.io;
   submission = rw p.submission refl;
   completion = p.completion;
-  fetched = more-fetched c.fetched _ p.fetched (inl refl);
+  fetched = all-joined IsOfLane c.fetched _ p.fetched (inl refl, tt);
   ready = p.ready;
   enabled = p.enabled;
 }
@@ -75,7 +54,7 @@ paired-taken Io c p = record {
   io = fetched_pair p.io;
   submission = rw p.submission refl;
   completion = p.completion;
-  fetched = more-fetched c.fetched _ p.fetched (inr refl);
+  fetched = all-joined IsOfLane c.fetched _ p.fetched (inr refl, tt);
   ready = p.ready;
   enabled = p.enabled;
 }
@@ -94,7 +73,7 @@ at-lane lane m = ap (λ o. fetched_of o m) (lane-is lane)
 state-fetched : (lane : Lane) (k : DeviceSide) (n : ℕ) → (state lane k).fetched < n → (pair lane k).fetched < n
 state-fetched lane k n h = h
 
-side-small : (lane : Lane) (d : Driver) (c : Controller) (p : IsPaired c) → Sound d c → is_up d.state ≡ true → (of lane c p).fetched < 8
+pub side-small : (lane : Lane) (d : Driver) (c : Controller) (p : IsPaired c) → Sound d c → is_up d.state ≡ true → (of lane c p).fetched < 8
 side-small lane d c p s u =
     let b : Both (host_side d) (device_side c) = s.both in
     let r = (b.each lane).up u in

@@ -1,10 +1,6 @@
 -- Ring and Fetch in one lane: what was placed is rung, and the first that is rung is fetched.
-use Rattle.std.proofs.Common.{◌≡◌, ℕ, ◌+◌, ◌-◌, ◌%◌, ◌<◌, ◌≤◌, List, [], ◌∷◌, ◌++◌, map, refl, ap, ◌∙◌, arith, zero, suc, true, length-append}
-use Rattle.std.proofs.lemmas.List.{map-append}
-use Rattle.std.proofs.lemmas.Bool.{lt-ltb}
-use Rattle.nvme_wire.specs.Completion.{Completion}
-use Rattle.nvme_fleet.specs.Mailboxes.{Item}
-use Rattle.nvme_fleet.specs.Views.{command_at, Host, State, box, after_fetch, rung, with_tail, in_flight, commands, item, Running, Holds, holds, total, odd, bears, Suited, Heads, last_head, heard, unread, since, commands_of, answers_of, live_at}
+use Rattle.nvme_fleet.proofs.Words.{◌≡◌, ℕ, ◌+◌, ◌-◌, ◌%◌, ◌<◌, ◌≤◌, List, [], ◌∷◌, ◌++◌, map, refl, ap, ◌∙◌, arith, zero, suc, true, length-append, map-append, Completion, Item, command_at, State, box, in_flight, commands, item, Running, Holds, holds, total, odd, bears, Suited, Heads, last_head, heard, unread, since, commands_of, answers_of, live_at, Host}
+use Rattle.nvme_fleet.specs.Views.{after_fetch, rung}
 use Rattle.nvme_fleet.proofs.Totals.{total-append}
 use Rattle.nvme_fleet.proofs.Queues.{same-box, commands-append}
 use Rattle.nvme_fleet.proofs.Places.{no-way}
@@ -151,7 +147,3 @@ fetch-running d c s p =
       held = omega (arith, fewer d c s p, s.held, p, s.waiting, length-append c.taken (command_at c.window c.fetched ∷ []));
       suited = suited-fetch d c s p;
     }
-
--- the tail's doorbell leaves waiting what was put and not fetched
-pub tail-written : (d : Host) (c : State) → c.ready ≡ true → d.put < 8 → with_tail c d.put ≡ rung d c
-tail-written d c r h = rw (r, lt-ltb d.put 8 h) refl

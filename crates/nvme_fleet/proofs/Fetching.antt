@@ -1,19 +1,8 @@
 -- Ring and Fetch over both lanes: a fetch takes the first request that is rung in its lane, and the other lane stays.
-use Rattle.nvme_fleet.specs.Lanes.{new_taken}
-use Rattle.nvme_fleet.specs.Mailboxes.{with_box}
-use Rattle.nvme_fleet.specs.Views.{command_at}
-use Rattle.nvme_fleet.specs.Mailboxes.{box_at}
-use Rattle.nvme_fleet.specs.Mailboxes.{Item}
-use Rattle.nvme_fleet.specs.Deliveries.{ring_lane}
-use Rattle.std.proofs.Common.{◌≡◌, ℕ, ◌+◌, ◌<◌, ◌≤◌, List, [], ◌∷◌, ◌++◌, length, refl, ap, ◌∙◌, arith, true, inl, inr}
-use Rattle.std.proofs.lemmas.List.{map-append}
-use Rattle.std.proofs.lemmas.Bool.{cases_Bool}
-use Rattle.nvme_fleet.specs.Views.{Host, State, box, Resting, Holds, after_fetch, rung, item}
+use Rattle.nvme_fleet.proofs.Words.{new_taken, with_box, command_at, box_at, Item, ring_lane, ◌≡◌, ℕ, ◌+◌, ◌<◌, ◌≤◌, List, [], ◌∷◌, ◌++◌, length, refl, ap, ◌∙◌, arith, true, inl, inr, map-append, cases_Bool, State, box, Resting, Holds, item, Lane, Admin, Io, same, other, Taken, HostSide, DeviceSide, Both, pair, commands_in, host, state, mail, held_by, fetched_by, fetch, ring, pages_of, Host}
+use Rattle.nvme_fleet.specs.Views.{after_fetch, rung}
 use Rattle.nvme_fleet.proofs.Slots.{few}
 use Rattle.nvme_fleet.proofs.Fetches.{fetch-rung, fetch-box, fetch-running, idle-rung, ring-box, ring-running, same-up}
-use Rattle.nvme_driver.specs.declared.lane.Lane.{Lane}
-use Rattle.nvme_driver.specs.declared.lane.Lane.TheVariants.{Admin, Io}
-use Rattle.nvme_fleet.specs.Lanes.{same, other, Taken, HostSide, DeviceSide, Both, pair, commands_in, host, state, mail, held_by, fetched_by, fetch, ring, pages_of}
 use Rattle.nvme_fleet.proofs.Placing.{each-lane, same-holds, step-of, length-taken}
 
 -- a lane's commands of two lists

@@ -1,25 +1,7 @@
 -- What each call leaves of a fleet is its step, and keeps what a fleet keeps.
-use Rattle.std.proofs.Common.{◌≡◌, ℕ, ◌+◌, ◌<◌, get_or, Bool, true, false, List, length, Option, None, Some, refl, sym, ap, subst, ◌∙◌}
-use Rattle.std.specs.Prelude.{slice_get, slice_set, is_some, nat_le, if◌then◌else◌}
-use Rattle.std.proofs.lemmas.Option.{slice_get_read}
-use Rattle.nvme_machine.specs.declared.seen.Executed.{Executed}
-use Rattle.nvme_machine.specs.declared.seen.Fetched.{Fetched}
+use Rattle.nvme_fleet.proofs.Words.{◌≡◌, ℕ, ◌+◌, ◌<◌, get_or, Bool, true, false, List, length, Option, None, Some, refl, sym, ap, subst, ◌∙◌, slice_get, slice_set, is_some, slice_get_read, Executed, Fetched, Controller, after_fetch, Subsystem, Setting, Driver, FleetSeen, Reply, DriverCall, plain, Fleet, Is, ExecutesAt, called, fetched_at, host_at, raw_at, controller_in, with_controller_at, ExecutesSeat, KeepsOthers, FleetState, SoundBy, IsCalled, IsSoundFleet, fleet_in, fleet_of, reaction_to}
 use Rattle.nvme_machine.specs.declared.seen.Seen.TheVariants as machine_seen
-use Rattle.nvme_machine.specs.Controllers.{Controller, after_fetch, after_write32}
-use Rattle.nvme_machine.specs.Subsystems.{Subsystem}
-use Rattle.nvme_machine.specs.Executing.{Setting}
-use Rattle.nvme_driver.specs.Drivers.{Driver}
-use Rattle.nvme_event.specs.declared.seen.FleetSeen.{FleetSeen}
 use Rattle.nvme_event.specs.declared.seen.FleetSeen.TheVariants as seen
-use Rattle.nvme_event.specs.Replies.{Reply}
-use Rattle.nvme_fleet.specs.declared.delivery.DriverCall.{DriverCall}
-use Rattle.nvme_fleet.specs.Deliveries.{plain}
-use Rattle.nvme_fleet.specs.Fleets.{Fleet, Is, ExecutesAt, called, fetched_at, host_at, raw_at, stored_seen}
-use Rattle.nvme_fleet.specs.Links.{LinkStep}
-use Rattle.nvme_driver.specs.Calls.{Writes}
-use Rattle.nvme_spec.specs.Memory.{window_size}
-use Rattle.nvme_fleet.specs.Linked.{controller_in, setting_in, with_setting, with_controller_at, ExecutesSeat, KeepsOthers}
-use Rattle.nvme_fleet.specs.FleetStates.{FleetState, SoundBy, IsCalled, IsSoundFleet, fleet_in, fleet_of, reaction_to, reply_in}
 use Rattle.nvme_fleet.proofs.Seating.{controller-there}
 use Rattle.nvme_fleet.proofs.Hosted.{over, called-step, fetched-step, fetched-sound, raw-step, not-raw}
 use Rattle.nvme_fleet.proofs.HostedExecutions.{AllSound, executed-step, executed-sound}
@@ -132,16 +114,3 @@ is-not-raw a k i d change what at lt there is some =
     let c : Controller = controller_in a.subsystem i in
     not-raw a.subsystem.world a.subsystem.device a.drivers a.subsystem.controllers k i d c change what at
     (slice_get_read a.drivers (length a.drivers) i d refl there is) (controller-there a.subsystem i lt) some
-
--- Bytes that are stored, or not, bring no data.
-pub no-data : (address : ℕ) (bytes buffer : List ℕ) → reply_in (stored_seen address bytes) buffer ≡ plain (stored_seen address bytes)
-no-data address bytes buffer =
-    elim (nat_le (address + length bytes) window_size) as (λ b. reply_in (if b then seen.Stored else seen.Outside) buffer ≡ plain (if b then seen.Stored else seen.Outside)) [
-      | true ↦ refl
-      | false ↦ refl
-    ]
-
--- a write to a register of a controller at a place
-pub written : (tells : Bool) (old new : Subsystem) (i offset v : ℕ) → LinkStep tells (setting_in old i) (Writes offset v) (setting_in new i) → KeepsOthers i old new
-    → new ≡ with_controller_at old i (after_write32 offset v (controller_in old i))
-written tells old new i offset v step others = others ∙ ap (with_setting old i) step

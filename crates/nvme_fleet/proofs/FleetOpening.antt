@@ -1,20 +1,6 @@
 -- An opened fleet keeps what a fleet keeps, and is the fleet that its configuration opens as.
-use Rattle.std.proofs.Common.{◌≡◌, ℕ, zero, suc, ◌∷◌, ◌∙◌, Bool, true, false, List, [], length, map, Option, None, Some, refl, sym, ap, subst, arith}
-use Rattle.std.specs.Prelude.{slice_get, replicate, if◌then◌else◌}
-use Rattle.std.proofs.lemmas.List.{length-map, length-replicate}
-use Rattle.std.proofs.lemmas.Option.{same_Some}
-use Rattle.nvme_spec.specs.Limits.{most_bytes}
-use Rattle.nvme_spec.specs.declared.config.ControllerConfig.{ControllerConfig}
-use Rattle.nvme_spec.specs.Blocks.{Device}
-use Rattle.nvme_spec.specs.Configuration.{Configuration}
-use Rattle.nvme_spec.specs.World.{World, opening_world}
-use Rattle.nvme_driver.specs.Drivers.{Driver, new_driver}
-use Rattle.nvme_machine.specs.Controllers.{Controller, new_controller}
+use Rattle.nvme_fleet.proofs.Words.{◌≡◌, ℕ, zero, suc, ◌∷◌, ◌∙◌, Bool, true, false, List, [], length, map, Option, None, Some, refl, sym, ap, subst, arith, slice_get, replicate, if◌then◌else◌, length-map, length-replicate, same_Some, most_bytes, ControllerConfig, Device, Configuration, World, opening_world, Driver, new_driver, Controller, new_controller, Subsystem, new_mailbox, WithDriver, Raw, new_host, opening, FleetState, SoundBy, IsSoundFleet, host_by, hosts_of, opening_driver, fleet_in, fleet_of}
 use Rattle.nvme_machine.specs.Subsystems as machine
-use Rattle.nvme_machine.specs.Subsystems.{Subsystem}
-use Rattle.nvme_fleet.specs.Mailboxes.{new_mailbox}
-use Rattle.nvme_fleet.specs.Fleets.{WithDriver, Raw, new_host, opening}
-use Rattle.nvme_fleet.specs.FleetStates.{FleetState, SoundBy, IsSoundFleet, host_by, hosts_of, opening_driver, fleet_in, fleet_of}
 use Rattle.nvme_fleet.proofs.SoundOpening.{opening_is_sound}
 
 abbrev pub opening-controllers : List ControllerConfig → List Controller

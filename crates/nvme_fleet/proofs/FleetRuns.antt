@@ -1,25 +1,9 @@
 -- A run goes on by one event, and what an event gives fits its room.
-use Rattle.std.proofs.Common.{◌≡◌, ℕ, ◌+◌, ◌<◌, ◌≤◌, get_or, Bool, true, false, List, [], ◌∷◌, ◌++◌, ◌∙◌, length, take, Option, None, Some, refl, sym, ap, subst, arith}
-use Rattle.std.specs.Prelude.{slice_get, Result, Ok, Err, is_ok, IsOk, if◌then◌else◌}
-use Rattle.std.proofs.lemmas.List.{take_more, append-nil, append_assoc}
-use Rattle.nvme_spec.specs.Limits.{most_bytes}
-use Rattle.nvme_driver.specs.declared.request.Request.{Request}
-use Rattle.nvme_driver.specs.declared.faults.PlaceRefusal.{PlaceRefusal}
-use Rattle.nvme_driver.specs.declared.lane.Lane.{Lane}
+use Rattle.nvme_fleet.proofs.Words.{◌≡◌, ℕ, ◌+◌, ◌<◌, ◌≤◌, get_or, Bool, true, false, List, [], ◌∷◌, ◌++◌, ◌∙◌, length, take, Option, None, Some, refl, sym, ap, subst, arith, slice_get, Result, Ok, Err, is_ok, IsOk, if◌then◌else◌, take_more, append-nil, append_assoc, most_bytes, Request, PlaceRefusal, Lane, FleetEvent, BringUp, Place, Ring, Fetch, Execute, Poll, Reset, RawStore, RawWrite32, PowerCycle, FleetSeen, Reply, Item, FetchedItem, Mailbox, box_at, MailboxReaction, brought_up, refusal, placed_by, placed, rung, lane_at, fetched_first, fetched_of, reset, WithDriver, Raw, Fleet, Is, Step, ExecutesItem, ExecutesAt, called_at, raw_at, fetched_at, host_at, FleetState, Layers, layers_of, MediumCall, MakesCalls, OverMedium, AreCallsOfStep, RunsBehind, data_behind, room_for}
+use Rattle.nvme_fleet.specs.Fleets.{Host}
 use Rattle.nvme_machine.specs.Controllers as machine
-use Rattle.nvme_event.specs.declared.event.FleetEvent.{FleetEvent}
-use Rattle.nvme_event.specs.declared.event.FleetEvent.TheVariants.{BringUp, Place, Ring, Fetch, Execute, Poll, Reset, RawStore, RawWrite32, PowerCycle}
-use Rattle.nvme_event.specs.declared.seen.FleetSeen.{FleetSeen}
-use Rattle.nvme_event.specs.Replies.{Reply}
-use Rattle.nvme_fleet.specs.Mailboxes.{Item, FetchedItem, Mailbox, box_at}
-use Rattle.nvme_fleet.specs.Deliveries.{MailboxReaction, brought_up, refusal, placed_by, placed, rung, lane_at, fetched_first, fetched_of, reset}
-use Rattle.nvme_fleet.specs.Fleets.{Host, WithDriver, Raw, Fleet, Is, Step, ExecutesItem, ExecutesAt, called_at, raw_at, fetched_at, host_at}
-use Rattle.nvme_fleet.specs.FleetStates.{FleetState, Layers, data_in, layers_of}
+use Rattle.nvme_fleet.specs.FleetStates.{data_in}
 use Rattle.nvme_fleet.specs.Layers as layers
-use Rattle.nvme_spec.specs.MediumCalls.{MediumCall, MakesCalls}
-use Rattle.nvme_subsys.specs.OverMedium.{OverMedium}
-use Rattle.nvme_fleet.specs.LayerCalls.{AreCallsOfStep}
-use Rattle.nvme_fleet.specs.Running.{RunsBehind, data_behind, room_for}
 use Rattle.nvme_fleet.proofs.LayerCalls.{calls-more}
 
 -- The replies that have no bytes.

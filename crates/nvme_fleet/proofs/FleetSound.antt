@@ -1,20 +1,6 @@
 -- What a fleet keeps.
-use Rattle.std.proofs.Common.{◌≡◌, ℕ, zero, suc, ◌+◌, Bool, true, false, List, [], ◌∷◌, length, Option, None, Some, refl, sym, ap, subst, ◌∙◌, arith}
-use Rattle.std.specs.Prelude.{slice_get, slice_set, if◌then◌else◌}
-use Rattle.std.proofs.lemmas.List.{length-set}
-use Rattle.std.proofs.lemmas.Option.{same_Some}
-use Rattle.nvme_spec.specs.declared.outcome.Marks.{Marks}
-use Rattle.nvme_spec.specs.World.{World, host_of}
-use Rattle.nvme_machine.specs.declared.seen.Executed.{Executed}
-use Rattle.nvme_machine.specs.declared.seen.Executed.TheVariants.{Posted, NoSuch, CqFull}
-use Rattle.nvme_machine.specs.Controllers.{Controller, with_marks}
-use Rattle.nvme_machine.specs.Subsystems.{is_host_among, marked_from}
-use Rattle.nvme_subsys.specs.Marked.{marks_after}
-use Rattle.nvme_subsys.proofs.Sound.{length-after}
-use Rattle.nvme_driver.specs.Drivers.{Driver}
-use Rattle.nvme_event.specs.Replies.{Reply}
-use Rattle.nvme_fleet.specs.declared.delivery.DriverCall.{DriverCall}
-use Rattle.nvme_fleet.specs.FleetStates.{FleetState, SoundBy, IsCalled, IsSoundFleet}
+use Rattle.nvme_fleet.proofs.Words.{◌≡◌, ℕ, zero, suc, ◌+◌, Bool, true, false, List, [], ◌∷◌, length, Option, None, Some, refl, sym, ap, subst, ◌∙◌, arith, slice_get, slice_set, if◌then◌else◌, length-set, same_Some, Marks, World, host_of, Executed, Posted, NoSuch, CqFull, Controller, with_marks, is_host_among, marks_after, length-after, Driver, Reply, DriverCall, FleetState, SoundBy, IsCalled, IsSoundFleet}
+use Rattle.nvme_machine.specs.Subsystems.{marked_from}
 use Rattle.nvme_fleet.proofs.Hosting.{driver-same, mark-sound}
 use Rattle.nvme_fleet.proofs.HostedExecutions.{AllSound}
 

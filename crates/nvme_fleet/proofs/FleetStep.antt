@@ -1,15 +1,6 @@
 -- An execution of a controller that has a driver is the step of its fleet.
-use Rattle.std.proofs.Common.{◌≡◌, ℕ, Bool, None, refl, sym, ap, subst, slice_get}
-use Rattle.nvme_machine.specs.declared.seen.Executed.{Executed}
-use Rattle.nvme_machine.specs.Controllers.{Controller}
-use Rattle.nvme_machine.specs.Executing.{Setting, FinishesOne}
-use Rattle.nvme_driver.specs.Drivers.{Driver}
+use Rattle.nvme_fleet.proofs.Words.{◌≡◌, ℕ, Bool, None, refl, sym, ap, subst, slice_get, Executed, Controller, Setting, FinishesOne, Driver, plain, RequestComesTo, Fleet, WithDriver, Completes, ExecutesItem, ExecutesAt, settled, site_of, setting_of, marks_in, mailbox, IsExecuted, ExecutionIsAFleetStep, NoExecutionIsAFleetStep}
 use Rattle.nvme_event.specs.declared.seen.FleetSeen.TheVariants.{Executed as ExecutedSeen}
-use Rattle.nvme_fleet.specs.Deliveries.{plain}
-use Rattle.nvme_fleet.specs.Executions.{RequestComesTo}
-use Rattle.nvme_fleet.specs.Fleets.{Fleet, WithDriver, Completes, ExecutesItem, ExecutesAt, settled, site_of, setting_of, marks_in}
-use Rattle.nvme_fleet.specs.Sound.{mailbox}
-use Rattle.nvme_fleet.specs.Steps.{IsExecuted, ExecutionIsAFleetStep, NoExecutionIsAFleetStep}
 use Rattle.nvme_fleet.proofs.ExecuteStep.{execution_is_a_step}
 use Rattle.nvme_fleet.proofs.PostStep.{nothing_to_execute}
 

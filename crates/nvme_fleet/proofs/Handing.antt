@@ -1,41 +1,22 @@
 -- A poll tells how many bytes it hands up, and they stand at the front of the buffer.
-use Rattle.std.proofs.Common.{◌≡◌, ◌≤◌, ℕ, zero, suc, Bool, true, false, List, [], ◌∷◌, length, take, Option, Result, refl, sym, ap, subst, ◌∙◌, arith}
-use Rattle.std.specs.Prelude.{Err, if◌then◌else◌}
-use Rattle.nvme_driver.specs.declared.answer.Answer.{Answer}
-use Rattle.nvme_driver.specs.declared.faults.PollFault.{PollFault}
-use Rattle.nvme_driver.specs.declared.faults.PollFault.TheVariants as poll_fault
-use Rattle.nvme_driver.specs.Drivers.{Driver}
-use Rattle.nvme_machine.specs.Controllers.{Controller}
-use Rattle.nvme_event.specs.declared.seen.FleetSeen.TheVariants.{Polled}
-use Rattle.nvme_event.specs.Replies.{Reply, data_len}
-use Rattle.nvme_fleet.specs.Mailboxes.{Mailbox, PostedAnswer}
-use Rattle.nvme_fleet.specs.Deliveries.{MailboxReaction, polled, polled_aborted, polled_admin, polled_io, mailbox_reaction}
-use Rattle.nvme_fleet.specs.FleetStates.{reply_in}
-use Rattle.nvme_fleet.specs.Steps.{IsStep}
+use Rattle.nvme_fleet.proofs.Words.{◌≡◌, ◌≤◌, ℕ, zero, suc, List, [], ◌∷◌, length, take, Option, Result, refl, sym, ap, subst, ◌∙◌, arith, Answer, PollFault, Driver, Controller, Polled, Reply, data_len, Mailbox, MailboxReaction, reply_in, IsStep}
+use Rattle.nvme_fleet.proofs.Moves.{Move, Stay, Clear, May, reply_of, polls}
+use Rattle.nvme_fleet.specs.Deliveries.{polled}
 
-abbrev IsCounted : MailboxReaction → Type 0
-IsCounted r = data_len r.reply.seen ≡ length r.reply.bytes
+counted : (v : Move) (m : Mailbox) → May v m → data_len (reply_of v m).seen ≡ length (reply_of v m).bytes
+counted (Stay what) m q = q.bytes
+counted (Clear what) m q = q.bytes
+counted other m q = refl
 
-io-counted : (xs : List PostedAnswer) (m : Mailbox) → IsCounted (polled_io xs m)
-io-counted [] m = refl
-io-counted (x ∷ xs) m = refl
-
-admin-counted : (xs : List PostedAnswer) (m : Mailbox) → IsCounted (polled_admin xs m)
-admin-counted [] m = io-counted m.io.posted m
-admin-counted (x ∷ xs) m = refl
-
-up-counted : (up : Bool) (m : Mailbox) → IsCounted (if up then polled_admin m.admin.posted m else mailbox_reaction m (Polled (Err poll_fault.NotUp)))
-up-counted true m = admin-counted m.admin.posted m
-up-counted false m = refl
-
-aborted-counted : (xs : List ℕ) (m : Mailbox) → IsCounted (polled_aborted xs m)
-aborted-counted [] m = up-counted m.up m
-aborted-counted (x ∷ xs) m = refl
+poll-counted : (m : Mailbox) → data_len (polled m).reply.seen ≡ length (polled m).reply.bytes
+poll-counted m =
+    let v = polls (λ v. Unit {0}) (λ v p. tt) m in
+    subst (λ (r : MailboxReaction). data_len r.reply.seen ≡ length r.reply.bytes) (sym v.is) (counted v.move m v.may)
 
 -- so many bytes as it says
 handed-count : (m : Mailbox) (d : Driver) (c : Controller) (result : Result (Option Answer) PollFault) → IsStep (polled m) d c (record { seen = Polled result; bytes = (polled m).reply.bytes })
     → data_len (Polled result) ≡ length (polled m).reply.bytes
-handed-count m d c result s = sym (ap (λ (r : Reply). data_len r.seen) s.gives) ∙ aborted-counted m.aborted m
+handed-count m d c result s = sym (ap (λ (r : Reply). data_len r.seen) s.gives) ∙ poll-counted m
 
 pub handed-step : (m : Mailbox) (d : Driver) (c : Controller) (result : Result (Option Answer) PollFault) (buffer : List ℕ) → IsStep (polled m) d c (record { seen = Polled result; bytes = (polled m).reply.bytes })
     → take (length (polled m).reply.bytes) buffer ≡ (polled m).reply.bytes → IsStep (polled m) d c (reply_in (Polled result) buffer)

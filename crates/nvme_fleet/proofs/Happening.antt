@@ -1,31 +1,9 @@
 -- What each event leaves of both layers of a fleet.
-use Rattle.std.proofs.Common.{◌≡◌, ℕ, zero, suc, ◌+◌, ◌-◌, ◌<◌, ◌≤◌, get_or, Bool, true, false, List, [], ◌∷◌, length, Option, None, Some, refl, sym, ap, subst, ◌∙◌, arith}
-use Rattle.std.specs.Prelude.{slice_get, slice_set, is_some, nat_le, IfNone, IfSome, IsSome, if◌then◌else◌}
-use Rattle.std.proofs.lemmas.Option.{none-some, slice_get_read}
-use Rattle.nvme_spec.specs.Bytes.{with_bytes}
-use Rattle.nvme_spec.specs.Memory.{window_size}
-use Rattle.nvme_driver.specs.Drivers.{Driver}
-use Rattle.nvme_machine.specs.declared.event.Event.{Event}
-use Rattle.nvme_machine.specs.declared.event.Event.TheVariants.{Store, Write32, Read32, Fetch, Execute, PowerCycle}
-use Rattle.nvme_machine.specs.declared.seen.Fetched.{Fetched}
-use Rattle.nvme_machine.specs.declared.seen.Fetched.TheVariants.{Took, Idle}
-use Rattle.nvme_machine.specs.declared.seen.Seen.{Seen}
+use Rattle.nvme_fleet.proofs.Words.{slice_get_within, same_Some, ◌≡◌, ℕ, zero, suc, ◌+◌, ◌-◌, ◌<◌, ◌≤◌, get_or, Bool, true, false, List, [], ◌∷◌, length, Option, None, Some, refl, sym, ap, subst, ◌∙◌, arith, slice_get, slice_set, is_some, nat_le, IfNone, IfSome, IsSome, if◌then◌else◌, none-some, slice_get_read, with_bytes, window_size, Driver, Event, Store, Write32, Fetched, Took, Idle, Seen, Controller, Reaction, SubmissionQueue, after_store, after_write32, wrote, after_fetch, fetched_from, fetchable, reaction, Subsystem, ReactsAs, controller_at, controller_of, at-place, executed-back, FleetSeen, Reply, data_len, DriverCall, DoesIfAny, plain, Fleet, Is, called, fetched_at, host_at, stored_seen, FleetState, IsCalled, IsSoundFleet, fleet_in, fleet_of, hosts_of, layers_of, reaction_to, reply_in, AppliesRaw, CallsAt, driver_at, told, with_driver, IsThere, KeepsOthers, controller_in, IsOfHost, raw_moment}
 use Rattle.nvme_machine.specs.declared.seen.Seen.TheVariants as given
-use Rattle.nvme_machine.specs.Controllers.{Controller, Reaction, SubmissionQueue, after_store, after_write32, wrote, after_fetch, fetched_from, fetchable, reaction}
-use Rattle.nvme_machine.specs.Subsystems.{Subsystem, Step, ReactsAs, ExecutesAt, controller_at, controller_of}
-use Rattle.nvme_subsys.proofs.Numbers.{at-place, executed-back}
-use Rattle.nvme_event.specs.declared.seen.FleetSeen.{FleetSeen}
+use Rattle.nvme_machine.specs.Subsystems.{Step, ExecutesAt}
 use Rattle.nvme_event.specs.declared.seen.FleetSeen.TheVariants as seen
-use Rattle.nvme_event.specs.Replies.{Reply, data_len}
-use Rattle.nvme_fleet.specs.declared.delivery.DriverCall.{DriverCall}
-use Rattle.nvme_fleet.specs.Deeds.{DoesIfAny}
-use Rattle.nvme_fleet.specs.Deliveries.{plain}
 use Rattle.nvme_fleet.specs.Fleets as mailboxes
-use Rattle.nvme_fleet.specs.Fleets.{Fleet, Is, called, fetched_at, host_at, stored_seen}
-use Rattle.nvme_fleet.specs.FleetStates.{FleetState, IsCalled, IsSoundFleet, fleet_in, fleet_of, hosts_of, layers_of, reaction_to, reply_in}
-use Rattle.nvme_fleet.specs.Layers.{AppliesRaw, CallsAt, driver_at, told, with_driver}
-use Rattle.nvme_fleet.specs.Linked.{IsThere, KeepsOthers, controller_in}
-use Rattle.nvme_fleet.specs.RawEvents.{IsOfHost, raw_moment}
 use Rattle.nvme_fleet.proofs.FleetCalls.{changes, delivers, executes, fetches, is-not-raw, with-subsystem}
 use Rattle.nvme_fleet.proofs.Reaching.{reacted-as}
 use Rattle.nvme_fleet.proofs.Seating.{controller-there}
@@ -33,23 +11,11 @@ use Rattle.nvme_fleet.proofs.Seating.{controller-there}
 -- What an event of the subsystem gives brings no data.
 told-plain : (x : Seen) (buffer : List ℕ) → reply_in (told x) buffer ≡ plain (told x)
 told-plain given.Stored buffer = refl
-told-plain given.Outside buffer = refl
-told-plain given.Wrote buffer = refl
-told-plain (given.Value v) buffer = refl
-told-plain (given.Fetched f) buffer = refl
-told-plain (given.Executed e) buffer = refl
-told-plain given.Cycled buffer = refl
-told-plain given.NoController buffer = refl
+told-plain x buffer = refl
 
 told-short : (x : Seen) → data_len (told x) ≡ 0
 told-short given.Stored = refl
-told-short given.Outside = refl
-told-short given.Wrote = refl
-told-short (given.Value v) = refl
-told-short (given.Fetched f) = refl
-told-short (given.Executed e) = refl
-told-short given.Cycled = refl
-told-short given.NoController = refl
+told-short x = refl
 
 -- Where no controller is, no host is, and no driver.
 
@@ -77,15 +43,10 @@ driver-none a (suc n) s h = no-driver a.drivers a.subsystem.controllers n s.pair
 
 -- And where one is, it stands at its place.
 
-get-there : (cs : List Controller) (i : ℕ) (c : Controller) → slice_get cs i ≡ Some c → i < length cs
-get-there [] i c h = absurd (cc)
-get-there (x ∷ cs) zero c h = omega arith
-get-there (x ∷ cs) (suc i) c h = let lt = get-there cs i c h in omega (arith, lt)
-
 pub is-there : (s : Subsystem) (k : ℕ) (c : Controller) → controller_at s k ≡ Some c → IsThere s k
 unfolding controller_at
 is-there s zero c h = absurd (cc)
-is-there s (suc n) c h = let lt = get-there s.controllers n c h in (omega arith, omega (arith, lt))
+is-there s (suc n) c h = let lt = slice_get_within s.controllers n c h in (omega arith, omega (arith, lt))
 
 pub place-is : (k : ℕ) → 1 ≤ k → k ≡ k - 1 + 1
 place-is k h = omega (arith, h)
@@ -97,12 +58,9 @@ pub controller-is-in : (s : Subsystem) (k : ℕ) (c : Controller) → controller
 unfolding controller_at
 controller-is-in s zero c h = absurd (cc)
 controller-is-in s (suc n) c h =
-    let lt = get-there s.controllers n c h in
+    let lt = slice_get_within s.controllers n c h in
     let e : suc n - 1 ≡ n = omega arith in
-    ap (controller_in s) e ∙ same (controller_in s n) c (sym (controller-there s n lt) ∙ h)
-  where
-    same : (x y : Controller) → Some x ≡ Some y → x ≡ y
-    same x y e = cc
+    ap (controller_in s) e ∙ same_Some (controller_in s n) c (sym (controller-there s n lt) ∙ h)
 
 -- what is lent of it
 pub is-some-there : {A : Type 0} (o : Option A) (s : Subsystem) (k : ℕ) → IsThere s k → IfNone o (controller_at s k ≡ None) → IsSome o
@@ -218,10 +176,7 @@ applied-raw tells a new k d (Write32 j offset v) x s there is none own host h =
     let r = reacted-as a.subsystem new j i (wrote offset v) x at lt h in
     let ch = changes a new j i d (after_write32 offset v) seen.Wrote at lt (omega (arith, pairs, lt)) is none s r.leaves in
     has-applied _ a new x (subst (λ w. Is (mailboxes.raw_wrote (fleet_of a) j offset v) (plain w) (fleet_of (with-subsystem a new))) (sym (ap told r.gives)) ch.step) ch.sound
-applied-raw tells a new k d (Read32 j offset) x s there is none own host h = absurd host
-applied-raw tells a new k d (Fetch j q) x s there is none own host h = absurd host
-applied-raw tells a new k d (Execute j i) x s there is none own host h = absurd host
-applied-raw tells a new k d PowerCycle x s there is none own host h = absurd host
+applied-raw tells a new k d event x s there is none own host h = absurd host
 
 pub refused-raw : (a : FleetState) (k : ℕ) (d : Option Driver) (event : Event) → IsSoundFleet a → IsThere a.subsystem k → d ≡ get_or a.drivers (k - 1) d → is_some d ≡ true → controller_of event ≡ k → IsOfHost event
     → Is (raw_moment (fleet_of a) event) (plain seen.NotRaw) (fleet_of a)
@@ -233,18 +188,7 @@ refused-raw a k d (Write32 j offset v) s there is some own host =
     let pairs = s.pairs in
     let lt = place-below a.subsystem k there in
     is-not-raw a j (k - 1) d (after_write32 offset v) seen.Wrote (own ∙ place-is k there.0) lt (omega (arith, pairs, lt)) is some
-refused-raw a k d (Read32 j offset) s there is some own host = absurd host
-refused-raw a k d (Fetch j q) s there is some own host = absurd host
-refused-raw a k d (Execute j i) s there is some own host = absurd host
-refused-raw a k d PowerCycle s there is some own host = absurd host
-
-pub missed-raw : (a : FleetState) (k : ℕ) (event : Event) → controller_at a.subsystem k ≡ None → controller_of event ≡ k → IsOfHost event → Is (raw_moment (fleet_of a) event) (plain seen.NoController) (fleet_of a)
-missed-raw a k (Store j address bytes) none own host = rw (host-none a j (ap (controller_at a.subsystem) own ∙ none)) (refl, refl)
-missed-raw a k (Write32 j offset v) none own host = rw (host-none a j (ap (controller_at a.subsystem) own ∙ none)) (refl, refl)
-missed-raw a k (Read32 j offset) none own host = absurd host
-missed-raw a k (Fetch j q) none own host = absurd host
-missed-raw a k (Execute j i) none own host = absurd host
-missed-raw a k PowerCycle none own host = absurd host
+refused-raw a k d event s there is some own host = absurd host
 
 -- the same below
 pub refused-below : (tells : Bool) (a : FleetState) (k : ℕ) (d : Option Driver) (event : Event) → driver_at a.drivers k ≡ Some d → is_some d ≡ true → AppliesRaw (driver_at a.drivers k) tells (layers_of a) event seen.NotRaw (layers_of a)

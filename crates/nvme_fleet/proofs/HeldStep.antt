@@ -1,26 +1,6 @@
 -- A fetched command of a lane, its slot, and the request that the mailbox has in its place.
-use Rattle.std.proofs.Common.{◌≡◌, ℕ, ◌-◌, ◌<◌, List, [], ◌∷◌, ◌++◌, length, map, take, drop, Some, Ok, refl, sym, ap, subst, ◌∙◌, arith, slice_get}
-use Rattle.std.proofs.lemmas.List.{take-take}
-use Rattle.std.proofs.lemmas.Option.{slice_get-map}
+use Rattle.nvme_fleet.proofs.Words.{same_Some, ◌≡◌, ℕ, ◌-◌, ◌<◌, List, [], ◌∷◌, ◌++◌, length, map, take, drop, Some, Ok, refl, sym, ap, subst, ◌∙◌, arith, slice_get, take-take, slice_get-map, SqeFields, cid, most_bytes, Rule, judgement_by, else_by, first_failing, pointer_rule, data_in, first_failing-append, Lane, data_area, stored_list, waiting_at, Driver, FetchedCommand, Controller, FetchedItem, command_entry, Slot, asked_in, item_in, lane_in, received_in, Both, whole, area, listed, fetched_by, held_by, Sound, host_side, device_side, mailbox, taken_by, lane_of_queue}
 use Rattle.std.specs.Option.{option_map}
-use Rattle.nvme_wire.specs.declared.sqe.fields.SqeFields.{SqeFields}
-use Rattle.nvme_wire.specs.Submission.{cid}
-use Rattle.nvme_spec.specs.Limits.{most_bytes}
-use Rattle.nvme_spec.specs.Rules.{Rule, judgement_by, else_by, first_failing}
-use Rattle.nvme_spec.specs.DataRules.{pointer_rule, data_in}
-use Rattle.nvme_spec.proofs.Judgements.{first_failing-append}
-use Rattle.nvme_driver.specs.declared.lane.Lane.{Lane}
-use Rattle.nvme_driver.specs.Layout.{data_area}
-use Rattle.nvme_driver.specs.Pointers.{stored_list}
-use Rattle.nvme_driver.specs.Polls.{waiting_at}
-use Rattle.nvme_driver.specs.Drivers.{Driver}
-use Rattle.nvme_machine.specs.declared.fetched.FetchedCommand.{FetchedCommand}
-use Rattle.nvme_machine.specs.Controllers.{Controller}
-use Rattle.nvme_fleet.specs.Mailboxes.{FetchedItem}
-use Rattle.nvme_fleet.specs.Executions.{command_entry}
-use Rattle.nvme_fleet.specs.Views.{Slot, asked_in, item_in, lane_in, received_in}
-use Rattle.nvme_fleet.specs.Lanes.{Both, whole, area, listed, fetched_by, held_by}
-use Rattle.nvme_fleet.specs.Sound.{Sound, host_side, device_side, mailbox, taken_by, lane_of_queue}
 use Rattle.nvme_fleet.proofs.LaneSlots.{slot-in}
 use Rattle.nvme_fleet.proofs.Polling.{Own, own-is}
 use Rattle.nvme_fleet.proofs.Executing.{Takes}
@@ -92,10 +72,7 @@ item-is d c i t x g f =
     let e : slice_get (mailbox d c).fetched i ≡ Some (item_at d c t) =
     slice_get-map (fetched_by (held_by (host_side d) c.window)) (map taken_by c.fetched) i
     ∙ ap (option_map (fetched_by (held_by (host_side d) c.window))) (slice_get-map taken_by c.fetched i ∙ ap (option_map taken_by) g) in
-    some-is x (item_at d c t) (sym f ∙ e)
-  where
-    some-is : (y z : FetchedItem) → Some y ≡ Some z → y ≡ z
-    some-is y z h = cc
+    same_Some x (item_at d c t) (sym f ∙ e)
 
 pub asked-in : (lane : Lane) (d : Driver) (c : Controller) (t : FetchedCommand) → lane_of_queue t.queue ≡ lane → (item_at d c t).item.asked ≡ asked_in (slot_seen lane d c t) t.entry
 unfolding item_in

@@ -1,16 +1,7 @@
 -- What an event leaves at the place of one host.
-use Rattle.std.proofs.Common.{◌≡◌, ◌≢◌, ℕ, zero, suc, ◌+◌, Bool, true, false, List, [], ◌∷◌, Option, None, Some, refl, ap, ◌∙◌, arith}
-use Rattle.std.specs.Prelude.{if◌then◌else◌, map, option_map, slice_get, slice_set}
-use Rattle.std.proofs.lemmas.Option.{slice_get-map}
-use Rattle.nvme_spec.specs.declared.outcome.Marks.{Marks}
-use Rattle.nvme_spec.specs.World.{World, host_of}
-use Rattle.nvme_machine.specs.Controllers.{Controller}
-use Rattle.nvme_machine.specs.Subsystems.{is_host_among}
-use Rattle.nvme_event.specs.declared.seen.FleetSeen.{FleetSeen}
-use Rattle.nvme_fleet.specs.Mailboxes.{Mailbox, with_marks}
-use Rattle.nvme_fleet.specs.Deliveries.{MailboxReaction}
-use Rattle.nvme_fleet.specs.Fleets.{Host, WithDriver, Raw, Fleet, host_at, with_host, host_cycled, power_cycled, called_at, raw_at, fetched_at, marked, marked_from, numbered, replaced}
-use Rattle.nvme_fleet.specs.Apart.{marked_by}
+use Rattle.nvme_fleet.proofs.Words.{same_Some, ◌≡◌, ◌≢◌, ℕ, zero, suc, ◌+◌, Bool, true, false, List, [], ◌∷◌, Option, None, Some, refl, ap, ◌∙◌, arith, if◌then◌else◌, map, option_map, slice_get, slice_set, slice_get-map, Marks, World, host_of, Controller, is_host_among, FleetSeen, Mailbox, MailboxReaction, WithDriver, Raw, Fleet, host_at, with_host, host_cycled, power_cycled, called_at, raw_at, fetched_at, marked, marked_from, numbered, replaced, marked_by}
+use Rattle.nvme_fleet.specs.Fleets.{Host}
+use Rattle.nvme_fleet.specs.Mailboxes.{with_marks}
 
 set-other : (hs : List Host) (i j : ℕ) (h : Host) → j ≢ i → slice_get (slice_set hs j h) i ≡ slice_get hs i
 set-other [] i j h other = refl
@@ -77,14 +68,11 @@ marked-by : (n : ℕ) (m : Mailbox) (b : Bool) → Some (if b then marked n (Wit
 marked-by n m true = refl
 marked-by n m false = refl
 
-some-is : (x y : Host) → Some x ≡ Some y → x ≡ y
-some-is x y h = cc
-
 marks-place : (w : World) (t : Marks) (j k : ℕ) (hs : List Host) (i : ℕ) (m : Mailbox) → j + i ≡ k → slice_get hs i ≡ Some (WithDriver m)
     → slice_get (marked_from w t j hs) i ≡ Some (WithDriver (marked_by t w k m))
 marks-place w t j k [] i m place at = absurd (cc)
 marks-place w t j k (h ∷ hs) zero m place at =
-    ap (λ x. Some (if is_host_among t.hosts.items (host_of w j) then marked t.nsid x else x)) (some-is h (WithDriver m) at)
+    ap (λ x. Some (if is_host_among t.hosts.items (host_of w j) then marked t.nsid x else x)) (same_Some h (WithDriver m) at)
     ∙ marked-by t.nsid m (is_host_among t.hosts.items (host_of w j))
     ∙ ap (λ n. Some (WithDriver (marked_by t w n m))) (omega (arith, place))
 marks-place w t j k (h ∷ hs) (suc i) m place at = marks-place w t (j + 1) k hs i m (omega (arith, place)) at

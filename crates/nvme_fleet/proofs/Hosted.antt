@@ -1,25 +1,8 @@
 -- What an event leaves of a fleet's drivers and controllers is the step of the fleet.
-use Rattle.std.proofs.Common.{◌≡◌, ℕ, ◌+◌, ◌≤◌, true, false, List, length, Option, None, Some, refl, sym, ap, subst, ◌∙◌}
-use Rattle.std.specs.Prelude.{slice_get, slice_set, is_some, if◌then◌else◌}
-use Rattle.nvme_spec.specs.Blocks.{Device}
-use Rattle.nvme_spec.specs.World.{World}
-use Rattle.nvme_subsys.proofs.Numbers.{set-same}
-use Rattle.nvme_machine.specs.declared.seen.Seen.{Seen}
+use Rattle.nvme_fleet.proofs.Words.{true≢false, ◌≡◌, ℕ, ◌+◌, true, false, List, Option, None, Some, refl, sym, ap, subst, ◌∙◌, slice_get, slice_set, is_some, if◌then◌else◌, Device, World, set-same, Seen, Fetched, Took, Idle, Controller, SubmissionQueue, after_fetch, fetched_from, fetchable, Driver, FleetSeen, Reply, DriverCall, Mailbox, plain, WithDriver, Raw, Fleet, Is, host_at, with_host, called_at, called, raw_at, fetched_at, raw_fetch, mailbox, host_by, hosts_of, SoundBy, IsCalled, reaction_to}
 use Rattle.nvme_machine.specs.declared.seen.Seen.TheVariants as machine_seen
-use Rattle.nvme_machine.specs.declared.seen.Fetched.{Fetched}
-use Rattle.nvme_machine.specs.declared.seen.Fetched.TheVariants.{Took, Idle}
-use Rattle.nvme_machine.specs.Controllers.{Controller, SubmissionQueue, after_fetch, fetched_from, fetchable}
-use Rattle.nvme_driver.specs.Drivers.{Driver}
-use Rattle.nvme_event.specs.declared.seen.FleetSeen.{FleetSeen}
 use Rattle.nvme_event.specs.declared.seen.FleetSeen.TheVariants as seen
-use Rattle.nvme_event.specs.Replies.{Reply}
-use Rattle.nvme_fleet.specs.declared.delivery.DriverCall.{DriverCall}
-use Rattle.nvme_fleet.specs.Mailboxes.{Mailbox}
-use Rattle.nvme_fleet.specs.Deliveries.{plain}
-use Rattle.nvme_fleet.specs.Fleets.{WithDriver, Raw, Fleet, Is, host_at, with_host, called_at, called, raw_at, fetched_at, raw_fetch}
-use Rattle.nvme_fleet.specs.Sound.{mailbox}
-use Rattle.nvme_fleet.specs.FleetStates.{host_by, hosts_of, SoundBy, IsCalled, reaction_to}
-use Rattle.nvme_fleet.proofs.Hosting.{hosts-get, hosts-past, hosts-set, driver-same, numbered-at, replaced-at}
+use Rattle.nvme_fleet.proofs.Hosting.{hosts-get, hosts-set, driver-same, numbered-at, replaced-at}
 use Rattle.nvme_fleet.proofs.FetchStep.{fetch_is_a_step}
 
 -- the fleet of these
@@ -64,18 +47,6 @@ called-step w v ds cs k i (Some d) e c x call reply at h g (y, same, step) =
     (ap (λ z. over w v (slice_set ds i z) (slice_set cs i x)) same ∙ set-is w v ds cs k i (Some y) x at
     ∙ ap (λ m. with_host (over w v ds cs) k (WithDriver m)) (sym step.mail))
 
--- there is no such controller
-pub nobody-called : (f : Fleet) (k : ℕ) (call : DriverCall) → host_at f k ≡ None → Is (called f k (reaction_to call)) (plain seen.NoController) f
-nobody-called f k call none = subst (λ o. Is (called_at o f k (reaction_to call)) (plain seen.NoController) f) (sym none) (refl, refl)
-
-pub none-past : (w : World) (v : Device) (ds : List (Option Driver)) (cs : List Controller) (k i : ℕ) → k ≡ i + 1 → length cs ≤ i → host_at (over w v ds cs) k ≡ None
-unfolding host_at
-none-past w v ds cs k i at past = numbered-at (hosts_of ds cs) k i at ∙ hosts-past ds cs i past
-
-pub none-at-zero : (f : Fleet) → host_at f 0 ≡ None
-unfolding host_at
-none-at-zero f = refl
-
 -- Fetches.
 
 seen-from : (q : ℕ) (c : Controller) (o : Option SubmissionQueue) → (fetched_from q c o).seen ≡ machine_seen.Fetched (if is_some o then Took else Idle)
@@ -108,9 +79,6 @@ fetched-step w v ds cs k i q d c x what at h g s is after =
     subst (λ y. Is (fetched_at (host_at f k) f k q) (plain (seen.Fetched y)) (over w v ds (slice_set cs i x))) (sym (fetch-seen q c what is))
     (fetched-host f _ k q d c (host-is w v ds cs k i d c at h g) s new)
 
-pub nothing-fetched : (f : Fleet) (k q : ℕ) → host_at f k ≡ None → Is (fetched_at (host_at f k) f k q) (plain seen.NoController) f
-nothing-fetched f k q none = subst (λ o. Is (fetched_at o f k q) (plain seen.NoController) f) (sym none) (refl, refl)
-
 -- a driver that was up, and is fetched for, is sound
 pub fetched-sound : (d : Option Driver) (c : Controller) (q : ℕ) → SoundBy d c → SoundBy d (after_fetch q c).controller
 fetched-sound None c q s = tt
@@ -118,13 +86,10 @@ fetched-sound (Some d) c q s = let r = fetch_is_a_step d c q s in r.sound
 
 -- Events of raw hosts.
 
-is-no : true ≡ false → ⊥
-is-no h = absurd (cc)
-
 pub raw-step : (w : World) (v : Device) (ds : List (Option Driver)) (cs : List Controller) (k i : ℕ) (d : Option Driver) (c x : Controller) (change : Controller → Controller) (what : FleetSeen)
     → k ≡ i + 1 → slice_get ds i ≡ Some d → slice_get cs i ≡ Some c → is_some d ≡ false → x ≡ change c
     → Is (raw_at (host_at (over w v ds cs) k) (over w v ds cs) k change what) (plain what) (over w v ds (slice_set cs i x))
-raw-step w v ds cs k i (Some d) c x change what at h g none after = absurd (is-no none)
+raw-step w v ds cs k i (Some d) c x change what at h g none after = absurd (true≢false none)
 raw-step w v ds cs k i None c x change what at h g none after =
     let f : Fleet = over w v ds cs in
     subst (λ o. Is (raw_at o f k change what) (plain what) (over w v ds (slice_set cs i x))) (sym (host-is w v ds cs k i None c at h g))
@@ -133,10 +98,7 @@ raw-step w v ds cs k i None c x change what at h g none after =
 pub not-raw : (w : World) (v : Device) (ds : List (Option Driver)) (cs : List Controller) (k i : ℕ) (d : Option Driver) (c : Controller) (change : Controller → Controller) (what : FleetSeen)
     → k ≡ i + 1 → slice_get ds i ≡ Some d → slice_get cs i ≡ Some c → is_some d ≡ true
     → Is (raw_at (host_at (over w v ds cs) k) (over w v ds cs) k change what) (plain seen.NotRaw) (over w v ds cs)
-not-raw w v ds cs k i None c change what at h g has = absurd (is-no (sym has))
+not-raw w v ds cs k i None c change what at h g has = absurd (true≢false (sym has))
 not-raw w v ds cs k i (Some d) c change what at h g has =
     let f : Fleet = over w v ds cs in
     subst (λ o. Is (raw_at o f k change what) (plain seen.NotRaw) f) (sym (host-is w v ds cs k i (Some d) c at h g)) (refl, refl)
-
-pub nobody-raw : (f : Fleet) (k : ℕ) (change : Controller → Controller) (what : FleetSeen) → host_at f k ≡ None → Is (raw_at (host_at f k) f k change what) (plain seen.NoController) f
-nobody-raw f k change what none = subst (λ o. Is (raw_at o f k change what) (plain seen.NoController) f) (sym none) (refl, refl)

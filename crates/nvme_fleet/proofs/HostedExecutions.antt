@@ -1,23 +1,7 @@
 -- What an execution leaves of a fleet's drivers and controllers is the step of the fleet.
-use Rattle.std.proofs.Common.{◌≡◌, ℕ, ◌+◌, Bool, false, List, [], ◌∷◌, Option, None, Some, refl, sym, ap, subst, ◌∙◌}
-use Rattle.std.specs.Prelude.{slice_get, slice_set, if◌then◌else◌}
-use Rattle.nvme_spec.specs.Blocks.{Device}
-use Rattle.nvme_spec.specs.World.{World, host_of}
-use Rattle.nvme_spec.specs.Execution.{no_marks}
-use Rattle.nvme_machine.specs.declared.fetched.FetchedCommand.{FetchedCommand}
-use Rattle.nvme_machine.specs.declared.seen.Executed.{Executed}
-use Rattle.nvme_machine.specs.declared.seen.Executed.TheVariants.{Posted, NoSuch, CqFull}
-use Rattle.nvme_machine.specs.Controllers.{Controller}
-use Rattle.nvme_machine.specs.Subsystems.{is_host_among}
-use Rattle.nvme_machine.specs.Executing.{Setting, setting, FinishesOne, ExecutesNth}
-use Rattle.nvme_subsys.specs.Marked.{marks_after}
-use Rattle.nvme_subsys.proofs.Numbers.{set-same}
-use Rattle.nvme_driver.specs.Drivers.{Driver}
+use Rattle.nvme_fleet.proofs.Words.{◌≡◌, ℕ, ◌+◌, Bool, false, List, [], ◌∷◌, Option, None, Some, refl, sym, ap, subst, ◌∙◌, slice_get, slice_set, if◌then◌else◌, Device, World, host_of, no_marks, FetchedCommand, Executed, Posted, NoSuch, CqFull, Controller, is_host_among, Setting, setting, FinishesOne, ExecutesNth, marks_after, set-same, Driver, plain, Fleet, ExecutesAt, host_at, marked, marked_from, marks_in, settled, site_of, Sound, host_by, hosts_of, SoundBy}
+use Rattle.nvme_fleet.specs.Fleets.{Host}
 use Rattle.nvme_event.specs.declared.seen.FleetSeen.TheVariants as seen
-use Rattle.nvme_fleet.specs.Deliveries.{plain}
-use Rattle.nvme_fleet.specs.Fleets.{Host, Fleet, ExecutesAt, host_at, marked, marked_from, marks_in, settled, site_of}
-use Rattle.nvme_fleet.specs.Sound.{Sound}
-use Rattle.nvme_fleet.specs.FleetStates.{host_by, hosts_of, SoundBy}
 use Rattle.nvme_fleet.proofs.ExecuteStep.{execution_is_a_step}
 use Rattle.nvme_fleet.proofs.FleetStep.{execution_is_a_fleet_step, no_execution_is_a_fleet_step}
 use Rattle.nvme_fleet.proofs.Hosting.{controller-set, replaced-at, hosts-marked}
@@ -85,9 +69,6 @@ pub executed-step : (tells : Bool) (w : World) (v : Device) (ds : List (Option D
 executed-step tells w v ds cs k i None c n x left at h g named sd s is = raw-executes tells w v ds cs k i c n x left at h g s is
 executed-step tells w v ds cs k i (Some d) c n x left at h g named sd s is =
     driver-executes (slice_get c.fetched n) tells w v ds cs k i d c n x left refl at h g named sd s is
-
-pub nothing-executed : (tells : Bool) (f : Fleet) (k n : ℕ) → host_at f k ≡ None → ExecutesAt (host_at f k) tells f k n (plain seen.NoController) f
-nothing-executed tells f k n none = subst (λ o. ExecutesAt o tells f k n (plain seen.NoController) f) (sym none) (refl, refl)
 
 -- a driver is sound behind an execution of its controller
 sound-behind : (o : Option FetchedCommand) (tells : Bool) (w : World) (v : Device) (d : Driver) (c : Controller) (n : ℕ) (x : Executed) (left : Setting) → slice_get c.fetched n ≡ o → Sound d c

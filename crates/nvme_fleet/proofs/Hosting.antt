@@ -1,15 +1,7 @@
 -- Hosts by their places: those of a list of drivers beside a list of controllers.
-use Rattle.std.proofs.Common.{◌≡◌, ℕ, zero, suc, ◌+◌, ◌≤◌, Bool, true, false, List, [], ◌∷◌, length, Option, None, Some, refl, sym, ap, ◌∙◌, arith}
-use Rattle.std.specs.Prelude.{slice_get, slice_set, if◌then◌else◌}
-use Rattle.std.proofs.lemmas.Option.{same_Some}
-use Rattle.nvme_spec.specs.declared.outcome.Marks.{Marks}
-use Rattle.nvme_spec.specs.World.{World, host_of}
-use Rattle.nvme_machine.specs.Controllers.{Controller, with_marks}
+use Rattle.nvme_fleet.proofs.Words.{◌≡◌, ℕ, zero, suc, ◌+◌, Bool, true, false, List, [], ◌∷◌, Option, None, Some, refl, sym, ap, ◌∙◌, arith, slice_get, slice_set, if◌then◌else◌, same_Some, Marks, World, host_of, Controller, with_marks, is_host_among, Driver, WithDriver, marked, marked_from, numbered, replaced, host_by, hosts_of, SoundBy}
+use Rattle.nvme_fleet.specs.Fleets.{Host}
 use Rattle.nvme_machine.specs.Subsystems as machine
-use Rattle.nvme_machine.specs.Subsystems.{is_host_among}
-use Rattle.nvme_driver.specs.Drivers.{Driver}
-use Rattle.nvme_fleet.specs.Fleets.{Host, WithDriver, marked, marked_from, numbered, replaced}
-use Rattle.nvme_fleet.specs.FleetStates.{host_by, hosts_of, SoundBy}
 use Rattle.nvme_fleet.proofs.MarkStep.{marks_are_steps}
 
 -- a host is where its driver and its controller are
@@ -22,13 +14,6 @@ hosts-get (x ∷ ds) (y ∷ cs) zero d c h g =
     let b : y ≡ c = same_Some _ _ g in
     λ j. Some (host_by (a j) (b j))
 hosts-get (x ∷ ds) (y ∷ cs) (suc i) d c h g = hosts-get ds cs i d c h g
-
--- and none is past the last controller
-pub hosts-past : (ds : List (Option Driver)) (cs : List Controller) (i : ℕ) → length cs ≤ i → slice_get (hosts_of ds cs) i ≡ None
-hosts-past [] cs i h = refl
-hosts-past (x ∷ ds) [] i h = refl
-hosts-past (x ∷ ds) (y ∷ cs) zero h = absurd (omega arith)
-hosts-past (x ∷ ds) (y ∷ cs) (suc i) h = hosts-past ds cs i (omega arith)
 
 pub hosts-set : (ds : List (Option Driver)) (cs : List Controller) (i : ℕ) (d : Option Driver) (c : Controller)
     → hosts_of (slice_set ds i d) (slice_set cs i c) ≡ slice_set (hosts_of ds cs) i (host_by d c)

@@ -1,43 +1,10 @@
 -- An I/O command of a fleet is executed as its rules say, and what this leaves of the reservations.
-use Rattle.std.proofs.Common.{◌≡◌, ◌⊎◌, inl, inr, ℕ, ◌==◌, Bool, true, false, List, Option, None, Some, Ok, Err, refl, sym, ap, subst, ◌∙◌}
-use Rattle.std.specs.Prelude.{slice_get, if◌then◌else◌}
-use Rattle.std.proofs.lemmas.Option.{none-some, same_Some}
-use Rattle.nvme_wire.specs.Submission.{opcode, nsid}
-use Rattle.nvme_wire.specs.declared.status.Status.{Status}
-use Rattle.nvme_spec.specs.declared.command.AdminCommand.{AdminCommand}
-use Rattle.nvme_spec.specs.declared.command.Command.{Command}
-use Rattle.nvme_spec.specs.declared.command.Command.TheVariants.{ReservationRegister, ReservationReport, ReservationAcquire, ReservationRelease}
-use Rattle.nvme_spec.specs.declared.outcome.Outcome.{Outcome}
-use Rattle.nvme_spec.specs.declared.verdict.Verdict.{Verdict}
-use Rattle.nvme_spec.specs.declared.verdict.Verdict.TheVariants.{Allowed, Denied}
+use Rattle.nvme_fleet.proofs.Words.{◌≡◌, ◌⊎◌, inl, inr, ℕ, ◌==◌, Bool, true, false, List, Option, None, Some, Ok, Err, refl, sym, ap, subst, ◌∙◌, slice_get, if◌then◌else◌, none-some, same_Some, opcode, nsid, Status, AdminCommand, Command, ReservationRegister, ReservationReport, ReservationAcquire, ReservationRelease, Outcome, Verdict, Allowed, Denied, command_of, is_one_of, reserving, Scene, ExecutesBy, Performs, world_after, cycled_world, Judgement, World, planned, Lane, Admin, Io, Asked, FetchedCommand, Executed, Posted, Controller, QueuePair, queues_of, open_pair, CommandComesTo, CommandComesToAs, CommandExecution, Setting, FinishesOne, FinishesOver, scene_in, HasSameReservations, same-reservations, admin-keeps, command-becomes, still, io-answer, FleetEvent, Execute, PowerCycle, Reply, FetchedItem, Mailbox, lane_of, plain, Site, RequestExecution, scene_at, RequestComesTo, RequestComesToAs, IoRequestComesTo, io_verdict, admin_judgement, admin_request_execution_by, admin_request_execution, command_entry, WithDriver, Raw, Fleet, host_at, settled, site_of, setting_of, ExecutesItem, ExecutesRaw, ExecutesAt, IoCommand, asked_command, raw_command, asked_by, sent_by, command_in, AreNumbered, IsExecutedBy, verdict_on, ExecutedAsThePolicyAllows}
+use Rattle.nvme_fleet.specs.Fleets.{Host}
 use Rattle.nvme_spec.specs.AdminCommands as admin_commands
-use Rattle.nvme_spec.specs.Commands.{command_of, is_one_of, reserving}
-use Rattle.nvme_spec.specs.Execution.{Scene, ExecutesBy, Performs, world_after}
 use Rattle.nvme_spec.specs.IoData as spec
-use Rattle.nvme_spec.specs.Power.{cycled_world}
-use Rattle.nvme_spec.specs.Rules.{Judgement}
-use Rattle.nvme_spec.specs.World.{World}
-use Rattle.nvme_spec.proofs.Passing.{planned}
-use Rattle.nvme_driver.specs.declared.lane.Lane.{Lane}
-use Rattle.nvme_driver.specs.declared.lane.Lane.TheVariants.{Admin, Io}
-use Rattle.nvme_driver.specs.Requests.{Asked}
-use Rattle.nvme_machine.specs.declared.fetched.FetchedCommand.{FetchedCommand}
-use Rattle.nvme_machine.specs.declared.seen.Executed.{Executed}
-use Rattle.nvme_machine.specs.declared.seen.Executed.TheVariants.{Posted}
-use Rattle.nvme_machine.specs.Controllers.{Controller, QueuePair, queues_of, open_pair}
-use Rattle.nvme_machine.specs.CommandExecutions.{CommandComesTo, CommandComesToAs, CommandExecution}
-use Rattle.nvme_machine.specs.Executing.{Setting, FinishesOne, FinishesOver, scene_in}
-use Rattle.nvme_machine.proofs.AdminWorlds.{HasSameReservations, same-reservations, admin-keeps, command-becomes, still}
-use Rattle.nvme_machine.proofs.Denials.{io-answer}
-use Rattle.nvme_event.specs.declared.event.FleetEvent.{FleetEvent}
-use Rattle.nvme_event.specs.declared.event.FleetEvent.TheVariants.{Execute, PowerCycle}
 use Rattle.nvme_event.specs.declared.seen.FleetSeen.TheVariants.{Executed as ExecutedSeen}
-use Rattle.nvme_event.specs.Replies.{Reply}
-use Rattle.nvme_fleet.specs.Mailboxes.{FetchedItem, Mailbox, lane_of}
-use Rattle.nvme_fleet.specs.Deliveries.{plain}
-use Rattle.nvme_fleet.specs.Executions.{Site, RequestExecution, scene_at, RequestComesTo, RequestComesToAs, IoRequestComesTo, io_verdict, admin_judgement, admin_request_execution_by, admin_request_execution, command_entry}
-use Rattle.nvme_fleet.specs.Fleets.{Host, WithDriver, Raw, Fleet, host_at, settled, site_of, setting_of, ExecutesItem, ExecutesRaw, ExecutesAt}
-use Rattle.nvme_fleet.specs.IoCommands.{IoCommand, asked_command, raw_command, asked_in, asked_by, sent_by, command_in, command_at, AreNumbered, IsExecutedBy, verdict_on, ExecutedAsThePolicyAllows}
+use Rattle.nvme_fleet.specs.IoCommands.{asked_in, command_at}
 use Rattle.nvme_fleet.proofs.Sites.{Leaves, AsItWas, ByRequest, ByCommand, PowerLost, leaves}
 
 -- An answer is what the rules say.

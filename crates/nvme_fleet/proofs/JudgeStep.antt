@@ -1,27 +1,8 @@
 -- A fetched I/O command is judged as the request that the mailbox has in its place.
-use Rattle.std.proofs.Common.{◌≡◌, ℕ, true, List, [], ◌∷◌, ◌++◌, Option, None, Some, Ok, refl, sym, ap, ◌∙◌, slice_get}
-use Rattle.std.proofs.lemmas.Bool.{and_parts, eqb-true}
-use Rattle.std.specs.Prelude.{is_some, if◌then◌else◌}
-use Rattle.nvme_wire.specs.Submission.{opcode, cid, nsid}
-use Rattle.nvme_spec.specs.declared.command.Command.{Command}
+use Rattle.nvme_fleet.proofs.Words.{◌≡◌, ℕ, true, List, [], ◌∷◌, ◌++◌, Option, None, Some, Ok, refl, sym, ap, ◌∙◌, slice_get, and_parts, eqb-true, is_some, if◌then◌else◌, opcode, cid, nsid, Command, World, Namespace, namespace_of, host_of, judgement_by, first_failing, access_rules, pointer_rule, data_in, action_rule, reservation_outcome, outcome_in, action_outcome, data_of, Io, Asked, Driver, entry_length, FetchedCommand, Controller, FetchedItem, command_entry, io_judgement, action_of, asked_in, is_plain, is_plain_in, received_by, Sound, lane_of_queue, JudgedAsItsRequest}
 use Rattle.nvme_spec.specs.declared.command.Command.TheVariants as io
-use Rattle.nvme_spec.specs.World.{World, Namespace, namespace_of, host_of}
 use Rattle.nvme_spec.specs.Commands as io_commands
-use Rattle.nvme_spec.specs.Rules.{judgement_by, first_failing}
-use Rattle.nvme_spec.specs.IoRules.{access_rules}
-use Rattle.nvme_spec.specs.DataRules.{pointer_rule, data_in}
 use Rattle.nvme_spec.specs.IoData as spec
-use Rattle.nvme_spec.specs.IoData.{action_rule, reservation_outcome, outcome_in, action_outcome, data_of}
-use Rattle.nvme_driver.specs.declared.lane.Lane.TheVariants.{Io}
-use Rattle.nvme_driver.specs.Requests.{Asked}
-use Rattle.nvme_driver.specs.Drivers.{Driver, entry_length}
-use Rattle.nvme_machine.specs.declared.fetched.FetchedCommand.{FetchedCommand}
-use Rattle.nvme_machine.specs.Controllers.{Controller}
-use Rattle.nvme_fleet.specs.Mailboxes.{FetchedItem}
-use Rattle.nvme_fleet.specs.Executions.{command_entry, io_judgement, action_of}
-use Rattle.nvme_fleet.specs.Views.{asked_in, is_plain, is_plain_in, received_by}
-use Rattle.nvme_fleet.specs.Sound.{Sound, lane_of_queue}
-use Rattle.nvme_fleet.specs.Steps.{JudgedAsItsRequest}
 use Rattle.nvme_fleet.proofs.Judging.{access-same, reservation-same}
 use Rattle.nvme_fleet.proofs.PostStep.{slot_seen, item_at}
 use Rattle.nvme_fleet.proofs.HeldStep.{IsHeld, held-known, pointer-passes, without-pointer, data-same, item-is, asked-in}

@@ -1,26 +1,20 @@
 -- Commands with the same fields are judged alike.
-use Rattle.std.proofs.Common.{◌≡◌, ℕ, ◌*◌, Bool, List, Option, None, Some, refl, ap}
-use Rattle.nvme_wire.specs.Submission.{opcode, nsid}
-use Rattle.nvme_spec.specs.declared.command.Command.{Command}
+use Rattle.nvme_fleet.proofs.Words.{◌≡◌, ℕ, ◌*◌, Bool, List, Option, None, Some, refl, ap, opcode, nsid, Command, World, Namespace, namespace_of, host_of, starting_lba, block_count, action, iekey, cptpl, rtype, eds, report_length, data_length, access_rules, form_rule, action_outcome, reservation_outcome, outcome_in}
 use Rattle.nvme_spec.specs.declared.command.Command.TheVariants as io
-use Rattle.nvme_spec.specs.World.{World, Namespace, namespace_of, host_of}
 use Rattle.nvme_spec.specs.Commands as io_commands
-use Rattle.nvme_spec.specs.Commands.{starting_lba, block_count, action, iekey, cptpl, rtype, eds, report_length, data_length}
 use Rattle.nvme_spec.specs.IoRules as rules
-use Rattle.nvme_spec.specs.IoRules.{access_rules, form_rule}
 use Rattle.nvme_spec.specs.Reservation as resv
-use Rattle.nvme_spec.specs.IoData.{action_outcome, reservation_outcome, outcome_in}
 use Rattle.nvme_fleet.proofs.Commands.{SameFields}
 
-same-lba : (x y : List ℕ) → SameFields x y → starting_lba y ≡ starting_lba x
+pub same-lba : (x y : List ℕ) → SameFields x y → starting_lba y ≡ starting_lba x
 unfolding starting_lba
 same-lba x y h = rw (h.cdw10, h.cdw11) refl
 
-same-count : (x y : List ℕ) → SameFields x y → block_count y ≡ block_count x
+pub same-count : (x y : List ℕ) → SameFields x y → block_count y ≡ block_count x
 unfolding block_count
 same-count x y h = rw h.cdw12 refl
 
-same-action : (x y : List ℕ) → SameFields x y → action y ≡ action x
+pub same-action : (x y : List ℕ) → SameFields x y → action y ≡ action x
 unfolding action
 same-action x y h = rw h.cdw10 refl
 
@@ -44,7 +38,7 @@ same-report : (x y : List ℕ) → SameFields x y → report_length y ≡ report
 unfolding report_length
 same-report x y h = rw h.cdw10 refl
 
-same-form : (x y : List ℕ) → SameFields x y → form_rule y ≡ form_rule x
+pub same-form : (x y : List ℕ) → SameFields x y → form_rule y ≡ form_rule x
 unfolding form_rule
 same-form x y h = rw (h.fuse, h.psdt) refl
 
@@ -86,15 +80,3 @@ length-same x y io.Write h = ap (λ n. 512 * n) (same-count x y h)
 length-same x y io.Compare h = ap (λ n. 512 * n) (same-count x y h)
 length-same x y io.ReservationReport h = same-report x y h
 length-same x y command h = refl
-
-pub count-same : (x y : List ℕ) → SameFields x y → block_count y ≡ block_count x
-count-same x y h = same-count x y h
-
-pub lba-same : (x y : List ℕ) → SameFields x y → starting_lba y ≡ starting_lba x
-lba-same x y h = same-lba x y h
-
-pub action-same : (x y : List ℕ) → SameFields x y → action y ≡ action x
-action-same x y h = same-action x y h
-
-pub form-same : (x y : List ℕ) → SameFields x y → form_rule y ≡ form_rule x
-form-same x y h = same-form x y h

@@ -1,8 +1,5 @@
 -- Two queue pages that differ in one submission entry and one completion entry at most, and what both then have.
-use Rattle.std.proofs.Common.{◌≡◌, ℕ, ◌+◌, ◌-◌, ◌*◌, ◌%◌, ◌<◌, ◌≤◌, List, length, refl, arith, zero, suc, false, eqb, take, drop, ◌⊎◌, inl, inr, subst, sym}
-use Rattle.std.proofs.lemmas.Bool.{cases_lt, eqb-false, ne_eqb}
-use Rattle.nvme_spec.specs.Bytes.{with_bytes}
-use Rattle.nvme_fleet.specs.Views.{command_at, completion_bytes, commands, completions}
+use Rattle.nvme_fleet.proofs.Words.{◌≡◌, ℕ, ◌+◌, ◌-◌, ◌*◌, ◌%◌, ◌<◌, ◌≤◌, List, length, refl, arith, zero, suc, false, eqb, take, drop, ◌⊎◌, inl, inr, subst, sym, cases_lt, eqb-false, ne_eqb, with_bytes, command_at, completion_bytes, commands, completions}
 use Rattle.nvme_fleet.proofs.Windows.{stored-length, stored-apart, stored-in}
 
 -- two queue pages that differ in the p-th submission entry and the m-th completion entry at most

@@ -1,10 +1,6 @@
 -- Stores among the queue pages of one lane, as that lane sees them and as the other does.
-use Rattle.std.proofs.Common.{◌≡◌, ℕ, ◌+◌, ◌-◌, ◌≤◌, List, ◌++◌, length, ap, sym, ◌∙◌, arith, take, drop, length-append}
-use Rattle.std.proofs.lemmas.List.{drop-drop, take-take, drop-take, drop-append-le, length-take-le}
-use Rattle.std.proofs.lemmas.Slice.{drop-append-drop}
+use Rattle.nvme_fleet.proofs.Words.{◌≡◌, ℕ, ◌+◌, ◌-◌, ◌≤◌, List, ◌++◌, length, ap, sym, ◌∙◌, arith, take, drop, length-append, drop-drop, take-take, drop-take, drop-append-le, length-take-le, with_bytes}
 use Rattle.std.proofs.Math.Seq.{take-append-add}
-use Rattle.std.proofs.lemmas.Grind.{common_steps}
-use Rattle.nvme_spec.specs.Bytes.{with_bytes}
 
 -- a store among the first lane's pages, as it sees it, and as the second does
 pub first-here : (w z : List ℕ) (at n : ℕ) → at + length z ≤ n → n ≤ length w → take n (with_bytes w at z) ≡ with_bytes (take n w) at z
@@ -18,11 +14,6 @@ first-here w z at n p q =
     ap (λ r. take at w ++ z ++ r) (sym (drop-take (at + length z) m w) ∙ ap (λ k. drop (at + length z) (take k w)) f) ∙
     ap (λ t. t ++ z ++ drop (at + length z) (take n w)) (sym (take-take at n w (omega (arith, p))))
 
-pub first-there : (w z : List ℕ) (at n : ℕ) → at + length z ≤ n → n ≤ length w → drop n (with_bytes w at z) ≡ drop n w
-first-there w z at n p q =
-    let l : length (take at w ++ z) ≡ at + length z = omega (arith, length-append (take at w) z, length-take-le at w (omega (arith, p, q))) in
-    drop-append-drop (at + length z) w (take at w ++ z) n p l
-
 -- a store among the second lane's pages
 pub second-here : (w z : List ℕ) (at n : ℕ) → n + at ≤ length w → drop n (with_bytes w (n + at) z) ≡ with_bytes (drop n w) at z
 second-here w z at n p =
@@ -33,6 +24,3 @@ second-here w z at n p =
     ap (λ t. t ++ drop (n + at + length z) w) (drop-append-le n (take (n + at) w) z (omega (arith, l))) ∙
     ap (λ t. t ++ z ++ drop (n + at + length z) w) (drop-take n at w) ∙
     ap (λ r. take at (drop n w) ++ z ++ r) (ap (λ k. drop k w) e ∙ sym (drop-drop (at + length z) n w))
-
-pub second-there : (w z : List ℕ) (at n : ℕ) → n + at ≤ length w → take n (with_bytes w (n + at) z) ≡ take n w
-second-there w z at n p = grind (arith, common_steps)

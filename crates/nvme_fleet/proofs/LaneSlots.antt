@@ -1,14 +1,6 @@
 -- The slots of the window as each lane sees them: where one changes, all others stay in both lanes.
-use Rattle.nvme_driver.specs.Polls.{waiting_at}
-use Rattle.nvme_wire.specs.Submission.{cid}
-use Rattle.nvme_driver.specs.declared.slots.Waiting.{Waiting}
-use Rattle.std.proofs.Common.{◌≡◌, ℕ, ◌+◌, ◌<◌, ◌≤◌, List, [], ◌∷◌, length, map, refl, ap, sym, arith, zero, suc, true, false, cond, eqb, Option, Some, None, slice_set, inl, inr}
-use Rattle.std.proofs.lemmas.Bool.{cases_Bool, ne_eqb}
-use Rattle.nvme_fleet.specs.Views.{Slot, slot_at, live_in, item, commands_of}
+use Rattle.nvme_fleet.proofs.Words.{waiting_at, cid, Waiting, ◌≡◌, ℕ, ◌+◌, ◌<◌, ◌≤◌, List, [], ◌∷◌, length, map, refl, ap, sym, arith, zero, suc, true, false, cond, eqb, Option, Some, None, slice_set, inl, inr, cases_Bool, ne_eqb, Slot, slot_at, live_in, item, commands_of, Lane, Admin, Io, same, other, Taken, area, listed, slot_in, slots_in, commands_in, fetched_by}
 use Rattle.nvme_fleet.proofs.Slots.{Apart, cond-zero}
-use Rattle.nvme_driver.specs.declared.lane.Lane.{Lane}
-use Rattle.nvme_driver.specs.declared.lane.Lane.TheVariants.{Admin, Io}
-use Rattle.nvme_fleet.specs.Lanes.{same, other, Taken, area, listed, slot_in, slots_in, commands_in, fetched_by}
 use Rattle.nvme_fleet.proofs.LaneWindows.{Same}
 
 -- a slot that the windows share
@@ -35,10 +27,6 @@ slots-set l w w' k (x ∷ xs) (suc i) n o e b h =
       slots-set l w w' (suc k) xs i n o (omega (arith, e)) (omega (arith, b)) (λ j a g. h j (omega (arith, a)) (omega (arith, g))),
     ) refl
 
-pub length-slots : (l : Lane) (w : List ℕ) (k : ℕ) (xs : List (Option Waiting)) → length (slots_in l w k xs) ≡ length xs
-length-slots l w k [] = refl
-length-slots l w k (x ∷ xs) = omega (arith, length-slots l w (suc k) xs)
-
 -- a slot of a lane
 pub slot-in : (l : Lane) (w : List ℕ) (k : ℕ) (xs : List (Option Waiting)) (i n : ℕ) → n ≡ k + i → slot_at (slots_in l w k xs) i ≡ slot_in l w n (waiting_at xs i)
 slot-in l w k [] i n e = refl
@@ -55,7 +43,7 @@ set-waiting [] i h = let z : ⊥ = omega (arith, h) in absurd z
 set-waiting (x ∷ xs) zero h = refl
 set-waiting (x ∷ xs) (suc i) h = ap (λ t. x ∷ t) (set-waiting xs i (omega (arith, h)))
 
-apart : (lane x : Lane) → same x lane ≡ true → same x (other lane) ≡ false
+pub apart : (lane x : Lane) → same x lane ≡ true → same x (other lane) ≡ false
 apart Admin Admin e = refl
 apart Admin Io e = sym e
 apart Io Admin e = sym e
@@ -76,24 +64,6 @@ slot-there lane w w' v n None l = refl
 slot-there lane w w' v n (Some t) l =
     elim (cases_Bool (same t.lane lane)) [
       | inl s ↦ rw (apart lane t.lane s) refl
-      | inr s ↦ let m : 0 ≡ 1 = rw s at l in let z : ⊥ = omega (arith, m) in absurd z
-    ]
-
--- the list of a live slot
-pub list-of : (lane : Lane) (w : List ℕ) (n : ℕ) (o : Option Waiting) → live_in (slot_in lane w n o) ≡ 1 → (slot_in lane w n o).list ≡ listed w n
-list-of lane w n None l = let z : ⊥ = omega (arith, l) in absurd z
-list-of lane w n (Some t) l =
-    elim (cases_Bool (same t.lane lane)) [
-      | inl s ↦ rw s refl
-      | inr s ↦ let m : 0 ≡ 1 = rw s at l in let z : ⊥ = omega (arith, m) in absurd z
-    ]
-
--- and its data
-pub bytes-of : (lane : Lane) (w : List ℕ) (n : ℕ) (o : Option Waiting) → live_in (slot_in lane w n o) ≡ 1 → (slot_in lane w n o).bytes ≡ area w n
-bytes-of lane w n None l = let z : ⊥ = omega (arith, l) in absurd z
-bytes-of lane w n (Some t) l =
-    elim (cases_Bool (same t.lane lane)) [
-      | inl s ↦ rw s refl
       | inr s ↦ let m : 0 ≡ 1 = rw s at l in let z : ⊥ = omega (arith, m) in absurd z
     ]
 

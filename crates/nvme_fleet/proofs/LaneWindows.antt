@@ -1,15 +1,7 @@
 -- Windows that differ in one slot or in the queue pages of one lane, and stores that leave such windows.
-use Rattle.nvme_driver.specs.Layout.{list_page}
-use Rattle.nvme_driver.specs.Layout.{data_area}
-use Rattle.std.proofs.Common.{◌≡◌, ℕ, ◌+◌, ◌*◌, ◌<◌, ◌≤◌, List, length, ap, ◌∙◌, arith, false, eqb, take, drop, ◌⊎◌, inl, inr}
-use Rattle.std.proofs.lemmas.List.{take-take, length-drop}
-use Rattle.std.proofs.lemmas.Bool.{cases_lt, eqb-false}
-use Rattle.nvme_spec.specs.Limits.{most_bytes}
-use Rattle.nvme_spec.specs.Bytes.{with_bytes}
+use Rattle.nvme_fleet.proofs.Words.{list_page, data_area, ◌≡◌, ℕ, ◌+◌, ◌*◌, ◌<◌, ◌≤◌, List, length, ap, ◌∙◌, arith, false, eqb, take, drop, ◌⊎◌, inl, inr, take-take, cases_lt, eqb-false, most_bytes, with_bytes, Lane, Admin, Io, other, base, pages_of, area, listed}
+use Rattle.std.proofs.lemmas.List.{length-drop}
 use Rattle.nvme_fleet.proofs.Windows.{stored-length, stored-apart, stored-in}
-use Rattle.nvme_driver.specs.declared.lane.Lane.{Lane}
-use Rattle.nvme_driver.specs.declared.lane.Lane.TheVariants.{Admin, Io}
-use Rattle.nvme_fleet.specs.Lanes.{other, base, pages_of, area, listed}
 use Rattle.nvme_fleet.proofs.LanePages.{first-here, second-here}
 
 -- a slot whose area and list two windows share

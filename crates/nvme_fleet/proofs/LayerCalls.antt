@@ -1,48 +1,19 @@
 -- Which events of a fleet make which calls of the medium.
-use Rattle.std.proofs.Common.{◌≡◌, ◌∙◌, ℕ, ◌+◌, ◌-◌, ◌≤◌, Bool, Err, Ok, Result, Some, None, Option, true, List, [], ◌∷◌, ◌++◌, refl, sym, ap, subst, arith}
-use Rattle.std.specs.Prelude.{slice_set}
-use Rattle.std.proofs.lemmas.List.{append-nil, append_assoc}
-use Rattle.nvme_spec.specs.MediumCalls.{MediumCall, MakesCalls}
+use Rattle.nvme_fleet.proofs.Words.{◌≡◌, ◌∙◌, ℕ, ◌+◌, ◌-◌, ◌≤◌, Bool, Err, Ok, Result, Some, None, Option, true, List, [], ◌∷◌, ◌++◌, refl, sym, ap, subst, arith, slice_set, append-nil, append_assoc, MediumCall, MakesCalls, Event, Seen, Subsystem, submission_entry, PlaceRefusal, Lane, Request, Waiting, Ticket, Call, Stores, Driver, ends, entry_fields, free_slot, put_ends, with_ends, command_place, data_area, list_page, stored_list, Asked, asked_of, ExecutesNothing, FleetEvent, FleetSeen, Reply, Layers, fleet_in, AppliesCalling, AreCallsOfRun, AreCallsOfStep, HappensCalling, LayerCallsAreOfARun, LayerCallsAreOfAStep, DoesIfAny, Places, Ran, events_of_calls, CallsAt, Happens, driver_at, told, AreCallsOfTurn, IsOfHost}
 use Rattle.nvme_spec.proofs.MediumCalls.{calls-joined}
-use Rattle.nvme_machine.specs.declared.event.Event.{Event}
-use Rattle.nvme_machine.specs.declared.event.Event.TheVariants.{Store, Write32, Read32, Fetch, Execute, PowerCycle}
-use Rattle.nvme_machine.specs.declared.seen.Seen.{Seen}
+use Rattle.nvme_machine.specs.declared.event.Event.TheVariants.{Fetch, Execute, PowerCycle}
 use Rattle.nvme_machine.specs.EventCalls as machine
-use Rattle.nvme_machine.specs.Subsystems.{Subsystem}
 use Rattle.nvme_machine.proofs.EventCalls.{calls_are_of_a_step}
-use Rattle.nvme_wire.specs.Submission.{submission_entry}
-use Rattle.nvme_driver.specs.declared.faults.PlaceRefusal.{PlaceRefusal}
-use Rattle.nvme_driver.specs.declared.lane.Lane.{Lane}
-use Rattle.nvme_driver.specs.declared.request.Request.{Request}
-use Rattle.nvme_driver.specs.declared.slots.Waiting.{Waiting}
-use Rattle.nvme_driver.specs.declared.ticket.Ticket.{Ticket}
-use Rattle.nvme_driver.specs.Calls.{Call, Stores}
-use Rattle.nvme_driver.specs.Drivers.{Driver, ends, entry_fields, free_slot, lane_of, put_ends, with_ends}
-use Rattle.nvme_driver.specs.Layout.{command_place, data_area, list_page}
-use Rattle.nvme_driver.specs.Pointers.{stored_list}
-use Rattle.nvme_driver.specs.Requests.{Asked, asked_of}
-use Rattle.nvme_machine.specs.EventCalls.{ExecutesNothing}
-use Rattle.nvme_event.specs.declared.event.FleetEvent.{FleetEvent}
+use Rattle.nvme_driver.specs.Drivers.{lane_of}
 use Rattle.nvme_event.specs.declared.event.FleetEvent.TheVariants as fleet
-use Rattle.nvme_event.specs.declared.seen.FleetSeen.{FleetSeen}
-use Rattle.nvme_event.specs.Replies.{Reply}
-use Rattle.nvme_fleet.specs.FleetStates.{Layers, fleet_in}
 use Rattle.nvme_fleet.specs.Fleets as mailboxes
-use Rattle.nvme_fleet.specs.LayerCalls.{AppliesCalling, AreCallsOfRun, AreCallsOfStep, HappensCalling, LayerCallsAreOfARun, LayerCallsAreOfAStep}
 use Rattle.nvme_fleet.specs.declared.delivery.DriverCall.TheVariants as call
-use Rattle.nvme_fleet.specs.Deeds.{DoesIfAny, Places, Ran, events_of_calls}
-use Rattle.nvme_fleet.specs.Layers.{CallsAt, Happens, driver_at, told}
-use Rattle.nvme_fleet.specs.LinkCalls.{AreCallsOfTurn}
-use Rattle.nvme_fleet.specs.RawEvents.{IsOfHost}
 
 -- a host stores and writes alone
 pub hosts-execute-nothing : (event : Event) → IsOfHost event → ExecutesNothing event
-hosts-execute-nothing (Store k address bytes) h = tt
-hosts-execute-nothing (Write32 k offset v) h = tt
-hosts-execute-nothing (Read32 k offset) h = tt
-hosts-execute-nothing (Fetch k q) h = tt
 hosts-execute-nothing (Execute k i) h = absurd h
 hosts-execute-nothing PowerCycle h = absurd h
+hosts-execute-nothing event h = tt
 
 pub applies-calling : {M : Type 0} (step : M → MediumCall → M → Type 0) (tells : Bool) (old new : Layers) (event : Event) (given : Seen) (what : FleetSeen) (before after : M) → new.drivers ≡ old.drivers → what ≡ told given
     → MakesCalls step (machine.AreCallsOfStep tells old.subsystem event given new.subsystem) before after → MakesCalls step (AppliesCalling tells old event what new) before after

@@ -1,45 +1,12 @@
 -- Both layers over another medium: what an event makes of them, but for the medium.
-use Rattle.std.proofs.Common.{◌≡◌, ◌<◌, ◌+◌, ◌-◌, ◌^◌, ℕ, Bool, true, false, List, [], ◌∷◌, Option, None, Some, Result, Ok, Err, sym, ap, subst, ◌∙◌}
-use Rattle.std.specs.Prelude.{if◌then◌else◌}
-use Rattle.nvme_spec.specs.Blocks.{Device}
-use Rattle.nvme_spec.specs.Layout.{may_read}
-use Rattle.nvme_driver.specs.declared.answer.Answer.{Answer}
-use Rattle.nvme_driver.specs.declared.answer.Answer.TheVariants.{Aborted, Done}
-use Rattle.nvme_driver.specs.declared.faults.NotUp.{NotUp}
-use Rattle.nvme_driver.specs.declared.faults.PlaceRefusal.{PlaceRefusal}
-use Rattle.nvme_driver.specs.declared.faults.PollFault.{PollFault}
+use Rattle.nvme_fleet.proofs.Words.{fault_free_step, ◌≡◌, ◌<◌, ◌+◌, ◌-◌, ◌^◌, ℕ, Bool, true, false, List, [], ◌∷◌, Option, None, Some, Result, Ok, Err, sym, ap, subst, ◌∙◌, if◌then◌else◌, Device, may_read, Answer, Done, NotUp, PlaceRefusal, PollFault, UpFault, Found, Lane, Request, Waiting, Ticket, Call, Turns, Driver, is_up, stores_of, head_doorbell, answered, answered_poll, found, found_poll, without_calls, Event, DifferIn, over, Subsystem, after_power_cycle, controller_at, FleetEvent, BringUp, Place, Ring, Fetch, Execute, Poll, Reset, RawStore, RawWrite32, PowerCycle, FleetSeen, OfItsHost, Reply, DriverCall, ComesUp, Consumes, Does, DoesIfAny, Places, Polls, Ran, Rings, events_of_calls, reset_events, ring_events, window_at, Layers, fleet_in, Applies, AppliesRaw, CallsAt, Cycles, Happens, driver_at, resets_from, IsRegular, layers_over, HaveTicketsOnce, polled}
 use Rattle.nvme_driver.specs.declared.faults.PollFault.TheVariants as poll_fault
-use Rattle.nvme_driver.specs.declared.faults.UpFault.{UpFault}
-use Rattle.nvme_driver.specs.declared.found.Found.{Found}
-use Rattle.nvme_driver.specs.declared.lane.Lane.{Lane}
-use Rattle.nvme_driver.specs.declared.request.Request.{Request}
-use Rattle.nvme_driver.specs.declared.slots.Waiting.{Waiting}
-use Rattle.nvme_driver.specs.declared.ticket.Ticket.{Ticket}
-use Rattle.nvme_driver.specs.Calls.{Call, Reads, Stores, Turns, Writes}
-use Rattle.nvme_driver.specs.Drivers.{Driver, is_up, stores_of}
-use Rattle.nvme_driver.specs.Layout.{head_doorbell}
-use Rattle.nvme_driver.specs.Polls.{answered, answered_poll, found, found_poll, polled, without_calls}
-use Rattle.nvme_machine.specs.declared.event.Event.{Event}
 use Rattle.nvme_machine.specs.declared.event.Event.TheVariants as event
-use Rattle.nvme_machine.specs.Secrecy.{DifferIn, over}
-use Rattle.nvme_machine.specs.Subsystems.{Subsystem, after_power_cycle, controller_at}
 use Rattle.nvme_machine.proofs.Secrecy as machine
-use Rattle.nvme_event.specs.declared.event.FleetEvent.{FleetEvent}
-use Rattle.nvme_event.specs.declared.event.FleetEvent.TheVariants.{BringUp, Place, Ring, Fetch, Execute, Poll, Reset, RawStore, RawWrite32, PowerCycle}
-use Rattle.nvme_event.specs.declared.seen.FleetSeen.{FleetSeen}
-use Rattle.nvme_event.specs.Events.{OfItsHost}
-use Rattle.nvme_event.specs.Replies.{Reply}
-use Rattle.nvme_fleet.specs.declared.delivery.DriverCall.{DriverCall}
 use Rattle.nvme_fleet.specs.declared.delivery.DriverCall.TheVariants as call
-use Rattle.nvme_fleet.specs.Deeds.{ComesUp, Consumes, Does, DoesIfAny, Places, Polls, Ran, Rings, events_of_calls, reset_events, ring_events, window_at}
-use Rattle.nvme_fleet.specs.FleetStates.{Layers, fleet_in}
-use Rattle.nvme_fleet.specs.Fleets.{host_at}
-use Rattle.nvme_fleet.specs.Layers.{Applies, AppliesRaw, CallsAt, Cycles, Happens, Step, driver_at, resets_from}
-use Rattle.nvme_fleet.specs.Regular.{IsRegular}
-use Rattle.nvme_fleet.specs.Secrecy.{layers_over}
-use Rattle.nvme_fleet.specs.Unique.{HaveTicketsOnce}
+use Rattle.nvme_fleet.specs.Layers.{Step}
 use Rattle.nvme_fleet.proofs.Bytes.{IsSameSite, same-site}
-use Rattle.nvme_fleet.proofs.Existing.{called-site, fetched-site, raw-site}
+use Rattle.nvme_fleet.proofs.Existing.{IsOther, other-site}
 use Rattle.nvme_fleet.proofs.Mirrored.{ArePlain, AreQuiet, IsQuiet, quiet-over, quiet-run, rises-over}
 use Rattle.nvme_fleet.proofs.Unique.{AreCalm, count, happens-alone}
 
@@ -47,10 +14,8 @@ use Rattle.nvme_fleet.proofs.Unique.{AreCalm, count, happens-alone}
 
 quiet-calls : (k : ℕ) (calls : List Call) → ArePlain calls → AreQuiet (events_of_calls k calls)
 quiet-calls k [] plain = tt
-quiet-calls k (Stores address bytes ∷ calls) plain = (tt, quiet-calls k calls plain.1)
-quiet-calls k (Writes offset v ∷ calls) plain = (tt, quiet-calls k calls plain.1)
-quiet-calls k (Reads offset v ∷ calls) plain = (tt, quiet-calls k calls plain.1)
 quiet-calls k (Turns ∷ calls) plain = absurd plain.0
+quiet-calls k (one ∷ calls) plain = (tt, quiet-calls k calls plain.1)
 
 ran-over : (events : List Event) (p q : Subsystem) (m : Device) → AreQuiet events → Ran true p events q → Ran true (over m p) events (over m q)
 ran-over events p q m quiet h = (h.0, quiet-run true events h.0 p q m quiet h.1)
@@ -86,9 +51,7 @@ polled-plain d None window = by (is_up d.state)
 
 consumes-over : (k : ℕ) (m : Device) (p q : Subsystem) (result : Result (Option Answer) PollFault) → Consumes true k p result q → Consumes true k (over m p) result (over m q)
 consumes-over k m p q (Ok (Some (Done ticket status dw0 len))) (lane, head, ran) = (lane, head, ran-over (event.Write32 k (head_doorbell lane) head ∷ []) p q m (tt, tt) ran)
-consumes-over k m p q (Ok (Some (Aborted ticket))) h = ap (over m) h
-consumes-over k m p q (Ok None) h = ap (over m) h
-consumes-over k m p q (Err fault) h = ap (over m) h
+consumes-over k m p q result h = ap (over m) h
 
 poll-over : (k : ℕ) (m : Device) (d d' : Driver) (p q : Subsystem) (result : Result (Option Answer) PollFault) → Polls true k d p result d' q → Polls true k d (over m p) result d' (over m q)
 unfolding controller_at
@@ -185,28 +148,24 @@ unfolding after_power_cycle
 cycles n old new other m x both h g =
     led n old new other m m PowerCycle x both (subst (λ (s : Subsystem). DifferIn n old.subsystem.world s.device m) (sym h.cycled) both.differ) (cycles-over old new m x h) g
 
+other-over : (old new : Layers) (m : Device) (e : FleetEvent) (x : FleetSeen) → IsOther e → Happens true old e x new → Happens true (layers_over m old) e x (layers_over m new)
+other-over old new m (BringUp k) x other h = calls-over (driver_at old.drivers k) old new k m call.BringUp x h
+other-over old new m (Place k request) x other h = calls-over (driver_at old.drivers k) old new k m (call.Place request) x h
+other-over old new m (Ring k) x other h = calls-over (driver_at old.drivers k) old new k m call.Ring x h
+other-over old new m (Fetch k q) x other h = applies-over old new m (event.Fetch k q) x tt h
+other-over old new m (Execute k i) x other h = absurd other
+other-over old new m (Poll k) x other h = calls-over (driver_at old.drivers k) old new k m call.Poll x h
+other-over old new m (Reset k) x other h = calls-over (driver_at old.drivers k) old new k m call.Reset x h
+other-over old new m (RawStore k address bytes) x other h = raw-over (driver_at old.drivers k) old new m (event.Store k address bytes) x tt h
+other-over old new m (RawWrite32 k offset v) x other h = raw-over (driver_at old.drivers k) old new m (event.Write32 k offset v) x tt h
+other-over old new m PowerCycle x other h = absurd other
+
 leads : (n : ℕ) (old new other : Layers) (m : Device) (e : FleetEvent) (reply : Reply) → AreBoth n old new other m → OfItsHost (λ k. may_read old.subsystem.world k n ≡ false) e → Step true old e reply new
     → Happens true (layers_over m old) e reply.seen other → IsLed n old new other
-leads n old new other m (BringUp k) reply both fenced s g =
-    quietly n old new other m (BringUp k) reply.seen both (same-site old new _ reply (called-site (host_at (fleet_in old) k) (fleet_in old) k _) s.mailboxes) (calls-over (driver_at old.drivers k) old new k m call.BringUp reply.seen s.below) g
-leads n old new other m (Place k request) reply both fenced s g =
-    quietly n old new other m (Place k request) reply.seen both (same-site old new _ reply (called-site (host_at (fleet_in old) k) (fleet_in old) k _) s.mailboxes) (calls-over (driver_at old.drivers k) old new k m (call.Place request) reply.seen s.below) g
-leads n old new other m (Ring k) reply both fenced s g =
-    quietly n old new other m (Ring k) reply.seen both (same-site old new _ reply (called-site (host_at (fleet_in old) k) (fleet_in old) k _) s.mailboxes) (calls-over (driver_at old.drivers k) old new k m call.Ring reply.seen s.below) g
-leads n old new other m (Fetch k q) reply both fenced s g =
-    quietly n old new other m (Fetch k q) reply.seen both (same-site old new _ reply (fetched-site (host_at (fleet_in old) k) (fleet_in old) k q) s.mailboxes) (applies-over old new m (event.Fetch k q) reply.seen tt s.below) g
 leads n old new other m (Execute k i) reply both fenced s g = executes n old new other m k i reply.seen both fenced s.below g
-leads n old new other m (Poll k) reply both fenced s g =
-    quietly n old new other m (Poll k) reply.seen both (same-site old new _ reply (called-site (host_at (fleet_in old) k) (fleet_in old) k _) s.mailboxes) (calls-over (driver_at old.drivers k) old new k m call.Poll reply.seen s.below) g
-leads n old new other m (Reset k) reply both fenced s g =
-    quietly n old new other m (Reset k) reply.seen both (same-site old new _ reply (called-site (host_at (fleet_in old) k) (fleet_in old) k _) s.mailboxes) (calls-over (driver_at old.drivers k) old new k m call.Reset reply.seen s.below) g
-leads n old new other m (RawStore k address bytes) reply both fenced s g =
-    quietly n old new other m (RawStore k address bytes) reply.seen both (same-site old new _ reply (raw-site (host_at (fleet_in old) k) (fleet_in old) k _ _) s.mailboxes)
-    (raw-over (driver_at old.drivers k) old new m (event.Store k address bytes) reply.seen tt s.below) g
-leads n old new other m (RawWrite32 k offset v) reply both fenced s g =
-    quietly n old new other m (RawWrite32 k offset v) reply.seen both (same-site old new _ reply (raw-site (host_at (fleet_in old) k) (fleet_in old) k _ _) s.mailboxes)
-    (raw-over (driver_at old.drivers k) old new m (event.Write32 k offset v) reply.seen tt s.below) g
 leads n old new other m PowerCycle reply both fenced s g = cycles n old new other m reply.seen both s.below g
+leads n old new other m e reply both fenced s g =
+    quietly n old new other m e reply.seen both (same-site old new (fault_free_step (fleet_in old) e) reply (other-site (fleet_in old) e tt) s.mailboxes) (other-over old new m e reply.seen tt s.below) g
 
 pub step-leads : (n : ℕ) (old new other : Layers) (m : Device) (e : FleetEvent) (reply : Reply) → count new.subsystem ≡ count old.subsystem → count other.subsystem ≡ count old.subsystem → count old.subsystem < 2 ^ 64 - 1
     → HaveTicketsOnce old → IsRegular (fleet_in old) → DifferIn n old.subsystem.world old.subsystem.device m → OfItsHost (λ k. may_read old.subsystem.world k n ≡ false) e → Step true old e reply new

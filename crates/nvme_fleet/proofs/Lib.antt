@@ -1,5 +1,7 @@
+pub mod Words
 pub mod Determined
 pub mod Existing
+pub mod Lists
 pub mod Totals
 pub mod Windows
 pub mod Slots
@@ -52,7 +54,6 @@ pub mod TurnStep
 pub mod RiseStep
 pub mod FleetStep
 pub mod RiseLink
-pub mod LinkOthers
 pub mod Seating
 pub mod SoundOpening
 pub mod LinkedStep
@@ -66,6 +67,8 @@ pub mod FleetRuns
 pub mod MailboxMarks
 pub mod HostPlaces
 pub mod Apart
+pub mod Moves
+pub mod EachHost
 pub mod TicketFlows
 pub mod TicketRuns
 pub mod TicketCounts

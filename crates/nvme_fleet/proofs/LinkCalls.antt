@@ -1,38 +1,14 @@
 -- Calls over a link make none of the medium: those that grant no turn, and the turns of a driver that comes up, since
 -- admin commands make none.
-use Rattle.std.proofs.Common.{◌≡◌, ◌<◌, ℕ, ◌+◌, ◌++◌, Bool, true, false, List, [], ◌∷◌, length, Option, Some, None, Result, Ok, Err, refl, sym, ap, subst, ◌∙◌, arith}
-use Rattle.std.specs.Prelude.{slice_get, OnOk, OnErr}
-use Rattle.std.proofs.lemmas.List.{length-set}
-use Rattle.nvme_spec.specs.MediumCalls.{MediumCall, Calls as CallsMade}
-use Rattle.nvme_driver.specs.declared.answer.Answer.{Answer}
-use Rattle.nvme_driver.specs.declared.faults.PlaceRefusal.{PlaceRefusal}
-use Rattle.nvme_driver.specs.declared.faults.PollFault.{PollFault}
-use Rattle.nvme_driver.specs.declared.faults.UpFault.{UpFault}
-use Rattle.nvme_driver.specs.declared.faults.UpFault.TheVariants.{AlreadyUp}
-use Rattle.nvme_driver.specs.declared.lane.Lane.TheVariants.{Admin}
-use Rattle.nvme_driver.specs.declared.request.Request.{Request}
+use Rattle.nvme_fleet.proofs.Words.{◌≡◌, ◌<◌, ℕ, ◌+◌, ◌++◌, Bool, true, false, List, [], ◌∷◌, length, Option, Some, None, Result, Ok, Err, refl, sym, ap, subst, ◌∙◌, arith, slice_get, OnOk, OnErr, length-set, MediumCall, Answer, PlaceRefusal, PollFault, UpFault, AlreadyUp, Admin, Request, Down, Up, Failed, Ticket, Call, Calls, Turns, Driver, IsPlaced, is_down, stores_of, IsPolled, Rises, IsMapped, rises-mapped, FetchedCommand, Seen, Controller, QueuePair, after_fetch, open_pair, CallingAt, CallingOne, CallingOver, Subsystem, controller_at, scene_of, OverMedium, CallOver, CallOverMedium, ReachesMedium, Linked, Reaches, controller_in, linked_controller, Sound, is_failed, polled}
+use Rattle.nvme_fleet.proofs.Lists.{all-get}
+use Rattle.nvme_spec.specs.MediumCalls.{Calls as CallsMade}
 use Rattle.nvme_driver.specs.declared.state.State.{State}
-use Rattle.nvme_driver.specs.declared.state.State.TheVariants.{Down, Up, Failed}
-use Rattle.nvme_driver.specs.declared.ticket.Ticket.{Ticket}
-use Rattle.nvme_driver.specs.Calls.{Call, Calls, Stores, Writes, Reads, Turns}
-use Rattle.nvme_driver.specs.Drivers.{Driver, IsPlaced, is_down, stores_of}
-use Rattle.nvme_driver.specs.Polls.{IsPolled, polled}
-use Rattle.nvme_driver.specs.Rises.{Rises}
-use Rattle.nvme_driver.proofs.Mapped.{IsMapped, rises-mapped}
 use Rattle.nvme_machine.specs.declared.event.Event.TheVariants.{Fetch, Execute}
-use Rattle.nvme_machine.specs.declared.fetched.FetchedCommand.{FetchedCommand}
-use Rattle.nvme_machine.specs.declared.seen.Seen.{Seen}
 use Rattle.nvme_machine.specs.Calling.{AreCallsAs, AreCallsOfExecution}
-use Rattle.nvme_machine.specs.Controllers.{Controller, QueuePair, after_fetch, open_pair}
-use Rattle.nvme_machine.specs.EventCalls.{AreCallsOfRun, CallingAt, CallingOne, CallingOver}
-use Rattle.nvme_machine.specs.Subsystems.{Subsystem, controller_at, scene_of}
+use Rattle.nvme_machine.specs.EventCalls.{AreCallsOfRun}
 use Rattle.nvme_subsys.proofs.Numbers as numbers
-use Rattle.nvme_subsys.specs.OverMedium.{OverMedium}
-use Rattle.nvme_fleet.specs.Deeds.{CallOver}
-use Rattle.nvme_fleet.specs.LinkCalls.{CallOverMedium, ReachesMedium}
-use Rattle.nvme_fleet.specs.Linked.{Linked, Reaches, controller_in, linked_controller}
-use Rattle.nvme_fleet.specs.Sound.{Sound, is_failed}
-use Rattle.nvme_fleet.proofs.AdminTurns.{AreAdmin, IsAdmin, fetch-admin, fetched_by, first-of}
+use Rattle.nvme_fleet.proofs.AdminTurns.{AreAdmin, IsAdmin, fetch-admin, fetched_by}
 use Rattle.nvme_fleet.proofs.LinkedStep.{plain-polled}
 use Rattle.nvme_fleet.proofs.Members.{fresh-down}
 use Rattle.nvme_fleet.proofs.Places.{no-way}
@@ -57,7 +33,7 @@ none-one (Some t) tells old k c seen new calls admin h = none-over (open_pair c 
 none-executed : (tells : Bool) (s : Subsystem) (k : ℕ) (c : Controller) (seen : Seen) (new : Subsystem) (calls : List MediumCall) → controller_at s k ≡ Some c → AreAdmin c
     → CallingAt (controller_at s k) tells s k 0 seen new calls → calls ≡ []
 none-executed tells s k c seen new calls at admin h =
-    none-one (slice_get c.fetched 0) tells s k c seen new calls (λ t is. first-of c.fetched t admin is) (subst (λ o. CallingAt o tells s k 0 seen new calls) at h)
+    none-one (slice_get c.fetched 0) tells s k c seen new calls (λ t is. all-get IsAdmin c.fetched 0 t is admin) (subst (λ o. CallingAt o tells s k 0 seen new calls) at h)
 
 -- nor does a turn of a controller that has fetched such commands alone
 turn-none : (tells : Bool) (a b : Subsystem) (i : ℕ) (given : List Seen) (calls : List MediumCall) → AreAdmin (controller_in a i) → i < length a.controllers
@@ -79,19 +55,15 @@ turn-none tells a b i (x ∷ y ∷ []) calls admin there (mid, here, behind, ste
 -- One call.
 
 kept-plain : {M : Type 0} (step : M → MediumCall → M → Type 0) (tells : Bool) (call : Call) (k : ℕ) (a b : Subsystem) (before after : M) → IsPlain (call ∷ []) → ReachesMedium step tells k a b call before after → after ≡ before
-kept-plain step tells (Stores address bytes) k a b before after plain h = h
-kept-plain step tells (Writes offset v) k a b before after plain h = h
-kept-plain step tells (Reads offset v) k a b before after plain h = h
 kept-plain step tells Turns k a b before after plain h = absurd plain
+kept-plain step tells call k a b before after plain h = h
 
 kept-fresh : {M : Type 0} (step : M → MediumCall → M → Type 0) (tells : Bool) (call : Call) (i : ℕ) (p : Linked) (b : Subsystem) (before after : M) → IsFresh i p → ReachesMedium step tells (p.place + 1) p.subsystem b call before after
     → after ≡ before
-kept-fresh step tells (Stores address bytes) i p b before after fresh h = h
-kept-fresh step tells (Writes offset v) i p b before after fresh h = h
-kept-fresh step tells (Reads offset v) i p b before after fresh h = h
 kept-fresh step tells Turns i p b before after fresh h =
     let at = fresh.reaches in
     subst (λ cs. CallsMade step before cs after) (turn-none tells p.subsystem b p.place h.are.0 h.calls fresh.admin at.0 h.are.1) h.made
+kept-fresh step tells call i p b before after fresh h = h
 
 -- Several calls, without a turn.
 

@@ -1,30 +1,8 @@
 -- What a driver does over a link is exactly these events of its controller.
-use Rattle.std.proofs.Common.{◌≡◌, ◌+◌, ℕ, Bool, true, false, List, [], ◌∷◌, ◌++◌, Option, None, Some, Result, Ok, Err, refl, sym, ap, subst}
-use Rattle.std.specs.Prelude.{OnOk, OnErr, is_ok, if◌then◌else◌}
-use Rattle.nvme_wire.specs.Completion.{sq_head}
-use Rattle.nvme_driver.specs.declared.answer.Answer.{Answer}
-use Rattle.nvme_driver.specs.declared.faults.NotUp.{NotUp}
-use Rattle.nvme_driver.specs.declared.faults.PlaceRefusal.{PlaceRefusal}
-use Rattle.nvme_driver.specs.declared.faults.PollFault.{PollFault}
+use Rattle.nvme_fleet.proofs.Words.{◌≡◌, ◌+◌, ℕ, Bool, true, false, List, [], ◌∷◌, ◌++◌, Option, None, Some, Result, Ok, Err, refl, sym, ap, subst, OnOk, OnErr, is_ok, if◌then◌else◌, sq_head, Answer, NotUp, PlaceRefusal, PollFault, UpFault, AlreadyUp, Found, Lane, Admin, Io, Request, Waiting, Ticket, Call, Calls, Writes, Driver, IsPlaced, after_reset, ends, is_up, reset_calls, ring_calls, stores_of, tail_of, tail_doorbell, IsPolled, answered, answered_poll, consumed_ends, found, found_poll, head_of, without_calls, Rises, Event, Seen, Subsystem, CallOver, CallStep, ComesUp, Consumes, Places, Polls, Ran, Resets, Rings, events_of, events_of_calls, window_at, Linked, Reaches, linked_controller, polled}
 use Rattle.nvme_driver.specs.declared.faults.PollFault.TheVariants.{NotUp as NotUpFault}
-use Rattle.nvme_driver.specs.declared.faults.UpFault.{UpFault}
-use Rattle.nvme_driver.specs.declared.faults.UpFault.TheVariants.{AlreadyUp}
-use Rattle.nvme_driver.specs.declared.found.Found.{Found}
-use Rattle.nvme_driver.specs.declared.lane.Lane.{Lane}
-use Rattle.nvme_driver.specs.declared.lane.Lane.TheVariants.{Admin, Io}
-use Rattle.nvme_driver.specs.declared.request.Request.{Request}
-use Rattle.nvme_driver.specs.declared.slots.Waiting.{Waiting}
-use Rattle.nvme_driver.specs.declared.ticket.Ticket.{Ticket}
-use Rattle.nvme_driver.specs.Calls.{Call, Calls, Writes}
-use Rattle.nvme_driver.specs.Drivers.{Driver, IsPlaced, after_reset, ends, is_up, reset_calls, ring_calls, stores_of, tail_of}
-use Rattle.nvme_driver.specs.Layout.{tail_doorbell}
-use Rattle.nvme_driver.specs.Polls.{IsPolled, Poll, answered, answered_poll, consumed_ends, found, found_poll, head_of, polled, without_calls}
-use Rattle.nvme_driver.specs.Rises.{Rises}
-use Rattle.nvme_machine.specs.declared.event.Event.{Event}
-use Rattle.nvme_machine.specs.declared.seen.Seen.{Seen}
-use Rattle.nvme_machine.specs.Subsystems.{Subsystem, Run}
-use Rattle.nvme_fleet.specs.Deeds.{CallOver, CallStep, ComesUp, Consumes, Places, Polls, Ran, Resets, Rings, events_of, events_of_calls, window_at}
-use Rattle.nvme_fleet.specs.Linked.{Linked, Reaches, linked_controller}
+use Rattle.nvme_driver.specs.Polls.{Poll}
+use Rattle.nvme_machine.specs.Subsystems.{Run}
 use Rattle.nvme_fleet.proofs.LinkedStep.{plain-polled}
 use Rattle.nvme_fleet.proofs.Reaching.{IsFresh, calls-over, rises-below, window-there}
 use Rattle.nvme_fleet.proofs.RiseLink.{bytes_of, step_of}

@@ -1,40 +1,17 @@
 -- What a driver does over its port, and that it is the step of its mailbox.
-use Rattle.std.proofs.Common.{◌≡◌, ℕ, Bool, true, false, List, length, take, Option, None, Some, refl, sym, ap, subst, ◌∙◌}
-use Rattle.std.specs.Prelude.{Result, Ok, Err, IfOk, IfErr, OnOk, OnErr, if◌then◌else◌}
-use Rattle.nvme_wire.specs.Submission.{submission_of}
-use Rattle.nvme_driver.specs.declared.request.Request.{Request}
-use Rattle.nvme_driver.specs.declared.answer.Answer.{Answer}
-use Rattle.nvme_driver.specs.declared.ticket.Ticket.{Ticket}
-use Rattle.nvme_driver.specs.declared.faults.PollFault.{PollFault}
+use Rattle.nvme_fleet.proofs.Words.{◌≡◌, ℕ, Bool, true, false, List, length, take, Option, None, Some, refl, sym, ap, subst, ◌∙◌, Result, Ok, Err, IfOk, IfErr, OnOk, OnErr, if◌then◌else◌, submission_of, Request, Answer, Ticket, PollFault, Found, Waiting, Lane, PlaceRefusal, Call, Calls, asked_of, Driver, is_up, Controller, Setting, Placed, Polled, Reply, MailboxReaction, Linked, linked_controller, linked_setting, with_controller, Sound, mailbox, IsStep, after_calls}
 use Rattle.nvme_driver.specs.declared.faults.PollFault.TheVariants.{NotUp}
-use Rattle.nvme_driver.specs.declared.found.Found.{Found}
-use Rattle.nvme_driver.specs.declared.slots.Waiting.{Waiting}
-use Rattle.nvme_driver.specs.declared.lane.Lane.{Lane}
-use Rattle.nvme_driver.specs.declared.faults.PlaceRefusal.{PlaceRefusal}
-use Rattle.nvme_driver.specs.Calls.{Call, Calls}
-use Rattle.nvme_driver.specs.Requests.{asked_of}
 use Rattle.nvme_driver.specs.Drivers as driver
-use Rattle.nvme_driver.specs.Drivers.{Driver, is_up}
 use Rattle.nvme_driver.specs.Polls as poll
-use Rattle.nvme_machine.specs.Controllers.{Controller}
-use Rattle.nvme_machine.specs.Executing.{Setting}
-use Rattle.nvme_event.specs.declared.seen.FleetSeen.TheVariants.{Placed, Polled}
-use Rattle.nvme_event.specs.Replies.{Reply}
 use Rattle.nvme_fleet.specs.Deliveries as mail
-use Rattle.nvme_fleet.specs.Deliveries.{MailboxReaction}
-use Rattle.nvme_fleet.specs.Linked.{Linked, linked_controller, linked_setting}
-use Rattle.nvme_fleet.specs.Links.{with_controller}
-use Rattle.nvme_fleet.specs.Sound.{Sound, mailbox}
-use Rattle.nvme_fleet.specs.Steps.{IsStep, after_calls}
 use Rattle.nvme_fleet.proofs.StartStep.{IsPlain, calls-are, calls-id}
-use Rattle.nvme_fleet.proofs.LinkOthers.{Stays, calls-stay, stays-same}
-use Rattle.nvme_fleet.proofs.RiseLink.{step_of, settings}
+use Rattle.nvme_fleet.proofs.RiseLink.{Stays, stays-same, step_of, calls-linked}
 use Rattle.nvme_fleet.proofs.PlaceStep.{place_is_a_step, refusal_is_a_step}
 use Rattle.nvme_fleet.proofs.PollStep.{poll_is_a_step}
 
 port-calls : (tells : Bool) (calls : List Call) (p q : Linked) → IsPlain calls → Calls (step_of tells) p calls q
     → (linked_setting q) ≡ with_controller (linked_setting p) (after_calls calls (linked_controller p))
-port-calls tells calls p q plain h = calls-are tells calls (linked_setting p) (linked_setting q) plain (settings tells calls p q h)
+port-calls tells calls p q plain h = calls-are tells calls (linked_setting p) (linked_setting q) plain (calls-linked tells calls p q h).0
 
 -- The driver's and the controller's part of a step, and what else the port is over.
 pub record IsLinkedStep (r : MailboxReaction) (d : Driver) (old new : Setting) (reply : Reply) : Type 0 where
@@ -117,9 +94,9 @@ places tells d d' p q request (Ok ticket) s refused unchanged taken (slot, free,
 pub places-stay : (tells : Bool) (d d' : Driver) (p q : Linked) (request : Request) (result : Result Ticket PlaceRefusal) → OnErr result ((d' ≡ d) × (q ≡ p))
     → OnOk result (driver.IsPlaced (step_of tells) d request p d' q) → Stays p q
 places-stay tells d d' p q request (Err why) unchanged put = stays-same p q unchanged.1
-places-stay tells d d' p q request (Ok ticket) unchanged (slot, free, after, calls) = calls-stay tells (driver.stores_of d request slot) p q calls
+places-stay tells d d' p q request (Ok ticket) unchanged (slot, free, after, calls) = (calls-linked tells (driver.stores_of d request slot) p q calls).1
 
 pub polls-stay : (tells : Bool) (d d' : Driver) (p q : Linked) (result : Result (Option Answer) PollFault) (buffer : List ℕ)
     → poll.IsPolled (step_of tells) d (linked_controller p).window p result d' q buffer → Stays p q
 polls-stay tells d d' p q result buffer (oldest, is-oldest, gives, after, calls, front) =
-    calls-stay tells (poll.polled d oldest (linked_controller p).window).calls p q calls
+    (calls-linked tells (poll.polled d oldest (linked_controller p).window).calls p q calls).1

@@ -1,14 +1,5 @@
 -- A controller that its driver has brought up, lane by lane.
-use Rattle.std.proofs.Common.{◌≡◌, ℕ, ◌+◌, ◌-◌, ◌*◌, ◌%◌, ◌<◌, ◌≤◌, List, take, drop, None, Some, refl, sym, ap, ◌∙◌, arith, slice_range}
-use Rattle.std.proofs.lemmas.List.{take-take, drop-drop, drop-take}
-use Rattle.std.specs.Prelude.{slice_index_or}
-use Rattle.nvme_driver.specs.declared.lane.Lane.{Lane}
-use Rattle.nvme_driver.specs.declared.lane.Lane.TheVariants.{Admin, Io}
-use Rattle.nvme_driver.specs.Layout.{queue_id, submission_queue}
-use Rattle.nvme_machine.specs.Controllers.{Controller, submission_at, completion_at}
-use Rattle.nvme_fleet.specs.Views.{command_at}
-use Rattle.nvme_fleet.specs.Lanes.{DeviceEnds, pair, pages_of}
-use Rattle.nvme_fleet.specs.Sound.{IsPaired, submission_as, completion_as, device_side}
+use Rattle.nvme_fleet.proofs.Words.{◌≡◌, ℕ, ◌+◌, ◌-◌, ◌*◌, ◌%◌, ◌<◌, ◌≤◌, List, take, drop, None, Some, refl, sym, ap, ◌∙◌, arith, slice_range, take-take, drop-drop, drop-take, slice_index_or, Lane, Admin, Io, queue_id, submission_queue, Controller, submission_at, completion_at, command_at, DeviceEnds, pair, pages_of, IsPaired, submission_as, completion_as, device_side}
 
 -- the counts of one lane
 abbrev pub own : Lane → DeviceEnds → DeviceEnds → DeviceEnds

@@ -1,12 +1,6 @@
 -- A link goes on being there, and its calls are stated at the number of its place.
-use Rattle.std.proofs.Common.{◌≡◌, ℕ, ◌+◌, ◌-◌, ◌≤◌, Bool, subst, arith}
-use Rattle.nvme_driver.specs.Calls.{Call}
-use Rattle.nvme_machine.specs.declared.event.Event.{Event}
-use Rattle.nvme_machine.specs.declared.seen.Seen.{Seen}
-use Rattle.nvme_machine.specs.Subsystems.{Subsystem, Step}
-use Rattle.nvme_subsys.proofs.Counts.{step-count}
-use Rattle.nvme_fleet.specs.Deeds.{CallStep}
-use Rattle.nvme_fleet.specs.Linked.{IsThere}
+use Rattle.nvme_fleet.proofs.Words.{◌≡◌, ℕ, ◌+◌, ◌-◌, ◌≤◌, Bool, subst, arith, Call, Event, Seen, Subsystem, step-count, CallStep, IsThere}
+use Rattle.nvme_machine.specs.Subsystems.{Step}
 
 pub there-after : (tells : Bool) (old new : Subsystem) (event : Event) (given : Seen) (k : ℕ) → Step tells old event given new → IsThere old k → IsThere new k
 there-after tells old new event given k step h = let e = step-count tells old new event given step in (h.0, omega (arith, e, h.1))

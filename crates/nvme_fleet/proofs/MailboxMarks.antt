@@ -1,18 +1,6 @@
 -- A mailbox whose fetched requests may have been marked.
-use Rattle.std.proofs.Common.{◌≡◌, ◌⊎◌, inl, inr, ℕ, Bool, true, false, [], Option, None, Some, refl, sym, ap, ◌∙◌}
-use Rattle.std.specs.Prelude.{if◌then◌else◌}
-use Rattle.nvme_spec.specs.declared.outcome.Marks.{Marks}
-use Rattle.nvme_spec.specs.World.{World, host_of}
-use Rattle.nvme_spec.specs.Execution.{no_marks}
-use Rattle.nvme_machine.specs.Subsystems.{is_host_among}
-use Rattle.nvme_event.specs.declared.event.FleetEvent.{FleetEvent}
-use Rattle.nvme_event.specs.declared.event.FleetEvent.TheVariants.{Execute}
-use Rattle.nvme_event.specs.declared.seen.FleetSeen.{FleetSeen}
-use Rattle.nvme_event.specs.Replies.{Reply}
-use Rattle.nvme_fleet.specs.Mailboxes.{Mailbox, with_marks}
-use Rattle.nvme_fleet.specs.Deliveries.{plain}
-use Rattle.nvme_fleet.specs.Executions.{Site}
-use Rattle.nvme_fleet.specs.Apart.{marks_seen, marked_by, OthersStep}
+use Rattle.nvme_fleet.proofs.Words.{◌≡◌, ◌⊎◌, inl, inr, ℕ, Bool, true, false, [], Option, None, Some, refl, sym, ap, ◌∙◌, if◌then◌else◌, Marks, World, host_of, no_marks, is_host_among, FleetEvent, Execute, FleetSeen, Reply, Mailbox, plain, Site, marks_seen, marked_by, OthersStep}
+use Rattle.nvme_fleet.specs.Mailboxes.{with_marks}
 
 -- the second is the first, or the first with what it has fetched on one namespace marked
 abbrev pub DiffersInMarks : Mailbox → Mailbox → Type 0

@@ -1,20 +1,7 @@
 -- Marks reach the mailbox where they reach its controller.
-use Rattle.std.proofs.Common.{◌≡◌, ℕ, suc, ◌==◌, ◌&&◌, not, Bool, true, false, List, [], ◌∷◌, map, Some, refl, sym, ap, ◌∙◌, slice_get}
-use Rattle.std.specs.Prelude.{if◌then◌else◌}
-use Rattle.std.specs.List.{AllByRecursion}
-use Rattle.nvme_wire.specs.Submission.{nsid}
-use Rattle.nvme_driver.specs.declared.lane.Lane.{Lane}
-use Rattle.nvme_driver.specs.declared.lane.Lane.TheVariants.{Admin, Io}
-use Rattle.nvme_driver.specs.Drivers.{Driver}
-use Rattle.nvme_machine.specs.declared.fetched.FetchedCommand.{FetchedCommand}
+use Rattle.nvme_fleet.proofs.Words.{◌≡◌, ℕ, suc, ◌==◌, ◌&&◌, not, Bool, true, false, List, [], ◌∷◌, map, Some, refl, sym, ap, ◌∙◌, slice_get, if◌then◌else◌, AllByRecursion, nsid, Lane, Admin, Io, Driver, FetchedCommand, Controller, lane_of, is_io, item_in, box, Both, commands_in, host, state, held_by, fetched_by, Sound, IsOfLane, host_side, device_side, mailbox, taken_by, lane_of_queue, MarksAreSteps}
 use Rattle.nvme_machine.specs.Controllers as machine
-use Rattle.nvme_machine.specs.Controllers.{Controller}
 use Rattle.nvme_fleet.specs.Mailboxes as mail
-use Rattle.nvme_fleet.specs.Mailboxes.{FetchedItem, lane_of, is_io}
-use Rattle.nvme_fleet.specs.Views.{item_in, box}
-use Rattle.nvme_fleet.specs.Lanes.{Both, commands_in, host, state, held_by, fetched_by}
-use Rattle.nvme_fleet.specs.Sound.{Sound, IsOfLane, host_side, device_side, mailbox, taken_by, lane_of_queue}
-use Rattle.nvme_fleet.specs.Steps.{MarksAreSteps}
 use Rattle.nvme_fleet.proofs.Placing.{same-holds}
 use Rattle.nvme_fleet.proofs.PostStep.{item_at, known, seen, lane-of-item}
 

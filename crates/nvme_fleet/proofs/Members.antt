@@ -1,29 +1,11 @@
 -- What a driver's calls come to at its controller.
-use Rattle.std.proofs.Common.{◌≡◌, ◌+◌, ℕ, Bool, true, false, List, [], ◌∷◌, Result, Ok, Err, refl, sym, ap, subst, ◌∙◌}
-use Rattle.std.specs.Prelude.{is_ok, if◌then◌else◌}
-use Rattle.nvme_driver.specs.declared.lane.Lane.TheVariants.{Admin}
+use Rattle.nvme_fleet.proofs.Words.{◌≡◌, ◌+◌, ℕ, Bool, true, false, List, [], ◌∷◌, Result, Ok, Err, refl, sym, ap, subst, ◌∙◌, is_ok, if◌then◌else◌, Admin, Down, Up, Failed, UpFault, AlreadyUp, NotUp, Call, Writes, Calls, Driver, is_up, is_down, ring_calls, reset_calls, after_reset, Rises, Setting, Mailbox, MailboxReaction, brought_up, rung, reset, plain, Sound, is_failed, mailbox, IsStep, after_calls, rung_reply, AllByRecursion, Linked, KeepsSite, Reaches, linked_controller, linked_setting, CallOver, ComesUp}
 use Rattle.nvme_driver.specs.declared.state.State.{State}
-use Rattle.nvme_driver.specs.declared.state.State.TheVariants.{Down, Up, Failed}
-use Rattle.nvme_driver.specs.declared.faults.UpFault.{UpFault}
-use Rattle.nvme_driver.specs.declared.faults.UpFault.TheVariants.{AlreadyUp}
-use Rattle.nvme_driver.specs.declared.faults.NotUp.{NotUp}
-use Rattle.nvme_driver.specs.Calls.{Call, Writes, Calls}
-use Rattle.nvme_driver.specs.Drivers.{Driver, is_up, is_down, ring_calls, reset_calls, after_reset}
-use Rattle.nvme_driver.specs.Rises.{Rises}
 use Rattle.std.specs.Borrow.{GName}
-use Rattle.nvme_machine.specs.Executing.{Setting}
 use Rattle.nvme_event.specs.declared.seen.FleetSeen.TheVariants as seen
-use Rattle.nvme_fleet.specs.Mailboxes.{Mailbox}
-use Rattle.nvme_fleet.specs.Deliveries.{MailboxReaction, brought_up, rung, reset, plain}
-use Rattle.nvme_fleet.specs.Sound.{Sound, is_failed, mailbox}
-use Rattle.nvme_fleet.specs.Steps.{IsStep, after_calls, rung_reply}
-use Rattle.std.specs.List.{AllByRecursion}
 use Rattle.nvme_fleet.proofs.AdminTurns.{IsAdmin}
-use Rattle.nvme_fleet.specs.Linked.{Linked, KeepsSite, Reaches, linked_controller, linked_setting}
 use Rattle.nvme_fleet.proofs.StartStep.{IsPlain, calls-are, calls-id}
-use Rattle.nvme_fleet.proofs.LinkOthers.{Stays, calls-stay, rises-stay, stays-same}
-use Rattle.nvme_fleet.proofs.RiseLink.{step_of, bytes_of, settings, rises-in}
-use Rattle.nvme_fleet.specs.Deeds.{CallOver, ComesUp}
+use Rattle.nvme_fleet.proofs.RiseLink.{Stays, stays-same, step_of, bytes_of, calls-linked, rises-linked}
 use Rattle.nvme_fleet.proofs.LinkDeeds.{comes-up-below, stays-below}
 use Rattle.nvme_fleet.proofs.Reaching.{IsFresh, rises-there}
 use Rattle.nvme_fleet.proofs.Places.{no-way}
@@ -40,12 +22,12 @@ same-name a b h = ap (first a) h
 
 pub site-kept : (tells : Bool) (calls : List Call) (old new : Linked) → IsPlain calls → Calls (step_of tells) old calls new → new.name ∷ [] ≡ old.name ∷ [] → KeepsSite old new
 site-kept tells calls old new p h n =
-    let e = calls-are tells calls (linked_setting old) (linked_setting new) p (settings tells calls old new h) in
-    let k = calls-stay tells calls old new h in
+    let e = calls-are tells calls (linked_setting old) (linked_setting new) p (calls-linked tells calls old new h).0 in
+    let k = (calls-linked tells calls old new h).1 in
     record { cntlid = ap (λ (s : Setting). s.controller.cntlid) e ∙ calls-id calls (linked_controller old); world = ap (λ (s : Setting). s.world) e; device = ap (λ (s : Setting). s.device) e; others = k.others; place = k.place; name = same-name new.name old.name n }
 
 pub controller-is : (tells : Bool) (calls : List Call) (old new : Linked) → IsPlain calls → Calls (step_of tells) old calls new → after_calls calls (linked_controller old) ≡ (linked_controller new)
-controller-is tells calls old new p h = sym (ap (λ (s : Setting). s.controller) (calls-are tells calls (linked_setting old) (linked_setting new) p (settings tells calls old new h)))
+controller-is tells calls old new p h = sym (ap (λ (s : Setting). s.controller) (calls-are tells calls (linked_setting old) (linked_setting new) p (calls-linked tells calls old new h).0))
 
 -- Resetting.
 pub reset-step : (tells : Bool) (d d' : Driver) (old new : Linked) → Sound d (linked_controller old) → d' ≡ after_reset d → Calls (step_of tells) old reset_calls new
@@ -109,13 +91,13 @@ comes-up : (tells : Bool) (d d' : Driver) (old new : Linked) (result : Result (U
 comes-up tells d d' old new result s u at over =
     let fresh = fresh-down d old s u at in
     let h = rises-there tells old.place d d' old new result fresh over in
-    let r = bring_up_is_a_step tells d d' (linked_setting old) (linked_setting new) result s u (rises-in tells d d' old new result h) in
+    let r = bring_up_is_a_step tells d d' (linked_setting old) (linked_setting new) result s u (rises-linked tells d d' old new result h).0 in
     record {
       step = record { sound = r.sound; mail = r.mail; gives = reply-up (mailbox d (linked_controller old)) (ap is_up u) ∙ ap (λ x. plain (seen.Up x)) (sym r.answered) };
       cntlid = r.cntlid;
       world = r.world;
       device = r.device;
-      stays = rises-stay tells d d' old new result h;
+      stays = (rises-linked tells d d' old new result h).1;
       below = comes-up-below tells d d' old new result fresh r.answered over;
     }
 

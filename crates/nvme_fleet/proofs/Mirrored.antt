@@ -1,50 +1,21 @@
 -- What calls of a driver make of a subsystem, they make of it over another medium: events that execute nothing do not
 -- look at it, and a driver that comes up has admin commands alone executed.
-use Rattle.std.proofs.Common.{◌≡◌, ◌⊎◌, inl, inr, ℕ, ◌+◌, ◌==◌, length, Bool, true, false, List, [], ◌∷◌, Option, None, Some, Result, refl, sym, ap, subst, ◌∙◌}
-use Rattle.std.specs.Prelude.{slice_get, if◌then◌else◌, nat_le}
-use Rattle.std.proofs.lemmas.Option.{none-some, same_Some}
-use Rattle.nvme_spec.specs.declared.registers.RegEffect.{RegEffect}
-use Rattle.nvme_spec.specs.declared.registers.RegEffect.TheVariants.{Nothing, Enable, Disable, Shutdown, SqTail, CqHead}
-use Rattle.nvme_spec.specs.declared.registers.ControllerState.TheVariants.{Failed, Off}
-use Rattle.nvme_spec.specs.declared.registers.AdminQueues.{AdminQueues}
-use Rattle.nvme_spec.specs.declared.queues.Queues.{Queues}
-use Rattle.nvme_spec.specs.Execution.{Scene}
-use Rattle.nvme_spec.specs.Registers.{Registers, Written}
-use Rattle.nvme_spec.specs.Blocks.{Device}
-use Rattle.nvme_spec.specs.Bytes.{with_bytes}
-use Rattle.nvme_spec.specs.Execution.{no_marks}
-use Rattle.nvme_spec.specs.Memory.{window_size}
+use Rattle.nvme_fleet.proofs.Words.{◌≡◌, ◌⊎◌, inl, inr, ℕ, ◌+◌, ◌==◌, length, Bool, true, false, List, [], ◌∷◌, Option, None, Some, Result, refl, sym, ap, subst, ◌∙◌, slice_get, if◌then◌else◌, nat_le, none-some, same_Some, RegEffect, Nothing, Enable, Disable, Off, AdminQueues, Queues, Scene, Registers, Written, Device, with_bytes, no_marks, window_size, UpFault, Call, Stores, Writes, Reads, Turns, Calls, Driver, CreatesBoth, Rises, acq_high, acq_low, admin_sizes, aqa, asq_high, asq_low, csts, enabling, is_ready, start_calls, started, IsMapped, both-mapped, Event, FetchedCommand, Seen, CommandComesTo, CommandComesToAs, CommandExecution, Controller, QueuePair, Reaction, after_posting, after_store, after_write32, has_read, open_pair, queues_of, reaction, taking_effect, with_admin_queues, over, ExecutesOne, ExecutesOver, ReactsAs, Subsystem, after_completion, after_power_cycle, controller_at, scene_of, unmarked, command_execution_over, scene_over, CallStep, events_of, window_at}
+use Rattle.nvme_fleet.proofs.Lists.{all-get, all-removed}
+use Rattle.nvme_spec.specs.declared.registers.ControllerState.TheVariants.{Failed}
 use Rattle.nvme_spec.specs.Registers as register
 use Rattle.nvme_spec.proofs.RegisterLaws.{prepared-keeps}
-use Rattle.nvme_driver.specs.declared.faults.UpFault.{UpFault}
-use Rattle.nvme_driver.specs.Calls.{Call, Stores, Writes, Reads, Turns, Calls}
-use Rattle.nvme_driver.specs.Drivers.{Driver}
-use Rattle.nvme_driver.specs.Rises.{CreatesBoth, Rises, acq_high, acq_low, admin_sizes, aqa, asq_high, asq_low, csts, enabling, is_ready, start_calls, started}
-use Rattle.nvme_driver.proofs.Mapped.{IsMapped, both-mapped}
-use Rattle.nvme_machine.specs.declared.event.Event.{Event}
 use Rattle.nvme_machine.specs.declared.event.Event.TheVariants as event
-use Rattle.nvme_machine.specs.declared.fetched.FetchedCommand.{FetchedCommand}
-use Rattle.nvme_machine.specs.declared.seen.Seen.{Seen}
 use Rattle.nvme_machine.specs.declared.seen.Seen.TheVariants as given
-use Rattle.nvme_machine.specs.CommandExecutions.{CommandComesTo, CommandComesToAs, CommandExecution}
-use Rattle.nvme_machine.specs.Controllers.{Controller, QueuePair, Reaction, after_posting, after_store, after_write32, has_read, open_pair, queues_of, reaction, taking_effect, with_admin_queues}
-use Rattle.nvme_machine.specs.Secrecy.{over}
-use Rattle.nvme_machine.specs.Subsystems.{Completes, ExecutesAt, ExecutesOne, ExecutesOver, ReactsAs, Run, Step, Subsystem, after_completion, after_execution, after_power_cycle, controller_at, marked_from, numbered, replaced, scene_of, with_controller}
-use Rattle.nvme_machine.proofs.Denials.{unmarked}
-use Rattle.nvme_machine.proofs.SecretCommands.{command_execution_over, scene_over}
+use Rattle.nvme_machine.specs.Subsystems.{Completes, ExecutesAt, Run, Step, after_execution, marked_from, numbered, replaced, with_controller}
 use Rattle.nvme_machine.proofs.Staying.{replaced-same}
-use Rattle.nvme_fleet.specs.Deeds.{CallStep, events_of, window_at}
-use Rattle.nvme_fleet.proofs.AdminTurns.{AreAdmin, IsAdmin, all-but-first, change-admin, enabled-admin, fetch-admin, first-of, store-admin, write-admin}
+use Rattle.nvme_fleet.proofs.AdminTurns.{AreAdmin, IsAdmin, change-admin, enabled-admin, fetch-admin, store-admin, write-admin}
 
 -- Events that execute nothing.
 
 abbrev pub IsQuiet : Event → Type 0
-IsQuiet (event.Store k address bytes) = Unit {0}
-IsQuiet (event.Write32 k offset v) = Unit {0}
-IsQuiet (event.Read32 k offset) = Unit {0}
-IsQuiet (event.Fetch k q) = Unit {0}
 IsQuiet (event.Execute k i) = ⊥
-IsQuiet event.PowerCycle = Unit {0}
+IsQuiet e = Unit {0}
 
 abbrev pub AreQuiet : List Event → Type 0
 AreQuiet [] = Unit {0}
@@ -120,12 +91,8 @@ enabled-registers (Some q) c = refl
 
 effect-registers : (effect : RegEffect) (c : Controller) → (taking_effect effect c).registers ≡ c.registers
 unfolding taking_effect
-effect-registers Nothing c = refl
 effect-registers Enable c = enabled-registers (register.admin_queues c.registers) c
-effect-registers Disable c = refl
-effect-registers Shutdown c = refl
-effect-registers (SqTail q v) c = refl
-effect-registers (CqHead q v) c = refl
+effect-registers effect c = refl
 
 written-cc : (r : Registers) (offset v : ℕ) → (offset == 0x14) ≡ false → (register.after_write r offset v).registers.cc ≡ r.cc
 unfolding register.after_write
@@ -230,7 +197,7 @@ answer-quiet queues k t s a is h =
 
 answer-admin : (t : FetchedCommand) (p : QueuePair) (a : CommandExecution) (c : Controller) → AreAdmin c → AreAdmin (after_completion 0 t p a c)
 unfolding after_completion after_posting
-answer-admin t p a c h = change-admin a.change (after_posting 0 t p a.outcome.status a.outcome.dw0 (record c { window = a.left.window })) (all-but-first c.fetched h)
+answer-admin t p a c h = change-admin a.change (after_posting 0 t p a.outcome.status a.outcome.dw0 (record c { window = a.left.window })) (all-removed IsAdmin c.fetched 0 h)
 
 -- an execution of an admin command over another medium, and what it leaves
 record IsExecutedOver (o : Option Controller) (p q : Subsystem) (k : ℕ) (x : Seen) (m : Device) : Type 0 where
@@ -270,7 +237,7 @@ pair-over (Some pair) p q k c t x m is at all h = (completes-over p q k c t pair
 one-over : (o : Option FetchedCommand) (p q : Subsystem) (k : ℕ) (c : Controller) (x : Seen) (m : Device) → slice_get c.fetched 0 ≡ o → controller_at p k ≡ Some c → At AreAdmin k p → ExecutesOne o true p k c 0 x q
     → ExecutesOne o true (over m p) k c 0 x (over m q) × At AreAdmin k q
 one-over None p q k c x m found at all h = ((h.0, ap (over m) h.1), stays-at p q k h.1 all)
-one-over (Some t) p q k c x m found at all h = pair-over (open_pair c t) p q k c t x m (first-of c.fetched t (all c at) found) at all h
+one-over (Some t) p q k c x m found at all h = pair-over (open_pair c t) p q k c t x m (all-get IsAdmin c.fetched 0 t found (all c at)) at all h
 
 executes-over : (o : Option Controller) (p q : Subsystem) (k : ℕ) (x : Seen) (m : Device) → controller_at p k ≡ o → At AreAdmin k p → ExecutesAt o true p k 0 x q
     → ExecutesAt o true (over m p) k 0 x (over m q) × At AreAdmin k q
@@ -312,20 +279,16 @@ call-over k m Turns p q all h =
     record { step = record { given = h.given; run = r.0; answers = h.answers }; admin = r.1 }
 
 abbrev pub IsPlain : Call → Type 0
-IsPlain (Stores address bytes) = Unit {0}
-IsPlain (Writes offset v) = Unit {0}
-IsPlain (Reads offset v) = Unit {0}
 IsPlain Turns = ⊥
+IsPlain one = Unit {0}
 
 abbrev pub ArePlain : List Call → Type 0
 ArePlain [] = Unit {0}
 ArePlain (call ∷ calls) = IsPlain call × ArePlain calls
 
 plain-over : (k : ℕ) (m : Device) (call : Call) (p q : Subsystem) → IsPlain call → CallStep true k p call q → CallStep true k (over m p) call (over m q)
-plain-over k m (Stores address bytes) p q plain h = record { given = h.given; run = quiet-run true (events_of k (Stores address bytes)) h.given p q m (tt, tt) h.run; answers = h.answers }
-plain-over k m (Writes offset v) p q plain h = record { given = h.given; run = quiet-run true (events_of k (Writes offset v)) h.given p q m (tt, tt) h.run; answers = h.answers }
-plain-over k m (Reads offset v) p q plain h = record { given = h.given; run = quiet-run true (events_of k (Reads offset v)) h.given p q m (tt, tt) h.run; answers = h.answers }
 plain-over k m Turns p q plain h = absurd plain
+plain-over k m one p q plain h = record { given = h.given; run = quiet-run true (events_of k one) h.given p q m (tt, tt) h.run; answers = h.answers }
 
 plain-calls : (k : ℕ) (m : Device) (calls : List Call) (p q : Subsystem) → ArePlain calls → Calls (CallStep true k) p calls q → Calls (CallStep true k) (over m p) calls (over m q)
 plain-calls k m [] p q plain h = ap (over m) h

@@ -1,30 +1,9 @@
 -- What is fenced is fenced at each single event of a run of a fleet.
-use Rattle.std.proofs.Common.{◌≡◌, ◌<◌, ◌-◌, ◌^◌, ℕ, Bool, IsTrue, true, false, List, [], ◌∷◌, ◌++◌, append_assoc, Some, refl, sym, ap, subst, ◌∙◌}
-use Rattle.std.specs.Prelude.{slice_get}
-use Rattle.std.specs.List.{AllByRecursion}
-use Rattle.nvme_spec.specs.Blocks.{Device}
-use Rattle.nvme_spec.specs.Layout.{Extent, extent_of, may_read, may_write}
-use Rattle.nvme_spec.specs.MediumCalls.{MediumCall}
-use Rattle.nvme_machine.specs.AllowedCalls.{HaveTheirOwn, IsReading, KeepsOff}
-use Rattle.nvme_machine.specs.Secrecy.{DifferIn}
-use Rattle.nvme_machine.proofs.AdminWorlds.{HasSameExtents, same-extents}
-use Rattle.nvme_machine.proofs.AllowedCalls.{all-mapped}
-use Rattle.nvme_machine.proofs.Secrecy.{differ-still}
-use Rattle.nvme_event.specs.declared.event.FleetEvent.{FleetEvent}
-use Rattle.nvme_event.specs.declared.event.FleetEvent.TheVariants.{Execute}
-use Rattle.nvme_event.specs.Events.{OfItsHost}
-use Rattle.nvme_event.specs.Replies.{Reply}
-use Rattle.nvme_fleet.specs.AllowedCalls.{MayCall}
-use Rattle.nvme_fleet.specs.Bytes.{is_laid_out, namespace_bytes}
-use Rattle.nvme_fleet.specs.FleetStates.{Layers, fleet_in}
-use Rattle.nvme_fleet.specs.Fleets as mailboxes
-use Rattle.nvme_fleet.specs.Fleets.{Fleet}
-use Rattle.nvme_fleet.specs.LayerCalls.{AreCallsOfRun, AreCallsOfStep}
+use Rattle.nvme_fleet.proofs.Words.{◌≡◌, ◌<◌, ◌-◌, ◌^◌, ℕ, Bool, IsTrue, true, false, List, [], ◌∷◌, ◌++◌, Some, refl, sym, ap, subst, ◌∙◌, AllByRecursion, Device, Extent, extent_of, may_read, may_write, MediumCall, HaveTheirOwn, IsReading, KeepsOff, DifferIn, HasSameExtents, same-extents, all-mapped, differ-still, FleetEvent, Execute, OfItsHost, Reply, MayCall, is_laid_out, namespace_bytes, Layers, fleet_in, Fleet, AreCallsOfRun, AreCallsOfStep, IsRegular, layers_over, HaveTicketsOnce}
+use Rattle.std.proofs.Common.{append_assoc}
 use Rattle.nvme_fleet.specs.Layers.{Step}
-use Rattle.nvme_fleet.specs.MixedRuns.{CanBeSame, EachEventIsReached, ExecutesOn, FencingHoldsOfEachEvent, IsSame, SecrecyHoldsOfEachEvent, WritesNothing}
-use Rattle.nvme_fleet.specs.Regular.{IsRegular}
-use Rattle.nvme_fleet.specs.Secrecy.{layers_over, over}
-use Rattle.nvme_fleet.specs.Unique.{HaveTicketsOnce}
+use Rattle.nvme_fleet.specs.MixedRuns.{CanBeSame, EachEventIsReached, ExecutesOn, FencingHoldsOfEachEvent, IsSame, SecrecyHoldsOfEachEvent}
+use Rattle.nvme_fleet.specs.Secrecy.{over}
 use Rattle.nvme_fleet.proofs.AllowedCalls.{calls_are_allowed, extents-stay, fenced_commands_call_nothing, keeps-off}
 use Rattle.nvme_fleet.proofs.Bytes.{fenced_events_write_nothing, layout_stays, runs_of_mailboxes}
 use Rattle.nvme_fleet.proofs.Determined.{run_is_unique}

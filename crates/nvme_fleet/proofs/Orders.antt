@@ -1,14 +1,8 @@
 -- The order of slots by their numbers: the oldest aborted request, slots that are freed, and tickets that rise.
-use Rattle.std.proofs.Common.{◌≡◌, ℕ, ◌+◌, ◌<◌, ◌≤◌, List, [], ◌∷◌, ◌++◌, map, refl, ap, sym, ◌∙◌, arith, zero, suc, true, false, cond, eqb, Bool, Option, Some, None, inl, inr, slice_set}
-use Rattle.std.proofs.lemmas.Bool.{cases_Bool, eqb-true}
-use Rattle.std.proofs.lemmas.Grind.{common_steps}
-use Rattle.std.specs.Prelude.{nat_le}
-use Rattle.nvme_fleet.specs.Views.{ticket_in, live_waiting, AgeIn}
-use Rattle.nvme_fleet.specs.Lanes.{aborted_number, ranked_too, in_order}
-use Rattle.nvme_fleet.specs.Mailboxes.{ranked, rising}
-use Rattle.nvme_driver.specs.declared.slots.Waiting.{Waiting}
-use Rattle.nvme_driver.specs.Polls.{waiting_at}
-use Rattle.nvme_driver.specs.Drivers.{abort}
+use Rattle.nvme_fleet.proofs.Words.{◌≡◌, ℕ, ◌+◌, ◌<◌, ◌≤◌, List, [], ◌∷◌, ◌++◌, map, refl, ap, sym, ◌∙◌, arith, zero, suc, true, false, cond, eqb, Bool, Option, Some, None, inl, inr, slice_set, cases_Bool, eqb-true, common_steps, nat_le, ticket_in, live_waiting, AgeIn, aborted_number, ranked_too, in_order, ranked, rising, Waiting, waiting_at, abort}
+use Rattle.nvme_fleet.proofs.Queues.{eqb-sym}
+use Rattle.nvme_fleet.proofs.Totals.{waiting-small}
+use Rattle.nvme_fleet.proofs.Slots.{cond-zero}
 
 -- a number that is not below this one
 abbrev pub NotBelow : ℕ → Option ℕ → Type 0
@@ -39,23 +33,9 @@ pending-other (x ∷ xs) zero (suc j) h = refl
 pending-other (x ∷ xs) (suc i) zero h = refl
 pending-other (x ∷ xs) (suc i) (suc j) h = let k : eqb j i ≡ false = grind (arith, common_steps, h) in pending-other xs i j k
 
-pub cond-zero : (b : Bool) (n : ℕ) → cond b 1 0 + n ≡ 0 → b ≡ false
-cond-zero true n h = let b : ⊥ = omega (arith, h) in absurd b
-cond-zero false n h = refl
-
-pub live-small : (o : Option Waiting) → live_waiting o ≤ 1
-live-small None = omega arith
-live-small (Some p) = elim (cases_Bool p.live) [
-  | inl t ↦ rw t (omega arith)
-  | inr t ↦ rw t (omega arith)
-]
-
 pub cond-one : (b : Bool) → cond {A = ℕ} b 1 0 ≡ 1 → b ≡ true
 cond-one true h = refl
 cond-one false h = let b : ⊥ = omega (arith, h) in absurd b
-
-pub eqb-sym : (a b : ℕ) → eqb a b ≡ false → eqb b a ≡ false
-eqb-sym a b h = grind (arith, common_steps, h)
 
 pub self-eqb : (n : ℕ) → eqb n n ≡ true
 self-eqb n = grind (arith, common_steps)
@@ -91,15 +71,6 @@ live-not (Some p) h = rw (cond-one p.live h) refl
 pub live-freed : (slots : List (Option Waiting)) (i : ℕ) → live_at slots i ≡ 1 → in_order aborted_number (slice_set slots i None) ≡ in_order aborted_number slots
 live-freed slots i h =
     sym (slot-last aborted_number refl slots i ∙ ap (λ o. ranked_too o (in_order aborted_number (slice_set slots i None))) (live-not (waiting_at slots i) h))
-
-pub ages-freed : (first next : ℕ) (slots : List (Option Waiting)) (i : ℕ) → Ages first next slots → Ages first next (slice_set slots i None)
-ages-freed first next slots i a slot =
-    elim (cases_Bool (eqb slot i)) [
-      | inl t ↦
-          let z : waiting_at (slice_set slots i None) slot ≡ None = ap (waiting_at (slice_set slots i None)) (eqb-true slot i t) ∙ pending-same slots i in
-          rw z tt
-      | inr t ↦ rw (pending-other slots i slot t) (a slot)
-    ]
 
 -- a fact of each of some numbers
 abbrev pub Each : (ℕ → Type 0) → List ℕ → Type 0
@@ -186,7 +157,7 @@ times-freed slots n ns h i =
           let e : n ≡ i = eqb-true n i t in
           let v : times i (n ∷ ns) ≡ 1 + times i ns = ap (λ b. cond b 1 0 + times i ns) t in
           let z : waiting_at (slice_set slots n None) i ≡ None = ap (waiting_at (slice_set slots n None)) (sym e) ∙ pending-same slots n in
-          rw z (omega (arith, h i, v, live-small (waiting_at slots i)))
+          rw z (omega (arith, h i, v, waiting-small (waiting_at slots i)))
       | inr t ↦
           let v : times i (n ∷ ns) ≡ 0 + times i ns = ap (λ b. cond b 1 0 + times i ns) t in
           let q : eqb i n ≡ false = eqb-sym n i t in
@@ -199,7 +170,7 @@ pub rising-slots : (ns : List ℕ) (slots : List (Option Waiting)) → ((i : ℕ
 rising-slots [] slots h = sym (empty-order waiting_ticket slots (λ k. waiting-none (waiting_at slots k) (sym (h k))))
 rising-slots (n ∷ ns) slots h =
     let v : times n (n ∷ ns) ≡ 1 + times n ns = ap (λ b. cond b 1 0 + times n ns) (self-eqb n) in
-    let l : live_at slots n ≡ 1 = omega (arith, h n, v, live-small (waiting_at slots n)) in
+    let l : live_at slots n ≡ 1 = omega (arith, h n, v, waiting-small (waiting_at slots n)) in
     let z : times n ns ≡ 0 = omega (arith, h n, v, l) in
     ap (λ ts. ranked (ticket_at slots n) (rising ts)) (sym (tickets-freed slots n ns z)) ∙
     ap (ranked (ticket_at slots n)) (rising-slots ns (slice_set slots n None) (times-freed slots n ns h)) ∙
@@ -270,12 +241,6 @@ pub abort-age : (first next : ℕ) (o : Option Waiting) → AgeIn first next o �
 abort-age first next None h = tt
 abort-age first next (Some p) h = (h.1, h.1)
 
-pub idle-aborted : (slots : List (Option Waiting)) (k : ℕ) → live_at (map abort slots) k ≡ 0
-idle-aborted slots k = rw (pending-abort slots k) (abort-idle (waiting_at slots k))
-
-pub ages-aborted : (first next : ℕ) (slots : List (Option Waiting)) → Ages first next slots → Ages next next (map abort slots)
-ages-aborted first next slots a k = rw (pending-abort slots k) (abort-age first next _ (a k))
-
 pub idle-age : (first next : ℕ) (o : Option Waiting) → live_waiting o ≡ 0 → AgeIn first next o → AgeIn next next o
 idle-age first next None l h = tt
 idle-age first next (Some p) l h =
@@ -283,6 +248,3 @@ idle-age first next (Some p) l h =
       | inl t ↦ let b : live_waiting (Some p) ≡ 1 = ap (λ b. cond {A = ℕ} b 1 0) t in let z : ⊥ = omega (arith, b, l) in absurd z
       | inr t ↦ rw t (h.1, h.1)
     ]
-
-pub ages-idle : (first next : ℕ) (slots : List (Option Waiting)) → ((k : ℕ) → live_at slots k ≡ 0) → Ages first next slots → Ages next next slots
-ages-idle first next slots l a k = idle-age first next _ (l k) (a k)

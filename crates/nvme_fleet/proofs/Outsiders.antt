@@ -1,29 +1,13 @@
 -- Hosts that have no key for a namespace: what any reservation command makes of them.
-use Rattle.std.proofs.Common.{◌≡◌, ◌≢◌, inl, inr, ℕ, ◌==◌, ◌||◌, ◌&&◌, ◌++◌, Bool, true, false, cond, not, nat_lt, List, [], ◌∷◌, filter, Option, None, Some, Ok, Err, refl, sym, ap, subst, ◌∙◌}
-use Rattle.std.specs.Prelude.{map, find, option_map, if◌then◌else◌}
-use Rattle.std.specs.List.{list_any}
-use Rattle.std.proofs.lemmas.Bool.{or_parts, eqb-true, eqb-false, ne_eqb, cases_Bool}
-use Rattle.std.proofs.lemmas.Option.{none-some, same_Some}
+use Rattle.nvme_fleet.proofs.Words.{◌≡◌, ◌≢◌, inl, inr, ℕ, ◌==◌, ◌||◌, ◌&&◌, ◌++◌, Bool, true, false, cond, not, nat_lt, List, [], ◌∷◌, filter, Option, None, Some, Ok, Err, refl, sym, ap, subst, ◌∙◌, map, find, option_map, if◌then◌else◌, list_any, or_parts, eqb-true, eqb-false, ne_eqb, cases_Bool, none-some, same_Some, Write as Writing, Command, ReservationRegister, ReservationAcquire, ReservationRelease, action, cptpl, iekey, rtype, world_after, removed_by, current_key, other_key, key_outcome, action_outcome, outcome_in, permits_group, reservation_of, Reservation, ActionOutcome, is_registered, is_registered_with, is_key_in_use, is_holders_key, is_holder, is_of_type, is_of_all, is_free, with_key, removed_hosts, World, Namespace, namespace_of, with_namespace, with_reservation, others-reserved, IsOutside}
 use Rattle.nvme_spec.specs.declared.access.Registrant.{Registrant}
 use Rattle.nvme_spec.specs.declared.access.Hold.{Hold}
 use Rattle.nvme_spec.specs.declared.access.Hold.TheVariants.{Free, One, All}
 use Rattle.nvme_spec.specs.declared.access.Role.TheVariants.{Outsider}
-use Rattle.nvme_spec.specs.declared.access.Group.TheVariants.{Write as Writing}
-use Rattle.nvme_spec.specs.declared.command.Command.{Command}
-use Rattle.nvme_spec.specs.declared.command.Command.TheVariants.{ReservationRegister, ReservationAcquire, ReservationRelease}
 use Rattle.nvme_spec.specs.Access.{Row, rights_table, is_permitted}
-use Rattle.nvme_spec.specs.Commands.{action, cptpl, iekey, rtype}
-use Rattle.nvme_spec.specs.Execution.{world_after, removed_by}
-use Rattle.nvme_spec.specs.IoData.{current_key, other_key, key_outcome, action_outcome, outcome_in}
-use Rattle.nvme_spec.specs.IoRules.{permits_group}
-use Rattle.nvme_spec.specs.Layout.{reservation_of}
 use Rattle.nvme_spec.specs.Reservation as resv
-use Rattle.nvme_spec.specs.Reservation.{Reservation, ActionOutcome, is_registered, is_registered_with, is_key_in_use, is_holders_key, is_holder, is_of_type, is_of_all, is_free, with_key, removed_hosts}
 use Rattle.nvme_spec.specs.ReservationLaws.{Keeps}
-use Rattle.nvme_spec.specs.World.{World, Namespace, namespace_of, with_namespace, with_reservation}
 use Rattle.nvme_spec.proofs.Hosts.{persisting-keeps}
-use Rattle.nvme_spec.proofs.Namespaces.{others-reserved}
-use Rattle.nvme_fleet.specs.Preempting.{IsOutside}
 
 -- Registrants.
 

@@ -1,11 +1,7 @@
 -- What the two commands that create a driver's queues come to: they succeed, and change nothing but the queues.
-use Rattle.std.proofs.Common.{◌≡◌, ℕ, true, false, List, [], ◌∷◌, length, None, Some, refl}
+use Rattle.nvme_fleet.proofs.Words.{◌≡◌, ℕ, true, false, List, [], ◌∷◌, length, None, Some, refl, Queues, QueueChange, MakeCq, MakeSq, World, AdminExecution, admin_execution, create_completion_queue, create_submission_queue}
 use Rattle.nvme_wire.specs.Submission as entry
-use Rattle.nvme_spec.specs.declared.queues.Queues.{Queues}
-use Rattle.nvme_spec.specs.declared.queues.QueueChange.{QueueChange}
-use Rattle.nvme_spec.specs.declared.queues.QueueChange.TheVariants.{MakeCq, MakeSq}
 use Rattle.nvme_spec.specs.Statuses as status
-use Rattle.nvme_spec.specs.World.{World}
 use Rattle.nvme_spec.specs.Rules as rules
 use Rattle.nvme_spec.specs.IoRules as io
 use Rattle.nvme_spec.specs.Pointer as pointer
@@ -14,8 +10,6 @@ use Rattle.nvme_spec.specs.DataRules as datarule
 use Rattle.nvme_spec.specs.AdminCommands as admin
 use Rattle.nvme_spec.specs.AdminRules as adminrule
 use Rattle.nvme_spec.specs.AdminEffects as adminwork
-use Rattle.nvme_spec.specs.AdminEffects.{AdminExecution, admin_execution}
-use Rattle.nvme_driver.specs.Rises.{create_completion_queue, create_submission_queue}
 
 -- an admin command that succeeds with this change of the queues, and leaves world and memory
 abbrev pub only_change : QueueChange → World → List ℕ → AdminExecution

@@ -1,37 +1,10 @@
 -- A placing is a step of the mailbox.
-use Rattle.std.proofs.Common.{◌≡◌, ℕ, zero, suc, ◌+◌, ◌-◌, ◌*◌, ◌%◌, ◌<◌, ◌≤◌, ◌==◌, nat_lt, Bool, true, false, not, ◌&&◌, List, [], ◌∷◌, length, take, Option, None, Some, refl, sym, ap, subst, ◌∙◌, arith, inl, inr}
-use Rattle.std.proofs.lemmas.Bool.{cases_lt, ne_eqb, le-leb}
-use Rattle.std.proofs.lemmas.Slice.Eq.{bytes_eq-Decides}
-use Rattle.std.specs.Str.{bytes_eq}
-use Rattle.std.specs.Prelude.{slice_set, if◌then◌else◌, nat_le}
-use Rattle.nvme_wire.specs.declared.sqe.fields.SqeFields.{SqeFields}
-use Rattle.nvme_wire.specs.Submission.{submission_entry, submission_of, cid}
-use Rattle.nvme_spec.specs.Bytes.{with_bytes}
-use Rattle.nvme_spec.specs.Limits.{most_bytes}
-use Rattle.nvme_spec.specs.Memory.{window_size}
-use Rattle.nvme_driver.specs.declared.lane.Lane.{Lane}
-use Rattle.nvme_driver.specs.declared.lane.Lane.TheVariants.{Admin, Io}
-use Rattle.nvme_driver.specs.declared.slots.Waiting.{Waiting}
-use Rattle.nvme_driver.specs.declared.request.Request.{Request}
-use Rattle.nvme_driver.specs.declared.faults.PlaceRefusal.{PlaceRefusal}
-use Rattle.nvme_driver.specs.declared.faults.PlaceRefusal.TheVariants.{NotReady, BadRequest, NoSlot, RingFull, TicketsExhausted}
-use Rattle.nvme_driver.specs.Layout.{list_page, data_area, submission_queue}
-use Rattle.nvme_driver.specs.Pointers.{stored_list}
-use Rattle.nvme_driver.specs.Requests.{Asked, asked_of, is_bad}
+use Rattle.nvme_fleet.proofs.Words.{◌≡◌, ℕ, zero, suc, ◌+◌, ◌-◌, ◌*◌, ◌%◌, ◌<◌, ◌≤◌, ◌==◌, nat_lt, Bool, true, false, not, ◌&&◌, List, [], ◌∷◌, length, take, Option, None, Some, refl, sym, ap, subst, ◌∙◌, arith, inl, inr, cases_lt, ne_eqb, le-leb, bytes_eq-Decides, bytes_eq, slice_set, if◌then◌else◌, nat_le, SqeFields, submission_entry, submission_of, cid, with_bytes, most_bytes, window_size, Lane, Admin, Io, Waiting, Request, PlaceRefusal, NotReady, BadRequest, NoSlot, RingFull, TicketsExhausted, list_page, data_area, submission_queue, stored_list, Asked, asked_of, is_bad, Driver, is_up, ends, entry_of, entry_fields, entry_length, free_slot, place_refusal, ticket_count, stores_of, waiting_of, waiting_at, length-stored_list, entries_move_their_data, Controller, after_store, Item, Mailbox, box_at, with_box, MailboxReaction, refusal, placed_by, new_item, with_placed, Slot, asked_in, is_plain, suits, item_in, received_in, Both, Placement, whole, area, mail, placed_window, base, Sound, EndsFit, IsPaired, host_side, device_side, mailbox, PlaceIsAStep, RefusalIsAStep, after_calls}
 use Rattle.nvme_driver.specs.Drivers as driver
-use Rattle.nvme_driver.specs.Drivers.{Driver, is_up, ends, lane_of, entry_of, entry_fields, entry_length, free_slot, place_refusal, ticket_count, stores_of, waiting_of}
-use Rattle.nvme_driver.specs.Polls.{waiting_at}
+use Rattle.nvme_driver.specs.Drivers.{lane_of}
 use Rattle.nvme_driver.proofs.Placing.{length-entry}
-use Rattle.nvme_driver.proofs.PageLists.{length-stored_list}
-use Rattle.nvme_driver.proofs.Moving.{entries_move_their_data}
-use Rattle.nvme_machine.specs.Controllers.{Controller, after_store}
-use Rattle.nvme_fleet.specs.Mailboxes.{Item, Mailbox, box_at, with_box}
-use Rattle.nvme_fleet.specs.Deliveries.{MailboxReaction, refusal, placed_by, new_item, with_placed}
-use Rattle.nvme_fleet.specs.Views.{Slot, asked_in, is_plain, suits, item_in, received_in}
 use Rattle.nvme_fleet.specs.Lanes as lanes
-use Rattle.nvme_fleet.specs.Lanes.{HostSide, DeviceSide, Both, Placement, whole, area, listed, mail, placed, placed_device, placed_window, base}
-use Rattle.nvme_fleet.specs.Sound.{Sound, EndsFit, IsPaired, host_side, device_side, mailbox}
-use Rattle.nvme_fleet.specs.Steps.{PlaceIsAStep, RefusalIsAStep, after_calls}
+use Rattle.nvme_fleet.specs.Lanes.{placed}
 use Rattle.nvme_fleet.proofs.Places.{no-way}
 use Rattle.nvme_fleet.proofs.Sizes.{Sizes, sizes, plain as plain_request}
 use Rattle.nvme_fleet.proofs.Placing.{Fills, fills, free-some, Goes, free-same, place-both, place-mail}

@@ -1,11 +1,6 @@
 -- Placing in one lane: a request in a slot that nobody bears joins those that were placed.
-use Rattle.std.proofs.Common.{◌≡◌, ℕ, ◌+◌, ◌-◌, ◌%◌, ◌<◌, ◌≤◌, List, [], ◌∷◌, ◌++◌, length, map, refl, ap, sym, ◌∙◌, arith, true, false, cond, eqb, Option, Some, None, inl, inr, slice_set, Bool}
-use Rattle.std.proofs.lemmas.List.{map-append, length-set}
-use Rattle.std.proofs.lemmas.Bool.{cases_Bool, eqb-true, ne_eqb}
-use Rattle.std.proofs.lemmas.Grind.{common_steps}
-use Rattle.nvme_driver.specs.declared.slots.Waiting.{Waiting}
-use Rattle.nvme_wire.specs.Submission.{cid}
-use Rattle.nvme_fleet.specs.Views.{live_in, suits, item_in, Host, State, filled, placed, placed_state, in_flight, commands, item, box, Running, Holds, Ages, AgeIn, last_head, heard, unread, since, commands_of, answers_of, live_at, slot_at, answers, holds, total, odd, bears, Carried}
+use Rattle.nvme_fleet.proofs.Words.{◌≡◌, ℕ, ◌+◌, ◌-◌, ◌%◌, ◌<◌, ◌≤◌, List, [], ◌∷◌, ◌++◌, length, map, refl, ap, sym, ◌∙◌, arith, true, false, cond, eqb, Option, Some, None, inl, inr, slice_set, Bool, map-append, length-set, cases_Bool, eqb-true, ne_eqb, common_steps, Waiting, cid, live_in, suits, item_in, State, filled, placed_state, in_flight, commands, item, box, Running, Holds, Ages, AgeIn, last_head, heard, unread, since, commands_of, answers_of, live_at, slot_at, answers, holds, total, odd, bears, Carried, Host}
+use Rattle.nvme_fleet.specs.Views.{placed}
 use Rattle.nvme_fleet.proofs.Totals.{total-append, live-set, slot-same, slot-other}
 use Rattle.nvme_fleet.proofs.Slots.{Apart, apart-set, same-items, same-odd, same-answers}
 use Rattle.nvme_fleet.proofs.Keeps.{Enters, enters, commands-kept, completions-same}
@@ -183,7 +178,7 @@ new-suits : (d : Host) (c : State) (x : List ℕ) (w : Waiting) (slot : ℕ) (by
 new-suits d c x w slot bytes list h =
     ap (λ s. cond (suits s x) 0 1) (here d c x w slot bytes list h) ∙ ap (λ b. cond b 0 1) h.suits_it
 
-never : (n : ℕ) → eqb (n % 32) 32 ≡ false
+pub never : (n : ℕ) → eqb (n % 32) 32 ≡ false
 never n = ne_eqb (n % 32) 32 (λ e. omega (arith, e))
 
 pub place-running : (d : Host) (c : State) (x : List ℕ) (w : Waiting) (slot : ℕ) (bytes list : List ℕ) → Places d c x w slot bytes list → Running (placed d w slot bytes list) (placed_state d c x)

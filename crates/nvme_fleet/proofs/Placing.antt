@@ -1,37 +1,11 @@
 -- Placing over both lanes: the lane of the request takes it, and the other lane sees the next ticket alone.
-use Rattle.nvme_fleet.specs.Views.{suits}
-use Rattle.nvme_fleet.specs.Lanes.{whole}
-use Rattle.nvme_fleet.specs.Mailboxes.{Mailbox}
-use Rattle.nvme_wire.specs.Submission.{cid}
-use Rattle.nvme_fleet.specs.Mailboxes.{with_box}
-use Rattle.nvme_fleet.specs.Views.{item_in}
-use Rattle.nvme_fleet.specs.Mailboxes.{FetchedItem}
-use Rattle.nvme_driver.specs.Polls.{waiting_at}
-use Rattle.nvme_driver.specs.Layout.{list_page}
-use Rattle.nvme_fleet.specs.Mailboxes.{LaneBox}
-use Rattle.nvme_fleet.specs.Lanes.{Placement}
-use Rattle.nvme_fleet.specs.Mailboxes.{box_at}
-use Rattle.nvme_fleet.specs.Mailboxes.{held}
-use Rattle.nvme_fleet.specs.Mailboxes.{ranked}
-use Rattle.nvme_driver.specs.declared.slots.Waiting.{Waiting}
-use Rattle.nvme_driver.specs.Layout.{data_area}
-use Rattle.nvme_fleet.specs.Deliveries.{with_placed}
-use Rattle.std.proofs.Common.{◌≡◌, ℕ, ◌+◌, ◌*◌, ◌<◌, ◌≤◌, List, [], ◌∷◌, length, map, refl, ap, sym, ◌∙◌, arith, true, false, Bool, cond, eqb, Option, Some, None, inl, inr, slice_set, zero, suc, take}
-use Rattle.std.proofs.lemmas.List.{length-set, length-map}
-use Rattle.std.proofs.lemmas.Bool.{cases_Bool, lt-ltb, le-ltb, cases_lt}
-use Rattle.std.proofs.lemmas.Grind.{common_steps}
-use Rattle.std.specs.List.{position, position_or_len}
-use Rattle.std.specs.Prelude.{is_none, nat_le}
-use Rattle.nvme_spec.specs.Limits.{most_bytes}
-use Rattle.nvme_spec.specs.Bytes.{with_bytes}
-use Rattle.nvme_fleet.specs.Views.{Host, State, empty, box, Running, Resting, Holds, live_in, slot_at, total, holds, placed as placed_one, placed_state}
+use Rattle.nvme_fleet.proofs.Words.{same_Some, suits, whole, Mailbox, cid, with_box, item_in, FetchedItem, waiting_at, list_page, LaneBox, Placement, box_at, held, ranked, Waiting, data_area, with_placed, ◌≡◌, ℕ, ◌+◌, ◌*◌, ◌<◌, ◌≤◌, List, [], ◌∷◌, length, map, refl, ap, sym, ◌∙◌, arith, true, false, Bool, cond, eqb, Option, Some, None, inl, inr, slice_set, zero, suc, take, length-set, length-map, cases_Bool, lt-ltb, le-ltb, cases_lt, common_steps, position, position_or_len, is_none, nat_le, most_bytes, with_bytes, State, empty, box, Running, Resting, Holds, live_in, slot_at, total, holds, placed_state, Lane, Admin, Io, same, other, Taken, HostSide, DeviceSide, Both, base, pages_of, area, listed, slot_in, slots_in, commands_in, host, state, fetched_by, held_by, mail, ranked_too, in_order, aborted_number, placed_window, placed_device, Host}
+use Rattle.nvme_fleet.specs.Views.{placed as placed_one}
 use Rattle.nvme_fleet.proofs.Slots.{apart-set}
 use Rattle.nvme_fleet.proofs.Queues.{box-live}
 use Rattle.nvme_fleet.proofs.Fetches.{still-running}
 use Rattle.nvme_fleet.proofs.Places.{Places, bare, place-box, place-holds, age-later}
-use Rattle.nvme_driver.specs.declared.lane.Lane.{Lane}
-use Rattle.nvme_driver.specs.declared.lane.Lane.TheVariants.{Admin, Io}
-use Rattle.nvme_fleet.specs.Lanes.{same, other, Taken, HostSide, DeviceSide, Both, ends, base, pages_of, area, listed, slot_in, slots_in, commands_in, host, state, fetched_by, held_by, mail, ranked_too, in_order, aborted_number, placed, placed_window, placed_device}
+use Rattle.nvme_fleet.specs.Lanes.{ends, placed}
 use Rattle.nvme_fleet.proofs.LaneWindows.{Same, same-both, Leaves, leaves-both, leaves-data, leaves-list, areas-list, Pages, pages, area-front, list-front}
 use Rattle.nvme_fleet.proofs.LaneSlots.{slots-set, slot-in, set-slot, same-fetched}
 
@@ -91,15 +65,12 @@ first-none [] h = refl
 first-none (None ∷ xs) h = let b : ⊥ = omega (arith, h) in absurd b
 first-none (Some p ∷ xs) h = omega (arith, first-none xs (omega (arith, h)))
 
-some-is : {A : Type 0} (x y : A) → Some x ≡ Some y → x ≡ y
-some-is x y h = cc
-
 pub free-some : (slots : List (Option Waiting)) (i : ℕ) → position is_none slots ≡ Some i → (i < length slots) × (waiting_at slots i ≡ None)
 free-some slots i h =
     elim (cases_lt (position_or_len is_none slots) (length slots)) [
       | inl l ↦
           let t = lt-ltb (position_or_len is_none slots) (length slots) l in
-          let e : position_or_len is_none slots ≡ i = some-is _ _ (sym (ap (λ b. cond b (Some (position_or_len is_none slots)) None) t) ∙ h) in
+          let e : position_or_len is_none slots ≡ i = same_Some _ _ (sym (ap (λ b. cond b (Some (position_or_len is_none slots)) None) t) ∙ h) in
           let k = first-some slots l in
           (omega (arith, l, e), rw (← e) k.0)
       | inr g ↦
@@ -173,11 +144,6 @@ held-filled d c a b =
       length-taken c.taken,
       split c.window 0 d.slots,
     )
-
-unheard-at : (lane : Lane) (d : HostSide) (c : DeviceSide) → (box_at lane (mail d c)).unheard ≡ (ends lane d).unheard
-unfolding box
-unheard-at Admin d c = refl
-unheard-at Io d c = refl
 
 -- a slot is free just where a mailbox holds fewer than 24 requests
 pub free-same : (d : HostSide) (c : DeviceSide) → Both d c → d.up ≡ true → eqb (held (mail d c)) 24 ≡ is_none (position is_none d.slots)

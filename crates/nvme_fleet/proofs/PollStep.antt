@@ -1,45 +1,19 @@
 -- That a poll of a driver is a step of its mailbox.
-use Rattle.nvme_driver.specs.declared.found.Found.{Found}
-use Rattle.nvme_driver.specs.declared.answer.Answer.TheVariants.{Done, Aborted}
+use Rattle.nvme_fleet.proofs.Words.{none-some, Found, Done, Aborted, Polled, Reply, Slot, ticket_in, can_hear, area, MailboxReaction, mailbox_reaction, plain, answer_reply, handed_up, polled_aborted, polled_admin, polled_io, IsStep, PollIsAStep, after_calls, most_bytes, can_be_heard, waiting_at, ◌≡◌, ℕ, ◌+◌, ◌-◌, ◌*◌, ◌/◌, ◌%◌, ◌<◌, ◌≤◌, ◌==◌, Bool, true, not, ◌&&◌, cond, List, [], length, take, drop, Option, None, Some, refl, sym, ap, subst, ◌∙◌, arith, inl, inr, eqb, length-drop, cases_Bool, cases_lt, lt-ltb, le-ltb, eqb-true, length-take-le, slice_set, slice_range, option_map, if◌then◌else◌, Ok, Err, Completion, completion_of, sq_id, sq_head, status, dw0, Status, phase_tag, Lane, Admin, Io, Waiting, Ticket, queue_id, completion_place_in, head_doorbell, data_area, Driver, is_up, ends, Controller, with_head, completion_at, after_write32, box_at, completion_bytes, phase_of, received_in, HostSide, DeviceEnds, Both, host, pair, mail, next_in, pages_of, told_pair, aborted_number, consume, Sound, EndsFit, IsPaired, host_side, device_side, mailbox}
 use Rattle.nvme_driver.specs.declared.faults.PollFault.TheVariants as poll_fault
-use Rattle.nvme_event.specs.declared.seen.FleetSeen.TheVariants.{Polled}
-use Rattle.nvme_event.specs.Replies.{Reply}
-use Rattle.nvme_fleet.specs.Views.{Slot, ticket_in, can_hear}
-use Rattle.nvme_fleet.specs.Lanes.{area}
 use Rattle.nvme_fleet.specs.Deliveries as step
-use Rattle.nvme_fleet.specs.Deliveries.{MailboxReaction, mailbox_reaction, plain, answer_reply, handed_up, polled_aborted, polled_admin, polled_io}
-use Rattle.nvme_fleet.specs.Steps.{IsStep, PollIsAStep, after_calls}
 use Rattle.nvme_fleet.proofs.Places.{no-way}
-use Rattle.nvme_spec.specs.Limits.{most_bytes}
-use Rattle.nvme_spec.specs.Queues.{can_be_heard}
-use Rattle.nvme_driver.specs.Polls.{waiting_at}
 use Rattle.nvme_fleet.proofs.Slots.{few}
 use Rattle.nvme_fleet.proofs.Queues.{self-eqb}
-use Rattle.nvme_fleet.proofs.Orders.{pending-same, pending-other}
+use Rattle.nvme_fleet.proofs.Orders.{pending-same, pending-other, NotBelow}
 use Rattle.nvme_fleet.proofs.Polling.{Heads, poll-both, poll-mail, first_answer, first-is, rest_posted, area-data, looks, looks-none, hears-it, of-queue, none-there, none-aborted, aborted-mail, freed-both, heads}
--- A poll is a step of the mailbox.
-use Rattle.std.proofs.Common.{◌≡◌, ℕ, ◌+◌, ◌-◌, ◌*◌, ◌/◌, ◌%◌, ◌<◌, ◌≤◌, ◌==◌, Bool, true, not, ◌&&◌, cond, List, [], length, take, drop, Option, None, Some, refl, sym, ap, subst, ◌∙◌, arith, inl, inr, eqb, length-drop}
-use Rattle.std.proofs.lemmas.Bool.{cases_Bool, cases_lt, lt-ltb, le-ltb, eqb-true}
-use Rattle.std.proofs.lemmas.List.{length-take-le}
-use Rattle.std.specs.Prelude.{slice_set, slice_range, option_map, if◌then◌else◌, Ok, Err}
-use Rattle.nvme_wire.specs.Completion.{Completion, completion_of, sq_id, sq_head, cid, status, dw0}
-use Rattle.nvme_wire.specs.declared.status.Status.{Status}
-use Rattle.nvme_spec.specs.Queues.{phase_tag}
-use Rattle.nvme_driver.specs.declared.lane.Lane.{Lane}
-use Rattle.nvme_driver.specs.declared.lane.Lane.TheVariants.{Admin, Io}
-use Rattle.nvme_driver.specs.declared.slots.Waiting.{Waiting}
-use Rattle.nvme_driver.specs.declared.ticket.Ticket.{Ticket}
-use Rattle.nvme_driver.specs.Layout.{queue_id, completion_place_in, head_doorbell, data_area}
-use Rattle.nvme_driver.specs.Drivers.{Driver, is_up, ends}
+use Rattle.nvme_wire.specs.Completion.{cid}
 use Rattle.nvme_driver.specs.Polls as poll
-use Rattle.nvme_machine.specs.Controllers.{Controller, with_head, completion_at, after_write32}
-use Rattle.nvme_fleet.specs.Mailboxes.{box_at}
-use Rattle.nvme_fleet.specs.Views.{completion_bytes, phase_of, received_in}
-use Rattle.nvme_fleet.specs.Lanes.{HostSide, DeviceEnds, Both, host, pair, mail, next_in, pages_of, told, told_pair, aborted_number, consume}
-use Rattle.nvme_fleet.specs.Sound.{Sound, EndsFit, IsPaired, host_side, device_side, mailbox}
-use Rattle.nvme_fleet.proofs.Orders.{NotBelow}
+use Rattle.nvme_fleet.specs.Lanes.{told}
 use Rattle.nvme_fleet.proofs.Linking.{of, pair-is, part-in}
 use Rattle.nvme_fleet.proofs.Registering.{head-written}
+
+-- A poll is a step of the mailbox.
 
 -- The next completion as the driver looks at it.
 
@@ -72,10 +46,6 @@ is_next lane d w =
     let e = completion_of (completion_bytes (pages_of lane w) (host lane d w).consumed) in
     cond e.phase (phase_of (host lane d w).consumed) (not (phase_of (host lane d w).consumed))
 
-consumed-is : (lane : Lane) (d : Driver) (w : List ℕ) → (host lane (host_side d) w).consumed ≡ (ends lane d).head.consumed
-consumed-is Admin d w = refl
-consumed-is Io d w = refl
-
 new-is : (lane : Lane) (d : Driver) (w : List ℕ) → (ends lane d).head.consumed < 64
     → poll.new_in lane (ends lane d) w ≡ (if is_next lane (host_side d) w then Some (completion_bytes (pages_of lane w) (ends lane d).head.consumed) else None)
 new-is Admin d w h = rw (bytes-in Admin w d.admin.head.consumed, tag-is d.admin.head.consumed h) refl
@@ -96,9 +66,6 @@ new-some lane d w x h e = elim (cases_Bool (is_next lane (host_side d) w)) [
   | inl t ↦ new-is lane d w h ∙ ap (λ b. if b then Some (completion_bytes (pages_of lane w) (ends lane d).head.consumed) else None) t
   | inr t ↦ absurd (none-some x (sym (ap (λ b. cond b (Some (completion_of (completion_bytes (pages_of lane w) (host lane (host_side d) w).consumed))) None) t) ∙ e))
 ]
-  where
-    none-some : (y : Completion) → None ≡ Some y → ⊥
-    none-some y h = cc
 
 -- Aborted requests.
 
@@ -110,9 +77,6 @@ number-is (Some w) t e = elim (cases_Bool w.live) [
       let f : Some w.ticket ≡ Some t = sym (ap (λ b. if b then None else Some w.ticket) l) ∙ e in
       ap (λ b. cond b None (Some w.ticket.0)) l ∙ ap (option_map (λ (x : Ticket). x.0)) f
 ]
-  where
-    none-some : (y : Ticket) → None ≡ Some y → ⊥
-    none-some y h = cc
 
 number-none : (o : Option Waiting) → poll.aborted_ticket o ≡ None → aborted_number o ≡ None
 number-none None e = refl
@@ -234,9 +198,6 @@ size-freed slots i k h = elim (cases_Bool (eqb k i)) [
 -- and of the doorbell
 head-value : (lane : Lane) (d : Driver) (x : List ℕ) → EndsFit (ends lane d) → poll.head_of (poll.consumed_ends (ends lane d) (sq_head x)) ≡ ((ends lane d).head.consumed + 1) % 64 % 32
 head-value lane d x f = rw f.head refl
-
-doorbell-small : (n : ℕ) → n % 64 % 32 < 32
-doorbell-small n = omega arith
 
 less-unread : (lane : Lane) (d : Driver) (c : Controller) (p : IsPaired c) → Sound d c → is_up d.state ≡ true → 0 < (pair lane (device_side c)).unread
     → (32 + (of lane c p).posted % 32 - ((ends lane d).head.consumed + 1) % 64 % 32) % 32 ≡ (of lane c p).unread - 1

@@ -1,30 +1,11 @@
 -- Poll over both lanes: the first request that was aborted, or else the first answer of a lane, is handed up.
-use Rattle.nvme_fleet.specs.Mailboxes.{Mailbox}
-use Rattle.nvme_fleet.specs.Mailboxes.{with_box}
-use Rattle.nvme_fleet.specs.Mailboxes.{FetchedItem}
-use Rattle.nvme_driver.specs.Layout.{queue_id}
-use Rattle.nvme_fleet.specs.Views.{can_hear}
-use Rattle.nvme_fleet.specs.Mailboxes.{box_at}
-use Rattle.nvme_fleet.specs.Mailboxes.{PostedAnswer}
-use Rattle.nvme_driver.specs.Layout.{data_area}
-use Rattle.nvme_fleet.specs.Mailboxes.{LaneBox}
-use Rattle.nvme_driver.specs.Polls.{waiting_at}
-use Rattle.nvme_driver.specs.declared.slots.Waiting.{Waiting}
-use Rattle.std.proofs.Common.{◌≡◌, ℕ, ◌-◌, ◌<◌, ◌≤◌, List, [], ◌∷◌, length, map, refl, ap, sym, ◌∙◌, arith, zero, suc, true, false, Bool, cond, Option, Some, None, inl, inr, slice_set, take, drop}
-use Rattle.std.proofs.lemmas.List.{length-set, take-take}
-use Rattle.std.proofs.lemmas.Bool.{cases_Bool, cases_lt}
-use Rattle.std.proofs.lemmas.Grind.{common_steps}
-use Rattle.nvme_wire.specs.Completion.{Completion}
-use Rattle.nvme_spec.specs.Limits.{most_bytes}
-use Rattle.nvme_fleet.specs.Views.{Host, empty, slot_at, box, answer, front, heard, consumed as consumed_one, less, live_waiting, live_in, live_at as live_slot, holds, Running, Holds}
+use Rattle.nvme_fleet.proofs.Words.{none-some, Mailbox, with_box, FetchedItem, queue_id, can_hear, box_at, PostedAnswer, data_area, LaneBox, waiting_at, Waiting, ◌≡◌, ℕ, ◌-◌, ◌<◌, ◌≤◌, List, [], ◌∷◌, length, map, refl, ap, sym, ◌∙◌, arith, zero, suc, true, Bool, cond, Option, Some, None, inl, inr, slice_set, take, drop, length-set, take-take, cases_Bool, cases_lt, common_steps, Completion, most_bytes, empty, slot_at, box, answer, front, heard, consumed as consumed_one, less, live_waiting, live_in, live_at as live_slot, holds, Running, Holds, Lane, Admin, Io, same, other, HostSide, DeviceSide, Both, pair, area, whole, slot_in, slots_in, host, state, fetched_by, held_by, mail, in_order, aborted_number, next_in, consume, freed, Host}
 use Rattle.nvme_fleet.proofs.Slots.{apart-set}
 use Rattle.nvme_fleet.proofs.Polls.{poll-posted, poll-box, poll-holds, none-posted, next-none, next-some, hears, front-of-lane, front-live, bare as bare_front}
 use Rattle.nvme_fleet.proofs.Empties.{emptied, emptied-holds, emptied-box, bare-of}
-use Rattle.nvme_driver.specs.declared.lane.Lane.{Lane}
-use Rattle.nvme_driver.specs.declared.lane.Lane.TheVariants.{Admin, Io}
-use Rattle.nvme_fleet.specs.Lanes.{same, other, HostSide, DeviceSide, Both, pair, area, whole, slot_in, slots_in, host, state, fetched_by, held_by, mail, in_order, aborted_number, next_in, consume, told, freed}
-use Rattle.nvme_fleet.proofs.LaneSlots.{slots-set, slot-in, set-slot, same-fetched, none-fetched}
-use Rattle.nvme_fleet.proofs.Orders.{NotBelow, oldest-first, empty-order, live-freed}
+use Rattle.nvme_fleet.specs.Lanes.{told}
+use Rattle.nvme_fleet.proofs.LaneSlots.{slots-set, slot-in, set-slot, same-fetched, none-fetched, apart}
+use Rattle.nvme_fleet.proofs.Orders.{NotBelow, oldest-first, empty-order, live-freed, cond-one}
 use Rattle.nvme_fleet.proofs.Placing.{each-lane, same-holds, step-of}
 
 -- an emptied slot is emptied in each lane
@@ -39,9 +20,6 @@ waiting-past (x ∷ xs) (suc i) h = waiting-past xs i (omega (arith, h))
 -- the ticket of an aborted request in a slot
 abbrev pub aborted_at : HostSide → ℕ → Option ℕ
 aborted_at d i = aborted_number (waiting_at d.slots i)
-
-none-some : (t : ℕ) → None ≡ Some t → ⊥
-none-some t h = grind (arith, common_steps, h)
 
 -- an aborted request lies within, and is live in no lane
 aborted-within : (d : HostSide) (i t : ℕ) → aborted_at d i ≡ Some t → i < length d.slots
@@ -124,16 +102,6 @@ same-is Admin Admin e = refl
 same-is Admin Io e = absurd (cc (e))
 same-is Io Admin e = absurd (cc (e))
 same-is Io Io e = refl
-
-cond-one : (b : Bool) → cond {A = ℕ} b 1 0 ≡ 1 → b ≡ true
-cond-one true h = refl
-cond-one false h = let b : ⊥ = omega (arith, h) in absurd b
-
-apart : (lane x : Lane) → same x lane ≡ true → same x (other lane) ≡ false
-apart Admin Admin e = refl
-apart Admin Io e = sym e
-apart Io Admin e = sym e
-apart Io Io e = refl
 
 pub own-is : (lane : Lane) (w : List ℕ) (n : ℕ) (o : Option Waiting) → live_in (slot_in lane w n o) ≡ 1 → Own lane w n o
 own-is lane w n None l = let z : ⊥ = omega (arith, l) in absurd z

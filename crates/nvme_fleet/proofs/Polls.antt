@@ -1,12 +1,5 @@
 -- Poll in one lane: the completion at its head is the first answer that was posted, and its slot is freed.
-use Rattle.std.proofs.Common.{◌≡◌, ℕ, ◌+◌, ◌-◌, ◌%◌, ◌<◌, ◌≤◌, List, [], ◌∷◌, length, refl, ap, sym, ◌∙◌, arith, zero, suc, true, false, not, cond, eqb, Bool, Some, None, inl, inr, slice_set}
-use Rattle.std.proofs.lemmas.List.{length-set}
-use Rattle.std.proofs.lemmas.Bool.{cases_Bool, lt-ltb, le-ltb, cases_lt, eqb-true}
-use Rattle.std.proofs.lemmas.Grind.{common_steps}
-use Rattle.std.specs.Prelude.{nat_lt}
-use Rattle.nvme_wire.specs.Completion.{Completion, completion_of}
-use Rattle.nvme_driver.specs.Layout.{queue_id}
-use Rattle.nvme_fleet.specs.Views.{completion_bytes, phase_of, AreOf, Host, State, Slot, empty, slot_at, box, answer, front, left_after, can_hear, next_completion, consumed, less, with_head, in_flight, commands, completions, Running, Heads, last_head, heard, unread, since, steps, commands_of, answers_of, live_at, live_in, answers, Phases, holds, total, bears, Suited, Ages, Holds}
+use Rattle.nvme_fleet.proofs.Words.{◌≡◌, ℕ, ◌+◌, ◌-◌, ◌%◌, ◌<◌, ◌≤◌, List, [], ◌∷◌, length, refl, ap, sym, ◌∙◌, arith, zero, suc, true, false, not, cond, eqb, Bool, Some, None, inl, inr, slice_set, length-set, cases_Bool, lt-ltb, le-ltb, cases_lt, eqb-true, common_steps, nat_lt, Completion, completion_of, queue_id, completion_bytes, phase_of, AreOf, State, Slot, empty, slot_at, box, answer, front, left_after, can_hear, next_completion, consumed, less, in_flight, commands, completions, Running, Heads, last_head, heard, unread, since, steps, commands_of, answers_of, live_at, live_in, answers, Phases, holds, total, bears, Suited, Ages, Holds, Host}
 use Rattle.nvme_fleet.proofs.Queues.{commands-append, same-box, eqb-sym, same-entry, same-turn}
 use Rattle.nvme_fleet.proofs.Totals.{total-append, live-small, live-within, live-set, slot-same, slot-other}
 use Rattle.nvme_fleet.proofs.Slots.{few, Apart, apart-set, same-items, same-odd, same-answers}
@@ -47,9 +40,6 @@ left-is p u h a b e f = omega arith
 heard-is : (p u h : ℕ) → p < 8 → u < 8 → h < 8 → (p + 8 - (p + 8 - h) % 8) % 8 ≡ h
 heard-is p u h a b e = omega arith
 
-pub head-doorbell : (n k p : ℕ) → n < 64 → 0 < k → k < 32 → p ≡ (n + k) % 64 → (p + 32 - (n + 1) % 32) % 32 ≡ k - 1
-head-doorbell n k p a b e f = omega arith
-
 -- the numbers of a poll that consumes the front completion
 abbrev step-of : Host → State → ℕ
 step-of d c = ((front d c).sq_head + 8 - heard d) % 8
@@ -77,12 +67,6 @@ front-live d c s p =
     let t : eqb (front d c).cid (front d c).cid ≡ true = grind (arith, common_steps) in
     let v : answers_of (front d c).cid (unread d c) ≡ 1 + answers_of (front d c).cid (rest-of d c) = u ∙ ap (λ b. cond b 1 0 + answers_of (front d c).cid (rest-of d c)) t in
     omega (arith, v, s.carried (front d c).cid, live-small (slot_at d.slots (front d c).cid))
-
-pub head-written : (d : Host) (c : State) → Running d c → 0 < c.unread → with_head c ((d.consumed + 1) % 32) ≡ less c
-head-written d c s p =
-    let v : (d.consumed + 1) % 32 < 32 = omega arith in
-    let k : c.unread < 32 = omega (arith, few d c s) in
-    rw (s.ready, lt-ltb ((d.consumed + 1) % 32) 32 v, head-doorbell d.consumed c.unread c.posted s.consumed p k s.posted) refl
 
 -- no other place bears the slot that the front completion answers
 pub record Bare (d : Host) (c : State) : Type 0 where
@@ -172,10 +156,10 @@ unheard-front d c s p =
     let h : steps (heard (consumed d (front d c))) (rest-of d c) ≡ steps (front d c).sq_head (rest-of d c) = ap (λ h. steps h (rest-of d c)) (heard-front d c s p) in
     omega (arith, h, since-front d c s p, left-over d c s p, front-steps d c p, s.unheard)
 
-other-turn : (n k : ℕ) → k < 32 → 31 ≤ k → phase_of ((n + 1) % 64 + k) ≡ not (phase_of n)
+pub other-turn : (n k : ℕ) → k < 32 → 31 ≤ k → phase_of ((n + 1) % 64 + k) ≡ not (phase_of n)
 other-turn n k h g = grind (arith, common_steps)
 
-twice : (b : Bool) → b ≡ not (not b)
+pub twice : (b : Bool) → b ≡ not (not b)
 twice true = refl
 twice false = refl
 

@@ -1,31 +1,8 @@
 -- An answer that is posted stands at the end of its lane in the mailbox.
-use Rattle.std.proofs.Common.{◌≡◌, ℕ, zero, suc, ◌+◌, ◌-◌, ◌*◌, ◌%◌, ◌<◌, ◌≤◌, nat_lt, true, List, [], ◌∷◌, length, map, None, Some, refl, sym, ap, subst, ◌∙◌, arith, inl, inr, slice_get}
-use Rattle.std.proofs.lemmas.Bool.{cases_Bool, lt-ltb}
-use Rattle.std.proofs.lemmas.Option.{slice_get-map}
-use Rattle.std.specs.Prelude.{remove}
+use Rattle.nvme_fleet.proofs.Words.{none-some, same_Some, ◌≡◌, ℕ, ◌+◌, ◌-◌, ◌*◌, ◌%◌, ◌<◌, ◌≤◌, nat_lt, true, List, length, map, Some, refl, sym, ap, subst, ◌∙◌, arith, inl, inr, slice_get, cases_Bool, lt-ltb, slice_get-map, cid, Completion, completion_entry, completion_of, FitsCompletion, completion_is_read_back, Keep, with_bytes, phase_tag, Lane, Admin, Io, queue_id, completion_queue, data_area, Driver, is_up, waiting_at, answer_len, FetchedCommand, Controller, QueuePair, pair_with, open_pair, after_posting, after_queue_change, completion_at, CommandExecution, after_completion, FetchedItem, box_at, with_box, lane_of, after_answer, with_posted, Effect, Slot, slot_at, item_in, phase_of, finished, finished_bytes, received_in, lane_in, box, DeviceSide, DeviceEnds, Both, mail, pair, next_pair, state, slots_in, whole, held_by, fetched_by, executed_at, base, Sound, IsPaired, IsOfLane, host_side, device_side, mailbox, taken_by, lane_of_queue, submission_as, completion_as, PostingIsAStep, PostingHasRoom, NothingToExecute, request_execution_with}
+use Rattle.std.proofs.Common.{remove}
+use Rattle.nvme_fleet.proofs.Lists.{all-get, all-removed}
 use Rattle.std.specs.Option.{option_map}
-use Rattle.std.specs.List.{AllByRecursion}
-use Rattle.nvme_wire.specs.Submission.{cid}
-use Rattle.nvme_wire.specs.Completion.{Completion, completion_entry, completion_of, FitsCompletion}
-use Rattle.nvme_wire.proofs.Made.{completion_is_read_back}
-use Rattle.nvme_spec.specs.declared.queues.QueueChange.TheVariants.{Keep}
-use Rattle.nvme_spec.specs.Bytes.{with_bytes}
-use Rattle.nvme_spec.specs.Queues.{phase_tag}
-use Rattle.nvme_driver.specs.declared.lane.Lane.{Lane}
-use Rattle.nvme_driver.specs.declared.lane.Lane.TheVariants.{Admin, Io}
-use Rattle.nvme_driver.specs.Layout.{queue_id, completion_queue, data_area}
-use Rattle.nvme_driver.specs.Drivers.{Driver, is_up}
-use Rattle.nvme_driver.specs.Polls.{waiting_at, answer_len}
-use Rattle.nvme_machine.specs.declared.fetched.FetchedCommand.{FetchedCommand}
-use Rattle.nvme_machine.specs.Controllers.{Controller, QueuePair, pair_with, open_pair, after_posting, after_queue_change, completion_at}
-use Rattle.nvme_machine.specs.CommandExecutions.{CommandExecution}
-use Rattle.nvme_machine.specs.Subsystems.{after_completion}
-use Rattle.nvme_fleet.specs.Mailboxes.{FetchedItem, box_at, with_box, lane_of}
-use Rattle.nvme_fleet.specs.Fleets.{after_answer, with_posted}
-use Rattle.nvme_fleet.specs.Views.{Effect, Slot, slot_at, item_in, phase_of, finished, finished_bytes, received_in, lane_in, box}
-use Rattle.nvme_fleet.specs.Lanes.{DeviceSide, DeviceEnds, Both, mail, pair, next_pair, state, slots_in, whole, held_by, fetched_by, executed_at, base}
-use Rattle.nvme_fleet.specs.Sound.{Sound, IsPaired, IsOfLane, host_side, device_side, mailbox, taken_by, lane_of_queue, submission_as, completion_as}
-use Rattle.nvme_fleet.specs.Steps.{PostingIsAStep, PostingHasRoom, NothingToExecute, request_execution_with}
 use Rattle.nvme_fleet.proofs.PollStep.{tag-is}
 use Rattle.nvme_fleet.proofs.Totals.{map-removed}
 use Rattle.nvme_fleet.proofs.Places.{no-way}
@@ -33,24 +10,6 @@ use Rattle.nvme_fleet.proofs.Linking.{of, submission-is, completion-is, pair-is}
 use Rattle.nvme_fleet.proofs.LaneSlots.{slot-in}
 use Rattle.nvme_fleet.proofs.Polling.{Own, own-is}
 use Rattle.nvme_fleet.proofs.Executing.{Takes, takes, Runs, runs, execute-both, execute-mail, answered_box, has-room}
-
--- a command of the list is of a lane
-all-get : (ts : List FetchedCommand) (i : ℕ) (t : FetchedCommand) → AllByRecursion IsOfLane ts → slice_get ts i ≡ Some t → IsOfLane t
-all-get [] i t a g = absurd (none-some t g)
-  where
-    none-some : (y : FetchedCommand) → None ≡ Some y → ⊥
-    none-some y h = cc
-all-get (x ∷ xs) zero t a g = subst IsOfLane (some-is x t g) a.0
-  where
-    some-is : (y z : FetchedCommand) → Some y ≡ Some z → y ≡ z
-    some-is y z h = cc
-all-get (x ∷ xs) (suc i) t a g = all-get xs i t a.1 g
-
-all-removed : (ts : List FetchedCommand) (i : ℕ) → AllByRecursion IsOfLane ts → AllByRecursion IsOfLane (remove ts i)
-all-removed [] zero a = tt
-all-removed [] (suc i) a = tt
-all-removed (x ∷ xs) zero a = a.1
-all-removed (x ∷ xs) (suc i) a = (a.0, all-removed xs i a.1)
 
 queue-is : (t : FetchedCommand) → IsOfLane t → t.queue ≡ queue_id (lane_of_queue t.queue)
 queue-is t (inl e) = rw e refl
@@ -86,15 +45,12 @@ up-of d c i t s g = elim (cases_Bool (is_up d.state)) [
   | inl u ↦ u
   | inr u ↦ (let o = s.down u in absurd (none-some t (sym (ap (λ ts. slice_get ts i) o.fetched) ∙ g)))
 ]
-  where
-    none-some : (y : FetchedCommand) → None ≡ Some y → ⊥
-    none-some y h = cc
 
 pub known : (d : Driver) (c : Controller) (i : ℕ) (t : FetchedCommand) → Sound d c → slice_get c.fetched i ≡ Some t → Known d c i t
 known d c i t s g =
     let u = up-of d c i t s g in
     let p = s.up u in
-    let e = queue-is t (all-get c.fetched i t p.fetched g) in
+    let e = queue-is t (all-get IsOfLane c.fetched i t g p.fetched) in
     let there : slice_get (map taken_by c.fetched) i ≡ Some (taken_by t) = slice_get-map taken_by c.fetched i ∙ ap (option_map taken_by) g in
     let k = takes (lane_of_queue t.queue) (host_side d) (device_side c) i t.entry t.marked s.both there in
     record {
@@ -171,7 +127,7 @@ paired-posted Admin c p i t a = record {
   io = p.io;
   submission = p.submission;
   completion = rw p.completion refl;
-  fetched = all-removed c.fetched i p.fetched;
+  fetched = all-removed IsOfLane c.fetched i p.fetched;
   ready = p.ready;
   enabled = p.enabled;
 }
@@ -180,7 +136,7 @@ paired-posted Io c p i t a = record {
   io = next_pair p.io;
   submission = p.submission;
   completion = rw p.completion refl;
-  fetched = all-removed c.fetched i p.fetched;
+  fetched = all-removed IsOfLane c.fetched i p.fetched;
   ready = p.ready;
   enabled = p.enabled;
 }
@@ -241,9 +197,6 @@ posted-small lane d c p s u =
     state-posted : (l : Lane) (k : DeviceSide) (n : ℕ) → (state l k).posted < n → (pair l k).posted < n
     state-posted l k n h = h
 
-some-is : (y z : QueuePair) → Some y ≡ Some z → y ≡ z
-some-is y z h = cc
-
 -- the controller, where the queues stay
 kept : (c : Controller) (i : ℕ) (t : FetchedCommand) (p : QueuePair) (a : CommandExecution) → a.change ≡ Keep
     → after_completion i t p a c ≡ after_posting i t p a.outcome.status a.outcome.dw0 (record c { window = a.left.window })
@@ -264,7 +217,7 @@ posting_is_a_step d c i t p a s g queues h =
     let u = up-of d c i t s g in
     let lane : Lane = k.lane in
     let bytes : List ℕ = h.bytes in
-    let is-pair : p ≡ pair_in k.lane c k.paired = some-is p (pair_in k.lane c k.paired) (sym queues ∙ open-is k.lane c k.paired t k.queue k.room) in
+    let is-pair : p ≡ pair_in k.lane c k.paired = same_Some p (pair_in k.lane c k.paired) (sym queues ∙ open-is k.lane c k.paired t k.queue k.room) in
     let small = posted-small k.lane d c k.paired s u in
     let result : after_completion i t p a c ≡ posted_then k.lane c k.paired i t a =
     kept c i t p a h.queues ∙ ap (λ x. after_posting i t x a.outcome.status a.outcome.dw0 (record c { window = a.left.window })) is-pair in

@@ -1,34 +1,14 @@
 -- What a power cycle makes of drivers, and what outlasts it.
-use Rattle.std.proofs.Common.{◌≡◌, ◌≢◌, inl, inr, ℕ, Bool, true, false, List, [], ◌∷◌, Some, refl, sym, ap, subst, ◌∙◌, arith}
-use Rattle.std.proofs.lemmas.Bool.{false≢true}
-use Rattle.nvme_spec.specs.declared.access.Protection.TheVariants.{UntilCycle}
-use Rattle.nvme_spec.specs.Blocks.{Device}
-use Rattle.nvme_spec.specs.Layout.{bytes_of, reservation_of}
+use Rattle.nvme_fleet.proofs.Words.{◌≡◌, ◌≢◌, inl, inr, ℕ, Bool, true, false, List, [], ◌∷◌, Some, refl, sym, ap, subst, ◌∙◌, arith, false≢true, UntilCycle, Device, bytes_of, reservation_of, World, Event, Seen, Cycled, IsFleeting, Subsystem, FleetEvent, Execute, PowerCycle, Reply, Mailbox, reset, Layers, fleet_in, Fleet, Step, held_tickets, is_ticket, times, Forgets, LeavesReservation, ReservesNothing, is_laid_out, namespace_bytes}
 use Rattle.nvme_spec.specs.PowerLaws.{protection_at}
-use Rattle.nvme_spec.specs.World.{World}
-use Rattle.nvme_machine.specs.declared.event.Event.{Event}
 use Rattle.nvme_machine.specs.declared.event.Event.TheVariants as event
-use Rattle.nvme_machine.specs.declared.seen.Seen.{Seen}
-use Rattle.nvme_machine.specs.declared.seen.Seen.TheVariants.{Cycled}
 use Rattle.nvme_machine.specs.Fencing as machine_fencing
-use Rattle.nvme_machine.specs.Fencing.{IsFleeting}
 use Rattle.nvme_machine.specs.PowerCycles.{Persists}
 use Rattle.nvme_machine.specs.Subsystems as machine
-use Rattle.nvme_machine.specs.Subsystems.{Subsystem}
 use Rattle.nvme_machine.proofs.Layouts as machine_layouts
 use Rattle.nvme_machine.proofs.PowerCycles as machine_proofs
-use Rattle.nvme_event.specs.declared.event.FleetEvent.{FleetEvent}
-use Rattle.nvme_event.specs.declared.event.FleetEvent.TheVariants.{Execute, PowerCycle}
-use Rattle.nvme_event.specs.Replies.{Reply}
-use Rattle.nvme_fleet.specs.Mailboxes.{Mailbox}
-use Rattle.nvme_fleet.specs.Deliveries.{reset}
-use Rattle.nvme_fleet.specs.FleetStates.{Layers, fleet_in}
-use Rattle.nvme_fleet.specs.Fleets.{Fleet, Step}
 use Rattle.nvme_fleet.specs.Layers as layers
-use Rattle.nvme_fleet.specs.Tickets.{held_tickets, is_ticket, times}
-use Rattle.nvme_fleet.specs.Fencing.{Forgets, LeavesReservation, ReservesNothing}
 use Rattle.nvme_fleet.specs.Bytes as bytes
-use Rattle.nvme_fleet.specs.Bytes.{is_laid_out, namespace_bytes}
 use Rattle.nvme_fleet.specs.PowerCycles.{BytesOutlastPower, DoneSincePower, FencingOutlastsPower, IsAborted, LayersOutlastPower, PersistenceLasts, PowerAborts, PowerTakes, ProtectedUntilPower, RepliesOutlastPower, ReservesNothingBelow, SecrecyOutlastsPower}
 use Rattle.nvme_fleet.proofs.Answered.{done_is_its_execution, reset_clears}
 use Rattle.nvme_fleet.proofs.Apart.{hosts_are_apart}

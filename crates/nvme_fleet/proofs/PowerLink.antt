@@ -1,17 +1,7 @@
 -- A reset over a link changes nothing at a controller that power has reset.
-use Rattle.std.proofs.Common.{◌≡◌, ◌+◌, ◌<◌, ℕ, Bool, List, [], ◌∷◌, length, Some, refl, sym, ap, ◌∙◌}
-use Rattle.nvme_driver.specs.Calls.{Call, Calls}
+use Rattle.nvme_fleet.proofs.Words.{◌≡◌, ◌+◌, ◌<◌, ℕ, Bool, length, Some, refl, ap, ◌∙◌, Calls, reset_calls, MediumCall, Write32, Controller, wrote, Subsystem, controller_at, OverMedium, Linked, controller_in, CallOverMedium, AreCycled}
 use Rattle.nvme_driver.specs.Drivers as driver
-use Rattle.nvme_driver.specs.Drivers.{reset_calls}
-use Rattle.nvme_spec.specs.MediumCalls.{MediumCall}
-use Rattle.nvme_machine.specs.declared.event.Event.TheVariants.{Write32}
-use Rattle.nvme_machine.specs.Controllers.{Controller, wrote}
-use Rattle.nvme_machine.specs.Subsystems.{Subsystem, controller_at}
-use Rattle.nvme_subsys.specs.OverMedium.{OverMedium}
 use Rattle.nvme_subsys.proofs.Numbers as numbers
-use Rattle.nvme_fleet.specs.Linked.{Linked, controller_in}
-use Rattle.nvme_fleet.specs.LinkCalls.{CallOverMedium}
-use Rattle.nvme_fleet.specs.PowerReset.{AreCycled}
 use Rattle.nvme_fleet.proofs.PowerStep.{written-still}
 use Rattle.nvme_fleet.proofs.Reaching.{one-ran, reacted-as, put}
 use Rattle.nvme_fleet.proofs.Seating.{controller-there}

@@ -1,30 +1,12 @@
 -- A power cycle is a step of each mailbox, and of the fleet.
-use Rattle.std.proofs.Common.{◌≡◌, ◌+◌, ◌<◌, ◌≤◌, ℕ, zero, suc, Bool, true, false, List, [], ◌∷◌, ◌++◌, length, map, Option, None, Some, refl, sym, ap, subst, ◌∙◌, arith}
-use Rattle.std.specs.Prelude.{slice_get, slice_set, option_map}
-use Rattle.std.proofs.lemmas.List.{length-map}
-use Rattle.std.proofs.lemmas.Option.{same_Some}
-use Rattle.nvme_spec.specs.Limits.{most_bytes}
-use Rattle.nvme_driver.specs.declared.slots.Waiting.{Waiting}
+use Rattle.nvme_fleet.proofs.Words.{◌≡◌, ◌+◌, ℕ, zero, suc, Bool, false, List, [], ◌∷◌, map, Option, None, Some, refl, sym, ap, subst, ◌∙◌, slice_get, option_map, length-map, same_Some, Driver, after_reset, waiting_at, Seen, Cycled, Wrote, NoController, Controller, after_write32, wrote, Subsystem, ReactsAs, controller_at, after_power_cycle, Ran, FleetState, IsSoundFleet, SoundBy, fleet_in, fleet_of, host_by, hosts_of, layers_of, WithDriver, Fleet, host_cycled, Both, Cycles, resets_from, AreCycled, Sound, IsOff, host_side, device_side, mailbox}
 use Rattle.nvme_driver.specs.Drivers as driver
-use Rattle.nvme_driver.specs.Drivers.{Driver, after_reset, abort}
-use Rattle.nvme_driver.specs.Polls.{waiting_at}
-use Rattle.nvme_machine.specs.declared.event.Event.{Event}
-use Rattle.nvme_machine.specs.declared.event.Event.TheVariants.{Write32, PowerCycle}
-use Rattle.nvme_machine.specs.declared.seen.Seen.{Seen}
-use Rattle.nvme_machine.specs.declared.seen.Seen.TheVariants.{Cycled, Wrote, NoController}
-use Rattle.nvme_machine.specs.Controllers.{Controller, power_cycled, after_write32, wrote}
-use Rattle.nvme_machine.specs.Subsystems.{Subsystem, Run, Step, ReactsAs, Reacts, numbered, replaced, controller_at, with_controller, after_power_cycle}
-use Rattle.nvme_fleet.specs.Deeds.{Ran, reset_events}
+use Rattle.nvme_machine.specs.Controllers.{power_cycled}
+use Rattle.nvme_machine.specs.Subsystems.{numbered, replaced, with_controller}
 use Rattle.nvme_fleet.specs.Deliveries as mail
-use Rattle.nvme_fleet.specs.FleetStates.{FleetState, IsSoundFleet, SoundBy, fleet_in, fleet_of, host_by, hosts_of, layers_of}
 use Rattle.nvme_fleet.specs.Fleets as mailboxes
-use Rattle.nvme_fleet.specs.Fleets.{Host, WithDriver, Raw, Fleet, host_cycled}
-use Rattle.nvme_fleet.specs.Lanes.{Both, reset, turned_off}
-use Rattle.nvme_fleet.specs.Layers.{Cycles, resets_from}
+use Rattle.nvme_fleet.specs.Lanes.{reset}
 use Rattle.nvme_event.specs.declared.seen.FleetSeen.TheVariants as seen
-use Rattle.nvme_fleet.specs.PowerReset.{AreCycled}
-use Rattle.nvme_fleet.specs.Sound.{Sound, EndsFit, IsOff, host_side, device_side, mailbox}
-use Rattle.nvme_fleet.specs.Views.{received_in}
 use Rattle.nvme_fleet.proofs.Orders.{pending-abort}
 use Rattle.nvme_fleet.proofs.Places.{no-way}
 use Rattle.nvme_fleet.proofs.Registering.{disabled-off}

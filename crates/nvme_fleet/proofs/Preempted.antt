@@ -1,28 +1,7 @@
 -- A preempted host stays out.
-use Rattle.std.proofs.Common.{◌≡◌, ◌≢◌, ℕ, Bool, true, false, List, [], ◌∷◌, Option, None, Some, Ok, refl, sym, ap, subst, ◌∙◌}
-use Rattle.std.specs.Prelude.{option_map, if◌then◌else◌}
-use Rattle.std.proofs.lemmas.Option.{none-some, same_Some}
-use Rattle.nvme_wire.specs.Submission.{opcode, nsid}
-use Rattle.nvme_spec.specs.declared.access.Group.TheVariants.{Write as Writing}
-use Rattle.nvme_spec.specs.declared.command.Command.{Command}
-use Rattle.nvme_spec.specs.declared.command.Command.TheVariants.{ReservationRegister, ReservationAcquire}
-use Rattle.nvme_spec.specs.declared.verdict.Verdict.TheVariants.{Allowed}
-use Rattle.nvme_spec.specs.Commands.{command_of, is_one_of, plan_of}
-use Rattle.nvme_spec.specs.IoData.{reservation_outcome, outcome_in}
-use Rattle.nvme_spec.specs.IoRules.{permits_group, conclusion}
-use Rattle.nvme_spec.specs.Layout.{reservation_of, may_write}
-use Rattle.nvme_spec.specs.Power.{cycled_reservation}
-use Rattle.nvme_spec.specs.Reservation.{Reservation, unreserved}
-use Rattle.nvme_spec.specs.World.{World, Namespace, host_of, namespace_of}
-use Rattle.nvme_spec.proofs.Power.{cycled-reservation-at}
-use Rattle.nvme_machine.specs.declared.seen.Executed.TheVariants.{Posted}
-use Rattle.nvme_event.specs.declared.event.FleetEvent.{FleetEvent}
-use Rattle.nvme_event.specs.declared.event.FleetEvent.TheVariants.{Execute}
+use Rattle.nvme_fleet.proofs.Words.{◌≡◌, ◌≢◌, ℕ, Bool, true, false, List, [], ◌∷◌, Option, None, Some, Ok, refl, sym, ap, subst, ◌∙◌, option_map, if◌then◌else◌, none-some, same_Some, opcode, nsid, Write as Writing, Command, ReservationRegister, ReservationAcquire, Allowed, command_of, is_one_of, plan_of, reservation_outcome, outcome_in, permits_group, conclusion, reservation_of, may_write, cycled_reservation, Reservation, unreserved, World, Namespace, host_of, namespace_of, cycled-reservation-at, Posted, FleetEvent, Execute, plain, Fleet, IoCommand, AreNumbered, HasItsEffect, IsExecutedBy, verdict_on, IsOutside, OutsidersMayNotWrite, LeavesOutside, OutsidersStayOutside, PreemptedIsOutside, PreemptedStaysOut}
 use Rattle.nvme_event.specs.declared.seen.FleetSeen.TheVariants.{Executed as ExecutedSeen}
-use Rattle.nvme_fleet.specs.Deliveries.{plain}
-use Rattle.nvme_fleet.specs.Fleets.{Fleet}
-use Rattle.nvme_fleet.specs.IoCommands.{IoCommand, AreNumbered, HasItsEffect, IsExecutedBy, verdict_on}
-use Rattle.nvme_fleet.specs.Preempting.{IsOutside, OutsidersMayNotWrite, Registers, LeavesOutside, OutsidersStayOutside, PreemptedIsOutside, PreemptedStaysOut}
+use Rattle.nvme_fleet.specs.Preempting.{Registers}
 use Rattle.nvme_fleet.proofs.IoExecutions.{ActsOn, Acts, Rests, Reserves, Loses, executed_as_the_policy_allows}
 use Rattle.nvme_fleet.proofs.Fenced.{step-acts, plainly}
 use Rattle.nvme_fleet.proofs.Numbered.{step, numbers_stay}

@@ -1,12 +1,5 @@
 -- Stretches of entries in the queues of a lane: joined, counted, and with the requests that they bear.
-use Rattle.std.proofs.Common.{◌≡◌, ℕ, ◌+◌, ◌-◌, ◌%◌, ◌<◌, List, [], ◌∷◌, ◌++◌, length, map, refl, ap, ◌∙◌, arith, zero, suc, true, false, eqb, take, drop, ◌*◌}
-use Rattle.std.specs.Prelude.{nat_lt}
-use Rattle.std.proofs.lemmas.List.{length-map}
-use Rattle.std.proofs.lemmas.Grind.{common_steps}
-use Rattle.nvme_wire.specs.Completion.{Completion}
-use Rattle.nvme_fleet.specs.Mailboxes.{Item, PostedAnswer, LaneBox}
-use Rattle.nvme_wire.specs.Completion.{completion_of}
-use Rattle.nvme_fleet.specs.Views.{command_at, completion_bytes, phase_of, Host, State, Slot, in_flight, commands, completions, item, answers, box, Running, holds, heard, unread, total, live_in}
+use Rattle.nvme_fleet.proofs.Words.{◌≡◌, ℕ, ◌+◌, ◌-◌, ◌%◌, ◌<◌, List, [], ◌∷◌, ◌++◌, length, map, refl, ap, ◌∙◌, arith, zero, suc, true, false, eqb, take, drop, ◌*◌, nat_lt, length-map, common_steps, Completion, Item, PostedAnswer, LaneBox, completion_of, command_at, completion_bytes, phase_of, State, Slot, in_flight, commands, completions, item, answers, box, Running, holds, heard, unread, total, live_in, Host}
 use Rattle.nvme_fleet.proofs.Totals.{total-append}
 
 -- a step round the ring

@@ -1,27 +1,10 @@
 -- A call over a link is exactly its events of the subsystem, and so a step of the controller that it reaches: all other
 -- controllers stay, also over the turns of a driver that comes up, since admin commands mark nobody.
-use Rattle.std.proofs.Common.{◌≡◌, ◌<◌, ℕ, ◌+◌, Bool, List, [], ◌∷◌, length, Some, Result, refl, sym, ap, subst, ◌∙◌, arith}
-use Rattle.std.specs.Prelude.{slice_get, slice_set}
-use Rattle.std.proofs.lemmas.List.{length-set}
-use Rattle.nvme_driver.specs.declared.faults.UpFault.{UpFault}
-use Rattle.nvme_driver.specs.Calls.{Call, Stores, Writes, Reads, Turns, Calls}
-use Rattle.nvme_driver.specs.Drivers.{Driver}
-use Rattle.nvme_driver.specs.Rises.{Rises}
-use Rattle.nvme_driver.proofs.Mapped.{IsMapped, rises-mapped}
-use Rattle.nvme_machine.specs.declared.event.Event.{Event}
+use Rattle.nvme_fleet.proofs.Words.{set-set, ◌≡◌, ◌<◌, ℕ, ◌+◌, Bool, List, [], ◌∷◌, length, Some, Result, refl, sym, ap, subst, ◌∙◌, arith, slice_get, slice_set, length-set, UpFault, Call, Stores, Writes, Reads, Turns, Calls, Driver, Rises, IsMapped, rises-mapped, Event, Seen, Value, Controller, Reaction, new_controller, after_store, wrote, has_read, after_fetch, Setting, setting, ExecutesNth, Subsystem, Reacts, ReactsAs, controller_at, fetch-id, Linked, KeepsOthers, Reaches, controller_in, linked_controller, linked_setting, setting_in, with_setting, LinkStep, with_controller, CallOver, CallStep, window_at, window_of}
 use Rattle.nvme_machine.specs.declared.event.Event.TheVariants as event
-use Rattle.nvme_machine.specs.declared.seen.Seen.{Seen}
-use Rattle.nvme_machine.specs.declared.seen.Seen.TheVariants.{Value}
-use Rattle.nvme_machine.specs.Controllers.{Controller, Reaction, new_controller, after_store, wrote, has_read, after_fetch}
-use Rattle.nvme_machine.specs.Executing.{Setting, setting, ExecutesNth}
-use Rattle.nvme_machine.specs.Subsystems.{Subsystem, Step, Run, Reacts, ReactsAs, ExecutesAt, controller_at, with_controller as with_controller_of}
+use Rattle.nvme_machine.specs.Subsystems.{Step, Run, ExecutesAt, with_controller as with_controller_of}
 use Rattle.nvme_subsys.proofs.Numbers as numbers
-use Rattle.nvme_subsys.proofs.Sound.{fetch-id}
-use Rattle.nvme_fleet.specs.Linked.{Linked, KeepsOthers, Reaches, controller_in, linked_controller, linked_setting, setting_in, with_setting}
-use Rattle.nvme_fleet.specs.Links.{LinkStep, with_controller}
-use Rattle.nvme_fleet.specs.Deeds.{CallOver, CallStep, window_at, window_of}
 use Rattle.nvme_fleet.proofs.AdminTurns.{AreAdmin, call-admin, call-named, fetch-admin, fetched_by, one-quiet}
-use Rattle.nvme_fleet.proofs.LinkOthers.{set-twice}
 use Rattle.nvme_fleet.proofs.RiseLink.{step_of, bytes_of}
 use Rattle.nvme_fleet.proofs.Seating.{controller-there, get-set, others-set}
 use Rattle.nvme_fleet.proofs.StartStep.{IsPlain}
@@ -135,7 +118,7 @@ turns-there tells a b i admin there named s =
     let quiet = one-quiet (slice_get d.fetched 0) tells (setting d a.world a.device) e.executed left refl (fetch-admin c admin) e.executes in
     let is : b ≡ with_setting a i left =
     e.leaves ∙ ap (λ cs. (let x : Subsystem = record { world = left.world; device = left.device; controllers = cs } in x))
-    (quiet.marks left.world (slice_set mid.controllers i left.controller) ∙ set-twice a.controllers i d left.controller) in
+    (quiet.marks left.world (slice_set mid.controllers i left.controller) ∙ set-set a.controllers i d left.controller) in
     let q = is-put a b i left there is in
     record { step = (e.executed, subst (ExecutesNth tells 0 (setting d a.world a.device) e.executed) (sym q.setting_is) e.executes); others = q.others }
 
@@ -157,10 +140,8 @@ over-there tells call p q place h =
 -- Calls that grant no turn.
 
 pub plain-first : (call : Call) (calls : List Call) → IsPlain (call ∷ calls) → IsPlain (call ∷ []) × IsPlain calls
-plain-first (Stores address bytes) calls h = (tt, h)
-plain-first (Writes offset v) calls h = (tt, h)
-plain-first (Reads offset v) calls h = (tt, h)
 plain-first Turns calls h = absurd h
+plain-first call calls h = (tt, h)
 
 pub calls-over : (tells : Bool) (calls : List Call) (p q : Linked) → IsPlain calls → Reaches p → Calls (CallOver tells) p calls q → Calls (step_of tells) p calls q
 calls-over tells [] p q plain at h = h
@@ -178,10 +159,8 @@ pub record IsFresh (i : ℕ) (p : Linked) : Type 0 where
   pub place : p.place ≡ i
 
 call-there : (tells : Bool) (call : Call) (p q : Linked) → Reaches p → AreAdmin (linked_controller p) → CallOver tells p call q → IsStepThere tells call p.subsystem q.subsystem p.place
-call-there tells (Stores address bytes) p q at admin h = plain-there tells (Stores address bytes) p.subsystem q.subsystem p.place tt at.0 h.step
-call-there tells (Writes offset v) p q at admin h = plain-there tells (Writes offset v) p.subsystem q.subsystem p.place tt at.0 h.step
-call-there tells (Reads offset v) p q at admin h = plain-there tells (Reads offset v) p.subsystem q.subsystem p.place tt at.0 h.step
 call-there tells Turns p q at admin h = turns-there tells p.subsystem q.subsystem p.place admin at.0 at.1 h.step
+call-there tells call p q at admin h = plain-there tells call p.subsystem q.subsystem p.place tt at.0 h.step
 
 pub record IsFreshStep (tells : Bool) (i : ℕ) (call : Call) (p q : Linked) : Type 0 where
   pub step : step_of tells p call q

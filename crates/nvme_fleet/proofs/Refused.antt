@@ -1,35 +1,11 @@
 -- A fenced write is denied.
-use Rattle.std.proofs.Common.{◌≡◌, ℕ, ◌==◌, ◌||◌, ◌&&◌, ◌++◌, Bool, true, false, not, List, [], ◌∷◌, take, Option, None, Some, Ok, Err, refl, ap, subst, ◌∙◌}
-use Rattle.std.specs.Prelude.{slice_get}
-use Rattle.std.proofs.lemmas.Option.{none-some, same_Some}
-use Rattle.nvme_wire.specs.Submission.{opcode, nsid}
-use Rattle.nvme_spec.specs.declared.access.Group.TheVariants.{Read as Reading, Write as Writing}
-use Rattle.nvme_spec.specs.declared.outcome.Outcome.{Outcome}
+use Rattle.nvme_fleet.proofs.Words.{◌≡◌, ℕ, ◌==◌, ◌||◌, ◌&&◌, ◌++◌, Bool, true, false, not, List, [], ◌∷◌, take, Option, None, Some, Ok, Err, refl, ap, subst, ◌∙◌, slice_get, none-some, same_Some, opcode, nsid, Read as Reading, Write as Writing, Outcome, command_of, data_length_of, is_one_of, readers, writers, pointer_rule, denial_outcome, access_rules, permits_group, reservation_rule, protection_rule, range_rule, may_write, Judgement, Rule, judgement_by, else_by, first_failing, World, host_of, namespace_of, first_failing-append, Lane, Admin, Io, FetchedCommand, Posted, Controller, denied-verdict, Execute, FetchedItem, lane_of, plain, io_judgement, action_of, WithDriver, Raw, Fleet, Step, host_at, IoCommand, asked_command, raw_command, asked_by, sent_by, command_in, AreNumbered, IsExecutedBy, IsOn, LeavesReservation, conflict_unless, fenced, FencedWritesAreDenied, FencingHolds}
+use Rattle.nvme_fleet.specs.Fleets.{Host}
 use Rattle.nvme_spec.specs.declared.verdict.Denial.{Denial}
-use Rattle.nvme_spec.specs.Commands.{command_of, data_length_of, is_one_of, readers, writers}
-use Rattle.nvme_spec.specs.DataRules.{pointer_rule}
-use Rattle.nvme_spec.specs.Execution.{denial_outcome}
 use Rattle.nvme_spec.specs.IoData as spec
-use Rattle.nvme_spec.specs.IoRules.{access_rules, permits_group, reservation_rule, protection_rule, range_rule}
-use Rattle.nvme_spec.specs.Layout.{may_write}
-use Rattle.nvme_spec.specs.Rules.{Judgement, Rule, judgement_by, else_by, first_failing}
 use Rattle.nvme_spec.specs.Statuses as status
-use Rattle.nvme_spec.specs.World.{World, host_of, namespace_of}
-use Rattle.nvme_spec.proofs.Judgements.{first_failing-append}
-use Rattle.nvme_driver.specs.declared.lane.Lane.{Lane}
-use Rattle.nvme_driver.specs.declared.lane.Lane.TheVariants.{Admin, Io}
-use Rattle.nvme_machine.specs.declared.fetched.FetchedCommand.{FetchedCommand}
-use Rattle.nvme_machine.specs.declared.seen.Executed.TheVariants.{Posted}
-use Rattle.nvme_machine.specs.Controllers.{Controller}
-use Rattle.nvme_machine.proofs.Denials.{denied-verdict}
-use Rattle.nvme_event.specs.declared.event.FleetEvent.TheVariants.{Execute}
 use Rattle.nvme_event.specs.declared.seen.FleetSeen.TheVariants.{Executed as ExecutedSeen}
-use Rattle.nvme_fleet.specs.Mailboxes.{FetchedItem, lane_of}
-use Rattle.nvme_fleet.specs.Deliveries.{plain}
-use Rattle.nvme_fleet.specs.Executions.{io_judgement, action_of}
-use Rattle.nvme_fleet.specs.Fleets.{Host, WithDriver, Raw, Fleet, Step, host_at}
-use Rattle.nvme_fleet.specs.IoCommands.{IoCommand, asked_command, raw_command, asked_in, asked_by, sent_by, command_in, command_at, AreNumbered, IsExecutedBy}
-use Rattle.nvme_fleet.specs.Fencing.{IsOn, LeavesReservation, conflict_unless, fenced, FencedWritesAreDenied, FencingHolds}
+use Rattle.nvme_fleet.specs.IoCommands.{asked_in, command_at}
 use Rattle.nvme_fleet.proofs.IoExecutions.{is-io, executed_as_the_policy_allows}
 use Rattle.nvme_fleet.proofs.Fenced.{permissions_stay, plainly}
 use Rattle.nvme_fleet.proofs.Numbered.{numbers_stay}

@@ -1,13 +1,5 @@
 -- The register writes of a driver, at a controller that it has brought up.
-use Rattle.std.proofs.Common.{◌≡◌, ℕ, ◌^◌, ◌<◌, true, false, refl, arith}
-use Rattle.std.specs.Prelude.{slice_set, option_map}
-use Rattle.nvme_spec.specs.declared.registers.ControllerState.TheVariants.{Off, Ready}
-use Rattle.nvme_spec.specs.declared.registers.RegEffect.TheVariants.{SqTail, CqHead}
-use Rattle.nvme_spec.specs.Registers.{Registers, is_enabled, after_write, prepared, doorbell, doorbell_value, configured, written}
-use Rattle.nvme_driver.specs.declared.lane.Lane.{Lane}
-use Rattle.nvme_driver.specs.declared.lane.Lane.TheVariants.{Admin, Io}
-use Rattle.nvme_driver.specs.Layout.{queue_id, tail_doorbell, head_doorbell}
-use Rattle.nvme_machine.specs.Controllers.{Controller, after_write32, taking_effect, with_tail, with_head, without_queues, submission_at, completion_at}
+use Rattle.nvme_fleet.proofs.Words.{◌≡◌, ℕ, ◌^◌, ◌<◌, true, false, refl, arith, slice_set, option_map, Off, Ready, SqTail, CqHead, Registers, is_enabled, after_write, prepared, doorbell, doorbell_value, configured, written, Lane, Admin, Io, queue_id, tail_doorbell, head_doorbell, Controller, after_write32, taking_effect, with_tail, with_head, without_queues, submission_at, completion_at}
 
 small-value : (v : ℕ) → v < 2 ^ 16 → doorbell_value v ≡ v
 small-value v h = omega (arith, h)

@@ -1,36 +1,11 @@
 -- An opening is regular, and a fleet stays so.
-use Rattle.std.proofs.Common.{◌≡◌, ℕ, ◌==◌, ◌≤◌, ◌<◌, ◌-◌, ◌^◌, ◌*◌, ◌%◌, ◌/◌, Bool, true, false, [], ◌∷◌, length, Option, None, Some, Ok, Err, refl, sym, ap, subst, ◌∙◌, arith}
+use Rattle.nvme_fleet.proofs.Words.{false≢true, ◌≡◌, ℕ, ◌==◌, ◌≤◌, ◌<◌, ◌-◌, ◌^◌, ◌*◌, ◌%◌, ◌/◌, Bool, true, false, [], ◌∷◌, length, Option, None, Some, Ok, Err, refl, sym, ap, subst, ◌∙◌, arith, submission_entry, opcode, cdw12, most_bytes, Command, Compare, AdminCommand, Verdict, Allowed, Denied, Device, block_count, command_of, data_length_of, is_one_of, IsLaidOut, Judgement, Lane, Admin, Io, Request, Asked, asked_of, is_bad, CommandComesTo, queues_of, scene_in, answer-size, BringsItsData, performed-size, FleetEvent, Reply, Item, lane_of, RequestComesTo, RequestComesToAs, IoRequestComesTo, RequestExecution, Site, admin_judgement, admin_request_execution, admin_request_execution_by, command_entry, io_verdict, scene_at, Fleet, Step, opening, setting_of, IsRegular, OpeningIsRegular, RegularityStays, WasTaken}
 use Rattle.std.proofs.lemmas.Nat.{from_le_bytes-to_le_bytes_4}
-use Rattle.nvme_wire.specs.Submission.{submission_entry, opcode, cdw12}
-use Rattle.nvme_spec.specs.Limits.{most_bytes}
-use Rattle.nvme_spec.specs.declared.command.Command.{Command}
-use Rattle.nvme_spec.specs.declared.command.Command.TheVariants.{Write, Compare}
-use Rattle.nvme_spec.specs.declared.command.AdminCommand.{AdminCommand}
-use Rattle.nvme_spec.specs.declared.verdict.Verdict.{Verdict}
-use Rattle.nvme_spec.specs.declared.verdict.Verdict.TheVariants.{Allowed, Denied}
+use Rattle.nvme_spec.specs.declared.command.Command.TheVariants.{Write}
 use Rattle.nvme_spec.specs.AdminCommands as admin_commands
-use Rattle.nvme_spec.specs.Blocks.{Device}
-use Rattle.nvme_spec.specs.Commands.{block_count, command_of, data_length_of, is_one_of}
-use Rattle.nvme_spec.specs.Layout.{IsLaidOut}
-use Rattle.nvme_spec.specs.Rules.{Judgement}
 use Rattle.nvme_spec.proofs.Openings.{opening_is_laid_out}
-use Rattle.nvme_driver.specs.declared.lane.Lane.{Lane}
-use Rattle.nvme_driver.specs.declared.lane.Lane.TheVariants.{Admin, Io}
-use Rattle.nvme_driver.specs.declared.request.Request.{Request}
 use Rattle.nvme_driver.specs.declared.request.Request.TheVariants as request
-use Rattle.nvme_driver.specs.Requests.{Asked, asked_of, is_bad}
 use Rattle.nvme_driver.proofs.Moving.{whole}
-use Rattle.nvme_machine.specs.CommandExecutions.{CommandComesTo}
-use Rattle.nvme_machine.specs.Controllers.{queues_of}
-use Rattle.nvme_machine.specs.Executing.{scene_in}
-use Rattle.nvme_machine.proofs.Layouts.{answer-size}
-use Rattle.nvme_machine.proofs.SecretCommands.{BringsItsData, performed-size}
-use Rattle.nvme_event.specs.declared.event.FleetEvent.{FleetEvent}
-use Rattle.nvme_event.specs.Replies.{Reply}
-use Rattle.nvme_fleet.specs.Mailboxes.{Item, lane_of}
-use Rattle.nvme_fleet.specs.Executions.{RequestComesTo, RequestComesToAs, IoRequestComesTo, RequestExecution, Site, admin_judgement, admin_request_execution, admin_request_execution_by, command_entry, io_verdict, scene_at}
-use Rattle.nvme_fleet.specs.Fleets.{Fleet, Step, opening, setting_of}
-use Rattle.nvme_fleet.specs.Regular.{IsRegular, OpeningIsRegular, RegularityStays, WasTaken}
 use Rattle.nvme_fleet.proofs.Existing.{allowed-passes}
 use Rattle.nvme_fleet.proofs.Fenced.{extents-stay, step-acts}
 use Rattle.nvme_fleet.proofs.Numbered as numbered
@@ -49,10 +24,7 @@ word-12 a fits = from_le_bytes-to_le_bytes_4 a.command.cdw12 fits
 
 -- one that is no Write and no Compare need not
 unlike : (a : Asked) (o : Option Command) → command_of (opcode (command_entry a)) ≡ o → is_one_of o (Write ∷ Compare ∷ []) ≡ false → BringsItsOwn a
-unlike a o is other command named one = absurd (no (sym other ∙ ap (λ p. is_one_of p (Write ∷ Compare ∷ [])) (sym is ∙ named) ∙ one))
-  where
-    no : false ≡ true → ⊥
-    no e = absurd (cc)
+unlike a o is other command named one = absurd (false≢true (sym other ∙ ap (λ p. is_one_of p (Write ∷ Compare ∷ [])) (sym is ∙ named) ∙ one))
 
 -- one that is some command, and as long as that says
 alike : (a : Asked) (x : Command) → command_of (opcode (command_entry a)) ≡ Some x → length a.sent ≡ data_length_of (Some x) (command_entry a) → BringsItsOwn a

@@ -1,25 +1,11 @@
 -- That a reset of a driver and its controller is a step of the mailbox.
-use Rattle.std.proofs.Common.{◌≤◌, Option, None, Some}
-use Rattle.nvme_spec.specs.Limits.{most_bytes}
-use Rattle.nvme_driver.specs.declared.slots.Waiting.{Waiting}
-use Rattle.nvme_driver.specs.Drivers.{abort}
-use Rattle.nvme_driver.specs.Polls.{waiting_at}
-use Rattle.nvme_fleet.specs.Views.{received_in}
+use Rattle.nvme_fleet.proofs.Words.{◌≤◌, Option, None, Some, most_bytes, Waiting, abort, waiting_at, received_in, ◌≡◌, false, refl, sym, ap, subst, ◌∙◌, inl, inr, cases_Bool, Off, Lane, Admin, Io, Driver, is_up, ends, after_reset, reset_calls, Controller, without_queues, Both, Sound, EndsFit, IsOff, host_side, device_side, mailbox, ResetIsAStep, after_calls}
 use Rattle.nvme_fleet.proofs.Orders.{pending-abort}
--- A reset is a step of the mailbox.
-use Rattle.std.proofs.Common.{◌≡◌, false, refl, sym, ap, subst, ◌∙◌, inl, inr}
-use Rattle.std.proofs.lemmas.Bool.{cases_Bool}
-use Rattle.nvme_spec.specs.declared.registers.ControllerState.TheVariants.{Off}
-use Rattle.nvme_driver.specs.declared.lane.Lane.{Lane}
-use Rattle.nvme_driver.specs.declared.lane.Lane.TheVariants.{Admin, Io}
-use Rattle.nvme_driver.specs.Drivers.{Driver, is_up, ends, after_reset, reset_calls}
-use Rattle.nvme_machine.specs.Controllers.{Controller, without_queues}
-use Rattle.nvme_fleet.specs.Lanes.{Both, reset, turned_off}
-use Rattle.nvme_fleet.specs.Sound.{Sound, EndsFit, IsOff, host_side, device_side, mailbox}
-use Rattle.nvme_fleet.specs.Steps.{ResetIsAStep, after_calls}
 use Rattle.nvme_fleet.proofs.Places.{no-way}
 use Rattle.nvme_fleet.proofs.Registering.{disabled, disabled-off}
 use Rattle.nvme_fleet.proofs.Resetting.{reset-both, reset-mail}
+
+-- A reset is a step of the mailbox.
 
 -- the controller once it was disabled
 abbrev off_now : Controller → Controller
@@ -42,12 +28,6 @@ written d c s = elim (cases_Bool (is_up d.state)) [
   | inl u ↦ let p = s.up u in disabled c p.enabled
   | inr u ↦ let o = s.down u in disabled-off c o.disabled ∙ same-off c o
 ]
-
-side-off : (c : Controller) → device_side (off_now c) ≡ turned_off (device_side c)
-side-off c = refl
-
-side-reset : (d : Driver) → host_side (after_reset d) ≡ reset (host_side d)
-side-reset d = refl
 
 pub fits : (d : Driver) (lane : Lane) → EndsFit (ends lane (after_reset d))
 fits d Admin = record { tail = refl; head = refl }

@@ -1,17 +1,11 @@
 -- A reset in one lane: it rests, its mailbox is empty, and the tickets of what was open are those of its slots.
-use Rattle.std.proofs.Common.{◌≡◌, ℕ, ◌+◌, ◌-◌, ◌%◌, ◌<◌, ◌≤◌, List, [], ◌∷◌, length, map, refl, ap, ◌∙◌, arith, zero, suc, false, inl, inr}
-use Rattle.std.proofs.lemmas.List.{length-map}
-use Rattle.std.proofs.lemmas.Bool.{cases_Bool}
-use Rattle.nvme_wire.specs.Submission.{cid}
-use Rattle.nvme_fleet.specs.Mailboxes.{Item, PostedAnswer}
-use Rattle.nvme_wire.specs.Completion.{Completion}
-use Rattle.nvme_fleet.specs.Views.{Host, State, Slot, slot_at, abort_slot, reset, off, box, item, item_in, answers, ticket_in, in_flight, commands, commands_of, unread, Carried, Running, Resting, Holds}
+use Rattle.nvme_fleet.proofs.Words.{◌≡◌, ℕ, ◌+◌, ◌-◌, ◌%◌, ◌<◌, ◌≤◌, List, [], ◌∷◌, length, map, refl, ap, ◌∙◌, arith, zero, suc, false, inl, inr, length-map, cases_Bool, cid, Item, PostedAnswer, Completion, State, Slot, slot_at, abort_slot, off, box, item, item_in, answers, ticket_in, in_flight, commands, commands_of, unread, Carried, Running, Resting, Holds, bears, Host}
+use Rattle.nvme_fleet.specs.Views.{reset}
 use Rattle.nvme_fleet.proofs.Totals.{total-append}
 use Rattle.nvme_fleet.proofs.Queues.{commands-append}
 use Rattle.nvme_fleet.proofs.Empties.{bare-off}
 use Rattle.nvme_fleet.proofs.Orders.{abort-idle, abort-age}
 use Rattle.nvme_fleet.proofs.Places.{no-way, Bare}
-use Rattle.nvme_fleet.specs.Views.{bears}
 
 slot-abort : (slots : List Slot) (k : ℕ) → slot_at (map abort_slot slots) k ≡ abort_slot (slot_at slots k)
 slot-abort [] k = refl

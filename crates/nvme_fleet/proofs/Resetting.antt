@@ -1,27 +1,11 @@
 -- A reset over both lanes: all that is open is aborted, by rising tickets.
-use Rattle.nvme_fleet.specs.Views.{item_in}
-use Rattle.nvme_fleet.specs.Mailboxes.{rising}
-use Rattle.nvme_fleet.specs.Mailboxes.{PostedAnswer}
-use Rattle.nvme_driver.specs.Polls.{waiting_at}
-use Rattle.nvme_fleet.specs.Mailboxes.{empty_box}
-use Rattle.nvme_fleet.specs.Mailboxes.{open_tickets}
-use Rattle.nvme_fleet.specs.Mailboxes.{tickets_in}
-use Rattle.nvme_fleet.specs.Mailboxes.{Item}
-use Rattle.nvme_fleet.specs.Mailboxes.{FetchedItem}
-use Rattle.nvme_wire.specs.Submission.{cid}
-use Rattle.nvme_driver.specs.Drivers.{abort}
-use Rattle.nvme_driver.specs.declared.slots.Waiting.{Waiting}
-use Rattle.std.proofs.Common.{◌≡◌, ℕ, ◌+◌, ◌≤◌, List, [], ◌∷◌, ◌++◌, map, refl, ap, sym, ◌∙◌, arith, zero, suc, true, false, cond, eqb, Option, Some, None, inl, inr}
-use Rattle.std.proofs.lemmas.List.{map-append, length-map}
-use Rattle.std.proofs.lemmas.Bool.{cases_Bool}
-use Rattle.nvme_wire.specs.Completion.{Completion}
-use Rattle.nvme_fleet.specs.Views.{Host, Slot, empty, slot_at, box, abort_slot, off, reset as reset_one, ticket_in, live_waiting, live_in, live_at as live_slot, commands_of, answers_of, unread, AgeIn, Ages as AgesOne}
+use Rattle.nvme_fleet.proofs.Words.{item_in, rising, PostedAnswer, waiting_at, empty_box, open_tickets, tickets_in, Item, FetchedItem, cid, abort, Waiting, ◌≡◌, ℕ, ◌+◌, ◌≤◌, List, [], ◌∷◌, ◌++◌, map, refl, ap, sym, ◌∙◌, arith, zero, suc, false, cond, eqb, Option, Some, None, inl, inr, map-append, length-map, cases_Bool, Completion, Slot, empty, slot_at, box, abort_slot, off, ticket_in, live_waiting, live_in, live_at as live_slot, commands_of, answers_of, unread, AgeIn, Ages as AgesOne, Lane, Admin, Io, same, Taken, HostSide, DeviceSide, Both, whole, slot_in, slots_in, commands_in, host, state, fetched_by, held_by, mail, in_order, aborted_number, turned_off, Host}
+use Rattle.nvme_fleet.proofs.Ranks.{same-self}
+use Rattle.nvme_fleet.specs.Views.{reset as reset_one}
 use Rattle.nvme_fleet.proofs.Totals.{live-small}
 use Rattle.nvme_fleet.proofs.Queues.{self-eqb}
 use Rattle.nvme_fleet.proofs.Resets.{reset-holds, reset-box, Whole, whole-of, placed-part, rung-part, parts, slots_of, cids_of, ticket_slot, placed-tickets, rung-tickets, posted-tickets}
-use Rattle.nvme_driver.specs.declared.lane.Lane.{Lane}
-use Rattle.nvme_driver.specs.declared.lane.Lane.TheVariants.{Admin, Io}
-use Rattle.nvme_fleet.specs.Lanes.{same, Taken, HostSide, DeviceSide, Both, whole, slot_in, slots_in, commands_in, host, state, fetched_by, held_by, mail, in_order, aborted_number, reset, turned_off}
+use Rattle.nvme_fleet.specs.Lanes.{reset}
 use Rattle.nvme_fleet.proofs.LaneSlots.{slot-in}
 use Rattle.nvme_fleet.proofs.Orders.{live_at, ticket_at, Ages, times, rising-slots, abort-all}
 use Rattle.nvme_fleet.proofs.Placing.{same-holds}
@@ -105,10 +89,6 @@ one-lane Io x i us vs = omega arith
 times-taken : (i : ℕ) (ts : List Taken) → times i (slots_taken ts) ≡ commands_of i (commands_in Admin ts) + commands_of i (commands_in Io ts)
 times-taken i [] = omega arith
 times-taken i (t ∷ ts) = omega (arith, times-taken i ts, one-lane t.lane t.command i (commands_in Admin ts) (commands_in Io ts))
-
-same-self : (l : Lane) → same l l ≡ true
-same-self Admin = refl
-same-self Io = refl
 
 -- a command's lane holds its slot
 own-more : (t : Taken) (ts : List Taken) (n : ℕ) → n ≡ cid t.command → commands_of n (commands_in t.lane (t ∷ ts)) ≡ 1 + commands_of n (commands_in t.lane ts)

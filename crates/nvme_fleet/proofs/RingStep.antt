@@ -1,18 +1,5 @@
 -- A ring is a step of the mailbox.
-use Rattle.std.proofs.Common.{◌≡◌, ℕ, ◌+◌, ◌-◌, ◌%◌, ◌^◌, ◌<◌, true, false, [], ◌∷◌, refl, sym, ap, subst, ◌∙◌, arith, inl, inr}
-use Rattle.std.proofs.lemmas.Bool.{cases_Bool, lt-ltb}
-use Rattle.std.specs.Prelude.{slice_set, option_map, if◌then◌else◌, Ok, Err}
-use Rattle.nvme_driver.specs.declared.lane.Lane.{Lane}
-use Rattle.nvme_driver.specs.declared.lane.Lane.TheVariants.{Admin, Io}
-use Rattle.nvme_driver.specs.Layout.{queue_id, tail_doorbell}
-use Rattle.nvme_driver.specs.Drivers.{Driver, is_up, tail_of, ring_calls}
-use Rattle.nvme_driver.specs.Calls.{Writes}
-use Rattle.nvme_machine.specs.Controllers.{Controller, with_tail, submission_at, after_write32}
-use Rattle.nvme_event.specs.declared.seen.FleetSeen.TheVariants.{Rung}
-use Rattle.nvme_fleet.specs.Deliveries.{MailboxReaction, mailbox_reaction, rung, ring_lane}
-use Rattle.nvme_fleet.specs.Lanes.{Both, pair, with_pair, mail, ring, ring_pair}
-use Rattle.nvme_fleet.specs.Sound.{Sound, IsPaired, host_side, device_side, mailbox}
-use Rattle.nvme_fleet.specs.Steps.{IsStep, RingIsAStep, after_calls, rung_reply}
+use Rattle.nvme_fleet.proofs.Words.{◌≡◌, ℕ, ◌+◌, ◌-◌, ◌%◌, ◌^◌, ◌<◌, true, false, [], ◌∷◌, refl, sym, ap, subst, ◌∙◌, arith, inl, inr, cases_Bool, lt-ltb, slice_set, option_map, if◌then◌else◌, Ok, Err, Lane, Admin, Io, queue_id, tail_doorbell, Driver, is_up, tail_of, ring_calls, Writes, Controller, with_tail, submission_at, after_write32, Rung, MailboxReaction, mailbox_reaction, rung, ring_lane, Both, pair, with_pair, mail, ring, ring_pair, Sound, IsPaired, host_side, device_side, mailbox, IsStep, RingIsAStep, after_calls, rung_reply}
 use Rattle.nvme_fleet.proofs.Places.{no-way}
 use Rattle.nvme_fleet.proofs.Registering.{tail-written}
 use Rattle.nvme_fleet.proofs.Fetching.{ring-both, ring-mail}

@@ -1,30 +1,7 @@
 -- Bringing up is a step of the mailbox: two rounds of a command of the driver's own.
-use Rattle.std.proofs.Common.{◌≡◌, ℕ, ◌<◌, Bool, true, false, List, length, Option, None, Some, Result, Ok, refl, sym, ap, subst, ◌∙◌, arith}
-use Rattle.nvme_wire.specs.declared.sqe.fields.SqeFields.{SqeFields}
-use Rattle.nvme_wire.specs.declared.status.Status.{Status}
-use Rattle.nvme_wire.specs.Submission.{submission_entry, cid as command_cid}
-use Rattle.nvme_wire.specs.Completion.{completion_entry}
-use Rattle.nvme_spec.specs.Bytes.{with_bytes}
-use Rattle.nvme_spec.specs.Blocks.{Device}
-use Rattle.nvme_spec.specs.World.{World}
-use Rattle.nvme_spec.specs.Registers.{value_at}
-use Rattle.nvme_driver.specs.declared.lane.Lane.{Lane}
-use Rattle.nvme_driver.specs.declared.lane.Lane.TheVariants.{Admin, Io}
+use Rattle.nvme_fleet.proofs.Words.{◌≡◌, ℕ, ◌<◌, Bool, true, false, List, length, Option, None, Some, Result, Ok, refl, sym, ap, subst, ◌∙◌, arith, SqeFields, Status, submission_entry, cid as command_cid, completion_entry, with_bytes, Device, World, value_at, Lane, Admin, Io, Down, Up, UpFault, Calls, Driver, ends, is_up, Rises, Creates, CreatesBoth, CreatesSubmissions, create_completion_queue, create_submission_queue, csts, is_ready, fault_of, start_calls, started, Concludes, Controller, SubmissionQueue, CompletionQueue, after_queue_change, Setting, setting, OwnCommand, Both, zeroed_all, come_up, brought_up, recounted, Mailbox, Sound, IsOff, is_failed, EndsFit, IsPaired, host_side, device_side, mailbox, LinkStep, BringUpIsAStep, with_controller, window_in, part-there}
 use Rattle.nvme_driver.specs.declared.state.State.{State}
-use Rattle.nvme_driver.specs.declared.state.State.TheVariants.{Down, Up}
-use Rattle.nvme_driver.specs.declared.faults.UpFault.{UpFault}
-use Rattle.nvme_driver.specs.Calls.{Calls}
-use Rattle.nvme_driver.specs.Drivers.{Driver, ends, is_up}
-use Rattle.nvme_driver.specs.Rises.{Rises, Creates, CreatesBoth, CreatesSubmissions, create_completion_queue, create_submission_queue, csts, is_ready, fault_of, start_calls, started, Concludes}
-use Rattle.nvme_machine.specs.Controllers.{Controller, SubmissionQueue, CompletionQueue, after_queue_change}
-use Rattle.nvme_machine.specs.Executing.{Setting, setting}
-use Rattle.nvme_fleet.specs.Lanes.{OwnCommand, Both, zeroed_all, come_up}
 use Rattle.nvme_fleet.specs.Lanes as lanes
-use Rattle.nvme_fleet.specs.Deliveries.{brought_up, recounted}
-use Rattle.nvme_fleet.specs.Mailboxes.{Mailbox}
-use Rattle.nvme_fleet.specs.Sound.{Sound, IsOff, is_failed, EndsFit, IsPaired, host_side, device_side, mailbox}
-use Rattle.nvme_fleet.specs.Links.{LinkStep, BringUpIsAStep, with_controller, window_in}
-use Rattle.nvme_driver.proofs.PageLists.{part-there}
 use Rattle.nvme_fleet.proofs.Places.{no-way}
 use Rattle.nvme_fleet.proofs.Windows.{stored-length}
 use Rattle.nvme_fleet.proofs.Rising.{IsOwn, up-both, up-mail, zeroed-size}

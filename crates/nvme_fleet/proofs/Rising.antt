@@ -1,15 +1,7 @@
 -- Bringing up over both lanes: both hold once the driver has come up, and the mailbox is up and counts anew.
-use Rattle.nvme_fleet.specs.Mailboxes.{LaneBox}
-use Rattle.nvme_wire.specs.Completion.{completion_of}
-use Rattle.nvme_fleet.specs.Lanes.{OwnCommand}
-use Rattle.nvme_fleet.specs.Deliveries.{recounted}
-use Rattle.std.proofs.Common.{◌≡◌, ℕ, ◌+◌, ◌*◌, ◌<◌, ◌≤◌, List, [], ◌∷◌, length, map, refl, ap, sym, ◌∙◌, arith, true, false, cond}
-use Rattle.nvme_spec.specs.Bytes.{with_bytes}
-use Rattle.nvme_fleet.specs.Views.{Host, State, zeros, zeroed, fresh_host, fresh_state, own_host, own_state, Resting, Holds}
+use Rattle.nvme_fleet.proofs.Words.{LaneBox, completion_of, OwnCommand, recounted, ◌≡◌, ℕ, ◌+◌, ◌*◌, ◌<◌, ◌≤◌, List, [], ◌∷◌, length, map, refl, ap, sym, ◌∙◌, arith, true, false, cond, with_bytes, State, zeros, zeroed, fresh_host, fresh_state, own_host, own_state, Resting, Holds, Lane, Admin, Io, same, Taken, HostSide, DeviceSide, Both, base, pages_of, slots_in, commands_in, host, state, fetched_by, held_by, mail, zeroed_all, own_window, up_window, come_up, Host}
 use Rattle.nvme_fleet.proofs.Ups.{Quiet, own-quiet, fresh-quiet, zeros-are, risen-holds, resting-box, quiet-box}
-use Rattle.nvme_driver.specs.declared.lane.Lane.{Lane}
-use Rattle.nvme_driver.specs.declared.lane.Lane.TheVariants.{Admin, Io}
-use Rattle.nvme_fleet.specs.Lanes.{same, Taken, HostSide, DeviceSide, Both, base, pages_of, slots_in, commands_in, host, state, fetched_by, held_by, mail, zeroed_all, own_window, up_window, come_up, brought_up}
+use Rattle.nvme_fleet.specs.Lanes.{brought_up}
 use Rattle.nvme_fleet.proofs.LaneWindows.{Same, same-both, Pages, pages}
 use Rattle.nvme_fleet.proofs.LaneSlots.{slots-apart}
 use Rattle.nvme_fleet.proofs.Polling.{same-mail}
@@ -157,9 +149,3 @@ up-mail d c first second b u e f =
     (quiet-box _ _ q.io ∙ sym (ap (λ (x : LaneBox). record x { unheard = 0; since = 0 }) (resting-box _ _ ri)))
     (sym (ap (map (fetched_by (held_by d c.window))) t))
     refl
-
-pub none-fetched-off : (d : HostSide) (c : DeviceSide) → Both d c → d.up ≡ false → c.taken ≡ []
-none-fetched-off d c b u =
-    let ra : Resting (host Admin d c.window) (state Admin c) = (b.each Admin).down u in
-    let ri : Resting (host Io d c.window) (state Io c) = (b.each Io).down u in
-    none-taken c.taken (ap (λ (s : State). s.taken) ra.off) (ap (λ (s : State). s.taken) ri.off)

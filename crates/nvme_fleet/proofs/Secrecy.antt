@@ -1,53 +1,19 @@
 -- Hosts of a fleet that may not read a namespace learn nothing of its bytes.
-use Rattle.std.proofs.Common.{◌≡◌, ◌<◌, ◌-◌, ◌^◌, ℕ, Bool, true, false, List, [], ◌∷◌, Option, None, Some, Ok, Err, refl, sym, ap, subst, ◌∙◌, arith}
-use Rattle.std.specs.Prelude.{slice_get}
-use Rattle.nvme_wire.specs.Submission.{opcode}
-use Rattle.nvme_spec.specs.declared.command.AdminCommand.{AdminCommand}
-use Rattle.nvme_spec.specs.declared.verdict.Verdict.{Verdict}
-use Rattle.nvme_spec.specs.declared.verdict.Verdict.TheVariants.{Allowed, Denied}
+use Rattle.nvme_fleet.proofs.Words.{fault_free_step, ◌≡◌, ◌<◌, ◌-◌, ◌^◌, ℕ, Bool, true, false, List, [], ◌∷◌, Option, None, Some, Ok, Err, refl, sym, ap, subst, ◌∙◌, arith, slice_get, opcode, AdminCommand, Verdict, Allowed, Denied, Device, reserving, IsLaidOut, may_read, Judgement, World, Lane, Admin, Io, Asked, FetchedCommand, Executed, CommandExecution, Controller, QueuePair, open_pair, queues_of, FinishesOne, FinishesOver, Setting, scene_in, DifferIn, after_completion, Mirrors, command_execution_over, answers-over, performs, differ-still, FleetEvent, BringUp, Place, Ring, Fetch, Execute, Poll, Reset, RawStore, RawWrite32, PowerCycle, FleetSeen, OfItsHost, Reply, FetchedItem, Mailbox, lane_of, MailboxReaction, Layers, fleet_in, RequestComesTo, RequestComesToAs, IoRequestComesTo, RequestExecution, Site, admin_judgement, admin_request_execution, admin_request_execution_by, command_entry, io_verdict, scene_at, Allows, Forgets, LeavesReservation, RunWhere, ExecutesAt, ExecutesItem, ExecutesRaw, Fleet, Is, Raw, Step, WithDriver, after_answer, after_execution, after_raw, called_at, fetched_at, host_at, power_cycled, raw_at, setting_of, settled, with_host, IsRegular, WasTaken, FencedReading, FencedReadingIsSame, LayersReadTheSame, MayNotRead, layers_over, site_over, HaveTicketsOnce}
+use Rattle.nvme_fleet.specs.Fleets.{Host}
 use Rattle.nvme_spec.specs.AdminCommands as admin_commands
-use Rattle.nvme_spec.specs.Blocks.{Device}
-use Rattle.nvme_spec.specs.Commands.{reserving}
-use Rattle.nvme_spec.specs.Layout.{IsLaidOut, may_read}
-use Rattle.nvme_spec.specs.Rules.{Judgement}
-use Rattle.nvme_spec.specs.World.{World}
-use Rattle.nvme_driver.specs.declared.lane.Lane.{Lane}
-use Rattle.nvme_driver.specs.declared.lane.Lane.TheVariants.{Admin, Io}
-use Rattle.nvme_driver.specs.Requests.{Asked}
-use Rattle.nvme_machine.specs.declared.fetched.FetchedCommand.{FetchedCommand}
-use Rattle.nvme_machine.specs.declared.seen.Executed.{Executed}
-use Rattle.nvme_machine.specs.CommandExecutions.{CommandExecution}
-use Rattle.nvme_machine.specs.Controllers.{Controller, QueuePair, open_pair, queues_of}
-use Rattle.nvme_machine.specs.Executing.{FinishesOne, FinishesOver, Setting, scene_in}
-use Rattle.nvme_machine.specs.Secrecy.{DifferIn}
-use Rattle.nvme_machine.specs.Subsystems.{after_completion}
-use Rattle.nvme_machine.proofs.SecretCommands.{Mirrors, command_execution_over, answers-over, performs}
-use Rattle.nvme_machine.proofs.Secrecy.{differ-still}
-use Rattle.nvme_event.specs.declared.event.FleetEvent.{FleetEvent}
-use Rattle.nvme_event.specs.declared.event.FleetEvent.TheVariants.{BringUp, Place, Ring, Fetch, Execute, Poll, Reset, RawStore, RawWrite32, PowerCycle}
-use Rattle.nvme_event.specs.declared.seen.FleetSeen.{FleetSeen}
-use Rattle.nvme_event.specs.Events.{OfItsHost}
-use Rattle.nvme_event.specs.Replies.{Reply}
-use Rattle.nvme_fleet.specs.Mailboxes.{FetchedItem, Mailbox, lane_of}
-use Rattle.nvme_fleet.specs.Deliveries.{MailboxReaction}
 use Rattle.nvme_fleet.specs.Bytes as bytes
-use Rattle.nvme_fleet.specs.FleetStates.{Layers, fleet_in}
-use Rattle.nvme_fleet.specs.Executions.{RequestComesTo, RequestComesToAs, IoRequestComesTo, RequestExecution, Site, admin_judgement, admin_request_execution, admin_request_execution_by, command_entry, io_verdict, scene_at}
-use Rattle.nvme_fleet.specs.Fencing.{Allows, Forgets, LeavesReservation, RunWhere}
-use Rattle.nvme_fleet.specs.Fleets.{ExecutesAt, ExecutesItem, ExecutesRaw, Fleet, Host, Is, Raw, Step, WithDriver, after_answer, after_execution, after_raw, called_at, fetched_at, host_at, power_cycled, raw_at, setting_of, settled, with_host}
 use Rattle.nvme_fleet.specs.IoCommands.{command_at}
-use Rattle.nvme_fleet.specs.Regular.{IsRegular, WasTaken}
-use Rattle.nvme_fleet.specs.Secrecy.{FencedReading, FencedReadingIsSame, LayersReadTheSame, MayNotRead, layers_over, over, site_over}
+use Rattle.nvme_fleet.specs.Secrecy.{over}
 use Rattle.nvme_fleet.proofs.Bytes.{of-each, runs_of_mailboxes}
 use Rattle.nvme_fleet.proofs.Determined.{run_is_unique}
-use Rattle.nvme_fleet.proofs.Existing.{allowed-passes, called-site, fetched-site, raw-site}
+use Rattle.nvme_fleet.proofs.Existing.{IsOther, allowed-passes, other-site}
 use Rattle.nvme_fleet.proofs.Fenced.{extents-stay, plainly, reading-stays, step-acts}
 use Rattle.nvme_fleet.proofs.Regular.{BringsItsOwn, admin-device, step-regular, taken-brings}
 use Rattle.nvme_fleet.proofs.LayersOver.{step-leads}
 use Rattle.nvme_fleet.proofs.Taken.{at-place}
 use Rattle.nvme_fleet.proofs.Unique.{count, happens-once, run-counted, step-counted}
 use Rattle.nvme_fleet.specs.Layers as layers
-use Rattle.nvme_fleet.specs.Unique.{HaveTicketsOnce}
 
 -- What a request comes to over one medium it can come to over the other.
 
@@ -185,28 +151,27 @@ cycles : (n : ℕ) (old new : Fleet) (reply : Reply) (d : Device) → DifferIn n
 unfolding power_cycled
 cycles n old new reply d differ h = (d, (h.0, ap (over d) h.1), same-device n old.site.world old.site.device new.site.device d differ (ap (λ (f : Fleet). f.site.device) h.1))
 
+other-over : (f : Fleet) (event : FleetEvent) → IsOther event → (d : Device) (reply : Reply) (new : Fleet) → Is (fault_free_step f event) reply new → Is (fault_free_step (over d f) event) reply (over d new)
+unfolding host_at
+other-over f (BringUp k) other d reply new h = called-over (host_at f k) f k _ d reply new h
+other-over f (Place k request) other d reply new h = called-over (host_at f k) f k _ d reply new h
+other-over f (Ring k) other d reply new h = called-over (host_at f k) f k _ d reply new h
+other-over f (Fetch k q) other d reply new h = fetched-over (host_at f k) f k q d reply new h
+other-over f (Execute k i) other d reply new h = absurd other
+other-over f (Poll k) other d reply new h = called-over (host_at f k) f k _ d reply new h
+other-over f (Reset k) other d reply new h = called-over (host_at f k) f k _ d reply new h
+other-over f (RawStore k address bytes) other d reply new h = raw-over (host_at f k) f k _ _ d reply new h
+other-over f (RawWrite32 k offset v) other d reply new h = raw-over (host_at f k) f k _ _ d reply new h
+other-over f PowerCycle other d reply new h = absurd other
+
 pub step-over : (n : ℕ) (old new : Fleet) (event : FleetEvent) (reply : Reply) (d : Device) → IsRegular old → DifferIn n old.site.world old.site.device d
     → OfItsHost (λ k. may_read old.site.world k n ≡ false) event → Step true old event reply new
     → MirrorsStep n old new (λ x. Step true (over d old) event reply (over x new))
 unfolding host_at
-step-over n old new (BringUp k) reply d regular differ fenced h =
-    (d, called-over (host_at old k) old k _ d reply new h, stays n old new d differ (ap (λ (f : Fleet). f.site) h.1 ∙ called-site (host_at old k) old k _))
-step-over n old new (Place k request) reply d regular differ fenced h =
-    (d, called-over (host_at old k) old k _ d reply new h, stays n old new d differ (ap (λ (f : Fleet). f.site) h.1 ∙ called-site (host_at old k) old k _))
-step-over n old new (Ring k) reply d regular differ fenced h =
-    (d, called-over (host_at old k) old k _ d reply new h, stays n old new d differ (ap (λ (f : Fleet). f.site) h.1 ∙ called-site (host_at old k) old k _))
-step-over n old new (Fetch k q) reply d regular differ fenced h =
-    (d, fetched-over (host_at old k) old k q d reply new h, stays n old new d differ (ap (λ (f : Fleet). f.site) h.1 ∙ fetched-site (host_at old k) old k q))
 step-over n old new (Execute k i) reply d regular differ fenced h = executes-over (host_at old k) n old new k i reply d regular differ fenced refl h
-step-over n old new (Poll k) reply d regular differ fenced h =
-    (d, called-over (host_at old k) old k _ d reply new h, stays n old new d differ (ap (λ (f : Fleet). f.site) h.1 ∙ called-site (host_at old k) old k _))
-step-over n old new (Reset k) reply d regular differ fenced h =
-    (d, called-over (host_at old k) old k _ d reply new h, stays n old new d differ (ap (λ (f : Fleet). f.site) h.1 ∙ called-site (host_at old k) old k _))
-step-over n old new (RawStore k address bytes) reply d regular differ fenced h =
-    (d, raw-over (host_at old k) old k _ _ d reply new h, stays n old new d differ (ap (λ (f : Fleet). f.site) h.1 ∙ raw-site (host_at old k) old k _ _))
-step-over n old new (RawWrite32 k offset v) reply d regular differ fenced h =
-    (d, raw-over (host_at old k) old k _ _ d reply new h, stays n old new d differ (ap (λ (f : Fleet). f.site) h.1 ∙ raw-site (host_at old k) old k _ _))
 step-over n old new PowerCycle reply d regular differ fenced h = cycles n old new reply d differ h
+step-over n old new event reply d regular differ fenced h =
+    (d, other-over old event tt d reply new h, stays n old new d differ (ap (λ (f : Fleet). f.site) h.1 ∙ other-site old event tt))
 
 -- Runs.
 

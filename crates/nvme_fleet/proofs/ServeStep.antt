@@ -1,46 +1,20 @@
 -- What an allowed I/O command does is what its request does.
-use Rattle.std.proofs.Common.{◌≡◌, ℕ, ◌+◌, ◌*◌, ◌≤◌, ◌==◌, ◌&&◌, Bool, true, false, List, [], ◌∷◌, length, take, Option, None, Some, refl, sym, ap, subst, ◌∙◌, arith, inl, inr, slice_get}
-use Rattle.std.proofs.lemmas.Bool.{cases_Bool}
-use Rattle.std.proofs.lemmas.List.{take_all}
-use Rattle.std.specs.Prelude.{is_some, replicate, if◌then◌else◌}
-use Rattle.nvme_wire.specs.Submission.{cid, nsid}
-use Rattle.nvme_wire.specs.declared.status.Status.{Status}
-use Rattle.nvme_spec.specs.declared.command.Command.{Command}
+use Rattle.nvme_fleet.proofs.Words.{◌≡◌, ℕ, ◌+◌, ◌*◌, ◌≤◌, ◌==◌, ◌&&◌, Bool, true, false, List, [], ◌∷◌, length, take, Option, None, Some, refl, sym, ap, subst, ◌∙◌, arith, inl, inr, slice_get, cases_Bool, take_all, is_some, replicate, if◌then◌else◌, cid, nsid, Status, Command, Device, World, Namespace, namespace_of, data_length, data_length_of, is_one_of, block_count, marks_on, no_marks, Scene, scene, Performs, medium_block, start_of, report_of, world_after, marks_of, removed_by, reservation_outcome, data_of, HasPassed, has-passed, waiting_at, answer_len, is_success, Io, Asked, with_scattered, data_addresses, RequestExecution, mailbox, Driver, FetchedCommand, Controller, FetchedItem, command_entry, action_of, IsServed, bytes_with, asked_in, received_in, AllowedServesItsRequest, request_execution_with}
 use Rattle.nvme_spec.specs.declared.command.Command.TheVariants as io
-use Rattle.nvme_spec.specs.Blocks.{Device}
-use Rattle.nvme_spec.specs.World.{World, Namespace, namespace_of}
-use Rattle.nvme_spec.specs.Commands.{data_length, data_length_of, is_one_of, block_count}
 use Rattle.nvme_spec.specs.Effects.{ReadEffect, WriteEffect, CompareEffect}
-use Rattle.nvme_spec.specs.Execution.{marks_on, no_marks, Scene, scene, Performs, medium_block, start_of, report_of, world_after, marks_of, removed_by}
 use Rattle.nvme_spec.specs.Report.{ControllerHost}
-use Rattle.nvme_spec.specs.IoData.{reservation_outcome, data_of}
 use Rattle.nvme_spec.specs.Reservation as resv
 use Rattle.nvme_spec.specs.Statuses as status
-use Rattle.nvme_spec.proofs.Passing.{HasPassed, has-passed}
 use Rattle.nvme_spec.proofs.Reporting.{length-report_data}
-use Rattle.nvme_driver.specs.Polls.{waiting_at, answer_len, is_success}
-use Rattle.nvme_driver.specs.declared.lane.Lane.TheVariants.{Io}
-use Rattle.nvme_driver.specs.Requests.{Asked}
-use Rattle.nvme_spec.specs.Transfers.{with_scattered}
-use Rattle.nvme_spec.specs.DataRules.{data_addresses}
-use Rattle.nvme_fleet.specs.Executions.{RequestExecution}
-use Rattle.nvme_fleet.specs.Sound.{mailbox}
-use Rattle.nvme_driver.specs.Drivers.{Driver}
-use Rattle.nvme_machine.specs.declared.fetched.FetchedCommand.{FetchedCommand}
-use Rattle.nvme_machine.specs.Controllers.{Controller}
-use Rattle.nvme_fleet.specs.Mailboxes.{FetchedItem}
-use Rattle.nvme_fleet.specs.Executions.{command_entry, action_of, IsServed, bytes_with}
-use Rattle.nvme_fleet.specs.Views.{asked_in, received_in}
-use Rattle.nvme_fleet.specs.Steps.{AllowedServesItsRequest, request_execution_with}
 use Rattle.nvme_fleet.proofs.Places.{no-way}
 use Rattle.nvme_fleet.proofs.Commands.{SameFields}
-use Rattle.nvme_fleet.proofs.Judging.{length-same, count-same, lba-same, action-same}
+use Rattle.nvme_fleet.proofs.Judging.{length-same, same-count, same-lba, same-action}
 use Rattle.nvme_fleet.proofs.PostStep.{slot_seen}
 use Rattle.nvme_fleet.proofs.HeldStep.{item-is, data-same}
 use Rattle.nvme_fleet.proofs.JudgeStep.{IsIo, io-known, asked-is, action-is, plain-io, length-is, data-is}
 
 same-block : (w : World) (x y : List ℕ) → SameFields x y → medium_block w x ≡ medium_block w y
-same-block w x y h = sym (λ i. start_of (namespace_of w (h.nsid i)) + lba-same x y h i)
+same-block w x y h = sym (λ i. start_of (namespace_of w (h.nsid i)) + same-lba x y h i)
 
 -- where the keys are those of the request as far as the command looks at them
 performs-same : (tells : Bool) (command : Command) (k : ℕ) (x y keys sent : List ℕ) (old new : Scene) (answer : Status) (returned : List ℕ) (received m : ℕ) → SameFields x y
@@ -51,7 +25,7 @@ performs-same : (tells : Bool) (command : Command) (k : ℕ) (x y keys sent : Li
 performs-same tells io.Flush k x y keys sent old new answer returned received m f r e o h = record { world = h.world; effect = h.effect }
 performs-same tells io.Read k x y keys sent old new answer returned received m f r e o h =
     let b = same-block old.world x y f in
-    let n = sym (count-same x y f) in
+    let n = sym (same-count x y f) in
     record { world = h.world; effect = subst (λ q. ReadEffect tells (medium_block old.world y) (512 * q) old.device new.device answer returned) n (subst (λ q. ReadEffect tells q (512 * block_count x) old.device new.device answer returned) b h.effect) }
 performs-same tells io.Write k x y keys sent old new answer returned received m f r e o h =
     let b = same-block old.world x y f in
@@ -59,7 +33,7 @@ performs-same tells io.Write k x y keys sent old new answer returned received m 
     record { world = h.world; effect = (subst (λ q. WriteEffect tells (medium_block old.world y) q old.device new.device answer) (e r) (subst (λ q. WriteEffect tells q keys old.device new.device answer) b g.0), g.1) }
 performs-same tells io.WriteZeroes k x y keys sent old new answer returned received m f r e o h =
     let b = same-block old.world x y f in
-    let n = sym (count-same x y f) in
+    let n = sym (same-count x y f) in
     let g = h.effect in
     record { world = h.world; effect = (subst (λ q. WriteEffect tells (medium_block old.world y) (replicate (512 * q) 0) old.device new.device answer) n (subst (λ q. WriteEffect tells q (replicate (512 * block_count x) 0) old.device new.device answer) b g.0), g.1) }
 performs-same tells io.Compare k x y keys sent old new answer returned received m f r e o h =
@@ -124,7 +98,7 @@ returns tells command k x keys old new answer returned p h = let f = h.effect in
 marks-same : (command : Command) (x y : List ℕ) (o q : Option resv.ActionOutcome) → SameFields x y → o ≡ q → marks_of command x o ≡ marks_of command y q
 marks-same command x y o q f e =
     ap (marks_of command x) e
-    ∙ sym (λ i. if is_one_of (Some command) (io.ReservationAcquire ∷ []) && action-same x y f i == 2 then marks_on (f.nsid i) (removed_by q) else no_marks)
+    ∙ sym (λ i. if is_one_of (Some command) (io.ReservationAcquire ∷ []) && same-action x y f i == 2 then marks_on (f.nsid i) (removed_by q) else no_marks)
 
 -- the bytes that come with the answer
 handed : (why : Status) (received : ℕ) (returned : List ℕ) → (is_success why ≡ true → length returned ≡ received) → take (answer_len received why) returned ≡ bytes_with why returned

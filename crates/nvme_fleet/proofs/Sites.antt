@@ -1,19 +1,7 @@
 -- What each event of a fleet leaves of access state and medium.
-use Rattle.std.proofs.Common.{◌≡◌, ℕ, Bool, Option, None, Some, refl, ap, ◌∙◌}
-use Rattle.std.specs.Prelude.{slice_get}
-use Rattle.nvme_spec.specs.Power.{cycled_world}
-use Rattle.nvme_machine.specs.declared.fetched.FetchedCommand.{FetchedCommand}
-use Rattle.nvme_machine.specs.declared.seen.Executed.{Executed}
-use Rattle.nvme_machine.specs.Controllers.{Controller, QueuePair, queues_of, open_pair}
-use Rattle.nvme_machine.specs.CommandExecutions.{CommandComesTo, CommandExecution}
-use Rattle.nvme_machine.specs.Executing.{Setting, FinishesOne, FinishesOver, scene_in}
-use Rattle.nvme_event.specs.declared.event.FleetEvent.{FleetEvent}
-use Rattle.nvme_event.specs.declared.event.FleetEvent.TheVariants.{BringUp, Place, Ring, Fetch, Execute, Poll, Reset, RawStore, RawWrite32, PowerCycle}
-use Rattle.nvme_event.specs.Replies.{Reply}
-use Rattle.nvme_fleet.specs.Mailboxes.{FetchedItem, Mailbox}
-use Rattle.nvme_fleet.specs.Executions.{RequestExecution, RequestComesTo}
-use Rattle.nvme_fleet.specs.Fleets.{Host, WithDriver, Raw, Fleet, Moment, Is, Step, host_at, power_cycled, settled, site_of, setting_of, ExecutesItem, ExecutesRaw, ExecutesAt}
-use Rattle.nvme_fleet.proofs.Existing.{called-site, raw-site, fetched-site}
+use Rattle.nvme_fleet.proofs.Words.{fault_free_step, ◌≡◌, ℕ, Bool, Option, None, Some, refl, ap, ◌∙◌, slice_get, cycled_world, FetchedCommand, Executed, Controller, QueuePair, queues_of, open_pair, CommandComesTo, CommandExecution, Setting, FinishesOne, FinishesOver, scene_in, FleetEvent, Execute, PowerCycle, Reply, FetchedItem, Mailbox, RequestExecution, RequestComesTo, WithDriver, Raw, Fleet, Moment, Is, Step, host_at, power_cycled, settled, site_of, setting_of, ExecutesItem, ExecutesRaw, ExecutesAt}
+use Rattle.nvme_fleet.specs.Fleets.{Host}
+use Rattle.nvme_fleet.proofs.Existing.{other-site}
 
 -- What an event leaves: what was there, what an execution answers, or what outlasts a power cycle.
 pub data Leaves (tells : Bool) (old new : Fleet) (event : FleetEvent) : Type 0 where
@@ -63,13 +51,6 @@ unfolding power_cycled
 cycles tells old new h = PowerLost refl (ap (λ (f : Fleet). f.site) h)
 
 pub leaves : (tells : Bool) (old new : Fleet) (event : FleetEvent) (reply : Reply) → Step tells old event reply new → Leaves tells old new event
-leaves tells old new (BringUp k) reply h = moves tells old new _ _ reply (called-site (host_at old k) old k _) h
-leaves tells old new (Place k request) reply h = moves tells old new _ _ reply (called-site (host_at old k) old k _) h
-leaves tells old new (Ring k) reply h = moves tells old new _ _ reply (called-site (host_at old k) old k _) h
-leaves tells old new (Fetch k q) reply h = moves tells old new _ _ reply (fetched-site (host_at old k) old k q) h
 leaves tells old new (Execute k i) reply h = executes (host_at old k) tells old new k i reply refl h
-leaves tells old new (Poll k) reply h = moves tells old new _ _ reply (called-site (host_at old k) old k _) h
-leaves tells old new (Reset k) reply h = moves tells old new _ _ reply (called-site (host_at old k) old k _) h
-leaves tells old new (RawStore k address bytes) reply h = moves tells old new _ _ reply (raw-site (host_at old k) old k _ _) h
-leaves tells old new (RawWrite32 k offset v) reply h = moves tells old new _ _ reply (raw-site (host_at old k) old k _ _) h
 leaves tells old new PowerCycle reply h = cycles tells old new h.1
+leaves tells old new event reply h = moves tells old new event (fault_free_step old event) reply (other-site old event tt) h

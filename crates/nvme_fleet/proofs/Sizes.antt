@@ -1,15 +1,9 @@
 -- How many bytes a request moves: those that it sends, or those that it receives, and never more than a transfer has.
-use Rattle.std.proofs.Common.{true, ◌≡◌, ℕ, ◌-◌, ◌*◌, ◌≤◌, nat_lt, false, List, ◌++◌, length, refl, ap, ◌∙◌, arith, length-append, inl, inr}
-use Rattle.std.proofs.lemmas.Bool.{cases_lt, lt-ltb}
-use Rattle.std.specs.Prelude.{◌==◌}
-use Rattle.nvme_spec.specs.Limits.{most_bytes}
+use Rattle.nvme_fleet.proofs.Words.{true, ◌≡◌, ℕ, ◌-◌, ◌*◌, ◌≤◌, nat_lt, false, List, ◌++◌, length, refl, ap, ◌∙◌, arith, length-append, inl, inr, cases_lt, lt-ltb, ◌==◌, most_bytes, is_plain, Request, Asked, asked_of, is_bad, key, controller_list, within}
 use Rattle.nvme_spec.specs.Commands as io_commands
-use Rattle.nvme_fleet.specs.Views.{is_plain}
 use Rattle.nvme_fleet.proofs.Queues.{self-eqb}
-use Rattle.nvme_driver.specs.declared.request.Request.{Request}
 use Rattle.nvme_driver.specs.declared.request.Request.TheVariants.{Read, Write, Compare, Register, Acquire, Release, Report, Attach, Detach}
-use Rattle.nvme_driver.specs.Requests.{Asked, asked_of, is_bad, key, controller_list}
-use Rattle.nvme_driver.proofs.Moving.{within, whole}
+use Rattle.nvme_driver.proofs.Moving.{whole}
 use Rattle.nvme_driver.proofs.Spelling.{controller_list_length}
 
 pub record Sizes (a : Asked) : Type 0 where

@@ -1,8 +1,5 @@
 -- A slot that no command and no completion bears may change; at most 24 are borne.
-use Rattle.std.proofs.Common.{◌≡◌, ℕ, ◌+◌, ◌≤◌, List, [], ◌∷◌, length, map, refl, arith, true, false, cond, eqb, Bool, slice_set}
-use Rattle.nvme_wire.specs.Submission.{cid}
-use Rattle.nvme_wire.specs.Completion.{Completion}
-use Rattle.nvme_fleet.specs.Views.{Host, State, Slot, slot_at, item, answers, total, odd, commands_of, answers_of, Running, in_flight}
+use Rattle.nvme_fleet.proofs.Words.{◌≡◌, ℕ, ◌+◌, ◌≤◌, List, [], ◌∷◌, length, map, refl, arith, true, false, cond, eqb, Bool, slice_set, cid, Completion, State, Slot, slot_at, item, answers, total, odd, commands_of, answers_of, Running, in_flight, Host}
 use Rattle.nvme_fleet.proofs.Totals.{live-few, slot-other}
 
 -- the slots other than the i-th hold the same

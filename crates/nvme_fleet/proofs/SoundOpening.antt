@@ -1,19 +1,7 @@
 -- A driver that never came up, at a controller that was never enabled.
-use Rattle.std.proofs.Common.{◌≡◌, ℕ, zero, suc, ◌≤◌, false, List, length, drop, None, refl, sym, ap, subst, arith, length-drop}
-use Rattle.std.proofs.lemmas.List.{length-take-le}
-use Rattle.std.specs.Prelude.{replicate}
-use Rattle.nvme_spec.specs.Memory.{zeros, window_size}
-use Rattle.nvme_driver.specs.declared.lane.Lane.{Lane}
-use Rattle.nvme_driver.specs.declared.lane.Lane.TheVariants.{Admin, Io}
-use Rattle.nvme_driver.specs.Drivers.{new_driver, ends}
-use Rattle.nvme_machine.specs.Controllers.{new_controller}
+use Rattle.nvme_fleet.proofs.Words.{◌≡◌, ℕ, zero, suc, ◌≤◌, false, List, length, drop, None, refl, sym, ap, subst, arith, length-drop, length-take-le, replicate, window_size, Lane, Admin, Io, new_driver, ends, new_controller, most_bytes, waiting_at, empty, slot_at, live_in, received_in, AgeIn, Resting, Holds, Both, base, pages_of, slots_in, host, state, IsOff, EndsFit, host_side, device_side, OpeningIsSound}
+use Rattle.nvme_spec.specs.Memory.{zeros}
 use Rattle.nvme_machine.proofs.Windows.{length-zeros}
-use Rattle.nvme_spec.specs.Limits.{most_bytes}
-use Rattle.nvme_driver.specs.Polls.{waiting_at}
-use Rattle.nvme_fleet.specs.Views.{empty, slot_at, live_in, received_in, AgeIn, Resting, Holds}
-use Rattle.nvme_fleet.specs.Lanes.{Both, base, pages_of, slots_in, host, state}
-use Rattle.nvme_fleet.specs.Sound.{IsOff, EndsFit, host_side, device_side}
-use Rattle.nvme_fleet.specs.Steps.{OpeningIsSound}
 use Rattle.nvme_fleet.proofs.Places.{no-way}
 use Rattle.nvme_fleet.proofs.Polling.{same-mail}
 use Rattle.nvme_fleet.proofs.Ups.{resting-box}

@@ -1,31 +1,12 @@
 -- A controller that is off, once a driver has set its registers and enabled it.
-use Rattle.std.proofs.Common.{◌≡◌, ℕ, ◌+◌, ◌^◌, ◌<◌, ◌≤◌, Bool, false, List, [], ◌∷◌, ◌++◌, length, Option, None, Some, refl, ap, ◌∙◌, arith}
-use Rattle.std.proofs.lemmas.Bool.{le-leb}
-use Rattle.nvme_spec.specs.Bytes.{with_bytes}
-use Rattle.nvme_spec.specs.declared.registers.ControllerState.TheVariants.{Off, Ready}
-use Rattle.nvme_spec.specs.Registers.{is_enabled, after_write, prepared, configured, can_enable, value_at, with_low, with_high}
-use Rattle.nvme_driver.specs.declared.lane.Lane.TheVariants.{Admin, Io}
-use Rattle.nvme_driver.specs.Calls.{Call, Stores, Writes, Reads, Turns, Calls}
-use Rattle.nvme_driver.specs.Layout.{submission_queue, completion_queue}
-use Rattle.nvme_driver.specs.Drivers.{cc}
-use Rattle.nvme_driver.specs.Rises.{csts, aqa, asq_low, asq_high, acq_low, acq_high, admin_sizes, enabling, zero_page}
-use Rattle.nvme_machine.specs.Controllers.{Controller, SubmissionQueue, CompletionQueue, after_store, after_write32, taking_effect, no_submission_queues, no_completion_queues}
-use Rattle.nvme_machine.specs.Executing.{Setting}
-use Rattle.nvme_fleet.specs.Views.{zeros}
-use Rattle.nvme_fleet.specs.Lanes.{zeroed_all}
-use Rattle.nvme_fleet.specs.Sound.{IsOff}
-use Rattle.nvme_subsys.proofs.Sound.{store-id, write-id}
-use Rattle.nvme_fleet.specs.Steps.{after_call, after_calls}
-use Rattle.nvme_fleet.specs.Links.{LinkStep, with_controller}
+use Rattle.nvme_fleet.proofs.Words.{◌≡◌, ℕ, ◌+◌, ◌^◌, ◌<◌, ◌≤◌, Bool, false, List, [], ◌∷◌, ◌++◌, length, Option, None, Some, refl, ap, ◌∙◌, arith, le-leb, with_bytes, Off, Ready, is_enabled, after_write, prepared, configured, can_enable, value_at, with_low, with_high, Admin, Io, Call, Stores, Writes, Reads, Turns, Calls, submission_queue, completion_queue, cc, csts, aqa, asq_low, asq_high, acq_low, acq_high, admin_sizes, enabling, zero_page, Controller, SubmissionQueue, CompletionQueue, after_store, after_write32, taking_effect, no_submission_queues, no_completion_queues, Setting, zeros, zeroed_all, IsOff, store-id, write-id, after_call, after_calls, LinkStep, with_controller}
 use Rattle.nvme_fleet.proofs.Ups.{zeros-are}
 
 -- Calls that grant no turn.
 abbrev pub IsPlain : List Call → Type 0
 IsPlain [] = Unit {0}
-IsPlain (Stores address bytes ∷ calls) = IsPlain calls
-IsPlain (Writes offset v ∷ calls) = IsPlain calls
-IsPlain (Reads offset v ∷ calls) = IsPlain calls
 IsPlain (Turns ∷ calls) = ⊥
+IsPlain (call ∷ calls) = IsPlain calls
 
 pub calls-are : (tells : Bool) (calls : List Call) (old new : Setting) → IsPlain calls → Calls (LinkStep tells) old calls new
     → new ≡ with_controller old (after_calls calls old.controller)

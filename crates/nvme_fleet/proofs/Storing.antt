@@ -1,11 +1,5 @@
 -- A store that fits stores.
-use Rattle.std.proofs.Common.{◌≡◌, ℕ, ◌+◌, ◌-◌, ◌≤◌, List, length, ap, ◌∙◌}
-use Rattle.nvme_spec.specs.Bytes.{with_bytes}
-use Rattle.nvme_spec.specs.Memory.{window_size}
-use Rattle.nvme_machine.specs.declared.seen.Seen.{Seen}
-use Rattle.nvme_machine.specs.Controllers.{Controller, after_store, new_controller}
-use Rattle.nvme_machine.specs.Subsystems.{Subsystem, Reacts}
-use Rattle.nvme_fleet.specs.Linked.{IsThere, controller_in}
+use Rattle.nvme_fleet.proofs.Words.{◌≡◌, ℕ, ◌+◌, ◌-◌, ◌≤◌, List, length, ap, ◌∙◌, with_bytes, window_size, Seen, Controller, after_store, new_controller, Subsystem, Reacts, IsThere, controller_in}
 use Rattle.nvme_fleet.proofs.Happening.{place-below, place-is}
 use Rattle.nvme_fleet.proofs.Reaching.{reacted-as}
 use Rattle.nvme_fleet.proofs.Seating.{get-set}

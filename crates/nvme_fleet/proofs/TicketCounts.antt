@@ -1,30 +1,9 @@
 -- Tickets are given in order, and go once.
-use Rattle.std.proofs.Common.{◌≡◌, inl, inr, ℕ, zero, suc, ◌+◌, ◌≤◌, nat_lt, Bool, true, false, List, [], ◌∷◌, ◌++◌, map, Option, None, Some, Ok, Err, refl, sym, ap, subst, ◌∙◌, arith}
-use Rattle.std.specs.Prelude.{if◌then◌else◌, slice_get}
-use Rattle.std.proofs.lemmas.Grind.{common_steps}
-use Rattle.std.proofs.lemmas.List.{length-append, length-map}
-use Rattle.std.proofs.lemmas.Option.{same_Some}
-use Rattle.nvme_spec.specs.declared.config.ControllerConfig.{ControllerConfig}
-use Rattle.nvme_machine.specs.Controllers.{new_controller}
-use Rattle.nvme_driver.specs.declared.lane.Lane.{Lane}
-use Rattle.nvme_driver.specs.declared.lane.Lane.TheVariants.{Admin, Io}
-use Rattle.nvme_driver.specs.declared.request.Request.{Request}
-use Rattle.nvme_driver.specs.declared.faults.PlaceRefusal.{PlaceRefusal}
-use Rattle.nvme_driver.specs.declared.faults.UpFault.TheVariants.{AlreadyUp}
-use Rattle.nvme_driver.specs.declared.faults.PollFault.TheVariants as poll_fault
-use Rattle.nvme_driver.specs.Requests.{asked_of}
-use Rattle.nvme_event.specs.declared.event.FleetEvent.{FleetEvent}
-use Rattle.nvme_event.specs.declared.event.FleetEvent.TheVariants.{BringUp, Place, Ring, Fetch, Execute, Poll, Reset, RawStore, RawWrite32, PowerCycle}
-use Rattle.nvme_event.specs.declared.seen.FleetSeen.TheVariants as seen
-use Rattle.nvme_event.specs.Replies.{Reply}
-use Rattle.nvme_event.specs.Events.{concerns}
-use Rattle.nvme_fleet.specs.Mailboxes.{Item, FetchedItem, PostedAnswer, LaneBox, Mailbox, box_at, with_box, lane_of, new_mailbox}
-use Rattle.nvme_fleet.specs.Deliveries.{MailboxReaction, mailbox_reaction, plain, recounted, ring_lane, brought_up, refusal, new_item, with_placed, placed_by, rung, fetched_first, lane_at, fetched_of, handed_up, polled_io, polled_admin, polled_aborted, reset}
-use Rattle.nvme_fleet.specs.Executions.{Site, RequestExecution}
-use Rattle.nvme_fleet.specs.Fleets.{WithDriver, Raw, Fleet, Run, host_at, after_answer, new_host, numbered, opening}
-use Rattle.nvme_fleet.proofs.MailboxMarks.{DiffersInMarks, differs, others-differ}
-use Rattle.nvme_fleet.specs.Apart.{HasMailbox, Becomes, ExecutesOwn, OwnStep, MailboxStep}
-use Rattle.nvme_fleet.specs.Tickets.{given_in, given, executed, done, aborted, along, held_tickets, waiting_tickets, answered_tickets, Balance, counting, TicketsAreConsecutive, is_ticket, times, below, GoesOnce, EachTicketGoesOnce, EachIsHeldOnce, NewHoldsEachOnce, OpeningHasDrivers, OpeningIsNew, TicketsOfAnOpeningGoOnce, HeldAreCounted, waiting, posted_answers, requests_in}
+use Rattle.nvme_fleet.proofs.Words.{◌≡◌, inl, inr, ℕ, zero, suc, ◌+◌, ◌≤◌, nat_lt, Bool, true, false, List, [], ◌∷◌, ◌++◌, map, Some, refl, sym, ap, subst, ◌∙◌, arith, if◌then◌else◌, slice_get, common_steps, length-map, same_Some, ControllerConfig, new_controller, Lane, Admin, Io, FleetEvent, Reply, concerns, Item, FetchedItem, PostedAnswer, LaneBox, Mailbox, with_box, lane_of, new_mailbox, rung, Site, WithDriver, Raw, Fleet, Run, host_at, after_answer, new_host, numbered, opening, HasMailbox, MailboxStep, given_in, given, done, aborted, along, held_tickets, waiting_tickets, answered_tickets, Balance, counting, TicketsAreConsecutive, is_ticket, times, below, GoesOnce, EachTicketGoesOnce, EachIsHeldOnce, NewHoldsEachOnce, OpeningHasDrivers, OpeningIsNew, TicketsOfAnOpeningGoOnce, HeldAreCounted, waiting, posted_answers, requests_in}
+use Rattle.std.proofs.lemmas.List.{length-append}
+use Rattle.nvme_fleet.proofs.MailboxMarks.{DiffersInMarks, others-differ}
+use Rattle.nvme_fleet.proofs.Moves.{Move, Stay, Rise, Take, RingBoth, FetchFirst, HandUp, Free, Clear, Answer, May, moved, reply_of, own-moved}
+use Rattle.nvme_fleet.specs.Tickets.{executed}
 use Rattle.nvme_fleet.proofs.Totals.{total-append}
 use Rattle.nvme_fleet.proofs.Apart.{hosts_are_apart}
 use Rattle.nvme_fleet.proofs.TicketRuns.{one-host, one-mailbox, drivers_stay, tickets_balance}
@@ -57,99 +36,33 @@ gives-on l m n xs ys a b =
       omega (arith, p, q),
     )
 
-abbrev GivesBy : Mailbox → MailboxReaction → Type 0
-GivesBy m r = Gives m r.mailbox (given_in r.reply.seen)
-
-brought-up : (m : Mailbox) → GivesBy m (brought_up m)
-brought-up m = by m.up
-  where
-    by : (b : Bool) → GivesBy m (if b then mailbox_reaction m (seen.Up (Err AlreadyUp)) else mailbox_reaction (record m { up = true; admin = recounted m.admin; io = recounted m.io }) (seen.Up (Ok tt)))
-    by true = none m m refl
-    by false = none m (record m { up = true; admin = recounted m.admin; io = recounted m.io }) refl
-
 box-next : (l : Lane) (b : LaneBox) (m : Mailbox) → (with_box l b m).next ≡ m.next
 box-next Admin b m = refl
 box-next Io b m = refl
 
-places : (o : Option PlaceRefusal) (m : Mailbox) (request : Request) → GivesBy m (placed_by o m request)
-places (Some why) m request = none m m refl
-places None m request =
-    let l = (asked_of request).command.lane in
-    (1, refl, box-next l (with_placed (box_at l m) (new_item m request)) (record m { next = m.next + 1 }))
-
-rings : (m : Mailbox) → GivesBy m (rung m)
-rings m = by m.up
-  where
-    by : (b : Bool) → GivesBy m (if b then mailbox_reaction (record m { admin = ring_lane m.admin; io = ring_lane m.io }) (seen.Rung (Ok tt)) else mailbox_reaction m (seen.Rung (Err (record {}))))
-    by true = none m (record m { admin = ring_lane m.admin; io = ring_lane m.io }) refl
-    by false = none m m refl
-
-first-fetched : (l : Lane) (xs : List Item) (m : Mailbox) → GivesBy m (fetched_first l xs m)
-first-fetched l [] m = none m m refl
-first-fetched l (x ∷ rest) m =
-    none m (fetched_first l (x ∷ rest) m).mailbox (box-next l _ (record m { fetched = m.fetched ++ record { item = x; marked = false } ∷ [] }))
-
-fetches : (o : Option Lane) (m : Mailbox) → GivesBy m (fetched_of o m)
-fetches None m = none m m refl
-fetches (Some l) m = first-fetched l (box_at l m).rung m
-
-io-polled : (xs : List PostedAnswer) (m : Mailbox) → GivesBy m (polled_io xs m)
-io-polled [] m = none m m refl
-io-polled (first ∷ rest) m = none m (handed_up Io first rest m).mailbox refl
-
-admin-polled : (xs : List PostedAnswer) (m : Mailbox) → GivesBy m (polled_admin xs m)
-admin-polled [] m = io-polled m.io.posted m
-admin-polled (first ∷ rest) m = none m (handed_up Admin first rest m).mailbox refl
-
-polls : (ts : List ℕ) (m : Mailbox) → GivesBy m (polled_aborted ts m)
-polls [] m = by m.up
-  where
-    by : (b : Bool) → GivesBy m (if b then polled_admin m.admin.posted m else mailbox_reaction m (seen.Polled (Err poll_fault.NotUp)))
-    by true = admin-polled m.admin.posted m
-    by false = none m m refl
-polls (t ∷ ts) m = none m (record m { aborted = ts }) refl
-
-answer-next : (i : ℕ) (x : FetchedItem) (r : RequestExecution) (m : Mailbox) → (after_answer i x r m).next ≡ m.next
+gives : (v : Move) (m : Mailbox) → May v m → Gives m (moved v m) (given_in (reply_of v m).seen)
 unfolding after_answer
-answer-next i x r m = box-next (lane_of x.item) _ _
+gives (Stay what) m q = subst (Gives m m) (sym q.given) (none m m refl)
+gives Rise m u = none m (moved Rise m) refl
+gives (Take request) m u = (1, refl, box-next _ _ (record m { next = m.next + 1 }))
+gives RingBoth m u = none m (moved RingBoth m) refl
+gives (FetchFirst l x rest) m u = none m (moved (FetchFirst l x rest) m) (box-next l _ (record m { fetched = m.fetched ++ record { item = x; marked = false } ∷ [] }))
+gives (HandUp l x rest) m u = none m (moved (HandUp l x rest) m) (box-next l _ m)
+gives (Free t ts) m u = none m (record m { aborted = ts }) refl
+gives (Clear what) m q = subst (Gives m (moved (Clear what) m)) (sym q.given) (none m (moved (Clear what) m) refl)
+gives (Answer i x r) m u = none m (after_answer i x r m) (box-next (lane_of x.item) _ _)
 
 marks-next : (m n : Mailbox) → DiffersInMarks m n → n.next ≡ m.next
 marks-next m n (inl e) = ap (λ (x : Mailbox). x.next) e
 marks-next m n (inr h) = ap (λ (x : Mailbox). x.next) h.1
 
 -- One event.
-
-by-call : (m n : Mailbox) (r : MailboxReaction) (reply : Reply) → Becomes r reply n → GivesBy m r → Gives m n (given_in reply.seen)
-by-call m n r reply h g = subst (λ (x : Reply). Gives m n (given_in x.seen)) (sym h.0) (subst (λ x. Gives m x (given_in r.reply.seen)) (sym h.1) g)
-
-by-execution : (o : Option FetchedItem) (tells : Bool) (k : ℕ) (s left : Site) (m n : Mailbox) (i : ℕ) (reply : Reply) → ExecutesOwn o tells k s m i reply left n → Gives m n (given_in reply.seen)
-by-execution None tells k s left m n i reply h =
-    subst (λ (x : Reply). Gives m n (given_in x.seen)) (sym h.0) (none m n (ap (λ (x : Mailbox). x.next) h.1))
-by-execution (Some x) tells k s left m n i reply h =
-    subst (λ (x : Reply). Gives m n (given_in x.seen)) (sym h.gives)
-    (none m n (marks-next (after_answer i x h.execution m) n (differs h.execution.outcome.marks h.execution.left.world k (after_answer i x h.execution m) n h.leaves) ∙ answer-next i x h.execution m))
-
-by-refusal : (m n : Mailbox) (reply : Reply) → (reply ≡ plain seen.NotRaw) × (n ≡ m) → Gives m n (given_in reply.seen)
-by-refusal m n reply h = subst (λ (x : Reply). Gives m n (given_in x.seen)) (sym h.0) (none m n (ap (λ (x : Mailbox). x.next) h.1))
-
-by-cycle : (m n : Mailbox) (reply : Reply) → (reply ≡ plain seen.Cycled) × (n ≡ (reset m).mailbox) → Gives m n (given_in reply.seen)
-by-cycle m n reply h = subst (λ (x : Reply). Gives m n (given_in x.seen)) (sym h.0) (none m n (ap (λ (x : Mailbox). x.next) h.1))
-
-own-gives : (event : FleetEvent) (tells : Bool) (k : ℕ) (s left : Site) (m n : Mailbox) (reply : Reply) → OwnStep event tells k s m reply left n → Gives m n (given_in reply.seen)
-own-gives (BringUp j) tells k s left m n reply h = by-call m n _ reply h (brought-up m)
-own-gives (Place j request) tells k s left m n reply h = by-call m n _ reply h (places (refusal m request) m request)
-own-gives (Ring j) tells k s left m n reply h = by-call m n _ reply h (rings m)
-own-gives (Fetch j q) tells k s left m n reply h = by-call m n _ reply h (fetches (lane_at q) m)
-own-gives (Execute j i) tells k s left m n reply h = by-execution (slice_get m.fetched i) tells k s left m n i reply h
-own-gives (Poll j) tells k s left m n reply h = by-call m n _ reply h (polls m.aborted m)
-own-gives (Reset j) tells k s left m n reply h = by-call m n _ reply h (none m (reset m).mailbox refl)
-own-gives (RawStore j address bytes) tells k s left m n reply h = by-refusal m n reply h
-own-gives (RawWrite32 j offset v) tells k s left m n reply h = by-refusal m n reply h
-own-gives PowerCycle tells k s left m n reply h = by-cycle m n reply h
-
-pub step-gives : (b : Bool) (event : FleetEvent) (tells : Bool) (k : ℕ) (s left : Site) (m n : Mailbox) (reply : Reply) → MailboxStep b event tells k s m reply left n → Gives m n (if b then given_in reply.seen else [])
-step-gives true event tells k s left m n reply h = own-gives event tells k s left m n reply h
-step-gives false event tells k s left m n reply h = none m n (marks-next m n (others-differ event k m reply left n h))
+pub step-gives : (b : Bool) (event : FleetEvent) (tells : Bool) (k : ℕ) (s left : Site) (m n : Mailbox) (reply : Reply) → concerns event k ≡ b → MailboxStep b event tells k s m reply left n → Gives m n (if b then given_in reply.seen else [])
+step-gives true event tells k s left m n reply is h =
+    let v = own-moved event tells k s left m n reply is h in
+    let g = gives v.move m v.may in
+    subst (λ (x : Reply). Gives m n (given_in x.seen)) (sym v.gives) (g.0, g.1, marks-next (moved v.move m) n v.leaves ∙ g.2)
+step-gives false event tells k s left m n reply is h = none m n (marks-next m n (others-differ event k m reply left n h))
 
 walk : (k : ℕ) (m n : Mailbox) (tells : Bool) (old : Fleet) (events : List FleetEvent) (replies : List Reply) (new : Fleet) (run : Run tells old events replies new) → HasMailbox old k m → HasMailbox new k n
     → Gives m n (along (given k) tells old events replies new run)
@@ -160,7 +73,7 @@ walk k m n tells old (event ∷ events) [] new run at end = absurd run
 walk k m n tells old (event ∷ events) (x ∷ later) new run at end =
     let one = hosts_are_apart tells old run.0 event x run.1 k m at in
     gives-on m one.mailbox n (given k old event x) (along (given k) tells run.0 events later new run.2)
-    (step-gives (concerns event k) event tells k old.site run.0.site m one.mailbox x one.moves)
+    (step-gives (concerns event k) event tells k old.site run.0.site m one.mailbox x refl one.moves)
     (walk k one.mailbox n tells run.0 events later new run.2 one.host end)
 
 pub tickets_are_consecutive : TicketsAreConsecutive

@@ -1,22 +1,9 @@
 -- What becomes of tickets in one event of their host.
-use Rattle.std.proofs.Common.{◌≡◌, inl, inr, ℕ, ◌+◌, nat_le, Bool, true, false, List, [], ◌∷◌, ◌++◌, map, Option, None, Some, Ok, Err, refl, sym, ap, subst, arith}
-use Rattle.std.specs.Prelude.{if◌then◌else◌, slice_get}
-use Rattle.std.specs.List.{remove}
-use Rattle.nvme_driver.specs.declared.lane.Lane.{Lane}
-use Rattle.nvme_driver.specs.declared.lane.Lane.TheVariants.{Admin, Io}
-use Rattle.nvme_driver.specs.declared.request.Request.{Request}
-use Rattle.nvme_driver.specs.declared.faults.PlaceRefusal.{PlaceRefusal}
-use Rattle.nvme_driver.specs.declared.faults.UpFault.TheVariants.{AlreadyUp}
-use Rattle.nvme_driver.specs.declared.faults.PollFault.TheVariants as poll_fault
-use Rattle.nvme_driver.specs.Requests.{asked_of}
-use Rattle.nvme_event.specs.declared.seen.FleetSeen.TheVariants.{Up, Rung, Polled}
-use Rattle.nvme_fleet.specs.Mailboxes.{Item, FetchedItem, PostedAnswer, LaneBox, Mailbox, box_at, with_box, lane_of, tickets_in, ranked, rising, open_tickets, names, with_mark, with_marks}
-use Rattle.nvme_fleet.specs.Deliveries.{MailboxReaction, mailbox_reaction, recounted, ring_lane, brought_up, refusal, new_item, with_placed, placed_by, placed, rung, fetched_first, lane_at, fetched_of, fetched, handed_up, polled_io, polled_admin, polled_aborted, polled, reset}
-use Rattle.nvme_fleet.specs.Executions.{RequestExecution}
-use Rattle.nvme_fleet.specs.Fleets.{after_answer, with_posted, answer_for}
-use Rattle.nvme_fleet.specs.Views.{total}
+use Rattle.nvme_fleet.proofs.Words.{reset, ◌≡◌, inl, inr, ℕ, ◌+◌, nat_le, Bool, true, false, List, [], ◌∷◌, ◌++◌, map, Some, refl, sym, ap, subst, arith, if◌then◌else◌, slice_get, Lane, Admin, Io, asked_of, Item, FetchedItem, PostedAnswer, LaneBox, Mailbox, box_at, with_box, lane_of, tickets_in, ranked, rising, open_tickets, names, with_mark, new_item, with_placed, placed, rung, fetched, RequestExecution, after_answer, with_posted, answer_for, total, waiting, posted_answers, requests_in, waiting_tickets, answered_tickets, held_tickets, given_in, done_in, aborted_in, Posted, FleetSeen, where_posted, remove}
+use Rattle.nvme_fleet.specs.Mailboxes.{with_marks}
+use Rattle.nvme_event.specs.declared.seen.FleetSeen.TheVariants as seen
 use Rattle.nvme_fleet.proofs.MailboxMarks.{DiffersInMarks}
-use Rattle.nvme_fleet.specs.Tickets.{waiting, posted_answers, requests_in, waiting_tickets, answered_tickets, held_tickets, given_in, done_in, aborted_in}
+use Rattle.nvme_fleet.proofs.Moves.{IsQuiet, Move, Stay, Rise, Take, RingBoth, FetchFirst, HandUp, Free, Clear, Answer, May, moved, reply_of}
 use Rattle.nvme_fleet.proofs.Totals.{total-append, total-removed}
 
 -- What the tickets of a mailbox weigh.
@@ -115,17 +102,6 @@ marks_flow w m n (inr h) =
     let e = taken-marked w h.0 m.fetched in
     subst (λ x. Flow w m x 0 0 0 0) (sym h.1) (stays w m (with_marks h.0 m) (omega (arith, e)) refl refl)
 
--- Calls of the driver. An event's reaction flows by what it gives.
-abbrev pub FlowsBy : (ℕ → ℕ) → Mailbox → MailboxReaction → Type 0
-FlowsBy w m r = Flow w m r.mailbox (total w (given_in r.reply.seen)) 0 (total w (done_in r.reply.seen)) (total w (aborted_in r.reply.seen))
-
-pub brought-up : (w : ℕ → ℕ) (m : Mailbox) → FlowsBy w m (brought_up m)
-brought-up w m = by m.up
-  where
-    by : (b : Bool) → FlowsBy w m (if b then mailbox_reaction m (Up (Err AlreadyUp)) else mailbox_reaction (record m { up = true; admin = recounted m.admin; io = recounted m.io }) (Up (Ok tt)))
-    by true = stays w m m refl refl refl
-    by false = stays w m (record m { up = true; admin = recounted m.admin; io = recounted m.io }) refl refl refl
-
 -- a request is the last of its lane
 with-request : (w : ℕ → ℕ) (l : Lane) (i : Item) (m : Mailbox) → Flow w m (with_box l (with_placed (box_at l m) i) (record m { next = m.next + 1 })) (w i.ticket + 0) 0 0 0
 with-request w Admin i m =
@@ -135,62 +111,25 @@ with-request w Io i m =
     let e = total-append (λ (i : Item). w i.ticket) m.io.placed (i ∷ []) in
     record { dropped = 0; lost = 0; waits = omega (arith, e); answered = omega arith; aborts = omega arith }
 
-placed-by : (w : ℕ → ℕ) (o : Option PlaceRefusal) (m : Mailbox) (request : Request) → FlowsBy w m (placed_by o m request)
-placed-by w (Some why) m request = stays w m m refl refl refl
-placed-by w None m request = with-request w (asked_of request).command.lane (new_item m request) m
-
-pub rings : (w : ℕ → ℕ) (m : Mailbox) → FlowsBy w m (rung m)
-rings w m = by m.up
-  where
-    by : (b : Bool) → FlowsBy w m (if b then mailbox_reaction (record m { admin = ring_lane m.admin; io = ring_lane m.io }) (Rung (Ok tt)) else mailbox_reaction m (Rung (Err (record {}))))
-    by true =
-        let a = total-append (λ (i : Item). w i.ticket) m.admin.rung m.admin.placed in
-        let b = total-append (λ (i : Item). w i.ticket) m.io.rung m.io.placed in
-        stays w m (record m { admin = ring_lane m.admin; io = ring_lane m.io }) (omega (arith, a, b)) refl refl
-    by false = stays w m m refl refl refl
-
 -- a lane's first rung request is fetched
-first-fetched : (w : ℕ → ℕ) (l : Lane) (xs : List Item) (m : Mailbox) → (box_at l m).rung ≡ xs → FlowsBy w m (fetched_first l xs m)
-first-fetched w l [] m h = stays w m m refl refl refl
-first-fetched w Admin (x ∷ rest) m h =
+first-fetched : (w : ℕ → ℕ) (l : Lane) (x : Item) (rest : List Item) (m : Mailbox) → (box_at l m).rung ≡ x ∷ rest → Flow w m (moved (FetchFirst l x rest) m) 0 0 0 0
+first-fetched w Admin x rest m h =
     let a = total-append (λ (f : FetchedItem). w f.item.ticket) m.fetched (record { item = x; marked = false } ∷ []) in
     let b = ap (items w) h in
-    stays w m (fetched_first Admin (x ∷ rest) m).mailbox (omega (arith, a, b)) refl refl
-first-fetched w Io (x ∷ rest) m h =
+    stays w m (moved (FetchFirst Admin x rest) m) (omega (arith, a, b)) refl refl
+first-fetched w Io x rest m h =
     let a = total-append (λ (f : FetchedItem). w f.item.ticket) m.fetched (record { item = x; marked = false } ∷ []) in
     let b = ap (items w) h in
-    stays w m (fetched_first Io (x ∷ rest) m).mailbox (omega (arith, a, b)) refl refl
-
-fetches : (w : ℕ → ℕ) (o : Option Lane) (m : Mailbox) → FlowsBy w m (fetched_of o m)
-fetches w None m = stays w m m refl refl refl
-fetches w (Some l) m = first-fetched w l (box_at l m).rung m refl
+    stays w m (moved (FetchFirst Io x rest) m) (omega (arith, a, b)) refl refl
 
 -- the first answer of a lane is handed up
-hands-up : (w : ℕ → ℕ) (l : Lane) (first : PostedAnswer) (rest : List PostedAnswer) (m : Mailbox) → (box_at l m).posted ≡ first ∷ rest → FlowsBy w m (handed_up l first rest m)
+hands-up : (w : ℕ → ℕ) (l : Lane) (first : PostedAnswer) (rest : List PostedAnswer) (m : Mailbox) → (box_at l m).posted ≡ first ∷ rest → Flow w m (moved (HandUp l first rest) m) 0 0 (w first.ticket + 0) 0
 hands-up w Admin first rest m h =
     let e = ap (posted w) h in
     record { dropped = 0; lost = 0; waits = omega arith; answered = omega (arith, e); aborts = omega arith }
 hands-up w Io first rest m h =
     let e = ap (posted w) h in
     record { dropped = 0; lost = 0; waits = omega arith; answered = omega (arith, e); aborts = omega arith }
-
-io-polled : (w : ℕ → ℕ) (xs : List PostedAnswer) (m : Mailbox) → m.io.posted ≡ xs → FlowsBy w m (polled_io xs m)
-io-polled w [] m h = stays w m m refl refl refl
-io-polled w (first ∷ rest) m h = hands-up w Io first rest m h
-
-admin-polled : (w : ℕ → ℕ) (xs : List PostedAnswer) (m : Mailbox) → m.admin.posted ≡ xs → FlowsBy w m (polled_admin xs m)
-admin-polled w [] m h = io-polled w m.io.posted m refl
-admin-polled w (first ∷ rest) m h = hands-up w Admin first rest m h
-
-polls : (w : ℕ → ℕ) (ts : List ℕ) (m : Mailbox) → m.aborted ≡ ts → FlowsBy w m (polled_aborted ts m)
-polls w [] m h = by m.up
-  where
-    by : (b : Bool) → FlowsBy w m (if b then polled_admin m.admin.posted m else mailbox_reaction m (Polled (Err poll_fault.NotUp)))
-    by true = admin-polled w m.admin.posted m refl
-    by false = stays w m m refl refl refl
-polls w (t ∷ ts) m h =
-    let e = ap (total w) h in
-    record { dropped = 0; lost = 0; waits = omega arith; answered = omega arith; aborts = omega (arith, e) }
 
 -- A reset drops what waits, and loses the answers: both become aborted.
 
@@ -233,7 +172,7 @@ open-weighs w m =
     let t = total-map w (λ (f : FetchedItem). f.item.ticket) m.fetched in
     omega (arith, r, x, y, a, i, t)
 
-pub resets : (w : ℕ → ℕ) (m : Mailbox) → FlowsBy w m (reset m)
+pub resets : (w : ℕ → ℕ) (m : Mailbox) → Flow w m (reset m).mailbox 0 0 0 0
 resets w m =
     let a = total-append w m.aborted (open_tickets m) in
     let b = open-weighs w m in
@@ -241,7 +180,7 @@ resets w m =
 
 -- An execution.
 
-pub posts-answer : (w : ℕ → ℕ) (i : ℕ) (x : FetchedItem) (r : RequestExecution) (m : Mailbox) → slice_get m.fetched i ≡ Some x → Flow w m (after_answer i x r m) 0 (w x.item.ticket + 0) 0 0
+posts-answer : (w : ℕ → ℕ) (i : ℕ) (x : FetchedItem) (r : RequestExecution) (m : Mailbox) → slice_get m.fetched i ≡ Some x → Flow w m (after_answer i x r m) 0 (w x.item.ticket + 0) 0 0
 unfolding after_answer
 posts-answer w i x r m h = by (lane_of x.item)
   where
@@ -256,13 +195,44 @@ posts-answer w i x r m h = by (lane_of x.item)
         let e = total-append (λ (a : PostedAnswer). w a.ticket) m.io.posted (answer_for x r m.io.since ∷ []) in
         record { dropped = 0; lost = 0; waits = omega (arith, gone); answered = omega (arith, e); aborts = omega arith }
 
--- Each event of a host.
+-- Each move. What it gives is counted by its reply, and by the ticket of the request that it executes.
 
-pub places : (w : ℕ → ℕ) (m : Mailbox) (request : Request) → FlowsBy w m (placed m request)
-places w m request = placed-by w (refusal m request) m request
+-- the same numbers, otherwise written
+pub reads : (w : ℕ → ℕ) (m n : Mailbox) (g h e x d y a b : ℕ) → Flow w m n g e d a → g ≡ h → e ≡ x → d ≡ y → a ≡ b → Flow w m n h x y b
+reads w m n g h e x d y a b f p q r s =
+    let t = f.waits in
+    let u = f.answered in
+    let v = f.aborts in
+    record { dropped = f.dropped; lost = f.lost; waits = omega (arith, t, p, q); answered = omega (arith, u, q, r); aborts = omega (arith, v, s) }
 
-pub fetches-from : (w : ℕ → ℕ) (q : ℕ) (m : Mailbox) → FlowsBy w m (fetched q m)
-fetches-from w q m = fetches w (lane_at q) m
+abbrev pub FlowsIn : (ℕ → ℕ) → Mailbox → Mailbox → FleetSeen → List ℕ → Type 0
+FlowsIn w m n what tickets =
+    Flow w m n (total w (given_in what)) (total w (where_posted what tickets)) (total w (done_in what)) (total w (aborted_in what))
 
-pub polls-once : (w : ℕ → ℕ) (m : Mailbox) → FlowsBy w m (polled m)
-polls-once w m = polls w m.aborted m refl
+quiet-flow : (w : ℕ → ℕ) (m n : Mailbox) (what : FleetSeen) (tickets : List ℕ) → IsQuiet what → Flow w m n 0 0 0 0 → FlowsIn w m n what tickets
+quiet-flow w m n what tickets q f =
+    let sum : (xs : List ℕ) → xs ≡ [] → 0 ≡ total w xs = λ xs e. sym (ap (total w) e) in
+    reads w m n 0 (total w (given_in what)) 0 (total w (where_posted what tickets)) 0 (total w (done_in what)) 0 (total w (aborted_in what)) f
+    (sum (given_in what) q.given) (sum (where_posted what tickets) (q.posts tickets)) (sum (done_in what) q.done) (sum (aborted_in what) q.aborted)
+
+-- the ticket of the request that it executes
+abbrev pub Names : Move → List ℕ → Type 0
+Names (Answer i x r) tickets = tickets ≡ x.item.ticket ∷ []
+Names other tickets = Unit {0}
+
+pub flows : (w : ℕ → ℕ) (v : Move) (m : Mailbox) (tickets : List ℕ) → May v m → Names v tickets → FlowsIn w m (moved v m) (reply_of v m).seen tickets
+flows w (Stay what) m tickets q u = quiet-flow w m m what tickets q (stays w m m refl refl refl)
+flows w Rise m tickets q u = stays w m (moved Rise m) refl refl refl
+flows w (Take request) m tickets q u = with-request w (asked_of request).command.lane (new_item m request) m
+flows w RingBoth m tickets q u =
+    let a = total-append (λ (i : Item). w i.ticket) m.admin.rung m.admin.placed in
+    let b = total-append (λ (i : Item). w i.ticket) m.io.rung m.io.placed in
+    stays w m (moved RingBoth m) (omega (arith, a, b)) refl refl
+flows w (FetchFirst l x rest) m tickets q u = first-fetched w l x rest m q
+flows w (HandUp l x rest) m tickets q u = hands-up w l x rest m q
+flows w (Free t ts) m tickets q u =
+    let e = ap (total w) q in
+    record { dropped = 0; lost = 0; waits = omega arith; answered = omega arith; aborts = omega (arith, e) }
+flows w (Clear what) m tickets q u = quiet-flow w m (moved (Clear what) m) what tickets q (resets w m)
+flows w (Answer i x r) m tickets q u =
+    subst (λ ts. FlowsIn w m (after_answer i x r m) (seen.Executed (Posted r.outcome)) ts) (sym u) (posts-answer w i x r m q)

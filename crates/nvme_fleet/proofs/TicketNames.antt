@@ -1,15 +1,6 @@
 -- A ticket names one request of a run.
-use Rattle.std.proofs.Common.{◌≡◌, inl, inr, ℕ, zero, suc, ◌+◌, ◌≤◌, Bool, true, List, [], ◌∷◌, refl, sym, ap, subst, ◌∙◌, arith}
-use Rattle.nvme_driver.specs.Requests.{Asked, asked_of}
-use Rattle.nvme_event.specs.declared.event.FleetEvent.{FleetEvent}
-use Rattle.nvme_event.specs.declared.event.FleetEvent.TheVariants.{Place}
-use Rattle.nvme_event.specs.Replies.{Reply}
-use Rattle.nvme_event.specs.Events.{concerns}
-use Rattle.nvme_fleet.specs.Mailboxes.{Item, Mailbox}
-use Rattle.nvme_fleet.specs.Fleets.{Fleet, Run}
-use Rattle.nvme_fleet.specs.Apart.{HasMailbox, MailboxStep}
-use Rattle.nvme_fleet.specs.Tickets.{given_in, counting}
-use Rattle.nvme_fleet.specs.Answered.{Places, Executes, Happening, Happens, HappensThen, TicketNamesItsRequest, DoneAnswersItsRequest}
+use Rattle.nvme_fleet.proofs.Words.{◌≡◌, inl, inr, ℕ, zero, suc, ◌+◌, ◌≤◌, Bool, true, List, [], ◌∷◌, refl, sym, ap, subst, ◌∙◌, arith, Asked, asked_of, FleetEvent, Place, Reply, concerns, Item, Mailbox, Fleet, Run, HasMailbox, MailboxStep, given_in, counting, Executes, Happening, HappensThen, TicketNamesItsRequest, DoneAnswersItsRequest}
+use Rattle.nvme_fleet.specs.Answered.{Places, Happens}
 use Rattle.nvme_fleet.proofs.Apart.{same-is, hosts_are_apart}
 use Rattle.nvme_fleet.proofs.TicketCounts.{Gives, step-gives}
 use Rattle.nvme_fleet.proofs.Answered.{done_is_its_execution}
@@ -29,7 +20,7 @@ takes-next : (tells : Bool) (old new : Fleet) (event : FleetEvent) (reply : Repl
 takes-next tells old new event reply k m n x h p =
     let own : concerns event k ≡ true = ap (λ e. concerns e k) p.event_is ∙ same-is k k refl in
     let moves : MailboxStep true event tells k old.site m reply new.site n = subst (λ b. MailboxStep b event tells k old.site m reply new.site n) own h in
-    let g : Gives m n (given_in reply.seen) = step-gives true event tells k old.site new.site m n reply moves in
+    let g : Gives m n (given_in reply.seen) = step-gives true event tells k old.site new.site m n reply own moves in
     let one = one-given x.ticket m.next g.0 (sym (ap (λ (r : Reply). given_in r.seen) p.gives) ∙ g.1) in
     (one.0, g.2 ∙ ap (λ c. m.next + c) one.1)
 
@@ -45,7 +36,7 @@ not-before tells old new (event ∷ events) (r ∷ later) run k m x at (inl p) =
     omega (arith, t)
 not-before tells old new (event ∷ events) (r ∷ later) run k m x at (inr h) =
     let one = hosts_are_apart tells old run.0 event r run.1 k m at in
-    let g = step-gives (concerns event k) event tells k old.site run.0.site m one.mailbox r one.moves in
+    let g = step-gives (concerns event k) event tells k old.site run.0.site m one.mailbox r refl one.moves in
     let e : one.mailbox.next ≡ m.next + g.0 = g.2 in
     let rest = not-before tells run.0 new events later run.2 k one.mailbox x one.host h in
     omega (arith, e, rest)

@@ -1,82 +1,27 @@
 -- What becomes of tickets over a run.
-use Rattle.std.proofs.Common.{◌≡◌, ℕ, ◌+◌, Bool, true, false, List, [], ◌∷◌, Option, None, Some, refl, sym, ap, subst, ◌∙◌, arith}
-use Rattle.std.specs.Prelude.{if◌then◌else◌, slice_get}
-use Rattle.nvme_machine.specs.declared.seen.Executed.TheVariants.{Posted}
-use Rattle.nvme_event.specs.declared.event.FleetEvent.{FleetEvent}
-use Rattle.nvme_event.specs.declared.event.FleetEvent.TheVariants.{BringUp, Place, Ring, Fetch, Execute, Poll, Reset, RawStore, RawWrite32, PowerCycle}
-use Rattle.nvme_event.specs.declared.seen.FleetSeen.{FleetSeen}
-use Rattle.nvme_event.specs.declared.seen.FleetSeen.TheVariants as seen
-use Rattle.nvme_event.specs.Replies.{Reply}
-use Rattle.nvme_event.specs.Events.{concerns}
-use Rattle.nvme_fleet.specs.Mailboxes.{FetchedItem, Mailbox}
-use Rattle.nvme_fleet.specs.Deliveries.{MailboxReaction, plain, reset}
-use Rattle.nvme_fleet.specs.Executions.{Site}
-use Rattle.nvme_fleet.specs.Fleets.{Host, WithDriver, Fleet, Run, host_at, after_answer}
-use Rattle.nvme_fleet.specs.Views.{total}
-use Rattle.nvme_fleet.specs.Apart.{HasMailbox, Becomes, ExecutesOwn, OwnStep, MailboxStep}
-use Rattle.nvme_fleet.specs.Tickets.{given_in, done_in, aborted_in, fetched_by, named_by, ticket_of, where_posted, given, executed, done, aborted, along, Balance, TicketsBalance, DriversStay}
+use Rattle.nvme_fleet.proofs.Words.{◌≡◌, ℕ, Bool, true, false, List, [], ◌∷◌, Option, Some, refl, sym, ap, subst, ◌∙◌, arith, if◌then◌else◌, FleetEvent, Reply, concerns, Mailbox, Site, WithDriver, Fleet, Run, host_at, total, HasMailbox, OwnStep, MailboxStep, given_in, done_in, aborted_in, named_by, ticket_of, where_posted, given, done, aborted, along, Balance, TicketsBalance, DriversStay}
+use Rattle.nvme_fleet.specs.Fleets.{Host}
+use Rattle.nvme_fleet.specs.Tickets.{fetched_by, executed}
 use Rattle.nvme_fleet.proofs.Totals.{total-append}
-use Rattle.nvme_fleet.proofs.Apart.{is-same, hosts_are_apart}
-use Rattle.nvme_fleet.proofs.MailboxMarks.{differs, others-differ}
-use Rattle.nvme_fleet.proofs.TicketFlows.{Flow, FlowsBy, flows-on, stays, marks_flow, brought-up, places, rings, fetches-from, polls-once, resets, posts-answer, waits-weigh, posts-weigh, held-weigh}
+use Rattle.nvme_fleet.proofs.Apart.{hosts_are_apart}
+use Rattle.nvme_fleet.proofs.MailboxMarks.{others-differ}
+use Rattle.nvme_fleet.proofs.TicketFlows.{Flow, FlowsIn, Names, flows, flows-on, reads, stays, marks_flow, waits-weigh, posts-weigh, held-weigh}
+use Rattle.nvme_fleet.proofs.Moves.{Move, Answer, May, IsOf, moved, own-moved}
 
--- the same numbers, otherwise written
-reads : (w : ℕ → ℕ) (m n : Mailbox) (g h e x d y a b : ℕ) → Flow w m n g e d a → g ≡ h → e ≡ x → d ≡ y → a ≡ b → Flow w m n h x y b
-reads w m n g h e x d y a b f p q r s =
-    let t = f.waits in
-    let u = f.answered in
-    let v = f.aborts in
-    record { dropped = f.dropped; lost = f.lost; waits = omega (arith, t, p, q); answered = omega (arith, u, q, r); aborts = omega (arith, v, s) }
-
--- One event of the host. What it gives is counted by its reply, and by the request that stands at its place.
-abbrev FlowsIn : (ℕ → ℕ) → Mailbox → Mailbox → FleetSeen → List ℕ → Type 0
-FlowsIn w m n what tickets =
-    Flow w m n (total w (given_in what)) (total w (where_posted what tickets)) (total w (done_in what)) (total w (aborted_in what))
-
-none-posted : (what : FleetSeen) → where_posted what [] ≡ []
-none-posted (seen.Executed (Posted outcome)) = refl
-none-posted other = refl
-
-by-call : (w : ℕ → ℕ) (m n : Mailbox) (r : MailboxReaction) (reply : Reply) → Becomes r reply n → FlowsBy w m r → FlowsIn w m n reply.seen []
-by-call w m n r reply h f =
-    let none = ap (total w) (none-posted r.reply.seen) in
-    let g : FlowsIn w m r.mailbox r.reply.seen [] =
-    reads w m r.mailbox _ (total w (given_in r.reply.seen)) 0 (total w (where_posted r.reply.seen [])) _ (total w (done_in r.reply.seen)) _ (total w (aborted_in r.reply.seen)) f refl (sym none) refl refl in
-    subst (λ x. FlowsIn w m n x.seen []) (sym h.0) (subst (λ x. FlowsIn w m x r.reply.seen []) (sym h.1) g)
-
-by-refusal : (w : ℕ → ℕ) (m n : Mailbox) (reply : Reply) → (reply ≡ plain seen.NotRaw) × (n ≡ m) → FlowsIn w m n reply.seen []
-by-refusal w m n reply h =
-    subst (λ x. FlowsIn w m n x.seen []) (sym h.0) (subst (λ x. Flow w m x 0 0 0 0) (sym h.1) (stays w m m refl refl refl))
-
-by-cycle : (w : ℕ → ℕ) (m n : Mailbox) (reply : Reply) → (reply ≡ plain seen.Cycled) × (n ≡ (reset m).mailbox) → FlowsIn w m n reply.seen []
-by-cycle w m n reply h =
-    subst (λ x. FlowsIn w m n x.seen []) (sym h.0) (subst (λ x. Flow w m x 0 0 0 0) (sym h.1) (resets w m))
-
-by-execution : (w : ℕ → ℕ) (o : Option FetchedItem) (tells : Bool) (k : ℕ) (s left : Site) (m n : Mailbox) (i : ℕ) (reply : Reply) → slice_get m.fetched i ≡ o
-    → ExecutesOwn o tells k s m i reply left n → FlowsIn w m n reply.seen (ticket_of o)
-by-execution w None tells k s left m n i reply found h =
-    subst (λ x. FlowsIn w m n x.seen []) (sym h.0) (subst (λ x. Flow w m x 0 0 0 0) (sym h.1) (stays w m m refl refl refl))
-by-execution w (Some x) tells k s left m n i reply found h =
-    let a = posts-answer w i x h.execution m found in
-    let b = marks_flow w (after_answer i x h.execution m) n (differs h.execution.outcome.marks h.execution.left.world k (after_answer i x h.execution m) n h.leaves) in
-    let c = flows-on w m (after_answer i x h.execution m) n 0 0 (w x.item.ticket + 0) 0 0 0 0 0 a b in
-    subst (λ y. FlowsIn w m n y.seen (x.item.ticket ∷ [])) (sym h.gives)
-    (reads w m n _ 0 _ (w x.item.ticket + 0) _ 0 _ 0 c (omega arith) (omega arith) (omega arith) (omega arith))
+-- one event of the host
+names : (v : Move) (tells : Bool) (k : ℕ) (s left : Site) (old : Fleet) (event : FleetEvent) (m : Mailbox) → HasMailbox old k m → May v m → IsOf v tells k s event left → Names v (ticket_of (named_by old event))
+names (Answer i x r) tells k s left old event m at found of =
+    ap (λ e. ticket_of (named_by old e)) of.0 ∙ ap (λ o. ticket_of (fetched_by o i)) at ∙ ap ticket_of found
+names other tells k s left old event m at may of = tt
 
 own-flow : (w : ℕ → ℕ) (event : FleetEvent) (tells : Bool) (old : Fleet) (k : ℕ) (s left : Site) (m n : Mailbox) (reply : Reply) → concerns event k ≡ true → HasMailbox old k m
     → OwnStep event tells k s m reply left n → FlowsIn w m n reply.seen (ticket_of (named_by old event))
-own-flow w (BringUp j) tells old k s left m n reply same at h = by-call w m n _ reply h (brought-up w m)
-own-flow w (Place j request) tells old k s left m n reply same at h = by-call w m n _ reply h (places w m request)
-own-flow w (Ring j) tells old k s left m n reply same at h = by-call w m n _ reply h (rings w m)
-own-flow w (Fetch j q) tells old k s left m n reply same at h = by-call w m n _ reply h (fetches-from w q m)
-own-flow w (Execute j i) tells old k s left m n reply same at h =
-    subst (λ o. FlowsIn w m n reply.seen (ticket_of (fetched_by o i))) (sym (ap (host_at old) (is-same j k same) ∙ at))
-    (by-execution w (slice_get m.fetched i) tells k s left m n i reply refl h)
-own-flow w (Poll j) tells old k s left m n reply same at h = by-call w m n _ reply h (polls-once w m)
-own-flow w (Reset j) tells old k s left m n reply same at h = by-call w m n _ reply h (resets w m)
-own-flow w (RawStore j address bytes) tells old k s left m n reply same at h = by-refusal w m n reply h
-own-flow w (RawWrite32 j offset v) tells old k s left m n reply same at h = by-refusal w m n reply h
-own-flow w PowerCycle tells old k s left m n reply same at h = by-cycle w m n reply h
+own-flow w event tells old k s left m n reply same at h =
+    let v = own-moved event tells k s left m n reply same h in
+    let tickets = ticket_of (named_by old event) in
+    let one = flows w v.move m tickets v.may (names v.move tells k s left old event m at v.may v.of) in
+    let all = flows-on w m (moved v.move m) n _ 0 _ 0 _ 0 _ 0 one (marks_flow w (moved v.move m) n v.leaves) in
+    subst (λ (r : Reply). FlowsIn w m n r.seen tickets) (sym v.gives) (reads w m n _ _ _ _ _ _ _ _ all (omega arith) (omega arith) (omega arith) (omega arith))
 
 -- One event, of any host.
 step-flow : (w : ℕ → ℕ) (b : Bool) (event : FleetEvent) (tells : Bool) (old : Fleet) (k : ℕ) (s left : Site) (m n : Mailbox) (reply : Reply) → concerns event k ≡ b → HasMailbox old k m

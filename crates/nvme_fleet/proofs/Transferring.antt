@@ -1,24 +1,10 @@
 -- The data of a command that suits its slot: its pointer has no fault, what it gathers is what lies at the slot's place, and
 -- what is scattered over it is stored there.
-use Rattle.std.proofs.Common.{◌≡◌, ℕ, zero, suc, ◌+◌, ◌*◌, ◌<◌, ◌≤◌, ◌==◌, false, List, [], ◌∷◌, length, take, drop, None, refl, sym, ap, ◌∙◌, arith, slice_range}
-use Rattle.std.proofs.lemmas.Bool.{ne_eqb}
-use Rattle.std.proofs.lemmas.List.{take-take}
-use Rattle.std.proofs.lemmas.Grind.{common_steps}
-use Rattle.std.specs.Prelude.{nat_le, if◌then◌else◌}
-use Rattle.nvme_wire.specs.Submission.{prp1, prp2}
-use Rattle.nvme_spec.specs.Bytes.{with_bytes}
-use Rattle.nvme_spec.specs.Limits.{most_bytes}
-use Rattle.nvme_spec.specs.Memory.{window_size}
+use Rattle.nvme_fleet.proofs.Words.{◌≡◌, ℕ, zero, suc, ◌+◌, ◌*◌, ◌<◌, ◌≤◌, ◌==◌, false, List, [], ◌∷◌, length, take, drop, None, refl, sym, ap, ◌∙◌, arith, slice_range, ne_eqb, take-take, common_steps, nat_le, if◌then◌else◌, prp1, prp2, with_bytes, most_bytes, window_size, gathered_bytes, addresses, pieces_of, with_scattered, data_transfer, data_addresses, data_in, data_fault, data_area, list_page, first_entry, second_entry, listed_pages, pages_behind, page_entries, stored_list, list_of_slot, HasList, IsRequest, slot_transfer, length-stored_list, listed}
 use Rattle.nvme_spec.specs.Pointer.{transfer, pointer_fault}
-use Rattle.nvme_spec.specs.Transfers.{gathered_bytes, addresses, pieces_of, with_scattered}
-use Rattle.nvme_spec.specs.DataRules.{data_transfer, data_addresses, data_in, data_fault}
 use Rattle.nvme_spec.proofs.Contents.{length-data_in}
-use Rattle.nvme_driver.specs.Layout.{data_area, list_page}
-use Rattle.nvme_driver.specs.Pointers.{first_entry, second_entry, listed_pages, pages_behind, page_entries, stored_list, list_of_slot, HasList, IsRequest, slot_transfer}
 use Rattle.nvme_driver.proofs.SlotPointers.{slots_are_contiguous, slots_move_one_run}
 use Rattle.nvme_driver.proofs.PageEntries.{length-page_entries}
-use Rattle.nvme_driver.proofs.PageLists.{length-stored_list}
-use Rattle.nvme_fleet.specs.Lanes.{listed}
 use Rattle.nvme_fleet.proofs.Windows.{stored-none}
 
 pub record IsMoved (window : List ℕ) (k : ℕ) (x : List ℕ) (n : ℕ) : Type 0 where

@@ -1,35 +1,8 @@
 -- A driver's own command, at a controller that it is bringing up: put and rung, fetched and executed in one turn, found and
 -- heard.
-use Rattle.std.proofs.Common.{◌≡◌, ℕ, ◌+◌, ◌*◌, ◌%◌, ◌/◌, ◌^◌, ◌<◌, ◌≤◌, Bool, true, false, List, [], ◌∷◌, length, Option, None, Some, refl, sym, ap, subst, ◌∙◌, arith}
-use Rattle.std.specs.Prelude.{slice_range, MatchOption, if◌then◌else◌}
-use Rattle.std.proofs.lemmas.Bool.{eq-eqb}
-use Rattle.nvme_wire.specs.declared.sqe.fields.SqeFields.{SqeFields}
-use Rattle.nvme_wire.specs.declared.status.Status.{Status}
-use Rattle.nvme_wire.specs.Submission.{submission_entry, cid as command_cid}
-use Rattle.nvme_wire.specs.Completion.{Completion, completion_entry, FitsCompletion, sq_head, sq_id, cid, phase, status}
-use Rattle.nvme_wire.proofs.Made.{completion_is_read_back}
-use Rattle.nvme_spec.specs.declared.queues.QueueChange.{QueueChange}
-use Rattle.nvme_spec.specs.Bytes.{with_bytes}
-use Rattle.nvme_spec.specs.Blocks.{Device}
-use Rattle.nvme_spec.specs.World.{World}
-use Rattle.nvme_spec.specs.Queues.{phase_tag, slot_of, after_tail_doorbell, after_head_doorbell}
-use Rattle.nvme_spec.specs.Execution.{Scene}
-use Rattle.nvme_spec.specs.AdminEffects.{admin_execution}
+use Rattle.nvme_fleet.proofs.Words.{◌≡◌, ℕ, ◌+◌, ◌*◌, ◌%◌, ◌/◌, ◌^◌, ◌<◌, ◌≤◌, Bool, true, false, List, [], ◌∷◌, length, Option, None, Some, refl, sym, ap, subst, ◌∙◌, arith, slice_range, MatchOption, if◌then◌else◌, eq-eqb, SqeFields, Status, submission_entry, cid as command_cid, Completion, completion_entry, FitsCompletion, sq_head, sq_id, phase, status, completion_is_read_back, QueueChange, with_bytes, Device, World, phase_tag, slot_of, after_tail_doorbell, after_head_doorbell, Scene, admin_execution, Admin, Call, Stores, Writes, Turns, Awaits, command_place, tail_doorbell, head_doorbell, Ends, Driver, put_ends, tail_of, consumed_ends, next_entry, is_new, sent, send_calls, heard_calls, own_answer, own_of, answers_own, Creates, Hears, FetchedCommand, Controller, SubmissionQueue, CompletionQueue, QueuePair, queues_of, after_write32, after_fetch, fetchable, open_pair, after_posting, after_queue_change, CommandExecution, CommandComesTo, admin_command_execution, after_completion, Setting, setting, part-there, after_calls, LinkStep, with_controller, window_in}
+use Rattle.nvme_wire.specs.Completion.{cid}
 use Rattle.nvme_spec.specs.Statuses as done
-use Rattle.nvme_driver.specs.declared.lane.Lane.TheVariants.{Admin}
-use Rattle.nvme_driver.specs.Calls.{Call, Stores, Writes, Turns, Awaits}
-use Rattle.nvme_driver.specs.Layout.{command_place, tail_doorbell, head_doorbell}
-use Rattle.nvme_driver.specs.Drivers.{Ends, Driver, put_ends, tail_of}
-use Rattle.nvme_driver.specs.Polls.{consumed_ends, next_entry, is_new}
-use Rattle.nvme_driver.specs.Rises.{sent, send_calls, heard_calls, own_answer, own_of, answers_own, Creates, Hears}
-use Rattle.nvme_machine.specs.declared.fetched.FetchedCommand.{FetchedCommand}
-use Rattle.nvme_machine.specs.Controllers.{Controller, SubmissionQueue, CompletionQueue, QueuePair, queues_of, after_write32, after_fetch, fetchable, open_pair, after_posting, after_queue_change}
-use Rattle.nvme_machine.specs.CommandExecutions.{CommandExecution, CommandComesTo, admin_command_execution}
-use Rattle.nvme_machine.specs.Subsystems.{after_completion}
-use Rattle.nvme_machine.specs.Executing.{Setting, setting}
-use Rattle.nvme_driver.proofs.PageLists.{part-there}
-use Rattle.nvme_fleet.specs.Steps.{after_calls}
-use Rattle.nvme_fleet.specs.Links.{LinkStep, with_controller, window_in}
 use Rattle.nvme_fleet.proofs.Registering.{tail-written, head-written}
 use Rattle.nvme_fleet.proofs.StartStep.{running, stored-at, calls-are}
 use Rattle.nvme_fleet.proofs.OwnCommands.{only_change}

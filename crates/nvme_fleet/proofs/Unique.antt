@@ -1,39 +1,16 @@
 -- Without a fault of the medium there is one run of both layers over each list of events.
-use Rattle.std.proofs.Common.{◌≡◌, ◌≢◌, ◌⊎◌, inl, inr, ◌<◌, ◌≤◌, ℕ, zero, suc, ◌-◌, ◌^◌, ◌==◌, nat_lt, Bool, true, false, List, [], ◌∷◌, map, Option, None, Some, Result, Ok, Err, refl, sym, ap, subst, ◌∙◌, arith}
-use Rattle.std.specs.Prelude.{option_map, slice_get, slice_set, if◌then◌else◌, replicate}
-use Rattle.std.proofs.lemmas.Bool.{cases_Bool, eqb-true, eqb-false, eq-eqb}
-use Rattle.std.proofs.lemmas.Option.{none-some, same_Some}
-use Rattle.nvme_spec.specs.declared.config.ControllerConfig.{ControllerConfig}
-use Rattle.nvme_driver.specs.declared.answer.Answer.{Answer}
-use Rattle.nvme_driver.specs.declared.faults.NotUp.{NotUp}
-use Rattle.nvme_driver.specs.declared.faults.PlaceRefusal.{PlaceRefusal}
-use Rattle.nvme_driver.specs.declared.faults.PollFault.{PollFault}
-use Rattle.nvme_driver.specs.declared.faults.UpFault.{UpFault}
-use Rattle.nvme_driver.specs.declared.request.Request.{Request}
-use Rattle.nvme_driver.specs.declared.slots.Waiting.{Waiting}
-use Rattle.nvme_driver.specs.declared.ticket.Ticket.{Ticket}
-use Rattle.nvme_driver.specs.Drivers.{Driver, after_reset, new_driver, placed, stores_of}
+use Rattle.nvme_fleet.proofs.Words.{◌≡◌, ◌≢◌, ◌⊎◌, inl, inr, ◌<◌, ◌≤◌, ℕ, zero, suc, ◌-◌, ◌^◌, ◌==◌, nat_lt, Bool, true, false, List, [], ◌∷◌, map, Option, None, Some, Result, Ok, Err, refl, sym, ap, subst, ◌∙◌, arith, option_map, slice_get, slice_set, if◌then◌else◌, replicate, cases_Bool, eqb-true, eqb-false, eq-eqb, none-some, same_Some, ControllerConfig, Answer, NotUp, PlaceRefusal, PollFault, UpFault, Request, Waiting, Ticket, Driver, after_reset, new_driver, stores_of, IsNotBelow, IsOldest, aborted_at, waiting_at, Event, Subsystem, FleetEvent, BringUp, Place, Ring, Fetch, Execute, Poll, Reset, RawStore, RawWrite32, PowerCycle, FleetSeen, Reply, DriverCall, CallStep, ComesUp, Does, DoesIfAny, Places, Polls, Ran, Rings, events_of, events_of_calls, reset_events, ring_events, window_at, Layers, fleet_in, opening_driver, Applies, AppliesRaw, CallsAt, Cycles, Happens, driver_at, with_driver, HasTicketsOnce, HaveTicketsOnce, LayersRunIsUnique, OpeningHasTicketsOnce, TicketsStayOnce, polled}
+use Rattle.nvme_driver.specs.Drivers.{placed}
 use Rattle.nvme_driver.specs.Once as once
 use Rattle.nvme_driver.specs.Once.{bears, borne}
-use Rattle.nvme_driver.specs.Polls.{IsNotBelow, IsOldest, aborted_at, polled, waiting_at}
 use Rattle.nvme_driver.proofs.Once as once_proofs
 use Rattle.nvme_driver.proofs.Rising.{IsSure, rises-alone, rises-keeps}
-use Rattle.nvme_machine.specs.declared.event.Event.{Event}
 use Rattle.nvme_machine.specs.declared.event.Event.TheVariants as event
 use Rattle.nvme_machine.specs.declared.seen.Seen.TheVariants as given
-use Rattle.nvme_machine.specs.Subsystems.{Subsystem}
 use Rattle.nvme_machine.proofs.Determined as machine
-use Rattle.nvme_event.specs.declared.event.FleetEvent.{FleetEvent}
-use Rattle.nvme_event.specs.declared.event.FleetEvent.TheVariants.{BringUp, Place, Ring, Fetch, Execute, Poll, Reset, RawStore, RawWrite32, PowerCycle}
-use Rattle.nvme_event.specs.declared.seen.FleetSeen.{FleetSeen}
 use Rattle.nvme_event.specs.declared.seen.FleetSeen.TheVariants as seen
-use Rattle.nvme_event.specs.Replies.{Reply}
-use Rattle.nvme_fleet.specs.declared.delivery.DriverCall.{DriverCall}
 use Rattle.nvme_fleet.specs.declared.delivery.DriverCall.TheVariants as call
-use Rattle.nvme_fleet.specs.Deeds.{CallStep, ComesUp, Does, DoesIfAny, Places, Polls, Ran, Rings, events_of, events_of_calls, reset_events, ring_events, window_at}
-use Rattle.nvme_fleet.specs.FleetStates.{Layers, fleet_in, opening_driver}
-use Rattle.nvme_fleet.specs.Layers.{Applies, AppliesRaw, CallsAt, Cycles, Happens, Run, Step, driver_at, with_driver}
-use Rattle.nvme_fleet.specs.Unique.{HasTicketsOnce, HaveTicketsOnce, LayersRunIsUnique, OpeningHasTicketsOnce, TicketsStayOnce}
+use Rattle.nvme_fleet.specs.Layers.{Run, Step}
 use Rattle.nvme_fleet.proofs.Bytes.{runs_of_mailboxes}
 use Rattle.nvme_fleet.proofs.Determined.{failures_never_fall, step-alone, step-counts}
 

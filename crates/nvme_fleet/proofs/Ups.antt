@@ -1,18 +1,12 @@
 -- Bringing up in one lane: nothing is on its way behind each of the driver's own commands, and it holds at the end.
-use Rattle.std.proofs.Common.{◌≡◌, ℕ, ◌+◌, ◌-◌, ◌*◌, ◌%◌, ◌<◌, ◌≤◌, List, [], ◌∷◌, ◌++◌, length, refl, ap, sym, ◌∙◌, arith, suc, true, false, not, cond, eqb, Bool, Some, None, inl, inr, take, drop, get_or, subst, length-drop}
-use Rattle.std.proofs.lemmas.List.{get_or-take, get_or-drop, get_or-append-add, get_or-replicate, length-replicate, length-take-le, length-append, same_lists}
+use Rattle.nvme_fleet.proofs.Words.{◌≡◌, ℕ, ◌+◌, ◌-◌, ◌*◌, ◌%◌, ◌<◌, ◌≤◌, List, [], ◌∷◌, ◌++◌, length, refl, ap, sym, ◌∙◌, arith, suc, true, false, not, cond, eqb, Bool, inl, inr, take, drop, get_or, subst, length-drop, get_or-take, get_or-drop, get_or-append-add, get_or-replicate, length-replicate, length-take-le, same_lists, cases_lt, le-ltb, ne_eqb, common_steps, nat_lt, replicate, with_bytes, queue_id, completion_of, phase, AreOf, completion_bytes, phase_of, State, Slot, slot_at, zeros, fresh_host, fresh_state, own_host, own_state, in_flight, commands, completions, commands_of, answers_of, unread, heard, steps, since, last_head, total, odd, holds, live_in, live_at, Heads, Phases, Running, Resting, Holds, box, Host}
+use Rattle.nvme_fleet.proofs.Polls.{other-turn, twice}
+use Rattle.std.proofs.lemmas.List.{length-append}
 use Rattle.std.proofs.Math.ListN.{get_or-append}
-use Rattle.std.proofs.lemmas.Bool.{cases_lt, le-ltb, ne_eqb}
-use Rattle.std.proofs.lemmas.Grind.{common_steps}
-use Rattle.std.specs.Prelude.{nat_lt, replicate}
-use Rattle.nvme_spec.specs.Bytes.{with_bytes}
-use Rattle.nvme_driver.specs.Layout.{queue_id}
-use Rattle.nvme_wire.specs.Completion.{completion_of, phase}
-use Rattle.nvme_fleet.specs.Views.{AreOf, completion_bytes, phase_of, command_at, Host, State, Slot, slot_at, zeros, fresh_host, fresh_state, own_host, own_state, in_flight, commands, completions, commands_of, answers_of, unread, heard, steps, since, last_head, total, odd, holds, live_in, live_at, Heads, Phases, Running, Resting, Holds, next_completion, box}
 use Rattle.nvme_fleet.proofs.Windows.{stored-length}
 use Rattle.nvme_fleet.proofs.Keeps.{Enters, enters, EntersCompletion, answered}
 use Rattle.nvme_fleet.proofs.Queues.{same-entry, same-turn}
-use Rattle.nvme_fleet.proofs.Places.{no-way}
+use Rattle.nvme_fleet.proofs.Places.{no-way, never}
 use Rattle.nvme_fleet.proofs.Orders.{idle-age}
 
 -- a lane that is up, where nothing is on its way
@@ -63,13 +57,6 @@ quiet-running d c s =
       suited = omega (arith, ap (total (odd (holds d))) s.taken, ap (total (odd (holds d))) e);
     }
 
-other-turn : (n k : ℕ) → k < 32 → 31 ≤ k → phase_of ((n + 1) % 64 + k) ≡ not (phase_of n)
-other-turn n k h g = grind (arith, common_steps)
-
-twice : (b : Bool) → b ≡ not (not b)
-twice true = refl
-twice false = refl
-
 old-phase : (b : Bool) (k n : ℕ) → n ≡ 0 → cond (nat_lt k n) b (not b) ≡ not b
 old-phase b k n e = ap (λ t. cond t b (not b)) (le-ltb k n (omega (arith, e)))
 
@@ -78,9 +65,6 @@ record Own (w w' : List ℕ) (p m : ℕ) (entry completion : List ℕ) : Type 0 
   size : length w' ≡ length w
   completions : (n : ℕ) → eqb (n % 32) m ≡ false → completion_bytes w' n ≡ completion_bytes w n
   last : take 16 (drop (4096 + 16 * m) w') ≡ completion
-
-never : (n : ℕ) → eqb (n % 32) 32 ≡ false
-never n = ne_eqb (n % 32) 32 (λ e. omega (arith, e))
 
 owns : (w entry completion : List ℕ) (p m : ℕ) → length w ≡ 8192 → p < 8 → m < 32 → length entry ≡ 64 → length completion ≡ 16 →
     Own w (with_bytes (with_bytes w (64 * p) entry) (4096 + 16 * m) completion) p m entry completion
@@ -136,25 +120,6 @@ own-quiet d c entry completion s e f p =
       phases = own-phases d c entry completion s e f p;
       idle = s.idle;
     }
-
-same-phase : (b x : Bool) → x ≡ b → cond x b (not b) ≡ true
-same-phase true x e = rw e refl
-same-phase false x e = rw e refl
-
--- the controller fetches this command, and the driver then finds this completion
-pub own-fetch : (d : Host) (c : State) (entry : List ℕ) → Quiet d c → length entry ≡ 64 → command_at (with_bytes c.window (64 * d.put) entry) c.fetched ≡ entry
-own-fetch d c entry s e = ap (command_at (with_bytes c.window (64 * d.put) entry)) s.fetched ∙ (enters c.window entry d.put s.window s.put e).last
-
-pub own-look : (d : Host) (c : State) (entry completion : List ℕ) → Quiet d c → length entry ≡ 64 → length completion ≡ 16 → (completion_of completion).phase ≡ phase_of c.posted →
-    next_completion d (own_state c entry completion).window ≡ Some (completion_of completion)
-own-look d c entry completion s e f p =
-    let o : Own c.window (own_state c entry completion).window c.fetched (c.posted % 32) entry completion =
-    owns c.window entry completion c.fetched (c.posted % 32) s.window (omega (arith, s.fetched, s.put)) (omega arith) e f in
-    let a : d.consumed % 32 ≡ c.posted % 32 = omega (arith, s.posted) in
-    let b : completion_bytes (own_state c entry completion).window d.consumed ≡ completion = same-entry (own_state c entry completion).window d.consumed c.posted a ∙ o.last in
-    let q : (completion_of completion).phase ≡ phase_of d.consumed = p ∙ ap phase_of s.posted in
-    ap (λ x. cond (cond (completion_of x).phase (phase_of d.consumed) (not (phase_of d.consumed))) (Some (completion_of x)) None) b ∙
-    ap (λ t. cond t (Some (completion_of completion)) None) (same-phase (phase_of d.consumed) (completion_of completion).phase q)
 
 -- a page of zeros
 pub record Zeros (z : List ℕ) : Type 0 where

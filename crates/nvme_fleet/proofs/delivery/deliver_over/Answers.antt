@@ -1,6 +1,4 @@
-use Rattle.std.proofs.Common.{refl}
-use Rattle.nvme_fleet.specs.Sound.{mailbox}
-use Rattle.nvme_fleet.specs.Linked.{linked_controller}
+use Rattle.nvme_fleet.proofs.Words.{refl, mailbox, linked_controller}
 use Rattle.nvme_fleet.proofs.Handing.{handed-fits, handed-step}
 use Rattle.nvme_fleet.proofs.delivery.deliver_over.Goals as goal
 

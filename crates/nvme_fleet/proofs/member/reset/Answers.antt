@@ -1,4 +1,4 @@
-use Rattle.nvme_driver.specs.Drivers.{reset_calls}
+use Rattle.nvme_fleet.proofs.Words.{reset_calls}
 use Rattle.nvme_fleet.proofs.LinkDeeds.{resets-below}
 use Rattle.nvme_fleet.proofs.Members.{reset-step, site-kept}
 use Rattle.nvme_fleet.proofs.Reaching.{calls-over}

@@ -1,6 +1,4 @@
-use Rattle.std.proofs.Common.{◌≡◌, take, map, length}
-use Rattle.std.specs.Prelude.{vec_capacity, vec_len}
-use Rattle.nvme_fleet.specs.FleetStates.{opening_driver}
+use Rattle.nvme_fleet.proofs.Words.{◌≡◌, take, map, length, vec_capacity, vec_len, opening_driver}
 use Rattle.nvme_fleet.proofs.opening.drivers_of.Given as goal
 
 -- the drivers so far, and there is room for the rest

@@ -1,7 +1,4 @@
-use Rattle.std.proofs.Common.{◌∙◌, arith}
-use Rattle.std.specs.Prelude.{option_map}
-use Rattle.std.proofs.lemmas.List.Edits.{map_over_more}
-use Rattle.nvme_driver.specs.Drivers.{after_reset}
+use Rattle.nvme_fleet.proofs.Words.{◌∙◌, arith, option_map, map_over_more, after_reset}
 use Rattle.nvme_fleet.proofs.power.reset_all.Goals as goal
 
 pub loop-i-preserved : goal.loop-i-preserved

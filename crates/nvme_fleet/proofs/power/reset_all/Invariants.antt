@@ -1,6 +1,4 @@
-use Rattle.std.proofs.Common.{◌≡◌, ◌++◌, map, take, drop}
-use Rattle.std.specs.Prelude.{option_map}
-use Rattle.nvme_driver.specs.Drivers.{after_reset}
+use Rattle.nvme_fleet.proofs.Words.{◌≡◌, ◌++◌, map, take, drop, option_map, after_reset}
 use Rattle.nvme_fleet.proofs.power.reset_all.Given as goal
 
 -- the drivers before i were reset, and nothing has changed at the subsystem

@@ -1,13 +1,4 @@
-use Rattle.std.proofs.Common.{take, sym, subst}
-use Rattle.nvme_event.specs.Bare.{seen_with}
-use Rattle.nvme_event.specs.Replies.{Reply}
-use Rattle.nvme_fleet.specs.Fleets.{Step}
-use Rattle.nvme_fleet.specs.FleetStates.{FleetState, fleet_in, fleet_of, layers_of, reply_in}
-use Rattle.nvme_spec.specs.MediumCalls.{MakesCalls}
-use Rattle.nvme_subsys.specs.OverMedium.{OverMedium}
-use Rattle.nvme_fleet.specs.Layers.{Happens}
-use Rattle.nvme_fleet.specs.LayerCalls.{HappensCalling}
-use Rattle.nvme_subsys.proofs.OverMedium.{state-is}
+use Rattle.nvme_fleet.proofs.Words.{take, sym, subst, seen_with, Reply, Step, FleetState, fleet_in, fleet_of, layers_of, reply_in, MakesCalls, OverMedium, Happens, HappensCalling, state-is}
 use Rattle.nvme_fleet.proofs.fleet.Fleet.apply_marking.Goals as goal
 
 pub returns : goal.returns

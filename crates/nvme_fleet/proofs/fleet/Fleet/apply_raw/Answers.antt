@@ -1,14 +1,8 @@
-use Rattle.std.proofs.Common.{◌≡◌, ◌-◌, None, get_or, sym, subst, ◌∙◌}
+use Rattle.nvme_fleet.proofs.Words.{◌≡◌, ◌-◌, None, get_or, sym, subst, ◌∙◌, no_marks, controller_at, FleetState, layers_of, AppliesRaw, driver_at, IsThere, medium-is, state-is}
 use Rattle.nvme_machine.specs.Bare as machine
-use Rattle.nvme_spec.specs.Execution.{no_marks}
 use Rattle.nvme_event.specs.Bare.{seen_of}
-use Rattle.nvme_machine.specs.Subsystems.{controller_at}
 use Rattle.nvme_event.specs.declared.seen.FleetSeen.TheVariants as seen
-use Rattle.nvme_fleet.specs.FleetStates.{FleetState, layers_of}
-use Rattle.nvme_fleet.specs.Layers.{AppliesRaw, driver_at}
-use Rattle.nvme_fleet.specs.Linked.{IsThere}
 use Rattle.nvme_fleet.proofs.Happening.{applied-below, applied-raw, driver-none, driver-there, missed-below, refused-below, refused-raw}
-use Rattle.nvme_subsys.proofs.OverMedium.{medium-is, state-is}
 use Rattle.nvme_fleet.proofs.LayerCalls.{hosts-execute-nothing}
 use Rattle.nvme_fleet.proofs.fleet.Fleet.apply_raw.Goals as goal
 

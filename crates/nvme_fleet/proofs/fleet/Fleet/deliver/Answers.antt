@@ -1,16 +1,8 @@
-use Rattle.std.proofs.Common.{◌≡◌, ◌-◌, ◌++◌, None, get_or, length, take, drop, sym, ap, subst, arith}
-use Rattle.std.specs.Prelude.{slice_set}
-use Rattle.nvme_machine.specs.Subsystems.{controller_at}
+use Rattle.nvme_fleet.proofs.Words.{◌≡◌, ◌-◌, ◌++◌, None, get_or, length, take, drop, sym, ap, subst, arith, slice_set, controller_at, refill-all, Is, called, FleetState, IsSoundFleet, fleet_of, layers_of, reaction_to, reply_in, CallsAt, driver_at, IsThere, state-is}
 use Rattle.nvme_event.specs.Bare.{seen_of}
 use Rattle.nvme_event.specs.declared.seen.FleetSeen.TheVariants as seen
-use Rattle.nvme_subsys.proofs.Numbers.{refill-all}
-use Rattle.nvme_fleet.specs.Fleets.{Is, called}
-use Rattle.nvme_fleet.specs.FleetStates.{FleetState, IsSoundFleet, fleet_of, layers_of, reaction_to, reply_in}
-use Rattle.nvme_fleet.specs.Layers.{CallsAt, driver_at}
-use Rattle.nvme_fleet.specs.Linked.{IsThere}
 use Rattle.nvme_fleet.proofs.FleetCalls.{sound-at}
 use Rattle.nvme_fleet.proofs.Happening.{delivered-at, driver-none, missed-call, place-below}
-use Rattle.nvme_subsys.proofs.OverMedium.{state-is}
 use Rattle.nvme_fleet.proofs.fleet.Fleet.deliver.Goals as goal
 
 pub returns-in_default-clause-below : goal.returns-in_default-clause-below

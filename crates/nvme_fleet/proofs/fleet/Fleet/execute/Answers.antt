@@ -1,13 +1,8 @@
-use Rattle.std.proofs.Common.{◌≡◌, ◌-◌, refl, sym, subst}
+use Rattle.nvme_fleet.proofs.Words.{◌≡◌, ◌-◌, refl, sym, subst, seen_with, none-calling, none-executes, FleetState, Layers, layers_of, IsThere, controller_in, state-is}
 use Rattle.nvme_machine.specs.Bare as machine
-use Rattle.nvme_event.specs.Bare.{seen_with}
 use Rattle.nvme_machine.specs.declared.seen.Seen.TheVariants as given
 use Rattle.nvme_machine.specs.declared.event.Event.TheVariants.{Execute}
-use Rattle.nvme_subsys.proofs.Numbers.{none-calling, none-executes}
-use Rattle.nvme_fleet.specs.FleetStates.{FleetState, Layers, layers_of}
-use Rattle.nvme_fleet.specs.Linked.{IsThere, controller_in}
 use Rattle.nvme_fleet.proofs.Happening.{executed-there}
-use Rattle.nvme_subsys.proofs.OverMedium.{state-is}
 use Rattle.nvme_fleet.proofs.LayerCalls.{applies-calling}
 use Rattle.nvme_fleet.proofs.fleet.Fleet.execute.Goals as goal
 

@@ -1,11 +1,6 @@
-use Rattle.std.proofs.Common.{◌∙◌, refl}
+use Rattle.nvme_fleet.proofs.Words.{◌∙◌, refl, no_marks, after_fetch, misses, medium-is, FleetState}
 use Rattle.nvme_machine.specs.declared.seen.Seen.TheVariants as given
 use Rattle.nvme_machine.specs.Bare as machine
-use Rattle.nvme_spec.specs.Execution.{no_marks}
-use Rattle.nvme_machine.specs.Controllers.{after_fetch}
-use Rattle.nvme_subsys.proofs.Numbers.{misses}
-use Rattle.nvme_subsys.proofs.OverMedium.{medium-is}
-use Rattle.nvme_fleet.specs.FleetStates.{FleetState}
 use Rattle.nvme_fleet.proofs.Happening.{fetched-there}
 use Rattle.nvme_fleet.proofs.fleet.Fleet.fetch.Goals as goal
 

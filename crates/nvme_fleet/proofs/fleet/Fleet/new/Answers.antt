@@ -1,6 +1,6 @@
+use Rattle.nvme_fleet.proofs.Words.{state-is}
 use Rattle.nvme_ns.specs.Configured.{configuration}
 use Rattle.nvme_fleet.proofs.FleetOpening.{opened-mailboxes, opened-over}
-use Rattle.nvme_subsys.proofs.OverMedium.{state-is}
 use Rattle.nvme_fleet.proofs.fleet.Fleet.new.Goals as goal
 
 pub invariant_of-result : goal.invariant_of-result

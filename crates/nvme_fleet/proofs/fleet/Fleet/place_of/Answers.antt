@@ -1,6 +1,4 @@
-use Rattle.std.proofs.Common.{ap, ◌∙◌}
-use Rattle.nvme_machine.specs.Controllers.{Controller}
-use Rattle.nvme_fleet.specs.FleetStates.{FleetState}
+use Rattle.nvme_fleet.proofs.Words.{ap, ◌∙◌, Controller, FleetState}
 use Rattle.nvme_fleet.proofs.Happening.{controller-is-in, host-none, is-there}
 use Rattle.nvme_fleet.proofs.fleet.Fleet.place_of.Goals as goal
 

@@ -1,16 +1,7 @@
-use Rattle.std.proofs.Common.{◌≡◌, ◌++◌, ◌∙◌, length, map, take, drop, sym, ap, subst, refl, arith}
-use Rattle.std.specs.Prelude.{option_map}
-use Rattle.nvme_driver.specs.Drivers.{after_reset}
+use Rattle.nvme_fleet.proofs.Words.{◌≡◌, ◌++◌, ◌∙◌, length, map, take, drop, sym, ap, subst, refl, arith, option_map, after_reset, step-count, refill-all, state-is, medium-is, medium-kept, FleetState, IsSoundFleet, fleet_of, layers_of, reply_in, Is, moment, power_cycled, Cycles, AreCycled}
 use Rattle.nvme_machine.specs.Bare as machine
 use Rattle.nvme_machine.specs.declared.event.Event.TheVariants.{PowerCycle}
 use Rattle.nvme_event.specs.declared.seen.FleetSeen.TheVariants.{Cycled}
-use Rattle.nvme_subsys.proofs.Counts.{step-count}
-use Rattle.nvme_subsys.proofs.Numbers.{refill-all}
-use Rattle.nvme_subsys.proofs.OverMedium.{state-is, medium-is, medium-kept}
-use Rattle.nvme_fleet.specs.FleetStates.{FleetState, IsSoundFleet, fleet_of, layers_of, reply_in}
-use Rattle.nvme_fleet.specs.Fleets.{Is, moment, power_cycled}
-use Rattle.nvme_fleet.specs.Layers.{Cycles}
-use Rattle.nvme_fleet.specs.PowerReset.{AreCycled}
 use Rattle.nvme_fleet.proofs.PowerStep.{are-cycled, cycled-state, is-cycled}
 use Rattle.nvme_fleet.proofs.fleet.Fleet.power_cycle.Goals as goal
 

@@ -1,6 +1,5 @@
-use Rattle.std.proofs.Common.{◌≡◌, ◌≤◌, ◌∙◌, length, sym, ap, subst, arith}
-use Rattle.nvme_spec.specs.Limits.{most_bytes}
-use Rattle.nvme_fleet.specs.FleetStates.{fleet_of, layers_of, data_in}
+use Rattle.nvme_fleet.proofs.Words.{◌≡◌, ◌≤◌, ◌∙◌, length, sym, ap, subst, arith, most_bytes, fleet_of, layers_of}
+use Rattle.nvme_fleet.specs.FleetStates.{data_in}
 use Rattle.nvme_fleet.specs.Fleets as mailboxes
 use Rattle.nvme_fleet.proofs.FleetRuns.{copied, fits-room}
 use Rattle.nvme_fleet.proofs.LayerCalls.{replied}

@@ -1,4 +1,4 @@
-use Rattle.std.proofs.Common.{◌≡◌, ◌∷◌, ◌++◌, ◌∙◌, [], ap}
+use Rattle.nvme_fleet.proofs.Words.{◌≡◌, ◌∷◌, ◌++◌, ◌∙◌, [], ap}
 use Rattle.nvme_fleet.proofs.FleetRuns.{runs-none, runs-next}
 use Rattle.nvme_fleet.proofs.fleet.Fleet.run.Goals as goal
 

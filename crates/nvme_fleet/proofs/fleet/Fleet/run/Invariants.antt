@@ -1,5 +1,4 @@
-use Rattle.std.proofs.Common.{take}
-use Rattle.nvme_fleet.specs.Running.{RunsBehind}
+use Rattle.nvme_fleet.proofs.Words.{take, RunsBehind}
 use Rattle.nvme_fleet.proofs.fleet.Fleet.run.Given as goal
 
 -- the events so far have happened, and their replies are added

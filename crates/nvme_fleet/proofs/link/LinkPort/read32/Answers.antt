@@ -1,10 +1,7 @@
-use Rattle.std.proofs.Common.{◌≡◌, ◌-◌, ℕ, ap}
-use Rattle.nvme_machine.specs.Bare.{seen_of}
+use Rattle.nvme_fleet.proofs.Words.{◌≡◌, ◌-◌, ℕ, ap, seen_of, has_read, Read32}
 use Rattle.nvme_machine.specs.declared.bare.BareSeen.{BareSeen}
 use Rattle.nvme_machine.specs.declared.bare.BareSeen.TheVariants as bare
 use Rattle.nvme_machine.specs.declared.seen.Seen.TheVariants as given
-use Rattle.nvme_machine.specs.Controllers.{has_read}
-use Rattle.nvme_machine.specs.declared.event.Event.TheVariants.{Read32}
 use Rattle.nvme_fleet.proofs.Happening.{place-below, place-is}
 use Rattle.nvme_fleet.proofs.Links.{there-after}
 use Rattle.nvme_fleet.proofs.Reaching.{reacted-as}

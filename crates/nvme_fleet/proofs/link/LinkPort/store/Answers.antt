@@ -1,7 +1,4 @@
-use Rattle.std.proofs.Common.{[], ◌∷◌, refl}
-use Rattle.nvme_driver.specs.Calls.{Stores}
-use Rattle.nvme_machine.specs.Bare.{seen_of}
-use Rattle.nvme_machine.specs.declared.event.Event.TheVariants.{Store}
+use Rattle.nvme_fleet.proofs.Words.{[], ◌∷◌, refl, Stores, seen_of, Store}
 use Rattle.nvme_fleet.proofs.Links.{at-number, there-after}
 use Rattle.nvme_fleet.proofs.Storing.{stored-there}
 use Rattle.nvme_fleet.proofs.link.LinkPort.store.Goals as goal

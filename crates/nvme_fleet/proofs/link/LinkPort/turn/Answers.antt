@@ -1,5 +1,4 @@
-use Rattle.std.proofs.Common.{[], ◌∷◌, refl}
-use Rattle.nvme_driver.specs.Calls.{Turns}
+use Rattle.nvme_fleet.proofs.Words.{[], ◌∷◌, refl, Turns}
 use Rattle.nvme_machine.specs.declared.event.Event.TheVariants.{Fetch, Execute}
 use Rattle.nvme_fleet.proofs.Links.{at-number, there-after}
 use Rattle.nvme_fleet.proofs.LayerCalls.{turn-makes}

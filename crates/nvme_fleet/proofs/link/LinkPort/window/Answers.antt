@@ -1,5 +1,4 @@
-use Rattle.std.proofs.Common.{sym, ap, ◌∙◌}
-use Rattle.nvme_machine.specs.Controllers.{Controller}
+use Rattle.nvme_fleet.proofs.Words.{sym, ap, ◌∙◌, Controller}
 use Rattle.nvme_fleet.proofs.Happening.{is-some-there, lent-there}
 use Rattle.nvme_fleet.proofs.link.LinkPort.window.Goals as goal
 

@@ -1,7 +1,4 @@
-use Rattle.std.proofs.Common.{[], ◌∷◌, refl}
-use Rattle.nvme_driver.specs.Calls.{Writes}
-use Rattle.nvme_machine.specs.Bare.{seen_of}
-use Rattle.nvme_machine.specs.declared.event.Event.TheVariants.{Write32}
+use Rattle.nvme_fleet.proofs.Words.{[], ◌∷◌, refl, Writes, seen_of, Write32}
 use Rattle.nvme_fleet.proofs.Links.{at-number, there-after}
 use Rattle.nvme_fleet.proofs.link.LinkPort.write32.Goals as goal
 
