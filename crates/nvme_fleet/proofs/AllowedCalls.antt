@@ -1,5 +1,5 @@
 -- Each call of the medium that a fleet makes is that of a command that all rules let pass, and fenced hosts write none.
-use Rattle.nvme_fleet.proofs.Words.{◌≡◌, ℕ, Bool, false, List, [], ◌∷◌, Some, refl, sym, ap, subst, ◌∙◌, AllByRecursion, Extent, extent_of, may_write, MediumCall, Cycled, HaveTheirOwn, KeepsOff, HasSameExtents, same-extents, all-joined, all-mapped, all-of-none, calls_are_allowed as machine_calls_are_allowed, step-extents, FleetEvent, Execute, PowerCycle, OfItsHost, Reply, CallsAreAllowed, CallsOfRunsAreAllowed, ComesFrom, FencedCommandsCallNothing, FencedHostsWriteNoBlock, MayCall, Layers, AreCallsOfStep}
+use Rattle.nvme_fleet.proofs.Words.{◌≡◌, ℕ, Bool, false, List, [], ◌∷◌, Some, refl, sym, ap, subst, ◌∙◌, AllByRecursion, Extent, extent_of, may_write, MediumCall, Cycled, HaveTheirOwn, KeepsOff, HasSameExtents, same-extents, all-joined, all-mapped, all-of-none, calls_are_allowed as machine_calls_are_allowed, step-extents, FleetEvent, Execute, OfItsHost, Reply, CallsAreAllowed, CallsOfRunsAreAllowed, ComesFrom, FencedCommandsCallNothing, FencedHostsWriteNoBlock, MayCall, Layers, AreCallsOfStep}
 use Rattle.nvme_machine.specs.declared.event.Event.TheVariants as event
 use Rattle.nvme_machine.proofs.FencedCalls.{elsewhere, fenced_commands_call_nothing as machine_fenced_commands_call_nothing}
 use Rattle.nvme_fleet.specs.Layers.{Step}

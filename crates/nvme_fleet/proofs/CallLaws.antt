@@ -1,5 +1,5 @@
 -- The calls that the events of a fleet make of the medium, by the laws of the machine.
-use Rattle.nvme_fleet.proofs.Words.{◌≡◌, ◌-◌, true, [], ◌∷◌, ◌++◌, refl, sym, ap, subst, ◌∙◌, arith, Outcome, Executed, Posted, Seen, Execute, AreCallsOfStep, AreCallsOfRun, told}
+use Rattle.nvme_fleet.proofs.Words.{◌≡◌, true, [], ◌∷◌, ◌++◌, refl, sym, ap, subst, ◌∙◌, arith, Outcome, Executed, Posted, Seen, Execute, AreCallsOfRun, told}
 use Rattle.nvme_spec.specs.FaultFreeCalls.{content_step}
 use Rattle.nvme_spec.specs.MediumCalls.{Calls}
 use Rattle.nvme_spec.proofs.PassingCalls.{content-alone, calls-split}

@@ -1,5 +1,5 @@
 -- Without a fault there is a run over each list of events, from each fleet whose namespaces lie on its medium.
-use Rattle.nvme_fleet.proofs.Words.{◌≡◌, ℕ, ◌+◌, ◌*◌, ◌≤◌, ◌==◌, Bool, true, List, [], ◌∷◌, ◌++◌, length, take, drop, Option, None, Some, Ok, Err, refl, sym, ap, ◌∙◌, arith, length-append, length-drop, ◌-◌, slice_get, replicate, length-take-le, opcode, Command, WriteZeroes, AdminCommand, Verdict, Allowed, Denied, with_bytes, Judgement, action_rule, medium_block, IsLaidOut, extent_of, HasPassed, planned, passes, cycle_keeps_places, Lane, Admin, Io, Asked, FetchedCommand, Controller, QueuePair, queues_of, open_pair, Setting, FinishesOne, FinishesOver, scene_in, CommandComesTo, command-becomes, still, answer-extents, answer-size, FleetEvent, BringUp, Place, Ring, Fetch, Execute, Poll, Reset, RawStore, RawWrite32, PowerCycle, FleetSeen, FetchedItem, Mailbox, lane_of, MailboxReaction, Site, RequestExecution, scene_at, IsServed, IoRequestComesTo, RequestComesToAs, RequestComesTo, action_of, io_judgement, io_verdict, admin_judgement, admin_request_execution_by, admin_request_execution, command_entry, WithDriver, Raw, Fleet, Step, host_at, with_host, power_cycled, settled, called_at, raw_at, fetched_at, ExecutesItem, ExecutesAt, setting_of, served, performance_of, io_request_execution, request_execution_as, request_execution, executing_item, raw_over, raw_one, raw_execution, executing, fault_free_step, failures_in, RunExists}
+use Rattle.nvme_fleet.proofs.Words.{◌≡◌, ℕ, ◌+◌, ◌*◌, ◌≤◌, ◌==◌, Bool, true, List, [], ◌∷◌, ◌++◌, length, take, drop, Option, None, Some, Ok, Err, refl, sym, ap, ◌∙◌, arith, length-append, length-drop, slice_get, replicate, length-take-le, opcode, Command, WriteZeroes, AdminCommand, Verdict, Allowed, Denied, with_bytes, Judgement, action_rule, medium_block, IsLaidOut, extent_of, HasPassed, planned, passes, cycle_keeps_places, Lane, Admin, Io, Asked, FetchedCommand, Controller, QueuePair, queues_of, open_pair, Setting, FinishesOne, FinishesOver, scene_in, CommandComesTo, command-becomes, still, answer-extents, answer-size, FleetEvent, BringUp, Place, Ring, Fetch, Execute, Poll, Reset, RawStore, RawWrite32, PowerCycle, FleetSeen, FetchedItem, Mailbox, lane_of, MailboxReaction, Site, RequestExecution, scene_at, IsServed, IoRequestComesTo, RequestComesToAs, RequestComesTo, action_of, io_judgement, io_verdict, admin_judgement, admin_request_execution_by, admin_request_execution, command_entry, WithDriver, Raw, Fleet, Step, host_at, with_host, power_cycled, settled, called_at, raw_at, fetched_at, ExecutesItem, ExecutesAt, setting_of, served, performance_of, io_request_execution, request_execution_as, request_execution, executing_item, raw_over, raw_one, raw_execution, executing, fault_free_step, failures_in, RunExists}
 use Rattle.nvme_spec.specs.declared.command.Command.TheVariants.{Write}
 use Rattle.nvme_spec.specs.declared.verdict.Plan.{Plan}
 use Rattle.nvme_spec.specs.Commands as io_commands

@@ -5,7 +5,6 @@ use Rattle.nvme_machine.specs.Controllers.{power_cycled}
 use Rattle.nvme_machine.specs.Subsystems.{numbered, replaced, with_controller}
 use Rattle.nvme_fleet.specs.Deliveries as mail
 use Rattle.nvme_fleet.specs.Fleets as mailboxes
-use Rattle.nvme_fleet.specs.Lanes.{reset}
 use Rattle.nvme_event.specs.declared.seen.FleetSeen.TheVariants as seen
 use Rattle.nvme_fleet.proofs.Orders.{pending-abort}
 use Rattle.nvme_fleet.proofs.Places.{no-way}

@@ -1,5 +1,5 @@
 -- A driver that is down waits for nothing, from an opening on.
-use Rattle.nvme_fleet.proofs.Words.{true≢false, ◌≡◌, inl, inr, ℕ, ◌+◌, Bool, true, false, List, [], ◌∷◌, map, Some, refl, sym, ap, subst, ◌∙◌, slice_get, none-some, Lane, Admin, Io, FleetEvent, concerns, Reply, LaneBox, Mailbox, box_at, lane_of, new_mailbox, with_box, with_mark, fetched, placed, rung, Site, Fleet, Run, WithDriver, after_answer, host_at, opening, HasMailbox, MailboxStep, IsClear, posted_answers, waiting}
+use Rattle.nvme_fleet.proofs.Words.{true≢false, ◌≡◌, inl, inr, ℕ, ◌+◌, Bool, true, false, List, [], ◌∷◌, map, Some, refl, sym, ap, subst, ◌∙◌, slice_get, none-some, Lane, Admin, Io, FleetEvent, concerns, Reply, LaneBox, Mailbox, box_at, lane_of, new_mailbox, with_box, with_mark, Site, Fleet, Run, WithDriver, after_answer, host_at, opening, HasMailbox, MailboxStep, IsClear, posted_answers, waiting}
 use Rattle.nvme_fleet.specs.SinceUp.{DoneSinceItCameUp, DownIsClear}
 use Rattle.nvme_fleet.proofs.Answered.{done_is_its_execution}
 use Rattle.nvme_fleet.proofs.Apart.{hosts_are_apart}

@@ -1,5 +1,5 @@
 -- Each request that waits in a mailbox was taken by its driver.
-use Rattle.nvme_fleet.proofs.Words.{all-joined, ◌≡◌, ℕ, ◌+◌, ◌++◌, Bool, true, false, not, List, [], ◌∷◌, map, Option, None, Some, refl, sym, subst, if◌then◌else◌, slice_get, AllByRecursion, Device, Configuration, PlaceRefusal, NotReady, BadRequest, Request, is_bad, FleetEvent, Reply, FetchedItem, Item, LaneBox, Mailbox, PostedAnswer, placed, refusal, rung, Fleet, Raw, Step, WithDriver, host_at, marked, opening, HoldsTaken, WasTaken, posted_answers, requests_in, waiting}
+use Rattle.nvme_fleet.proofs.Words.{all-joined, ◌≡◌, ℕ, ◌++◌, Bool, true, false, not, List, [], ◌∷◌, map, Option, None, Some, refl, sym, subst, if◌then◌else◌, slice_get, AllByRecursion, Device, Configuration, PlaceRefusal, NotReady, BadRequest, Request, is_bad, FleetEvent, Reply, FetchedItem, Item, LaneBox, Mailbox, PostedAnswer, refusal, Fleet, Raw, Step, WithDriver, host_at, marked, opening, HoldsTaken, WasTaken, posted_answers, requests_in, waiting}
 use Rattle.nvme_fleet.proofs.Lists.{all-get}
 use Rattle.nvme_fleet.specs.Fleets.{Host}
 use Rattle.nvme_fleet.proofs.Answered.{Brings, Known, KnownIn, OfItem, all-marked, known-of, moves-known}

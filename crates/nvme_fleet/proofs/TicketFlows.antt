@@ -1,5 +1,5 @@
 -- What becomes of tickets in one event of their host.
-use Rattle.nvme_fleet.proofs.Words.{reset, ◌≡◌, inl, inr, ℕ, ◌+◌, nat_le, Bool, true, false, List, [], ◌∷◌, ◌++◌, map, Some, refl, sym, ap, subst, arith, if◌then◌else◌, slice_get, Lane, Admin, Io, asked_of, Item, FetchedItem, PostedAnswer, LaneBox, Mailbox, box_at, with_box, lane_of, tickets_in, ranked, rising, open_tickets, names, with_mark, new_item, with_placed, placed, rung, fetched, RequestExecution, after_answer, with_posted, answer_for, total, waiting, posted_answers, requests_in, waiting_tickets, answered_tickets, held_tickets, given_in, done_in, aborted_in, Posted, FleetSeen, where_posted, remove}
+use Rattle.nvme_fleet.proofs.Words.{reset, ◌≡◌, inl, inr, ℕ, ◌+◌, nat_le, Bool, true, false, List, [], ◌∷◌, ◌++◌, map, Some, refl, sym, ap, subst, arith, if◌then◌else◌, slice_get, Lane, Admin, Io, asked_of, Item, FetchedItem, PostedAnswer, LaneBox, Mailbox, box_at, with_box, lane_of, tickets_in, ranked, rising, open_tickets, names, with_mark, new_item, with_placed, RequestExecution, after_answer, with_posted, answer_for, total, waiting, posted_answers, requests_in, waiting_tickets, answered_tickets, held_tickets, given_in, done_in, aborted_in, Posted, FleetSeen, where_posted, remove}
 use Rattle.nvme_fleet.specs.Mailboxes.{with_marks}
 use Rattle.nvme_event.specs.declared.seen.FleetSeen.TheVariants as seen
 use Rattle.nvme_fleet.proofs.MailboxMarks.{DiffersInMarks}

@@ -1,8 +1,8 @@
-use Rattle.nvme_fleet.proofs.Words.{◌≡◌, ◌++◌, ◌∙◌, length, map, take, drop, sym, ap, subst, refl, arith, option_map, after_reset, step-count, refill-all, state-is, medium-is, medium-kept, FleetState, IsSoundFleet, fleet_of, layers_of, reply_in, Is, moment, power_cycled, Cycles, AreCycled}
+use Rattle.nvme_fleet.proofs.Words.{◌≡◌, ◌++◌, ◌∙◌, length, map, take, drop, sym, ap, subst, refl, arith, option_map, after_reset, step-count, refill-all, FleetState, IsSoundFleet, fleet_of, layers_of, Cycles, AreCycled}
 use Rattle.nvme_machine.specs.Bare as machine
 use Rattle.nvme_machine.specs.declared.event.Event.TheVariants.{PowerCycle}
 use Rattle.nvme_event.specs.declared.seen.FleetSeen.TheVariants.{Cycled}
-use Rattle.nvme_fleet.proofs.PowerStep.{are-cycled, cycled-state, is-cycled}
+use Rattle.nvme_fleet.proofs.PowerStep.{are-cycled, is-cycled}
 use Rattle.nvme_fleet.proofs.fleet.Fleet.power_cycle.Goals as goal
 
 pub reset_all-requires-clause-pairs : goal.reset_all-requires-clause-pairs
