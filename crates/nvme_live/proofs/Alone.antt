@@ -15,6 +15,7 @@ use Rattle.nvme_live.specs.Asking.{asked}
 use Rattle.nvme_live.specs.Conversations.{Converses}
 use Rattle.nvme_live.specs.SessionLaws.{SessionsStandAlone, EndsStandAlone}
 use Rattle.nvme_live.specs.Standings.{Over, Running, Setting, Standing, Turn, TurnOf}
+use Rattle.nvme_live.specs.Streams.{LineCall, Sending}
 
 module _ {M : Type 0} (step : M → MediumCall → M → Type 0) (tells : Bool) where
   same-state : (a b : OverMedium Layers M) → b ≡ a → b.state ≡ a.state
@@ -59,22 +60,22 @@ module _ {M : Type 0} (step : M → MediumCall → M → Type 0) (tells : Bool) 
   sessions_stand_alone blocks d n old new (line ∷ lines) (answer ∷ answers) (mid, turn, rest) =
       (mid.state, turn-alone blocks d n old.state old.medium (asked line) answer mid turn, sessions_stand_alone blocks d (n + 1) mid new lines answers rest)
 
-  conversed-alone : (blocks : ℕ) (d : Device) (n k : ℕ) (old new : OverMedium Standing M) (u v x y : Option (List ℕ)) → Converses (TurnOver step tells blocks d) n old k new u v x y
-      → Converses (TurnOf tells blocks d) n old.state k new.state u v x y
-  conversed-alone blocks d n k old new u v x y h = record {
-    lines = h.lines;
-    answers = h.answers;
-    counted = h.counted;
-    taken = h.taken;
-    went = sessions_stand_alone blocks d n old new h.lines h.answers h.went;
-    wrote = h.wrote;
-  }
+  module _ {R W : Type 0} (Reads : R → LineCall → R → Type 0) (Sends : W → Sending → W → Type 0) where
+    conversed-alone : (blocks : ℕ) (d : Device) (n k : ℕ) (old new : OverMedium Standing M) (u v : R) (x y : W) → Converses (TurnOver step tells blocks d) Reads Sends n old k new u v x y
+        → Converses (TurnOf tells blocks d) Reads Sends n old.state k new.state u v x y
+    conversed-alone blocks d n k old new u v x y h = record {
+      lines = h.lines;
+      answers = h.answers;
+      counted = h.counted;
+      taken = h.taken;
+      went = sessions_stand_alone blocks d n old new h.lines h.answers h.went;
+      sent = h.sent;
+    }
 
-  pub ends_stand_alone : EndsStandAlone step tells
-  ends_stand_alone blocks d n old new u w x y h = record {
-    next = h.next;
-    end = h.end;
-    conversed = conversed-alone blocks d n h.next old new u h.end x y h.conversed;
-    is_end = h.is_end;
-    kept = h.kept;
-  }
+    pub ends_stand_alone : EndsStandAlone step tells Reads Sends
+    ends_stand_alone blocks d n old new u w x y h = record {
+      next = h.next;
+      end = h.end;
+      conversed = conversed-alone blocks d n h.next old new u h.end x y h.conversed;
+      ended = h.ended;
+    }

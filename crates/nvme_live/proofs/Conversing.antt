@@ -1,14 +1,11 @@
 -- One line more of a session, as its loops go on.
-use Rattle.std.proofs.Common.{◌≡◌, ◌≤◌, ◌<◌, ◌+◌, ◌-◌, ◌^◌, ℕ, Bool, true, false, List, [], length, Option, Ok, Err, inr, refl, sym, ap, subst, ◌∙◌, arith}
-use Rattle.std.specs.Prelude.{Result, OnOk, OnErr, MatchResult, nat_lt, codes, is_err}
-use Rattle.std.specs.Io.KnownBytes.{Appends}
-use Rattle.std.proofs.KnownBytes.{Consumes-nil}
-use Rattle.std.proofs.lemmas.Bool.{ltb-true, ltb-false, lt-ltb, false≢true}
+use Rattle.std.proofs.Common.{◌≡◌, ◌≤◌, ◌<◌, ◌+◌, ◌-◌, ◌^◌, ℕ, Bool, true, false, List, length, Ok, Err, inl, inr, refl, sym, ap, subst, ◌∙◌, arith}
+use Rattle.std.specs.Prelude.{Result, IfOk, IfErr, nat_lt, codes}
+use Rattle.std.proofs.lemmas.Bool.{ltb-true, ltb-false, lt-ltb}
 use Rattle.std.proofs.lemmas.List.{length-take}
-use Rattle.std.proofs.lemmas.List.Elements.{All-nil}
 use Rattle.nvme_spec.specs.Blocks.{Device}
 use Rattle.nvme_spec.specs.MediumCalls.{MediumCall}
-use Rattle.nvme_subsys.specs.OverMedium.{over}
+use Rattle.nvme_subsys.specs.OverMedium.{OverMedium, over}
 use Rattle.nvme_live.specs.SetUps.{SetUp, with_line}
 use Rattle.nvme_fleet.specs.FleetStates.{Layers}
 use Rattle.nvme_grammar.specs.declared.line.Line.{Line}
@@ -21,14 +18,15 @@ use Rattle.nvme_live.specs.declared.asking.Asked.{Asked}
 use Rattle.nvme_live.specs.declared.asking.Asked.TheVariants.{Fails, Sets}
 use Rattle.nvme_live.specs.declared.setting.Settled.{Settled}
 use Rattle.nvme_live.specs.declared.setting.Settled.TheVariants as settled
-use Rattle.nvme_live.specs.Answers.{Sends}
+use Rattle.nvme_live.specs.Answers.{Answered}
 use Rattle.nvme_live.specs.AnswerCalls.{AnswersLineBy, TurnOver}
 use Rattle.nvme_live.specs.Asking.{asked}
-use Rattle.nvme_live.specs.Saying.{Breaks, with_feed}
+use Rattle.nvme_live.specs.Saying.{with_feed}
 use Rattle.nvme_live.specs.Settling.{Comes, SettlesAlike}
-use Rattle.nvme_live.specs.Standings.{Standing, Setting, Running, Turn, TurnOf}
-use Rattle.nvme_live.specs.Conversations.{BreaksOff, CanStarve, ComesToStart, Converses, Ends, EndsBy, Starves, Unread, alone}
-use Rattle.nvme_live.specs.Taking.{ReadsLine, TakesFront, kept}
+use Rattle.nvme_live.specs.Standings.{MayLackRoom, Standing, Setting, Running, Turn, TurnOf}
+use Rattle.nvme_live.specs.Conversations.{CanStarve, ComesToStart, Converses, Ends, EndsBy, Starves, Stops, Uncounted, Unread, alone, standing_over}
+use Rattle.nvme_live.specs.Streams.{Failed, GivesLine, LineCall, Says, Sending, Sent}
+use Rattle.nvme_live.specs.Taking.{kept}
 use Rattle.nvme_live.proofs.Takings.{kept-all, kept-short}
 use Rattle.nvme_live.proofs.Sessions.{conversed-one, conversed-more}
 
@@ -52,15 +50,16 @@ asked-kept line = by (nat_lt 1048576 (length line)) refl
         let fits = ltb-false 1048576 (length line) e in
         ap asked (kept-all line (omega (arith, fits)))
 
-pub front-none : (a : Option (List ℕ)) → TakesFront a a
-front-none a = record { bytes = []; of_line = All-nil (λ b. b ≡ 10 → ⊥); taken = Consumes-nil a }
-
 -- A line before `start`.
-pub comes-by : {T E : Type 0} (written : Result T E) (result : Result Settled ScriptFault) (n : ℕ) (old : SetUp) (asks : Asked) (new : SetUp) (before after : Option (List ℕ)) (answer : List ℕ)
-    → MatchResult written (λ _. result ≡ Ok settled.Answered) (λ _. result ≡ Err Write) → SettlesAlike n old asks answer new
-    → OnOk written (Appends before after answer) → OnErr written (Breaks before after answer) → Comes result n old asks new before after
-comes-by (Ok x) result n old asks new before after answer is alike ok err = subst (λ (r : Result Settled ScriptFault). Comes r n old asks new before after) (sym is) (answer, alike, ok)
-comes-by (Err e) result n old asks new before after answer is alike ok err = subst (λ (r : Result Settled ScriptFault). Comes r n old asks new before after) (sym is) (answer, alike, err)
+pub comes-by : {W : Type 0} (Sends : W → Sending → W → Type 0) (said : Result (Unit {0}) ScriptFault) (result : Result Settled ScriptFault) (n : ℕ) (old : SetUp) (asks : Asked) (new : SetUp) (before after : W) (answer : List ℕ)
+    → (MayBe : Type 0) → (MayBe → MayLackRoom (Setting old) asks) → IfOk said (λ _. result ≡ Ok settled.Answered) → IfErr said (λ fault. result ≡ Err fault) → SettlesAlike n old asks answer new → Says Sends MayBe said answer before after → Comes Sends result n old asks new before after
+comes-by Sends (Ok x) result n old asks new before after answer MayBe may is other alike says = subst (λ (r : Result Settled ScriptFault). Comes Sends r n old asks new before after) (sym is) (answer, alike, says)
+comes-by Sends (Err Write) result n old asks new before after answer MayBe may other is alike says = subst (λ (r : Result Settled ScriptFault). Comes Sends r n old asks new before after) (sym is) (answer, alike, says)
+comes-by Sends (Err NoMemory) result n old asks new before after answer MayBe may other is alike says = subst (λ (r : Result Settled ScriptFault). Comes Sends r n old asks new before after) (sym is) (inr (answer, alike, may says.0, says.1))
+comes-by Sends (Err (Syntax k)) result n old asks new before after answer MayBe may other is alike says = absurd says
+comes-by Sends (Err (Config k f)) result n old asks new before after answer MayBe may other is alike says = absurd says
+comes-by Sends (Err TooLong) result n old asks new before after answer MayBe may other is alike says = absurd says
+comes-by Sends (Err Read) result n old asks new before after answer MayBe may other is alike says = absurd says
 
 pub sets-other : (n : ℕ) (c new : SetUp) (line : Line) → (line ≡ Start → ⊥) → new ≡ with_line n c (line_by_value line) → SettlesAlike n c (Sets (line_by_value line)) (with_feed (codes "ok")) new
 sets-other n c new Start other e = absurd (other refl)
@@ -71,108 +70,115 @@ sets-other n c new (Attached k m) other e = λ blocks d. (refl, ap Setting e)
 sets-other n c new (Event event) other e = λ blocks d. (refl, ap Setting e)
 
 -- what a line asks is what the whole line asks of which this is kept
-asks-whole : (v w : Option (List ℕ)) (line : List ℕ) (asks : Asked) (reads : ReadsLine true v w line) → asks ≡ asked line → asks ≡ asked reads.0
-asks-whole v w line asks reads is = is ∙ ap asked reads.2 ∙ asked-kept reads.0
+module _ {R : Type 0} (Reads : R → LineCall → R → Type 0) where
+  pub asks-whole : (v w : R) (line : List ℕ) (asks : Asked) (reads : GivesLine Reads true v w line) → asks ≡ asked line → asks ≡ asked reads.0
+  asks-whole v w line asks reads is = is ∙ ap asked reads.2 ∙ asked-kept reads.0
 
-module _ {S : Type 0} (Turns : ℕ → S → List ℕ → List ℕ → S → Type 0) (a b : S) (first k : ℕ) (u v x y : Option (List ℕ)) (h : Converses Turns first a k b u v x y)
-    (w z : Option (List ℕ)) (line : List ℕ) (reads : ReadsLine true v w line) where
-  line-more : (c : S) (answer : List ℕ) → Turns k b reads.0 answer c → Appends y z answer → Converses Turns first a (k + 1) c u w x z
-  line-more c answer turn wrote =
-      conversed-more Turns first k (k + 1) a b c u v w x y z h (conversed-one Turns k b c v w y z reads.0 answer reads.1 turn wrote)
+  pub short-read : (v w : R) (line : List ℕ) → GivesLine Reads true v w line → length line ≤ 1048577
+  short-read v w line reads = let short = kept-short reads.0 in omega (arith, short, ap length reads.2)
 
-  line-broke : (c : S) (answer : List ℕ) → Turns k b reads.0 answer c → Breaks y z answer → BreaksOff Turns first a c u w x z
-  line-broke c answer turn broke = record {
-    next = k;
-    mid = b;
-    between = v;
-    written = y;
-    conversed = h;
-    line = reads.0;
-    taken = reads.1;
-    answer = answer;
-    turn = turn;
-    broke = broke;
-  }
+module _ {S R W : Type 0} (Turns : ℕ → S → List ℕ → List ℕ → S → Type 0) (Reads : R → LineCall → R → Type 0) (Sends : W → Sending → W → Type 0) (a b : S) (first k : ℕ) (u v : R) (x y : W)
+    (h : Converses Turns Reads Sends first a k b u v x y) (w : R) where
+  module _ (z : W) (line : List ℕ) (reads : GivesLine Reads true v w line) where
+    pub line-more : (c : S) (answer : List ℕ) → Turns k b reads.0 answer c → Sends y (Sent answer) z → Converses Turns Reads Sends first a (k + 1) c u w x z
+    line-more c answer turn sent =
+        conversed-more Turns Reads Sends first k (k + 1) a b c u v w x y z h (conversed-one Turns Reads Sends k b c v w y z reads.0 answer reads.1 turn sent)
 
-  line-starves : (standing : S → Standing) (says : Line) → asked reads.0 ≡ Sets says → CanStarve (standing b) says → z ≡ y → Starves Turns standing first a b u w x z
-  line-starves standing says sets starved same = record {
-    next = k;
-    between = v;
-    conversed = subst (λ (t : Option (List ℕ)). Converses Turns first a k b u v x t) (sym same) h;
-    line = reads.0;
-    taken = reads.1;
-    says = says;
-    sets = sets;
-    starved = starved;
-  }
+    pub line-stops : (Unsent : S → List ℕ → W → List ℕ → W → Type 0) (c : S) (answer : List ℕ) → Turns k b reads.0 answer c → Unsent b reads.0 y answer z → Stops Turns Reads Sends Unsent first a c u w x z
+    line-stops Unsent c answer turn unsent = record {
+      next = k;
+      mid = b;
+      between = v;
+      written = y;
+      conversed = h;
+      line = reads.0;
+      taken = reads.1;
+      answer = answer;
+      turn = turn;
+      unsent = unsent;
+    }
 
-module _ {S : Type 0} (Turns : ℕ → S → List ℕ → List ℕ → S → Type 0) (a b : S) (first k : ℕ) (u v x y : Option (List ℕ)) (h : Converses Turns first a k b u v x y) (w : Option (List ℕ)) where
-  pub no-more : (line : List ℕ) → ReadsLine false v w line → Ends Turns first a b u w x y
-  no-more line (end, keeps, none) = record { next = k; end = v; conversed = h; is_end = end; kept = keeps }
+    pub line-starves : (standing : S → Standing) (says : Line) → asked reads.0 ≡ Sets says → CanStarve (standing b) says → z ≡ y → Starves Turns Reads Sends standing first a b u w x z
+    line-starves standing says sets starved same = record {
+      next = k;
+      between = v;
+      conversed = subst (λ (t : W). Converses Turns Reads Sends first a k b u v x t) (sym same) h;
+      line = reads.0;
+      taken = reads.1;
+      says = says;
+      sets = sets;
+      starved = starved;
+    }
 
-  pub not-read : TakesFront v w → Unread Turns first a b u w x y
-  not-read front = record { next = k; between = v; conversed = h; front = front }
+  pub no-more : (line : List ℕ) → GivesLine Reads false v w line → Ends Turns Reads Sends first a b u w x y
+  no-more line (ended, none) = record { next = k; end = v; conversed = h; ended = ended }
 
-pub short-read : (v w : Option (List ℕ)) (line : List ℕ) → ReadsLine true v w line → length line ≤ 1048577
-short-read v w line reads = let short = kept-short reads.0 in omega (arith, short, ap length reads.2)
+  pub not-read : Reads v Failed w → Unread Turns Reads Sends first a b u w x y
+  not-read failed = record { next = k; between = v; conversed = h; failed = failed }
+
+-- the lines can't be counted any more
+pub not-counted : {S R W : Type 0} (Turns : ℕ → S → List ℕ → List ℕ → S → Type 0) (Reads : R → LineCall → R → Type 0) (Sends : W → Sending → W → Type 0) (a b : S) (first k : ℕ) (u v : R) (x y : W)
+    → Converses Turns Reads Sends first a k b u v x y → 2 ^ 64 - 1 ≤ k → Uncounted Turns Reads Sends first a b u v x y
+not-counted Turns Reads Sends a b first k u v x y h many = record { next = k; conversed = h; many = many }
 
 -- A line before `start`, by what it came to.
-module _ (tells : Bool) (blocks : ℕ) (d : Device) (k : ℕ) (c0 c1 c2 : SetUp) (u v x y : Option (List ℕ)) (h : Converses (TurnOf tells blocks d) 1 (Setting c0) k (Setting c1) u v x y)
-    (w z : Option (List ℕ)) (line : List ℕ) (asks : Asked) (reads : ReadsLine true v w line) (is : asks ≡ asked line) where
+module _ {R W : Type 0} (Reads : R → LineCall → R → Type 0) (Sends : W → Sending → W → Type 0) (tells : Bool) (blocks : ℕ) (d : Device) (k : ℕ) (c0 c1 c2 : SetUp) (u v : R) (x y : W)
+    (h : Converses (TurnOf tells blocks d) Reads Sends 1 (Setting c0) k (Setting c1) u v x y)
+    (w : R) (z : W) (line : List ℕ) (asks : Asked) (reads : GivesLine Reads true v w line) (is : asks ≡ asked line) where
   settles-whole : (answer : List ℕ) → SettlesAlike k c1 asks answer c2 → TurnOf tells blocks d k (Setting c1) reads.0 answer (Setting c2)
-  settles-whole answer alike = subst (λ (q : Asked). Turn tells blocks d k (Setting c1) q answer (Setting c2)) (asks-whole v w line asks reads is) (alike blocks d)
+  settles-whole answer alike = subst (λ (q : Asked). Turn tells blocks d k (Setting c1) q answer (Setting c2)) (asks-whole Reads v w line asks reads is) (alike blocks d)
 
-  pub came-answered : Comes (Ok settled.Answered) k c1 asks c2 y z → Converses (TurnOf tells blocks d) 1 (Setting c0) (k + 1) (Setting c2) u w x z
-  came-answered (answer, alike, wrote) = line-more (TurnOf tells blocks d) (Setting c0) (Setting c1) 1 k u v x y h w z line reads (Setting c2) answer (settles-whole answer alike) wrote
+  pub came-answered : Comes Sends (Ok settled.Answered) k c1 asks c2 y z → Converses (TurnOf tells blocks d) Reads Sends 1 (Setting c0) (k + 1) (Setting c2) u w x z
+  came-answered (answer, alike, sent) =
+      line-more (TurnOf tells blocks d) Reads Sends (Setting c0) (Setting c1) 1 k u v x y h w z line reads (Setting c2) answer (settles-whole answer alike) sent
 
-  pub came-started : Comes (Ok settled.Started) k c1 asks c2 y z → k < 2 ^ 64 - 1 → ComesToStart tells blocks d k c0 c2 u w x z
+  pub came-started : Comes Sends (Ok settled.Started) k c1 asks c2 y z → k < 2 ^ 64 - 1 → ComesToStart Reads Sends tells blocks d k c0 c2 u w x z
   came-started (starts, same, unwritten) countable = record {
     between = v;
-    conversed = subst (λ (t : Option (List ℕ)). Converses (TurnOf tells blocks d) 1 (Setting c0) k (Setting c2) u v x t) (sym unwritten)
-        (subst (λ (c : SetUp). Converses (TurnOf tells blocks d) 1 (Setting c0) k (Setting c) u v x y) (sym same) h);
+    conversed = subst (λ (t : W). Converses (TurnOf tells blocks d) Reads Sends 1 (Setting c0) k (Setting c2) u v x t) (sym unwritten)
+        (subst (λ (c : SetUp). Converses (TurnOf tells blocks d) Reads Sends 1 (Setting c0) k (Setting c) u v x y) (sym same) h);
     line = reads.0;
     taken = reads.1;
-    starts = sym (asks-whole v w line asks reads is) ∙ starts;
+    starts = sym (asks-whole Reads v w line asks reads is) ∙ starts;
     countable = countable;
   }
 
-  pub came-to-fault : (fault : ScriptFault) → Comes (Err fault) k c1 asks c2 y z → EndsBy fault (TurnOf tells blocks d) alone 1 (Setting c0) (Setting c2) u w x z
-  came-to-fault Write (answer, alike, broke) = line-broke (TurnOf tells blocks d) (Setting c0) (Setting c1) 1 k u v x y h w z line reads (Setting c2) answer (settles-whole answer alike) broke
-  came-to-fault NoMemory (says, sets, crowded, same, unwritten) =
-      subst (λ (c : SetUp). Starves (TurnOf tells blocks d) alone 1 (Setting c0) (Setting c) u w x z) (sym same)
-      (line-starves (TurnOf tells blocks d) (Setting c0) (Setting c1) 1 k u v x y h w z line reads alone says (sym (asks-whole v w line asks reads is) ∙ sets) (inr crowded) unwritten)
+  pub came-to-fault : (fault : ScriptFault) → Comes Sends (Err fault) k c1 asks c2 y z → EndsBy fault (TurnOf tells blocks d) Reads Sends alone 1 (Setting c0) (Setting c2) u w x z
+  came-to-fault Write (answer, alike, broke) =
+      line-stops (TurnOf tells blocks d) Reads Sends (Setting c0) (Setting c1) 1 k u v x y h w z line reads _ (Setting c2) answer (settles-whole answer alike) broke
+  came-to-fault NoMemory (inl (says, sets, crowded, same, unwritten)) =
+      inl (subst (λ (c : SetUp). Starves (TurnOf tells blocks d) Reads Sends alone 1 (Setting c0) (Setting c) u w x z) (sym same)
+      (line-starves (TurnOf tells blocks d) Reads Sends (Setting c0) (Setting c1) 1 k u v x y h w z line reads alone says (sym (asks-whole Reads v w line asks reads is) ∙ sets) (inr crowded) unwritten))
+  came-to-fault NoMemory (inr (answer, alike, may, unwritten)) =
+      inr (line-stops (TurnOf tells blocks d) Reads Sends (Setting c0) (Setting c1) 1 k u v x y h w z line reads _ (Setting c2) answer (settles-whole answer alike)
+      (subst (λ (q : Asked). MayLackRoom (Setting c1) q) (asks-whole Reads v w line asks reads is) may, unwritten))
   came-to-fault (Syntax i) q = absurd q
   came-to-fault (Config i f) q = absurd q
   came-to-fault TooLong q = absurd q
   came-to-fault Read q = absurd q
 
 -- A line behind it.
-said-from : {T E : Type 0} (r : Result T E) (Of : List ℕ → Type 0) (y z : Option (List ℕ)) → is_err r ≡ false → Sends r Of y z → (answer : List ℕ) × Of answer × Appends y z answer
-said-from (Ok x) Of y z e h = h
-said-from (Err x) Of y z e h = absurd (false≢true (sym e))
-
-broke-from : {T E : Type 0} (r : Result T E) (Of : List ℕ → Type 0) (y z : Option (List ℕ)) → is_err r ≡ true → Sends r Of y z → (answer : List ℕ) × Of answer × Breaks y z answer
-broke-from (Ok x) Of y z e h = absurd (false≢true e)
-broke-from (Err x) Of y z e h = h
-
-module _ {T E M : Type 0} (r : Result T E) (step : M → MediumCall → M → Type 0) (tells : Bool) (blocks : ℕ) (d : Device) (first k : ℕ) (l0 : Layers) (m0 : M) (l1 : Layers) (m1 : M) (l2 : Layers) (m2 : M) (u v x y : Option (List ℕ))
-    (h : Converses (TurnOver step tells blocks d) first (over (Running l0) m0) k (over (Running l1) m1) u v x y)
-    (w z : Option (List ℕ)) (line : List ℕ) (asks : Asked) (reads : ReadsLine true v w line) (is : asks ≡ asked line)
-    (answers : Sends r (λ answer. AnswersLineBy step tells k asks (over l1 m1) answer (over l2 m2)) y z) where
+module _ {M R W : Type 0} (Reads : R → LineCall → R → Type 0) (Sends : W → Sending → W → Type 0) (step : M → MediumCall → M → Type 0) (tells : Bool) (blocks : ℕ) (d : Device) (first k : ℕ) (l0 : Layers) (m0 : M) (l1 : Layers) (m1 : M) (l2 : Layers) (m2 : M)
+    (u v : R) (x y : W) (h : Converses (TurnOver step tells blocks d) Reads Sends first (over (Running l0) m0) k (over (Running l1) m1) u v x y)
+    (w : R) (z : W) (line : List ℕ) (asks : Asked) (reads : GivesLine Reads true v w line) (is : asks ≡ asked line) where
   turned : (answer : List ℕ) → AnswersLineBy step tells k asks (over l1 m1) answer (over l2 m2) → TurnOver step tells blocks d k (over (Running l1) m1) reads.0 answer (over (Running l2) m2)
-  turned answer says = (l2, subst (λ (q : Asked). AnswersLineBy step tells k q (over l1 m1) answer (over l2 m2)) (asks-whole v w line asks reads is) says, refl)
+  turned answer says = (l2, subst (λ (q : Asked). AnswersLineBy step tells k q (over l1 m1) answer (over l2 m2)) (asks-whole Reads v w line asks reads is) says, refl)
 
-  pub ran-answered : is_err r ≡ false → Converses (TurnOver step tells blocks d) first (over (Running l0) m0) (k + 1) (over (Running l2) m2) u w x z
-  ran-answered ok =
-      let said = said-from r (λ answer. AnswersLineBy step tells k asks (over l1 m1) answer (over l2 m2)) y z ok answers in
-      line-more (TurnOver step tells blocks d) (over (Running l0) m0) (over (Running l1) m1) first k u v x y h w z line reads (over (Running l2) m2) said.0 (turned said.0 said.1) said.2
+  pub ran-answered : (r : Unit {0}) → Answered Sends (MayLackRoom (Running l1) asks) (Ok r) (λ answer. AnswersLineBy step tells k asks (over l1 m1) answer (over l2 m2)) y z
+      → Converses (TurnOver step tells blocks d) Reads Sends first (over (Running l0) m0) (k + 1) (over (Running l2) m2) u w x z
+  ran-answered r (answer, says, sent) =
+      line-more (TurnOver step tells blocks d) Reads Sends (over (Running l0) m0) (over (Running l1) m1) first k u v x y h w z line reads (over (Running l2) m2) answer (turned answer says) sent
 
-  pub ran-broken : is_err r ≡ true → BreaksOff (TurnOver step tells blocks d) first (over (Running l0) m0) (over (Running l2) m2) u w x z
-  ran-broken err =
-      let broke = broke-from r (λ answer. AnswersLineBy step tells k asks (over l1 m1) answer (over l2 m2)) y z err answers in
-      line-broke (TurnOver step tells blocks d) (over (Running l0) m0) (over (Running l1) m1) first k u v x y h w z line reads (over (Running l2) m2) broke.0 (turned broke.0 broke.1) broke.2
+  stopped : (Unsent : OverMedium Standing M → List ℕ → W → List ℕ → W → Type 0) (answer : List ℕ) → AnswersLineBy step tells k asks (over l1 m1) answer (over l2 m2) → Unsent (over (Running l1) m1) reads.0 y answer z
+      → Stops (TurnOver step tells blocks d) Reads Sends Unsent first (over (Running l0) m0) (over (Running l2) m2) u w x z
+  stopped Unsent answer says unsent =
+      line-stops (TurnOver step tells blocks d) Reads Sends (over (Running l0) m0) (over (Running l1) m1) first k u v x y h w z line reads Unsent (over (Running l2) m2) answer (turned answer says) unsent
 
--- a fault of reading
-pub not-read-by : {S : Type 0} (Turns : ℕ → S → List ℕ → List ℕ → S → Type 0) (standing : S → Standing) (fault : ScriptFault) (a b : S) (first : ℕ) (u w x y : Option (List ℕ)) → fault ≡ Read → Unread Turns first a b u w x y
-    → EndsBy fault Turns standing first a b u w x y
-not-read-by Turns standing fault a b first u w x y is h = subst (λ (f : ScriptFault). EndsBy f Turns standing first a b u w x y) (sym is) h
+  pub ran-stopped : (fault : ScriptFault) → Answered Sends (MayLackRoom (Running l1) asks) (Err fault) (λ answer. AnswersLineBy step tells k asks (over l1 m1) answer (over l2 m2)) y z
+      → EndsBy fault (TurnOver step tells blocks d) Reads Sends standing_over first (over (Running l0) m0) (over (Running l2) m2) u w x z
+  ran-stopped Write (answer, says, broke) = stopped _ answer says broke
+  ran-stopped NoMemory (answer, says, (may, same)) = inr (stopped _ answer says (subst (λ (q : Asked). MayLackRoom (Running l1) q) (asks-whole Reads v w line asks reads is) may, same))
+  ran-stopped (Syntax i) (answer, says, h) = absurd h
+  ran-stopped (Config i f) (answer, says, h) = absurd h
+  ran-stopped TooLong (answer, says, h) = absurd h
+  ran-stopped Read (answer, says, h) = absurd h

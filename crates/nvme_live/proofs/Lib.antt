@@ -1,4 +1,5 @@
 pub mod Takings
+pub mod Streaming
 pub mod SetUps
 pub mod Turns
 pub mod Sessions
@@ -10,5 +11,7 @@ pub mod Living
 pub mod Kept
 pub mod Lines
 pub mod SessionScripts
+pub mod InBytes
+pub mod StreamExamples
 pub mod SessionLaws
 pub mod OnLiterals

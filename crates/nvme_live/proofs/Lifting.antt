@@ -1,5 +1,5 @@
 -- The lines before `start` over a medium: no call is made of it.
-use Rattle.std.proofs.Common.{◌≡◌, ◌+◌, ℕ, Bool, List, [], ◌∷◌, Option, refl, ap, subst}
+use Rattle.std.proofs.Common.{◌≡◌, ◌+◌, ℕ, Bool, List, [], ◌∷◌, inl, inr, refl, ap, subst}
 use Rattle.nvme_spec.specs.Blocks.{Device}
 use Rattle.nvme_spec.specs.MediumCalls.{MediumCall}
 use Rattle.nvme_spec.specs.declared.config.ConfigFault.{ConfigFault}
@@ -8,9 +8,10 @@ use Rattle.nvme_fleet.specs.FleetStates.{Layers}
 use Rattle.nvme_script.specs.declared.run.ScriptFault.{ScriptFault}
 use Rattle.nvme_script.specs.declared.run.ScriptFault.TheVariants.{Syntax, Config, TooLong, NoMemory, Read, Write}
 use Rattle.nvme_live.specs.AnswerCalls.{TurnOver}
-use Rattle.nvme_live.specs.Conversations.{BreaksOff, Converses, Ends, EndsBy, alone, standing_over}
+use Rattle.nvme_live.specs.Conversations.{Converses, Ends, EndsBy, Stops, alone, standing_over}
 use Rattle.nvme_live.specs.SetUps.{SetUp}
 use Rattle.nvme_live.specs.Standings.{LineByLine, Over, Running, Setting, Standing, TurnOf}
+use Rattle.nvme_live.specs.Streams.{LineCall, Sending}
 
 not-running : (s : SetUp) (l : Layers) → Setting s ≡ Running l → ⊥
 not-running s l e = cc
@@ -47,60 +48,64 @@ module _ {M : Type 0} (step : M → MediumCall → M → Type 0) (tells : Bool) 
       by more (Running l) turn rest = absurd (runs-on lines answers (n + 1) l b rest)
       by more (Over k fault) turn rest = absurd (is-over lines answers (n + 1) k fault b rest)
 
-  pub conversed-over : (a b : SetUp) (k : ℕ) (u v x y : Option (List ℕ)) → Converses (TurnOf tells blocks d) 1 (Setting a) k (Setting b) u v x y
-      → Converses (TurnOver step tells blocks d) 1 (over (Setting a) m) k (over (Setting b) m) u v x y
-  conversed-over a b k u v x y h = record {
-    lines = h.lines;
-    answers = h.answers;
-    counted = h.counted;
-    taken = h.taken;
-    went = lines-over h.lines h.answers 1 a b h.went;
-    wrote = h.wrote;
-  }
+  module _ {R W : Type 0} (Reads : R → LineCall → R → Type 0) (Sends : W → Sending → W → Type 0) where
+    pub conversed-over : (a b : SetUp) (k : ℕ) (u v : R) (x y : W) → Converses (TurnOf tells blocks d) Reads Sends 1 (Setting a) k (Setting b) u v x y
+        → Converses (TurnOver step tells blocks d) Reads Sends 1 (over (Setting a) m) k (over (Setting b) m) u v x y
+    conversed-over a b k u v x y h = record {
+      lines = h.lines;
+      answers = h.answers;
+      counted = h.counted;
+      taken = h.taken;
+      went = lines-over h.lines h.answers 1 a b h.went;
+      sent = h.sent;
+    }
 
-  pub ends-over : (a b : SetUp) (u w x y : Option (List ℕ)) → Ends (TurnOf tells blocks d) 1 (Setting a) (Setting b) u w x y → Ends (TurnOver step tells blocks d) 1 (over (Setting a) m) (over (Setting b) m) u w x y
-  ends-over a b u w x y h = record {
-    next = h.next;
-    end = h.end;
-    conversed = conversed-over a b h.next u h.end x y h.conversed;
-    is_end = h.is_end;
-    kept = h.kept;
-  }
+    pub ends-over : (a b : SetUp) (u w : R) (x y : W) → Ends (TurnOf tells blocks d) Reads Sends 1 (Setting a) (Setting b) u w x y
+        → Ends (TurnOver step tells blocks d) Reads Sends 1 (over (Setting a) m) (over (Setting b) m) u w x y
+    ends-over a b u w x y h = record {
+      next = h.next;
+      end = h.end;
+      conversed = conversed-over a b h.next u h.end x y h.conversed;
+      ended = h.ended;
+    }
 
-  breaks-over : (a b : SetUp) (u w x z : Option (List ℕ)) → BreaksOff (TurnOf tells blocks d) 1 (Setting a) (Setting b) u w x z → BreaksOff (TurnOver step tells blocks d) 1 (over (Setting a) m) (over (Setting b) m) u w x z
-  breaks-over a b u w x z h = by h.mid h.conversed h.turn
-    where
-      by : (mid : Standing) → Converses (TurnOf tells blocks d) 1 (Setting a) h.next mid u h.between x h.written → TurnOf tells blocks d h.next mid h.line h.answer (Setting b)
-          → BreaksOff (TurnOver step tells blocks d) 1 (over (Setting a) m) (over (Setting b) m) u w x z
-      by (Setting c) conversed turn = record {
-        next = h.next;
-        mid = over (Setting c) m;
-        between = h.between;
-        written = h.written;
-        conversed = conversed-over a c h.next u h.between x h.written conversed;
-        line = h.line;
-        taken = h.taken;
-        answer = h.answer;
-        turn = (turn, refl);
-        broke = h.broke;
-      }
-      by (Running l) conversed turn = absurd (not-running b turn.0 turn.2)
-      by (Over k fault) conversed turn = absurd turn
+    stops-over : (Unsent : Standing → List ℕ → W → List ℕ → W → Type 0) (a b : SetUp) (u w : R) (x z : W) → Stops (TurnOf tells blocks d) Reads Sends Unsent 1 (Setting a) (Setting b) u w x z
+        → Stops (TurnOver step tells blocks d) Reads Sends (λ s line y answer z. Unsent s.state line y answer z) 1 (over (Setting a) m) (over (Setting b) m) u w x z
+    stops-over Unsent a b u w x z h = by h.mid h.conversed h.turn h.unsent
+      where
+        by : (mid : Standing) → Converses (TurnOf tells blocks d) Reads Sends 1 (Setting a) h.next mid u h.between x h.written → TurnOf tells blocks d h.next mid h.line h.answer (Setting b) → Unsent mid h.line h.written h.answer z
+            → Stops (TurnOver step tells blocks d) Reads Sends (λ s line y answer z. Unsent s.state line y answer z) 1 (over (Setting a) m) (over (Setting b) m) u w x z
+        by (Setting c) conversed turn unsent = record {
+          next = h.next;
+          mid = over (Setting c) m;
+          between = h.between;
+          written = h.written;
+          conversed = conversed-over a c h.next u h.between x h.written conversed;
+          line = h.line;
+          taken = h.taken;
+          answer = h.answer;
+          turn = (turn, refl);
+          unsent = unsent;
+        }
+        by (Running l) conversed turn unsent = absurd (not-running b turn.0 turn.2)
+        by (Over k fault) conversed turn unsent = absurd turn
 
-  pub ends_by-over : (fault : ScriptFault) (a b : SetUp) (u w x z : Option (List ℕ)) → EndsBy fault (TurnOf tells blocks d) alone 1 (Setting a) (Setting b) u w x z
-      → EndsBy fault (TurnOver step tells blocks d) standing_over 1 (over (Setting a) m) (over (Setting b) m) u w x z
-  ends_by-over (Config k f) a b u w x z (next, conversed, is) = (next, conversed-over a b next u w x z conversed, is)
-  ends_by-over Read a b u w x z h = record { next = h.next; between = h.between; conversed = conversed-over a b h.next u h.between x z h.conversed; front = h.front }
-  ends_by-over Write a b u w x z h = breaks-over a b u w x z h
-  ends_by-over NoMemory a b u w x z h = record {
-    next = h.next;
-    between = h.between;
-    conversed = conversed-over a b h.next u h.between x z h.conversed;
-    line = h.line;
-    taken = h.taken;
-    says = h.says;
-    sets = h.sets;
-    starved = h.starved;
-  }
-  ends_by-over (Syntax k) a b u w x z h = absurd h
-  ends_by-over TooLong a b u w x z h = absurd h
+    pub ends_by-over : (fault : ScriptFault) (a b : SetUp) (u w : R) (x z : W) → EndsBy fault (TurnOf tells blocks d) Reads Sends alone 1 (Setting a) (Setting b) u w x z
+        → EndsBy fault (TurnOver step tells blocks d) Reads Sends standing_over 1 (over (Setting a) m) (over (Setting b) m) u w x z
+    ends_by-over (Config k f) a b u w x z (next, conversed, is) = (next, conversed-over a b next u w x z conversed, is)
+    ends_by-over Read a b u w x z (inl h) = inl (record { next = h.next; between = h.between; conversed = conversed-over a b h.next u h.between x z h.conversed; failed = h.failed })
+    ends_by-over Read a b u w x z (inr h) = inr (record { next = h.next; conversed = conversed-over a b h.next u w x z h.conversed; many = h.many })
+    ends_by-over Write a b u w x z h = stops-over _ a b u w x z h
+    ends_by-over NoMemory a b u w x z (inl h) = inl (record {
+      next = h.next;
+      between = h.between;
+      conversed = conversed-over a b h.next u h.between x z h.conversed;
+      line = h.line;
+      taken = h.taken;
+      says = h.says;
+      sets = h.sets;
+      starved = h.starved;
+    })
+    ends_by-over NoMemory a b u w x z (inr h) = inr (stops-over _ a b u w x z h)
+    ends_by-over (Syntax k) a b u w x z h = absurd h
+    ends_by-over TooLong a b u w x z h = absurd h

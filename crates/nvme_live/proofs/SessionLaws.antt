@@ -34,6 +34,7 @@ use Rattle.nvme_live.specs.SessionLaws.{EndIsUnique, HasTicketsOnce, IsAnswered,
 use Rattle.nvme_live.specs.Showing.{early_text, read_text, shown_text}
 use Rattle.nvme_live.specs.Standings.{Standing, Setting, Running, Over, Session, SetsBy, Starts, Turn, refused_text, started_text}
 use Rattle.nvme_live.specs.Taking.{TakesLines, session_lines}
+use Rattle.nvme_live.proofs.InBytes.{known-answers, known-lines}
 use Rattle.nvme_live.proofs.Kept.{looked-at, same-layers}
 use Rattle.nvme_live.proofs.Lines.{lines_are_known}
 use Rattle.nvme_live.proofs.Starting.{starts-device}
@@ -273,11 +274,16 @@ written before bytes (Some after) h = ap Some h
 
 pub end_is_unique : EndIsUnique
 end_is_unique blocks d n old new other text before left right after another once h k x y below =
-    let mine : h.conversed.lines ≡ session_lines text = lines_are_known text h.conversed.lines (subst (TakesLines (Some text) h.conversed.lines) (still-known h.conversed.lines text h.end h.conversed.taken h.is_end) h.conversed.taken) in
-    let theirs : k.conversed.lines ≡ session_lines text = lines_are_known text k.conversed.lines (subst (TakesLines (Some text) k.conversed.lines) (still-known k.conversed.lines text k.end k.conversed.taken k.is_end) k.conversed.taken) in
+    let taken = known-lines h.conversed.lines (Some text) h.end h.conversed.taken in
+    let other-taken = known-lines k.conversed.lines (Some text) k.end k.conversed.taken in
+    let mine : h.conversed.lines ≡ session_lines text = lines_are_known text h.conversed.lines (subst (TakesLines (Some text) h.conversed.lines) (still-known h.conversed.lines text h.end taken h.ended.0) taken) in
+    let theirs : k.conversed.lines ≡ session_lines text = lines_are_known text k.conversed.lines (subst (TakesLines (Some text) k.conversed.lines) (still-known k.conversed.lines text k.end other-taken k.ended.0) other-taken) in
     let same = session_is_unique blocks d n old new other h.conversed.lines h.conversed.answers k.conversed.answers once h.conversed.went
-    (subst (λ ls. Session true blocks d n old ls k.conversed.answers other) (theirs ∙ sym mine) k.conversed.went) x y below in
-    (same.1, written before (concat k.conversed.answers) another k.conversed.wrote ∙ ap (λ rs. Some (before ++ concat rs)) same.0 ∙ sym (written before (concat h.conversed.answers) after h.conversed.wrote))
+    (subst (λ ls. Session true blocks d n old ls k.conversed.answers other) (theirs ∙ sym mine) k.conversed.went) x y below in (
+      same.1,
+      written before (concat k.conversed.answers) another (known-answers k.conversed.answers (Some before) another k.conversed.sent) ∙ ap (λ rs. Some (before ++ concat rs)) same.0
+          ∙ sym (written before (concat h.conversed.answers) after (known-answers h.conversed.answers (Some before) after h.conversed.sent)),
+    )
 
 -- There is an answer.
 settles-somehow : (tells : Bool) (blocks : ℕ) (d : Device) (n : ℕ) (c : SetUp) (q : Asked) → asks_start q ≡ false → (later : SetUp) × (answer : List ℕ) × Turn tells blocks d n (Setting c) q answer (Setting later)

@@ -2,7 +2,7 @@
 use Rattle.std.proofs.Common.{◌≡◌, ◌+◌, ℕ, Bool, true, false, List, [], ◌∷◌, ◌++◌, Option, None, Some, inl, inr, refl, sym, ap, subst, ◌∙◌, append_assoc, append-nil}
 use Rattle.std.specs.Prelude.{◌⊎◌, ◌&&◌, ◌||◌, ◌==◌, is_some, codes}
 use Rattle.std.specs.List.{list_all, list_any, filter_map}
-use Rattle.std.specs.Io.KnownBytes.{Appends}
+use Rattle.std.specs.Io.KnownBytes.{Appends, Keeps}
 use Rattle.std.proofs.KnownBytes.{Appends-nil}
 use Rattle.std.proofs.lemmas.Bool.{false≢true}
 use Rattle.std.proofs.lemmas.List.Elements.{filter_map-append}
@@ -14,7 +14,10 @@ use Rattle.nvme_grammar.specs.declared.line.Line.{Line}
 use Rattle.nvme_grammar.specs.declared.line.Line.TheVariants.{Blank, Controller, Namespace, Attached, Start, Event}
 use Rattle.nvme_grammar.proofs.ReadingLemmas.{started}
 use Rattle.nvme_live.specs.SessionScripts.{behind, session_text, text_of}
-use Rattle.nvme_live.specs.Taking.{IsOfLine, TakesLines}
+use Rattle.nvme_live.specs.Conversations.{ReadsLines}
+use Rattle.nvme_live.specs.Streams.{LineCall, ReadsBy}
+use Rattle.nvme_live.specs.Taking.{IsOfLine}
+use Rattle.script_text.specs.Streams.{WriteCall}
 use Rattle.nvme_live.proofs.Lines.{behind-feed, some-line}
 use Rattle.nvme_spec.specs.Blocks.{Device}
 use Rattle.nvme_spec.specs.Configuration.{Configuration, first_config_fault}
@@ -447,9 +450,9 @@ module _ (text : List ℕ) (raw : List (List ℕ)) (lines : text_lines text ≡ 
     }
 
 -- the lines of a session have no line feed
-taken-lines : (lines : List (List ℕ)) (u v : Option (List ℕ)) → TakesLines u lines v → AreOfLine lines
-taken-lines [] u v h = tt
-taken-lines (line ∷ lines) u v h = (h.1.of_line, taken-lines lines h.0 v h.2)
+taken-lines : {R : Type 0} (read : R → LineCall → R → Type 0) (remaining : R → Option (List ℕ)) (lines : List (List ℕ)) (u v : R) → ReadsLines (ReadsBy read remaining) u lines v → AreOfLine lines
+taken-lines read remaining [] u v h = tt
+taken-lines read remaining (line ∷ lines) u v h = (h.1.1.of_line, taken-lines read remaining lines h.0 v h.2)
 
 kept-of-line : (lines answers : List (List ℕ)) → AreOfLine lines → AreOfLine (kept_lines lines answers)
 kept-of-line [] answers h = tt
@@ -480,8 +483,15 @@ ran-from tells Ran Fine is (e ∷ es) (r ∷ rs) a b (mid, step, rest) = is.run.
 same-running : (a b : Layers) → Running a ≡ Running b → a ≡ b
 same-running a b e = cc
 
-module _ {M : Type 0} (step : M → MediumCall → M → Type 0) (tells : Bool) (device : M → Device) (blocks : ℕ) (Ran : Layers → List FleetEvent → List Reply → Layers → Type 0) (Fine : ℕ → List ℕ → List ℕ → Type 0) (is : IsRunOfLines tells Ran Fine)
-    (first : List ℕ) (medium : M) (from : OverMedium Standing M) (last : Standing) (before told : Option (List ℕ)) (lines answers : List (List ℕ)) (of_line : AreOfLine lines)
+keeps-appended : (x y z : Option (List ℕ)) (bytes : List ℕ) → Appends x y bytes → Keeps y z → Appends x z bytes
+keeps-appended None y z bytes h k = tt
+keeps-appended (Some xs) None z bytes h k = absurd h
+keeps-appended (Some xs) (Some ys) None bytes h k = absurd k
+keeps-appended (Some xs) (Some ys) (Some zs) bytes h k = k ∙ h
+
+module _ {M W : Type 0} (step : M → MediumCall → M → Type 0) (tells : Bool) (device : M → Device) (write : W → WriteCall → W → Type 0) (flush : W → Bool → W → Type 0) (contents : W → Option (List ℕ)) (blocks : ℕ)
+    (Ran : Layers → List FleetEvent → List Reply → Layers → Type 0) (Fine : ℕ → List ℕ → List ℕ → Type 0) (is : IsRunOfLines tells Ran Fine)
+    (first : List ℕ) (medium : M) (from : OverMedium Standing M) (last : Standing) (before told : W) (lines answers : List (List ℕ)) (of_line : AreOfLine lines)
     (went : Session tells blocks (device medium) 1 from.state lines answers last) (fine : AllFine Fine 1 lines answers) where
   abbrev kept : List (List ℕ)
   kept = kept_lines lines answers
@@ -494,7 +504,7 @@ module _ {M : Type 0} (step : M → MediumCall → M → Type 0) (tells : Bool) 
       (kept-as (text_of kept) kept (text-lines kept kept_of_line) Ran blocks (device medium) (event_answers lines answers) (started-text kept kept_of_line) last h)
 
   -- behind the one that was run first, which has a `start`
-  module _ (k : ℕ) (starts : start_of (text_lines first) ≡ Some k) (script : IsScript first blocks) (l : Layers) (mid : M) (ran : RunsTo step tells device first medium l mid before told) (begins : from.state ≡ Running l) where
+  module _ (k : ℕ) (starts : start_of (text_lines first) ≡ Some k) (script : IsScript first blocks) (l : Layers) (mid : M) (ran : RunsTo step tells device write flush contents first medium l mid before told) (begins : from.state ≡ Running l) where
     abbrev raw : List (List ℕ)
     raw = text_lines first ++ kept
 
@@ -505,13 +515,13 @@ module _ {M : Type 0} (step : M → MediumCall → M → Type 0) (tells : Bool) 
     first-started = sym (started (said (text_lines first))) ∙ ap is_some starts
 
     abbrev first-replies : List Reply
-    first-replies = ran.transcribed.replies
+    first-replies = ran.transcribed.transcribed.replies
 
     abbrev first-said : List ℕ
     first-said = transcript (events_in first) first-replies
 
     first-ran : Run tells (opening_layers (configuration_of (text_lines first)) (device medium)) (events_in first) first-replies l
-    first-ran = layer_calls_are_of_a_run tells (opening_layers (configuration_of (text_lines first)) (device medium)) l (events_in first) first-replies ran.transcribed.ran.calls ran.transcribed.ran.are
+    first-ran = layer_calls_are_of_a_run tells (opening_layers (configuration_of (text_lines first)) (device medium)) l (events_in first) first-replies ran.transcribed.transcribed.ran.calls ran.transcribed.transcribed.ran.are
 
     runs : RunsBehind Ran l lines answers last
     runs = runs-behind tells Ran Fine is blocks (device medium) 1 l lines answers last (subst (λ (s : Standing). Session tells blocks (device medium) 1 s lines answers last) begins went) fine
@@ -549,28 +559,30 @@ module _ {M : Type 0} (step : M → MediumCall → M → Type 0) (tells : Bool) 
   at-once : {start : OverMedium Standing M} → from ≡ start → from.state ≡ start.state
   at-once e = ap (λ (o : OverMedium Standing M). o.state) e
 
-  scripted : (o : Option ℕ) → start_of (text_lines first) ≡ o → Opens step tells device blocks first medium o from before told → IsAScript Ran blocks (device medium) first lines answers last before told
+  scripted : (o : Option ℕ) → start_of (text_lines first) ≡ o → Opens step tells device write flush contents blocks first medium o from before told → IsAScript Ran blocks (device medium) first lines answers last (contents before) (contents told)
   scripted None e (grammar, begins, same) = record {
     said = [];
-    wrote = subst (λ (x : Option (List ℕ)). Appends before x []) (sym same) (Appends-nil before);
+    wrote = subst (λ (x : W). Appends (contents before) (contents x) []) (sym same) (Appends-nil (contents before));
     kept = alone (session_text first lines answers) (ap (λ o. behind o first (text_of kept)) e) (at-once begins);
   }
   scripted (Some k) e (script, l, mid, ran, begins) = record {
     said = first-said k e script l mid ran (at-once begins);
-    wrote = ran.transcribed.wrote;
+    wrote = keeps-appended (contents before) (contents ran.written) (contents told) (first-said k e script l mid ran (at-once begins)) ran.transcribed.transcribed.wrote ran.flushed.1;
     kept = subst (λ (t : List ℕ). IsKeptAs Ran blocks (device medium) t (first-said k e script l mid ran (at-once begins) ++ event_answers lines answers) last) (sym (ap (λ o. behind o first (text_of kept)) e))
         (joined k e script l mid ran (at-once begins));
   }
 
-pub session_is_a_script : {M : Type 0} (step : M → MediumCall → M → Type 0) (tells : Bool) (device : M → Device) → SessionIsAScript step tells device
-session_is_a_script step tells device blocks first medium from last next before told unread left after opens h well =
-    scripted step tells device blocks (Run tells) (LooksWell tells) (runs-well tells) first medium from last.state before told h.lines h.answers (taken-lines h.lines unread left h.taken) (sessions_stand_alone step tells blocks (device medium) 1 from last h.lines h.answers h.went)
-    (all-well tells 1 h.lines h.answers well) (start_of (text_lines first)) refl opens
+module _ {M R W : Type 0} (step : M → MediumCall → M → Type 0) (tells : Bool) (device : M → Device) (read : R → LineCall → R → Type 0) (remaining : R → Option (List ℕ)) (write : W → WriteCall → W → Type 0) (flush : W → Bool → W → Type 0)
+    (contents : W → Option (List ℕ)) where
+  pub session_is_a_script : SessionIsAScript step tells device read remaining write flush contents
+  session_is_a_script blocks first medium from last next unread left before told after opens h well =
+      scripted step tells device write flush contents blocks (Run tells) (LooksWell tells) (runs-well tells) first medium from last.state before told h.lines h.answers (taken-lines read remaining h.lines unread left h.taken)
+      (sessions_stand_alone step tells blocks (device medium) 1 from last h.lines h.answers h.went) (all-well tells 1 h.lines h.answers well) (start_of (text_lines first)) refl opens
 
-pub session_is_a_script_amid_looks : {M : Type 0} (step : M → MediumCall → M → Type 0) (tells : Bool) (device : M → Device) → SessionIsAScriptAmidLooks step tells device
-session_is_a_script_amid_looks step tells device blocks first medium from last next before told unread left after opens h =
-    scripted step tells device blocks (RunAmidLooks tells) (λ n line answer. Unit {0}) (runs-amid tells) first medium from last.state before told h.lines h.answers (taken-lines h.lines unread left h.taken) (sessions_stand_alone step tells blocks (device medium) 1 from last h.lines h.answers h.went)
-    (all-fine 1 h.lines h.answers) (start_of (text_lines first)) refl opens
+  pub session_is_a_script_amid_looks : SessionIsAScriptAmidLooks step tells device read remaining write flush contents
+  session_is_a_script_amid_looks blocks first medium from last next unread left before told after opens h =
+      scripted step tells device write flush contents blocks (RunAmidLooks tells) (λ n line answer. Unit {0}) (runs-amid tells) first medium from last.state before told h.lines h.answers (taken-lines read remaining h.lines unread left h.taken)
+      (sessions_stand_alone step tells blocks (device medium) 1 from last h.lines h.answers h.went) (all-fine 1 h.lines h.answers) (start_of (text_lines first)) refl opens
 
 fleet-opened : (c : Configuration) (d : Device) → fleet_in (opening_layers c d) ≡ opening c d
 fleet-opened c d = opened-mailboxes c d (machine.opening c d) (map opening_driver c.controllers) [] refl refl

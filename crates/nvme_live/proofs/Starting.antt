@@ -2,7 +2,6 @@
 use Rattle.std.proofs.Common.{◌≡◌, ◌≢◌, ◌+◌, ℕ, Bool, List, Option, None, Some, inl, refl, sym, ap, subst, ◌∙◌}
 use Rattle.std.specs.Prelude.{false, is_some, unwrap_or, Result, Ok, Err, IfOk, IfErr}
 use Rattle.std.specs.List.{list_any}
-use Rattle.std.specs.Io.KnownBytes.{Appends}
 use Rattle.nvme_spec.specs.Blocks.{Device}
 use Rattle.nvme_spec.specs.MediumCalls.{MediumCall}
 use Rattle.nvme_subsys.specs.OverMedium.{over}
@@ -27,11 +26,11 @@ use Rattle.nvme_live.specs.declared.asking.Asked.{Asked}
 use Rattle.nvme_live.specs.declared.asking.Asked.TheVariants.{Sets}
 use Rattle.nvme_live.specs.Asking.{asked}
 use Rattle.nvme_live.specs.AnswerCalls.{TurnOver}
-use Rattle.nvme_live.specs.Conversations.{ComesToStart, Converses, Ends, EndsBy, standing_over}
+use Rattle.nvme_live.specs.Conversations.{ComesToStart, Converses, Ends, EndsBy, FromStart, standing_over}
 use Rattle.nvme_live.specs.Lives.{Rests, StartFails, StartRefused, device_in}
 use Rattle.nvme_live.specs.Saying.{with_feed}
 use Rattle.nvme_live.specs.Standings.{Standing, Setting, Running, Over, Starts, Turn, refused_text, started_text}
-use Rattle.nvme_live.specs.Taking.{TakesLine}
+use Rattle.nvme_live.specs.Streams.{Came, LineCall, Says, Sending, Sent}
 use Rattle.nvme_live.proofs.Lifting.{conversed-over}
 use Rattle.nvme_live.proofs.Sessions.{conversed-none, conversed-one, ends-behind, ends_by-behind}
 
@@ -43,25 +42,45 @@ refuses None fault e other = absurd (other e)
 refuses (Some f) fault e other = ap Some (sym e)
 
 -- a reason that is what the definition gives for this fault
-pub refused-start : (result : ScriptFault) (blocks : ℕ) (d : Device) (n : ℕ) (s : SetUp) (fault : ConfigFault) (reason : Option (ℕ × BrokenRule)) (before after : Option (List ℕ)) → fault ≡ unwrap_or (first_config_fault s.configuration blocks) WantOfMemory
-    → reason ≡ numbered_reason s blocks fault → StartRefused result n fault reason before after → StartFails result blocks d n s before after
-refused-start (Config k why) blocks d n s fault reason before after is because (at, same, other, wrote) = (
+pub refused-start : {W : Type 0} (Sends : W → Sending → W → Type 0) (result : ScriptFault) (blocks : ℕ) (d : Device) (n : ℕ) (s : SetUp) (fault : ConfigFault) (reason : Option (ℕ × BrokenRule)) (before after : W) → fault ≡ unwrap_or (first_config_fault s.configuration blocks) WantOfMemory
+    → reason ≡ numbered_reason s blocks fault → StartRefused Sends result n fault reason before after → StartFails Sends result blocks d n s before after
+refused-start Sends (Config k why) blocks d n s fault reason before after is because (at, same, other, sent) = (
   at,
   refuses (first_config_fault s.configuration blocks) fault is other ∙ ap Some (sym same),
-  subst (λ (f : ConfigFault). Appends before after (with_feed (refused_text n f (numbered_reason s blocks f)))) (sym same)
-      (subst (λ (r : Option (ℕ × BrokenRule)). Appends before after (with_feed (refused_text n fault r))) because wrote),
+  subst (λ (f : ConfigFault). Sends before (Sent (with_feed (refused_text n f (numbered_reason s blocks f)))) after) (sym same)
+      (subst (λ (r : Option (ℕ × BrokenRule)). Sends before (Sent (with_feed (refused_text n fault r))) after) because sent),
 )
-refused-start Write blocks d n s fault reason before after is because (other, broke) = (
+refused-start Sends Write blocks d n s fault reason before after is because (other, broke) = (
   with_feed (refused_text n fault reason),
   Over n fault,
   subst (λ (p : Option ConfigFault). Starts p blocks d n s (with_feed (refused_text n fault reason)) (Over n fault)) (sym (refuses (first_config_fault s.configuration blocks) fault is other))
       (ap (λ (r : Option (ℕ × BrokenRule)). with_feed (refused_text n fault r)) because, refl),
   broke,
 )
-refused-start NoMemory blocks d n s fault reason before after is because h = h.1
-refused-start (Syntax k) blocks d n s fault reason before after is because h = absurd h
-refused-start TooLong blocks d n s fault reason before after is because h = absurd h
-refused-start Read blocks d n s fault reason before after is because h = absurd h
+refused-start Sends NoMemory blocks d n s fault reason before after is because h = h
+refused-start Sends (Syntax k) blocks d n s fault reason before after is because h = absurd h
+refused-start Sends TooLong blocks d n s fault reason before after is because h = absurd h
+refused-start Sends Read blocks d n s fault reason before after is because h = absurd h
+
+-- where the answer of an accepted `start` is not sent
+pub unsaid-start : {W : Type 0} (Sends : W → Sending → W → Type 0) (fault : ScriptFault) (blocks : ℕ) (d : Device) (n : ℕ) (s : SetUp) (before after : W) → first_config_fault s.configuration blocks ≡ None
+    → Says Sends ⊥ (Err fault) (with_feed started_text) before after → StartFails Sends fault blocks d n s before after
+unsaid-start Sends Write blocks d n s before after accepted broke = (with_feed started_text, Running (opening_layers s.configuration d), accepted-start (first_config_fault s.configuration blocks) blocks d n s accepted, broke)
+unsaid-start Sends NoMemory blocks d n s before after accepted h = absurd h.0
+unsaid-start Sends (Syntax k) blocks d n s before after accepted h = absurd h
+unsaid-start Sends (Config k f) blocks d n s before after accepted h = absurd h
+unsaid-start Sends TooLong blocks d n s before after accepted h = absurd h
+unsaid-start Sends Read blocks d n s before after accepted h = absurd h
+
+-- what became of the answer of one that was refused
+pub said-refused : {W : Type 0} (Sends : W → Sending → W → Type 0) (fault : ScriptFault) (n : ℕ) (why : ConfigFault) (reason : Option (ℕ × BrokenRule)) (before after : W) → why ≢ WantOfMemory
+    → Says Sends (Unit {0}) (Err fault) (with_feed (refused_text n why reason)) before after → StartRefused Sends fault n why reason before after
+said-refused Sends Write n why reason before after other broke = (other, broke)
+said-refused Sends NoMemory n why reason before after other h = h.1
+said-refused Sends (Syntax k) n why reason before after other h = absurd h
+said-refused Sends (Config k f) n why reason before after other h = absurd h
+said-refused Sends TooLong n why reason before after other h = absurd h
+said-refused Sends Read n why reason before after other h = absurd h
 
 opened-device : (c : Configuration) (d : Device) → (opening_layers c d).subsystem.device ≡ d
 unfolding machine.opening
@@ -71,43 +90,43 @@ pub starts-device : (o : Option ConfigFault) (blocks : ℕ) (d : Device) (n : �
 starts-device None blocks d n s answer new (says, is) = ap (device_in d) is ∙ opened-device s.configuration d
 starts-device (Some fault) blocks d n s answer new (says, is) = ap (device_in d) is
 
-module _ {M : Type 0} (step : M → MediumCall → M → Type 0) (device : M → Device) (tells : Bool) (blocks : ℕ) (d : Device) (n : ℕ) (c : SetUp) (m : M) (line : List ℕ) (between u y : Option (List ℕ))
-    (taken : TakesLine between line u) (starts : asked line ≡ Sets Start) where
+module _ {M R W : Type 0} (Reads : R → LineCall → R → Type 0) (Sends : W → Sending → W → Type 0) (step : M → MediumCall → M → Type 0) (device : M → Device) (tells : Bool) (blocks : ℕ) (d : Device) (n : ℕ) (c : SetUp) (m : M) (line : List ℕ) (between u : R) (y : W)
+    (taken : Reads between (Came line) u) (starts : asked line ≡ Sets Start) where
   turn : (answer : List ℕ) (new : Standing) → Starts (first_config_fault c.configuration blocks) blocks d n c answer new → TurnOver step tells blocks d n (over (Setting c) m) line answer (over new m)
   turn answer new s = (subst (λ (q : Asked). Turn tells blocks d n (Setting c) q answer new) (sym starts) s, refl)
 
-  module _ (l : Layers) (z : Option (List ℕ)) (opened : l ≡ opening_layers c.configuration d) (accepted : first_config_fault c.configuration blocks ≡ None) (said : Appends y z (with_feed started_text)) where
-    begun : Converses (TurnOver step tells blocks d) n (over (Setting c) m) (n + 1) (over (Running l) m) between u y z
+  module _ (l : Layers) (z : W) (opened : l ≡ opening_layers c.configuration d) (accepted : first_config_fault c.configuration blocks ≡ None) (said : Sends y (Sent (with_feed started_text)) z) where
+    begun : Converses (TurnOver step tells blocks d) Reads Sends n (over (Setting c) m) (n + 1) (over (Running l) m) between u y z
     begun =
-        conversed-one (TurnOver step tells blocks d) n (over (Setting c) m) (over (Running l) m) between u y z line (with_feed started_text) taken
+        conversed-one (TurnOver step tells blocks d) Reads Sends n (over (Setting c) m) (over (Running l) m) between u y z line (with_feed started_text) taken
         (turn (with_feed started_text) (Running l) (subst (λ (m : Layers). Starts (first_config_fault c.configuration blocks) blocks d n c (with_feed started_text) (Running m)) (sym opened) (accepted-start (first_config_fault c.configuration blocks) blocks d n c accepted))) said
 
-    pub start-ends : (w x : Option (List ℕ)) (left : M) → Rests device (λ last. Ends (TurnOver step tells blocks d) (n + 1) (over (Running l) m) last u w z x) d left
-        → Rests device (λ last. Ends (TurnOver step tells blocks d) n (over (Setting c) m) last between w y x) d left
+    pub start-ends : (w : R) (x : W) (left : M) → Rests device (λ last. Ends (TurnOver step tells blocks d) Reads Sends (n + 1) (over (Running l) m) last u w z x) d left
+        → Rests device (λ last. Ends (TurnOver step tells blocks d) Reads Sends n (over (Setting c) m) last between w y x) d left
     start-ends w x left h = record {
       last = h.last;
-      ended = ends-behind (TurnOver step tells blocks d) n (n + 1) (over (Setting c) m) (over (Running l) m) between u y z begun h.last w x h.ended;
+      ended = ends-behind (TurnOver step tells blocks d) Reads Sends n (n + 1) (over (Setting c) m) (over (Running l) m) between u y z begun h.last w x h.ended;
       medium = h.medium;
       rests = h.rests;
     }
 
-    pub start-ends-by : (fault : ScriptFault) (w x : Option (List ℕ)) (left : M) → Rests device (λ last. EndsBy fault (TurnOver step tells blocks d) standing_over (n + 1) (over (Running l) m) last u w z x) d left
-        → Rests device (λ last. EndsBy fault (TurnOver step tells blocks d) standing_over n (over (Setting c) m) last between w y x) d left
+    pub start-ends-by : (fault : ScriptFault) (w : R) (x : W) (left : M) → Rests device (λ last. EndsBy fault (TurnOver step tells blocks d) Reads Sends standing_over (n + 1) (over (Running l) m) last u w z x) d left
+        → Rests device (λ last. EndsBy fault (TurnOver step tells blocks d) Reads Sends standing_over n (over (Setting c) m) last between w y x) d left
     start-ends-by fault w x left h = record {
       last = h.last;
-      ended = ends_by-behind (TurnOver step tells blocks d) n (n + 1) (over (Setting c) m) (over (Running l) m) between u y z begun standing_over fault h.last w x h.ended;
+      ended = ends_by-behind (TurnOver step tells blocks d) Reads Sends n (n + 1) (over (Setting c) m) (over (Running l) m) between u y z begun standing_over fault h.last w x h.ended;
       medium = h.medium;
       rests = h.rests;
     }
 
-  pub start-fails : (fault : ScriptFault) (z : Option (List ℕ)) (left : M) → StartFails fault blocks d n c y z → left ≡ m → device m ≡ d
-      → Rests device (λ last. EndsBy fault (TurnOver step tells blocks d) standing_over n (over (Setting c) m) last between u y z) d left
-  start-fails (Config k f) z left (at, is, wrote) kept told = record {
+  pub start-fails : (fault : ScriptFault) (z : W) (left : M) → StartFails Sends fault blocks d n c y z → left ≡ m → device m ≡ d
+      → Rests device (λ last. EndsBy fault (TurnOver step tells blocks d) Reads Sends standing_over n (over (Setting c) m) last between u y z) d left
+  start-fails (Config k f) z left (at, is, sent) kept told = record {
     last = over (Over k f) m;
     ended = (
       n + 1,
-      conversed-one (TurnOver step tells blocks d) n (over (Setting c) m) (over (Over k f) m) between u y z line (with_feed (refused_text n f (numbered_reason c blocks f))) taken
-          (turn (with_feed (refused_text n f (numbered_reason c blocks f))) (Over k f) (subst (λ (o : Option ConfigFault). Starts o blocks d n c (with_feed (refused_text n f (numbered_reason c blocks f))) (Over k f)) (sym is) (refl, ap (λ i. Over i f) at))) wrote,
+      conversed-one (TurnOver step tells blocks d) Reads Sends n (over (Setting c) m) (over (Over k f) m) between u y z line (with_feed (refused_text n f (numbered_reason c blocks f))) taken
+          (turn (with_feed (refused_text n f (numbered_reason c blocks f))) (Over k f) (subst (λ (o : Option ConfigFault). Starts o blocks d n c (with_feed (refused_text n f (numbered_reason c blocks f))) (Over k f)) (sym is) (refl, ap (λ i. Over i f) at))) sent,
       refl,
     );
     medium = kept;
@@ -120,29 +139,29 @@ module _ {M : Type 0} (step : M → MediumCall → M → Type 0) (device : M →
       mid = over (Setting c) m;
       between = between;
       written = y;
-      conversed = conversed-none (TurnOver step tells blocks d) n (over (Setting c) m) between y;
+      conversed = conversed-none (TurnOver step tells blocks d) Reads Sends n (over (Setting c) m) between y;
       line = line;
       taken = taken;
       answer = answer;
       turn = turn answer new s;
-      broke = broke;
+      unsent = broke;
     };
     medium = kept;
     rests = ap device kept ∙ told ∙ sym (starts-device (first_config_fault c.configuration blocks) blocks d n c answer new s);
   }
   start-fails NoMemory z left same kept told = record {
     last = over (Setting c) m;
-    ended = record {
+    ended = inl (record {
       next = n;
       between = between;
-      conversed = subst (λ (t : Option (List ℕ)). Converses (TurnOver step tells blocks d) n (over (Setting c) m) n (over (Setting c) m) between between y t) (sym same)
-          (conversed-none (TurnOver step tells blocks d) n (over (Setting c) m) between y);
+      conversed = subst (λ (t : W). Converses (TurnOver step tells blocks d) Reads Sends n (over (Setting c) m) n (over (Setting c) m) between between y t) (sym same)
+          (conversed-none (TurnOver step tells blocks d) Reads Sends n (over (Setting c) m) between y);
       line = line;
       taken = taken;
       says = Start;
       sets = starts;
       starved = inl refl;
-    };
+    });
     medium = kept;
     rests = ap device kept ∙ told;
   }
@@ -151,24 +170,25 @@ module _ {M : Type 0} (step : M → MediumCall → M → Type 0) (device : M →
   start-fails Read z left h kept told = absurd h
 
 -- behind the lines before it
-module _ {M : Type 0} (step : M → MediumCall → M → Type 0) (device : M → Device) (tells : Bool) (blocks : ℕ) (d : Device) (k : ℕ) (old new : SetUp) (m : M) (u v x y : Option (List ℕ)) (h : ComesToStart tells blocks d k old new u v x y)
-    (w z : Option (List ℕ)) (left : M) where
-  before : Converses (TurnOver step tells blocks d) 1 (over (Setting old) m) k (over (Setting new) m) u h.between x y
-  before = conversed-over step tells blocks d m old new k u h.between x y h.conversed
+module _ {M R W : Type 0} (Reads : R → LineCall → R → Type 0) (Sends : W → Sending → W → Type 0) (step : M → MediumCall → M → Type 0) (device : M → Device) (tells : Bool) (blocks : ℕ) (d : Device) (k : ℕ) (old new : SetUp) (m : M) (u v : R) (x y : W)
+    (h : ComesToStart Reads Sends tells blocks d k old new u v x y) (w : R) (z : W) (left : M) where
+  before : Converses (TurnOver step tells blocks d) Reads Sends 1 (over (Setting old) m) k (over (Setting new) m) u h.between x y
+  before = conversed-over step tells blocks d m Reads Sends old new k u h.between x y h.conversed
 
-  pub set-then-ends : Rests device (λ last. Ends (TurnOver step tells blocks d) k (over (Setting new) m) last h.between w y z) d left → Rests device (λ last. Ends (TurnOver step tells blocks d) 1 (over (Setting old) m) last u w x z) d left
+  pub set-then-ends : Rests device (λ last. Ends (TurnOver step tells blocks d) Reads Sends k (over (Setting new) m) last h.between w y z) d left
+      → Rests device (λ last. Ends (TurnOver step tells blocks d) Reads Sends 1 (over (Setting old) m) last u w x z) d left
   set-then-ends g = record {
     last = g.last;
-    ended = ends-behind (TurnOver step tells blocks d) 1 k (over (Setting old) m) (over (Setting new) m) u h.between x y before g.last w z g.ended;
+    ended = ends-behind (TurnOver step tells blocks d) Reads Sends 1 k (over (Setting old) m) (over (Setting new) m) u h.between x y before g.last w z g.ended;
     medium = g.medium;
     rests = g.rests;
   }
 
-  pub set-then-fault : (fault : ScriptFault) → Rests device (λ last. EndsBy fault (TurnOver step tells blocks d) standing_over k (over (Setting new) m) last h.between w y z) d left
-      → Rests device (λ last. EndsBy fault (TurnOver step tells blocks d) standing_over 1 (over (Setting old) m) last u w x z) d left
+  pub set-then-fault : (fault : ScriptFault) → Rests device (λ last. EndsBy fault (TurnOver step tells blocks d) Reads Sends standing_over k (over (Setting new) m) last h.between w y z) d left
+      → Rests device (λ last. EndsBy fault (TurnOver step tells blocks d) Reads Sends standing_over 1 (over (Setting old) m) last u w x z) d left
   set-then-fault fault g = record {
     last = g.last;
-    ended = ends_by-behind (TurnOver step tells blocks d) 1 k (over (Setting old) m) (over (Setting new) m) u h.between x y before standing_over fault g.last w z g.ended;
+    ended = ends_by-behind (TurnOver step tells blocks d) Reads Sends 1 k (over (Setting old) m) (over (Setting new) m) u h.between x y before standing_over fault g.last w z g.ended;
     medium = g.medium;
     rests = g.rests;
   }
@@ -183,30 +203,31 @@ module _ (text : List ℕ) (script : Script) (ready : IsReady text script) where
       same_configuration (text_lines text) script ready.says ∙ empty
 
 -- What the lines behind `start` come to, as what they come to with it.
-module _ {T E : Type 0} (step : T → MediumCall → T → Type 0) (device : T → Device) (tells : Bool) (blocks : ℕ) (d : Device) (n : ℕ) (c : SetUp) (l : Layers) (m opened-over : T) (u y z w x : Option (List ℕ))
-    (opened : l ≡ opening_layers c.configuration d) (kept : opened-over ≡ m) (accepted : first_config_fault c.configuration blocks ≡ None) (said : Appends y z (with_feed started_text)) where
-  pub start-ok : (r : Result T E) → IfOk r (λ after. (size : ℕ) (e : Device) → Rests device (λ last. Ends (TurnOver step tells size e) (n + 1) (over (Running l) opened-over) last u w z x) e after)
-      → IfOk r (λ after. (line : List ℕ) (between : Option (List ℕ)) → TakesLine between line u → asked line ≡ Sets Start → Rests device (λ last. Ends (TurnOver step tells blocks d) n (over (Setting c) m) last between w y x) d after)
-  start-ok (Ok after) h = λ line between taken starts. start-ends step device tells blocks d n c m line between u y taken starts l z opened accepted said w x after
-      (subst (λ (o : T). Rests device (λ last. Ends (TurnOver step tells blocks d) (n + 1) (over (Running l) o) last u w z x) d after) kept (h blocks d))
+module _ {T E R W : Type 0} (Reads : R → LineCall → R → Type 0) (Sends : W → Sending → W → Type 0) (step : T → MediumCall → T → Type 0) (device : T → Device) (tells : Bool) (blocks : ℕ) (d : Device) (n : ℕ) (c : SetUp) (l : Layers) (m opened-over : T) (u w : R) (y z x : W)
+    (opened : l ≡ opening_layers c.configuration d) (kept : opened-over ≡ m) (accepted : first_config_fault c.configuration blocks ≡ None) (said : Sends y (Sent (with_feed started_text)) z) where
+  pub start-ok : (r : Result T E) → IfOk r (λ after. (size : ℕ) (e : Device) → Rests device (λ last. Ends (TurnOver step tells size e) Reads Sends (n + 1) (over (Running l) opened-over) last u w z x) e after)
+      → IfOk r (λ after. FromStart Reads u (λ between. Rests device (λ last. Ends (TurnOver step tells blocks d) Reads Sends n (over (Setting c) m) last between w y x) d after))
+  start-ok (Ok after) h = λ line between taken starts. start-ends Reads Sends step device tells blocks d n c m line between u y taken starts l z opened accepted said w x after
+      (subst (λ (o : T). Rests device (λ last. Ends (TurnOver step tells blocks d) Reads Sends (n + 1) (over (Running l) o) last u w z x) d after) kept (h blocks d))
   start-ok (Err e) h = tt
 
-  pub start-err : (r : Result E (ScriptFault × T)) → IfErr r (λ e. (size : ℕ) (f : Device) → Rests device (λ last. EndsBy e.0 (TurnOver step tells size f) standing_over (n + 1) (over (Running l) opened-over) last u w z x) f e.1)
-      → IfErr r (λ e. (line : List ℕ) (between : Option (List ℕ)) → TakesLine between line u → asked line ≡ Sets Start → Rests device (λ last. EndsBy e.0 (TurnOver step tells blocks d) standing_over n (over (Setting c) m) last between w y x) d e.1)
+  pub start-err : (r : Result E (ScriptFault × T)) → IfErr r (λ e. (size : ℕ) (f : Device) → Rests device (λ last. EndsBy e.0 (TurnOver step tells size f) Reads Sends standing_over (n + 1) (over (Running l) opened-over) last u w z x) f e.1)
+      → IfErr r (λ e. FromStart Reads u (λ between. Rests device (λ last. EndsBy e.0 (TurnOver step tells blocks d) Reads Sends standing_over n (over (Setting c) m) last between w y x) d e.1))
   start-err (Ok after) h = tt
-  start-err (Err e) h = λ line between taken starts. start-ends-by step device tells blocks d n c m line between u y taken starts l z opened accepted said e.0 w x e.1
-      (subst (λ (o : T). Rests device (λ last. EndsBy e.0 (TurnOver step tells blocks d) standing_over (n + 1) (over (Running l) o) last u w z x) d e.1) kept (h blocks d))
+  start-err (Err e) h = λ line between taken starts. start-ends-by Reads Sends step device tells blocks d n c m line between u y taken starts l z opened accepted said e.0 w x e.1
+      (subst (λ (o : T). Rests device (λ last. EndsBy e.0 (TurnOver step tells blocks d) Reads Sends standing_over (n + 1) (over (Running l) o) last u w z x) d e.1) kept (h blocks d))
 
 -- What the lines behind those that set up come to.
-module _ {T E : Type 0} (step : T → MediumCall → T → Type 0) (device : T → Device) (tells : Bool) (blocks : ℕ) (d : Device) (k : ℕ) (old new : SetUp) (m : T) (u v x y w z : Option (List ℕ)) (h : ComesToStart tells blocks d k old new u v x y) where
+module _ {T E R W : Type 0} (Reads : R → LineCall → R → Type 0) (Sends : W → Sending → W → Type 0) (step : T → MediumCall → T → Type 0) (device : T → Device) (tells : Bool) (blocks : ℕ) (d : Device) (k : ℕ) (old new : SetUp) (m : T) (u v w : R) (x y z : W)
+    (h : ComesToStart Reads Sends tells blocks d k old new u v x y) where
   pub set-ok : (r : Result T E)
-      → IfOk r (λ after. (line : List ℕ) (between : Option (List ℕ)) → TakesLine between line v → asked line ≡ Sets Start → Rests device (λ last. Ends (TurnOver step tells blocks d) k (over (Setting new) m) last between w y z) d after)
-      → IfOk r (λ after. Rests device (λ last. Ends (TurnOver step tells blocks d) 1 (over (Setting old) m) last u w x z) d after)
-  set-ok (Ok after) g = set-then-ends step device tells blocks d k old new m u v x y h w z after (g h.line h.between h.taken h.starts)
+      → IfOk r (λ after. FromStart Reads v (λ between. Rests device (λ last. Ends (TurnOver step tells blocks d) Reads Sends k (over (Setting new) m) last between w y z) d after))
+      → IfOk r (λ after. Rests device (λ last. Ends (TurnOver step tells blocks d) Reads Sends 1 (over (Setting old) m) last u w x z) d after)
+  set-ok (Ok after) g = set-then-ends Reads Sends step device tells blocks d k old new m u v x y h w z after (g h.line h.between h.taken h.starts)
   set-ok (Err e) g = tt
 
   pub set-err : (r : Result E (ScriptFault × T))
-      → IfErr r (λ e. (line : List ℕ) (between : Option (List ℕ)) → TakesLine between line v → asked line ≡ Sets Start → Rests device (λ last. EndsBy e.0 (TurnOver step tells blocks d) standing_over k (over (Setting new) m) last between w y z) d e.1)
-      → IfErr r (λ e. Rests device (λ last. EndsBy e.0 (TurnOver step tells blocks d) standing_over 1 (over (Setting old) m) last u w x z) d e.1)
+      → IfErr r (λ e. FromStart Reads v (λ between. Rests device (λ last. EndsBy e.0 (TurnOver step tells blocks d) Reads Sends standing_over k (over (Setting new) m) last between w y z) d e.1))
+      → IfErr r (λ e. Rests device (λ last. EndsBy e.0 (TurnOver step tells blocks d) Reads Sends standing_over 1 (over (Setting old) m) last u w x z) d e.1)
   set-err (Ok after) g = tt
-  set-err (Err e) g = set-then-fault step device tells blocks d k old new m u v x y h w z e.1 e.0 (g h.line h.between h.taken h.starts)
+  set-err (Err e) g = set-then-fault Reads Sends step device tells blocks d k old new m u v x y h w z e.1 e.0 (g h.line h.between h.taken h.starts)

@@ -1,30 +1,19 @@
 -- Answers of single lines.
-use Rattle.std.proofs.Common.{◌≡◌, ◌≤◌, ◌*◌, ℕ, Bool, false, List, length, Option, None, Some, Ok, Err, refl, sym, ap, subst, ◌∙◌}
-use Rattle.std.specs.Prelude.{Result, OnOk, OnErr, ◌==◌, ◌||◌, nat_lt}
+use Rattle.std.proofs.Common.{◌≡◌, ◌≤◌, ◌*◌, ℕ, Bool, false, List, length, Option, None, Some, refl, sym, ap, subst, ◌∙◌}
+use Rattle.std.specs.Prelude.{Result, ◌==◌, ◌||◌, nat_lt}
 use Rattle.std.proofs.lemmas.Bool.{ne_eqb, le-ltb}
 use Rattle.nvme_spec.specs.World.{namespace_of}
 use Rattle.nvme_spec.specs.declared.medium.MediumFault.{MediumFault}
 use Rattle.nvme_subsys.specs.Looking.{Looks, LooksBy, place_in}
 use Rattle.nvme_subsys.specs.OverMedium.{OverMedium}
 use Rattle.nvme_spec.specs.MediumCalls.{MediumCall}
-use Rattle.std.specs.Io.KnownBytes.{Appends}
 use Rattle.nvme_fleet.specs.FleetStates.{Layers}
 use Rattle.live_text.specs.declared.looking.Looking.{Looking}
 use Rattle.live_text.specs.declared.looking.Looking.TheVariants as look
-use Rattle.nvme_live.specs.Answers.{Sends, place_of}
+use Rattle.nvme_live.specs.Answers.{place_of}
 use Rattle.nvme_live.specs.AnswerCalls.{ShowsBlocksBy, ShowsBy}
-use Rattle.nvme_live.specs.Saying.{Breaks, with_feed}
+use Rattle.nvme_live.specs.Saying.{with_feed}
 use Rattle.nvme_live.specs.Showing.{read_text, shown_text}
-
-pub answers-by : {T E : Type 0} (result : Result T E) (Of : List ℕ → Type 0) (answer : List ℕ) (before after : Option (List ℕ))
-    → Of answer → OnOk result (Appends before after answer) → OnErr result (Breaks before after answer) → Sends result Of before after
-answers-by (Ok x) Of answer before after of ok err = (answer, of, ok)
-answers-by (Err e) Of answer before after of ok err = (answer, of, err)
-
-pub answers-map : {T E : Type 0} (result : Result T E) (Of Then : List ℕ → Type 0) (before after : Option (List ℕ))
-    → ((answer : List ℕ) → Of answer → Then answer) → Sends result Of before after → Sends result Then before after
-answers-map (Ok x) Of Then before after f (answer, of, wrote) = (answer, f answer of, wrote)
-answers-map (Err e) Of Then before after f (answer, of, broke) = (answer, f answer of, broke)
 
 -- a look at anything but blocks
 pub shows-other : {M : Type 0} (step : M → MediumCall → M → Type 0) (tells : Bool) (n : ℕ) (looking : Looking) (l : OverMedium Layers M) (answer : List ℕ) → ((m slba count : ℕ) → looking ≡ look.Blocks m slba count → ⊥)

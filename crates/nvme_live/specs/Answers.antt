@@ -1,6 +1,5 @@
 -- What a line is answered once the fleet is there, and what it leaves.
-use Rattle.std.specs.Prelude.{◌≡◌, ◌*◌, ◌==◌, ◌||◌, nat_lt, Bool, ℕ, List, length, codes, Option, None, Some, Result, MatchResult, if◌then◌else◌}
-use Rattle.std.specs.Io.KnownBytes.{Appends}
+use Rattle.std.specs.Prelude.{◌≡◌, ◌*◌, ◌==◌, ◌||◌, nat_lt, Bool, ℕ, List, length, codes, Option, None, Some, Result, if◌then◌else◌}
 use Rattle.nvme_event.specs.declared.event.FleetEvent.{FleetEvent}
 use Rattle.nvme_event.specs.Replies.{Reply}
 use Rattle.nvme_fleet.specs.FleetStates.{Layers}
@@ -15,8 +14,10 @@ use Rattle.live_text.specs.declared.looking.Looking.{Looking}
 use Rattle.live_text.specs.declared.looking.Looking.TheVariants as look
 use Rattle.nvme_live.specs.declared.asking.Asked.{Asked}
 use Rattle.nvme_live.specs.declared.asking.Asked.TheVariants.{Fails, Nothing, Looks, Sets, Does}
-use Rattle.nvme_live.specs.Saying.{Breaks, with_feed}
+use Rattle.nvme_live.specs.Saying.{with_feed}
 use Rattle.nvme_live.specs.Showing.{shown_text, read_text}
+use Rattle.nvme_live.specs.Streams.{Says, Sending}
+use Rattle.nvme_script.specs.declared.run.ScriptFault.{ScriptFault}
 
 -- An event happened, and it is answered by the line of it and of what it gave.
 pub record Happens (tells : Bool) (old : Layers) (event : FleetEvent) (answer : List ℕ) (new : Layers) : Type 0 where
@@ -60,8 +61,7 @@ AnswersLine tells n (Looks looking) old answer new = Shows tells n looking old a
 AnswersLine tells n (Sets line) old answer new = (answer ≡ with_feed (refusal n BeforeStart)) × (new ≡ old)
 AnswersLine tells n (Does event) old answer new = Happens tells old event answer new
 
--- An answer of which this is said was sent: it was written whole and flushed, or else in part.
-abbrev pub Sends : {T E : Type 0} → Result T E → (List ℕ → Type 0) → Option (List ℕ) → Option (List ℕ) → Type 0
-Sends result Of before after =
-    MatchResult result (λ _. (answer : List ℕ) × Of answer × Appends before after answer)
-    (λ _. (answer : List ℕ) × Of answer × Breaks before after answer)
+-- An answer of which this is said was sent, or else not, in the way that the result tells.
+abbrev pub Answered : {W : Type 0} → (W → Sending → W → Type 0) → Type 0 → Result (Unit {0}) ScriptFault
+    → (List ℕ → Type 0) → W → W → Type 0
+Answered Sends MayBe result Of before after = (answer : List ℕ) × Of answer × Says Sends MayBe result answer before after

@@ -1,7 +1,6 @@
--- A session over streams: which lines were read, what was written, and how it ended.
-use Rattle.std.specs.Prelude.{◌≡◌, ◌⊎◌, ◌<◌, ◌+◌, ◌-◌, ◌^◌, ℕ, Bool, List, length, Option, None, Some, Result, Ok, Err}
-use Rattle.std.specs.List.{concat}
-use Rattle.std.specs.Io.KnownBytes.{Appends, IsAtEnd, Keeps}
+-- A session over streams: which lines were read, what was answered, and how it ended. What a turn, a read and the sending
+-- of an answer are is said elsewhere: over a medium and streams, whose calls they are, or of what is known of these alone.
+use Rattle.std.specs.Prelude.{◌≡◌, ◌⊎◌, ◌≤◌, ◌<◌, ◌+◌, ◌-◌, ◌^◌, ℕ, Bool, List, [], ◌∷◌, length, Option, None, Some, Result, Ok, Err}
 use Rattle.nvme_spec.specs.Blocks.{Device}
 use Rattle.nvme_live.specs.SetUps.{IsCrowded, SetUp}
 use Rattle.nvme_grammar.specs.declared.line.Line.{Line}
@@ -10,52 +9,81 @@ use Rattle.nvme_script.specs.declared.run.ScriptFault.{ScriptFault}
 use Rattle.nvme_script.specs.declared.run.ScriptFault.TheVariants.{Syntax, Config, TooLong, NoMemory, Read, Write}
 use Rattle.nvme_live.specs.declared.asking.Asked.TheVariants.{Sets}
 use Rattle.nvme_live.specs.Asking.{asked}
-use Rattle.nvme_live.specs.Saying.{Breaks}
 use Rattle.nvme_subsys.specs.OverMedium.{OverMedium}
-use Rattle.nvme_live.specs.Standings.{Standing, Setting, Running, Over, TurnOf, LineByLine}
-use Rattle.nvme_live.specs.Taking.{TakesLine, TakesLines, TakesFront}
+use Rattle.nvme_live.specs.Standings.{MayLackRoom, Standing, Setting, Running, Over, TurnOf, LineByLine}
+use Rattle.nvme_live.specs.Streams.{Broken, Came, Ended, Failed, LineCall, Sending, Sent}
 
--- Lines were read, and answered: exactly these, each by one answer, in their order, in some sense of a turn. The next
--- one has this number.
-pub record Converses {S : Type 0} (Turns : ℕ → S → List ℕ → List ℕ → S → Type 0) (n : ℕ) (old : S) (next : ℕ) (new : S)
-    (unread left before after : Option (List ℕ)) : Type 0 where
+-- these lines were read, one after the other, each by one call, and no other call was made
+abbrev pub ReadsLines : {R : Type 0} → (R → LineCall → R → Type 0) → R → List (List ℕ) → R → Type 0
+ReadsLines Reads old [] new = new ≡ old
+ReadsLines {R} Reads old (line ∷ lines) new = (mid : R) × Reads old (Came line) mid × ReadsLines Reads mid lines new
+
+-- these answers were sent, one after the other, and nothing else
+abbrev pub SendsAll : {W : Type 0} → (W → Sending → W → Type 0) → W → List (List ℕ) → W → Type 0
+SendsAll Sends old [] new = new ≡ old
+SendsAll {W} Sends old (answer ∷ answers) new = (mid : W) × Sends old (Sent answer) mid × SendsAll Sends mid answers new
+
+-- Lines were read, and answered: exactly these, each by one answer, in their order. The next one has this number.
+pub record Converses {S R W : Type 0} (Turns : ℕ → S → List ℕ → List ℕ → S → Type 0) (Reads : R → LineCall → R → Type 0)
+    (Sends : W → Sending → W → Type 0) (n : ℕ) (old : S) (next : ℕ) (new : S) (unread left : R) (before after : W)
+    : Type 0 where
   pub lines : List (List ℕ)
   pub answers : List (List ℕ)
   pub counted : next ≡ n + length lines
-  pub taken : TakesLines unread lines left
+  pub taken : ReadsLines Reads unread lines left
   pub went : LineByLine Turns n old lines answers new
-  pub wrote : Appends before after (concat answers)
+  pub sent : SendsAll Sends before answers after
 
--- It ended at the end of the input.
-pub record Ends {S : Type 0} (Turns : ℕ → S → List ℕ → List ℕ → S → Type 0) (n : ℕ) (old new : S)
-    (unread left before after : Option (List ℕ)) : Type 0 where
+-- It ended at the end of the input: the last call said that there is no line any more.
+pub record Ends {S R W : Type 0} (Turns : ℕ → S → List ℕ → List ℕ → S → Type 0) (Reads : R → LineCall → R → Type 0)
+    (Sends : W → Sending → W → Type 0) (n : ℕ) (old new : S) (unread left : R) (before after : W) : Type 0 where
   pub next : ℕ
-  pub end : Option (List ℕ)
-  pub conversed : Converses Turns n old next new unread end before after
-  pub is_end : IsAtEnd end
-  pub kept : Keeps end left
+  pub end : R
+  pub conversed : Converses Turns Reads Sends n old next new unread end before after
+  pub ended : Reads end Ended left
 
--- It stopped at a line whose answer was not written whole, or not flushed: what that line does was done.
-pub record BreaksOff {S : Type 0} (Turns : ℕ → S → List ℕ → List ℕ → S → Type 0) (n : ℕ) (old new : S)
-    (unread left before after : Option (List ℕ)) : Type 0 where
+-- It stopped at a line whose answer was not sent, in some sense: what that line does was done.
+pub record Stops {S R W : Type 0} (Turns : ℕ → S → List ℕ → List ℕ → S → Type 0) (Reads : R → LineCall → R → Type 0)
+    (Sends : W → Sending → W → Type 0) (Unsent : S → List ℕ → W → List ℕ → W → Type 0) (n : ℕ) (old new : S)
+    (unread left : R) (before after : W) : Type 0 where
   pub next : ℕ
   pub mid : S
-  pub between : Option (List ℕ)
-  pub written : Option (List ℕ)
-  pub conversed : Converses Turns n old next mid unread between before written
+  pub between : R
+  pub written : W
+  pub conversed : Converses Turns Reads Sends n old next mid unread between before written
   pub line : List ℕ
-  pub taken : TakesLine between line left
+  pub taken : Reads between (Came line) left
   pub answer : List ℕ
   pub turn : Turns next mid line answer new
-  pub broke : Breaks written after answer
+  pub unsent : Unsent mid line written answer after
 
--- It stopped before the next line was read whole.
-pub record Unread {S : Type 0} (Turns : ℕ → S → List ℕ → List ℕ → S → Type 0) (n : ℕ) (old new : S)
-    (unread left before after : Option (List ℕ)) : Type 0 where
+-- a write of it, or its flush, failed
+abbrev pub BreaksOff : {S R W : Type 0} → (ℕ → S → List ℕ → List ℕ → S → Type 0) → (R → LineCall → R → Type 0)
+    → (W → Sending → W → Type 0) → ℕ → S → S → R → R → W → W → Type 0
+BreaksOff Turns Reads Sends n old new unread left before after =
+    Stops Turns Reads Sends (λ mid line w answer z. Sends w (Broken answer) z) n old new unread left before after
+
+-- its text had no room, as that of `ok` always has, and nothing was called
+abbrev pub FindsNoRoom : {S R W : Type 0} → (ℕ → S → List ℕ → List ℕ → S → Type 0) → (R → LineCall → R → Type 0)
+    → (W → Sending → W → Type 0) → (S → Standing) → ℕ → S → S → R → R → W → W → Type 0
+FindsNoRoom Turns Reads Sends standing n old new unread left before after =
+    Stops Turns Reads Sends (λ mid line w answer z. MayLackRoom (standing mid) (asked line) × (z ≡ w)) n old new unread
+    left before after
+
+-- It stopped at a call that read no line, since it failed.
+pub record Unread {S R W : Type 0} (Turns : ℕ → S → List ℕ → List ℕ → S → Type 0) (Reads : R → LineCall → R → Type 0)
+    (Sends : W → Sending → W → Type 0) (n : ℕ) (old new : S) (unread left : R) (before after : W) : Type 0 where
   pub next : ℕ
-  pub between : Option (List ℕ)
-  pub conversed : Converses Turns n old next new unread between before after
-  pub front : TakesFront between left
+  pub between : R
+  pub conversed : Converses Turns Reads Sends n old next new unread between before after
+  pub failed : Reads between Failed left
+
+-- It stopped where its lines can't be counted any more, and no further one was read.
+pub record Uncounted {S R W : Type 0} (Turns : ℕ → S → List ℕ → List ℕ → S → Type 0) (Reads : R → LineCall → R → Type 0)
+    (Sends : W → Sending → W → Type 0) (n : ℕ) (old new : S) (unread left : R) (before after : W) : Type 0 where
+  pub next : ℕ
+  pub conversed : Converses Turns Reads Sends n old next new unread left before after
+  pub many : 2 ^ 64 - 1 ≤ next
 
 -- a line that can want memory, where a session stands so: `start`, or one that sets up, of too many
 abbrev pub CanStarve : Standing → Line → Type 0
@@ -65,29 +93,33 @@ CanStarve (Over k fault) line = ⊥
 
 -- It stopped at a line for which no memory was found, which starts, or sets up and is one of too many: it is not
 -- answered, and changed nothing.
-pub record Starves {S : Type 0} (Turns : ℕ → S → List ℕ → List ℕ → S → Type 0) (standing : S → Standing) (n : ℕ)
-    (old new : S)
-    (unread left before after : Option (List ℕ)) : Type 0 where
+pub record Starves {S R W : Type 0} (Turns : ℕ → S → List ℕ → List ℕ → S → Type 0) (Reads : R → LineCall → R → Type 0)
+    (Sends : W → Sending → W → Type 0) (standing : S → Standing) (n : ℕ) (old new : S) (unread left : R)
+    (before after : W) : Type 0 where
   pub next : ℕ
-  pub between : Option (List ℕ)
-  pub conversed : Converses Turns n old next new unread between before after
+  pub between : R
+  pub conversed : Converses Turns Reads Sends n old next new unread between before after
   pub line : List ℕ
-  pub taken : TakesLine between line left
+  pub taken : Reads between (Came line) left
   pub says : Line
   pub sets : asked line ≡ Sets says
   pub starved : CanStarve (standing new) says
 
 -- what the fault is by which a session ends, once it has begun, where it stands so
-abbrev pub EndsBy : {S : Type 0} → ScriptFault → (ℕ → S → List ℕ → List ℕ → S → Type 0) → (S → Standing) → ℕ → S → S
-    → Option (List ℕ) → Option (List ℕ) → Option (List ℕ) → Option (List ℕ) → Type 0
-EndsBy (Config k fault) Turns standing n old new unread left before after =
-    (next : ℕ) × Converses Turns n old next new unread left before after × (standing new ≡ Over k fault)
-EndsBy Read Turns standing n old new unread left before after = Unread Turns n old new unread left before after
-EndsBy Write Turns standing n old new unread left before after = BreaksOff Turns n old new unread left before after
-EndsBy NoMemory Turns standing n old new unread left before after =
-    Starves Turns standing n old new unread left before after
-EndsBy (Syntax k) Turns standing n old new unread left before after = ⊥
-EndsBy TooLong Turns standing n old new unread left before after = ⊥
+abbrev pub EndsBy : {S R W : Type 0} → ScriptFault → (ℕ → S → List ℕ → List ℕ → S → Type 0)
+    → (R → LineCall → R → Type 0) → (W → Sending → W → Type 0) → (S → Standing) → ℕ → S → S → R → R → W → W → Type 0
+EndsBy (Config k fault) Turns Reads Sends standing n old new unread left before after =
+    (next : ℕ) × Converses Turns Reads Sends n old next new unread left before after × (standing new ≡ Over k fault)
+EndsBy Read Turns Reads Sends standing n old new unread left before after =
+    Unread Turns Reads Sends n old new unread left before after
+    ⊎ Uncounted Turns Reads Sends n old new unread left before after
+EndsBy Write Turns Reads Sends standing n old new unread left before after =
+    BreaksOff Turns Reads Sends n old new unread left before after
+EndsBy NoMemory Turns Reads Sends standing n old new unread left before after =
+    Starves Turns Reads Sends standing n old new unread left before after
+    ⊎ FindsNoRoom Turns Reads Sends standing n old new unread left before after
+EndsBy (Syntax k) Turns Reads Sends standing n old new unread left before after = ⊥
+EndsBy TooLong Turns Reads Sends standing n old new unread left before after = ⊥
 
 -- where a session stands, without a medium and over one
 abbrev pub alone : Standing → Standing
@@ -97,21 +129,28 @@ abbrev pub standing_over : {M : Type 0} → OverMedium Standing M → Standing
 standing_over s = s.state
 
 -- Lines before `start` were answered, and then `start` was read, which has this number and is not answered yet.
-pub record ComesToStart (tells : Bool) (blocks : ℕ) (d : Device) (k : ℕ) (old new : SetUp)
-    (unread left before after : Option (List ℕ)) : Type 0 where
-  pub between : Option (List ℕ)
-  pub conversed : Converses (TurnOf tells blocks d) 1 (Setting old) k (Setting new) unread between before after
+pub record ComesToStart {R W : Type 0} (Reads : R → LineCall → R → Type 0) (Sends : W → Sending → W → Type 0)
+    (tells : Bool) (blocks : ℕ) (d : Device) (k : ℕ) (old new : SetUp) (unread left : R) (before after : W)
+    : Type 0 where
+  pub between : R
+  pub conversed : Converses (TurnOf tells blocks d) Reads Sends 1 (Setting old) k (Setting new) unread between
+      before after
   pub line : List ℕ
-  pub taken : TakesLine between line left
+  pub taken : Reads between (Came line) left
   pub starts : asked line ≡ Sets Start
   pub countable : k < 2 ^ 64 - 1
 
+-- the line `start` was just read: what holds from where the source was before that
+abbrev pub FromStart : {R : Type 0} → (R → LineCall → R → Type 0) → R → (R → Type 0) → Type 0
+FromStart {R} Reads now From =
+    (line : List ℕ) → (between : R) → Reads between (Came line) now → asked line ≡ Sets Start → From between
+
 -- What the lines before `start` come to, over any medium.
-abbrev pub SetsUp : Result (Option ℕ) ScriptFault → SetUp → SetUp → Option (List ℕ) → Option (List ℕ)
-    → Option (List ℕ) → Option (List ℕ) → Type 0
-SetsUp (Ok None) old new unread left before after = (tells : Bool) (blocks : ℕ) (d : Device)
-    → Ends (TurnOf tells blocks d) 1 (Setting old) (Setting new) unread left before after
-SetsUp (Ok (Some k)) old new unread left before after = (tells : Bool) (blocks : ℕ) (d : Device)
-    → ComesToStart tells blocks d k old new unread left before after
-SetsUp (Err fault) old new unread left before after = (tells : Bool) (blocks : ℕ) (d : Device)
-    → EndsBy fault (TurnOf tells blocks d) alone 1 (Setting old) (Setting new) unread left before after
+abbrev pub SetsUp : {R W : Type 0} → (R → LineCall → R → Type 0) → (W → Sending → W → Type 0)
+    → Result (Option ℕ) ScriptFault → SetUp → SetUp → R → R → W → W → Type 0
+SetsUp Reads Sends (Ok None) old new unread left before after = (tells : Bool) (blocks : ℕ) (d : Device)
+    → Ends (TurnOf tells blocks d) Reads Sends 1 (Setting old) (Setting new) unread left before after
+SetsUp Reads Sends (Ok (Some k)) old new unread left before after = (tells : Bool) (blocks : ℕ) (d : Device)
+    → ComesToStart Reads Sends tells blocks d k old new unread left before after
+SetsUp Reads Sends (Err fault) old new unread left before after = (tells : Bool) (blocks : ℕ) (d : Device)
+    → EndsBy fault (TurnOf tells blocks d) Reads Sends alone 1 (Setting old) (Setting new) unread left before after

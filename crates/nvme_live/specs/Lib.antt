@@ -12,6 +12,8 @@ pub mod Showing
 pub mod Shown
 pub mod Answers
 pub mod Taking
+pub mod Streams
+pub mod StreamExamples
 pub mod SetUps
 pub mod Standings
 pub mod Settling

@@ -1,6 +1,6 @@
 -- A session from the script that is run first to its end.
-use Rattle.std.specs.Prelude.{◌≡◌, ◌≢◌, ◌⊎◌, ℕ, Bool, List, Option, None, Some, Result, MatchResult}
-use Rattle.std.specs.Io.KnownBytes.{Appends}
+use Rattle.std.specs.Prelude.{◌≡◌, ◌≢◌, ◌⊎◌, ℕ, Bool, true, false, List, Option, None, Some, Result, MatchResult}
+use Rattle.std.specs.Io.KnownBytes.{Keeps}
 use Rattle.nvme_spec.specs.Blocks.{Device}
 use Rattle.nvme_spec.specs.Configuration.{first_config_fault}
 use Rattle.nvme_spec.specs.declared.config.ConfigFault.{ConfigFault}
@@ -9,16 +9,18 @@ use Rattle.nvme_spec.specs.MediumCalls.{MediumCall}
 use Rattle.nvme_fleet.specs.FleetStates.{Layers}
 use Rattle.script_text.specs.Lines.{text_lines}
 use Rattle.script_text.specs.Reading.{IsRead}
-use Rattle.script_text.specs.Streams.{ReadCall}
+use Rattle.script_text.specs.Streams.{ReadCall, WriteCall}
 use Rattle.script_text.specs.declared.reading.ReadFault.{ReadFault}
 use Rattle.nvme_grammar.specs.Script.{Begins, start_of}
 use Rattle.nvme_script.specs.declared.configuration.BrokenRule.{BrokenRule}
 use Rattle.nvme_script.specs.declared.run.ScriptFault.{ScriptFault}
 use Rattle.nvme_script.specs.declared.run.ScriptFault.TheVariants.{Syntax, Config, TooLong, NoMemory, Read, Write}
 use Rattle.nvme_subsys.specs.OverMedium.{OverMedium, over}
-use Rattle.nvme_script.specs.Faults.{IsScript, IsEarlyFault, Transcribes, events_in, of_reading}
-use Rattle.nvme_script.specs.ScriptCalls.{RanCalling, RunsCalling, StopsCalling, layers_of_text}
-use Rattle.nvme_live.specs.Saying.{Breaks, with_feed}
+use Rattle.nvme_script.specs.Faults.{IsScript, IsEarlyFault, events_in, of_reading}
+use Rattle.nvme_script.specs.ScriptCalls.{RanCalling, layers_of_text}
+use Rattle.nvme_script.specs.ScriptWrites.{RunsWriting, StopsWriting, TranscribesBy}
+use Rattle.nvme_live.specs.Saying.{with_feed}
+use Rattle.nvme_live.specs.Streams.{Broken, LineCall, Sending, SendsBy, Sent}
 use Rattle.nvme_live.specs.SetUps.{SetUp, nothing_set_up, numbered_reason}
 use Rattle.nvme_live.specs.Standings.{Standing, Setting, Running, Over, Starts, refused_text}
 use Rattle.nvme_live.specs.AnswerCalls.{TurnOver}
@@ -39,70 +41,94 @@ pub record Rests {M : Type 0} (device : M → Device) (Ended : OverMedium Standi
   pub medium : left ≡ last.medium
   pub rests : device left ≡ device_in d last.state
 
--- What `start`, the n-th line, comes to where its fleet is not opened, or its answer can't be written or flushed.
-abbrev pub StartFails : ScriptFault → ℕ → Device → ℕ → SetUp → Option (List ℕ) → Option (List ℕ) → Type 0
-StartFails (Config k fault) blocks d n s before after =
+-- What `start`, the n-th line, comes to where its fleet is not opened, or its answer is not sent.
+abbrev pub StartFails : {W : Type 0} → (W → Sending → W → Type 0) → ScriptFault → ℕ → Device → ℕ → SetUp → W → W
+    → Type 0
+StartFails Sends (Config k fault) blocks d n s before after =
     (k ≡ n) × (first_config_fault s.configuration blocks ≡ Some fault)
-    × Appends before after (with_feed (refused_text n fault (numbered_reason s blocks fault)))
-StartFails Write blocks d n s before after =
+    × Sends before (Sent (with_feed (refused_text n fault (numbered_reason s blocks fault)))) after
+StartFails Sends Write blocks d n s before after =
     (answer : List ℕ) × (new : Standing) × Starts (first_config_fault s.configuration blocks) blocks d n s answer new
-    × Breaks before after answer
-StartFails NoMemory blocks d n s before after = after ≡ before
-StartFails (Syntax k) blocks d n s before after = ⊥
-StartFails TooLong blocks d n s before after = ⊥
-StartFails Read blocks d n s before after = ⊥
+    × Sends before (Broken answer) after
+StartFails Sends NoMemory blocks d n s before after = after ≡ before
+StartFails Sends (Syntax k) blocks d n s before after = ⊥
+StartFails Sends TooLong blocks d n s before after = ⊥
+StartFails Sends Read blocks d n s before after = ⊥
 
--- The events of a script's text ran, over this medium, and left this.
-pub record RunsTo {M : Type 0} (step : M → MediumCall → M → Type 0) (tells : Bool) (device : M → Device)
-    (text : List ℕ) (old : M) (last : Layers) (new : M) (before after : Option (List ℕ)) : Type 0 where
-  pub transcribed : Transcribes (RanCalling step tells) (layers_of_text device text old) (events_in text)
-      (over last new) before after
+-- a sink was flushed, and holds what it held
+abbrev pub IsFlushed : {W : Type 0} → (W → Bool → W → Type 0) → (W → Option (List ℕ)) → Bool → W → W → Type 0
+IsFlushed flush contents done old new = flush old done new × Keeps (contents old) (contents new)
+
+-- The events of a script's text ran, over this medium, and left this. Its transcript was written line by line, and then
+-- flushed once.
+pub record RunsTo {M W : Type 0} (step : M → MediumCall → M → Type 0) (tells : Bool) (device : M → Device)
+    (write : W → WriteCall → W → Type 0) (flush : W → Bool → W → Type 0) (contents : W → Option (List ℕ))
+    (text : List ℕ) (old : M) (last : Layers) (new : M) (before after : W) : Type 0 where
+  pub written : W
+  pub transcribed : TranscribesBy (RanCalling step tells) write contents (layers_of_text device text old)
+      (events_in text) (over last new) before written
+  pub flushed : IsFlushed flush contents true written after
 
 -- Where the script that is run first leaves a session, by its `start`: without one nothing is set up, and no call was
--- made of the medium; with one it runs, and has written its transcript.
-abbrev pub Opens : {M : Type 0} → (M → MediumCall → M → Type 0) → Bool → (M → Device) → ℕ → List ℕ → M → Option ℕ
-    → OverMedium Standing M → Option (List ℕ) → Option (List ℕ) → Type 0
-Opens step tells device blocks text medium None first before told =
+-- made of the medium or the output; with one it runs, and has written its transcript.
+abbrev pub Opens : {M W : Type 0} → (M → MediumCall → M → Type 0) → Bool → (M → Device) → (W → WriteCall → W → Type 0)
+    → (W → Bool → W → Type 0) → (W → Option (List ℕ)) → ℕ → List ℕ → M → Option ℕ → OverMedium Standing M → W → W
+    → Type 0
+Opens step tells device write flush contents blocks text medium None first before told =
     Begins (text_lines text) × (first ≡ over (Setting nothing_set_up) medium) × (told ≡ before)
-Opens {M} step tells device blocks text medium (Some n) first before told =
-    IsScript text blocks × (last : Layers) × (mid : M) × RunsTo step tells device text medium last mid before told
+Opens {M} step tells device write flush contents blocks text medium (Some n) first before told =
+    IsScript text blocks × (last : Layers) × (mid : M)
+    × RunsTo step tells device write flush contents text medium last mid before told
     × (first ≡ over (Running last) mid)
 
 -- A session behind a script, from where that left it to an end of which something is said.
-pub record Lives {M : Type 0} (step : M → MediumCall → M → Type 0) (tells : Bool) (device : M → Device) (blocks : ℕ)
-    (text : List ℕ) (medium : M) (before : Option (List ℕ)) (left : M)
-    (Ended : OverMedium Standing M → Option (List ℕ) → OverMedium Standing M → Type 0) : Type 0 where
+pub record Lives {M W : Type 0} (step : M → MediumCall → M → Type 0) (tells : Bool) (device : M → Device)
+    (write : W → WriteCall → W → Type 0) (flush : W → Bool → W → Type 0) (contents : W → Option (List ℕ)) (blocks : ℕ)
+    (text : List ℕ) (medium : M) (before : W) (left : M)
+    (Ended : OverMedium Standing M → W → OverMedium Standing M → Type 0) : Type 0 where
   pub first : OverMedium Standing M
-  pub told : Option (List ℕ)
-  pub opened : Opens step tells device blocks text medium (start_of (text_lines text)) first before told
+  pub told : W
+  pub opened : Opens step tells device write flush contents blocks text medium (start_of (text_lines text)) first
+      before told
   pub rests : Rests device (Ended first told) (device medium) left
 
--- The script stopped at a line of its transcript that was not written whole; or it was, and not flushed.
-abbrev pub ScriptStops : {M : Type 0} → (M → MediumCall → M → Type 0) → Bool → (M → Device) → ℕ → List ℕ → M → M
-    → Option (List ℕ) → Option (List ℕ) → Type 0
-ScriptStops step tells device blocks text medium new before after =
-    IsScript text blocks × (StopsCalling step tells device text medium new before after
-    ⊎ RunsCalling step tells device text medium new before after)
+-- The transcript of a script that ran was written whole, and its flush failed.
+pub record RunsUnflushed {M W : Type 0} (step : M → MediumCall → M → Type 0) (tells : Bool) (device : M → Device)
+    (write : W → WriteCall → W → Type 0) (flush : W → Bool → W → Type 0) (contents : W → Option (List ℕ))
+    (text : List ℕ) (old new : M) (before after : W) : Type 0 where
+  pub written : W
+  pub ran : RunsWriting step tells device write contents text old new before written
+  pub unflushed : IsFlushed flush contents false written after
+
+-- The script stopped at a line of its transcript that was not written whole; or all were, and the flush failed.
+abbrev pub ScriptStops : {M W : Type 0} → (M → MediumCall → M → Type 0) → Bool → (M → Device)
+    → (W → WriteCall → W → Type 0) → (W → Bool → W → Type 0) → (W → Option (List ℕ)) → ℕ → List ℕ → M → M → W → W
+    → Type 0
+ScriptStops step tells device write flush contents blocks text medium new before after =
+    IsScript text blocks × (StopsWriting step tells device write contents text medium new before after
+    ⊎ RunsUnflushed step tells device write flush contents text medium new before after)
 
 -- What `start` is answered where its fleet was refused, for this reason.
-abbrev pub StartRefused : ScriptFault → ℕ → ConfigFault → Option (ℕ × BrokenRule) → Option (List ℕ) → Option (List ℕ)
-    → Type 0
-StartRefused (Config k why) n fault reason before after =
-    (k ≡ n) × (why ≡ fault) × (fault ≢ WantOfMemory) × Appends before after (with_feed (refused_text n fault reason))
-StartRefused Write n fault reason before after =
-    (fault ≢ WantOfMemory) × Breaks before after (with_feed (refused_text n fault reason))
-StartRefused NoMemory n fault reason before after = (fault ≡ WantOfMemory) × (after ≡ before)
-StartRefused (Syntax k) n fault reason before after = ⊥
-StartRefused TooLong n fault reason before after = ⊥
-StartRefused Read n fault reason before after = ⊥
+abbrev pub StartRefused : {W : Type 0} → (W → Sending → W → Type 0) → ScriptFault → ℕ → ConfigFault
+    → Option (ℕ × BrokenRule) → W → W → Type 0
+StartRefused Sends (Config k why) n fault reason before after =
+    (k ≡ n) × (why ≡ fault) × (fault ≢ WantOfMemory)
+    × Sends before (Sent (with_feed (refused_text n fault reason))) after
+StartRefused Sends Write n fault reason before after =
+    (fault ≢ WantOfMemory) × Sends before (Broken (with_feed (refused_text n fault reason))) after
+StartRefused Sends NoMemory n fault reason before after = after ≡ before
+StartRefused Sends (Syntax k) n fault reason before after = ⊥
+StartRefused Sends TooLong n fault reason before after = ⊥
+StartRefused Sends Read n fault reason before after = ⊥
 
--- What becomes of a script that does not run to its end: it is refused, nothing was written, and no call was made of the
--- medium; or it stops.
-abbrev pub FailsFirst : {M W : Type 0} → (M → MediumCall → M → Type 0) → Bool → (M → Device) → (W → Option (List ℕ))
-    → ℕ → List ℕ → ScriptFault → M → M → W → W → Type 0
-FailsFirst step tells device contents blocks text fault medium left old new =
+-- What becomes of a script that does not run to its end: it is refused, and neither the output nor the medium was
+-- called; or it stops.
+abbrev pub FailsFirst : {M W : Type 0} → (M → MediumCall → M → Type 0) → Bool → (M → Device)
+    → (W → WriteCall → W → Type 0) → (W → Bool → W → Type 0) → (W → Option (List ℕ)) → ℕ → List ℕ → ScriptFault → M → M
+    → W → W → Type 0
+FailsFirst step tells device write flush contents blocks text fault medium left old new =
     (IsEarlyFault fault text blocks × (left ≡ medium) × (new ≡ old))
-    ⊎ ((fault ≡ Write) × ScriptStops step tells device blocks text medium left (contents old) (contents new))
+    ⊎ ((fault ≡ Write) × ScriptStops step tells device write flush contents blocks text medium left old new)
 
 -- What a session has besides its script: its input, its output, and its medium.
 pub record Surroundings (R W M : Type 0) : Type 0 where
@@ -114,14 +140,15 @@ abbrev pub surroundings : {R W M : Type 0} → R → W → M → Surroundings R 
 surroundings r w m = record { reader = r; writer = w; medium = m }
 
 -- What a fault says: of the script, and the input was not called; or of the session.
-abbrev pub Fails : {M R W : Type 0} → (M → MediumCall → M → Type 0) → Bool → (M → Device) → (R → Option (List ℕ))
-    → (W → Option (List ℕ)) → ℕ → List ℕ → ScriptFault → Surroundings R W M → Surroundings R W M → Type 0
-Fails step tells device remaining contents blocks text fault old new =
-    (FailsFirst step tells device contents blocks text fault old.medium new.medium old.writer new.writer
+abbrev pub Fails : {M R W : Type 0} → (M → MediumCall → M → Type 0) → Bool → (M → Device) → (R → LineCall → R → Type 0)
+    → (W → WriteCall → W → Type 0) → (W → Bool → W → Type 0) → (W → Option (List ℕ)) → ℕ → List ℕ → ScriptFault
+    → Surroundings R W M → Surroundings R W M → Type 0
+Fails step tells device Reads write flush contents blocks text fault old new =
+    (FailsFirst step tells device write flush contents blocks text fault old.medium new.medium old.writer new.writer
     × (new.reader ≡ old.reader))
-    ⊎ Lives step tells device blocks text old.medium (contents old.writer) new.medium (λ first told last.
-    EndsBy fault (TurnOver step tells blocks (device old.medium)) standing_over 1 first last (remaining old.reader)
-    (remaining new.reader) told (contents new.writer))
+    ⊎ Lives step tells device write flush contents blocks text old.medium old.writer new.medium (λ first told last.
+    EndsBy fault (TurnOver step tells blocks (device old.medium)) Reads (SendsBy write flush contents) standing_over 1
+    first last old.reader new.reader told new.writer)
 
 -- The script was read by its reads and no others. Where it could not be read the fault is that, and neither the input nor
 -- the output nor the medium was called; else something is said of its text.
@@ -132,9 +159,10 @@ FailsBehindReading read remaining script after fault old new With = (outcome : R
     × MatchResult outcome With (λ reading. (fault ≡ of_reading reading) × (new ≡ old))
 
 -- A session that came to the end of its input.
-abbrev pub LivesOn : {M R W : Type 0} → (M → MediumCall → M → Type 0) → Bool → (M → Device) → (R → Option (List ℕ))
-    → (W → Option (List ℕ)) → ℕ → List ℕ → Surroundings R W M → Surroundings R W M → Type 0
-LivesOn step tells device remaining contents blocks text old new =
-    Lives step tells device blocks text old.medium (contents old.writer) new.medium (λ first told last.
-    Ends (TurnOver step tells blocks (device old.medium)) 1 first last (remaining old.reader) (remaining new.reader)
-    told (contents new.writer))
+abbrev pub LivesOn : {M R W : Type 0} → (M → MediumCall → M → Type 0) → Bool → (M → Device)
+    → (R → LineCall → R → Type 0) → (W → WriteCall → W → Type 0) → (W → Bool → W → Type 0) → (W → Option (List ℕ)) → ℕ
+    → List ℕ → Surroundings R W M → Surroundings R W M → Type 0
+LivesOn step tells device Reads write flush contents blocks text old new =
+    Lives step tells device write flush contents blocks text old.medium old.writer new.medium (λ first told last.
+    Ends (TurnOver step tells blocks (device old.medium)) Reads (SendsBy write flush contents) 1 first last old.reader
+    new.reader told new.writer)

@@ -1,6 +1,6 @@
 -- What a session is answered is determined, but for faults of the medium; and there is one.
-use Rattle.std.specs.Prelude.{◌≡◌, ◌<◌, ◌-◌, ◌^◌, ℕ, Bool, true, false, List, [], ◌∷◌, Option, Some}
-use Rattle.std.specs.List.{list_any}
+use Rattle.std.specs.Prelude.{◌≡◌, ◌<◌, ◌-◌, ◌^◌, ℕ, Bool, true, false, List, [], ◌∷◌, ◌++◌, Option, Some}
+use Rattle.std.specs.List.{All, concat, list_any}
 use Rattle.nvme_spec.specs.Blocks.{Device}
 use Rattle.nvme_spec.specs.MediumCalls.{MediumCall}
 use Rattle.nvme_subsys.specs.OverMedium.{OverMedium}
@@ -15,10 +15,15 @@ use Rattle.nvme_live.specs.declared.asking.Asked.{Asked}
 use Rattle.nvme_live.specs.declared.asking.Asked.TheVariants.{Fails, Nothing, Looks, Sets, Does}
 use Rattle.nvme_live.specs.AnswerCalls.{TurnOver}
 use Rattle.nvme_live.specs.Asking.{asked}
-use Rattle.nvme_live.specs.Conversations.{Ends}
+use Rattle.nvme_live.specs.Conversations.{Ends, EndsBy, alone}
 use Rattle.nvme_live.specs.Keeping.{is_block_look}
 use Rattle.nvme_live.specs.Lives.{device_in}
+use Rattle.nvme_live.specs.SessionScripts.{text_of}
 use Rattle.nvme_live.specs.Standings.{LineByLine, Over, Running, Session, Setting, Standing, TurnOf}
+use Rattle.nvme_live.specs.Streams.{AddsKnown, LineCall, ReadsBy, Sending, SendsBy, TakesKnown}
+use Rattle.nvme_live.specs.Taking.{IsOfLine}
+use Rattle.nvme_script.specs.declared.run.ScriptFault.{ScriptFault}
+use Rattle.script_text.specs.Streams.{WriteCall}
 
 -- What went over a medium, by exactly its calls, went so in the session's standings alone, with the same answers.
 abbrev pub SessionsStandAlone : {M : Type 0} → (M → MediumCall → M → Type 0) → Bool → Type 0
@@ -27,11 +32,33 @@ SessionsStandAlone {M} step tells =
     → LineByLine (TurnOver step tells blocks d) n old lines answers new
     → Session tells blocks d n old.state lines answers new.state
 
-abbrev pub EndsStandAlone : {M : Type 0} → (M → MediumCall → M → Type 0) → Bool → Type 0
-EndsStandAlone {M} step tells =
-    (blocks : ℕ) (d : Device) (n : ℕ) (old new : OverMedium Standing M) (unread left before after : Option (List ℕ))
-    → Ends (TurnOver step tells blocks d) n old new unread left before after
-    → Ends (TurnOf tells blocks d) n old.state new.state unread left before after
+abbrev pub EndsStandAlone : {M R W : Type 0} → (M → MediumCall → M → Type 0) → Bool → (R → LineCall → R → Type 0)
+    → (W → Sending → W → Type 0) → Type 0
+EndsStandAlone {M} {R} {W} step tells Reads Sends =
+    (blocks : ℕ) (d : Device) (n : ℕ) (old new : OverMedium Standing M) (unread left : R) (before after : W)
+    → Ends (TurnOver step tells blocks d) Reads Sends n old new unread left before after
+    → Ends (TurnOf tells blocks d) Reads Sends n old.state new.state unread left before after
+
+-- What went by the calls of streams, line by line, went so in the bytes that are known of them: with the same lines and
+-- answers, and the same end.
+abbrev pub EndsInBytes : {R W : Type 0} → (R → LineCall → R → Type 0) → (R → Option (List ℕ))
+    → (W → WriteCall → W → Type 0) → (W → Bool → W → Type 0) → (W → Option (List ℕ)) → Type 0
+EndsInBytes {R} {W} read remaining write flush contents =
+    (tells : Bool) (blocks : ℕ) (d : Device) (n : ℕ) (old new : Standing) (unread left : R) (before after : W)
+    → Ends (TurnOf tells blocks d) (ReadsBy read remaining) (SendsBy write flush contents) n old new unread left
+    before after
+    → Ends (TurnOf tells blocks d) TakesKnown AddsKnown n old new (remaining unread) (remaining left)
+    (contents before) (contents after)
+
+abbrev pub FailuresInBytes : {R W : Type 0} → (R → LineCall → R → Type 0) → (R → Option (List ℕ))
+    → (W → WriteCall → W → Type 0) → (W → Bool → W → Type 0) → (W → Option (List ℕ)) → Type 0
+FailuresInBytes {R} {W} read remaining write flush contents =
+    (fault : ScriptFault) (tells : Bool) (blocks : ℕ) (d : Device) (n : ℕ) (old new : Standing) (unread left : R)
+    (before after : W)
+    → EndsBy fault (TurnOf tells blocks d) (ReadsBy read remaining) (SendsBy write flush contents) alone n old new
+    unread left before after
+    → EndsBy fault (TurnOf tells blocks d) TakesKnown AddsKnown alone n old new (remaining unread) (remaining left)
+    (contents before) (contents after)
 
 -- how often a call of the medium has failed, where a session stands so
 abbrev pub failures_at : Device → Standing → ℕ
@@ -57,10 +84,19 @@ abbrev pub EndIsUnique : Type 0
 EndIsUnique =
     (blocks : ℕ) (d : Device) (n : ℕ) (old new other : Standing) (text before : List ℕ)
     (left right after another : Option (List ℕ)) → HasTicketsOnce old
-    → Ends (TurnOf true blocks d) n old new (Some text) left (Some before) after
-    → Ends (TurnOf true blocks d) n old other (Some text) right (Some before) another
+    → Ends (TurnOf true blocks d) TakesKnown AddsKnown n old new (Some text) left (Some before) after
+    → Ends (TurnOf true blocks d) TakesKnown AddsKnown n old other (Some text) right (Some before) another
     → failures_at d new ≡ failures_at d old → failures_at d other ≡ failures_at d old
     → failures_at d old < 2 ^ 64 - 1 → (other ≡ new) × (another ≡ after)
+
+-- Lines that are answered are a session over known bytes: read whole, each with its line feed, and to the end; and its
+-- answers are what is written.
+abbrev pub AnsweredLinesAreASession : Type 0
+AnsweredLinesAreASession =
+    (tells : Bool) (blocks : ℕ) (d : Device) (n : ℕ) (old new : Standing) (lines answers : List (List ℕ))
+    (before : List ℕ) → All IsOfLine lines → Session tells blocks d n old lines answers new
+    → Ends (TurnOf tells blocks d) TakesKnown AddsKnown n old new (Some (text_of lines)) (Some []) (Some before)
+    (Some (before ++ concat answers))
 
 -- some answers of lines, from one standing to another
 abbrev pub IsAnswered : Bool → ℕ → Device → ℕ → Standing → List (List ℕ) → Standing → Type 0

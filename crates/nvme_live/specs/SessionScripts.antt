@@ -21,6 +21,8 @@ use Rattle.nvme_live.specs.Keeping.{LookWell, RunAmidLooks, event_answers, kept_
 use Rattle.nvme_live.specs.Lives.{Opens}
 use Rattle.nvme_live.specs.Saying.{with_feed}
 use Rattle.nvme_live.specs.Standings.{Standing, Setting, Running, Over}
+use Rattle.nvme_live.specs.Streams.{LineCall, ReadsBy, SendsBy}
+use Rattle.script_text.specs.Streams.{WriteCall}
 
 -- lines as a text: a line feed ends each
 abbrev pub text_of : List (List ℕ) → List ℕ
@@ -76,23 +78,31 @@ pub record IsAScript (Ran : Layers → List FleetEvent → List Reply → Layers
 
 -- Of a session from its first line on, behind the script that is run first, each of whose looks at blocks left the
 -- medium as it was: its text is a script, which set up what the session set up, and whose run is the session's.
-abbrev pub SessionIsAScript : {M : Type 0} → (M → MediumCall → M → Type 0) → Bool → (M → Device) → Type 0
-SessionIsAScript {M} step tells device =
+abbrev pub SessionIsAScript : {M R W : Type 0} → (M → MediumCall → M → Type 0) → Bool → (M → Device)
+    → (R → LineCall → R → Type 0) → (R → Option (List ℕ)) → (W → WriteCall → W → Type 0) → (W → Bool → W → Type 0)
+    → (W → Option (List ℕ)) → Type 0
+SessionIsAScript {M} {R} {W} step tells device read remaining write flush contents =
     (blocks : ℕ) → (first : List ℕ) → (medium : M) → (from last : OverMedium Standing M) → (next : ℕ)
-    → (before told unread left after : Option (List ℕ))
-    → Opens step tells device blocks first medium (start_of (text_lines first)) from before told
-    → (h : Converses (TurnOver step tells blocks (device medium)) 1 from next last unread left told after)
+    → (unread left : R) → (before told after : W)
+    → Opens step tells device write flush contents blocks first medium (start_of (text_lines first)) from before told
+    → (h : Converses (TurnOver step tells blocks (device medium)) (ReadsBy read remaining)
+    (SendsBy write flush contents) 1 from next last unread left told after)
     → LookWell tells 1 h.lines h.answers
-    → IsAScript (Run tells) blocks (device medium) first h.lines h.answers last.state before told
+    → IsAScript (Run tells) blocks (device medium) first h.lines h.answers last.state (contents before)
+    (contents told)
 
 -- Of any session it is so but for its run, which is one amid looks at blocks.
-abbrev pub SessionIsAScriptAmidLooks : {M : Type 0} → (M → MediumCall → M → Type 0) → Bool → (M → Device) → Type 0
-SessionIsAScriptAmidLooks {M} step tells device =
+abbrev pub SessionIsAScriptAmidLooks : {M R W : Type 0} → (M → MediumCall → M → Type 0) → Bool → (M → Device)
+    → (R → LineCall → R → Type 0) → (R → Option (List ℕ)) → (W → WriteCall → W → Type 0) → (W → Bool → W → Type 0)
+    → (W → Option (List ℕ)) → Type 0
+SessionIsAScriptAmidLooks {M} {R} {W} step tells device read remaining write flush contents =
     (blocks : ℕ) → (first : List ℕ) → (medium : M) → (from last : OverMedium Standing M) → (next : ℕ)
-    → (before told unread left after : Option (List ℕ))
-    → Opens step tells device blocks first medium (start_of (text_lines first)) from before told
-    → (h : Converses (TurnOver step tells blocks (device medium)) 1 from next last unread left told after)
-    → IsAScript (RunAmidLooks tells) blocks (device medium) first h.lines h.answers last.state before told
+    → (unread left : R) → (before told after : W)
+    → Opens step tells device write flush contents blocks first medium (start_of (text_lines first)) from before told
+    → (h : Converses (TurnOver step tells blocks (device medium)) (ReadsBy read remaining)
+    (SendsBy write flush contents) 1 from next last unread left told after)
+    → IsAScript (RunAmidLooks tells) blocks (device medium) first h.lines h.answers last.state (contents before)
+    (contents told)
 
 -- A text that was played, and is not too long, is a script in the sense of `run_script`, and has run as that says.
 abbrev pub PlayedIsARun : Type 0

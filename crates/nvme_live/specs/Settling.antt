@@ -1,6 +1,5 @@
 -- What a line before `start` comes to.
-use Rattle.std.specs.Prelude.{◌≡◌, ℕ, List, Option, Result, Ok, Err}
-use Rattle.std.specs.Io.KnownBytes.{Appends}
+use Rattle.std.specs.Prelude.{◌≡◌, ◌⊎◌, ℕ, List, Result, Ok, Err}
 use Rattle.nvme_spec.specs.Blocks.{Device}
 use Rattle.nvme_live.specs.SetUps.{IsCrowded, SetUp}
 use Rattle.nvme_grammar.specs.declared.line.Line.{Line}
@@ -11,25 +10,26 @@ use Rattle.nvme_live.specs.declared.asking.Asked.{Asked}
 use Rattle.nvme_live.specs.declared.asking.Asked.TheVariants.{Sets}
 use Rattle.nvme_live.specs.declared.setting.Settled.{Settled}
 use Rattle.nvme_live.specs.declared.setting.Settled.TheVariants.{Answered, Started}
-use Rattle.nvme_live.specs.Saying.{Breaks}
-use Rattle.nvme_live.specs.Standings.{Setting, Settles}
+use Rattle.nvme_live.specs.Standings.{MayLackRoom, Setting, Settles}
+use Rattle.nvme_live.specs.Streams.{Broken, Sending, Sent}
 
 -- over any medium the n-th line is answered so, and leaves this set up
 abbrev pub SettlesAlike : ℕ → SetUp → Asked → List ℕ → SetUp → Type 0
 SettlesAlike n old asks answer new = (blocks : ℕ) (d : Device) → Settles blocks d n old asks answer (Setting new)
 
--- It was answered; or it is `start`, and nothing was written yet; or its answer was not written whole, or not flushed; or
--- there are too many of its kind already, and no memory was found for it.
-abbrev pub Comes : Result Settled ScriptFault → ℕ → SetUp → Asked → SetUp → Option (List ℕ)
-    → Option (List ℕ) → Type 0
-Comes (Ok Answered) n old asks new before after =
-    (answer : List ℕ) × SettlesAlike n old asks answer new × Appends before after answer
-Comes (Ok Started) n old asks new before after = (asks ≡ Sets Start) × (new ≡ old) × (after ≡ before)
-Comes (Err Write) n old asks new before after =
-    (answer : List ℕ) × SettlesAlike n old asks answer new × Breaks before after answer
-Comes (Err NoMemory) n old asks new before after =
-    (line : Line) × (asks ≡ Sets line) × IsCrowded old line × (new ≡ old) × (after ≡ before)
-Comes (Err (Syntax k)) n old asks new before after = ⊥
-Comes (Err (Config k fault)) n old asks new before after = ⊥
-Comes (Err TooLong) n old asks new before after = ⊥
-Comes (Err Read) n old asks new before after = ⊥
+-- It was answered; or it is `start`, and nothing was written yet; or its answer was not written whole, or not flushed, or
+-- found no room; or there are too many of its kind already, and no memory was found for it.
+abbrev pub Comes : {W : Type 0} → (W → Sending → W → Type 0) → Result Settled ScriptFault → ℕ → SetUp → Asked → SetUp
+    → W → W → Type 0
+Comes Sends (Ok Answered) n old asks new before after =
+    (answer : List ℕ) × SettlesAlike n old asks answer new × Sends before (Sent answer) after
+Comes Sends (Ok Started) n old asks new before after = (asks ≡ Sets Start) × (new ≡ old) × (after ≡ before)
+Comes Sends (Err Write) n old asks new before after =
+    (answer : List ℕ) × SettlesAlike n old asks answer new × Sends before (Broken answer) after
+Comes Sends (Err NoMemory) n old asks new before after =
+    ((line : Line) × (asks ≡ Sets line) × IsCrowded old line × (new ≡ old) × (after ≡ before))
+    ⊎ ((answer : List ℕ) × SettlesAlike n old asks answer new × MayLackRoom (Setting old) asks × (after ≡ before))
+Comes Sends (Err (Syntax k)) n old asks new before after = ⊥
+Comes Sends (Err (Config k fault)) n old asks new before after = ⊥
+Comes Sends (Err TooLong) n old asks new before after = ⊥
+Comes Sends (Err Read) n old asks new before after = ⊥

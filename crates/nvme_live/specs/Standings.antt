@@ -27,6 +27,21 @@ pub data Standing : Type 0 where
   Running : Layers → Standing
   Over : ℕ → ConfigFault → Standing
 
+-- Whether the text of an answer may lack room, where a session stands so, by what its line asks. The answer to a line that
+-- says nothing, or sets something up, is `ok`, and never does.
+abbrev pub MayLackRoom : Standing → Asked → Type 0
+MayLackRoom (Setting s) (Fails why) = Unit {0}
+MayLackRoom (Setting s) Nothing = ⊥
+MayLackRoom (Setting s) (Looks looking) = Unit {0}
+MayLackRoom (Setting s) (Sets line) = ⊥
+MayLackRoom (Setting s) (Does event) = Unit {0}
+MayLackRoom (Running l) (Fails why) = Unit {0}
+MayLackRoom (Running l) Nothing = ⊥
+MayLackRoom (Running l) (Looks looking) = Unit {0}
+MayLackRoom (Running l) (Sets line) = Unit {0}
+MayLackRoom (Running l) (Does event) = Unit {0}
+MayLackRoom (Over k fault) asks = ⊥
+
 abbrev pub fault_name : ConfigFault → List ℕ
 fault_name BadId = codes "BadId"
 fault_name BadSize = codes "BadSize"

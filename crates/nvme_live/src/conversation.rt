@@ -9,22 +9,22 @@ ghost use Rattle.nvme_live.specs.AnswerCalls.{TurnOver};
 ghost use Rattle.nvme_live.specs.Conversations.{Ends, EndsBy, SetsUp, standing_over};
 ghost use Rattle.nvme_live.specs.Lives.{Rests};
 ghost use Rattle.nvme_live.specs.Standings.{Running};
+ghost use Rattle.nvme_live.specs.Streams.{ReadsBy, SendsBy};
 
 use crate::asking::asked_of;
 use crate::line_numbers::LineNumbers;
-use crate::reading::read_line;
 use crate::rooms::Rooms;
 use crate::setting::{Settled, settle};
+use crate::streams::{FlushedSink, LineSource};
 use crate::turn::answer;
 use nvme_fleet::Fleet;
 use nvme_medium::Medium;
 use nvme_script::ScriptFault;
 use nvme_spec::Config;
-use std::io::{BufRead, Write};
 
 /// Answers the lines before the fleet is there, up to `start`, whose number is the answer; `None` at the end of the
 /// input.
-pub fn set_up<R: BufRead, W: Write>(
+pub fn set_up<R: LineSource, W: FlushedSink>(
     config: &mut Config,
     numbers: &mut LineNumbers,
     line: &mut Vec<u8>,
@@ -39,14 +39,15 @@ pub fn set_up<R: BufRead, W: Write>(
     requires identifiers_room { length identifiers.old ≡ 2097153 }
     requires blocks_room { length blocks.old ≡ 2097153 }
     requires room { HasSetUpRoom config.old numbers.old }
-    ensures { SetsUp result (set_up_of config.old numbers.old) (set_up_of config.new numbers.new)
-        (R.remaining reader.old) (R.remaining reader.new) (W.contents writer.old) (W.contents writer.new) }
+    ensures { SetsUp (ReadsBy R.step R.remaining) (SendsBy W.step W.flushes W.contents) result
+        (set_up_of config.old numbers.old) (set_up_of config.new numbers.new) reader.old reader.new
+        writer.old writer.new }
 {
     for number in 1..u64::MAX {
-        match read_line(reader, line) {
+        match reader.take_line(line) {
             Ok(true) => {}
             Ok(false) => return Ok(None),
-            Err(fault) => return Err(fault),
+            Err(_) => return Err(ScriptFault::Read),
         }
         let asked = asked_of(line.as_slice(), bytes, identifiers, blocks);
         match settle(number, asked, config, numbers, text, writer) {
@@ -59,7 +60,7 @@ pub fn set_up<R: BufRead, W: Write>(
 }
 
 /// Answers the lines once the fleet is there, up to the end of the input.
-fn converse<R: BufRead, W: Write, M: Medium>(
+fn converse<R: LineSource, W: FlushedSink, M: Medium>(
     first: u64,
     fleet: &mut Fleet<M>,
     line: &mut Vec<u8>,
@@ -73,32 +74,32 @@ fn converse<R: BufRead, W: Write, M: Medium>(
     requires bytes_room { length bytes.old ≡ 2097153 }
     requires identifiers_room { length identifiers.old ≡ 2097153 }
     requires blocks_room { length blocks.old ≡ 2097153 }
-    ensures ok { IfOk result (λ _. (size : ℕ) (d : Device) → Ends (TurnOver M.step M.tells size d) first
+    ensures ok { IfOk result (λ _. (size : ℕ) (d : Device)
+        → Ends (TurnOver M.step M.tells size d) (ReadsBy R.step R.remaining) (SendsBy W.step W.flushes W.contents) first
         (over (Running (layers_of fleet.old.state)) fleet.old.medium)
-        (over (Running (layers_of fleet.new.state)) fleet.new.medium)
-        (R.remaining reader.old) (R.remaining reader.new) (W.contents writer.old) (W.contents writer.new)) }
+        (over (Running (layers_of fleet.new.state)) fleet.new.medium) reader.old reader.new writer.old writer.new) }
     ensures fault { IfErr result (λ e. (size : ℕ) (d : Device)
-        → EndsBy e (TurnOver M.step M.tells size d) standing_over first
-        (over (Running (layers_of fleet.old.state)) fleet.old.medium)
-        (over (Running (layers_of fleet.new.state)) fleet.new.medium)
-        (R.remaining reader.old) (R.remaining reader.new) (W.contents writer.old) (W.contents writer.new)) }
+        → EndsBy e (TurnOver M.step M.tells size d) (ReadsBy R.step R.remaining) (SendsBy W.step W.flushes W.contents)
+        standing_over first (over (Running (layers_of fleet.old.state)) fleet.old.medium)
+        (over (Running (layers_of fleet.new.state)) fleet.new.medium) reader.old reader.new writer.old writer.new) }
 {
     for number in first..u64::MAX {
-        match read_line(reader, line) {
+        match reader.take_line(line) {
             Ok(true) => {}
             Ok(false) => return Ok(()),
-            Err(fault) => return Err(fault),
+            Err(_) => return Err(ScriptFault::Read),
         }
         let asked = asked_of(line.as_slice(), bytes, identifiers, blocks);
-        if answer(number, asked, fleet, blocks, text, writer).is_err() {
-            return Err(ScriptFault::Write);
+        match answer(number, asked, fleet, blocks, text, writer) {
+            Ok(()) => {}
+            Err(unsaid) => return Err(unsaid),
         }
     }
     Err(ScriptFault::Read)
 }
 
 /// Answers the lines once the fleet is there, and gives the medium back.
-pub fn run_on<R: BufRead, W: Write, M: Medium>(
+pub fn run_on<R: LineSource, W: FlushedSink, M: Medium>(
     first: u64,
     mut fleet: Fleet<M>,
     rooms: &mut Rooms,
@@ -109,13 +110,13 @@ pub fn run_on<R: BufRead, W: Write, M: Medium>(
     requires identifiers_room { length rooms.old.identifiers.items ≡ 2097153 }
     requires blocks_room { length rooms.old.blocks.items ≡ 2097153 }
     ensures ok { IfOk result (λ after. (size : ℕ) (d : Device)
-        → Rests M.device (λ last. Ends (TurnOver M.step M.tells size d) first
-        (over (Running (layers_of fleet.state)) fleet.medium) last (R.remaining reader.old) (R.remaining reader.new)
-        (W.contents writer.old) (W.contents writer.new)) d after) }
+        → Rests M.device (λ last. Ends (TurnOver M.step M.tells size d) (ReadsBy R.step R.remaining)
+        (SendsBy W.step W.flushes W.contents) first (over (Running (layers_of fleet.state)) fleet.medium) last
+        reader.old reader.new writer.old writer.new) d after) }
     ensures fault { IfErr result (λ e. (size : ℕ) (d : Device)
-        → Rests M.device (λ last. EndsBy e.0 (TurnOver M.step M.tells size d) standing_over first
-        (over (Running (layers_of fleet.state)) fleet.medium) last (R.remaining reader.old) (R.remaining reader.new)
-        (W.contents writer.old) (W.contents writer.new)) d e.1) }
+        → Rests M.device (λ last. EndsBy e.0 (TurnOver M.step M.tells size d) (ReadsBy R.step R.remaining)
+        (SendsBy W.step W.flushes W.contents) standing_over first (over (Running (layers_of fleet.state)) fleet.medium)
+        last reader.old reader.new writer.old writer.new) d e.1) }
 {
     let ran = converse(
         first,

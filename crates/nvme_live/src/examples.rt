@@ -1,6 +1,7 @@
 //! Worked examples of the definitions: the contract of each function here is computed by the check.
 
-ghost use Rattle.std.specs.Prelude.{◌≡◌, ◌++◌, ◌∷◌, [], Some, codes, true, false};
+ghost use Rattle.std.specs.Prelude.{◌≡◌, ◌++◌, ◌∷◌, [], None, Some, codes, true, false};
+ghost use Rattle.std.specs.declared.io.Error.{Error};
 ghost use Rattle.nvme_spec.specs.Configuration.{empty_configuration};
 ghost use Rattle.nvme_spec.specs.Examples.{namespace};
 ghost use Rattle.nvme_grammar.specs.declared.line.Line.TheVariants.{Attached, Namespace, Start};
@@ -8,7 +9,10 @@ ghost use Rattle.nvme_live.specs.Keeping.{is_kept};
 ghost use Rattle.nvme_live.specs.Showing.{bit_text, io_name};
 ghost use Rattle.nvme_live.specs.SetUps.{nothing_set_up, numbered_reason, set_by, with_line};
 ghost use Rattle.nvme_live.specs.Standings.{refused_text};
+ghost use Rattle.nvme_live.specs.StreamExamples.{Flushed, Flushing, Writing, Wrote};
+ghost use Rattle.nvme_live.specs.Streams.{Broken, IsSent, Sent};
 ghost use Rattle.nvme_live.specs.Taking.{session_lines};
+ghost use Rattle.script_text.specs.Streams.{Writes};
 
 use nvme_script::BrokenRule;
 use nvme_spec::ConfigFault;
@@ -19,6 +23,24 @@ pub fn lines_of_bytes()
     ensures open { session_lines (codes "a" ++ 10 ∷ codes "b") ≡ codes "a" ∷ codes "b" ∷ [] }
     ensures empty { session_lines (10 ∷ 10 ∷ []) ≡ [] ∷ [] ∷ [] }
     ensures none { session_lines [] ≡ [] }
+{}
+
+/// An answer is sent by writes of all that is left of it and one flush. One that is not flushed, is flushed first, or is
+/// written twice is not.
+pub fn answers()
+    ensures at_once { IsSent Writing Flushing [] (Sent (codes "ok"))
+        (Wrote (Writes (codes "ok") (Some 2)) ∷ Flushed true ∷ []) }
+    ensures in_parts { IsSent Writing Flushing [] (Sent (codes "ok"))
+        (Wrote (Writes (codes "ok") (Some 1)) ∷ Wrote (Writes (codes "k") (Some 1)) ∷ Flushed true ∷ []) }
+    ensures unflushed { ¬ IsSent Writing Flushing [] (Sent (codes "ok")) (Wrote (Writes (codes "ok") (Some 2)) ∷ []) }
+    ensures flushed_first { ¬ IsSent Writing Flushing [] (Sent (codes "ok"))
+        (Flushed true ∷ Wrote (Writes (codes "ok") (Some 2)) ∷ []) }
+    ensures twice { ¬ IsSent Writing Flushing [] (Sent (codes "ok"))
+        (Wrote (Writes (codes "ok") (Some 2)) ∷ Wrote (Writes (codes "ok") (Some 2)) ∷ Flushed true ∷ []) }
+    ensures failed { (fault : Error)
+        → IsSent Writing Flushing [] (Broken (codes "ok")) (Wrote (Writes (codes "ok") None) ∷ []) }
+    ensures flush_failed { IsSent Writing Flushing [] (Broken (codes "ok"))
+        (Wrote (Writes (codes "ok") (Some 2)) ∷ Flushed false ∷ []) }
 {}
 
 /// What is kept of a session is neither a line that looks nor one that was answered by a refusal.

@@ -14,8 +14,10 @@ mod rooms;
 mod saying;
 mod session;
 mod setting;
+mod streams;
 mod turn;
 mod views;
 
 pub use program::{run_in, run_program};
 pub use session::run_live;
+pub use streams::{FlushedSink, LineSource};

@@ -3,13 +3,12 @@
 ghost use Rattle.std.specs.Prelude.{◌≡◌, ◌≢◌, ◌≤◌, ◌<◌, ◌+◌, ◌++◌, ◌∷◌, [], IfOk, IfErr, OnOk, length, take, vec_len};
 ghost use Rattle.std.specs.List.{prefix_len};
 ghost use Rattle.script_text.specs.Lines.{is_of_line};
-ghost use Rattle.nvme_script.specs.declared.run.ScriptFault.TheVariants.{Read as ReadFault};
 ghost use Rattle.nvme_live.specs.Taking.{IsCut, ReadsLine, TakesFront, TakesPart, kept};
 
 use crate::asking::LINE_LIMIT;
-use nvme_script::ScriptFault;
 use std::alloc::AllocError;
-use std::io::BufRead;
+use std::io;
+use std::io::{BufRead, ErrorKind};
 
 /// What a look at the input came to.
 #[derive(Clone, Copy, Debug, PartialEq, Eq)]
@@ -55,19 +54,20 @@ fn keep(line: &mut Vec<u8>, bytes: &[u8]) -> Result<(), AllocError>
 }
 
 /// Takes what the reader has at hand of a line.
-fn take_part<R: BufRead>(reader: &mut R, line: &mut Vec<u8>) -> Result<Part, ScriptFault>
+fn take_part<R: BufRead>(reader: &mut R, line: &mut Vec<u8>) -> io::Result<Part>
     requires { vec_len line.old ≤ 1048577 }
     ensures room { vec_len line.new ≤ 1048577 }
     ensures part { IfOk result (λ part. TakesPart part (R.remaining reader.old) (R.remaining reader.new) line.old.items
         line.new.items) }
-    ensures err { IfErr result (λ e. (e ≡ ReadFault) × TakesFront (R.remaining reader.old) (R.remaining reader.new)) }
+    ensures fault { IfErr result (λ _. TakesFront (R.remaining reader.old) (R.remaining reader.new)) }
 {
-    let Ok(available) = reader.fill_buf() else {
-        return Err(ScriptFault::Read);
+    let available = match reader.fill_buf() {
+        Ok(available) => available,
+        Err(fault) => return Err(fault),
     };
     let (part, len, taken) = cut(available);
     if keep(line, &available[..len]).is_err() {
-        return Err(ScriptFault::Read);
+        return Err(io::Error::from(ErrorKind::OutOfMemory));
     }
     reader.consume(taken);
     Ok(part)
@@ -78,12 +78,13 @@ fn take_part<R: BufRead>(reader: &mut R, line: &mut Vec<u8>) -> Result<Part, Scr
 ///
 /// # Errors
 ///
-/// `Read` where the reader fails, where the line has too many parts to count, or where no memory is found for it, which
-/// does not come where the line's vector has room for 1,048,577 bytes. What the line has in front is taken then.
-pub fn read_line<R: BufRead>(reader: &mut R, line: &mut Vec<u8>) -> Result<bool, ScriptFault>
+/// Those of the reader; `Other` where the line has too many parts to count; and `OutOfMemory` where no memory is found
+/// for it, which does not come where the line's vector has room for 1,048,577 bytes. What the line has in front is taken
+/// then.
+pub fn read_line<R: BufRead>(reader: &mut R, line: &mut Vec<u8>) -> io::Result<bool>
     ensures line { IfOk result (λ some. ReadsLine some (R.remaining reader.old) (R.remaining reader.new)
         line.new.items) }
-    ensures err { IfErr result (λ e. (e ≡ ReadFault) × TakesFront (R.remaining reader.old) (R.remaining reader.new)) }
+    ensures fault { IfErr result (λ _. TakesFront (R.remaining reader.old) (R.remaining reader.new)) }
 {
     line.clear();
     let mut some = false;
@@ -95,5 +96,5 @@ pub fn read_line<R: BufRead>(reader: &mut R, line: &mut Vec<u8>) -> Result<bool,
             Err(fault) => return Err(fault),
         }
     }
-    Err(ScriptFault::Read)
+    Err(io::Error::from(ErrorKind::Other))
 }

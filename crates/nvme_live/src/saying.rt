@@ -1,37 +1,41 @@
 //! Answers on their way to the writer: each is written whole and flushed.
 
-ghost use Rattle.std.specs.Prelude.{◌≡◌, OnOk, OnErr, IfSome};
-ghost use Rattle.std.specs.Io.KnownBytes.{Appends};
-ghost use Rattle.nvme_live.specs.Saying.{Breaks, with_feed};
+ghost use Rattle.std.specs.Prelude.{IfSome};
+ghost use Rattle.nvme_live.specs.Saying.{with_feed};
+ghost use Rattle.nvme_live.specs.Streams.{Says, SendsBy};
 
+use crate::streams::FlushedSink;
+use nvme_script::ScriptFault;
 use script_text::write_whole;
+use std::fmt;
 use std::fmt::Write as _;
-use std::io::{ErrorKind, Write};
-use std::{fmt, io};
 
 /// Writes bytes whole, and flushes them.
-pub fn send<W: Write>(writer: &mut W, bytes: &[u8]) -> io::Result<()>
-    ensures ok { OnOk result (Appends (W.contents writer.old) (W.contents writer.new) bytes.now) }
-    ensures err { OnErr result (Breaks (W.contents writer.old) (W.contents writer.new) bytes.now) }
+pub fn send<W: FlushedSink>(writer: &mut W, bytes: &[u8]) -> Result<(), ScriptFault>
+    ensures { Says (SendsBy W.step W.flushes W.contents) ⊥ result bytes.now writer.old writer.new }
 {
-    write_whole(writer, bytes)?;
-    writer.flush()
+    if write_whole(writer, bytes).is_err() {
+        return Err(ScriptFault::Write);
+    }
+    if writer.flush_all().is_err() {
+        return Err(ScriptFault::Write);
+    }
+    Ok(())
 }
 
-/// Writes a line, by way of a text with room for it, and flushes it.
-pub fn say<W: Write, D: fmt::Display + Drop>(
+/// Writes a line, by way of a text with room for it, and flushes it. Where the text has no room, nothing is written, and
+/// the fault is `NoMemory`.
+pub fn say<W: FlushedSink, D: fmt::Display + Drop>(
     writer: &mut W,
     text: &mut String,
     line: D,
-) -> io::Result<()>
-    ensures ok { OnOk result (IfSome (D.output line) (λ shown. Appends (W.contents writer.old)
-        (W.contents writer.new) (with_feed shown))) }
-    ensures err { OnErr result (IfSome (D.output line) (λ shown. Breaks (W.contents writer.old)
-        (W.contents writer.new) (with_feed shown))) }
+) -> Result<(), ScriptFault>
+    ensures { IfSome (D.output line) (λ shown.
+        Says (SendsBy W.step W.flushes W.contents) (Unit {0}) result (with_feed shown) writer.old writer.new) }
 {
     text.clear();
     if writeln!(text, "{line}").is_err() {
-        return Err(io::Error::from(ErrorKind::OutOfMemory));
+        return Err(ScriptFault::NoMemory);
     }
     send(writer, text.as_bytes())
 }

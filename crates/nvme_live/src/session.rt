@@ -1,38 +1,35 @@
 //! A session from the script that is run first to its end.
 
 ghost use Rattle.std.specs.Prelude.{◌≡◌, ◌<◌, ◌-◌, ◌^◌, ℕ, List, Option, IfErr, IfOk, None, Ok, OnErr, OnOk, Some, length};
-ghost use Rattle.std.specs.Io.KnownBytes.{Appends};
 ghost use Rattle.script_text.specs.Reading.{IsRead};
 ghost use Rattle.nvme_spec.specs.Configuration.{first_config_fault};
 ghost use Rattle.nvme_ns.specs.Configured.{configuration};
 ghost use Rattle.nvme_fleet.specs.FleetStates.{layers_of, opening_layers};
-ghost use Rattle.nvme_grammar.specs.declared.line.Line.TheVariants.{Start};
-ghost use Rattle.nvme_script.specs.Faults.{IsReady, IsScript, StopsAt, Transcribes, events_in, of_opening};
+ghost use Rattle.nvme_script.specs.Faults.{IsReady, IsScript, events_in, of_opening};
 ghost use Rattle.nvme_script.specs.ScriptCalls.{RanCalling};
+ghost use Rattle.nvme_script.specs.ScriptWrites.{StopsAtBy, TranscribesBy};
 ghost use Rattle.nvme_subsys.specs.OverMedium.{over};
-ghost use Rattle.nvme_live.specs.Asking.{asked};
-ghost use Rattle.nvme_live.specs.declared.asking.Asked.TheVariants.{Sets};
 ghost use Rattle.nvme_live.specs.AnswerCalls.{TurnOver};
-ghost use Rattle.nvme_live.specs.Conversations.{Ends, EndsBy, standing_over};
+ghost use Rattle.nvme_live.specs.Conversations.{Ends, EndsBy, FromStart, standing_over};
 ghost use Rattle.nvme_live.specs.Lives.{Fails, FailsBehindReading, FailsFirst, LivesOn, Rests, RunsTo, StartFails, StartRefused, surroundings};
 ghost use Rattle.nvme_live.specs.Saying.{with_feed};
 ghost use Rattle.nvme_live.specs.SetUps.{HasSetUpRoom, set_up_of};
 ghost use Rattle.nvme_live.specs.Standings.{Setting, refused_text, started_text};
-ghost use Rattle.nvme_live.specs.Taking.{TakesLine};
+ghost use Rattle.nvme_live.specs.Streams.{ReadsBy, SendsBy, Sent};
 
 use crate::conversation::{run_on, set_up};
 use crate::line_numbers::{LineNumbers, make_room, numbered_reason};
 use crate::names::fault_name;
 use crate::opening::{Opening, prepare};
 use crate::rooms::Rooms;
-use crate::saying::say;
+use crate::saying::{say, send};
+use crate::streams::{FlushedSink, LineSource};
 use nvme_fleet::{Fleet, NewFault};
 use nvme_medium::Medium;
 use nvme_script::{BrokenRule, ScriptFault, run_events};
 use nvme_spec::{Config, ConfigFault};
 use script_text::Source;
 use std::alloc::Global;
-use std::io::{BufRead, Write};
 use std::{fmt, io};
 
 /// The answer to `start`, which has this number, where the configuration is refused: the fault, and the line that is at
@@ -66,14 +63,14 @@ impl fmt::Display for RefusedText {
 }
 
 /// Answers `start`, whose fleet was refused for this reason; want of memory is not answered.
-fn refuse_start<W: Write>(
+fn refuse_start<W: FlushedSink>(
     number: u64,
     fault: ConfigFault,
     reason: Option<(u64, BrokenRule)>,
     text: &mut String,
     writer: &mut W,
 ) -> ScriptFault
-    ensures { StartRefused result number fault reason (W.contents writer.old) (W.contents writer.new) }
+    ensures { StartRefused (SendsBy W.step W.flushes W.contents) result number fault reason writer.old writer.new }
 {
     match fault {
         ConfigFault::NoMemory => ScriptFault::NoMemory,
@@ -87,13 +84,13 @@ fn refuse_start<W: Write>(
             },
         ) {
             Ok(()) => ScriptFault::Config(number as usize, fault),
-            Err(_) => ScriptFault::Write,
+            Err(unsaid) => unsaid,
         },
     }
 }
 
 /// Opens the fleet that was set up before a session's `start`, and answers that line.
-fn start<W: Write, M: Medium>(
+fn start<W: FlushedSink, M: Medium>(
     alloc: Global,
     number: u64,
     config: &Config,
@@ -106,15 +103,16 @@ fn start<W: Write, M: Medium>(
         ≡ opening_layers (configuration config.now) (M.device medium)) }
     ensures medium { IfOk result (λ fleet. fleet.medium ≡ medium) }
     ensures accepted { IfOk result (λ _. first_config_fault (configuration config.now) (M.size medium) ≡ None) }
-    ensures said { IfOk result (λ _. Appends (W.contents writer.old) (W.contents writer.new) (with_feed started_text)) }
-    ensures fault { IfErr result (λ e. StartFails e.0 (M.size medium) (M.device medium) number
-        (set_up_of config.now numbers.now) (W.contents writer.old) (W.contents writer.new)) }
+    ensures said { IfOk result (λ _.
+        SendsBy W.step W.flushes W.contents writer.old (Sent (with_feed started_text)) writer.new) }
+    ensures fault { IfErr result (λ e. StartFails (SendsBy W.step W.flushes W.contents) e.0 (M.size medium)
+        (M.device medium) number (set_up_of config.now numbers.now) writer.old writer.new) }
     ensures kept { IfErr result (λ e. e.1 ≡ medium) }
 {
     match Fleet::new(alloc, config, medium) {
-        Ok(fleet) => match say(writer, text, "started") {
+        Ok(fleet) => match send(writer, b"started\n") {
             Ok(()) => Ok(fleet),
-            Err(_) => Err((ScriptFault::Write, fleet.into_medium())),
+            Err(unsaid) => Err((unsaid, fleet.into_medium())),
         },
         Err(NewFault { fault, medium }) => {
             let reason = numbered_reason(config, numbers, medium.blocks(), fault);
@@ -125,7 +123,7 @@ fn start<W: Write, M: Medium>(
 }
 
 /// Answers `start`, which has this number and was just read, and the lines behind it.
-fn run_from_start<R: BufRead, W: Write, M: Medium>(
+fn run_from_start<R: LineSource, W: FlushedSink, M: Medium>(
     alloc: Global,
     number: u64,
     config: &Config,
@@ -139,16 +137,16 @@ fn run_from_start<R: BufRead, W: Write, M: Medium>(
     requires bytes_room { length rooms.old.bytes.items ≡ 2097153 }
     requires identifiers_room { length rooms.old.identifiers.items ≡ 2097153 }
     requires blocks_room { length rooms.old.blocks.items ≡ 2097153 }
-    ensures ok { IfOk result (λ after. (line : List ℕ) (between : Option (List ℕ))
-        → TakesLine between line (R.remaining reader.old) → asked line ≡ Sets Start
-        → Rests M.device (λ last. Ends (TurnOver M.step M.tells (M.size medium) (M.device medium)) number
-        (over (Setting (set_up_of config.now numbers.now)) medium) last between (R.remaining reader.new)
-        (W.contents writer.old) (W.contents writer.new)) (M.device medium) after) }
-    ensures fault { IfErr result (λ e. (line : List ℕ) (between : Option (List ℕ))
-        → TakesLine between line (R.remaining reader.old) → asked line ≡ Sets Start
-        → Rests M.device (λ last. EndsBy e.0 (TurnOver M.step M.tells (M.size medium) (M.device medium)) standing_over
-        number (over (Setting (set_up_of config.now numbers.now)) medium) last between (R.remaining reader.new)
-        (W.contents writer.old) (W.contents writer.new)) (M.device medium) e.1) }
+    ensures ok { IfOk result (λ after. FromStart (ReadsBy R.step R.remaining) reader.old (λ between.
+        Rests M.device (λ last. Ends (TurnOver M.step M.tells (M.size medium) (M.device medium))
+        (ReadsBy R.step R.remaining) (SendsBy W.step W.flushes W.contents) number
+        (over (Setting (set_up_of config.now numbers.now)) medium) last between reader.new writer.old writer.new)
+        (M.device medium) after)) }
+    ensures fault { IfErr result (λ e. FromStart (ReadsBy R.step R.remaining) reader.old (λ between.
+        Rests M.device (λ last. EndsBy e.0 (TurnOver M.step M.tells (M.size medium) (M.device medium))
+        (ReadsBy R.step R.remaining) (SendsBy W.step W.flushes W.contents) standing_over number
+        (over (Setting (set_up_of config.now numbers.now)) medium) last between reader.new writer.old writer.new)
+        (M.device medium) e.1)) }
 {
     let started = start(
         alloc,
@@ -166,7 +164,7 @@ fn run_from_start<R: BufRead, W: Write, M: Medium>(
 }
 
 /// A session whose script has no `start`: it has set nothing up.
-fn run_from_setting<R: BufRead, W: Write, M: Medium>(
+fn run_from_setting<R: LineSource, W: FlushedSink, M: Medium>(
     alloc: Global,
     opening: &mut Opening,
     reader: &mut R,
@@ -178,15 +176,15 @@ fn run_from_setting<R: BufRead, W: Write, M: Medium>(
     requires blocks_room { length opening.old.rooms.blocks.items ≡ 2097153 }
     requires room { HasSetUpRoom opening.old.script.config opening.old.numbers }
     ensures ok { IfOk result (λ after.
-        Rests M.device (λ last. Ends (TurnOver M.step M.tells (M.size medium) (M.device medium)) 1
+        Rests M.device (λ last. Ends (TurnOver M.step M.tells (M.size medium) (M.device medium))
+        (ReadsBy R.step R.remaining) (SendsBy W.step W.flushes W.contents) 1
         (over (Setting (set_up_of opening.old.script.config opening.old.numbers)) medium) last
-        (R.remaining reader.old) (R.remaining reader.new) (W.contents writer.old) (W.contents writer.new))
-        (M.device medium) after) }
+        reader.old reader.new writer.old writer.new) (M.device medium) after) }
     ensures fault { IfErr result (λ e.
-        Rests M.device (λ last. EndsBy e.0 (TurnOver M.step M.tells (M.size medium) (M.device medium)) standing_over 1
+        Rests M.device (λ last. EndsBy e.0 (TurnOver M.step M.tells (M.size medium) (M.device medium))
+        (ReadsBy R.step R.remaining) (SendsBy W.step W.flushes W.contents) standing_over 1
         (over (Setting (set_up_of opening.old.script.config opening.old.numbers)) medium) last
-        (R.remaining reader.old) (R.remaining reader.new) (W.contents writer.old) (W.contents writer.new))
-        (M.device medium) e.1) }
+        reader.old reader.new writer.old writer.new) (M.device medium) e.1) }
 {
     let set = set_up(
         &mut opening.script.config,
@@ -216,7 +214,7 @@ fn run_from_setting<R: BufRead, W: Write, M: Medium>(
 }
 
 /// Lets the events of the script happen that is run first.
-fn run_events_of<W: Write, M: Medium>(
+fn run_events_of<W: FlushedSink, M: Medium>(
     opening: &mut Opening,
     fleet: &mut Fleet<M>,
     writer: &mut W,
@@ -227,12 +225,12 @@ fn run_events_of<W: Write, M: Medium>(
     ensures bytes { length opening.new.rooms.bytes.items ≡ 2097153 }
     ensures identifiers { length opening.new.rooms.identifiers.items ≡ 2097153 }
     ensures blocks { length opening.new.rooms.blocks.items ≡ length opening.old.rooms.blocks.items }
-    ensures ok { OnOk result (Transcribes (RanCalling M.step M.tells)
+    ensures ok { OnOk result (TranscribesBy (RanCalling M.step M.tells) W.step W.contents
         (over (layers_of fleet.old.state) fleet.old.medium) (events_in opening.old.text.items)
-        (over (layers_of fleet.new.state) fleet.new.medium) (W.contents writer.old) (W.contents writer.new)) }
-    ensures err { OnErr result (StopsAt (RanCalling M.step M.tells)
+        (over (layers_of fleet.new.state) fleet.new.medium) writer.old writer.new) }
+    ensures err { OnErr result (StopsAtBy (RanCalling M.step M.tells) W.step W.contents
         (over (layers_of fleet.old.state) fleet.old.medium) (events_in opening.old.text.items)
-        (over (layers_of fleet.new.state) fleet.new.medium) (W.contents writer.old) (W.contents writer.new)) }
+        (over (layers_of fleet.new.state) fleet.new.medium) writer.old writer.new) }
 {
     run_events(
         opening.text.as_slice(),
@@ -246,7 +244,7 @@ fn run_events_of<W: Write, M: Medium>(
 }
 
 /// Opens the fleet of a script that has started, and runs its events.
-fn run_first<W: Write, M: Medium>(
+fn run_first<W: FlushedSink, M: Medium>(
     alloc: Global,
     start: usize,
     opening: &mut Opening,
@@ -261,17 +259,19 @@ fn run_first<W: Write, M: Medium>(
     ensures identifiers { length opening.new.rooms.identifiers.items ≡ 2097153 }
     ensures blocks { length opening.new.rooms.blocks.items ≡ length opening.old.rooms.blocks.items }
     ensures ok { IfOk result (λ fleet. IsScript opening.old.text.items (M.size medium)
-        × RunsTo M.step M.tells M.device opening.old.text.items medium (layers_of fleet.state) fleet.medium
-        (W.contents writer.old) (W.contents writer.new)) }
-    ensures fault { IfErr result (λ e. FailsFirst M.step M.tells M.device W.contents (M.size medium)
+        × RunsTo M.step M.tells M.device W.step W.flushes W.contents opening.old.text.items medium
+        (layers_of fleet.state) fleet.medium writer.old writer.new) }
+    ensures fault { IfErr result (λ e. FailsFirst M.step M.tells M.device W.step W.flushes W.contents (M.size medium)
         opening.old.text.items e.0 medium e.1 writer.old writer.new) }
 {
     let mut fleet = match Fleet::new(alloc, &opening.script.config, medium) {
         Ok(fleet) => fleet,
         Err(NewFault { fault, medium }) => return Err((refused_at(start, fault), medium)),
     };
-    let ran = run_events_of(opening, &mut fleet, writer);
-    if ran.is_err() || writer.flush().is_err() {
+    if run_events_of(opening, &mut fleet, writer).is_err() {
+        return Err((ScriptFault::Write, fleet.into_medium()));
+    }
+    if writer.flush_all().is_err() {
         return Err((ScriptFault::Write, fleet.into_medium()));
     }
     Ok(fleet)
@@ -290,9 +290,11 @@ fn refused_at(start: usize, fault: ConfigFault) -> ScriptFault
 /// A session: runs a script first, then answers each line of the input by one line, which is flushed before the next
 /// line is read.
 ///
-/// The lines that are read are those of the input, each whole, and no other; what is written is the script's transcript,
-/// and behind it the answer of each line, in their order: what `start` and the lines before it set up, what an event
-/// gives, or why a line is not carried out. A line that looks, and one that is not carried out, changes nothing.
+/// The lines that are read are those of the input, each by one call of it, and no other; what is written is the script's
+/// transcript, line by line and then flushed, and behind it the answer of each line, in their order: what `start` and
+/// the lines before it set up, what an event gives, or why a line is not carried out. A line that looks, and one that is
+/// not carried out, changes nothing. Each answer is written by writes of all that is left of it, and flushed once; behind
+/// a read, a write or a flush that fails no further call is made of input, output or medium.
 ///
 /// Of the medium exactly the calls of the events that happened and of the looks at blocks are made, in the order of their
 /// lines, and no other.
@@ -302,12 +304,12 @@ fn refused_at(start: usize, fault: ConfigFault) -> ScriptFault
 /// The faults of the script, which are those of `run_script`. Where it can't be read or is refused, nothing is read of
 /// the input, nothing is written, and no call is made of the medium; where its transcript can't be written, nothing is
 /// read of the input. Behind it: `Config` where the
-/// session's own `start` is refused, with the number of that line, and it is answered so; `Write` where the answer of a
-/// line could not be written and flushed, and what that line does was done; `Read` where the next line could not be read
-/// whole; `NoMemory` where no memory was found for the fleet, or for a line before `start` of whose kind there are more
-/// already than a configuration may have. The medium is as after the
-/// last event.
-pub fn run_live<S: Source, R: BufRead, W: Write, M: Medium>(
+/// session's own `start` is refused, with the number of that line, and it is answered so; `Write` where a write or the
+/// flush of an answer failed, and what its line does was done; `Read` where the reading of the next line failed, or where
+/// there were 18,446,744,073,709,551,614 lines, and no more can be counted; `NoMemory` where no memory was found for the
+/// fleet, for a line before `start` of whose kind there are more already than a configuration may have, or for the text
+/// of an answer, of which nothing was written then. The medium is as after the last event.
+pub fn run_live<S: Source, R: LineSource, W: FlushedSink, M: Medium>(
     alloc: Global,
     script: &mut S,
     reader: &mut R,
@@ -316,13 +318,13 @@ pub fn run_live<S: Source, R: BufRead, W: Write, M: Medium>(
 ) -> Result<M, (ScriptFault, M)>
     // The input was read to its end.
     ensures ok { IfOk result (λ after. (text : List ℕ) × IsRead S.step S.remaining script.old (Ok text) script.new
-        × LivesOn M.step M.tells M.device R.remaining W.contents (M.size medium) text
+        × LivesOn M.step M.tells M.device (ReadsBy R.step R.remaining) W.step W.flushes W.contents (M.size medium) text
         (surroundings reader.old writer.old medium) (surroundings reader.new writer.new after)) }
     // What each fault says of the script's reads, of the text that they gave, and of the session behind it. A script that
     // can't be read, or is refused, leaves the input, the output and the medium uncalled.
     ensures fault { IfErr result (λ e. FailsBehindReading S.step S.remaining script.old script.new e.0
         (surroundings reader.old writer.old medium) (surroundings reader.new writer.new e.1) (λ text.
-        Fails M.step M.tells M.device R.remaining W.contents (M.size medium) text e.0
+        Fails M.step M.tells M.device (ReadsBy R.step R.remaining) W.step W.flushes W.contents (M.size medium) text e.0
         (surroundings reader.old writer.old medium) (surroundings reader.new writer.new e.1))) }
 {
     let mut opening = match prepare(alloc, script) {

@@ -1,25 +1,24 @@
 //! One line of a session before its fleet is there.
 
-ghost use Rattle.std.specs.Prelude.{◌≡◌, MatchResult, Ok, Err};
+ghost use Rattle.std.specs.Prelude.{◌≡◌, IfErr, IfOk, Err, Ok};
 ghost use Rattle.nvme_grammar.specs.Lent.{line_by_value};
-ghost use Rattle.nvme_script.specs.declared.run.ScriptFault.TheVariants.{Write as WriteFault};
 ghost use Rattle.nvme_live.specs.Asking.{asked_by_value};
 ghost use Rattle.nvme_live.specs.declared.asking.Asked.TheVariants.{Sets};
 ghost use Rattle.nvme_live.specs.Settling.{Comes};
 ghost use Rattle.nvme_live.specs.SetUps.{HasSetUpRoom, set_up_of};
+ghost use Rattle.nvme_live.specs.Streams.{SendsBy};
 ghost use Rattle.nvme_live.specs.declared.setting.Settled.TheVariants.{Answered as IsAnswered};
 
 use crate::asking::Asked;
 use crate::line_numbers::{LineNumbers, set};
-use crate::saying::say;
+use crate::saying::{say, send};
+use crate::streams::FlushedSink;
 use crate::turn::refuse;
 use crate::views::shown_early;
 use live_text::Why;
 use nvme_grammar::Line;
 use nvme_script::ScriptFault;
 use nvme_spec::Config;
-use std::io;
-use std::io::Write;
 
 /// What a line before `start` came to.
 #[derive(Clone, Copy, Debug, PartialEq, Eq)]
@@ -30,41 +29,41 @@ pub enum Settled {
     Started,
 }
 
-/// What was answered, or the fault of the writer.
-fn answered(written: io::Result<()>) -> Result<Settled, ScriptFault>
-    ensures { MatchResult written (λ _. result ≡ Ok IsAnswered) (λ _. result ≡ Err WriteFault) }
+/// What was answered, or the fault for which it was not.
+fn answered(said: Result<(), ScriptFault>) -> Result<Settled, ScriptFault>
+    ensures ok { IfOk said (λ _. result ≡ Ok IsAnswered) }
+    ensures fault { IfErr said (λ fault. result ≡ Err fault) }
 {
-    match written {
+    match said {
         Ok(()) => Ok(Settled::Answered),
-        Err(_) => Err(ScriptFault::Write),
+        Err(fault) => Err(fault),
     }
 }
 
 /// Takes a line of the grammar, and answers it unless it is `start`.
-fn take<W: Write>(
+fn take<W: FlushedSink>(
     number: u64,
     line: Line<'_>,
     config: &mut Config,
     numbers: &mut LineNumbers,
-    text: &mut String,
     writer: &mut W,
 ) -> Result<Settled, ScriptFault>
     requires { HasSetUpRoom config.old numbers.old }
     ensures room { HasSetUpRoom config.new numbers.new }
-    ensures comes { Comes result number (set_up_of config.old numbers.old) (Sets (line_by_value line.entry))
-        (set_up_of config.new numbers.new) (W.contents writer.old) (W.contents writer.new) }
+    ensures comes { Comes (SendsBy W.step W.flushes W.contents) result number (set_up_of config.old numbers.old)
+        (Sets (line_by_value line.entry)) (set_up_of config.new numbers.new) writer.old writer.new }
 {
     match line {
         Line::Start => Ok(Settled::Started),
         line => match set(number, config, numbers, line) {
-            Ok(()) => answered(say(writer, text, "ok")),
+            Ok(()) => answered(send(writer, b"ok\n")),
             Err(_) => Err(ScriptFault::NoMemory),
         },
     }
 }
 
 /// Answers a line before the fleet is there, unless it is `start`.
-pub fn settle<W: Write>(
+pub fn settle<W: FlushedSink>(
     number: u64,
     asked: Asked<'_>,
     config: &mut Config,
@@ -74,13 +73,13 @@ pub fn settle<W: Write>(
 ) -> Result<Settled, ScriptFault>
     requires { HasSetUpRoom config.old numbers.old }
     ensures room { HasSetUpRoom config.new numbers.new }
-    ensures comes { Comes result number (set_up_of config.old numbers.old) (asked_by_value asked.entry) (set_up_of config.new numbers.new)
-        (W.contents writer.old) (W.contents writer.new) }
+    ensures comes { Comes (SendsBy W.step W.flushes W.contents) result number (set_up_of config.old numbers.old)
+        (asked_by_value asked.entry) (set_up_of config.new numbers.new) writer.old writer.new }
 {
     match asked {
-        Asked::Sets(line) => take(number, line, config, numbers, text, writer),
+        Asked::Sets(line) => take(number, line, config, numbers, writer),
         Asked::Fails(why) => answered(refuse(number, why, text, writer)),
-        Asked::Nothing => answered(say(writer, text, "ok")),
+        Asked::Nothing => answered(send(writer, b"ok\n")),
         Asked::Looks(looking) => answered(say(writer, text, shown_early(number, looking))),
         Asked::Does(_) => answered(refuse(number, Why::BehindStart, text, writer)),
     }

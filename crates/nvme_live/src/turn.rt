@@ -1,51 +1,52 @@
 //! One line of a session, once its fleet is there.
 
-ghost use Rattle.std.specs.Prelude.{◌≡◌, OnErr, OnOk, length};
-ghost use Rattle.std.specs.Io.KnownBytes.{Appends};
+ghost use Rattle.std.specs.Prelude.{◌≡◌, length};
 ghost use Rattle.live_text.specs.Faults.{refusal, why_by_value};
 ghost use Rattle.nvme_grammar.specs.Lent.{event_by_value};
 ghost use Rattle.nvme_fleet.specs.FleetStates.{layers_of};
 ghost use Rattle.nvme_live.specs.Asking.{asked_by_value};
 ghost use Rattle.nvme_subsys.specs.OverMedium.{over};
-ghost use Rattle.nvme_live.specs.Answers.{Sends, place_of};
+ghost use Rattle.nvme_live.specs.Answers.{Answered, place_of};
 ghost use Rattle.nvme_live.specs.AnswerCalls.{AnswersLineBy, HappensBy, ShowsBlocksBy, ShowsBy};
-ghost use Rattle.nvme_live.specs.Saying.{Breaks, with_feed};
+ghost use Rattle.nvme_live.specs.Saying.{with_feed};
+ghost use Rattle.nvme_live.specs.Standings.{MayLackRoom, Running};
+ghost use Rattle.nvme_live.specs.Streams.{Says, SendsBy};
 
 use crate::asking::Asked;
-use crate::saying::say;
+use crate::saying::{say, send};
+use crate::streams::FlushedSink;
 use crate::views::{BlocksText, shown_of};
 use live_text::{Looking, Refusal, Why};
 use nvme_fleet::{Fleet, FleetEvent};
 use nvme_medium::Medium;
+use nvme_script::ScriptFault;
 use nvme_spec::Marks;
 use nvme_transcript::TranscriptLine;
-use std::io;
-use std::io::Write;
 
 /// Answers a line that is not carried out.
 #[tactic(auto, using(live_text::proofs::ByValue::refusal_by_value))]
-pub fn refuse<W: Write>(
+pub fn refuse<W: FlushedSink>(
     number: u64,
     why: Why<'_>,
     text: &mut String,
     writer: &mut W,
-) -> io::Result<()>
-    ensures ok { OnOk result (Appends (W.contents writer.old) (W.contents writer.new) (with_feed (refusal number (why_by_value why.entry)))) }
-    ensures err { OnErr result (Breaks (W.contents writer.old) (W.contents writer.new) (with_feed (refusal number (why_by_value why.entry)))) }
+) -> Result<(), ScriptFault>
+    ensures { Says (SendsBy W.step W.flushes W.contents) (Unit {0}) result
+        (with_feed (refusal number (why_by_value why.entry))) writer.old writer.new }
 {
     say(writer, text, Refusal { number, why })
 }
 
 /// Makes an event happen, and writes its line.
-fn apply<W: Write, M: Medium>(
+fn apply<W: FlushedSink, M: Medium>(
     event: FleetEvent<'_>,
     fleet: &mut Fleet<M>,
     text: &mut String,
     writer: &mut W,
-) -> io::Result<()>
-    ensures { Sends result (λ answer. HappensBy M.step M.tells (over (layers_of fleet.old.state) fleet.old.medium)
-        (event_by_value event.entry) answer (over (layers_of fleet.new.state) fleet.new.medium))
-        (W.contents writer.old) (W.contents writer.new) }
+) -> Result<(), ScriptFault>
+    ensures { Answered (SendsBy W.step W.flushes W.contents) (Unit {0}) result (λ answer.
+        HappensBy M.step M.tells (over (layers_of fleet.old.state) fleet.old.medium) (event_by_value event.entry) answer
+        (over (layers_of fleet.new.state) fleet.new.medium)) writer.old writer.new }
 {
     let mut marks = Marks::none();
     let seen = fleet.apply_marking(event, &mut marks);
@@ -59,19 +60,19 @@ fn apply<W: Write, M: Medium>(
 }
 
 /// Answers a line that looks at blocks of a namespace.
-fn look_at_blocks<W: Write, M: Medium>(
+fn look_at_blocks<W: FlushedSink, M: Medium>(
     number: u64,
     place: (u32, u64, u32),
     fleet: &mut Fleet<M>,
     blocks: &mut [u8],
     text: &mut String,
     writer: &mut W,
-) -> io::Result<()>
+) -> Result<(), ScriptFault>
     requires { length blocks.old ≡ 2097153 }
-    ensures { Sends result (λ answer.
+    ensures { Answered (SendsBy W.step W.flushes W.contents) (Unit {0}) result (λ answer.
         ShowsBlocksBy M.step (place_of place.0 place.1 place.2 (layers_of fleet.old.state)) M.tells number place.0
         place.1 place.2 (over (layers_of fleet.old.state) fleet.old.medium) answer
-        (over (layers_of fleet.new.state) fleet.new.medium)) (W.contents writer.old) (W.contents writer.new) }
+        (over (layers_of fleet.new.state) fleet.new.medium)) writer.old writer.new }
 {
     let (nsid, slba, count) = place;
     if count == 0 || count > 256 {
@@ -95,18 +96,18 @@ fn look_at_blocks<W: Write, M: Medium>(
 }
 
 /// Answers a looking line.
-fn look<W: Write, M: Medium>(
+fn look<W: FlushedSink, M: Medium>(
     number: u64,
     looking: Looking,
     fleet: &mut Fleet<M>,
     blocks: &mut [u8],
     text: &mut String,
     writer: &mut W,
-) -> io::Result<()>
+) -> Result<(), ScriptFault>
     requires { length blocks.old ≡ 2097153 }
-    ensures { Sends result (λ answer. ShowsBy M.step M.tells number looking
+    ensures { Answered (SendsBy W.step W.flushes W.contents) (Unit {0}) result (λ answer. ShowsBy M.step M.tells number looking
         (over (layers_of fleet.old.state) fleet.old.medium) answer (over (layers_of fleet.new.state) fleet.new.medium))
-        (W.contents writer.old) (W.contents writer.new) }
+        writer.old writer.new }
 {
     match looking {
         Looking::Blocks { nsid, slba, count } => {
@@ -117,22 +118,24 @@ fn look<W: Write, M: Medium>(
 }
 
 /// Answers a line once the fleet is there.
-pub fn answer<W: Write, M: Medium>(
+pub fn answer<W: FlushedSink, M: Medium>(
     number: u64,
     asked: Asked<'_>,
     fleet: &mut Fleet<M>,
     blocks: &mut [u8],
     text: &mut String,
     writer: &mut W,
-) -> io::Result<()>
+) -> Result<(), ScriptFault>
     requires { length blocks.old ≡ 2097153 }
-    ensures { Sends result (λ answer. AnswersLineBy M.step M.tells number (asked_by_value asked.entry)
+    ensures { Answered (SendsBy W.step W.flushes W.contents)
+        (MayLackRoom (Running (layers_of fleet.old.state)) (asked_by_value asked.entry)) result (λ answer.
+        AnswersLineBy M.step M.tells number (asked_by_value asked.entry)
         (over (layers_of fleet.old.state) fleet.old.medium) answer (over (layers_of fleet.new.state) fleet.new.medium))
-        (W.contents writer.old) (W.contents writer.new) }
+        writer.old writer.new }
 {
     match asked {
         Asked::Fails(why) => refuse(number, why, text, writer),
-        Asked::Nothing => say(writer, text, "ok"),
+        Asked::Nothing => send(writer, b"ok\n"),
         Asked::Looks(looking) => look(number, looking, fleet, blocks, text, writer),
         Asked::Sets(_) => refuse(number, Why::BeforeStart, text, writer),
         Asked::Does(event) => apply(event, fleet, text, writer),

@@ -1,12 +1,11 @@
-use Rattle.std.proofs.Common.{Ok, length, ap, subst, ◌∙◌, rules, arith}
+use Rattle.std.proofs.Common.{Ok, length, inl, inr, ap, subst, ◌∙◌, rules, arith}
 use Rattle.nvme_live.specs.SetUps.{set_up_of}
 use Rattle.nvme_live.specs.Asking.{asked, asked_by_value}
 use Rattle.nvme_live.specs.Settling.{Comes}
-use Rattle.nvme_live.specs.Conversations.{alone}
 use Rattle.nvme_live.specs.Standings.{Setting, TurnOf}
-use Rattle.nvme_live.specs.Taking.{ReadsLine}
+use Rattle.nvme_live.specs.Streams.{GivesLine, ReadsBy, SendsBy}
 use Rattle.nvme_live.proofs.Sessions.{conversed-none}
-use Rattle.nvme_live.proofs.Conversing.{came-answered, came-started, came-to-fault, front-none, not-read, not-read-by, no-more, short-read}
+use Rattle.nvme_live.proofs.Conversing.{came-answered, came-started, came-to-fault, no-more, not-counted, not-read, short-read}
 use Rattle.nvme_live.proofs.conversation.set_up.Goals as goal
 
 pub loop-number-init : goal.loop-number-init
@@ -15,70 +14,66 @@ loop-number-init g c = record {
   identifiers = c.requires.identifiers_room;
   blocks = c.requires.blocks_room;
   room = c.requires.room;
-  conversed = λ tells blocks d. conversed-none (TurnOf tells blocks d) 1 (Setting (set_up_of c.args.config.now c.args.numbers.now)) (g.R.Read.remaining c.args.reader.now) (g.W.Write.contents c.args.writer.now);
+  conversed = λ tells blocks d. conversed-none (TurnOf tells blocks d) (ReadsBy g.R.LineSource.step g.R.LineSource.remaining) (SendsBy g.W.Sink.step g.W.FlushedSink.flushes g.W.Sink.contents) 1 (Setting (set_up_of c.args.config.now c.args.numbers.now)) c.args.reader.now c.args.writer.now;
 }
 
 pub returns-in-Err : goal.returns-in-Err
 returns-in-Err g c = λ tells blocks d.
-    not-read-by (TurnOf tells blocks d) alone c.in-Err.fault (Setting (set_up_of c.args.config.now c.args.numbers.now)) (Setting (set_up_of c.loop-number.config c.loop-number.numbers)) 1 (g.R.Read.remaining c.args.reader.now) (g.R.Read.remaining c.read_line.new.reader)
-    (g.W.Write.contents c.args.writer.now) (g.W.Write.contents c.loop-number.writer) c.in-Err.ensures.err.0
-    (not-read (TurnOf tells blocks d) (Setting (set_up_of c.args.config.now c.args.numbers.now)) (Setting (set_up_of c.loop-number.config c.loop-number.numbers)) 1 c.loop-number.number (g.R.Read.remaining c.args.reader.now) (g.R.Read.remaining c.loop-number.reader)
-    (g.W.Write.contents c.args.writer.now) (g.W.Write.contents c.loop-number.writer) (c.loop-number.invariant.conversed tells blocks d) (g.R.Read.remaining c.read_line.new.reader) c.in-Err.ensures.err.1)
+    inl (not-read (TurnOf tells blocks d) (ReadsBy g.R.LineSource.step g.R.LineSource.remaining) (SendsBy g.W.Sink.step g.W.FlushedSink.flushes g.W.Sink.contents) (Setting (set_up_of c.args.config.now c.args.numbers.now)) (Setting (set_up_of c.loop-number.config c.loop-number.numbers)) 1 c.loop-number.number c.args.reader.now c.loop-number.reader c.args.writer.now c.loop-number.writer (c.loop-number.invariant.conversed tells blocks d)
+    c.take_line.new.self c.in-Err.ensures.fault)
 
 pub returns : goal.returns
 returns g c = λ tells blocks d.
-    not-read (TurnOf tells blocks d) (Setting (set_up_of c.args.config.now c.args.numbers.now)) (Setting (set_up_of c.loop-number.config c.loop-number.numbers)) 1 c.loop-number.number (g.R.Read.remaining c.args.reader.now) (g.R.Read.remaining c.loop-number.reader)
-    (g.W.Write.contents c.args.writer.now) (g.W.Write.contents c.loop-number.writer) (c.loop-number.invariant.conversed tells blocks d) (g.R.Read.remaining c.loop-number.reader) (front-none (g.R.Read.remaining c.loop-number.reader))
+    inr (not-counted (TurnOf tells blocks d) (ReadsBy g.R.LineSource.step g.R.LineSource.remaining) (SendsBy g.W.Sink.step g.W.FlushedSink.flushes g.W.Sink.contents) (Setting (set_up_of c.args.config.now c.args.numbers.now)) (Setting (set_up_of c.loop-number.config c.loop-number.numbers)) 1 c.loop-number.number c.args.reader.now c.loop-number.reader c.args.writer.now c.loop-number.writer (c.loop-number.invariant.conversed tells blocks d)
+    (omega (arith, c.loop-number-test.false)))
 
 pub returns-in-Ok-false : goal.returns-in-Ok-false
 returns-in-Ok-false g c = λ tells blocks d.
-    no-more (TurnOf tells blocks d) (Setting (set_up_of c.args.config.now c.args.numbers.now)) (Setting (set_up_of c.loop-number.config c.loop-number.numbers)) 1 c.loop-number.number (g.R.Read.remaining c.args.reader.now) (g.R.Read.remaining c.loop-number.reader)
-    (g.W.Write.contents c.args.writer.now) (g.W.Write.contents c.loop-number.writer) (c.loop-number.invariant.conversed tells blocks d) (g.R.Read.remaining c.read_line.new.reader) c.read_line.new.line.items
-    (subst (λ t. ReadsLine t (g.R.Read.remaining c.loop-number.reader) (g.R.Read.remaining c.read_line.new.reader) c.read_line.new.line.items) c.in-Ok-false.field-0-test c.in-Ok-false.ensures.line)
+    no-more (TurnOf tells blocks d) (ReadsBy g.R.LineSource.step g.R.LineSource.remaining) (SendsBy g.W.Sink.step g.W.FlushedSink.flushes g.W.Sink.contents) (Setting (set_up_of c.args.config.now c.args.numbers.now)) (Setting (set_up_of c.loop-number.config c.loop-number.numbers)) 1 c.loop-number.number c.args.reader.now c.loop-number.reader c.args.writer.now c.loop-number.writer (c.loop-number.invariant.conversed tells blocks d)
+    c.take_line.new.self c.take_line.new.line.items
+    (subst (λ t. GivesLine (ReadsBy g.R.LineSource.step g.R.LineSource.remaining) t c.loop-number.reader c.take_line.new.self c.take_line.new.line.items) c.in-Ok-false.field-0-test c.in-Ok-false.ensures.line)
 
 pub asked_of-asked-requires-clause-bytes_room : goal.asked_of-asked-requires-clause-bytes_room
 asked_of-asked-requires-clause-bytes_room g c =
-    let reads = subst (λ t. ReadsLine t (g.R.Read.remaining c.loop-number.reader) (g.R.Read.remaining c.read_line.new.reader) c.read_line.new.line.items) c.in-Ok-true.field-0-test c.in-Ok-true.ensures.line in
-    let short = short-read (g.R.Read.remaining c.loop-number.reader) (g.R.Read.remaining c.read_line.new.reader) c.read_line.new.line.items reads in
+    let reads = subst (λ t. GivesLine (ReadsBy g.R.LineSource.step g.R.LineSource.remaining) t c.loop-number.reader c.take_line.new.self c.take_line.new.line.items) c.in-Ok-true.field-0-test c.in-Ok-true.ensures.line in
+    let short = short-read (ReadsBy g.R.LineSource.step g.R.LineSource.remaining) c.loop-number.reader c.take_line.new.self c.take_line.new.line.items reads in
     let same = ap length c.as_slice.ensures.value in
     (omega (arith, c.loop-number.invariant.bytes), omega (arith, c.loop-number.invariant.bytes, short, same))
 
 pub asked_of-asked-requires-clause-identifiers_room : goal.asked_of-asked-requires-clause-identifiers_room
 asked_of-asked-requires-clause-identifiers_room g c =
-    let reads = subst (λ t. ReadsLine t (g.R.Read.remaining c.loop-number.reader) (g.R.Read.remaining c.read_line.new.reader) c.read_line.new.line.items) c.in-Ok-true.field-0-test c.in-Ok-true.ensures.line in
-    let short = short-read (g.R.Read.remaining c.loop-number.reader) (g.R.Read.remaining c.read_line.new.reader) c.read_line.new.line.items reads in
+    let reads = subst (λ t. GivesLine (ReadsBy g.R.LineSource.step g.R.LineSource.remaining) t c.loop-number.reader c.take_line.new.self c.take_line.new.line.items) c.in-Ok-true.field-0-test c.in-Ok-true.ensures.line in
+    let short = short-read (ReadsBy g.R.LineSource.step g.R.LineSource.remaining) c.loop-number.reader c.take_line.new.self c.take_line.new.line.items reads in
     let same = ap length c.as_slice.ensures.value in
     omega (arith, c.loop-number.invariant.identifiers, short, same)
 
 pub asked_of-asked-requires-clause-spare_room : goal.asked_of-asked-requires-clause-spare_room
 asked_of-asked-requires-clause-spare_room g c =
-    let reads = subst (λ t. ReadsLine t (g.R.Read.remaining c.loop-number.reader) (g.R.Read.remaining c.read_line.new.reader) c.read_line.new.line.items) c.in-Ok-true.field-0-test c.in-Ok-true.ensures.line in
-    let short = short-read (g.R.Read.remaining c.loop-number.reader) (g.R.Read.remaining c.read_line.new.reader) c.read_line.new.line.items reads in
+    let reads = subst (λ t. GivesLine (ReadsBy g.R.LineSource.step g.R.LineSource.remaining) t c.loop-number.reader c.take_line.new.self c.take_line.new.line.items) c.in-Ok-true.field-0-test c.in-Ok-true.ensures.line in
+    let short = short-read (ReadsBy g.R.LineSource.step g.R.LineSource.remaining) c.loop-number.reader c.take_line.new.self c.take_line.new.line.items reads in
     let same = ap length c.as_slice.ensures.value in
     (omega (arith, c.loop-number.invariant.blocks), omega (arith, c.loop-number.invariant.blocks, short, same))
 
 pub returns-in-Ok-Started : goal.returns-in-Ok-Started
 returns-in-Ok-Started g c = λ tells blocks d.
-    let reads = subst (λ t. ReadsLine t (g.R.Read.remaining c.loop-number.reader) (g.R.Read.remaining c.read_line.new.reader) c.read_line.new.line.items) c.in-Ok-true.field-0-test c.in-Ok-true.ensures.line in
-    let comes = subst (λ r. Comes r c.loop-number.number (set_up_of c.loop-number.config c.loop-number.numbers) (asked_by_value c.asked_of-asked.result) (set_up_of c.settle.new.config c.settle.new.numbers) (g.W.Write.contents c.loop-number.writer) (g.W.Write.contents c.settle.new.writer))
+    let reads = subst (λ t. GivesLine (ReadsBy g.R.LineSource.step g.R.LineSource.remaining) t c.loop-number.reader c.take_line.new.self c.take_line.new.line.items) c.in-Ok-true.field-0-test c.in-Ok-true.ensures.line in
+    let comes = subst (λ r. Comes (SendsBy g.W.Sink.step g.W.FlushedSink.flushes g.W.Sink.contents) r c.loop-number.number (set_up_of c.loop-number.config c.loop-number.numbers) (asked_by_value c.asked_of-asked.result) (set_up_of c.settle.new.config c.settle.new.numbers) c.loop-number.writer c.settle.new.writer)
     (c.in-Ok-Started.is ∙ ap Ok c.in-Ok-Started.field-0-is) c.settle.ensures.comes in
-    came-started tells blocks d c.loop-number.number (set_up_of c.args.config.now c.args.numbers.now) (set_up_of c.loop-number.config c.loop-number.numbers) (set_up_of c.settle.new.config c.settle.new.numbers) (g.R.Read.remaining c.args.reader.now) (g.R.Read.remaining c.loop-number.reader)
-    (g.W.Write.contents c.args.writer.now) (g.W.Write.contents c.loop-number.writer) (c.loop-number.invariant.conversed tells blocks d) (g.R.Read.remaining c.read_line.new.reader) (g.W.Write.contents c.settle.new.writer)
-    c.read_line.new.line.items (asked_by_value c.asked_of-asked.result) reads (c.asked_of-asked.ensures ∙ ap asked c.as_slice.ensures.value) comes (omega (arith, c.loop-number-test.true))
+    came-started (ReadsBy g.R.LineSource.step g.R.LineSource.remaining) (SendsBy g.W.Sink.step g.W.FlushedSink.flushes g.W.Sink.contents) tells blocks d c.loop-number.number (set_up_of c.args.config.now c.args.numbers.now) (set_up_of c.loop-number.config c.loop-number.numbers) (set_up_of c.settle.new.config c.settle.new.numbers) c.args.reader.now c.loop-number.reader c.args.writer.now c.loop-number.writer (c.loop-number.invariant.conversed tells blocks d)
+    c.take_line.new.self c.settle.new.writer c.take_line.new.line.items (asked_by_value c.asked_of-asked.result) reads (c.asked_of-asked.ensures ∙ ap asked c.as_slice.ensures.value) comes (omega (arith, c.loop-number-test.true))
 
 pub returns-in-Err-settle : goal.returns-in-Err-settle
 returns-in-Err-settle g c = λ tells blocks d.
-    let reads = subst (λ t. ReadsLine t (g.R.Read.remaining c.loop-number.reader) (g.R.Read.remaining c.read_line.new.reader) c.read_line.new.line.items) c.in-Ok-true.field-0-test c.in-Ok-true.ensures.line in
-    let comes = subst (λ r. Comes r c.loop-number.number (set_up_of c.loop-number.config c.loop-number.numbers) (asked_by_value c.asked_of-asked.result) (set_up_of c.settle.new.config c.settle.new.numbers) (g.W.Write.contents c.loop-number.writer) (g.W.Write.contents c.settle.new.writer))
+    let reads = subst (λ t. GivesLine (ReadsBy g.R.LineSource.step g.R.LineSource.remaining) t c.loop-number.reader c.take_line.new.self c.take_line.new.line.items) c.in-Ok-true.field-0-test c.in-Ok-true.ensures.line in
+    let comes = subst (λ r. Comes (SendsBy g.W.Sink.step g.W.FlushedSink.flushes g.W.Sink.contents) r c.loop-number.number (set_up_of c.loop-number.config c.loop-number.numbers) (asked_by_value c.asked_of-asked.result) (set_up_of c.settle.new.config c.settle.new.numbers) c.loop-number.writer c.settle.new.writer)
     c.in-Err-settle.is c.settle.ensures.comes in
-    came-to-fault tells blocks d c.loop-number.number (set_up_of c.args.config.now c.args.numbers.now) (set_up_of c.loop-number.config c.loop-number.numbers) (set_up_of c.settle.new.config c.settle.new.numbers) (g.R.Read.remaining c.args.reader.now) (g.R.Read.remaining c.loop-number.reader)
-    (g.W.Write.contents c.args.writer.now) (g.W.Write.contents c.loop-number.writer) (c.loop-number.invariant.conversed tells blocks d) (g.R.Read.remaining c.read_line.new.reader) (g.W.Write.contents c.settle.new.writer)
-    c.read_line.new.line.items (asked_by_value c.asked_of-asked.result) reads (c.asked_of-asked.ensures ∙ ap asked c.as_slice.ensures.value) c.in-Err-settle.fault comes
+    came-to-fault (ReadsBy g.R.LineSource.step g.R.LineSource.remaining) (SendsBy g.W.Sink.step g.W.FlushedSink.flushes g.W.Sink.contents) tells blocks d c.loop-number.number (set_up_of c.args.config.now c.args.numbers.now) (set_up_of c.loop-number.config c.loop-number.numbers) (set_up_of c.settle.new.config c.settle.new.numbers) c.args.reader.now c.loop-number.reader c.args.writer.now c.loop-number.writer (c.loop-number.invariant.conversed tells blocks d)
+    c.take_line.new.self c.settle.new.writer c.take_line.new.line.items (asked_by_value c.asked_of-asked.result) reads (c.asked_of-asked.ensures ∙ ap asked c.as_slice.ensures.value) c.in-Err-settle.fault comes
 
 pub loop-number-preserved : goal.loop-number-preserved
 loop-number-preserved g c =
-    let reads = subst (λ t. ReadsLine t (g.R.Read.remaining c.loop-number.reader) (g.R.Read.remaining c.read_line.new.reader) c.read_line.new.line.items) c.in-Ok-true.field-0-test c.in-Ok-true.ensures.line in
-    let comes = subst (λ r. Comes r c.loop-number.number (set_up_of c.loop-number.config c.loop-number.numbers) (asked_by_value c.asked_of-asked.result) (set_up_of c.settle.new.config c.settle.new.numbers) (g.W.Write.contents c.loop-number.writer) (g.W.Write.contents c.settle.new.writer))
+    let reads = subst (λ t. GivesLine (ReadsBy g.R.LineSource.step g.R.LineSource.remaining) t c.loop-number.reader c.take_line.new.self c.take_line.new.line.items) c.in-Ok-true.field-0-test c.in-Ok-true.ensures.line in
+    let comes = subst (λ r. Comes (SendsBy g.W.Sink.step g.W.FlushedSink.flushes g.W.Sink.contents) r c.loop-number.number (set_up_of c.loop-number.config c.loop-number.numbers) (asked_by_value c.asked_of-asked.result) (set_up_of c.settle.new.config c.settle.new.numbers) c.loop-number.writer c.settle.new.writer)
     (c.in-Ok-Answered.is ∙ ap Ok c.in-Ok-Answered.field-0-is) c.settle.ensures.comes in
     record {
       bytes = search rules;
@@ -86,7 +81,6 @@ loop-number-preserved g c =
       blocks = search rules;
       room = c.settle.ensures.room;
       conversed = λ tells blocks d.
-          came-answered tells blocks d c.loop-number.number (set_up_of c.args.config.now c.args.numbers.now) (set_up_of c.loop-number.config c.loop-number.numbers) (set_up_of c.settle.new.config c.settle.new.numbers) (g.R.Read.remaining c.args.reader.now) (g.R.Read.remaining c.loop-number.reader)
-          (g.W.Write.contents c.args.writer.now) (g.W.Write.contents c.loop-number.writer) (c.loop-number.invariant.conversed tells blocks d) (g.R.Read.remaining c.read_line.new.reader) (g.W.Write.contents c.settle.new.writer)
-          c.read_line.new.line.items (asked_by_value c.asked_of-asked.result) reads (c.asked_of-asked.ensures ∙ ap asked c.as_slice.ensures.value) comes;
+          came-answered (ReadsBy g.R.LineSource.step g.R.LineSource.remaining) (SendsBy g.W.Sink.step g.W.FlushedSink.flushes g.W.Sink.contents) tells blocks d c.loop-number.number (set_up_of c.args.config.now c.args.numbers.now) (set_up_of c.loop-number.config c.loop-number.numbers) (set_up_of c.settle.new.config c.settle.new.numbers) c.args.reader.now c.loop-number.reader c.args.writer.now c.loop-number.writer (c.loop-number.invariant.conversed tells blocks d)
+          c.take_line.new.self c.settle.new.writer c.take_line.new.line.items (asked_by_value c.asked_of-asked.result) reads (c.asked_of-asked.ensures ∙ ap asked c.as_slice.ensures.value) comes;
     }

@@ -3,6 +3,7 @@ use Rattle.nvme_spec.specs.Blocks.{Device}
 use Rattle.nvme_live.specs.SetUps.{HasSetUpRoom, set_up_of}
 use Rattle.nvme_live.specs.Conversations.{Converses}
 use Rattle.nvme_live.specs.Standings.{Setting, TurnOf}
+use Rattle.nvme_live.specs.Streams.{ReadsBy, SendsBy}
 use Rattle.nvme_live.proofs.conversation.set_up.Given as goal
 
 abbrev pub invariant-loop-number : goal.invariant-loop-number
@@ -11,6 +12,6 @@ invariant-loop-number g l = record {
   identifiers : length l.identifiers ≡ 2097153;
   blocks : length l.blocks ≡ 2097153;
   room : HasSetUpRoom l.config l.numbers;
-  conversed : (tells : Bool) (blocks : ℕ) (d : Device) → Converses (TurnOf tells blocks d) 1 (Setting (set_up_of l.fn.config l.fn.numbers)) l.number (Setting (set_up_of l.config l.numbers))
-      (g.R.Read.remaining l.fn.reader) (g.R.Read.remaining l.reader) (g.W.Write.contents l.fn.writer) (g.W.Write.contents l.writer);
+  conversed : (tells : Bool) (blocks : ℕ) (d : Device) → Converses (TurnOf tells blocks d) (ReadsBy g.R.LineSource.step g.R.LineSource.remaining) (SendsBy g.W.Sink.step g.W.FlushedSink.flushes g.W.Sink.contents) 1
+      (Setting (set_up_of l.fn.config l.fn.numbers)) l.number (Setting (set_up_of l.config l.numbers)) l.fn.reader l.reader l.fn.writer l.writer;
 }

@@ -9,9 +9,9 @@ loop-init g c = record {
   so_far = so-far-none (g.R.Read.remaining c.args.reader.now) c.clear.new.self.items c.clear.ensures.items;
 }
 
-pub returns-in-Err-clause-err : goal.returns-in-Err-clause-err
-returns-in-Err-clause-err g c =
-    (c.in-Err.ensures.err.0, front-so-far (g.R.Read.remaining c.args.reader.now) (g.R.Read.remaining c.loop.reader) (g.R.Read.remaining c.take_part.new.reader) c.loop.some c.loop.line.items [] c.loop.invariant.so_far c.in-Err.ensures.err.1)
+pub returns-in-Err-clause-fault : goal.returns-in-Err-clause-fault
+returns-in-Err-clause-fault g c =
+    front-so-far (g.R.Read.remaining c.args.reader.now) (g.R.Read.remaining c.loop.reader) (g.R.Read.remaining c.take_part.new.reader) c.loop.some c.loop.line.items [] c.loop.invariant.so_far c.in-Err.ensures.fault
 
 pub returns-in-Ok-Last-clause-line : goal.returns-in-Ok-Last-clause-line
 returns-in-Ok-Last-clause-line g c =

@@ -9,7 +9,6 @@ use Rattle.nvme_fleet.proofs.LayerCalls.{replied}
 use Rattle.nvme_grammar.specs.Lent.{event_by_value}
 use Rattle.nvme_script.proofs.ByValue.{calls-by_value, line-by_value}
 use Rattle.nvme_live.specs.AnswerCalls.{HappensBy}
-use Rattle.nvme_live.proofs.Turns.{answers-by}
 use Rattle.nvme_live.proofs.turn.apply.Goals as goal
 
 pub returns : goal.returns
@@ -28,5 +27,4 @@ returns g c =
       says = ap (λ bytes. seen_line event (seen_of c.apply_marking-seen.result) bytes) c.data-data.ensures.value
           ∙ sym (line-unmarked c.apply_marking-seen.new.marks event c.apply_marking-seen.result (data_in c.apply_marking-seen.new.self.state)) ∙ sym (line-by_value event reply);
     } in
-    answers-by c.say.result (λ answer. HappensBy g.M.Medium.step tells before (event_by_value event) answer after) (seen_line event (seen_of c.apply_marking-seen.result) c.data-data.result.now)
-    (g.W.Write.contents c.args.writer.now) (g.W.Write.contents c.say.new.writer) happens c.say.ensures.ok c.say.ensures.err
+    (seen_line event (seen_of c.apply_marking-seen.result) c.data-data.result.now, happens, c.say.ensures)

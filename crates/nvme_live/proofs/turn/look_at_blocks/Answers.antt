@@ -4,11 +4,9 @@ use Rattle.nvme_fleet.specs.FleetStates.{layers_of}
 use Rattle.live_text.specs.Faults.{refusal}
 use Rattle.live_text.specs.declared.fault.Why.TheVariants.{MediumFailed}
 use Rattle.nvme_subsys.specs.OverMedium.{over}
-use Rattle.nvme_live.specs.Answers.{place_of}
-use Rattle.nvme_live.specs.AnswerCalls.{ShowsBlocksBy}
 use Rattle.nvme_live.specs.Saying.{with_feed}
 use Rattle.nvme_live.specs.Showing.{blocks_text}
-use Rattle.nvme_live.proofs.Turns.{answers-by, shows-blocks}
+use Rattle.nvme_live.proofs.Turns.{shows-blocks}
 use Rattle.nvme_live.proofs.turn.look_at_blocks.Goals as goal
 
 pub returns-in-Some-Ok : goal.returns-in-Some-Ok
@@ -21,12 +19,12 @@ returns-in-Some-Ok g c =
     let count = c.args.place.2 in
     let bytes = c.read_blocks.new.buffer in
     let long = length-take-le (512 * count) c.args.blocks.now (omega (arith, c.requires, c.if-count-gt256.false)) in
-    let whole : length bytes ≡ 512 * count = omega (arith, c.read_blocks.auto.buffer, long) in
-    answers-by c.say.result (λ answer. ShowsBlocksBy g.M.Medium.step (place_of m slba count old.state) tells c.args.number m slba count old answer new) (with_feed (blocks_text m slba count bytes))
-    (g.W.Write.contents c.args.writer.now) (g.W.Write.contents c.say.new.writer)
-    (shows-blocks g.M.Medium.step tells c.args.number m slba count old new _ bytes _ c.read_blocks.result (Ok c.in-Some-Ok.field-0-0) _ (c.in-Some-Ok.is ∙ ap Some c.in-Some-Ok.field-0-is) c.if-count-eq0.false c.if-count-gt256.false (omega (arith, long)) whole
-    c.read_blocks.ensures.look c.read_blocks.ensures.calls c.read_blocks.ensures.drivers refl)
-    c.say.ensures.ok c.say.ensures.err
+    let whole : length bytes ≡ 512 * count = omega (arith, c.read_blocks.auto.buffer, long) in (
+      with_feed (blocks_text m slba count bytes),
+      shows-blocks g.M.Medium.step tells c.args.number m slba count old new _ bytes _ c.read_blocks.result (Ok c.in-Some-Ok.field-0-0) _ (c.in-Some-Ok.is ∙ ap Some c.in-Some-Ok.field-0-is) c.if-count-eq0.false c.if-count-gt256.false (omega (arith, long)) whole
+          c.read_blocks.ensures.look c.read_blocks.ensures.calls c.read_blocks.ensures.drivers refl,
+      c.say.ensures,
+    )
 
 pub returns-in-Some-Err : goal.returns-in-Some-Err
 returns-in-Some-Err g c =
@@ -38,9 +36,9 @@ returns-in-Some-Err g c =
     let count = c.args.place.2 in
     let bytes = c.read_blocks.new.buffer in
     let long = length-take-le (512 * count) c.args.blocks.now (omega (arith, c.requires, c.if-count-gt256.false)) in
-    let whole : length bytes ≡ 512 * count = omega (arith, c.read_blocks.auto.buffer, long) in
-    answers-by c.refuse-in-Some-Err.result (λ answer. ShowsBlocksBy g.M.Medium.step (place_of m slba count old.state) tells c.args.number m slba count old answer new) (with_feed (refusal c.args.number MediumFailed))
-    (g.W.Write.contents c.args.writer.now) (g.W.Write.contents c.refuse-in-Some-Err.new.writer)
-    (shows-blocks g.M.Medium.step tells c.args.number m slba count old new _ bytes _ c.read_blocks.result (Err c.in-Some-Err.field-0-0) _ (c.in-Some-Err.is ∙ ap Some c.in-Some-Err.field-0-is) c.if-count-eq0.false c.if-count-gt256.false (omega (arith, long)) whole
-    c.read_blocks.ensures.look c.read_blocks.ensures.calls c.read_blocks.ensures.drivers refl)
-    c.refuse-in-Some-Err.ensures.ok c.refuse-in-Some-Err.ensures.err
+    let whole : length bytes ≡ 512 * count = omega (arith, c.read_blocks.auto.buffer, long) in (
+      with_feed (refusal c.args.number MediumFailed),
+      shows-blocks g.M.Medium.step tells c.args.number m slba count old new _ bytes _ c.read_blocks.result (Err c.in-Some-Err.field-0-0) _ (c.in-Some-Err.is ∙ ap Some c.in-Some-Err.field-0-is) c.if-count-eq0.false c.if-count-gt256.false (omega (arith, long)) whole
+          c.read_blocks.ensures.look c.read_blocks.ensures.calls c.read_blocks.ensures.drivers refl,
+      c.refuse-in-Some-Err.ensures,
+    )

@@ -1,0 +1,71 @@
+-- The calls of a session's streams: what its lines are read from, one at a time, and what its answers are written to,
+-- each of which is flushed.
+use Rattle.std.specs.Prelude.{◌≡◌, ◌⊎◌, ℕ, Bool, true, false, List, [], Option, Result, Ok, Err}
+use Rattle.std.specs.declared.io.Error.{Error}
+use Rattle.std.specs.Io.KnownBytes.{Appends, IsAtEnd, Keeps}
+use Rattle.script_text.specs.Streams.{WriteCall}
+use Rattle.script_text.specs.Writing.{IsWritten}
+use Rattle.nvme_script.specs.declared.run.ScriptFault.{ScriptFault}
+use Rattle.nvme_script.specs.declared.run.ScriptFault.TheVariants.{Syntax, Config, TooLong, NoMemory, Read, Write}
+use Rattle.nvme_live.specs.Saying.{Breaks}
+use Rattle.nvme_live.specs.Taking.{TakesFront, TakesLine, kept}
+
+-- One call of a source of lines: the line that came, whole and without its line feed; that there is none any more; or
+-- that it failed.
+pub data LineCall : Type 0 where
+  Came : List ℕ → LineCall
+  Ended : LineCall
+  Failed : LineCall
+
+-- What became of an answer: it was written whole and flushed; or a write or the flush failed, and nothing was called
+-- behind that.
+pub data Sending : Type 0 where
+  Sent : List ℕ → Sending
+  Broken : List ℕ → Sending
+
+-- what a call of a source takes of known bytes
+abbrev pub TakesKnown : Option (List ℕ) → LineCall → Option (List ℕ) → Type 0
+TakesKnown old (Came line) new = TakesLine old line new
+TakesKnown old Ended new = IsAtEnd old × Keeps old new
+TakesKnown old Failed new = TakesFront old new
+
+-- what an answer adds to known bytes
+abbrev pub AddsKnown : Option (List ℕ) → Sending → Option (List ℕ) → Type 0
+AddsKnown old (Sent answer) new = Appends old new answer
+AddsKnown old (Broken answer) new = Breaks old new answer
+
+-- one call was made of a source of lines, and it took just this of the bytes that the source has left
+abbrev pub ReadsBy : {R : Type 0} → (R → LineCall → R → Type 0) → (R → Option (List ℕ)) → R → LineCall → R → Type 0
+ReadsBy read remaining old call new = read old call new × TakesKnown (remaining old) call (remaining new)
+
+-- An answer was written by its writes and no others, each of all that was left of it, and then it was flushed; or it
+-- stopped at the first of these calls that failed.
+abbrev pub IsSent : {W : Type 0} → (W → WriteCall → W → Type 0) → (W → Bool → W → Type 0) → W → Sending → W → Type 0
+IsSent {W} write flush old (Sent answer) new =
+    (written : W) × IsWritten {T = Unit {0}} {E = Error} write answer old (Ok tt) written × flush written true new
+IsSent {W} write flush old (Broken answer) new =
+    ((fault : Error) × IsWritten {T = Unit {0}} write answer old (Err fault) new)
+    ⊎ ((written : W) × IsWritten {T = Unit {0}} {E = Error} write answer old (Ok tt) written × flush written false new)
+
+-- the same, with what it added to the bytes that the sink holds
+abbrev pub SendsBy : {W : Type 0} → (W → WriteCall → W → Type 0) → (W → Bool → W → Type 0) → (W → Option (List ℕ))
+    → W → Sending → W → Type 0
+SendsBy write flush contents old sending new =
+    IsSent write flush old sending new × AddsKnown (contents old) sending (contents new)
+
+-- What the reading of a line came to: one call, by which a line came, of which this is kept, or none did.
+abbrev pub GivesLine : {R : Type 0} → (R → LineCall → R → Type 0) → Bool → R → R → List ℕ → Type 0
+GivesLine Reads true old new line = (whole : List ℕ) × Reads old (Came whole) new × (line ≡ kept whole)
+GivesLine Reads false old new line = Reads old Ended new × (line ≡ [])
+
+-- What sending an answer came to: it was sent, or a call failed; or else, if it may be, nothing was called, since its text
+-- had no room.
+abbrev pub Says : {W : Type 0} → (W → Sending → W → Type 0) → Type 0 → Result (Unit {0}) ScriptFault → List ℕ → W → W
+    → Type 0
+Says Sends MayBe (Ok done) answer old new = Sends old (Sent answer) new
+Says Sends MayBe (Err Write) answer old new = Sends old (Broken answer) new
+Says Sends MayBe (Err NoMemory) answer old new = MayBe × (new ≡ old)
+Says Sends MayBe (Err (Syntax k)) answer old new = ⊥
+Says Sends MayBe (Err (Config k fault)) answer old new = ⊥
+Says Sends MayBe (Err TooLong) answer old new = ⊥
+Says Sends MayBe (Err Read) answer old new = ⊥
