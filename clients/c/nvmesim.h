@@ -7,7 +7,8 @@
  * What the caller has to keep, since nothing checks it:
  *  - A struct nvmesim begins as NVMESIM_NONE. Only these calls write it from then on, and it is not copied while it is
  *    open.
- *  - One call at a time on one struct nvmesim, and all of them on one thread. Two structs have nothing in common.
+ *  - One call at a time on one struct nvmesim. It may go from one thread to another, where a lock, or a thread's start
+ *    or end, orders the calls. Two structs have nothing in common.
  *  - No call from a signal handler, nor in the forked child of a process with threads.
  *  - No pointer is NULL, also not where the count beside it is 0. Each is aligned, and is for as many values as the
  *    count, or the call, says. What a call writes through a pointer overlaps nothing else that it is given. A bool is

@@ -190,8 +190,8 @@ def fits(*given: Tuple[int, int]) -> None:
 
 
 class Open:
-    """A subsystem of the library, by the numbers that its calls take and give. All of its calls are made on one thread,
-    that of the first."""
+    """A subsystem of the library, by the numbers that its calls take and give. Any thread may make them, one at a
+    time."""
 
     def __init__(self, controllers: Sequence[int], namespaces: Sequence[Tuple[int, int, bool]],
                  attached: Sequence[Tuple[int, int]], blocks: bytes) -> None:

@@ -75,6 +75,60 @@ def hostile(subsystem: Any, seed: int, count: int) -> List[Any]:
     return [*seen, *(host.window(at, 0x8000) for host in hosts for at in (0, 0x10000)), subsystem.blocks(1, 0, 64)]
 
 
+def turn_by_calls(host: Any, number: int, made: bytes) -> Any:
+    """What a host's turn gives that makes its calls one by one, at queues in which nothing waits; else None."""
+    queues = {(it.is_submission, it.number): it for it in host.controller.queues()}
+    sq = queues.get((True, number))
+    cq = queues.get((False, sq.completion_queue)) if sq else None
+    place = len(host.controller.fetched())
+    if host.register(0x1C) != 1 or cq is None or sq.head != sq.tail or cq.head != cq.tail or place == 64:
+        return None
+    host.store(sq.place + 64 * sq.tail, made)
+    host.write32(0x1000 + 8 * number, (sq.tail + 1) % sq.size)
+    assert host.controller.fetch(number).took
+    done = host.controller.execute(place)
+    completion = host.window(cq.place + 16 * cq.tail, 16)
+    host.write32(0x1004 + 8 * cq.number, (cq.tail + 1) % cq.size)
+    return done.status, done.rule, completion
+
+
+def turn_in_one(host: Any, number: int, made: bytes) -> Any:
+    """The same in one call."""
+    try:
+        came = host.submit(number, made)
+    except NotDone:
+        return None
+    return came.status, came.rule, came.entry
+
+
+def turns(subsystem: Any, seed: int, count: int, turn: Any) -> List[Any]:
+    """What turns give among random events of their hosts, and all bytes at the end."""
+    chance, hosts = random.Random(seed), described(subsystem)
+    seen: List[Any] = []
+    for host in hosts:
+        up(host)
+    for _ in range(count):
+        host, kind = chance.choice(hosts), chance.randrange(12)
+        made = entry(chance.choice((0, 1, 2, 5, 8, 0x0D, 0x11, 0x15)), 1, chance.choice((0x10000, 0x10008)),
+                     chance.randrange(66), 0, chance.choice((0, 0, 1)))
+        if kind <= 6:
+            seen.append(turn(host, chance.choice((0, 1, 1, 1, 1, 2)), made))
+        elif kind == 7:
+            host.write32(chance.choice((0x1000, 0x1008)), chance.randrange(ENTRIES))
+        elif kind == 8:
+            number = chance.randrange(2)
+            for it in host.controller.queues():
+                if not it.is_submission and it.number == number:
+                    host.write32(0x1004 + 8 * number, it.tail)
+        elif kind <= 10:
+            seen += [host.controller.fetch(chance.randrange(2)), host.controller.execute()]
+        elif chance.randrange(30) == 0:
+            host.write32(0x14, chance.choice((0, 0x00464001, 0x00460001)))
+            if host.register(0x1C) == 0:
+                up(host)
+    return [*seen, *(host.window(0, 0x12000) for host in hosts), subsystem.blocks(1, 0, 64), subsystem.reservation(1)]
+
+
 @unittest.skipUnless(HERE, "no library was built for this test")
 class LibraryTest(unittest.TestCase):
     """Each test uses the shared object that the environment names."""
@@ -130,6 +184,14 @@ class LibraryTest(unittest.TestCase):
             host.write32(0x1008, 1)
             self.assertRaises(NotDone, lambda: host.submit(1, entry(2, 1, 0x10000)))
             self.assertRaises(ValueError, lambda: host.submit(1, b"short"))
+
+    def test_turns_among_random_events(self) -> None:
+        for seed in range(3):
+            with Subsystem(backend="library") as one, Subsystem(backend="library") as other:
+                seen, wanted = turns(one, seed, 1500, turn_in_one), turns(other, seed, 1500, turn_by_calls)
+            self.assertEqual(seen, wanted)
+            self.assertGreater(sum(isinstance(it, tuple) for it in seen), 50)
+            self.assertGreater(sum(it is None for it in seen), 50)
 
     def test_the_example(self) -> None:
         environment = {**os.environ, "PYTHONPATH": str(PACKAGE)}

@@ -39,12 +39,23 @@
 //! drop(subsystem);
 //! ```
 //!
-//! A subsystem stays on its thread:
+//! A subsystem may go to another thread:
+//!
+//! ```
+//! # use nvmesim::{Config, Subsystem};
+//! let subsystem = Subsystem::open(&Config::default(), &[])?;
+//! std::thread::spawn(move || drop(subsystem)).join().unwrap();
+//! # Ok::<(), nvmesim::OpenError>(())
+//! ```
+//!
+//! Two threads share one behind a lock, and not otherwise:
 //!
 //! ```compile_fail,E0277
 //! # use nvmesim::{Config, Subsystem};
 //! let subsystem = Subsystem::open(&Config::default(), &[]).unwrap();
-//! std::thread::spawn(move || drop(subsystem));
+//! std::thread::scope(|threads| {
+//!     threads.spawn(|| &subsystem);
+//! });
 //! ```
 
 #![deny(unsafe_code)]

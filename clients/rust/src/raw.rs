@@ -64,7 +64,7 @@ plain_calls! {
     registrant = nvmesim_registrant(nsid: u32, i: usize) -> Registered;
 }
 
-/// A subsystem that is open. It has a raw pointer, so it stays on its thread, as the header wants.
+/// A subsystem that is open.
 pub struct Handle<'a> {
     sim: Sim,
     lent: PhantomData<&'a mut [u8]>,
@@ -114,6 +114,9 @@ impl<'a> Handle<'a> {
         unsafe { nvmesim_read_blocks(&mut self.sim, nsid, slba, bytes.as_mut_ptr(), bytes.len()) }
     }
 }
+
+// The header lets a struct go from one thread to another. It is not `Sync`, since one call comes at a time.
+unsafe impl Send for Handle<'_> {}
 
 impl Drop for Handle<'_> {
     fn drop(&mut self) {

@@ -47,6 +47,28 @@ fn a_refusal_changes_nothing() {
 }
 
 #[test]
+fn threads_take_turns() {
+    let subsystem = std::sync::Mutex::new(Subsystem::open(&config(), &[0; 4 * 512]).unwrap());
+    std::thread::scope(|threads| {
+        for cntlid in [1, 2] {
+            let subsystem = &subsystem;
+            threads.spawn(move || {
+                up(&mut subsystem.lock().unwrap(), cntlid);
+                for k in 0..200 {
+                    let mut held = subsystem.lock().unwrap();
+                    held.store(cntlid, 0x10000, &[cntlid as u8; 512]).unwrap();
+                    let write = entry(1, 1, 0x10000, k % 4, 0);
+                    assert!(held.submit(cntlid, 1, &write).unwrap().0.is_success());
+                }
+            });
+        }
+    });
+    let mut block = [0; 512];
+    subsystem.lock().unwrap().read_blocks(1, 0, &mut block).unwrap();
+    assert!(block == [1; 512] || block == [2; 512]);
+}
+
+#[test]
 fn what_is_lent_comes_back() {
     let mut bytes = vec![5; 4 * 512];
     let mut subsystem = Subsystem::open_lent(&config(), &mut bytes).unwrap();

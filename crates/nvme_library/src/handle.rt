@@ -18,6 +18,11 @@ pub struct Handle {
     ghost told: { is_some slot.value ≡ is_open },
 }
 
+/// What C may hand from one thread to another. That it is so is proved where a type has this trait.
+trait Crosses: Send {}
+
+impl Crosses for Handle {}
+
 impl Handle {
     /// None.
     #[inline(always)]

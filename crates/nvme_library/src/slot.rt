@@ -23,6 +23,9 @@ impl Model for Slot {
     ghost also_owns = { λ slot. holds slot.alloc slot.at slot.value };
 }
 
+// The subsystem may go to another thread, and so may the right to free its place.
+unsafe impl Send for Slot {}
+
 impl Slot {
     /// The place of this one.
     pub(crate) fn of(pointer: BoxPointer<Subsystem<OwnOrLent>, Global>) -> Slot
