@@ -128,8 +128,8 @@ typedef struct nvmesim_command {
 
 /* The reservation of a namespace. */
 typedef struct nvmesim_hold {
-    uint64_t host_low;   /* the host that holds it: 0 where none does, and under types 5 and 6, where each does that */
-    uint64_t host_high;  /* is registered */
+    uint64_t host_low;   /* the one host that holds it, its lower 64 bits: 0 where none does, */
+    uint64_t host_high;  /* and under types 5 and 6, where every registrant holds it */
     size_t registrants;  /* how many hosts are registered */
     uint32_t what;       /* NVMESIM_OK, or why there is none */
     uint32_t generation; /* the generation counter, PRgeneration */
@@ -185,10 +185,10 @@ nvmesim_answer nvmesim_fetch(nvmesim *sim, uint16_t cntlid, uint16_t qid);
 nvmesim_answer nvmesim_execute(nvmesim *sim, uint16_t cntlid, size_t i);
 
 /* One command from its entry (64 bytes) to its completion queue entry (16 bytes), for a host that wants no order of its
- * own: store at the tail of the submission queue, tail doorbell, fetch, execute, load of the completion, head doorbell.
- * These are the events, and no other comes between. POSTED, with the status; or NOT_READY, NO_QUEUE, NO_CONTROLLER,
- * CLOSED, or BUSY where a command waits at the queue, a completion at its completion queue, or the controller has 64
- * commands; then nothing has happened, and the completion is not written. */
+ * own: store at the tail of the submission queue, as the doorbell last had it, tail doorbell, fetch, execute, load of
+ * the completion, head doorbell. These are the events, and no other comes between. POSTED, with the status; or
+ * NOT_READY, NO_QUEUE, NO_CONTROLLER, CLOSED, or BUSY where a command waits at the queue, a completion at its
+ * completion queue, or the controller has 64 commands; then nothing has happened, and the completion is not written. */
 nvmesim_answer nvmesim_submit(nvmesim *sim, uint16_t cntlid, uint16_t qid, const uint8_t *entry, uint8_t *completion);
 
 /* Power is lost in all of the subsystem, and comes back: CYCLED, or CLOSED. */
