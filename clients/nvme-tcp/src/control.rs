@@ -28,15 +28,20 @@ pub fn listen(socket: &Path) -> io::Result<UnixListener> {
         let text = format!("{} is open to others: chmod 700 it", folder.display());
         return Err(io::Error::new(io::ErrorKind::PermissionDenied, text));
     }
+    let listener = bind(socket)?;
+    listener.set_nonblocking(true)?;
+    Ok(listener)
+}
+
+/// Binds a socket, unless a target that runs has it. One that was killed leaves it behind, and then nobody answers.
+pub fn bind(socket: &Path) -> io::Result<UnixListener> {
     if UnixStream::connect(socket).is_ok() {
-        return Err(io::Error::new(io::ErrorKind::AddrInUse, "a target answers there"));
+        return Err(io::Error::new(io::ErrorKind::AddrInUse, "another target that runs has it"));
     }
     if socket.exists() {
         fs::remove_file(socket)?;
     }
-    let listener = UnixListener::bind(socket)?;
-    listener.set_nonblocking(true)?;
-    Ok(listener)
+    UnixListener::bind(socket)
 }
 
 /// Has a target answer a line: the answer.

@@ -6,12 +6,14 @@
 
 use crate::bytes::{u16_at, u32_at};
 use crate::configuration::Configuration;
+use crate::control;
 use crate::controller::{Data, ENTRY};
 use crate::digest::crc32c;
 use crate::fault::{Fault, Outcome};
 use crate::window::MOST_DATA;
 use std::fs::{self, File, OpenOptions};
 use std::io::{self, Read, Write};
+use std::os::unix::net::UnixListener;
 use std::path::Path;
 
 /// What a journal begins with.
@@ -60,6 +62,8 @@ impl Record {
 /// A journal that is kept.
 pub struct Journal {
     file: File,
+    /// A socket beside it: while that answers, no other target takes the folder.
+    _in_use: UnixListener,
 }
 
 /// What stands in a journal that was opened.
@@ -72,8 +76,8 @@ pub struct Found {
 /// Opens the journal of a folder, which is made where it is not there.
 pub fn open(folder: &Path, configuration: &Configuration) -> io::Result<(Journal, Found)> {
     fs::create_dir_all(folder)?;
-    let path = folder.join("journal");
-    let mut file = OpenOptions::new().read(true).append(true).create(true).open(path)?;
+    let in_use = control::bind(&folder.join("in-use"))?;
+    let mut file = OpenOptions::new().read(true).append(true).create(true).open(folder.join("journal"))?;
     let mut bytes = Vec::new();
     file.read_to_end(&mut bytes)?;
     let mut head = MAGIC.to_vec();
@@ -84,7 +88,7 @@ pub fn open(folder: &Path, configuration: &Configuration) -> io::Result<(Journal
         file.write_all(&head)?;
         file.sync_all()?;
         File::open(folder)?.sync_all()?;
-        return Ok((Journal { file }, Found { records: Vec::new(), torn: 0 }));
+        return Ok((Journal { file, _in_use: in_use }, Found { records: Vec::new(), torn: 0 }));
     }
     if !bytes.starts_with(&head) {
         return Err(io::Error::new(io::ErrorKind::InvalidData, "the journal is of another configuration"));
@@ -92,7 +96,7 @@ pub fn open(folder: &Path, configuration: &Configuration) -> io::Result<(Journal
     let (records, end) = records_of(&bytes, head.len())?;
     file.set_len(end as u64)?;
     file.sync_all()?;
-    Ok((Journal { file }, Found { records, torn: bytes.len() - end }))
+    Ok((Journal { file, _in_use: in_use }, Found { records, torn: bytes.len() - end }))
 }
 
 /// The records from a place on, and where the last of them ends.

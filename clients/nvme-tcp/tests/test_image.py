@@ -250,6 +250,13 @@ class Lasts(TargetTest):
         self.target.start()
         self.assertEqual(self.host(0xb2).write(7, bytes(512)), 0, "the Acquire was not whole")
 
+    def test_one_target_has_a_folder(self) -> None:
+        words = [*self.target.process.args]
+        words[words.index("--control") + 1] += "-of-another"
+        ran = subprocess.run(words, stdout=subprocess.PIPE, stderr=subprocess.PIPE, text=True, timeout=10)
+        self.assertEqual((ran.returncode, ran.stdout), (2, ""))
+        self.assertIn("another target that runs has it", ran.stderr)
+
     def test_what_is_refused(self) -> None:
         self.host().register(0, 0xa)
         self.host(0xb2).register(0, 0xb)
