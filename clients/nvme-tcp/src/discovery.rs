@@ -5,7 +5,7 @@ use crate::association::{ConnectionId, HostQueue};
 use crate::bytes::{put, u16_at, u32_at, u64_at};
 use crate::controller::{Data, CAP, CC, CSTS, ENABLE, ENTRY, VS};
 use crate::identify;
-use crate::status::{COMMAND_SEQUENCE, INVALID_FIELD, INVALID_LOG_PAGE, INVALID_OPCODE, SUCCESS};
+use crate::status::{Status, COMMAND_SEQUENCE, INVALID_FIELD, INVALID_LOG_PAGE, INVALID_OPCODE, SUCCESS};
 use crate::target::{Target, GET_LOG_PAGE, IDENTIFY, KEEP_ALIVE};
 use crate::window::MOST_ENTRIES;
 use std::net::SocketAddr;
@@ -33,8 +33,13 @@ impl Discovery {
         Discovery { cntlid: (connection % IDENTIFIERS) as u16 + 1, configuration: 0 }
     }
 
-    pub fn configure(&mut self, value: u32) {
-        self.configuration = value;
+    /// Sets a property: CC is the only one that a host sets.
+    pub fn set_property(&mut self, (offset, size): (u64, usize), value: u64) -> Status {
+        if (offset, size) != (CC, 4) {
+            return INVALID_FIELD;
+        }
+        self.configuration = value as u32;
+        SUCCESS
     }
 
     fn is_ready(self) -> bool {

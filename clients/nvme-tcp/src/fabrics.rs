@@ -7,7 +7,7 @@ use crate::controller::{Data, CAP, CC, CSTS, ENABLE, ENTRY, VS};
 use crate::discovery::{self, Discovery};
 use crate::fault::Outcome;
 use crate::status::{
-    Status, COMMAND_SEQUENCE, CONNECT_HOST, CONNECT_PARAMETERS, CONTROLLER_BUSY, INCOMPATIBLE_FORMAT, INVALID_FIELD,
+    COMMAND_SEQUENCE, CONNECT_HOST, CONNECT_PARAMETERS, CONTROLLER_BUSY, INCOMPATIBLE_FORMAT, INVALID_FIELD,
     INVALID_OPCODE, INVALID_QUEUE, INVALID_QUEUE_SIZE, INVALID_QUEUE_TYPE, SGL_LENGTH, SUCCESS,
 };
 use crate::target::Target;
@@ -228,17 +228,5 @@ impl Target<'_> {
         }
         self.controllers[index].configure(&mut self.machine, value, entries)?;
         Ok(Answer::of(SUCCESS))
-    }
-}
-
-/// Sets a property that a discovery controller has, if it is CC.
-impl Discovery {
-    fn set_property(&mut self, (offset, size): (u64, usize), value: u64) -> Status {
-        if (offset, size) == (CC, 4) {
-            self.configure(value as u32);
-            SUCCESS
-        } else {
-            INVALID_FIELD
-        }
     }
 }

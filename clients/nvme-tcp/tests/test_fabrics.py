@@ -161,6 +161,18 @@ class Discovers(TargetTest):
         self.assertEqual(again.connect(1, 0xdead, name=DISCOVERY).value, 42)
 
 
+class Advertises(TargetTest):
+    options = ["--advertise", "[2001:db8::1]:4421"]
+
+    def test_another_address(self) -> None:
+        queue = Queue(self.target.port)
+        self.addCleanup(queue.close)
+        queue.connect(0, 0xdead, name=DISCOVERY)
+        queue.set_property(CC, ENABLE)
+        page = queue.call(0x02, 0, struct.pack("<HH", 0x70, 511), length=2048).data
+        self.assertEqual((page[1025], page[1056:1060], page[1536:1547]), (2, b"4421", b"2001:db8::1"))
+
+
 class Lives(TargetTest):
     def test_keep_alive(self) -> None:
         host = self.host(keep_alive=1000)
