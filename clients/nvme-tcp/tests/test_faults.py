@@ -1,0 +1,69 @@
+"""Files that the system refuses to write: the target ends, and answers nobody whose command they lack."""
+import resource
+import signal
+import subprocess
+import tempfile
+import unittest
+from pathlib import Path
+
+from tests.host import BLOCK, Ended, Host
+from tests.targets import BLOCKS, PROGRAM, TWO_HOSTS
+
+# No file may become longer than this, or be written behind it.
+LIMIT = 100 * BLOCK
+
+
+def limited() -> None:
+    """Of the target's process: a write behind the limit fails, and does not kill it."""
+    signal.signal(signal.SIGXFSZ, signal.SIG_IGN)
+    resource.setrlimit(resource.RLIMIT_FSIZE, (LIMIT, LIMIT))
+
+
+@unittest.skipUnless(PROGRAM, "NVMETCP names no program")
+class Faults(unittest.TestCase):
+    def setUp(self) -> None:
+        room = tempfile.TemporaryDirectory()
+        self.addCleanup(room.cleanup)
+        self.folder = Path(room.name)
+        (self.folder / "config.nvme").write_text(TWO_HOSTS)
+
+    def host(self, *options: str) -> Host:
+        """A host of a target with these options."""
+        words = [PROGRAM, "--listen", "127.0.0.1:0", *options, str(self.folder / "config.nvme")]
+        self.process = subprocess.Popen(words, stdout=subprocess.PIPE, stderr=subprocess.PIPE, text=True,
+                                        preexec_fn=limited)
+        self.addCleanup(self.process.communicate)
+        self.addCleanup(self.process.kill)
+        host = Host(int(self.process.stdout.readline().rsplit(":", 1)[1]), 0xa1)
+        self.addCleanup(host.close)
+        return host
+
+    def ends(self, what: str) -> None:
+        """The target has ended, and says of what."""
+        _, errors = self.process.communicate(timeout=10)
+        self.assertEqual(self.process.returncode, 2)
+        self.assertIn(f"nvmetcp: {what}: ", errors)
+
+    def test_an_image(self) -> None:
+        image = self.folder / "disk.img"
+        image.write_bytes(bytes(BLOCK * BLOCKS))
+        host = self.host("--image", str(image))
+        self.assertEqual(host.write(98, b"\1" * BLOCK), 0)
+        with self.assertRaises(Ended):
+            host.write(99, b"\2" * BLOCK * 2)
+        self.ends("the image")
+        self.assertEqual(image.read_bytes()[98 * BLOCK:99 * BLOCK], b"\1" * BLOCK)
+
+    def test_a_journal(self) -> None:
+        host = self.host("--state", str(self.folder / "state"))
+        with self.assertRaises(Ended):
+            for key in range(1, 2000):
+                self.assertEqual(host.register(key - 1, key, action=2 if key > 1 else 0), 0)
+        self.ends("the journal")
+
+    def test_a_script(self) -> None:
+        host = self.host("--script", str(self.folder / "kept.nvme"))
+        with self.assertRaises(Ended):
+            for _ in range(20):
+                host.write(0, bytes(4096))
+        self.ends("the script")
