@@ -1,5 +1,6 @@
 """The scenes. Each plays some guests over a target, and asks at its end what has to hold."""
 import contextlib
+import socket
 import subprocess
 import time
 from pathlib import Path
@@ -29,6 +30,12 @@ def config(blocks: int, *hosts: str) -> str:
                       *[f"attached {n} 1" for n in range(1, len(hosts) + 1)]]) + "\n"
 
 
+def free_port() -> int:
+    """A port that nobody listens at."""
+    with socket.create_server(("127.0.0.1", 0)) as server:
+        return server.getsockname()[1]
+
+
 class Stage:
     """A target over an image, with what has to hold at the end."""
 
@@ -36,11 +43,12 @@ class Stage:
         self.built, self.folder, self.blocks, self.kept = built, folder, blocks, []
         self.guests: list = []
         self.faults: list = []
-        self.options = ["--state", str(folder / "state")] if state else []
+        self.port = free_port()
+        self.options = ["--advertise", f"{ADDRESS}:{self.port}"]
+        self.options += ["--state", str(folder / "state")] if state else []
         self.image_before = folder / "before.img"
         self.image_before.write_bytes(bytes(BLOCK * blocks))
-        self.target = Target(folder, config(blocks, *hosts), blocks, self.script())
-        self.port = self.target.port
+        self.target = Target(folder, config(blocks, *hosts), blocks, self.script(), self.port)
 
     def script(self) -> list:
         """The options of the next target, which keeps a script of its own."""
@@ -146,6 +154,9 @@ def disk(built: Path, folder: Path) -> None:
         say("discovery, and a host that no controller is of")
         found = a.run(f"nvme discover -t tcp -a {ADDRESS} -s {it.port} $me")
         it.wants("discovery finds the subsystem", "nqn.2024-01.example:suvmileh" in found)
+        text = a.run(f"nvme connect-all -t tcp -a {ADDRESS} -s {it.port} $me; sleep 2; ls /dev/nvme*")
+        it.wants("connect-all connects to it", "n1" in text.splitlines()[-1])
+        a.run("nvme disconnect -n $nqn")
         other = "--hostnqn=nqn.2024-01.example:c3 --hostid=c3000000-0000-0000-0000-000000000000"
         text = a.run(f"nvme connect -t tcp -a {ADDRESS} -s {it.port} -n $nqn {other}; ls /dev/nvme*")
         it.wants("an unknown host is refused", "nvme0" not in text.splitlines()[-1])

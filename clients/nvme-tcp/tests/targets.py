@@ -26,7 +26,7 @@ class Target:
     """A target that runs; its standard error is in the file `errors`."""
 
     def __init__(self, folder: Path, config: str = TWO_HOSTS, image: Optional[int] = None,
-                 options: Sequence[str] = ()) -> None:
+                 options: Sequence[str] = (), port: int = 0) -> None:
         self.folder, self.config, self.options = folder, config, list(options)
         (folder / "config.nvme").write_text(config)
         (folder / "control").mkdir(mode=0o700, exist_ok=True)
@@ -35,7 +35,7 @@ class Target:
             with open(self.image, "wb") as file:
                 file.truncate(image * BLOCK)
             self.options += ["--image", str(self.image)]
-        self.start()
+        self.start(port)
 
     def start(self, port: int = 0) -> None:
         words = [PROGRAM, "--listen", f"127.0.0.1:{port}", "--control", str(self.folder / "control/socket"),
