@@ -44,7 +44,7 @@ why_text (why.Looking word) = codes "the line is " ++ form_text word
 why_text (why.NoLine word nearest) =
     codes "there is no line '" ++ line_text.shown_word word.now ++ codes "'" ++ nearest_text nearest
 why_text why.BeforeStart = codes "this line stands before 'start', which was said already"
-why_text why.BehindStart = codes "this line stands behind 'start', and nothing is started yet"
+why_text why.BehindStart = codes "this line needs a 'start' before it, and there was none yet"
 why_text why.NoController = codes "there is no such controller"
 why_text why.NoDriver = codes "there is no such controller with a driver"
 why_text why.NoNamespace = codes "there is no such namespace"

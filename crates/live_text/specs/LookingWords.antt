@@ -2,7 +2,7 @@
 use Rattle.std.specs.Prelude.{ℕ, List, [], ◌∷◌, ◌++◌, codes, Option}
 use Rattle.std.specs.List.{find, flat_map}
 use Rattle.std.specs.Str.{bytes_eq}
-use Rattle.nvme_grammar.specs.Near.{is_near}
+use Rattle.nvme_grammar.specs.Near.{is_meant}
 use Rattle.live_text.specs.declared.looking_word.LookingWord.{LookingWord}
 use Rattle.live_text.specs.declared.looking_word.LookingWord.TheVariants as word
 
@@ -45,6 +45,6 @@ word_texts = flat_map (λ k. codes " " ++ word_text k) looking_words
 unfoldable pub looking_word_of : List ℕ → Option LookingWord
 looking_word_of word = find (λ k. bytes_eq word (word_text k)) looking_words
 
--- the first that a word is near to
+-- the first that a word is near to, or is in other letters
 unfoldable pub nearest_to : List ℕ → Option LookingWord
-nearest_to word = find (λ k. is_near word (word_text k)) looking_words
+nearest_to word = find (λ k. is_meant word (word_text k)) looking_words

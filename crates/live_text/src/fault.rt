@@ -95,7 +95,7 @@ impl fmt::Display for Why<'_> {
             ),
             Why::BehindStart => write!(
                 f,
-                "this line stands behind 'start', and nothing is started yet"
+                "this line needs a 'start' before it, and there was none yet"
             ),
             Why::NoController => write!(f, "there is no such controller"),
             Why::NoDriver => write!(f, "there is no such controller with a driver"),

@@ -3,7 +3,7 @@
 ghost use Rattle.std.specs.Prelude.{◌≡◌};
 ghost use Rattle.live_text.specs.LookingWords as spec;
 
-use nvme_grammar::is_near;
+use nvme_grammar::is_meant;
 
 /// The word that a looking line begins with.
 #[derive(Clone, Copy, Debug, PartialEq, Eq)]
@@ -101,14 +101,14 @@ impl LookingWord {
         None
     }
 
-    /// The first that a word is near to: one letter is wrong, missing or too many, or two are exchanged.
+    /// The first that a word is near to: one letter is wrong, missing or too many, two are exchanged, or some are capitals.
     #[tactic(auto, unfolding(crate::specs::LookingWords::nearest_to))]
     pub(crate) fn nearest(word: &[u8]) -> Option<LookingWord>
         ensures { result ≡ spec.nearest_to word.now }
     {
         let mut words = LOOKING_WORDS.as_slice();
         while let Some((first, behind)) = words.split_first() {
-            if is_near(word, first.text().as_bytes()) {
+            if is_meant(word, first.text().as_bytes()) {
                 return Some(*first);
             }
             words = behind;

@@ -1,12 +1,16 @@
 -- The texts of a line's fault.
-use Rattle.std.specs.Prelude.{ℕ, ◌+◌, ◌-◌, ◌^◌, ◌==◌, false, nat_le, List, [], ◌∷◌, ◌++◌, codes, length, take, Option, Some, None, if◌then◌else◌}
+use Rattle.std.specs.Prelude.{ℕ, ◌+◌, ◌-◌, ◌^◌, ◌/◌, ◌==◌, ◌&&◌, Bool, false, nat_le, List, [], ◌∷◌, ◌++◌, codes, length, take, Option, Some, None, if◌then◌else◌}
 use Rattle.std.specs.Fmt.{decimal, digits, padded_integral, format_spec}
-use Rattle.std.specs.List.{flat_map}
+use Rattle.std.specs.Char.{is_ascii_hexdigit}
+use Rattle.std.specs.List.{flat_map, list_all}
 use Rattle.script_text.specs.Words.{is_visible}
-use Rattle.nvme_grammar.specs.Places.{wanted_text}
+use Rattle.nvme_grammar.specs.Places.{wanted_text, operand_bits}
 use Rattle.nvme_grammar.specs.Keywords.{keyword_text, form_text, places_of, behind_of}
 use Rattle.nvme_grammar.specs.declared.keyword.Keyword.{Keyword}
-use Rattle.nvme_grammar.specs.declared.keyword.Keyword.TheVariants.{Start}
+use Rattle.nvme_grammar.specs.declared.keyword.Keyword.TheVariants.{Start, Attach, Attached}
+use Rattle.nvme_grammar.specs.declared.place.Operand.{Operand}
+use Rattle.nvme_grammar.specs.declared.place.Place.{Place}
+use Rattle.nvme_grammar.specs.declared.place.Place.TheVariants.{Number}
 use Rattle.nvme_grammar.specs.declared.place.Behind.{Behind}
 use Rattle.nvme_grammar.specs.declared.place.Behind.TheVariants as behind
 use Rattle.nvme_grammar.specs.declared.fault.LineFault.{LineFault}
@@ -41,6 +45,21 @@ abbrev pub nearest_text : Option Keyword → List ℕ
 nearest_text None = codes ""
 nearest_text (Some k) = codes "; did you mean '" ++ keyword_text k ++ codes "'?"
 
+-- the line before `start` that is meant by an event there
+abbrev pub meant_early : Keyword → Option Keyword
+meant_early Attach = Some Attached
+meant_early _ = None
+
+-- a word of hexadecimal digits that lacks its `0x`, and would fit with it
+abbrev pub lacks_prefix : Operand → List ℕ → Bool
+lacks_prefix operand word = nat_le (length word) (operand_bits operand / 4) && list_all is_ascii_hexdigit word
+
+-- the number that is meant by such a word, as a question
+unfoldable pub prefix_text : Place → List ℕ → List ℕ
+prefix_text (Number operand) word =
+    if lacks_prefix operand word then codes "; did you mean '0x" ++ shown_word word ++ codes "'?" else codes ""
+prefix_text place word = codes ""
+
 abbrev pub too_late_text : Keyword → List ℕ
 too_late_text Start = codes "start stands in a script once"
 too_late_text k = keyword_text k ++ codes " stands before 'start', which was said already"
@@ -51,8 +70,10 @@ why_text (Byte b) =
 why_text (Unknown word nearest) = codes "there is no line '" ++ shown_word word.now ++ codes "'" ++ nearest_text nearest
 why_text (Count k) =
     keyword_text k ++ codes " takes " ++ count_text (length (places_of k) + 1) (behind_of k) ++ codes ": " ++ form_text k
-why_text (Misfit number wanted word) = wanted_text wanted ++ codes ", and not '" ++ shown_word word.now ++ codes "'"
-why_text (TooEarly k) = keyword_text k ++ codes " stands behind 'start', and nothing is started yet"
+why_text (Misfit number wanted word) =
+    wanted_text wanted ++ codes ", and not '" ++ shown_word word.now ++ codes "'" ++ prefix_text wanted word.now
+why_text (TooEarly k) =
+    keyword_text k ++ codes " needs a 'start' before it, and there is none" ++ nearest_text (meant_early k)
 why_text (TooLate k) = too_late_text k
 
 -- the word that is at fault, where it is one in particular
@@ -60,7 +81,7 @@ abbrev pub word_text : Why → List ℕ
 word_text (Misfit number wanted word) = codes "word " ++ decimal number ++ codes ": "
 word_text why = codes ""
 
--- a fault with its column
+-- a fault behind its column
 abbrev pub fault_text : LineFault → List ℕ
 fault_text fault =
-    codes "column " ++ decimal fault.column ++ codes ": " ++ word_text fault.why ++ why_text fault.why
+    decimal fault.column ++ codes ": " ++ word_text fault.why ++ why_text fault.why

@@ -2,7 +2,7 @@
 use Rattle.std.specs.Prelude.{ℕ, ◌-◌, nat_le, ◌&&◌, Bool, true, false, List, [], ◌∷◌, ◌++◌, codes, length, slice_get, Option, Some, None}
 use Rattle.std.specs.List.{find, flat_map}
 use Rattle.std.specs.Str.{bytes_eq}
-use Rattle.nvme_grammar.specs.Near.{is_near}
+use Rattle.nvme_grammar.specs.Near.{is_meant}
 use Rattle.nvme_grammar.specs.Places.{place_behind, takes_behind, place_name, behind_name}
 use Rattle.nvme_grammar.specs.declared.keyword.Keyword.{Keyword}
 use Rattle.nvme_grammar.specs.declared.keyword.Keyword.TheVariants.{Controller, Namespace, Attached, Start, Up, Read, Write, Compare, Zeroes, Flush, Register, Acquire, Release, Report, Identify, Protect, Protection, Attach, Detach, Ring, Fetch, Execute, Poll, Reset, Store, Write32, PowerCycle}
@@ -56,9 +56,9 @@ keyword_texts = flat_map (λ k. codes " " ++ keyword_text k) keywords
 unfoldable pub keyword_of : List ℕ → Option Keyword
 keyword_of word = find (λ k. bytes_eq word (keyword_text k)) keywords
 
--- the first that a word is near to
+-- the first that a word is near to, or is in other letters
 unfoldable pub nearest_to : List ℕ → Option Keyword
-nearest_to word = find (λ k. is_near word (keyword_text k)) keywords
+nearest_to word = find (λ k. is_meant word (keyword_text k)) keywords
 
 -- the controller and the namespace that a line names
 abbrev c : Place

@@ -1,6 +1,6 @@
 -- Words that differ a little: one letter is wrong, missing or too many, or two that stand side by side are exchanged.
 use Rattle.std.specs.Prelude.{ℕ, Bool, false, ◌==◌, ◌&&◌, ◌||◌, List, ◌∷◌, drop, if◌then◌else◌}
-use Rattle.std.specs.Str.{bytes_eq}
+use Rattle.std.specs.Str.{bytes_eq, str_eq_ignore_ascii_case}
 
 -- the first two are exchanged, and the others the same
 abbrev pub are_exchanged : List ℕ → List ℕ → Bool
@@ -17,3 +17,7 @@ differ_little word other =
 abbrev pub is_near : List ℕ → List ℕ → Bool
 is_near (a ∷ word) (b ∷ other) = if a == b then is_near word other else differ_little (a ∷ word) (b ∷ other)
 is_near word other = differ_little word other
+
+-- so, or the same word but for the case of its letters
+unfoldable pub is_meant : List ℕ → List ℕ → Bool
+is_meant word other = is_near word other || str_eq_ignore_ascii_case word other

@@ -12,7 +12,7 @@ use super::line::{Line, is_comment_line, parse_line};
 use super::place::Place;
 use script_text::{FirstWord, behind_separators, first_word, front_line, text_len};
 
-/// Why a line is refused, and where. Its text is `column C: `, the word where it is one in particular, and the reason.
+/// Why a line is refused, and where. Its text is the column, the word where it is one in particular, and the reason.
 #[derive(Clone, Copy)]
 pub struct LineFault<'a> {
     /// Where it stands in the line, in bytes from 1: the byte or the word that is at fault, or the first word where it is

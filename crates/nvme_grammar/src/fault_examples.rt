@@ -3,10 +3,10 @@
 ghost use Rattle.std.specs.Prelude.{◌≡◌, ◌++◌, ◌∷◌, [], List, ℕ, Bool, true, false, Some, None, codes};
 ghost use Rattle.nvme_grammar.specs.Lent.{lent};
 ghost use Rattle.nvme_grammar.specs.LineFaults.{fault_of};
-ghost use Rattle.nvme_grammar.specs.FaultTexts.{why_text};
+ghost use Rattle.nvme_grammar.specs.FaultTexts.{prefix_text, why_text};
 ghost use Rattle.nvme_grammar.specs.Keywords.{nearest_to};
 ghost use Rattle.nvme_grammar.specs.declared.fault.Why.TheVariants.{Byte, Unknown, Count, Misfit, TooEarly, TooLate};
-ghost use Rattle.nvme_grammar.specs.declared.place.Operand.TheVariants.{Cntlid, Nsid, Queue};
+ghost use Rattle.nvme_grammar.specs.declared.place.Operand.TheVariants.{Cntlid, Nsid, Queue, Host as HostId};
 ghost use Rattle.nvme_grammar.specs.declared.place.Place.TheVariants.{Number, Host, Raw};
 ghost use Rattle.nvme_grammar.specs.declared.keyword.Keyword.TheVariants.{Write, Attach, Attached, Up, Read, Start, PowerCycle};
 
@@ -46,23 +46,32 @@ pub fn lines_as_a_whole()
     ensures power_cycle { fault_of true (codes "powercycle") ≡ None }
 {}
 
-#[tactic(auto, unfolding(crate::specs::Keywords::nearest_to))]
+#[tactic(auto, unfolding(crate::specs::Keywords::nearest_to, crate::specs::Near::is_meant))]
 pub fn near_words()
     ensures wrong { nearest_to (codes "wrote") ≡ Some Write }
     ensures missing { nearest_to (codes "attch") ≡ Some Attach }
     ensures too_many { nearest_to (codes "upp") ≡ Some Up }
     ensures exchanged { nearest_to (codes "raed") ≡ Some Read }
     ensures longest { nearest_to (codes "powercylce") ≡ Some PowerCycle }
-    ensures upper_case { nearest_to (codes "READ") ≡ None }
+    ensures upper_case { nearest_to (codes "READ") ≡ Some Read }
+    ensures capital { nearest_to (codes "Attached") ≡ Some Attached }
+    ensures capital_and_wrong { nearest_to (codes "REDA") ≡ None }
     ensures two_wrong { nearest_to (codes "wrets") ≡ None }
     ensures part { nearest_to (codes "power") ≡ None }
 {}
 
-/// The texts of what a line without operands may be refused for.
+/// The texts of what lines may be refused for.
+#[tactic(auto, unfolding(crate::specs::FaultTexts::prefix_text))]
 pub fn texts()
     ensures count { why_text (Count PowerCycle) ≡ codes "powercycle takes 1 word: powercycle" }
     ensures early { why_text (TooEarly PowerCycle)
-        ≡ codes "powercycle stands behind 'start', and nothing is started yet" }
+        ≡ codes "powercycle needs a 'start' before it, and there is none" }
+    ensures attach { why_text (TooEarly Attach)
+        ≡ codes "attach needs a 'start' before it, and there is none; did you mean 'attached'?" }
+    ensures host { prefix_text (Number HostId) (codes "a1") ≡ codes "; did you mean '0xa1'?" }
+    ensures no_digit { prefix_text (Number HostId) (codes "g1") ≡ [] }
+    ensures too_wide { prefix_text (Number Cntlid) (codes "65536") ≡ [] }
+    ensures no_number { why_text (Misfit 3 Host (lent (codes "ab"))) ≡ codes "the word 'host', and not 'ab'" }
     ensures near { why_text (Unknown (lent (codes "powercycel")) (Some PowerCycle))
         ≡ codes "there is no line 'powercycel'; did you mean 'powercycle'?" }
 {}

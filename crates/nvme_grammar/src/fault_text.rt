@@ -1,13 +1,14 @@
 //! The texts of a line's fault.
 
 ghost use Rattle.std.specs.Prelude.{◌≡◌, ◌≤◌, ◌+◌, Some, length, take};
-ghost use Rattle.std.specs.List.{flat_map};
-ghost use Rattle.nvme_grammar.specs.FaultTexts.{fault_text, why_text, shown_byte, shown_word, count_text, nearest_text, most_shown};
+ghost use Rattle.std.specs.Char.{is_ascii_hexdigit};
+ghost use Rattle.std.specs.List.{flat_map, list_all};
+ghost use Rattle.nvme_grammar.specs.FaultTexts.{fault_text, why_text, shown_byte, shown_word, count_text, nearest_text, meant_early, lacks_prefix, prefix_text, most_shown};
 ghost use Rattle.nvme_grammar.specs.Keywords.{places_of, behind_of};
 
 use super::fault::{LineFault, Why};
 use super::keyword::Keyword;
-use super::place::Behind;
+use super::place::{Behind, Operand, Place};
 use std::fmt;
 
 /// How many bytes of a word are shown.
@@ -19,13 +20,13 @@ impl fmt::Display for LineFault<'_> {
     fn fmt<W: fmt::Write>(&self, f: &mut fmt::Formatter<W>) -> fmt::Result {
         match self.why {
             Why::Misfit { number, .. } => {
-                write!(f, "column {}: word {}: {}", self.column, number, self.why)
+                write!(f, "{}: word {}: {}", self.column, number, self.why)
             }
             Why::Byte(_)
             | Why::Unknown { .. }
             | Why::Count(_)
             | Why::TooEarly(_)
-            | Why::TooLate(_) => write!(f, "column {}: {}", self.column, self.why),
+            | Why::TooLate(_) => write!(f, "{}: {}", self.column, self.why),
         }
     }
 }
@@ -54,14 +55,16 @@ impl fmt::Display for Why<'_> {
             ),
             Why::Misfit { wanted, word, .. } => write!(
                 f,
-                "{}, and not '{}'",
+                "{}, and not '{}'{}",
                 *wanted,
-                ShownWord(word)
+                ShownWord(word),
+                PrefixText(*wanted, word)
             ),
             Why::TooEarly(keyword) => write!(
                 f,
-                "{} stands behind 'start', and nothing is started yet",
-                keyword.text()
+                "{} needs a 'start' before it, and there is none{}",
+                keyword.text(),
+                NearestText(meant_early(*keyword))
             ),
             Why::TooLate(Keyword::Start) => write!(f, "start stands in a script once"),
             Why::TooLate(keyword) => write!(
@@ -91,7 +94,7 @@ impl fmt::Display for CountText {
     }
 }
 
-/// The keyword that a word is near to, as a question.
+/// The keyword that is meant, as a question.
 #[derive(Clone, Copy)]
 struct NearestText(Option<Keyword>);
 
@@ -102,6 +105,48 @@ impl fmt::Display for NearestText {
         match self.0 {
             Some(keyword) => write!(f, "; did you mean '{}'?", keyword.text()),
             None => Ok(()),
+        }
+    }
+}
+
+/// The line before `start` that is meant by an event there.
+fn meant_early(keyword: Keyword) -> Option<Keyword>
+    ensures { result ≡ meant_early keyword }
+{
+    match keyword {
+        Keyword::Attach => Some(Keyword::Attached),
+        _ => None,
+    }
+}
+
+/// Whether a word has hexadecimal digits alone.
+fn are_digits(word: &[u8]) -> bool
+    ensures { result ≡ list_all is_ascii_hexdigit word.now }
+{
+    word.iter().all(|byte| byte.is_ascii_hexdigit())
+}
+
+/// Whether a word is hexadecimal digits that lack their `0x`, and would fit with it.
+fn lacks_prefix(operand: Operand, word: &[u8]) -> bool
+    ensures { result ≡ lacks_prefix operand word.now }
+{
+    word.len() <= operand.digits() && are_digits(word)
+}
+
+/// The number that is meant by a word that lacks its `0x`, as a question.
+#[derive(Clone, Copy)]
+struct PrefixText<'a>(Place, &'a [u8]);
+
+impl fmt::Display for PrefixText<'_> {
+    ghost output = { λ text. Some (prefix_text text.0 text.1.now) };
+
+    #[tactic(auto, unfolding(crate::specs::FaultTexts::prefix_text))]
+    fn fmt<W: fmt::Write>(&self, f: &mut fmt::Formatter<W>) -> fmt::Result {
+        match self.0 {
+            Place::Number(operand) if lacks_prefix(operand, self.1) => {
+                write!(f, "; did you mean '0x{}'?", ShownWord(self.1))
+            }
+            _ => Ok(()),
         }
     }
 }

@@ -2,9 +2,9 @@
 
 ghost use Rattle.std.specs.Prelude.{◌≡◌, IfSome};
 ghost use Rattle.nvme_grammar.specs.Keywords.{keyword_text, keyword_texts, keyword_of, places_of, behind_of, place_at, takes_words, sets_up, form_text, nearest_to};
-ghost use Rattle.nvme_grammar.specs.Near.{is_near};
+ghost use Rattle.nvme_grammar.specs.Near.{is_meant};
 
-use super::near::is_near;
+use super::near::is_meant;
 use super::place::{Behind, Operand, Place};
 
 /// The word that a line begins with.
@@ -315,14 +315,15 @@ impl Keyword {
         None
     }
 
-    /// The first keyword that a word is near to: one letter is wrong, missing or too many, or two are exchanged.
+    /// The first keyword that a word is near to: one letter is wrong, missing or too many, two are exchanged, or some are
+    /// capitals.
     #[tactic(auto, unfolding(crate::specs::Keywords::nearest_to))]
     pub(crate) fn nearest(word: &[u8]) -> Option<Keyword>
         ensures { result ≡ nearest_to word.now }
     {
         let mut keywords = KEYWORDS.as_slice();
         while let Some((keyword, behind)) = keywords.split_first() {
-            if is_near(word, keyword.text().as_bytes()) {
+            if is_meant(word, keyword.text().as_bytes()) {
                 return Some(*keyword);
             }
             keywords = behind;

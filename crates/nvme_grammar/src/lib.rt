@@ -27,6 +27,6 @@ pub use fault_text::ShownWord;
 pub use kept::KeptEvent;
 pub use keyword::Keyword;
 pub use line::{Line, parse_line};
-pub use near::is_near;
+pub use near::is_meant;
 pub use place::{Behind, Operand, Place};
 pub use script::{ParseFault, Script, parse};

@@ -1,7 +1,7 @@
 //! Words that differ a little.
 
 ghost use Rattle.std.specs.Prelude.{◌≡◌, drop};
-ghost use Rattle.nvme_grammar.specs.Near.{are_exchanged, differ_little, is_near as near};
+ghost use Rattle.nvme_grammar.specs.Near.{are_exchanged, differ_little, is_near as near, is_meant};
 
 /// A word without its first byte.
 fn behind_first(word: &[u8]) -> &[u8]
@@ -37,7 +37,7 @@ fn differ_little(word: &[u8], other: &[u8]) -> bool
 }
 
 /// Whether a word is another, but for one byte that is wrong, missing or too many, or two that are exchanged.
-pub fn is_near(word: &[u8], other: &[u8]) -> bool
+fn is_near(word: &[u8], other: &[u8]) -> bool
     ensures { result ≡ near word.now other.now }
 {
     let mut left = word;
@@ -53,4 +53,12 @@ pub fn is_near(word: &[u8], other: &[u8]) -> bool
         right = rest;
     }
     differ_little(left, right)
+}
+
+/// Whether a word is near to another, or the same but for the case of its letters.
+#[tactic(auto, unfolding(crate::specs::Near::is_meant))]
+pub fn is_meant(word: &[u8], other: &[u8]) -> bool
+    ensures { result ≡ is_meant word.now other.now }
+{
+    is_near(word, other) || word.eq_ignore_ascii_case(other)
 }

@@ -1,6 +1,6 @@
 //! What stands in the places of a line.
 
-ghost use Rattle.std.specs.Prelude.{◌≡◌, ◌*◌, ◌≤◌, length, Some};
+ghost use Rattle.std.specs.Prelude.{◌≡◌, ◌*◌, ◌/◌, ◌≤◌, length, Some};
 ghost use Rattle.nvme_spec.specs.Limits.{most_bytes};
 ghost use Rattle.nvme_grammar.specs.LineFaults.{suits};
 ghost use Rattle.nvme_grammar.specs.Places.{operand_name, operand_bits, spells, place_behind, takes_behind, wanted_text};
@@ -89,6 +89,13 @@ impl Operand {
             Operand::Crkey | Operand::Nrkey | Operand::Prkey => 64,
             Operand::Host => 128,
         }
+    }
+
+    /// How many hexadecimal digits that are at most.
+    pub(crate) fn digits(self) -> usize
+        ensures { result ≡ operand_bits self / 4 }
+    {
+        self.bits() as usize / 4
     }
 
     /// Whether a word spells such a number.

@@ -12,6 +12,7 @@ use crate::command_line::{Paths, paths_of};
 use crate::configuration::ConfigReason;
 use crate::failure::Failure;
 use crate::media::{behind_cache, scratch};
+use crate::placed::{PlacedFault, PlacedRule};
 use crate::reason::{Reason, USAGE};
 use crate::run::{ScriptFault, run_text};
 use crate::system::{HostFiles, System};
@@ -46,7 +47,13 @@ fn line_reason<'p, 't>(
     }
     let mut room = Buffers::for_text(alloc, text).ok()?;
     let fault = fault_at(text, number, &mut room.bytes, &mut room.identifiers)?;
-    Some(Reason::Line(fault))
+    Some(Reason::Line {
+        path: paths.script,
+        fault: PlacedFault {
+            line: number,
+            fault,
+        },
+    })
 }
 
 /// Why the configuration of a script is refused over a medium of so many blocks; where an image has none, that.
@@ -67,8 +74,12 @@ fn configuration_reason<'p, 't>(
         .line
         .number_in(text, &mut room.bytes, &mut room.identifiers)?;
     Some(Reason::Config {
-        line,
-        rule: reason.rule,
+        path: paths.script,
+        rule: PlacedRule {
+            line,
+            rule: reason.rule,
+            in_memory: paths.image.is_none(),
+        },
     })
 }
 

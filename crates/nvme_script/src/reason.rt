@@ -1,7 +1,6 @@
 //! What the program tells beside the text of a failure: one line, which gives its reason.
 
-use crate::configuration::BrokenRule;
-use nvme_grammar::LineFault;
+use crate::placed::{PlacedFault, PlacedRule};
 use std::{fmt, io};
 
 /// How the program is called.
@@ -43,20 +42,30 @@ pub enum Reason<'p, 't> {
     /// The transcript can't be written.
     Unwritten,
     /// A line outside the grammar.
-    Line(LineFault<'t>),
+    Line {
+        path: Option<&'p str>,
+        fault: PlacedFault<'t>,
+    },
     /// A script that begins as images do.
     Zeros {
         path: &'p str,
     },
     /// A configuration that is refused at a line.
     Config {
-        line: usize,
-        rule: BrokenRule,
+        path: Option<&'p str>,
+        rule: PlacedRule,
     },
     /// An image without a block.
     NoBlock {
         path: &'p str,
     },
+}
+
+impl Reason<'_, '_> {
+    /// Whether its line begins with the place of what is refused, in a script.
+    pub(crate) fn has_place(&self) -> bool {
+        matches!(self, Reason::Line { .. } | Reason::Config { .. })
+    }
 }
 
 /// The file that a script stands in, or the standard input.
@@ -114,13 +123,13 @@ impl fmt::Display for Reason<'_, '_> {
                 ScriptName(*path)
             ),
             Reason::Unwritten => write!(f, "standard output can't be written"),
-            Reason::Line(fault) => write!(f, "{fault}"),
+            Reason::Line { path, fault } => write!(f, "{}:{fault}", ScriptName(*path)),
             Reason::Zeros { path } => write!(
                 f,
                 "'{}' begins with a byte 00h, as images do and scripts don't; usage: {USAGE}",
                 path.escape_debug()
             ),
-            Reason::Config { line, rule } => write!(f, "line {line}: {rule}"),
+            Reason::Config { path, rule } => write!(f, "{}:{rule}", ScriptName(*path)),
             Reason::NoBlock { path } => write!(
                 f,
                 "'{}' has no whole block; to run a script over zeros in memory: ./nvmesim - {}",

@@ -36,6 +36,16 @@ impl Program {
         writeln!(errors, "{name}: {failure}")
     }
 
+    /// Writes the line with a reason. As compilers do, it begins with the place of what is refused, where that is in a
+    /// script, and else with the program's name.
+    fn say_reason<E: Write>(self, errors: &mut E, reason: Reason<'_, '_>) -> io::Result<()> {
+        if reason.has_place() {
+            return writeln!(errors, "{reason}");
+        }
+        let name = self.name;
+        writeln!(errors, "{name}: {reason}")
+    }
+
     /// Tells why the program ends: the text of the failure, and behind it a line with its reason. Want of memory has
     /// none.
     pub fn tell<E: Write>(
@@ -51,8 +61,7 @@ impl Program {
             return failure;
         }
         if let Some(reason) = reason {
-            let name = self.name;
-            let _ = writeln!(errors, "{name}: {reason}");
+            let _ = self.say_reason(errors, reason);
         }
         failure
     }

@@ -39,7 +39,7 @@ DOES_NOT_FIT = ("DoesNotFit", "namespace 2 ends behind the 72 blocks of the medi
 def refused(blocks: int, fault: str, reason: str) -> Case:
     """A configuration that is refused over an image."""
     return Case(f"an image behind a refused namespace of {blocks} blocks", ("image",), two_namespaces(blocks),
-                {"image": MARKED}, 1, errors=f"nvmesim: line 12: {fault}\nnvmesim: line 6: {reason}\n")
+                {"image": MARKED}, 1, errors=f"nvmesim: line 12: {fault}\nstandard input:6:1: {reason}\n")
 
 
 def make_old(room: Path) -> None:
@@ -76,20 +76,20 @@ CASES = (
     Case("an image behind an empty script", ("image",), files={"image": KEPT}),
     Case("an image behind a script without events", ("image",), SETUP, {"image": KEPT}),
     Case("an image behind a script whose last line lacks a word", ("image",), CUT_SHORT, {"image": KEPT}, 1,
-         errors="nvmesim: line 10: not understood\nnvmesim: column 1: read takes 5 words: read C N SLBA BLOCKS\n"),
+         errors="nvmesim: line 10: not understood\nstandard input:10:1: read takes 5 words: read C N SLBA BLOCKS\n"),
     Case("an image behind a subsystem without controllers", ("image",), "start\nup 1\n", {"image": MARKED},
          output="nocontroller 1\n"),
     refused(0, "BadSize", "namespace 2 has no blocks"),
     refused(65537, "BadSize", "namespace 2 has 65537 blocks, and 65536 is the most"),
     refused(9, *DOES_NOT_FIT),
     Case("ten blocks on 5,000 bytes", ("image",), last_block(10), {"image": TAIL}, 1,
-         errors="nvmesim: line 4: DoesNotFit\nnvmesim: line 2: namespace 1 ends behind the 9 blocks of the medium, "
+         errors="nvmesim: line 4: DoesNotFit\nstandard input:2:1: namespace 1 ends behind the 9 blocks of the medium, "
                 "where the namespaces lie one after the other\n"),
     Case("nine blocks on 5,000 bytes", ("image",), last_block(9), {"image": TAIL},
          output="up 1 ok\nplaced 1 1\nrung 1\nfetch 1 1 took\nexecute 1 0 posted 0:00 0\n",
          left={"image": TAIL[:4096] + b"\x5a" * 512 + TAIL[4608:]}),
     Case("the first script with ten blocks on 5,000 bytes", ("image",), hello_over(10), {"image": TAIL}, 1,
-         errors="nvmesim: line 4: DoesNotFit\nnvmesim: line 2: namespace 1 ends behind the 9 blocks of the medium, "
+         errors="nvmesim: line 4: DoesNotFit\nstandard input:2:1: namespace 1 ends behind the 9 blocks of the medium, "
                 "where the namespaces lie one after the other\n"),
     Case("the first script with nine blocks on 5,000 bytes", ("image",), hello_over(9), {"image": TAIL},
          output=HELLO_SHOWN, left={"image": b"Hello" + bytes(507) + TAIL[512:]}),

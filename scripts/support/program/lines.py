@@ -14,68 +14,75 @@ execute 1 0
 poll 1
 read 1 1 0"""
 
-# Scripts, the number of the first line outside, and the reason.
+# Scripts, the number of the first line outside, and its column with the reason.
 SCRIPTS = (
-    (CUT_SHORT, 11, "column 1: read takes 5 words: read C N SLBA BLOCKS"),
-    ("start\ndo 1 read 1 0 1\n", 2, "column 1: there is no line 'do'"),
-    ("read 1 1 0 1\nstart\n", 1, "column 1: read stands behind 'start', and nothing is started yet"),
+    (CUT_SHORT, 11, "1: read takes 5 words: read C N SLBA BLOCKS"),
+    ("start\ndo 1 read 1 0 1\n", 2, "1: there is no line 'do'"),
+    ("read 1 1 0 1\nstart\n", 1, "1: read needs a 'start' before it, and there is none"),
     ("# \xff\0\x0b is a comment\n\xff\0\x0b is not\n", 2,
-     "column 1: the byte \\xff is neither a visible character nor a space, a tab or a carriage return"),
-    ("start\n#\nstart\n", 3, "column 1: start stands in a script once"),
-    ("controller 1 host 1\nstart\nread 1 1 0\n???", 3, "column 1: read takes 5 words: read C N SLBA BLOCKS"),
+     "1: the byte \\xff is neither a visible character nor a space, a tab or a carriage return"),
+    ("start\n#\nstart\n", 3, "1: start stands in a script once"),
+    ("controller 1 host 1\nstart\nread 1 1 0\n???", 3, "1: read takes 5 words: read C N SLBA BLOCKS"),
     ("controller 1 host 1\ncontroller +2 host 1\nstart", 2,
-     "column 12: word 2: C, a number below 2^16, and not '+2'"),
-    ("start\nstart", 2, "column 1: start stands in a script once"),
-    ("read 1 1 0 1", 1, "column 1: read stands behind 'start', and nothing is started yet"),
-    ("start\nattach 1 1 1 2 3 4 5 6 7 65536", 2, "column 26: word 11: C, a number below 2^16, and not '65536'"),
-    ("start\n\nflush 1 1 1 1 1 1 1 1 1", 3, "column 1: flush takes 3 words: flush C N"),
-    ("start\npowercycle\npowercycle 1", 3, "column 1: powercycle takes 1 word: powercycle"),
-    ("powercycle\nstart", 1, "column 1: powercycle stands behind 'start', and nothing is started yet"),
+     "12: word 2: C, a number below 2^16, and not '+2'"),
+    ("start\nstart", 2, "1: start stands in a script once"),
+    ("read 1 1 0 1", 1, "1: read needs a 'start' before it, and there is none"),
+    ("start\nattach 1 1 1 2 3 4 5 6 7 65536", 2, "26: word 11: C, a number below 2^16, and not '65536'"),
+    ("start\n\nflush 1 1 1 1 1 1 1 1 1", 3, "1: flush takes 3 words: flush C N"),
+    ("start\npowercycle\npowercycle 1", 3, "1: powercycle takes 1 word: powercycle"),
+    ("powercycle\nstart", 1, "1: powercycle needs a 'start' before it, and there is none"),
 )
 
-# Lines behind `start`, and the reasons.
+# Lines behind `start`, and their columns with the reasons.
 BEHIND_START = (
-    ("wirte 1 1 0 1 fill:00", "column 1: there is no line 'wirte'; did you mean 'write'?"),
-    ("  do 1", "column 3: there is no line 'do'"),
-    ("write 1 1 0 1", "column 1: write takes 6 words: write C N SLBA BLOCKS DATA"),
-    ("attach 1", "column 1: attach takes 3 words or more: attach C N C1 C2 .."),
-    ("read 1 0xg 0 1", "column 8: word 3: N, a number below 2^32, and not '0xg'"),
-    ("read 1 4294967296 0 1", "column 8: word 3: N, a number below 2^32, and not '4294967296'"),
-    ("register 1 1 0 2 0 0 1", "column 16: word 5: IEKEY, 0 or 1, and not '2'"),
-    ("write 1 1 0 1 hex:0", "column 15: word 6: DATA, fill: and two hexadecimal digits, or hex: and pairs of them that "
+    ("wirte 1 1 0 1 fill:00", "1: there is no line 'wirte'; did you mean 'write'?"),
+    ("  do 1", "3: there is no line 'do'"),
+    ("write 1 1 0 1", "1: write takes 6 words: write C N SLBA BLOCKS DATA"),
+    ("attach 1", "1: attach takes 3 words or more: attach C N C1 C2 .."),
+    ("read 1 0xg 0 1", "8: word 3: N, a number below 2^32, and not '0xg'"),
+    ("read 1 4294967296 0 1", "8: word 3: N, a number below 2^32, and not '4294967296'"),
+    ("register 1 1 0 2 0 0 1", "16: word 5: IEKEY, 0 or 1, and not '2'"),
+    ("write 1 1 0 1 hex:0", "15: word 6: DATA, fill: and two hexadecimal digits, or hex: and pairs of them that "
      "BLOCKS have room for, and not 'hex:0'"),
-    ("store 1 0 00", "column 11: word 4: hex: and pairs of hexadecimal digits, and not '00'"),
-    ("store 1 0 hex:0aF", "column 11: word 4: hex: and pairs of hexadecimal digits, and not 'hex:0aF'"),
-    ("store 1 0 fill:0a", "column 11: word 4: hex: and pairs of hexadecimal digits, and not 'fill:0a'"),
+    ("store 1 0 00", "11: word 4: hex: and pairs of hexadecimal digits, and not '00'"),
+    ("store 1 0 hex:0aF", "11: word 4: hex: and pairs of hexadecimal digits, and not 'hex:0aF'"),
+    ("store 1 0 fill:0a", "11: word 4: hex: and pairs of hexadecimal digits, and not 'fill:0a'"),
     ("up 1234567890123456789012345678901234567890",
-     "column 4: word 2: C, a number below 2^16, and not '12345678901234567890123456789012..'"),
+     "4: word 2: C, a number below 2^16, and not '12345678901234567890123456789012..'"),
     ("up\x0b1",
-     "column 3: the byte \\x0b is neither a visible character nor a space, a tab or a carriage return"),
+     "3: the byte \\x0b is neither a visible character nor a space, a tab or a carriage return"),
     ("attach 1 1 1 2 3 4 5\x01",
-     "column 21: the byte \\x01 is neither a visible character nor a space, a tab or a carriage return"),
-    ("attached 1 1", "column 1: attached stands before 'start', which was said already"),
-    ("\tstart", "column 2: start stands in a script once"),
-    ("powercycle 1", "column 1: powercycle takes 1 word: powercycle"),
-    ("powrecycle", "column 1: there is no line 'powrecycle'; did you mean 'powercycle'?"),
+     "21: the byte \\x01 is neither a visible character nor a space, a tab or a carriage return"),
+    ("attached 1 1", "1: attached stands before 'start', which was said already"),
+    ("\tstart", "2: start stands in a script once"),
+    ("READ 1 1 0 1", "1: there is no line 'READ'; did you mean 'read'?"),
+    ("read 1 1 ff 1", "10: word 4: SLBA, a number below 2^64, and not 'ff'; did you mean '0xff'?"),
+    ("read 1 1 0 ffffffff0",
+     "12: word 5: BLOCKS, a number below 2^32, and not 'ffffffff0'"),
+    ("powercycle 1", "1: powercycle takes 1 word: powercycle"),
+    ("powrecycle", "1: there is no line 'powrecycle'; did you mean 'powercycle'?"),
 )
 
-# Lines that a script begins with, and the reasons.
+# Lines that a script begins with, and their columns with the reasons.
 BEFORE_START = (
-    ("controller 1 host", "column 1: controller takes 4 words, or one more: controller C host H [raw]"),
-    ("start now", "column 1: start takes 1 word: start"),
-    ("controller 1 hots 1", "column 14: word 3: the word 'host', and not 'hots'"),
-    ("namespace 1 block 1 shared", "column 13: word 3: the word 'blocks', and not 'block'"),
-    ("namespace 1 blocks 1 mine", "column 22: word 5: 'shared' or 'private', and not 'mine'"),
-    ("controller 1 host 1 rare", "column 21: word 5: 'raw' or nothing, and not 'rare'"),
-    ("up 1", "column 1: up stands behind 'start', and nothing is started yet"),
-    ("powercycle", "column 1: powercycle stands behind 'start', and nothing is started yet"),
+    ("controller 1 host", "1: controller takes 4 words, or one more: controller C host H [raw]"),
+    ("start now", "1: start takes 1 word: start"),
+    ("controller 1 hots 1", "14: word 3: the word 'host', and not 'hots'"),
+    ("namespace 1 block 1 shared", "13: word 3: the word 'blocks', and not 'block'"),
+    ("namespace 1 blocks 1 mine", "22: word 5: 'shared' or 'private', and not 'mine'"),
+    ("controller 1 host 1 rare", "21: word 5: 'raw' or nothing, and not 'rare'"),
+    ("up 1", "1: up needs a 'start' before it, and there is none"),
+    ("controller 1 host a1", "19: word 4: H, a number below 2^128, and not 'a1'; did you mean '0xa1'?"),
+    ("attach 1 1", "1: attach needs a 'start' before it, and there is none; did you mean 'attached'?"),
+    ("Attached 1 1", "1: there is no line 'Attached'; did you mean 'attached'?"),
+    ("powercycle", "1: powercycle needs a 'start' before it, and there is none"),
 )
 
 
 def outside(script: str, number: int, reason: str) -> Case:
     """A script whose line of this number is the first outside the grammar: nothing is printed."""
     return Case(f"{script.splitlines()[number - 1]!r} in line {number}", given=script, status=1,
-                errors=f"nvmesim: line {number}: not understood\nnvmesim: {reason}\n")
+                errors=f"nvmesim: line {number}: not understood\nstandard input:{number}:{reason}\n")
 
 
 CASES = (
