@@ -1,12 +1,12 @@
 """Says in words what a line of a script means, what its answer means, and which command it is about."""
 from __future__ import annotations
 
-from typing import Dict, List, Optional, Sequence
+from typing import Dict, List, Optional, Sequence, Tuple
 
 from .answers import (Answer, Executed, Fetched, NotThere, Polled, PowerCycled, Refused, Reset, Rung, Stored, Up,
                       Wrote32)
 from .enums import (AcquireAction, AdminOpcode, ExecuteOutcome, IoOpcode, Persistence, PollOutcome, Protection,
-                    RegisterAction, ReleaseAction, ReservationType, Rule, Status, UpOutcome)
+                    Refusal, RegisterAction, ReleaseAction, ReservationType, Rule, Status, UpOutcome)
 from .history import Command, Event
 from .raw import Entry
 from .reports import HEADER_BYTES, ReservationReport, parse_report
@@ -31,6 +31,13 @@ _PERSISTENCES = {
     Persistence.KEEP: "", Persistence.CLEAR: "; nothing persists through a loss of power from now on",
     Persistence.SET: "; all persists through a loss of power from now on",
 }
+# What a driver takes of a request: a field, its place among the numbers of the line, and its least and greatest value.
+_TAKEN: Dict[str, Tuple[Tuple[str, int, int, int], ...]] = {
+    **dict.fromkeys(("read", "write", "compare"), (("BLOCKS", 3, 1, 256),)), "zeroes": (("BLOCKS", 3, 1, 65536),),
+    "register": (("ACTION", 2, 0, 7), ("CPTPL", 4, 0, 3)), "acquire": (("ACTION", 2, 0, 7),),
+    "release": (("ACTION", 2, 0, 7),), "report": (("DWORDS", 2, 1, 32768),), "protect": (("STATE", 2, 0, 7),),
+}
+_MOST_LISTED = 2047
 _RANGED = (IoOpcode.READ, IoOpcode.WRITE, IoOpcode.COMPARE, IoOpcode.WRITE_ZEROES)
 
 
@@ -228,7 +235,7 @@ def meaning(event: Event, configuration: Configuration) -> str:
     host = configuration.hosts.get(number)
     who = f"{host_words(host)}'s driver" if host is not None else "the driver"
     if isinstance(answer, Refused):
-        return f"{who} refuses {request_words(event.line)}: {answer.refusal.words}"
+        return f"{who} refuses {request_words(event.line)}: {_refused_words(event.line, answer)}"
     if isinstance(answer, (Fetched, Executed)):
         return f"controller {number} {_controller_words(event, answer)}"
     if isinstance(answer, (Stored, Wrote32)):
@@ -246,12 +253,29 @@ def short_meaning(event: Event) -> str:
     if isinstance(answer, PowerCycled):
         return "all drivers and controllers are down"
     if isinstance(answer, Refused):
-        return f"refused: {answer.refusal.words}"
+        return f"refused: {_refused_words(event.line, answer)}"
     if isinstance(answer, (Fetched, Executed)):
         return _controller_words(event, answer)
     if isinstance(answer, (Stored, Wrote32)):
         return _raw_words(event, answer)
     return _driver_words(event, answer)
+
+
+def _refused_words(line: ScriptLine, answer: Refused) -> str:
+    """Why a driver refuses a request; which field no command can say, where that is it."""
+    field = _bad_field(line) if answer.refusal is Refusal.BAD_REQUEST else ""
+    return f"{answer.refusal.words}: {field}" if field else answer.refusal.words
+
+
+def _bad_field(line: ScriptLine) -> str:
+    """The first field of a request that no command can say; an empty text where there is none."""
+    numbers = line.numbers()
+    for name, place, least, most in _TAKEN.get(line.verb, ()):
+        if not least <= numbers[place] <= most:
+            return f"{name} is {numbers[place]:,}, and {least:,} to {most:,} are taken"
+    if line.verb in ("attach", "detach") and len(numbers) - 2 > _MOST_LISTED:
+        return f"the list has {len(numbers) - 2:,} controllers, and {_MOST_LISTED:,} are the most"
+    return ""
 
 
 def _driver_words(event: Event, answer: Answer) -> str:
@@ -345,7 +369,7 @@ def _controller_words(event: Event, answer: Answer) -> str:
     command: Optional[Command] = event.command
     if isinstance(answer, Fetched):
         if command is None:
-            return f"finds nothing to fetch in queue {answer.queue}"
+            return f"finds nothing to fetch in queue {answer.queue}: nothing is rung there that it has not fetched"
         return f"fetches {command_label(command)} from queue {answer.queue}"
     if isinstance(answer, Executed) and command is not None:
         return f"executes {command_label(command)}: {verdict_words(command)}"

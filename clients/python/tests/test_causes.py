@@ -9,12 +9,29 @@ from nvmesim import Rule, Session
 from nvmesim.causes import event_cause
 from nvmesim.explain import causes_of, explain, run_script
 from nvmesim.script import configuration_of, read_lines
+from nvmesim.words import meaning
 
 from .support import LIVE, STANDIN, FolderCase, examples
 
 SETUP = ["controller 1 host 0xa1", "controller 2 host 0xb2", "controller 3 host 0xc3 raw",
          "namespace 1 blocks 64 shared", "namespace 2 blocks 8 private", "attached 1 1", "attached 2 1", "attached 3 1", "attached 1 2"]
 SQ, CQ, DATA, IO_SQ, IO_CQ = 0x1000, 0x2000, 0x3000, 0x4000, 0x5000
+
+# A request that the driver refuses, and why.
+BAD_REQUESTS = [
+    ("read 1 1 0 0", "BLOCKS is 0, and 1 to 256 are taken"),
+    ("read 1 1 0 257", "BLOCKS is 257, and 1 to 256 are taken"),
+    ("write 1 1 0 257 fill:01", "BLOCKS is 257, and 1 to 256 are taken"),
+    ("compare 1 1 0 0 fill:01", "BLOCKS is 0, and 1 to 256 are taken"),
+    ("zeroes 1 1 0 65537", "BLOCKS is 65,537, and 1 to 65,536 are taken"),
+    ("register 1 1 8 0 0 0 0x11", "ACTION is 8, and 0 to 7 are taken"),
+    ("register 1 1 0 0 4 0 0x11", "CPTPL is 4, and 0 to 3 are taken"),
+    ("acquire 1 1 8 1 0x11 0", "ACTION is 8, and 0 to 7 are taken"),
+    ("release 1 1 9 1 0x11", "ACTION is 9, and 0 to 7 are taken"),
+    ("report 1 1 0", "DWORDS is 0, and 1 to 32,768 are taken"),
+    ("protect 1 1 8", "STATE is 8, and 0 to 7 are taken"),
+    ("attach 1 1" + " 1" * 2048, "the list has 2,048 controllers, and 2,047 are the most"),
+]
 
 # A request, and why it is denied; None where it is carried out.
 REQUESTS: List[Tuple[str, Optional[str]]] = [
@@ -165,6 +182,18 @@ class CausesTest(FolderCase):
                       f"write32 3 {bell + 4} {(tails[is_admin] - 1) % slots}", f"fetch 3 {queue}", "execute 3 0"]
             wanted.update({len(lines): why} if why is not None else {})
         self.assertEqual(self.causes("\n".join(lines) + "\n"), wanted)
+
+    def test_requests_that_no_command_can_say(self) -> None:
+        configuration = configuration_of(list(read_lines("\n".join([*SETUP, "start"]))))
+        with Session(program=LIVE) as session:
+            session.run("\n".join([*SETUP, "start", "up 1"]) + "\n")
+            for line, why in BAD_REQUESTS:
+                with self.subTest(line=line):
+                    words = meaning(session.event(line), configuration)
+                    self.assertTrue(words.endswith(f": no command can say this: {why}"), words)
+            idle = meaning(session.event("fetch 1 1"), configuration)
+            self.assertEqual(idle, "controller 1 finds nothing to fetch in queue 1: nothing is rung there that it has not "
+                                   "fetched")
 
     def test_where_they_are_told(self) -> None:
         script = "\n".join([*SETUP, "start", "up 1", "identify 1 9 0", "ring 1", "fetch 1 0", "execute 1 0"]) + "\n"
