@@ -72,8 +72,8 @@ judge_words() {
 }
 
 # Takes the command line apart: `option` is the one of the options named first that was given, if any, and `words` are
-# the image and the script, or the image alone, or neither. Words that the program would refuse are refused as it does,
-# so that nobody waits for a build to hear that.
+# the image and the script, or the image alone, or neither; before them `--image` for a program that takes that. Words
+# that the program would refuse are refused as it does, so that nobody waits for a build to hear that.
 take_apart() {
     local allowed=$1 number=0 has_image=
     shift
@@ -99,5 +99,10 @@ take_apart() {
         esac
         shift
     done
-    [ -n "$has_image" ] || judge_words
+    if [ -z "$has_image" ]; then
+        judge_words
+    elif [ "$name" = nvmelive ]; then
+        # This program judges its image too, and is told that it is meant.
+        words=(--image "${words[@]}")
+    fi
 }

@@ -1,4 +1,5 @@
 pub mod Arity
+pub mod Beginnings
 pub mod Brief
 pub mod Lent
 pub mod Requests

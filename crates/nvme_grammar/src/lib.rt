@@ -2,6 +2,7 @@
 //! fleet that it asks for.
 #![tactic(auto)]
 
+mod beginning;
 mod brief;
 mod buffers;
 mod configuration;
@@ -21,6 +22,7 @@ mod place;
 mod request;
 mod script;
 
+pub use beginning::begins_script;
 pub use buffers::Buffers;
 pub use fault::{LineFault, Why, fault_at, foreign_byte, line_fault};
 pub use fault_text::ShownWord;

@@ -1,16 +1,16 @@
-//! The program: `nvmelive [IMAGE [SCRIPT]]` over streams that are handed in.
+//! The program: `nvmelive [--image] [IMAGE [SCRIPT]]` over streams that are handed in.
 
 ghost use Rattle.std.specs.Prelude.{◌≡◌, ◌≢◌, ◌≤◌, None, Some, map, option_map};
 ghost use Rattle.std.specs.String.{string_bytes};
 ghost use Rattle.std.specs.Result.{result_err};
-ghost use Rattle.nvme_script.specs.CommandLines.{word_fault};
-ghost use Rattle.nvme_script.specs.Programs.{EndsFromImage, EndsFromScript, IsOfRun, ProgramEnds};
+ghost use Rattle.nvme_script.specs.CommandLines.{behind_option, word_fault};
+ghost use Rattle.nvme_script.specs.Programs.{EndsFromImage, EndsFromScript, EndsGuarded, GuardedEnds, IsOfRun};
 
 use crate::session::run_live;
 use nvme_medium::Medium;
 use nvme_script::{
-    Failure, HostFiles, Paths, Program, Reason, ScriptFault, System, behind_cache, paths_of,
-    scratch, status_of,
+    Failure, HostFiles, Paths, Program, Reason, ScriptFault, System, behind_cache, behind_option,
+    judge_image, means_image, paths_of, scratch, status_of,
 };
 use std::alloc::Global;
 use std::fs::File;
@@ -20,7 +20,7 @@ use std::rt::Files;
 /// The program, as it calls itself.
 const NVMELIVE: Program = Program {
     name: "nvmelive",
-    usage: "nvmelive [IMAGE [SCRIPT]]",
+    usage: "nvmelive [--image] [IMAGE [SCRIPT]]",
 };
 
 /// Tells why a session ended before its input did. Where a line was answered by it, that says the reason.
@@ -122,10 +122,37 @@ fn run_scratch<S: System, I: Read, O: Write, E: Write>(
     }
 }
 
+/// Runs a session over an image, or over zeros in memory. An image is judged by its text first, unless a word says that
+/// it is meant.
+#[tactic(auto, using(nvme_script::proofs::Guarded::meant_image, nvme_script::proofs::Guarded::no_image, nvme_script::proofs::Guarded::refused_image, nvme_script::proofs::Guarded::judged_image))]
+fn run_guarded<S: System, I: Read, O: Write, E: Write>(
+    alloc: Global,
+    system: &mut S,
+    is_meant: bool,
+    paths: Paths<'_>,
+    input: &mut I,
+    output: &mut O,
+    errors: &mut E,
+) -> Result<(), Failure>
+    ensures { EndsGuarded S.step is_meant system.old (option_map (λ path. path.now) paths.entry.image)
+        (option_map (λ path. path.now) paths.entry.script) (result_err result) system.new }
+{
+    let Some(image) = paths.image else {
+        return run_scratch(alloc, system, paths, input, output, errors);
+    };
+    if is_meant {
+        return run_image(alloc, system, image, paths, input, output, errors);
+    }
+    match judge_image(alloc, system, image) {
+        Ok(()) => run_image(alloc, system, image, paths, input, output, errors),
+        Err(unopened) => Err(NVMELIVE.tell_image(errors, &unopened, image)),
+    }
+}
+
 /// The program in any system: which files it opens, in which order, and what ends it. Its words are those of
 /// `run_program`. For a failure one line goes to `errors`, and behind it a second, which gives the reason, where no
 /// answer gave it.
-#[tactic(auto, using(nvme_script::proofs::ProgramEnds::words_are_refused, nvme_script::proofs::ProgramEnds::words_get_no_memory, nvme_script::proofs::ProgramEnds::words_are_taken))]
+#[tactic(auto, using(nvme_script::proofs::Guarded::words_are_refused, nvme_script::proofs::Guarded::words_get_no_memory, nvme_script::proofs::Guarded::words_are_taken))]
 pub fn run_in<S: System, I: Read, O: Write, E: Write>(
     alloc: Global,
     system: &mut S,
@@ -134,22 +161,20 @@ pub fn run_in<S: System, I: Read, O: Write, E: Write>(
     output: &mut O,
     errors: &mut E,
 ) -> Result<(), Failure>
-    ensures { ProgramEnds S.step system.old (map string_bytes words.now) (result_err result) system.new }
+    ensures { GuardedEnds S.step system.old (map string_bytes words.now) (result_err result) system.new }
 {
-    let paths = match paths_of(alloc, "nvmelive", words) {
-        Ok(paths) => paths,
-        Err(failure) => return Err(NVMELIVE.tell_words(errors, failure, words)),
-    };
-    match paths.image {
-        Some(image) => run_image(alloc, system, image, paths, input, output, errors),
-        None => run_scratch(alloc, system, paths, input, output, errors),
+    let is_meant = means_image(words);
+    let behind = behind_option(words);
+    match paths_of(alloc, "nvmelive", behind) {
+        Ok(paths) => run_guarded(alloc, system, is_meant, paths, input, output, errors),
+        Err(failure) => Err(NVMELIVE.tell_words(errors, failure, behind, usize::from(is_meant))),
     }
 }
 
 /// The program over the streams that it is handed: its words, the first of which is its name, its standard input,
-/// output and error. The answer is its exit status: 0 at the end of the input; 1 a fault of the script, or a refused
+/// output and error. A word `--image` before the image says that it is meant as one, whatever it holds. The answer is its exit status: 0 at the end of the input; 1 a fault of the script, or a refused
 /// configuration; 2 a file or stream that can't be opened, read or written; 3 a refused command line; 4 out of memory.
-#[tactic(auto, using(nvme_script::proofs::ProgramEnds::refused_status, nvme_script::proofs::ProgramEnds::taken_status))]
+#[tactic(auto, using(nvme_script::proofs::Guarded::refused_status, nvme_script::proofs::Guarded::taken_status))]
 pub fn run_program<R: Files<File = File> + AllocGlobal, I: Read, O: Write, E: Write>(
     rt: &R,
     words: &[String],
@@ -158,8 +183,8 @@ pub fn run_program<R: Files<File = File> + AllocGlobal, I: Read, O: Write, E: Wr
     errors: &mut E,
 ) -> u8
     ensures last { result ≤ 4 }
-    ensures refused { word_fault (map string_bytes words.now) ≢ None → result ≡ 3 }
-    ensures taken { word_fault (map string_bytes words.now) ≡ None → result ≢ 3 }
+    ensures refused { word_fault (behind_option (map string_bytes words.now)) ≢ None → result ≡ 3 }
+    ensures taken { word_fault (behind_option (map string_bytes words.now)) ≡ None → result ≢ 3 }
 {
     status_of(run_in(
         rt.alloc(),

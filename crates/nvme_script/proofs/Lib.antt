@@ -1,5 +1,6 @@
 mod Zeros
 pub mod ProgramEnds
+pub mod Guarded
 mod CommandLine
 pub mod ByValue
 pub mod Texts

@@ -16,7 +16,7 @@ refused_status step old words end new ends refused = by (word_fault words) ends 
     by (Some fault) ends refused = ap end_status ends.0
     by None ends refused = absurd (refused refl)
 
-of-file : (failure : Failure) → IsOfFile failure → exit_status failure ≢ 3
+pub of-file : (failure : Failure) → IsOfFile failure → exit_status failure ≢ 3
 of-file File is same = absurd (omega arith)
 of-file Memory is same = absurd (omega arith)
 of-file CommandLine is same = absurd is
@@ -40,7 +40,7 @@ opened : {S : Type 0} (step : S → Opening → S → Type 0) (opening : List �
 opened step opening old None failure new opens = let bad = opens.0 in cc
 opened step opening old (Some path) failure new opens = opens.1
 
-memory-status : (end : Option Failure) → end ≡ Some Memory → end_status end ≢ 3
+pub memory-status : (end : Option Failure) → end ≡ Some Memory → end_status end ≢ 3
 memory-status end is same = of-file Memory tt (sym (ap end_status is) ∙ same)
 
 from-script : {S : Type 0} (step : S → Opening → S → Type 0) (old : S) (path : Option (List ℕ)) (end : Option Failure) (new : S)
@@ -51,7 +51,7 @@ from-script step old path end new ends = by ends.0 ends.1 ends.2
     by None opens behind same = of-run end behind same
     by (Some failure) opens behind same = of-file failure (opened step AsScript old path failure new opens) (ap end_status (sym behind) ∙ same)
 
-from-image : {S : Type 0} (step : S → Opening → S → Type 0) (old : S) (image path : Option (List ℕ)) (end : Option Failure) (new : S)
+pub from-image : {S : Type 0} (step : S → Opening → S → Type 0) (old : S) (image path : Option (List ℕ)) (end : Option Failure) (new : S)
     → EndsFromImage step old image path end new → end_status end ≢ 3
 from-image {S = S} step old image path end new ends = by ends.0 ends.1 ends.2 ends.3
   where

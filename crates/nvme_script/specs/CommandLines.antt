@@ -1,5 +1,5 @@
 -- The words of a command line: the program's name, then an image, then a script; both may be left out.
-use Rattle.std.specs.Prelude.{◌≡◌, ◌==◌, ℕ, Bool, false, nat_lt, List, [], ◌∷◌, slice_get, Option, Some, None, option_map, option_and_then, if◌then◌else◌, codes}
+use Rattle.std.specs.Prelude.{◌≡◌, ◌==◌, ℕ, Bool, false, nat_lt, List, [], ◌∷◌, slice_get, drop, Option, Some, None, option_map, option_and_then, if◌then◌else◌, codes}
 use Rattle.std.specs.Option.{option_or}
 use Rattle.std.specs.Str.{bytes_eq}
 use Rattle.nvme_script.specs.declared.command_line.WordFault.{WordFault}
@@ -40,3 +40,15 @@ script_in words = slice_get words 2
 pub record AreNamed (paths : Paths) (words : List (List ℕ)) : Type 0 where
   pub image : option_map (λ path. path.now) paths.image ≡ image_in words
   pub script : option_map (λ path. path.now) paths.script ≡ script_in words
+
+-- whether a word says that the image behind it is meant as one, whatever it holds
+abbrev pub is_image_option : Option (List ℕ) → Bool
+is_image_option None = false
+is_image_option (Some word) = bytes_eq word (codes "--image")
+
+abbrev pub means_image : List (List ℕ) → Bool
+means_image words = is_image_option (slice_get words 1)
+
+-- the words behind that one, which stands in the place of the name; else all
+abbrev pub behind_option : List (List ℕ) → List (List ℕ)
+behind_option words = if means_image words then drop 1 words else words

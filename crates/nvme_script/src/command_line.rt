@@ -112,3 +112,23 @@ pub fn paths_of<'a>(alloc: Global, name: &'a str, words: &'a [String]) -> Result
         None => named(alloc, name, words),
     }
 }
+
+/// Whether the first word behind the program's name is `--image`: the image behind it is meant as one, whatever it holds.
+pub fn means_image(words: &[String]) -> bool
+    ensures { result ≡ spec.means_image (map string_bytes words.now) }
+{
+    match words.get(1) {
+        Some(word) => word.as_bytes() == b"--image".as_slice(),
+        None => false,
+    }
+}
+
+/// The words behind `--image`, which stands in the place of the program's name; all words where it is not there.
+pub fn behind_option(words: &[String]) -> &[String]
+    ensures { map string_bytes result.now ≡ spec.behind_option (map string_bytes words.now) }
+{
+    if means_image(words) {
+        return &words[1..];
+    }
+    words
+}

@@ -213,7 +213,7 @@ pub fn run_in<S: System, I: Read, O: Write, E: Write>(
 {
     let paths = match paths_of(alloc, "nvmesim", words) {
         Ok(paths) => paths,
-        Err(failure) => return Err(NVMESIM.tell_words(errors, failure, words)),
+        Err(failure) => return Err(NVMESIM.tell_words(errors, failure, words, 0)),
     };
     match paths.image {
         Some(image) => run_image(alloc, system, image, paths, input, output, errors),

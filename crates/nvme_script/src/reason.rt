@@ -31,6 +31,10 @@ pub enum Reason<'p, 't> {
     NoImage {
         path: &'p str,
     },
+    /// A path that is a script, and was to be the image.
+    IsScript {
+        path: &'p str,
+    },
     /// The script can't be read.
     Unread {
         path: Option<&'p str>,
@@ -114,6 +118,11 @@ impl fmt::Display for Reason<'_, '_> {
             Reason::NoImage { path } => write!(
                 f,
                 "'{}' is no regular file, as an image has to be",
+                path.escape_debug()
+            ),
+            Reason::IsScript { path } => write!(
+                f,
+                "'{}' is a script, by its first line, and not an image; to use it as the image, put --image before it",
                 path.escape_debug()
             ),
             Reason::Unread { path } => write!(f, "{} can't be read", ScriptName(*path)),

@@ -1,11 +1,13 @@
 //! Where a program finds its files: what it opens, by which path.
 
-ghost use Rattle.std.specs.Prelude.{IfErr, option_map};
+ghost use Rattle.std.specs.Prelude.{IfErr, MatchResult, Ok, Err, option_map};
 ghost use Rattle.std.specs.Result.{result_err};
-ghost use Rattle.nvme_script.specs.Programs.{Opening, AsImage, AsScript, IsOfFile};
+ghost use Rattle.nvme_script.specs.Programs.{Opening, AsImage, AsScript, AsText, IsOfFile};
 
 use crate::failure::Failure;
 use nvme_medium::{FileFault, FileMedium, HostFile, Medium};
+use script_text::{ReadFault, read_text};
+use std::alloc::Global;
 use std::fs::{File, OpenOptions};
 use std::io::Read;
 use std::rt::Files;
@@ -18,6 +20,10 @@ pub enum Cause {
     System(io::Error),
     /// It is no regular file, as an image has to be.
     Irregular,
+    /// It begins as a script does, and was to be an image.
+    IsScript,
+    /// It was opened, and can't be read.
+    Unread,
     /// It is not known.
     Unknown,
 }
@@ -52,6 +58,13 @@ pub trait System {
 
     ghost step: { Self → Opening → Self → Type 0 };
 
+    /// The text of what is named as an image, from the path; an empty one where it has more bytes than a script may have.
+    /// Nothing is written there.
+    fn text_of(&mut self, alloc: Global, path: &str) -> Result<Vec<u8>, Unopened>
+        ensures step { MatchResult result (λ text. step self.old (AsText path.now (Ok text.items)) self.new)
+            (λ e. step self.old (AsText path.now (Err e.failure)) self.new) }
+        ensures failure { IfErr result (λ e. IsOfFile e.failure) };
+
     /// Opens the image at a path, to read and write it in place.
     fn open_image(&mut self, path: &str) -> Result<Self::Image, Unopened>
         ensures step { step self.old (AsImage path.now (option_map (λ e. e.failure) (result_err result))) self.new }
@@ -78,17 +91,20 @@ impl<R: Files<File = File>> System for HostFiles<'_, R> {
 
     ghost step = { λ _ _ _. Unit {0} };
 
-    fn open_image(&mut self, path: &str) -> Result<FileMedium<HostFile>, Unopened> {
-        match fs::metadata(self.rt, path) {
-            Ok(metadata) if metadata.is_file() => {}
-            Ok(_) => {
-                return Err(Unopened {
-                    failure: Failure::File,
-                    cause: Cause::Irregular,
-                });
-            }
+    fn text_of(&mut self, alloc: Global, path: &str) -> Result<Vec<u8>, Unopened> {
+        refuse_irregular(self.rt, path)?;
+        let mut file = match fs::open(self.rt, path) {
+            Ok(file) => file,
             Err(error) => return Err(Unopened::of(error)),
+        };
+        match read_text(alloc, &mut file) {
+            Ok(text) => Ok(text),
+            Err(fault) => unread(alloc, fault),
         }
+    }
+
+    fn open_image(&mut self, path: &str) -> Result<FileMedium<HostFile>, Unopened> {
+        refuse_irregular(self.rt, path)?;
         match FileMedium::open(self.rt, path) {
             Ok(image) => Ok(image),
             Err(fault) => Err(refused_image(self.rt, path, fault)),
@@ -100,6 +116,37 @@ impl<R: Files<File = File>> System for HostFiles<'_, R> {
             Ok(file) => Ok(file),
             Err(error) => Err(Unopened::of(error)),
         }
+    }
+}
+
+/// Refuses what is no regular file.
+fn refuse_irregular<R: Files<File = File>>(rt: &R, path: &str) -> Result<(), Unopened>
+    ensures { IfErr result (λ e. IsOfFile e.failure) }
+{
+    match fs::metadata(rt, path) {
+        Ok(metadata) if metadata.is_file() => Ok(()),
+        Ok(_) => Err(Unopened {
+            failure: Failure::File,
+            cause: Cause::Irregular,
+        }),
+        Err(error) => Err(Unopened::of(error)),
+    }
+}
+
+/// What a text comes to that was not read to its end: one that is longer than a script may be is none.
+fn unread(alloc: Global, fault: ReadFault) -> Result<Vec<u8>, Unopened>
+    ensures { IfErr result (λ e. IsOfFile e.failure) }
+{
+    match fault {
+        ReadFault::TooLong => Ok(Vec::new(alloc)),
+        ReadFault::NoMemory => Err(Unopened {
+            failure: Failure::Memory,
+            cause: Cause::Unknown,
+        }),
+        ReadFault::Read => Err(Unopened {
+            failure: Failure::File,
+            cause: Cause::Unread,
+        }),
     }
 }
 

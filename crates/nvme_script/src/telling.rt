@@ -1,8 +1,10 @@
 //! What a program tells on standard error: the text of its failure, and behind it a line with the reason.
 
-ghost use Rattle.std.specs.Prelude.{◌≡◌, ◌++◌, OnOk, codes};
+ghost use Rattle.std.specs.Prelude.{◌≡◌, ◌++◌, OnOk, Some, codes};
 ghost use Rattle.std.specs.Io.KnownBytes.{Appends};
 ghost use Rattle.nvme_script.specs.FailureTexts.{told_text};
+ghost use Rattle.nvme_script.specs.declared.reason.Reason.TheVariants.{IsScript as SaysScript};
+ghost use Rattle.nvme_script.specs.declared.system.Cause.TheVariants.{IsScript};
 
 use crate::command_line::{WordFault, refused_word};
 use crate::failure::Failure;
@@ -16,6 +18,27 @@ const AS_IMAGE: &str = "as the image, for reading and writing";
 
 /// What a script is opened for.
 const AS_SCRIPT: &str = "as the script, for reading";
+
+/// The reason of a file that can't be opened for this purpose.
+fn reason_of<'a>(
+    cause: &'a Cause,
+    path: &'a str,
+    purpose: &'static str,
+) -> Option<Reason<'a, 'a>>
+    ensures script { cause.entry.now ≡ IsScript → result ≡ Some (SaysScript path.entry) }
+{
+    match cause {
+        Cause::System(error) => Some(Reason::Unopened {
+            path,
+            purpose,
+            error,
+        }),
+        Cause::Irregular => Some(Reason::NoImage { path }),
+        Cause::IsScript => Some(Reason::IsScript { path }),
+        Cause::Unread => Some(Reason::Unread { path: Some(path) }),
+        Cause::Unknown => None,
+    }
+}
 
 /// A program, as it calls itself.
 #[derive(Clone, Copy)]
@@ -76,16 +99,11 @@ impl Program {
     ) -> Failure
         ensures { result ≡ unopened.now.failure }
     {
-        let reason = match &unopened.cause {
-            Cause::System(error) => Some(Reason::Unopened {
-                path,
-                purpose,
-                error,
-            }),
-            Cause::Irregular => Some(Reason::NoImage { path }),
-            Cause::Unknown => None,
-        };
-        self.tell(errors, unopened.failure, reason)
+        self.tell(
+            errors,
+            unopened.failure,
+            reason_of(&unopened.cause, path, purpose),
+        )
     }
 
     /// Tells why an image can't be opened.
@@ -102,24 +120,31 @@ impl Program {
         self.tell_file(errors, unopened, path, AS_SCRIPT)
     }
 
-    /// Tells why a command line ends the program; where a word is refused, which.
-    pub fn tell_words<E: Write>(self, errors: &mut E, failure: Failure, words: &[String]) -> Failure
+    /// Tells why a command line ends the program; where a word is refused, which. So many options stand before these
+    /// words.
+    pub fn tell_words<E: Write>(
+        self,
+        errors: &mut E,
+        failure: Failure,
+        words: &[String],
+        options: usize,
+    ) -> Failure
         ensures { result ≡ failure }
     {
-        self.tell(errors, failure, self.word_reason(words))
+        self.tell(errors, failure, self.word_reason(words, options))
     }
 
     /// Which word of a command line is refused, and why.
-    fn word_reason(self, words: &[String]) -> Option<Reason<'_, '_>> {
+    fn word_reason(self, words: &[String], options: usize) -> Option<Reason<'_, '_>> {
         let usage = self.usage;
         match refused_word(words)? {
             WordFault::NoOption(number) => Some(Reason::NoOption {
-                number,
+                number: number.saturating_add(options),
                 word: words.get(number)?.as_str(),
                 usage,
             }),
             WordFault::TooMany(number) => Some(Reason::TooManyWords {
-                number,
+                number: number.saturating_add(options),
                 word: words.get(number)?.as_str(),
                 usage,
             }),

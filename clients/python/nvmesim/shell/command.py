@@ -22,6 +22,8 @@ def add_arguments(parser: argparse.ArgumentParser) -> None:
                           "in words what they show. Ctrl-D ends it.")
     parser.add_argument("image", metavar="IMAGE", nargs="?", default="-", help="a file whose blocks are the medium; "
                         "without it, and for -, 1,024 blocks of zeros in memory")
+    parser.add_argument("--image", dest="is_meant", action="store_true",
+                        help="IMAGE is meant as one, also where it begins as a script does")
     parser.add_argument("script", metavar="SCRIPT", nargs="?", help="a script that is run first")
     parser.set_defaults(command=run)
 
@@ -30,7 +32,7 @@ def run(words: argparse.Namespace) -> int:
     """Carries the command out; its exit status is the program's."""
     # Ctrl-C forgets a line that is being typed, and nothing else: the program, which inherits this, goes on too.
     signal.signal(signal.SIGINT, signal.SIG_IGN)
-    talk = Talk(find_program(words.program), words.image, words.seconds)
+    talk = Talk(find_program(words.program), words.image, words.seconds, words.is_meant)
     try:
         if words.script is not None:
             text = Path(words.script).read_text(encoding="utf-8", errors="replace")  # comments may have any bytes

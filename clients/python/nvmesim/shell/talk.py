@@ -22,9 +22,16 @@ class Talk:
         configuration: what the lines before `start` say; empty before `start`.
     """
 
-    def __init__(self, program: PathLike, image: PathLike = "-", seconds: float = 10.0) -> None:
-        """Starts the program over an image, or over zeros in memory for `-`."""
-        self._command: List[PathLike] = [program, image]
+    def __init__(self, program: PathLike, image: PathLike = "-", seconds: float = 10.0, is_meant: bool = False) -> None:
+        """Starts the program over an image, or over zeros in memory for `-`.
+
+        Args:
+            program: the program `nvmelive`.
+            image: the image.
+            seconds: how long an answer may take.
+            is_meant: whether the image is meant as one, also where it begins as a script does.
+        """
+        self._command: List[PathLike] = [program, *(["--image"] if is_meant else []), image]
         self._seconds = seconds
         self.setup: List[str] = []
         self.events: List[Event] = []
@@ -47,7 +54,7 @@ class Talk:
     @property
     def is_in_memory(self) -> bool:
         """Whether the medium is the blocks in memory, and no image."""
-        return self._command[1] == "-"
+        return self._command[-1] == "-"
 
     @property
     def is_started(self) -> bool:
@@ -138,7 +145,7 @@ class Talk:
         blocks = sum(self.configuration.namespaces.values())
         with tempfile.NamedTemporaryFile(prefix="nvmesim-copy-") as image:
             os.truncate(image.name, BLOCK_BYTES * max(1, blocks))
-            process = self._begin([self._command[0], image.name])
+            process = self._begin([self._command[0], "--image", image.name])
             try:
                 answers = process.exchange(self.script)
                 if answers[len(self.setup):] and answers[-1].startswith("!"):
