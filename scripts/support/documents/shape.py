@@ -17,7 +17,8 @@ LONG_FILES: Dict[str, Tuple[int, str]] = {}
 TABLE = "a table, of a line or two for each case"
 LONG_BODIES: Dict[Tuple[str, str], Tuple[int, str]] = {
     ("crates/nvme_grammar/src/keyword.rt", "Keyword::places"): (67, TABLE),
-    ("crates/nvme_script/src/reason.rt", "ReasonDisplay::fmt"): (56, TABLE),
+    ("crates/nvme_script/src/reason.rt", "ReasonDisplay::fmt"): (61, TABLE),
+    ("crates/nvme_grammar/src/fault_text.rt", "WhyDisplay::fmt"): (40, TABLE),
     ("crates/controller_tests/src/tests/ns.rt", "tests::ns::faults_are_named"): (43, TABLE),
     ("crates/controller_tests/src/tests/driver.rt", "tests::driver::an_unknown_completion_fails_the_driver"):
         (43, TABLE),
@@ -41,6 +42,7 @@ MANY_PARAMETERS: Dict[Tuple[str, str], Tuple[int, str]] = {
     ("crates/nvme_live/src/program.rt", "program::run_over"): (7, LENT),
     ("crates/nvme_live/src/program.rt", "program::run_named"): (7, LENT),
     ("crates/nvme_live/src/program.rt", "program::run_image"): (7, LENT),
+    ("crates/nvme_live/src/program.rt", "program::run_guarded"): (7, LENT),
     ("crates/nvme_live/src/session.rt", "session::start"): (7, LENT),
     ("crates/nvme_live/src/session.rt", "session::run_from_start"): (8, LENT),
 }
