@@ -20,11 +20,7 @@ const AS_IMAGE: &str = "as the image, for reading and writing";
 const AS_SCRIPT: &str = "as the script, for reading";
 
 /// The reason of a file that can't be opened for this purpose.
-fn reason_of<'a>(
-    cause: &'a Cause,
-    path: &'a str,
-    purpose: &'static str,
-) -> Option<Reason<'a, 'a>>
+fn reason_of<'a>(cause: &'a Cause, path: &'a str, purpose: &'static str) -> Option<Reason<'a, 'a>>
     ensures script { cause.entry.now ≡ IsScript → result ≡ Some (SaysScript path.entry) }
 {
     match cause {
