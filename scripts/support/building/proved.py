@@ -97,11 +97,7 @@ def follow(top: Path, tell: Tell) -> None:
     store = Store(top)
     tell(f"process {store.holder('proving')} is proving the programs: following it")
     last = ""
-    while True:
-        held = store.lock("proving")
-        if held is not None:
-            held.close()
-            break
+    while store.holder("proving"):
         now = progress(top)
         if now != last:
             tell(now or "nearly done")

@@ -4,11 +4,14 @@ import hashlib
 import os
 import shutil
 import tempfile
+import time
 from pathlib import Path
 from typing import IO, Dict, List, Optional
 
 # How many builds of other sources stay.
 OTHERS = 3
+# For so many seconds a lock is tried that others may only look at.
+PATIENCE = 0.2
 
 
 class Store:
@@ -58,26 +61,38 @@ class Store:
             shutil.rmtree(it, ignore_errors=True)
 
     def lock(self, name: str) -> Optional[IO[str]]:
-        """Takes a lock, and says so by an open file that holds it; None where another process has it."""
+        """Takes a lock, and says so by an open file that holds it; None where another process has it. Those that look
+        who has it keep it from being taken for a moment, so it is tried for a moment."""
         self.folder.mkdir(parents=True, exist_ok=True)
         file = open(self.folder / f"{name}.lock", "a+", encoding="utf-8")
-        try:
-            fcntl.flock(file, fcntl.LOCK_EX | fcntl.LOCK_NB)
-        except BlockingIOError:
-            file.close()
-            return None
+        end = time.monotonic() + PATIENCE
+        while not is_taken(file, fcntl.LOCK_EX):
+            if time.monotonic() > end:
+                file.close()
+                return None
+            time.sleep(0.02)
         file.truncate(0)
         file.write(f"{os.getpid()}\n")
         file.flush()
         return file
 
     def holder(self, name: str) -> str:
-        """The process that has a lock, as it said itself; nothing where none has."""
-        held = self.lock(name)
-        if held is None:
-            return (self.folder / f"{name}.lock").read_text(encoding="utf-8").strip() or "?"
-        held.close()
-        return ""
+        """The process that has a lock, as it said itself; nothing where none has. Others that look are none."""
+        self.folder.mkdir(parents=True, exist_ok=True)
+        with open(self.folder / f"{name}.lock", "a+", encoding="utf-8") as file:
+            if is_taken(file, fcntl.LOCK_SH):
+                return ""
+            file.seek(0)
+            return file.read().strip() or "?"
+
+
+def is_taken(file: IO[str], how: int) -> bool:
+    """Takes the lock of a file, if no other process keeps it from that."""
+    try:
+        fcntl.flock(file, how | fcntl.LOCK_NB)
+    except BlockingIOError:
+        return False
+    return True
 
 
 def sum_of(path: Path) -> str:
