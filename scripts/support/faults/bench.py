@@ -1,5 +1,6 @@
 """Runs of the program, with and without calls that fail."""
 import os
+import re
 import shlex
 import shutil
 import struct
@@ -16,6 +17,8 @@ KINDS = ("alloc", "open", "stat", "read", "write", "pread", "pwrite", "sync")
 SINCE_READ = "since read"
 # How many seconds a run may take; it takes a few hundredths.
 WITHIN = 60
+# A line that gives the reason: it is of the program, or of a place in the script.
+REASON = re.compile(rb"(?:nvmesim: |[^\n]+:\d+:\d+: )[^\n]+\n")
 SOURCE = Path(__file__).resolve().parent / "refuse.c"
 
 
@@ -167,10 +170,9 @@ def difference(found: Optional[bytes], wanted: Optional[bytes]) -> str:
 
 def tells(errors: bytes, text: bytes) -> bool:
     """Whether standard error is a text of one line, or none, and at most a line with the reason behind it."""
-    reason = errors.removeprefix(text)
     if errors == text or not text:
         return errors == text
-    return errors.startswith(text) and reason.startswith(b"nvmesim: ") and reason.find(b"\n") == len(reason) - 1
+    return errors.startswith(text) and REASON.fullmatch(errors[len(text):]) is not None
 
 
 def must_be(what: str, shown: Shown, status: int, output: Optional[bytes], errors: Optional[bytes],
