@@ -6,7 +6,7 @@ use Rattle.std.proofs.KnownBytes.{Appends-nil, Appends-trans}
 use Rattle.std.proofs.lemmas.List.Elements.{All-head, All-tail}
 use Rattle.nvme_spec.specs.Blocks.{Device}
 use Rattle.script_text.specs.Streams.{WriteCall}
-use Rattle.nvme_script.specs.declared.run.ScriptFault.TheVariants.{Syntax, Config, TooLong, NoMemory, Read, Write}
+use Rattle.nvme_program.specs.declared.fault.ScriptFault.TheVariants.{Syntax, Config, TooLong, NoMemory, Read, Write}
 use Rattle.nvme_live.specs.Conversations.{Converses, ReadsLines, SendsAll, Stops}
 use Rattle.nvme_live.specs.SessionLaws.{AnsweredLinesAreASession, EndsInBytes, FailuresInBytes}
 use Rattle.nvme_live.specs.SessionScripts.{text_of}

@@ -5,8 +5,8 @@ use Rattle.nvme_spec.specs.MediumCalls.{MediumCall}
 use Rattle.nvme_spec.specs.declared.config.ConfigFault.{ConfigFault}
 use Rattle.nvme_subsys.specs.OverMedium.{over}
 use Rattle.nvme_fleet.specs.FleetStates.{Layers}
-use Rattle.nvme_script.specs.declared.run.ScriptFault.{ScriptFault}
-use Rattle.nvme_script.specs.declared.run.ScriptFault.TheVariants.{Syntax, Config, TooLong, NoMemory, Read, Write}
+use Rattle.nvme_program.specs.declared.fault.ScriptFault.{ScriptFault}
+use Rattle.nvme_program.specs.declared.fault.ScriptFault.TheVariants.{Syntax, Config, TooLong, NoMemory, Read, Write}
 use Rattle.nvme_live.specs.AnswerCalls.{TurnOver}
 use Rattle.nvme_live.specs.Conversations.{Converses, Ends, EndsBy, Stops, alone, standing_over}
 use Rattle.nvme_live.specs.SetUps.{SetUp}

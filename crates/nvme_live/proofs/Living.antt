@@ -13,8 +13,9 @@ use Rattle.script_text.specs.Reading.{IsRead}
 use Rattle.script_text.specs.declared.reading.ReadFault.{ReadFault}
 use Rattle.nvme_grammar.specs.Script.{start_of}
 use Rattle.nvme_grammar.specs.declared.script.Script.{Script}
-use Rattle.nvme_script.specs.declared.run.ScriptFault.{ScriptFault}
-use Rattle.nvme_script.specs.Faults.{IsEarlyFault, IsReady, IsScript, ReadsThen, of_reading}
+use Rattle.nvme_program.specs.declared.fault.ScriptFault.{ScriptFault}
+use Rattle.nvme_program.specs.FaultKinds.{of_reading}
+use Rattle.nvme_script.specs.Faults.{IsEarlyFault, IsReady, IsScript, ReadsThen}
 use Rattle.nvme_live.specs.AnswerCalls.{TurnOver}
 use Rattle.nvme_live.specs.Conversations.{Ends, EndsBy, standing_over}
 use Rattle.nvme_live.specs.Lives.{Fails, FailsBehindReading, FailsFirst, LivesOn, Opens, Rests, RunsTo, surroundings}

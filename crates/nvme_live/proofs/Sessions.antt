@@ -1,7 +1,7 @@
 -- Sessions one behind the other.
 use Rattle.std.proofs.Common.{◌≡◌, ◌+◌, ℕ, suc, List, [], ◌∷◌, ◌++◌, length, inl, inr, refl, sym, subst, arith, length-append}
-use Rattle.nvme_script.specs.declared.run.ScriptFault.{ScriptFault}
-use Rattle.nvme_script.specs.declared.run.ScriptFault.TheVariants.{Syntax, Config, TooLong, NoMemory, Read, Write}
+use Rattle.nvme_program.specs.declared.fault.ScriptFault.{ScriptFault}
+use Rattle.nvme_program.specs.declared.fault.ScriptFault.TheVariants.{Syntax, Config, TooLong, NoMemory, Read, Write}
 use Rattle.nvme_live.specs.Standings.{LineByLine, Standing}
 use Rattle.nvme_live.specs.Streams.{Came, LineCall, Sending, Sent}
 use Rattle.nvme_live.specs.Conversations.{Converses, Ends, EndsBy, ReadsLines, SendsAll, Starves, Stops, Uncounted, Unread}

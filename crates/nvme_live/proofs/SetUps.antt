@@ -9,10 +9,10 @@ use Rattle.nvme_fleet.specs.FleetStates.{Layers}
 use Rattle.nvme_grammar.specs.Script.{attachment_in, controller_in, namespace_in}
 use Rattle.nvme_grammar.specs.declared.line.Line.{Line}
 use Rattle.nvme_grammar.specs.declared.line.Line.TheVariants.{Blank, Controller, Namespace, Attached, Start, Event}
-use Rattle.nvme_script.specs.ReasonLaws.{IsThere}
-use Rattle.nvme_script.proofs.Reasons.{refusal_has_a_reason}
-use Rattle.nvme_script.specs.declared.configuration.SetupLine.{SetupLine}
-use Rattle.nvme_script.specs.declared.configuration.SetupLine.TheVariants as line_of
+use Rattle.nvme_program.specs.ReasonLaws.{IsThere}
+use Rattle.nvme_program.proofs.Reasons.{refusal_has_a_reason}
+use Rattle.nvme_program.specs.declared.configuration.SetupLine.{SetupLine}
+use Rattle.nvme_program.specs.declared.configuration.SetupLine.TheVariants as line_of
 use Rattle.nvme_live.specs.declared.asking.Asked.{Asked}
 use Rattle.nvme_live.specs.declared.asking.Asked.TheVariants.{Fails, Nothing, Looks, Sets, Does}
 use Rattle.nvme_live.specs.Asking.{asked}

@@ -6,7 +6,7 @@ use Rattle.nvme_spec.specs.Blocks.{Device}
 use Rattle.nvme_spec.specs.MediumCalls.{MediumCall}
 use Rattle.nvme_subsys.specs.OverMedium.{over}
 use Rattle.nvme_spec.specs.Configuration.{Configuration, empty_configuration, first_config_fault}
-use Rattle.nvme_script.specs.declared.configuration.BrokenRule.{BrokenRule}
+use Rattle.nvme_program.specs.declared.configuration.BrokenRule.{BrokenRule}
 use Rattle.nvme_live.specs.SetUps.{SetUp, numbered_reason}
 use Rattle.nvme_spec.specs.declared.config.ConfigFault.{ConfigFault}
 use Rattle.nvme_spec.specs.declared.config.ConfigFault.TheVariants.{NoMemory as WantOfMemory}
@@ -20,8 +20,8 @@ use Rattle.nvme_grammar.proofs.ReadingLemmas.{started}
 use Rattle.nvme_script.specs.Faults.{IsReady}
 use Rattle.nvme_script.proofs.Preparing.{same_configuration}
 use Rattle.nvme_grammar.specs.declared.line.Line.TheVariants.{Start}
-use Rattle.nvme_script.specs.declared.run.ScriptFault.{ScriptFault}
-use Rattle.nvme_script.specs.declared.run.ScriptFault.TheVariants.{Syntax, Config, TooLong, NoMemory, Read, Write}
+use Rattle.nvme_program.specs.declared.fault.ScriptFault.{ScriptFault}
+use Rattle.nvme_program.specs.declared.fault.ScriptFault.TheVariants.{Syntax, Config, TooLong, NoMemory, Read, Write}
 use Rattle.nvme_live.specs.declared.asking.Asked.{Asked}
 use Rattle.nvme_live.specs.declared.asking.Asked.TheVariants.{Sets}
 use Rattle.nvme_live.specs.Asking.{asked}

@@ -17,7 +17,7 @@ use Rattle.nvme_live.specs.declared.asking.Asked.TheVariants.{Fails, Nothing, Lo
 use Rattle.nvme_live.specs.Saying.{with_feed}
 use Rattle.nvme_live.specs.Showing.{shown_text, read_text}
 use Rattle.nvme_live.specs.Streams.{Says, Sending}
-use Rattle.nvme_script.specs.declared.run.ScriptFault.{ScriptFault}
+use Rattle.nvme_program.specs.declared.fault.ScriptFault.{ScriptFault}
 
 -- An event happened, and it is answered by the line of it and of what it gave.
 pub record Happens (tells : Bool) (old : Layers) (event : FleetEvent) (answer : List ℕ) (new : Layers) : Type 0 where

@@ -22,7 +22,7 @@ pub mod Conversations
 pub mod Lives
 pub use Rattle.nvme_script.specs.Faults as ScriptFaults
 pub use Rattle.nvme_script.specs.ScriptCalls
-pub use Rattle.nvme_script.specs.Reasons
+pub use Rattle.nvme_program.specs.Reasons
 pub mod Keeping
 pub mod SessionScripts
 pub mod SessionLaws

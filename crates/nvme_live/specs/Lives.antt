@@ -12,11 +12,12 @@ use Rattle.script_text.specs.Reading.{IsRead}
 use Rattle.script_text.specs.Streams.{ReadCall, WriteCall}
 use Rattle.script_text.specs.declared.reading.ReadFault.{ReadFault}
 use Rattle.nvme_grammar.specs.Script.{Begins, start_of}
-use Rattle.nvme_script.specs.declared.configuration.BrokenRule.{BrokenRule}
-use Rattle.nvme_script.specs.declared.run.ScriptFault.{ScriptFault}
-use Rattle.nvme_script.specs.declared.run.ScriptFault.TheVariants.{Syntax, Config, TooLong, NoMemory, Read, Write}
+use Rattle.nvme_program.specs.declared.configuration.BrokenRule.{BrokenRule}
+use Rattle.nvme_program.specs.declared.fault.ScriptFault.{ScriptFault}
+use Rattle.nvme_program.specs.declared.fault.ScriptFault.TheVariants.{Syntax, Config, TooLong, NoMemory, Read, Write}
 use Rattle.nvme_subsys.specs.OverMedium.{OverMedium, over}
-use Rattle.nvme_script.specs.Faults.{IsScript, IsEarlyFault, events_in, of_reading}
+use Rattle.nvme_program.specs.FaultKinds.{of_reading}
+use Rattle.nvme_script.specs.Faults.{IsScript, IsEarlyFault, events_in}
 use Rattle.nvme_script.specs.ScriptCalls.{RanCalling, layers_of_text}
 use Rattle.nvme_script.specs.ScriptWrites.{RunsWriting, StopsWriting, TranscribesBy}
 use Rattle.nvme_live.specs.Saying.{with_feed}

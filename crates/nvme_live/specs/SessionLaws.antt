@@ -22,7 +22,7 @@ use Rattle.nvme_live.specs.SessionScripts.{text_of}
 use Rattle.nvme_live.specs.Standings.{LineByLine, Over, Running, Session, Setting, Standing, TurnOf}
 use Rattle.nvme_live.specs.Streams.{AddsKnown, LineCall, ReadsBy, Sending, SendsBy, TakesKnown}
 use Rattle.nvme_live.specs.Taking.{IsOfLine}
-use Rattle.nvme_script.specs.declared.run.ScriptFault.{ScriptFault}
+use Rattle.nvme_program.specs.declared.fault.ScriptFault.{ScriptFault}
 use Rattle.script_text.specs.Streams.{WriteCall}
 
 -- What went over a medium, by exactly its calls, went so in the session's standings alone, with the same answers.

@@ -14,7 +14,7 @@ use Rattle.script_text.specs.Lines.{text_lines}
 use Rattle.script_text.specs.Reading.{longest}
 use Rattle.nvme_grammar.specs.Script.{Begins, configuration_of, start_of}
 use Rattle.nvme_script.specs.Faults.{IsScript, IsEarlyFault, Runs, Transcribes, events_in}
-use Rattle.nvme_script.specs.declared.run.ScriptFault.TheVariants.{Config}
+use Rattle.nvme_program.specs.declared.fault.ScriptFault.TheVariants.{Config}
 use Rattle.nvme_live.specs.AnswerCalls.{TurnOver}
 use Rattle.nvme_live.specs.Conversations.{Converses}
 use Rattle.nvme_live.specs.Keeping.{LookWell, RunAmidLooks, event_answers, kept_lines}

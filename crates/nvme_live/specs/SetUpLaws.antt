@@ -5,7 +5,7 @@ use Rattle.nvme_spec.specs.Configuration.{first_config_fault}
 use Rattle.nvme_spec.specs.declared.config.ConfigFault.{ConfigFault}
 use Rattle.nvme_grammar.specs.Script.{attachment_in, controller_in, namespace_in}
 use Rattle.nvme_grammar.specs.declared.line.Line.{Line}
-use Rattle.nvme_script.specs.declared.configuration.BrokenRule.{BrokenRule}
+use Rattle.nvme_program.specs.declared.configuration.BrokenRule.{BrokenRule}
 use Rattle.nvme_live.specs.declared.asking.Asked.{Asked}
 use Rattle.nvme_live.specs.declared.asking.Asked.TheVariants.{Fails, Nothing, Looks, Sets, Does}
 use Rattle.nvme_live.specs.Asking.{asked}

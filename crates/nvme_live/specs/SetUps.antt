@@ -6,11 +6,11 @@ use Rattle.nvme_spec.specs.declared.config.ConfigFault.{ConfigFault}
 use Rattle.nvme_ns.specs.Configured as ns
 use Rattle.nvme_grammar.specs.declared.line.Line.{Line}
 use Rattle.nvme_grammar.specs.declared.line.Line.TheVariants.{Blank, Controller, Namespace, Attached, Start, Event}
-use Rattle.nvme_script.specs.Reasons.{reason_of}
-use Rattle.nvme_script.specs.declared.configuration.SetupLine.{SetupLine}
-use Rattle.nvme_script.specs.declared.configuration.SetupLine.TheVariants as line_of
-use Rattle.nvme_script.specs.declared.configuration.BrokenRule.{BrokenRule}
-use Rattle.nvme_script.specs.declared.configuration.ConfigReason.{ConfigReason}
+use Rattle.nvme_program.specs.Reasons.{reason_of}
+use Rattle.nvme_program.specs.declared.configuration.SetupLine.{SetupLine}
+use Rattle.nvme_program.specs.declared.configuration.SetupLine.TheVariants as line_of
+use Rattle.nvme_program.specs.declared.configuration.BrokenRule.{BrokenRule}
+use Rattle.nvme_program.specs.declared.configuration.ConfigReason.{ConfigReason}
 use Rattle.nvme_live.specs.declared.line_numbers.LineNumbers.{LineNumbers}
 
 -- the numbers of the lines of a session that set up controllers, namespaces and attachments, in the order of the lines

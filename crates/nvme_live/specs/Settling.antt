@@ -4,8 +4,8 @@ use Rattle.nvme_spec.specs.Blocks.{Device}
 use Rattle.nvme_live.specs.SetUps.{IsCrowded, SetUp}
 use Rattle.nvme_grammar.specs.declared.line.Line.{Line}
 use Rattle.nvme_grammar.specs.declared.line.Line.TheVariants.{Start}
-use Rattle.nvme_script.specs.declared.run.ScriptFault.{ScriptFault}
-use Rattle.nvme_script.specs.declared.run.ScriptFault.TheVariants.{Syntax, Config, TooLong, NoMemory, Read, Write}
+use Rattle.nvme_program.specs.declared.fault.ScriptFault.{ScriptFault}
+use Rattle.nvme_program.specs.declared.fault.ScriptFault.TheVariants.{Syntax, Config, TooLong, NoMemory, Read, Write}
 use Rattle.nvme_live.specs.declared.asking.Asked.{Asked}
 use Rattle.nvme_live.specs.declared.asking.Asked.TheVariants.{Sets}
 use Rattle.nvme_live.specs.declared.setting.Settled.{Settled}

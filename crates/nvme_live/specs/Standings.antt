@@ -8,8 +8,8 @@ use Rattle.nvme_spec.specs.declared.config.ConfigFault.TheVariants.{BadId, BadSi
 use Rattle.nvme_fleet.specs.FleetStates.{Layers, opening_layers}
 use Rattle.nvme_grammar.specs.declared.line.Line.{Line}
 use Rattle.nvme_grammar.specs.declared.line.Line.TheVariants.{Start}
-use Rattle.nvme_script.specs.Reasons.{rule_text}
-use Rattle.nvme_script.specs.declared.configuration.BrokenRule.{BrokenRule}
+use Rattle.nvme_program.specs.Reasons.{rule_text}
+use Rattle.nvme_program.specs.declared.configuration.BrokenRule.{BrokenRule}
 use Rattle.live_text.specs.Faults.{refusal}
 use Rattle.live_text.specs.declared.fault.Why.TheVariants.{BehindStart}
 use Rattle.nvme_live.specs.declared.asking.Asked.{Asked}

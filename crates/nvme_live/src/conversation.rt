@@ -19,7 +19,7 @@ use crate::streams::{FlushedSink, LineSource};
 use crate::turn::answer;
 use nvme_fleet::Fleet;
 use nvme_medium::Medium;
-use nvme_script::ScriptFault;
+use nvme_program::ScriptFault;
 use nvme_spec::Config;
 
 /// Answers the lines before the fleet is there, up to `start`, whose number is the answer; `None` at the end of the

@@ -14,7 +14,7 @@ ghost use Rattle.nvme_live.specs.Streams.{Broken, IsSent, Sent};
 ghost use Rattle.nvme_live.specs.Taking.{session_lines};
 ghost use Rattle.script_text.specs.Streams.{Writes};
 
-use nvme_script::BrokenRule;
+use nvme_program::BrokenRule;
 use nvme_spec::ConfigFault;
 
 /// A line feed ends a line, and the last line may lack it; behind the last line feed stands no line.
@@ -60,7 +60,7 @@ pub fn configurations()
 {}
 
 /// Why `start` is refused: the fourth line of the session is at fault, and its second one is not.
-#[tactic(auto, unfolding(nvme_script::specs::Reasons::reason_of))]
+#[tactic(auto, unfolding(nvme_program::specs::Reasons::reason_of))]
 pub fn reasons()
     ensures size { numbered_reason
         (with_line 4 (with_line 2 nothing_set_up (Namespace (namespace 1 64 true))) (Namespace (namespace 3 70000 true)))

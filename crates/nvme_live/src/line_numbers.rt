@@ -5,7 +5,7 @@ ghost use Rattle.nvme_grammar.specs.Lent.{line_by_value};
 ghost use Rattle.nvme_live.specs.SetUps as spec;
 
 use nvme_grammar::Line;
-use nvme_script::{BrokenRule, ConfigReason, SetupLine};
+use nvme_program::{BrokenRule, ConfigReason, SetupLine};
 use nvme_spec::{Config, ConfigFault};
 use std::alloc::{AllocError, Global};
 

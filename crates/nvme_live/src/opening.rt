@@ -8,7 +8,7 @@ ghost use Rattle.nvme_live.specs.SetUps.{no_numbers, numbers_in};
 use crate::line_numbers::LineNumbers;
 use crate::rooms::Rooms;
 use nvme_grammar::{Script, parse};
-use nvme_script::ScriptFault;
+use nvme_program::ScriptFault;
 use script_text::{Source, read_text};
 use std::alloc::Global;
 

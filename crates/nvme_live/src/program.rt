@@ -3,12 +3,12 @@
 ghost use Rattle.std.specs.Prelude.{◌≡◌, ◌≢◌, ◌≤◌, None, Some, map, option_map};
 ghost use Rattle.std.specs.String.{string_bytes};
 ghost use Rattle.std.specs.Result.{result_err};
-ghost use Rattle.nvme_script.specs.CommandLines.{behind_option, word_fault};
-ghost use Rattle.nvme_script.specs.Programs.{EndsFromImage, EndsFromScript, EndsGuarded, GuardedEnds, IsOfRun};
+ghost use Rattle.nvme_program.specs.CommandLines.{behind_option, word_fault};
+ghost use Rattle.nvme_program.specs.Programs.{EndsFromImage, EndsFromScript, EndsGuarded, GuardedEnds, IsOfRun};
 
 use crate::session::run_live;
 use nvme_medium::Medium;
-use nvme_script::{
+use nvme_program::{
     Failure, HostFiles, Paths, Program, Reason, ScriptFault, System, behind_cache, behind_option,
     judge_image, means_image, paths_of, scratch, status_of,
 };
@@ -59,7 +59,7 @@ fn run_over<T: Read, I: Read, O: Write, E: Write, M: Medium + Drop>(
 }
 
 /// Opens the script that the command line names, if it names one, and runs a session behind it over a medium.
-#[tactic(auto, using(nvme_script::proofs::ProgramEnds::script_is_none, nvme_script::proofs::ProgramEnds::script_fails, nvme_script::proofs::ProgramEnds::script_runs))]
+#[tactic(auto, using(nvme_program::proofs::ProgramEnds::script_is_none, nvme_program::proofs::ProgramEnds::script_fails, nvme_program::proofs::ProgramEnds::script_runs))]
 fn run_named<S: System, I: Read, O: Write, E: Write, M: Medium + Drop>(
     alloc: Global,
     system: &mut S,
@@ -82,7 +82,7 @@ fn run_named<S: System, I: Read, O: Write, E: Write, M: Medium + Drop>(
 }
 
 /// Opens an image, and runs a session over it.
-#[tactic(auto, using(nvme_script::proofs::ProgramEnds::image_fails, nvme_script::proofs::ProgramEnds::image_has_no_room, nvme_script::proofs::ProgramEnds::image_opens))]
+#[tactic(auto, using(nvme_program::proofs::ProgramEnds::image_fails, nvme_program::proofs::ProgramEnds::image_has_no_room, nvme_program::proofs::ProgramEnds::image_opens))]
 fn run_image<S: System, I: Read, O: Write, E: Write>(
     alloc: Global,
     system: &mut S,
@@ -105,7 +105,7 @@ fn run_image<S: System, I: Read, O: Write, E: Write>(
 }
 
 /// Runs a session over zeros in memory.
-#[tactic(auto, using(nvme_script::proofs::ProgramEnds::image_is_none, nvme_script::proofs::ProgramEnds::memory_is_none))]
+#[tactic(auto, using(nvme_program::proofs::ProgramEnds::image_is_none, nvme_program::proofs::ProgramEnds::memory_is_none))]
 fn run_scratch<S: System, I: Read, O: Write, E: Write>(
     alloc: Global,
     system: &mut S,
@@ -124,7 +124,7 @@ fn run_scratch<S: System, I: Read, O: Write, E: Write>(
 
 /// Runs a session over an image, or over zeros in memory. An image is judged by its text first, unless a word says that
 /// it is meant.
-#[tactic(auto, using(nvme_script::proofs::Guarded::meant_image, nvme_script::proofs::Guarded::no_image, nvme_script::proofs::Guarded::refused_image, nvme_script::proofs::Guarded::judged_image))]
+#[tactic(auto, using(nvme_program::proofs::Guarded::meant_image, nvme_program::proofs::Guarded::no_image, nvme_program::proofs::Guarded::refused_image, nvme_program::proofs::Guarded::judged_image))]
 fn run_guarded<S: System, I: Read, O: Write, E: Write>(
     alloc: Global,
     system: &mut S,
@@ -152,7 +152,7 @@ fn run_guarded<S: System, I: Read, O: Write, E: Write>(
 /// The program in any system: which files it opens, in which order, and what ends it. Its words are those of
 /// `run_program`. For a failure one line goes to `errors`, and behind it a second, which gives the reason, where no
 /// answer gave it.
-#[tactic(auto, using(nvme_script::proofs::Guarded::words_are_refused, nvme_script::proofs::Guarded::words_get_no_memory, nvme_script::proofs::Guarded::words_are_taken))]
+#[tactic(auto, using(nvme_program::proofs::Guarded::words_are_refused, nvme_program::proofs::Guarded::words_get_no_memory, nvme_program::proofs::Guarded::words_are_taken))]
 pub fn run_in<S: System, I: Read, O: Write, E: Write>(
     alloc: Global,
     system: &mut S,
@@ -174,7 +174,7 @@ pub fn run_in<S: System, I: Read, O: Write, E: Write>(
 /// The program over the streams that it is handed: its words, the first of which is its name, its standard input,
 /// output and error. A word `--image` before the image says that it is meant as one, whatever it holds. The answer is its exit status: 0 at the end of the input; 1 a fault of the script, or a refused
 /// configuration; 2 a file or stream that can't be opened, read or written; 3 a refused command line; 4 out of memory.
-#[tactic(auto, using(nvme_script::proofs::Guarded::refused_status, nvme_script::proofs::Guarded::taken_status))]
+#[tactic(auto, using(nvme_program::proofs::Guarded::refused_status, nvme_program::proofs::Guarded::taken_status))]
 pub fn run_program<R: Files<File = File> + AllocGlobal, I: Read, O: Write, E: Write>(
     rt: &R,
     words: &[String],

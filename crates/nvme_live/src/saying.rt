@@ -5,7 +5,7 @@ ghost use Rattle.nvme_live.specs.Saying.{with_feed};
 ghost use Rattle.nvme_live.specs.Streams.{Says, SendsBy};
 
 use crate::streams::FlushedSink;
-use nvme_script::ScriptFault;
+use nvme_program::ScriptFault;
 use script_text::write_whole;
 use std::fmt;
 use std::fmt::Write as _;

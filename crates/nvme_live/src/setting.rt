@@ -17,7 +17,7 @@ use crate::turn::refuse;
 use crate::views::shown_early;
 use live_text::Why;
 use nvme_grammar::Line;
-use nvme_script::ScriptFault;
+use nvme_program::ScriptFault;
 use nvme_spec::Config;
 
 /// What a line before `start` came to.

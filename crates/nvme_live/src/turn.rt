@@ -19,7 +19,7 @@ use crate::views::{BlocksText, shown_of};
 use live_text::{Looking, Refusal, Why};
 use nvme_fleet::{Fleet, FleetEvent};
 use nvme_medium::Medium;
-use nvme_script::ScriptFault;
+use nvme_program::ScriptFault;
 use nvme_spec::Marks;
 use nvme_transcript::TranscriptLine;
 

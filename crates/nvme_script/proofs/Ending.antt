@@ -12,9 +12,10 @@ use Rattle.nvme_spec.specs.MediumCalls.{MediumCall}
 use Rattle.nvme_subsys.specs.OverMedium.{OverMedium, over}
 use Rattle.nvme_fleet.specs.FleetStates.{FleetState, layers_of, opening_layers}
 use Rattle.nvme_grammar.specs.declared.script.Script.{Script}
-use Rattle.nvme_script.specs.declared.run.ScriptFault.{ScriptFault}
-use Rattle.nvme_script.specs.declared.run.ScriptFault.TheVariants.{Syntax, Config, TooLong, NoMemory, Read, Write}
-use Rattle.nvme_script.specs.Faults.{IsScript, IsReady, IsEarlyFault, IsWrite, ReadsThen, events_in, of_opening, of_reading}
+use Rattle.nvme_program.specs.declared.fault.ScriptFault.{ScriptFault}
+use Rattle.nvme_program.specs.declared.fault.ScriptFault.TheVariants.{Syntax, Config, TooLong, NoMemory, Read, Write}
+use Rattle.nvme_program.specs.FaultKinds.{of_opening, of_reading}
+use Rattle.nvme_script.specs.Faults.{IsScript, IsReady, IsEarlyFault, IsWrite, ReadsThen, events_in}
 use Rattle.nvme_script.specs.ScriptCalls.{RanCalling, layers_of_text}
 use Rattle.nvme_script.specs.ScriptWrites.{IsFault, RunsWriting, StopsAtBy, StopsWriting, TranscribesBy}
 use Rattle.script_text.specs.Lines.{text_lines}

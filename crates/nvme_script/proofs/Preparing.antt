@@ -13,8 +13,9 @@ use Rattle.nvme_grammar.specs.declared.line.Line.{Line}
 use Rattle.nvme_grammar.specs.declared.script.Script.{Script}
 use Rattle.nvme_grammar.specs.Script.{said, Says, is_start, start_in, configuration_in, configuration_of}
 use Rattle.nvme_grammar.proofs.ReadingLemmas.{started}
-use Rattle.nvme_script.specs.declared.run.ScriptFault.TheVariants.{Config}
-use Rattle.nvme_script.specs.Faults.{IsScript, IsReady, IsEarlyFault, of_opening}
+use Rattle.nvme_program.specs.declared.fault.ScriptFault.TheVariants.{Config}
+use Rattle.nvme_program.specs.FaultKinds.{of_opening}
+use Rattle.nvme_script.specs.Faults.{IsScript, IsReady, IsEarlyFault}
 
 pub same_configuration : (raw : List (List ℕ)) (script : Script) → Says (said raw) script → configuration script.config ≡ configuration_of raw
 same_configuration raw script says = λ i. record { controllers = says.controllers i; namespaces = says.namespaces i; attached = says.attached i }

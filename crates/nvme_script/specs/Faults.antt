@@ -1,26 +1,22 @@
 -- What a script's run gives, and what each fault says.
-use Rattle.std.specs.Prelude.{◌≡◌, ℕ, Bool, ◌<◌, ◌≤◌, List, [], ◌∷◌, ◌++◌, length, take, slice_get, Option, None, Some, Result, MatchResult, unwrap_or}
+use Rattle.std.specs.Prelude.{◌≡◌, ℕ, Bool, ◌<◌, ◌≤◌, List, [], ◌∷◌, ◌++◌, length, take, slice_get, Option, None, Some, Result, MatchResult}
 use Rattle.std.specs.Io.KnownBytes.{Appends}
 use Rattle.nvme_spec.specs.Blocks.{Device}
 use Rattle.nvme_spec.specs.Configuration.{first_config_fault}
 use Rattle.nvme_event.specs.declared.event.FleetEvent.{FleetEvent}
 use Rattle.nvme_event.specs.Replies.{Reply}
 use Rattle.nvme_fleet.specs.Fleets.{Fleet, Run, opening}
-use Rattle.nvme_spec.specs.declared.config.ConfigFault.{ConfigFault}
-use Rattle.nvme_spec.specs.declared.config.ConfigFault.TheVariants.{NoMemory as WantOfMemory}
 use Rattle.script_text.specs.Lines.{text_lines}
 use Rattle.script_text.specs.Streams.{ReadCall}
 use Rattle.script_text.specs.Reading.{longest, IsRead}
 use Rattle.script_text.specs.declared.reading.ReadFault.{ReadFault}
-use Rattle.script_text.specs.declared.reading.ReadFault.TheVariants as reading
 use Rattle.nvme_transcript.specs.Transcript.{line_of, transcript}
 use Rattle.nvme_grammar.specs.declared.script.Script.{Script}
 use Rattle.nvme_grammar.specs.Kept.{kept_events}
 use Rattle.nvme_grammar.specs.Script.{said, Begins, Says, IsFirstOutside, configuration_of, start_of, events_of}
-use Rattle.nvme_grammar.specs.declared.script.ParseFault.{ParseFault}
-use Rattle.nvme_grammar.specs.declared.script.ParseFault.TheVariants as grammar
-use Rattle.nvme_script.specs.declared.run.ScriptFault.{ScriptFault}
-use Rattle.nvme_script.specs.declared.run.ScriptFault.TheVariants.{Syntax, Config, TooLong, NoMemory, Read, Write}
+use Rattle.nvme_program.specs.FaultKinds.{of_reading}
+use Rattle.nvme_program.specs.declared.fault.ScriptFault.{ScriptFault}
+use Rattle.nvme_program.specs.declared.fault.ScriptFault.TheVariants.{Syntax, Config, TooLong, NoMemory, Read, Write}
 
 -- the events of a text, and the fleet that its configuration opens over a medium
 abbrev pub events_in : List ℕ → List FleetEvent
@@ -71,21 +67,6 @@ pub record IsScript (text : List ℕ) (medium_blocks : ℕ) : Type 0 where
   pub short : length text ≤ longest
   pub grammar : Begins (text_lines text)
   pub accepted : first_config_fault (configuration_of (text_lines text)) medium_blocks ≡ None
-
--- what a fault of reading, and one of the grammar, is as a fault of the script
-abbrev pub of_reading : ReadFault → ScriptFault
-of_reading reading.TooLong = TooLong
-of_reading reading.NoMemory = NoMemory
-of_reading reading.Read = Read
-
-abbrev pub of_grammar : ParseFault → ScriptFault
-of_grammar (grammar.Syntax n) = Syntax n
-of_grammar grammar.NoMemory = NoMemory
-
--- what a fleet's refusal is as a fault of the script: its configuration is refused at the line `start`
-abbrev pub of_opening : Option ℕ → ConfigFault → ScriptFault
-of_opening start WantOfMemory = NoMemory
-of_opening start fault = Config (unwrap_or start 0) fault
 
 -- a script that was read: its text, what that says, and its events as they are kept
 pub record IsReady (text : List ℕ) (script : Script) : Type 0 where

@@ -1,4 +1,6 @@
-pub use Rattle.nvme_medium.specs.Memory
+pub use Rattle.nvme_program.specs.Programs
+pub use Rattle.nvme_program.specs.Statuses
+pub use Rattle.nvme_program.specs.FaultKinds
 pub use Rattle.nvme_spec.specs.World
 pub use Rattle.nvme_spec.specs.Blocks
 pub use Rattle.nvme_spec.specs.Configuration
@@ -11,11 +13,3 @@ pub mod Faults
 pub mod ScriptCalls
 pub mod ScriptWrites
 pub mod RunLaws
-pub mod CommandLines
-pub mod Statuses
-pub mod FailureTexts
-pub mod Programs
-pub mod Media
-pub mod Reasons
-pub mod ReasonLaws
-pub mod SetupLines

@@ -9,8 +9,8 @@ use Rattle.script_text.specs.Streams.{WriteCall}
 use Rattle.script_text.specs.Writing.{IsWritten}
 use Rattle.nvme_transcript.specs.Transcript.{line_of}
 use Rattle.nvme_transcript.specs.Writing.{WritesLine}
-use Rattle.nvme_script.specs.declared.run.ScriptFault.{ScriptFault}
-use Rattle.nvme_script.specs.declared.run.ScriptFault.TheVariants.{Write}
+use Rattle.nvme_program.specs.declared.fault.ScriptFault.{ScriptFault}
+use Rattle.nvme_program.specs.declared.fault.ScriptFault.TheVariants.{Write}
 use Rattle.nvme_script.specs.Faults.{IsScript, IsEarlyFault, Transcribes, StopsAt, events_in}
 use Rattle.nvme_script.specs.ScriptCalls.{RunsCalling, StopsCalling}
 

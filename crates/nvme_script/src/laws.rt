@@ -1,6 +1,5 @@
-//! What follows from the definitions of a script's run, and of the reason for which it is refused.
+//! What follows from the definitions of a script's run.
 
-ghost use Rattle.nvme_script.specs.ReasonLaws.{RefusalHasAReason};
 ghost use Rattle.nvme_script.specs.RunLaws.{CallingRuns, CallingStops, TranscriptExists, TranscriptIsUnique};
 
 use nvme_medium::Medium;
@@ -17,9 +16,4 @@ pub fn run_is_of_mailboxes<M: Medium>()
 pub fn transcript_is_determined()
     ensures unique { TranscriptIsUnique }
     ensures exists { TranscriptExists }
-{}
-
-/// A configuration that is refused has a reason, which names a line that is there. It is one alone, since it is computed.
-pub fn refusal_has_a_reason()
-    ensures { RefusalHasAReason }
 {}

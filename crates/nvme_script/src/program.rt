@@ -3,22 +3,17 @@
 ghost use Rattle.std.specs.Prelude.{◌≡◌, ◌≢◌, ◌≤◌, None, Some, map, option_map};
 ghost use Rattle.std.specs.String.{string_bytes};
 ghost use Rattle.std.specs.Result.{result_err};
-ghost use Rattle.nvme_script.specs.CommandLines.{word_fault};
-ghost use Rattle.nvme_script.specs.Programs.{EndsFromImage, EndsFromScript, IsOfRun, ProgramEnds};
-ghost use Rattle.nvme_script.specs.Statuses.{end_status};
-ghost use Rattle.nvme_script.specs.declared.failure.Failure.TheVariants as failed;
+ghost use Rattle.nvme_program.specs.CommandLines.{word_fault};
+ghost use Rattle.nvme_program.specs.Programs.{EndsFromImage, EndsFromScript, IsOfRun, ProgramEnds};
+ghost use Rattle.nvme_program.specs.declared.failure.Failure.TheVariants as failed;
 
-use crate::command_line::{Paths, paths_of};
-use crate::configuration::ConfigReason;
-use crate::failure::Failure;
-use crate::media::{behind_cache, scratch};
-use crate::placed::{PlacedFault, PlacedRule};
-use crate::reason::{Reason, USAGE};
-use crate::run::{ScriptFault, run_text};
-use crate::system::{HostFiles, System};
-use crate::telling::Program;
+use crate::run::run_text;
 use nvme_grammar::{Buffers, fault_at, parse};
 use nvme_medium::Medium;
+use nvme_program::{
+    ConfigReason, Failure, HostFiles, Paths, PlacedFault, PlacedRule, Program, Reason, ScriptFault,
+    System, USAGE, behind_cache, paths_of, scratch, status_of,
+};
 use nvme_spec::ConfigFault;
 use script_text::read_text;
 use std::alloc::Global;
@@ -135,7 +130,7 @@ fn run_over<I: Read, O: Write, E: Write, M: Medium + Drop>(
 }
 
 /// Opens the script that the command line names, and runs it, or else the input, over a medium.
-#[tactic(auto, using(crate::proofs::ProgramEnds::script_is_none, crate::proofs::ProgramEnds::script_fails, crate::proofs::ProgramEnds::script_runs))]
+#[tactic(auto, using(nvme_program::proofs::ProgramEnds::script_is_none, nvme_program::proofs::ProgramEnds::script_fails, nvme_program::proofs::ProgramEnds::script_runs))]
 fn run_named<S: System, I: Read, O: Write, E: Write, M: Medium + Drop>(
     alloc: Global,
     system: &mut S,
@@ -157,7 +152,7 @@ fn run_named<S: System, I: Read, O: Write, E: Write, M: Medium + Drop>(
 }
 
 /// Opens an image, and runs a script over it: its blocks are read and written in place.
-#[tactic(auto, using(crate::proofs::ProgramEnds::image_fails, crate::proofs::ProgramEnds::image_has_no_room, crate::proofs::ProgramEnds::image_opens))]
+#[tactic(auto, using(nvme_program::proofs::ProgramEnds::image_fails, nvme_program::proofs::ProgramEnds::image_has_no_room, nvme_program::proofs::ProgramEnds::image_opens))]
 fn run_image<S: System, I: Read, O: Write, E: Write>(
     alloc: Global,
     system: &mut S,
@@ -180,7 +175,7 @@ fn run_image<S: System, I: Read, O: Write, E: Write>(
 }
 
 /// Runs a script over zeros in memory.
-#[tactic(auto, using(crate::proofs::ProgramEnds::image_is_none, crate::proofs::ProgramEnds::memory_is_none))]
+#[tactic(auto, using(nvme_program::proofs::ProgramEnds::image_is_none, nvme_program::proofs::ProgramEnds::memory_is_none))]
 fn run_scratch<S: System, I: Read, O: Write, E: Write>(
     alloc: Global,
     system: &mut S,
@@ -200,7 +195,7 @@ fn run_scratch<S: System, I: Read, O: Write, E: Write>(
 /// The program in any system: which files it opens, in which order, and what ends it. Its words are those of
 /// `run_program`. For a failure one line goes to `errors`, and behind it a second, which gives the reason, for all but
 /// want of memory.
-#[tactic(auto, using(crate::proofs::ProgramEnds::words_are_refused, crate::proofs::ProgramEnds::words_get_no_memory, crate::proofs::ProgramEnds::words_are_taken))]
+#[tactic(auto, using(nvme_program::proofs::ProgramEnds::words_are_refused, nvme_program::proofs::ProgramEnds::words_get_no_memory, nvme_program::proofs::ProgramEnds::words_are_taken))]
 pub fn run_in<S: System, I: Read, O: Write, E: Write>(
     alloc: Global,
     system: &mut S,
@@ -221,21 +216,10 @@ pub fn run_in<S: System, I: Read, O: Write, E: Write>(
     }
 }
 
-/// The exit status of an end.
-pub fn status_of(outcome: Result<(), Failure>) -> u8
-    ensures table { result ≡ end_status (result_err outcome) }
-    ensures last { result ≤ 4 }
-{
-    match outcome {
-        Ok(()) => 0,
-        Err(failure) => failure.status(),
-    }
-}
-
 /// The program over the streams that it is handed: its words, the first of which is its name, its standard input,
 /// output and error. The answer is its exit status: 0 done; 1 a fault of the script; 2 a file or stream that can't be
 /// opened, read or written; 3 a refused command line; 4 want of memory.
-#[tactic(auto, using(crate::proofs::ProgramEnds::refused_status, crate::proofs::ProgramEnds::taken_status))]
+#[tactic(auto, using(nvme_program::proofs::ProgramEnds::refused_status, nvme_program::proofs::ProgramEnds::taken_status))]
 pub fn run_program<R: Files<File = File> + AllocGlobal, I: Read, O: Write, E: Write>(
     rt: &R,
     words: &[String],

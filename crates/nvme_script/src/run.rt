@@ -7,68 +7,21 @@ ghost use Rattle.nvme_spec.specs.Execution.{no_marks};
 ghost use Rattle.nvme_fleet.specs.FleetStates.{layers_of};
 ghost use Rattle.nvme_subsys.specs.OverMedium.{over};
 ghost use Rattle.nvme_grammar.specs.Kept.{kept_events};
-ghost use Rattle.nvme_script.specs.Faults.{IsScript, IsReady, IsEarlyFault, IsWrite, ReadsThen, of_reading, of_grammar, of_opening};
+ghost use Rattle.nvme_script.specs.Faults.{IsScript, IsReady, IsEarlyFault, IsWrite, ReadsThen};
 ghost use Rattle.nvme_script.specs.ScriptCalls.{RanCalling};
 ghost use Rattle.nvme_script.specs.ScriptWrites.{IsFault, RunsWriting, StopsAtBy, TranscribesBy};
-ghost use Rattle.nvme_script.specs.declared.run.ScriptFault.TheVariants.{NoMemory as MemoryRefused};
+ghost use Rattle.nvme_program.specs.FaultKinds.{of_opening};
+ghost use Rattle.nvme_program.specs.declared.fault.ScriptFault.TheVariants.{NoMemory as MemoryRefused};
 
 use nvme_fleet::{Fleet, NewFault};
-use nvme_grammar::{Buffers, KeptEvent, ParseFault, Script, parse};
+use nvme_grammar::{Buffers, KeptEvent, Script, parse};
 use nvme_medium::Medium;
+use nvme_program::ScriptFault;
 use nvme_spec::{ConfigFault, Marks};
 use nvme_transcript::{LONGEST_LINE, TranscriptLine, write_line};
-use script_text::{ReadFault, Sink, Source, read_text};
-use std::alloc::{AllocError, Global};
+use script_text::{Sink, Source, read_text};
+use std::alloc::Global;
 use std::io;
-use thiserror::Error;
-
-/// Why a script was not run to its end. A fault's text is what the program prints.
-#[derive(Clone, Copy, Debug, Error, PartialEq, Eq)]
-pub enum ScriptFault {
-    /// The first line that is outside the grammar, counted from 1.
-    Syntax(usize),
-    /// The line `start`, where the configuration before it is refused, and why.
-    Config(usize, ConfigFault),
-    /// The text has more than 4,194,304 bytes.
-    TooLong,
-    /// Memory was refused.
-    NoMemory,
-    /// The reader failed.
-    Read,
-    /// The writer failed.
-    Write,
-}
-
-impl From<ReadFault> for ScriptFault {
-    ghost from_gives = { λ fault e. e ≡ of_reading fault };
-
-    fn from(fault: ReadFault) -> ScriptFault {
-        match fault {
-            ReadFault::TooLong => ScriptFault::TooLong,
-            ReadFault::NoMemory => ScriptFault::NoMemory,
-            ReadFault::Read => ScriptFault::Read,
-        }
-    }
-}
-
-impl From<ParseFault> for ScriptFault {
-    ghost from_gives = { λ fault e. e ≡ of_grammar fault };
-
-    fn from(fault: ParseFault) -> ScriptFault {
-        match fault {
-            ParseFault::Syntax(line) => ScriptFault::Syntax(line),
-            ParseFault::NoMemory => ScriptFault::NoMemory,
-        }
-    }
-}
-
-impl From<AllocError> for ScriptFault {
-    ghost from_gives = { λ _ e. e ≡ MemoryRefused };
-
-    fn from(_: AllocError) -> ScriptFault {
-        ScriptFault::NoMemory
-    }
-}
 
 /// What a text says, and the room that its events work in: no memory is taken after its fleet is made.
 #[derive(Drop)]

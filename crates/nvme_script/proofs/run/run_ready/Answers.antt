@@ -1,6 +1,7 @@
 use Rattle.std.proofs.Common.{◌≡◌, ◌∙◌, ap, rules}
 use Rattle.nvme_grammar.specs.Kept.{kept_events}
-use Rattle.nvme_script.specs.Faults.{events_in, of_opening}
+use Rattle.nvme_program.specs.FaultKinds.{of_opening}
+use Rattle.nvme_script.specs.Faults.{events_in}
 use Rattle.nvme_script.proofs.Preparing.{refused_script}
 use Rattle.nvme_script.proofs.Ending.{called_in_part, called_whole, early_fault, opening_is_early}
 use Rattle.nvme_script.proofs.run.run_ready.Goals as goal

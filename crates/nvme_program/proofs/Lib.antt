@@ -1,0 +1,6 @@
+mod Zeros
+pub mod ProgramEnds
+pub mod Guarded
+mod CommandLine
+pub mod Left
+pub mod Reasons

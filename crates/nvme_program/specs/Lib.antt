@@ -1,0 +1,11 @@
+pub use Rattle.nvme_medium.specs.Memory
+pub use Rattle.nvme_spec.specs.Configuration
+pub mod FaultKinds
+pub mod CommandLines
+pub mod Statuses
+pub mod FailureTexts
+pub mod Programs
+pub mod Media
+pub mod Reasons
+pub mod ReasonLaws
+pub mod SetupLines

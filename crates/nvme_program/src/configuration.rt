@@ -1,0 +1,326 @@
+//! Why a configuration is refused: the rule, and the line that is at fault.
+
+ghost use Rattle.std.specs.Prelude.{◌≡◌, ◌≤◌, ◌==◌, ◌&&◌, [], Some, length};
+ghost use Rattle.std.specs.List.{list_any};
+ghost use Rattle.script_text.specs.Lines.{text_lines};
+ghost use Rattle.script_text.specs.Words.{most_words};
+ghost use Rattle.nvme_grammar.specs.Line.{line_at};
+ghost use Rattle.nvme_grammar.specs.Room.{HasBytesRoom, HasTextRoom, HasWordsRoom};
+ghost use Rattle.nvme_spec.specs.Configuration.{is_private};
+ghost use Rattle.nvme_ns.specs.Configured.{configuration};
+ghost use Rattle.nvme_program.specs.Reasons as spec;
+ghost use Rattle.nvme_program.specs.SetupLines.{is_of_kind, number_in, place_of};
+ghost use Rattle.nvme_program.specs.declared.configuration.SetupLine.TheVariants as line_of;
+
+use nvme_grammar::{Line, parse_line};
+use nvme_spec::{Config, ConfigFault, ControllerConfig, NsConfig};
+use script_text::front_line;
+
+/// A line before `start`, by its kind, and by its place among the lines of that kind, from 0.
+#[derive(Clone, Copy, Debug, PartialEq, Eq)]
+pub enum SetupLine {
+    Controller(usize),
+    Namespace(usize),
+    Attached(usize),
+}
+
+/// A rule of configurations, with what breaks it. Its text says so in a sentence.
+#[derive(Clone, Copy, Debug, PartialEq, Eq)]
+pub enum BrokenRule {
+    TooManyControllers,
+    TooManyNamespaces,
+    TooManyAttachments,
+    /// The k-th controller, from 1, and the identifier that it has.
+    Misnumbered(usize, u16),
+    /// The controller that has no host.
+    NoHost(u16),
+    ForeignNsid(u32),
+    RepeatedNsid(u32),
+    UnknownController(u16),
+    UnknownNamespace(u32),
+    /// The controller and the namespace that are attached twice.
+    RepeatedAttachment(u16, u32),
+    /// The second controller of a private namespace, and that.
+    NotShared(u16, u32),
+    NoBlocks(u32),
+    /// The namespace, and its blocks.
+    TooLarge(u32, u64),
+    /// The namespace that has no room, and the blocks of the medium.
+    DoesNotFit(u32, u64),
+}
+
+/// The rule that a refused configuration breaks, and where.
+#[derive(Clone, Copy, Debug, PartialEq, Eq)]
+pub struct ConfigReason {
+    pub line: SetupLine,
+    pub rule: BrokenRule,
+}
+
+/// A reason at a line.
+fn at(line: SetupLine, rule: BrokenRule) -> Option<ConfigReason>
+    ensures { result ≡ spec.reason_at line (Some rule) }
+{
+    Some(ConfigReason { line, rule })
+}
+
+/// The first line that is one too many.
+fn one_too_many(config: &Config) -> Option<ConfigReason>
+    ensures { result ≡ spec.one_too_many (configuration config.now) }
+{
+    if config.controllers.len() > 16 {
+        return at(SetupLine::Controller(16), BrokenRule::TooManyControllers);
+    }
+    if config.namespaces.len() > 8 {
+        return at(SetupLine::Namespace(8), BrokenRule::TooManyNamespaces);
+    }
+    if config.attached.len() > 128 {
+        return at(SetupLine::Attached(128), BrokenRule::TooManyAttachments);
+    }
+    None
+}
+
+/// What is wrong with a controller behind others: its identifier is not its number, or it has no host.
+fn controller_breaks(
+    before: &[ControllerConfig],
+    controller: ControllerConfig,
+) -> Option<BrokenRule>
+    ensures { result ≡ spec.controller_breaks before.now controller }
+{
+    let number = before.len() + 1;
+    let cntlid = controller.cntlid;
+    if usize::from(cntlid) != number {
+        return Some(BrokenRule::Misnumbered(number, cntlid));
+    }
+    if controller.host == 0 {
+        return Some(BrokenRule::NoHost(cntlid));
+    }
+    None
+}
+
+/// The first controller with which something is wrong.
+fn bad_controller(controllers: &[ControllerConfig]) -> Option<ConfigReason>
+    ensures { result ≡ spec.first_line line_of.Controller spec.controller_breaks [] controllers.now }
+{
+    for (i, controller) in controllers.iter().enumerate() {
+        if let Some(rule) = controller_breaks(&controllers[..i], *controller) {
+            return at(SetupLine::Controller(i), rule);
+        }
+    }
+    None
+}
+
+/// Whether a namespace has this identifier.
+fn is_named(namespaces: &[NsConfig], nsid: u32) -> bool
+    ensures { result ≡ list_any (λ n. n.nsid == nsid) namespaces.now }
+{
+    namespaces.iter().any(|n| n.nsid == nsid)
+}
+
+/// What is wrong with the identifier of a namespace behind others: it can't be, or is one of theirs.
+fn namespace_breaks(before: &[NsConfig], namespace: NsConfig) -> Option<BrokenRule>
+    ensures { result ≡ spec.namespace_breaks before.now namespace }
+{
+    let nsid = namespace.nsid;
+    if nsid == 0 || nsid > 8 {
+        return Some(BrokenRule::ForeignNsid(nsid));
+    }
+    if is_named(before, nsid) {
+        return Some(BrokenRule::RepeatedNsid(nsid));
+    }
+    None
+}
+
+/// The first namespace with whose identifier something is wrong.
+fn bad_namespace(namespaces: &[NsConfig]) -> Option<ConfigReason>
+    ensures { result ≡ spec.first_line line_of.Namespace spec.namespace_breaks [] namespaces.now }
+{
+    for (i, namespace) in namespaces.iter().enumerate() {
+        if let Some(rule) = namespace_breaks(&namespaces[..i], *namespace) {
+            return at(SetupLine::Namespace(i), rule);
+        }
+    }
+    None
+}
+
+/// Whether a controller has this identifier.
+fn has_controller(controllers: &[ControllerConfig], cntlid: u16) -> bool
+    ensures { result ≡ list_any (λ k. k.cntlid == cntlid) controllers.now }
+{
+    controllers.iter().any(|k| k.cntlid == cntlid)
+}
+
+/// Whether the namespace with this identifier is private.
+fn has_private(config: &Config, nsid: u32) -> bool
+    ensures { result ≡ is_private (configuration config.now) nsid }
+{
+    config
+        .namespaces
+        .iter()
+        .any(|n| n.nsid == nsid && !n.shared)
+}
+
+/// Whether a pair is one of these.
+fn is_attached(pairs: &[(u16, u32)], cntlid: u16, nsid: u32) -> bool
+    ensures { result ≡ list_any (λ pair. (pair.0 == cntlid) && (pair.1 == nsid)) pairs.now }
+{
+    pairs.iter().any(|pair| pair.0 == cntlid && pair.1 == nsid)
+}
+
+/// Whether something is attached to a namespace.
+fn is_taken(pairs: &[(u16, u32)], nsid: u32) -> bool
+    ensures { result ≡ list_any (λ pair. pair.1 == nsid) pairs.now }
+{
+    pairs.iter().any(|pair| pair.1 == nsid)
+}
+
+/// What is wrong with an attachment behind others: it names what is not configured, is one of them, or is the second of
+/// a private namespace.
+fn attachment_breaks(config: &Config, before: &[(u16, u32)], pair: (u16, u32)) -> Option<BrokenRule>
+    ensures { result ≡ spec.attachment_breaks (configuration config.now) before.now pair }
+{
+    let (cntlid, nsid) = pair;
+    if !has_controller(&config.controllers, cntlid) {
+        return Some(BrokenRule::UnknownController(cntlid));
+    }
+    if !is_named(&config.namespaces, nsid) {
+        return Some(BrokenRule::UnknownNamespace(nsid));
+    }
+    if is_attached(before, cntlid, nsid) {
+        return Some(BrokenRule::RepeatedAttachment(cntlid, nsid));
+    }
+    if has_private(config, nsid) && is_taken(before, nsid) {
+        return Some(BrokenRule::NotShared(cntlid, nsid));
+    }
+    None
+}
+
+/// The first attachment with which something is wrong.
+fn bad_attachment(config: &Config) -> Option<ConfigReason>
+    ensures { result ≡ spec.first_line line_of.Attached (spec.attachment_breaks (configuration config.now)) []
+        config.now.attached.items }
+{
+    let attached = config.attached.as_slice();
+    for (i, pair) in attached.iter().enumerate() {
+        if let Some(rule) = attachment_breaks(config, &attached[..i], *pair) {
+            return at(SetupLine::Attached(i), rule);
+        }
+    }
+    None
+}
+
+/// The first line with whose identifiers something is wrong.
+fn bad_id(config: &Config) -> Option<ConfigReason>
+    ensures { result ≡ spec.first_bad_id (configuration config.now) }
+{
+    bad_controller(&config.controllers)
+        .or_else(|| bad_namespace(&config.namespaces))
+        .or_else(|| bad_attachment(config))
+}
+
+/// What is wrong with the size of a namespace: it has no blocks, or too many.
+fn size_breaks(namespace: NsConfig) -> Option<BrokenRule>
+    ensures { result ≡ spec.size_breaks [] namespace }
+{
+    let NsConfig { nsid, blocks, .. } = namespace;
+    if blocks == 0 {
+        return Some(BrokenRule::NoBlocks(nsid));
+    }
+    if blocks > 65_536 {
+        return Some(BrokenRule::TooLarge(nsid, blocks));
+    }
+    None
+}
+
+/// The first namespace without blocks, or with too many.
+fn bad_size(namespaces: &[NsConfig]) -> Option<ConfigReason>
+    ensures { result ≡ spec.first_line line_of.Namespace spec.size_breaks [] namespaces.now }
+{
+    for (i, namespace) in namespaces.iter().enumerate() {
+        if let Some(rule) = size_breaks(*namespace) {
+            return at(SetupLine::Namespace(i), rule);
+        }
+    }
+    None
+}
+
+/// The first namespace that has no room on the medium behind those before it.
+fn does_not_fit(namespaces: &[NsConfig], medium_blocks: u64) -> Option<ConfigReason>
+    ensures { result ≡ spec.first_line line_of.Namespace (spec.room_breaks medium_blocks) [] namespaces.now }
+{
+    let mut room = medium_blocks;
+    for (i, namespace) in namespaces.iter().enumerate() {
+        if namespace.blocks > room {
+            let rule = BrokenRule::DoesNotFit(namespace.nsid, medium_blocks);
+            return at(SetupLine::Namespace(i), rule);
+        }
+        room -= namespace.blocks;
+    }
+    None
+}
+
+impl ConfigReason {
+    /// Why a configuration is refused with this fault over a medium of so many blocks: a rule that it breaks and that
+    /// has this fault, and the first line that breaks it. `None` for want of memory.
+    #[tactic(auto, unfolding(crate::specs::Reasons::reason_of))]
+    pub fn of(config: &Config, medium_blocks: u64, fault: ConfigFault) -> Option<ConfigReason>
+        ensures { result ≡ spec.reason_of (configuration config.now) medium_blocks fault }
+    {
+        match fault {
+            ConfigFault::TooMany => one_too_many(config),
+            ConfigFault::BadId => bad_id(config),
+            ConfigFault::BadSize => bad_size(&config.namespaces),
+            ConfigFault::DoesNotFit => does_not_fit(&config.namespaces, medium_blocks),
+            ConfigFault::NoMemory => None,
+        }
+    }
+}
+
+impl SetupLine {
+    /// How many lines of its kind stand before it.
+    fn place(self) -> usize
+        ensures { result ≡ place_of self }
+    {
+        match self {
+            SetupLine::Controller(i) | SetupLine::Namespace(i) | SetupLine::Attached(i) => i,
+        }
+    }
+
+    /// Whether a line of a text is of its kind.
+    fn is_kind_of(self, raw: &[u8], bytes: &mut [u8], identifiers: &mut [u16]) -> bool
+        requires bytes_room { HasBytesRoom raw.now bytes.old }
+        requires identifiers_room { most_words raw.now ≤ length identifiers.old }
+        ensures { result ≡ is_of_kind self (line_at raw.now) }
+    {
+        let Some(line) = parse_line(raw, bytes, identifiers) else {
+            return false;
+        };
+        match self {
+            SetupLine::Controller(_) => matches!(line, Line::Controller(_)),
+            SetupLine::Namespace(_) => matches!(line, Line::Namespace(_)),
+            SetupLine::Attached(_) => matches!(line, Line::Attached { .. }),
+        }
+    }
+
+    /// Its number among all lines of a text, from 1, if it is there. The buffers need room for what any line says.
+    pub fn number_in(self, text: &[u8], bytes: &mut [u8], identifiers: &mut [u16]) -> Option<usize>
+        requires bytes_room { HasTextRoom text.now bytes.old }
+        requires identifiers_room { HasWordsRoom text.now identifiers.old }
+        ensures { result ≡ number_in self (text_lines text.now) }
+    {
+        let mut left = self.place();
+        let mut number: usize = 1;
+        let mut rest = Some(text);
+        while let Some(lines) = rest {
+            let (line, behind) = front_line(lines);
+            if self.is_kind_of(line, bytes, identifiers) {
+                if left == 0 {
+                    return Some(number);
+                }
+                left -= 1;
+            }
+            number += 1;
+            rest = behind;
+        }
+        None
+    }
+}

@@ -1,0 +1,31 @@
+//! Whether what is named as an image is one, and no script that would be written over.
+
+ghost use Rattle.std.specs.Prelude.{◌≡◌, List, ℕ, Result};
+ghost use Rattle.nvme_grammar.specs.Beginnings.{begins_script};
+ghost use Rattle.nvme_program.specs.Programs.{AsText, IsJudgement};
+ghost use Rattle.nvme_program.specs.declared.failure.Failure.{Failure as AFailure};
+
+use crate::failure::Failure;
+use crate::system::{Cause, System, Unopened};
+use nvme_grammar::begins_script;
+use std::alloc::Global;
+
+/// Judges what is named as an image by its text, before it is opened as one: where that begins as a script does, it is
+/// refused.
+///
+/// # Errors
+///
+/// `File`, and `IsScript` as the cause, where it begins so; what the system refused where it can't be read.
+pub fn judge_image<S: System>(alloc: Global, system: &mut S, path: &str) -> Result<(), Unopened>
+    ensures { (outcome : Result (List ℕ) AFailure) × S.step system.old (AsText path.now outcome) system.new
+        × IsJudgement outcome result }
+{
+    let text = system.text_of(alloc, path)?;
+    if begins_script(text.as_slice()) {
+        return Err(Unopened {
+            failure: Failure::File,
+            cause: Cause::IsScript,
+        });
+    }
+    Ok(())
+}

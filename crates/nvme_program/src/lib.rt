@@ -1,0 +1,28 @@
+//! What the programs share: the words of their command lines, the files that they open, and each failure with its
+//! reason, its text and its exit status.
+#![tactic(auto)]
+
+mod command_line;
+mod configuration;
+mod examples;
+mod failure;
+mod fault;
+mod judging;
+pub mod laws;
+mod media;
+mod placed;
+mod reason;
+mod sentence;
+mod system;
+mod telling;
+
+pub use command_line::{Paths, WordFault, behind_option, means_image, paths_of, refused_word};
+pub use configuration::{BrokenRule, ConfigReason, SetupLine};
+pub use failure::{Failure, status_of};
+pub use fault::{ScriptFault, config_fault_name};
+pub use judging::judge_image;
+pub use media::{behind_cache, scratch};
+pub use placed::{PlacedFault, PlacedRule};
+pub use reason::{Reason, USAGE};
+pub use system::{Cause, HostFiles, System, Unopened};
+pub use telling::Program;

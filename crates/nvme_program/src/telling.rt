@@ -1,0 +1,149 @@
+//! What a program tells on standard error: the text of its failure, and behind it a line with the reason.
+
+ghost use Rattle.std.specs.Prelude.{◌≡◌, ◌++◌, OnOk, Some, codes};
+ghost use Rattle.std.specs.Io.KnownBytes.{Appends};
+ghost use Rattle.nvme_program.specs.FailureTexts.{told_text};
+ghost use Rattle.nvme_program.specs.declared.reason.Reason.TheVariants.{IsScript as SaysScript};
+ghost use Rattle.nvme_program.specs.declared.system.Cause.TheVariants.{IsScript};
+
+use crate::command_line::{WordFault, refused_word};
+use crate::failure::Failure;
+use crate::reason::Reason;
+use crate::system::{Cause, Unopened};
+use std::io;
+use std::io::Write;
+
+/// What an image is opened for.
+const AS_IMAGE: &str = "as the image, for reading and writing";
+
+/// What a script is opened for.
+const AS_SCRIPT: &str = "as the script, for reading";
+
+/// The reason of a file that can't be opened for this purpose.
+fn reason_of<'a>(cause: &'a Cause, path: &'a str, purpose: &'static str) -> Option<Reason<'a, 'a>>
+    ensures script { cause.entry.now ≡ IsScript → result ≡ Some (SaysScript path.entry) }
+{
+    match cause {
+        Cause::System(error) => Some(Reason::Unopened {
+            path,
+            purpose,
+            error,
+        }),
+        Cause::Irregular => Some(Reason::NoImage { path }),
+        Cause::IsScript => Some(Reason::IsScript { path }),
+        Cause::Unread => Some(Reason::Unread { path: Some(path) }),
+        Cause::Unknown => None,
+    }
+}
+
+/// A program, as it calls itself.
+#[derive(Clone, Copy)]
+pub struct Program {
+    /// Its name.
+    pub name: &'static str,
+    /// How it is called.
+    pub usage: &'static str,
+}
+
+impl Program {
+    /// Writes the line that tells a failure.
+    fn say<E: Write>(self, errors: &mut E, failure: Failure) -> io::Result<()>
+        ensures { OnOk result (Appends (E.contents errors.old) (E.contents errors.new)
+            (told_text self.name.now failure ++ codes "\n")) }
+    {
+        let name = self.name;
+        writeln!(errors, "{name}: {failure}")
+    }
+
+    /// Writes the line with a reason. As compilers do, it begins with the place of what is refused, where that is in a
+    /// script, and else with the program's name.
+    fn say_reason<E: Write>(self, errors: &mut E, reason: Reason<'_, '_>) -> io::Result<()> {
+        if reason.has_place() {
+            return writeln!(errors, "{reason}");
+        }
+        let name = self.name;
+        writeln!(errors, "{name}: {reason}")
+    }
+
+    /// Tells why the program ends: the text of the failure, and behind it a line with its reason. Want of memory has
+    /// none.
+    pub fn tell<E: Write>(
+        self,
+        errors: &mut E,
+        failure: Failure,
+        reason: Option<Reason<'_, '_>>,
+    ) -> Failure
+        ensures { result ≡ failure }
+    {
+        let _ = self.say(errors, failure);
+        if failure.status() == 4 {
+            return failure;
+        }
+        if let Some(reason) = reason {
+            let _ = self.say_reason(errors, reason);
+        }
+        failure
+    }
+
+    /// Tells why a file can't be opened for this purpose.
+    fn tell_file<E: Write>(
+        self,
+        errors: &mut E,
+        unopened: &Unopened,
+        path: &str,
+        purpose: &'static str,
+    ) -> Failure
+        ensures { result ≡ unopened.now.failure }
+    {
+        self.tell(
+            errors,
+            unopened.failure,
+            reason_of(&unopened.cause, path, purpose),
+        )
+    }
+
+    /// Tells why an image can't be opened.
+    pub fn tell_image<E: Write>(self, errors: &mut E, unopened: &Unopened, path: &str) -> Failure
+        ensures { result ≡ unopened.now.failure }
+    {
+        self.tell_file(errors, unopened, path, AS_IMAGE)
+    }
+
+    /// Tells why a script can't be opened.
+    pub fn tell_script<E: Write>(self, errors: &mut E, unopened: &Unopened, path: &str) -> Failure
+        ensures { result ≡ unopened.now.failure }
+    {
+        self.tell_file(errors, unopened, path, AS_SCRIPT)
+    }
+
+    /// Tells why a command line ends the program; where a word is refused, which. So many options stand before these
+    /// words.
+    pub fn tell_words<E: Write>(
+        self,
+        errors: &mut E,
+        failure: Failure,
+        words: &[String],
+        options: usize,
+    ) -> Failure
+        ensures { result ≡ failure }
+    {
+        self.tell(errors, failure, self.word_reason(words, options))
+    }
+
+    /// Which word of a command line is refused, and why.
+    fn word_reason(self, words: &[String], options: usize) -> Option<Reason<'_, '_>> {
+        let usage = self.usage;
+        match refused_word(words)? {
+            WordFault::NoOption(number) => Some(Reason::NoOption {
+                number: number.saturating_add(options),
+                word: words.get(number)?.as_str(),
+                usage,
+            }),
+            WordFault::TooMany(number) => Some(Reason::TooManyWords {
+                number: number.saturating_add(options),
+                word: words.get(number)?.as_str(),
+                usage,
+            }),
+        }
+    }
+}
