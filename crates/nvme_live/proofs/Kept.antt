@@ -31,7 +31,7 @@ use Rattle.nvme_subsys.specs.Looking.{Reads}
 use Rattle.nvme_live.specs.Saying.{with_feed}
 use Rattle.live_text.specs.Faults.{refusal}
 use Rattle.nvme_spec.specs.declared.medium.MediumFault.{MediumFault}
-use Rattle.nvme_live.specs.Showing.{read_text}
+use Rattle.nvme_live.specs.Looks.{read_text}
 use Rattle.std.specs.List.{list_all}
 use Rattle.std.proofs.lemmas.List.{append-nil, append_assoc}
 use Rattle.nvme_script.proofs.Running.{IsRun, Transcribes-append}

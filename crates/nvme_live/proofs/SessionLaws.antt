@@ -31,7 +31,8 @@ use Rattle.nvme_live.specs.Asking.{asked}
 use Rattle.nvme_live.specs.Keeping.{is_block_look}
 use Rattle.nvme_live.specs.Saying.{with_feed}
 use Rattle.nvme_live.specs.SessionLaws.{EndIsUnique, HasTicketsOnce, IsAnswered, LinesBeforeStartAreAnswered, LinesOfARunAreAnswered, SessionIsUnique, StartIsAnswered, asks_start, events_asked, failures_at, with_asked}
-use Rattle.nvme_live.specs.Showing.{early_text, read_text, shown_text}
+use Rattle.nvme_live.specs.Looks.{read_text, shown_text}
+use Rattle.live_views.specs.Showing.{early_text}
 use Rattle.nvme_live.specs.Standings.{Standing, Setting, Running, Over, Session, SetsBy, Starts, Turn, refused_text, started_text}
 use Rattle.nvme_live.specs.Taking.{TakesLines, session_lines}
 use Rattle.nvme_live.proofs.InBytes.{known-answers, known-lines}

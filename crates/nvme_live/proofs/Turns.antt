@@ -13,7 +13,7 @@ use Rattle.live_text.specs.declared.looking.Looking.TheVariants as look
 use Rattle.nvme_live.specs.Answers.{place_of}
 use Rattle.nvme_live.specs.AnswerCalls.{ShowsBlocksBy, ShowsBy}
 use Rattle.nvme_live.specs.Saying.{with_feed}
-use Rattle.nvme_live.specs.Showing.{read_text, shown_text}
+use Rattle.nvme_live.specs.Looks.{read_text, shown_text}
 
 -- a look at anything but blocks
 pub shows-other : {M : Type 0} (step : M → MediumCall → M → Type 0) (tells : Bool) (n : ℕ) (looking : Looking) (l : OverMedium Layers M) (answer : List ℕ) → ((m slba count : ℕ) → looking ≡ look.Blocks m slba count → ⊥)

@@ -20,7 +20,7 @@ use Rattle.nvme_live.specs.declared.asking.Asked.TheVariants.{Fails, Nothing, Lo
 use Rattle.nvme_live.specs.Answers.{place_of}
 use Rattle.nvme_live.specs.Asking.{asked}
 use Rattle.nvme_live.specs.Saying.{with_feed}
-use Rattle.nvme_live.specs.Showing.{shown_text, read_text}
+use Rattle.nvme_live.specs.Looks.{shown_text, read_text}
 use Rattle.nvme_live.specs.Standings.{Standing, Setting, Running, Over, Settles}
 
 -- An event happened, by exactly its calls, and it is answered by the line of it and of what it gave.

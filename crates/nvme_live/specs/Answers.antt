@@ -15,7 +15,7 @@ use Rattle.live_text.specs.declared.looking.Looking.TheVariants as look
 use Rattle.nvme_live.specs.declared.asking.Asked.{Asked}
 use Rattle.nvme_live.specs.declared.asking.Asked.TheVariants.{Fails, Nothing, Looks, Sets, Does}
 use Rattle.nvme_live.specs.Saying.{with_feed}
-use Rattle.nvme_live.specs.Showing.{shown_text, read_text}
+use Rattle.nvme_live.specs.Looks.{shown_text, read_text}
 use Rattle.nvme_live.specs.Streams.{Says, Sending}
 use Rattle.nvme_program.specs.declared.fault.ScriptFault.{ScriptFault}
 

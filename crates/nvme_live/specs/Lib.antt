@@ -1,5 +1,6 @@
 pub use Rattle.live_text.specs.Faults
 pub use Rattle.live_text.specs.Looking
+pub use Rattle.live_views.specs.Showing
 pub use Rattle.nvme_grammar.specs.Script
 pub use Rattle.nvme_grammar.specs.Lent
 pub use Rattle.nvme_grammar.specs.Line
@@ -8,8 +9,7 @@ pub use Rattle.nvme_fleet.specs.Layers
 pub use Rattle.nvme_transcript.specs.Transcript
 pub mod Asking
 pub mod Saying
-pub mod Showing
-pub mod Shown
+pub mod Looks
 pub mod Answers
 pub mod Taking
 pub mod Streams

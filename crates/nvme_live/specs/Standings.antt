@@ -4,10 +4,10 @@ use Rattle.std.specs.Fmt.{decimal}
 use Rattle.nvme_spec.specs.Blocks.{Device}
 use Rattle.nvme_spec.specs.Configuration.{first_config_fault}
 use Rattle.nvme_spec.specs.declared.config.ConfigFault.{ConfigFault}
-use Rattle.nvme_spec.specs.declared.config.ConfigFault.TheVariants.{BadId, BadSize, TooMany, DoesNotFit, NoMemory}
 use Rattle.nvme_fleet.specs.FleetStates.{Layers, opening_layers}
 use Rattle.nvme_grammar.specs.declared.line.Line.{Line}
 use Rattle.nvme_grammar.specs.declared.line.Line.TheVariants.{Start}
+use Rattle.nvme_program.specs.FailureTexts.{config_fault_text}
 use Rattle.nvme_program.specs.Reasons.{rule_text}
 use Rattle.nvme_program.specs.declared.configuration.BrokenRule.{BrokenRule}
 use Rattle.live_text.specs.Faults.{refusal}
@@ -18,7 +18,7 @@ use Rattle.nvme_live.specs.Answers.{AnswersLine}
 use Rattle.nvme_live.specs.Asking.{asked}
 use Rattle.nvme_live.specs.Saying.{with_feed}
 use Rattle.nvme_live.specs.SetUps.{SetUp, numbered_reason, with_line}
-use Rattle.nvme_live.specs.Showing.{early_text}
+use Rattle.live_views.specs.Showing.{early_text}
 
 -- It is set up, so far to this; or it runs; or its configuration was refused, at the line `start` with this number and by
 -- this fault, and the session is over.
@@ -42,13 +42,6 @@ MayLackRoom (Running l) (Sets line) = Unit {0}
 MayLackRoom (Running l) (Does event) = Unit {0}
 MayLackRoom (Over k fault) asks = ⊥
 
-abbrev pub fault_name : ConfigFault → List ℕ
-fault_name BadId = codes "BadId"
-fault_name BadSize = codes "BadSize"
-fault_name TooMany = codes "TooMany"
-fault_name DoesNotFit = codes "DoesNotFit"
-fault_name NoMemory = codes "NoMemory"
-
 -- the line that is at fault, by its number, and what of it
 abbrev pub reason_text : Option (ℕ × BrokenRule) → List ℕ
 reason_text None = []
@@ -57,7 +50,7 @@ reason_text (Some reason) = codes "; line " ++ decimal reason.0 ++ codes ": " ++
 -- what the n-th line, `start`, is answered where the configuration has this fault, for this reason
 abbrev pub refused_text : ℕ → ConfigFault → Option (ℕ × BrokenRule) → List ℕ
 refused_text n fault reason =
-    codes "refused line " ++ decimal n ++ codes ": " ++ fault_name fault ++ reason_text reason
+    codes "refused line " ++ decimal n ++ codes ": " ++ config_fault_text fault ++ reason_text reason
 
 abbrev pub started_text : List ℕ
 started_text = codes "started"

@@ -6,7 +6,7 @@ ghost use Rattle.nvme_spec.specs.Configuration.{empty_configuration};
 ghost use Rattle.nvme_spec.specs.Examples.{namespace};
 ghost use Rattle.nvme_grammar.specs.declared.line.Line.TheVariants.{Attached, Namespace, Start};
 ghost use Rattle.nvme_live.specs.Keeping.{is_kept};
-ghost use Rattle.nvme_live.specs.Showing.{bit_text, io_name};
+ghost use Rattle.live_views.specs.Showing.{bit_text, io_name};
 ghost use Rattle.nvme_live.specs.SetUps.{nothing_set_up, numbered_reason, set_by, with_line};
 ghost use Rattle.nvme_live.specs.Standings.{refused_text};
 ghost use Rattle.nvme_live.specs.StreamExamples.{Flushed, Flushing, Writing, Wrote};

@@ -6,7 +6,6 @@ mod conversation;
 mod examples;
 pub mod laws;
 mod line_numbers;
-mod names;
 mod opening;
 mod program;
 mod reading;
@@ -14,9 +13,9 @@ mod rooms;
 mod saying;
 mod session;
 mod setting;
+mod showing;
 mod streams;
 mod turn;
-mod views;
 
 pub use program::{run_in, run_program};
 pub use session::run_live;

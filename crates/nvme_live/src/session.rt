@@ -20,14 +20,13 @@ ghost use Rattle.nvme_live.specs.Streams.{ReadsBy, SendsBy, Sent};
 
 use crate::conversation::{run_on, set_up};
 use crate::line_numbers::{LineNumbers, make_room, numbered_reason};
-use crate::names::fault_name;
 use crate::opening::{Opening, prepare};
 use crate::rooms::Rooms;
 use crate::saying::{say, send};
 use crate::streams::{FlushedSink, LineSource};
 use nvme_fleet::{Fleet, NewFault};
 use nvme_medium::Medium;
-use nvme_program::{BrokenRule, ScriptFault};
+use nvme_program::{BrokenRule, ScriptFault, config_fault_name};
 use nvme_script::run_events;
 use nvme_spec::{Config, ConfigFault};
 use script_text::Source;
@@ -52,13 +51,13 @@ impl fmt::Display for RefusedText {
                 f,
                 "refused line {}: {}; line {line}: {rule}",
                 self.number,
-                fault_name(self.fault)
+                config_fault_name(self.fault)
             ),
             None => write!(
                 f,
                 "refused line {}: {}",
                 self.number,
-                fault_name(self.fault)
+                config_fault_name(self.fault)
             ),
         }
     }

@@ -14,9 +14,10 @@ ghost use Rattle.nvme_live.specs.Streams.{Says, SendsBy};
 
 use crate::asking::Asked;
 use crate::saying::{say, send};
+use crate::showing::shown_of;
 use crate::streams::FlushedSink;
-use crate::views::{BlocksText, shown_of};
 use live_text::{Looking, Refusal, Why};
+use live_views::BlocksText;
 use nvme_fleet::{Fleet, FleetEvent};
 use nvme_medium::Medium;
 use nvme_program::ScriptFault;

@@ -7,7 +7,7 @@ use Rattle.nvme_live.specs.declared.asking.Asked.TheVariants.{Does, Fails, Looks
 use Rattle.nvme_live.specs.Saying.{with_feed}
 use Rattle.nvme_live.specs.Settling.{Comes}
 use Rattle.nvme_live.specs.SetUps.{set_up_of}
-use Rattle.nvme_live.specs.Shown.{shown_by}
+use Rattle.live_views.specs.Shown.{shown_by}
 use Rattle.nvme_live.specs.Streams.{SendsBy}
 use Rattle.nvme_live.proofs.Conversing.{comes-by}
 use Rattle.nvme_live.proofs.setting.settle.Goals as goal

@@ -2,7 +2,7 @@ use Rattle.std.proofs.Common.{ap}
 use Rattle.nvme_fleet.specs.FleetStates.{layers_of}
 use Rattle.nvme_subsys.specs.OverMedium.{over}
 use Rattle.nvme_live.specs.Saying.{with_feed}
-use Rattle.nvme_live.specs.Shown.{shown_by}
+use Rattle.live_views.specs.Shown.{shown_by}
 use Rattle.nvme_live.proofs.Turns.{shows-other}
 use Rattle.nvme_live.proofs.turn.look.Goals as goal
 

@@ -5,7 +5,7 @@ use Rattle.live_text.specs.Faults.{refusal}
 use Rattle.live_text.specs.declared.fault.Why.TheVariants.{MediumFailed}
 use Rattle.nvme_subsys.specs.OverMedium.{over}
 use Rattle.nvme_live.specs.Saying.{with_feed}
-use Rattle.nvme_live.specs.Showing.{blocks_text}
+use Rattle.live_views.specs.Showing.{blocks_text}
 use Rattle.nvme_live.proofs.Turns.{shows-blocks}
 use Rattle.nvme_live.proofs.turn.look_at_blocks.Goals as goal
 

@@ -1,0 +1,18 @@
+//! What looking lines show, as texts: a window, registers, queues, fetched commands, drivers, namespaces, attachments and
+//! reservations, apart from having them so that it is proved without fleets.
+#![tactic(auto)]
+
+mod commands;
+mod controllers;
+mod drivers;
+mod names;
+mod queues;
+mod shown;
+mod spaces;
+
+pub use commands::FetchedText;
+pub use controllers::{BlocksText, RegisterText, RegistersText, WindowText};
+pub use drivers::DriverText;
+pub use queues::QueuesText;
+pub use shown::{Shown, controller_of, nothing, reservation_of, shown_early};
+pub use spaces::{AttachedText, NamespacesText, ReservationText};

@@ -1,0 +1,141 @@
+//! What a looking line shows, as a value whose text is the answer.
+
+ghost use Rattle.std.specs.Prelude.{◌≡◌, Some};
+ghost use Rattle.live_text.specs.Faults.{refusal};
+ghost use Rattle.live_views.specs.Showing.{controller_shown, early_text, reservation_shown, window_shown};
+ghost use Rattle.live_views.specs.Shown.{shown_by};
+
+use crate::commands::FetchedText;
+use crate::controllers::{RegisterText, RegistersText, WindowText};
+use crate::drivers::DriverText;
+use crate::queues::QueuesText;
+use crate::spaces::{AttachedText, NamespacesText, ReservationText};
+use live_text::{Form, Looking, LookingWord, Refusal, Why};
+use nvme_ctrl::Controller;
+use nvme_grammar::Keyword;
+use nvme_ns::Spaces;
+use nvme_spec::MOST_BYTES;
+use std::fmt;
+
+/// What a looking line shows.
+#[derive(Clone, Copy)]
+pub enum Shown<'a> {
+    /// Nothing, for this reason.
+    Nothing(Refusal<'a>),
+    /// The first words of all lines.
+    Help,
+    /// How lines are written.
+    HelpOn(Form),
+    Window(WindowText<'a>),
+    Register(RegisterText),
+    Registers(RegistersText<'a>),
+    Queues(QueuesText<'a>),
+    Fetched(FetchedText<'a>),
+    Driver(DriverText<'a>),
+    Namespaces(NamespacesText<'a>),
+    Attached(AttachedText<'a>),
+    Reservation(ReservationText<'a>),
+}
+
+impl fmt::Display for Shown<'_> {
+    ghost output = { λ shown. Some (shown_by shown) };
+
+    fn fmt<W: fmt::Write>(&self, f: &mut fmt::Formatter<W>) -> fmt::Result {
+        match self {
+            Shown::Nothing(refusal) => write!(f, "{refusal}"),
+            Shown::Help => {
+                let keywords = Keyword::all_texts();
+                let looking_words = LookingWord::all_texts();
+                write!(f, "help{keywords}{looking_words}")
+            }
+            Shown::HelpOn(form) => write!(f, "help {form}"),
+            Shown::Window(text) => write!(f, "{text}"),
+            Shown::Register(text) => write!(f, "{text}"),
+            Shown::Registers(text) => write!(f, "{text}"),
+            Shown::Queues(text) => write!(f, "{text}"),
+            Shown::Fetched(text) => write!(f, "{text}"),
+            Shown::Driver(text) => write!(f, "{text}"),
+            Shown::Namespaces(text) => write!(f, "{text}"),
+            Shown::Attached(text) => write!(f, "{text}"),
+            Shown::Reservation(text) => write!(f, "{text}"),
+        }
+    }
+}
+
+/// Nothing, for this reason, at the line with this number.
+pub fn nothing(number: u64, why: Why<'_>) -> Shown<'_>
+    ensures { shown_by result ≡ refusal number why.entry }
+{
+    Shown::Nothing(Refusal { number, why })
+}
+
+/// What is shown before there is anything to look at.
+pub fn shown_early<'a>(number: u64, looking: Looking) -> Shown<'a>
+    ensures { shown_by result ≡ early_text number looking }
+{
+    match looking {
+        Looking::Help => Shown::Help,
+        Looking::HelpOn(form) => Shown::HelpOn(form),
+        _ => nothing(number, Why::BehindStart),
+    }
+}
+
+/// What is shown of a window.
+fn window_of(number: u64, place: (u16, u64, u32), controller: &Controller) -> Shown<'_>
+    ensures { shown_by result ≡ window_shown number place.0 place.1 place.2 controller.now }
+{
+    let (cntlid, address, len) = place;
+    if len > MOST_BYTES as u32 {
+        return nothing(number, Why::OutsideWindow);
+    }
+    match controller.window().piece(address, u64::from(len)) {
+        Some(bytes) => Shown::Window(WindowText {
+            cntlid,
+            address,
+            bytes,
+        }),
+        None => nothing(number, Why::OutsideWindow),
+    }
+}
+
+/// What is shown of a controller.
+pub fn controller_of(number: u64, looking: Looking, controller: &Controller) -> Shown<'_>
+    ensures { shown_by result ≡ controller_shown number looking controller.now }
+{
+    match looking {
+        Looking::Window {
+            cntlid,
+            address,
+            len,
+        } => window_of(number, (cntlid, address, len), controller),
+        Looking::Register { cntlid, offset } => {
+            let value = controller.read32(offset);
+            Shown::Register(RegisterText {
+                cntlid,
+                offset,
+                value,
+            })
+        }
+        Looking::Registers(cntlid) => Shown::Registers(RegistersText { cntlid, controller }),
+        Looking::Queues(cntlid) => Shown::Queues(QueuesText { cntlid, controller }),
+        Looking::Fetched(cntlid) => {
+            let commands = controller.fetched();
+            Shown::Fetched(FetchedText { cntlid, commands })
+        }
+        _ => nothing(number, Why::NoController),
+    }
+}
+
+/// What is shown of a namespace's reservation.
+pub fn reservation_of(number: u64, nsid: u32, spaces: &Spaces) -> Shown<'_>
+    ensures { shown_by result ≡ reservation_shown number nsid spaces.now }
+{
+    match spaces.namespace(nsid) {
+        Some(namespace) => Shown::Reservation(ReservationText {
+            nsid,
+            reservation: namespace.reservation(),
+            protected: namespace.protection_state(),
+        }),
+        None => nothing(number, Why::NoNamespace),
+    }
+}
