@@ -6,10 +6,11 @@ import threading
 import time
 from pathlib import Path
 
+from support.proof_seconds import longest_chains, seconds_of
 
-# What takes long beside the longest chain, so that the end of the chain would wait for it: it gets two jobs, also where
-# other crates take the other processors.
-LONG = ("nvme_grammar",)
+# A crate whose chain is as long as this part of the longest one gets two jobs, also where other crates take the other
+# processors: all wait for it.
+LONG = 0.85
 
 
 def cone_of(wanted):
@@ -47,7 +48,7 @@ def side_by_side(rt, work, jobs):
 
     def task(crate):
         waits = [keys[it.name] for it in crate.below() if it.name in keys]
-        return (waits, crate.count(rb"\n"), rt.need(crate),
+        return (waits, seconds_of(crate), rt.need(crate),
                 lambda given, jobs: all(given[it] for it in waits) and call(crate, jobs))
 
     return all(rt.in_lanes({keys[it.name]: task(it) for it in crates}).values())
@@ -91,12 +92,13 @@ def prove(rt, wanted, jobs, tell, log):
     program is built there."""
     crates = cone_of(wanted)
     lacking = [it for it in crates if it.is_program or not it.is_built()]
-    progress = Progress(len(lacking), tell)
+    progress, chains = Progress(len(lacking), tell), longest_chains(lacking)
+    long = {it for it, chain in chains.items() if chain >= LONG * max(chains.values())}
 
     def build(crate, jobs):
         progress.begin(crate.name)
         with tempfile.TemporaryFile("w+", errors="replace") as crate.out:
-            flags = ["--jobs", str(max(jobs, 2) if crate.name in LONG else jobs)]
+            flags = ["--jobs", str(max(jobs, 2) if crate.name in long else jobs)]
             is_well = build_program(rt, crate, flags) if crate.is_program else not crate.build_rlib(flags, anew=False)
             crate.out.seek(0)
             with WRITING:
