@@ -1,9 +1,9 @@
 -- A controller that fetches from its admin queue alone executes admin commands alone, and these mark nothing.
 use Rattle.nvme_fleet.proofs.Words.{all-filter, all-joined, ◌≡◌, ℕ, ◌+◌, ◌==◌, Bool, true, false, List, length, Option, None, Some, refl, sym, ap, subst, ◌∙◌, slice_get, nat_le, if◌then◌else◌, AllByRecursion, QueueChange, DropSq, AdminQueues, RegEffect, Enable, Disable, with_bytes, no_marks, window_size, World, FetchedCommand, Executed, NoSuch, CqFull, Stored, Outside, CommandComesTo, CommandComesToAs, CommandExecution, Controller, SubmissionQueue, QueuePair, reaction, queues_of, open_pair, after_store, after_write32, after_fetch, fetched_from, fetchable, taking_effect, with_admin_queues, after_posting, after_queue_change, Setting, FinishesOne, FinishesOver, scene_in, after_completion, unmarked, Call, Stores, Writes, Reads, Turns, marks_after, fetch-id, store-id, write-id, LinkStep, with_controller}
-use Rattle.nvme_fleet.proofs.Lists.{all-get, all-removed}
+use Rattle.nvme_mailbox.proofs.Lists.{all-get, all-removed}
 use Rattle.nvme_spec.specs.Registers as register
 use Rattle.nvme_machine.specs.Subsystems.{marked_from}
-use Rattle.nvme_fleet.proofs.EachHost.{one-id}
+use Rattle.nvme_mailbox.proofs.EachHost.{one-id}
 
 -- Only admin commands were fetched.
 

@@ -11,7 +11,8 @@ use Rattle.nvme_machine.proofs.Others.{cycled-at, others_change_in_marks_alone}
 use Rattle.nvme_fleet.specs.declared.delivery.DriverCall.TheVariants as call
 use Rattle.nvme_fleet.specs.Bytes.{FencingHolds, LeavesReservation, PermissionsStay}
 use Rattle.nvme_fleet.specs.Layers.{Step}
-use Rattle.nvme_fleet.proofs.Existing.{other-site}
+use Rattle.nvme_mailbox.proofs.Existing.{other-site}
+use Rattle.nvme_mailbox.proofs.Secrecy.{of-each}
 
 -- Runs of the mailboxes.
 pub runs_of_mailboxes : RunsOfMailboxes
@@ -64,23 +65,6 @@ permissions_stay tells old new e reply n step leaves k =
     (λ same. ap (λ x. may_write x k n) same.world)
     (λ j i is given one. fencing.permissions_stay tells old.subsystem new.subsystem (event.Execute j i) given n one (subst (LeavesReservation n old) is leaves, λ forgets. forgets) k)
     (λ is one. fencing.permissions_stay tells old.subsystem new.subsystem event.PowerCycle Cycled n one ((λ allowed. allowed), subst (LeavesReservation n old) is leaves) k)
-
--- what holds of the hosts of events in one world holds of them in the next
-of-one : (P Q : ℕ → Type 0) → ((k : ℕ) → P k → Q k) → (e : FleetEvent) → OfItsHost P e → OfItsHost Q e
-of-one P Q f (BringUp k) h = f k h
-of-one P Q f (Place k request) h = f k h
-of-one P Q f (Ring k) h = f k h
-of-one P Q f (Fetch k q) h = f k h
-of-one P Q f (Execute k i) h = f k h
-of-one P Q f (Poll k) h = f k h
-of-one P Q f (Reset k) h = f k h
-of-one P Q f (RawStore k address bytes) h = f k h
-of-one P Q f (RawWrite32 k offset v) h = f k h
-of-one P Q f PowerCycle h = tt
-
-pub of-each : (P Q : ℕ → Type 0) → ((k : ℕ) → P k → Q k) → (events : List FleetEvent) → AllByRecursion (OfItsHost P) events → AllByRecursion (OfItsHost Q) events
-of-each P Q f [] h = tt
-of-each P Q f (e ∷ events) h = (of-one P Q f e h.0, of-each P Q f events h.1)
 
 pub still-fenced : (v w : World) (n : ℕ) (events : List FleetEvent) → ((k : ℕ) → may_write w k n ≡ may_write v k n) → AllByRecursion (OfItsHost (λ k. may_write v k n ≡ false)) events
     → AllByRecursion (OfItsHost (λ k. may_write w k n ≡ false)) events

@@ -1,7 +1,8 @@
 -- An execution in one lane: a request goes from those that were fetched to the answers that were posted.
 use Rattle.nvme_fleet.proofs.Words.{◌≡◌, ℕ, ◌+◌, ◌-◌, ◌%◌, ◌<◌, ◌≤◌, List, [], ◌∷◌, ◌++◌, length, map, refl, ap, sym, ◌∙◌, arith, true, false, not, cond, eqb, Bool, Some, inl, inr, take, slice_get, take-take, length-set, length-remove, slice_get_within, cases_Bool, eqb-true, ne_eqb, lt-ltb, cases_eq, common_steps, nat_lt, cid, Completion, completion_of, queue_id, answer_len, PostedAnswer, Effect, State, Slot, finished, finished_bytes, executed, executed_state, completion_bytes, phase_of, ticket_in, received_in, AreOf, in_flight, commands, completions, item, answer, box, Running, Holds, Heads, last_head, heard, unread, since, steps, commands_of, answers_of, live_at, slot_at, answers, holds, total, odd, suits, bears, replies, Carried, Phases, Host}
 use Rattle.std.proofs.Common.{remove}
-use Rattle.nvme_fleet.proofs.Totals.{total-append, total-removed, live-within, live-small, live-set, slot-same}
+use Rattle.nvme_fleet.proofs.Totals.{live-within, live-small, live-set, slot-same}
+use Rattle.nvme_mailbox.proofs.Totals.{total-append, total-removed}
 use Rattle.nvme_fleet.proofs.Slots.{few, Apart, apart-set, same-items, same-odd, same-answers}
 use Rattle.nvme_fleet.proofs.Keeps.{EntersCompletion, answered, commands-same, completions-kept}
 use Rattle.nvme_fleet.proofs.Queues.{flight-total, completions-append, same-box, self-eqb, same-entry, same-turn}

@@ -1,7 +1,7 @@
 -- Ring and Fetch in one lane: what was placed is rung, and the first that is rung is fetched.
 use Rattle.nvme_fleet.proofs.Words.{◌≡◌, ℕ, ◌+◌, ◌-◌, ◌%◌, ◌<◌, ◌≤◌, List, [], ◌∷◌, ◌++◌, map, refl, ap, ◌∙◌, arith, zero, suc, true, length-append, map-append, Completion, Item, command_at, State, box, in_flight, commands, item, Running, Holds, holds, total, odd, bears, Suited, Heads, last_head, heard, unread, since, commands_of, answers_of, live_at, Host}
 use Rattle.nvme_fleet.specs.Views.{after_fetch, rung}
-use Rattle.nvme_fleet.proofs.Totals.{total-append}
+use Rattle.nvme_mailbox.proofs.Totals.{total-append}
 use Rattle.nvme_fleet.proofs.Queues.{same-box, commands-append}
 use Rattle.nvme_fleet.proofs.Places.{no-way}
 

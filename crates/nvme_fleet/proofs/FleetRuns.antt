@@ -1,6 +1,6 @@
 -- A run goes on by one event, and what an event gives fits its room.
 use Rattle.nvme_fleet.proofs.Words.{◌≡◌, ℕ, ◌+◌, ◌<◌, ◌≤◌, get_or, Bool, true, false, List, [], ◌∷◌, ◌++◌, ◌∙◌, length, take, Option, None, Some, refl, sym, ap, subst, arith, slice_get, Result, Ok, Err, is_ok, IsOk, if◌then◌else◌, take_more, append-nil, append_assoc, most_bytes, Request, PlaceRefusal, Lane, FleetEvent, BringUp, Place, Ring, Fetch, Execute, Poll, Reset, RawStore, RawWrite32, PowerCycle, FleetSeen, Reply, Item, FetchedItem, Mailbox, box_at, MailboxReaction, brought_up, refusal, placed_by, placed, rung, lane_at, fetched_first, fetched_of, reset, WithDriver, Raw, Fleet, Is, Step, ExecutesItem, ExecutesAt, called_at, raw_at, fetched_at, host_at, FleetState, Layers, layers_of, MediumCall, MakesCalls, OverMedium, AreCallsOfStep, RunsBehind, data_behind, room_for}
-use Rattle.nvme_fleet.specs.Fleets.{Host}
+use Rattle.nvme_mailbox.specs.Fleets.{Host}
 use Rattle.nvme_machine.specs.Controllers as machine
 use Rattle.nvme_fleet.specs.FleetStates.{data_in}
 use Rattle.nvme_fleet.specs.Layers as layers

@@ -1,7 +1,7 @@
 -- A poll tells how many bytes it hands up, and they stand at the front of the buffer.
 use Rattle.nvme_fleet.proofs.Words.{◌≡◌, ◌≤◌, ℕ, zero, suc, List, [], ◌∷◌, length, take, Option, Result, refl, sym, ap, subst, ◌∙◌, arith, Answer, PollFault, Driver, Controller, Polled, Reply, data_len, Mailbox, MailboxReaction, reply_in, IsStep}
-use Rattle.nvme_fleet.proofs.Moves.{Move, Stay, Clear, May, reply_of, polls}
-use Rattle.nvme_fleet.specs.Deliveries.{polled}
+use Rattle.nvme_mailbox.proofs.Moves.{Move, Stay, Clear, May, reply_of, polls}
+use Rattle.nvme_mailbox.specs.Deliveries.{polled}
 
 counted : (v : Move) (m : Mailbox) → May v m → data_len (reply_of v m).seen ≡ length (reply_of v m).bytes
 counted (Stay what) m q = q.bytes

@@ -3,7 +3,7 @@ use Rattle.nvme_fleet.proofs.Words.{slice_get_within, same_Some, ◌≡◌, ℕ,
 use Rattle.nvme_machine.specs.declared.seen.Seen.TheVariants as given
 use Rattle.nvme_machine.specs.Subsystems.{Step, ExecutesAt}
 use Rattle.nvme_event.specs.declared.seen.FleetSeen.TheVariants as seen
-use Rattle.nvme_fleet.specs.Fleets as mailboxes
+use Rattle.nvme_mailbox.specs.Fleets as mailboxes
 use Rattle.nvme_fleet.proofs.FleetCalls.{changes, delivers, executes, fetches, is-not-raw, with-subsystem}
 use Rattle.nvme_fleet.proofs.Reaching.{reacted-as}
 use Rattle.nvme_fleet.proofs.Seating.{controller-there}

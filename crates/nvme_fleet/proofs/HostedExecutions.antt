@@ -1,6 +1,6 @@
 -- What an execution leaves of a fleet's drivers and controllers is the step of the fleet.
 use Rattle.nvme_fleet.proofs.Words.{◌≡◌, ℕ, ◌+◌, Bool, false, List, [], ◌∷◌, Option, None, Some, refl, sym, ap, subst, ◌∙◌, slice_get, slice_set, if◌then◌else◌, Device, World, host_of, no_marks, FetchedCommand, Executed, Posted, NoSuch, CqFull, Controller, is_host_among, Setting, setting, FinishesOne, ExecutesNth, marks_after, set-same, Driver, plain, Fleet, ExecutesAt, host_at, marked, marked_from, marks_in, settled, site_of, Sound, host_by, hosts_of, SoundBy}
-use Rattle.nvme_fleet.specs.Fleets.{Host}
+use Rattle.nvme_mailbox.specs.Fleets.{Host}
 use Rattle.nvme_event.specs.declared.seen.FleetSeen.TheVariants as seen
 use Rattle.nvme_fleet.proofs.ExecuteStep.{execution_is_a_step}
 use Rattle.nvme_fleet.proofs.FleetStep.{execution_is_a_fleet_step, no_execution_is_a_fleet_step}

@@ -1,6 +1,6 @@
 -- Hosts by their places: those of a list of drivers beside a list of controllers.
 use Rattle.nvme_fleet.proofs.Words.{◌≡◌, ℕ, zero, suc, ◌+◌, Bool, true, false, List, [], ◌∷◌, Option, None, Some, refl, sym, ap, ◌∙◌, arith, slice_get, slice_set, if◌then◌else◌, same_Some, Marks, World, host_of, Controller, with_marks, is_host_among, Driver, WithDriver, marked, marked_from, numbered, replaced, host_by, hosts_of, SoundBy}
-use Rattle.nvme_fleet.specs.Fleets.{Host}
+use Rattle.nvme_mailbox.specs.Fleets.{Host}
 use Rattle.nvme_machine.specs.Subsystems as machine
 use Rattle.nvme_fleet.proofs.MarkStep.{marks_are_steps}
 

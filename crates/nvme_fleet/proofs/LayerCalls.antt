@@ -6,7 +6,7 @@ use Rattle.nvme_machine.specs.EventCalls as machine
 use Rattle.nvme_machine.proofs.EventCalls.{calls_are_of_a_step}
 use Rattle.nvme_driver.specs.Drivers.{lane_of}
 use Rattle.nvme_event.specs.declared.event.FleetEvent.TheVariants as fleet
-use Rattle.nvme_fleet.specs.Fleets as mailboxes
+use Rattle.nvme_mailbox.specs.Fleets as mailboxes
 use Rattle.nvme_fleet.specs.declared.delivery.DriverCall.TheVariants as call
 
 -- a host stores and writes alone

@@ -6,7 +6,7 @@ use Rattle.nvme_machine.proofs.Secrecy as machine
 use Rattle.nvme_fleet.specs.declared.delivery.DriverCall.TheVariants as call
 use Rattle.nvme_fleet.specs.Layers.{Step}
 use Rattle.nvme_fleet.proofs.Bytes.{IsSameSite, same-site}
-use Rattle.nvme_fleet.proofs.Existing.{IsOther, other-site}
+use Rattle.nvme_mailbox.proofs.Existing.{IsOther, other-site}
 use Rattle.nvme_fleet.proofs.Mirrored.{ArePlain, AreQuiet, IsQuiet, quiet-over, quiet-run, rises-over}
 use Rattle.nvme_fleet.proofs.Unique.{AreCalm, count, happens-alone}
 

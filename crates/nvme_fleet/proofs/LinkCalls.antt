@@ -1,7 +1,7 @@
 -- Calls over a link make none of the medium: those that grant no turn, and the turns of a driver that comes up, since
 -- admin commands make none.
 use Rattle.nvme_fleet.proofs.Words.{◌≡◌, ◌<◌, ℕ, ◌+◌, ◌++◌, Bool, true, false, List, [], ◌∷◌, length, Option, Some, None, Result, Ok, Err, refl, sym, ap, subst, ◌∙◌, arith, slice_get, OnOk, OnErr, length-set, MediumCall, Answer, PlaceRefusal, PollFault, UpFault, AlreadyUp, Admin, Request, Down, Up, Failed, Ticket, Call, Calls, Turns, Driver, IsPlaced, is_down, stores_of, IsPolled, Rises, IsMapped, rises-mapped, FetchedCommand, Seen, Controller, QueuePair, after_fetch, open_pair, CallingAt, CallingOne, CallingOver, Subsystem, controller_at, scene_of, OverMedium, CallOver, CallOverMedium, ReachesMedium, Linked, Reaches, controller_in, linked_controller, Sound, is_failed, polled}
-use Rattle.nvme_fleet.proofs.Lists.{all-get}
+use Rattle.nvme_mailbox.proofs.Lists.{all-get}
 use Rattle.nvme_spec.specs.MediumCalls.{Calls as CallsMade}
 use Rattle.nvme_driver.specs.declared.state.State.{State}
 use Rattle.nvme_machine.specs.declared.event.Event.TheVariants.{Fetch, Execute}

@@ -3,7 +3,7 @@ use Rattle.nvme_fleet.proofs.Words.{◌≡◌, ℕ, Bool, true, false, List, len
 use Rattle.nvme_driver.specs.declared.faults.PollFault.TheVariants.{NotUp}
 use Rattle.nvme_driver.specs.Drivers as driver
 use Rattle.nvme_driver.specs.Polls as poll
-use Rattle.nvme_fleet.specs.Deliveries as mail
+use Rattle.nvme_mailbox.specs.Deliveries as mail
 use Rattle.nvme_fleet.proofs.StartStep.{IsPlain, calls-are, calls-id}
 use Rattle.nvme_fleet.proofs.RiseLink.{Stays, stays-same, step_of, calls-linked}
 use Rattle.nvme_fleet.proofs.PlaceStep.{place_is_a_step, refusal_is_a_step}

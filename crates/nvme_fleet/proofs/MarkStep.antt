@@ -1,7 +1,7 @@
 -- Marks reach the mailbox where they reach its controller.
 use Rattle.nvme_fleet.proofs.Words.{◌≡◌, ℕ, suc, ◌==◌, ◌&&◌, not, Bool, true, false, List, [], ◌∷◌, map, Some, refl, sym, ap, ◌∙◌, slice_get, if◌then◌else◌, AllByRecursion, nsid, Lane, Admin, Io, Driver, FetchedCommand, Controller, lane_of, is_io, item_in, box, Both, commands_in, host, state, held_by, fetched_by, Sound, IsOfLane, host_side, device_side, mailbox, taken_by, lane_of_queue, MarksAreSteps}
 use Rattle.nvme_machine.specs.Controllers as machine
-use Rattle.nvme_fleet.specs.Mailboxes as mail
+use Rattle.nvme_mailbox.specs.Mailboxes as mail
 use Rattle.nvme_fleet.proofs.Placing.{same-holds}
 use Rattle.nvme_fleet.proofs.PostStep.{item_at, known, seen, lane-of-item}
 

@@ -3,14 +3,14 @@ use Rattle.nvme_fleet.proofs.Words.{◌≡◌, ◌<◌, ◌-◌, ◌^◌, ℕ, B
 use Rattle.std.proofs.Common.{append_assoc}
 use Rattle.nvme_fleet.specs.Layers.{Step}
 use Rattle.nvme_fleet.specs.MixedRuns.{CanBeSame, EachEventIsReached, ExecutesOn, FencingHoldsOfEachEvent, IsSame, SecrecyHoldsOfEachEvent}
-use Rattle.nvme_fleet.specs.Secrecy.{over}
+use Rattle.nvme_mailbox.specs.Secrecy.{over}
 use Rattle.nvme_fleet.proofs.AllowedCalls.{calls_are_allowed, extents-stay, fenced_commands_call_nothing, keeps-off}
 use Rattle.nvme_fleet.proofs.Bytes.{fenced_events_write_nothing, layout_stays, runs_of_mailboxes}
-use Rattle.nvme_fleet.proofs.Determined.{run_is_unique}
+use Rattle.nvme_mailbox.proofs.Determined.{run_is_unique}
 use Rattle.nvme_fleet.proofs.LayerCalls.{layer_calls_are_of_a_run, layer_calls_are_of_a_step}
 use Rattle.nvme_fleet.proofs.LayersOver.{step-leads}
-use Rattle.nvme_fleet.proofs.Regular.{regularity_stays}
-use Rattle.nvme_fleet.proofs.Secrecy.{step-over}
+use Rattle.nvme_mailbox.proofs.Regular.{regularity_stays}
+use Rattle.nvme_mailbox.proofs.Secrecy.{step-over}
 use Rattle.nvme_fleet.proofs.Unique.{tickets_stay_once}
 
 -- What a run reaches.

@@ -1,7 +1,8 @@
 -- Placing in one lane: a request in a slot that nobody bears joins those that were placed.
 use Rattle.nvme_fleet.proofs.Words.{◌≡◌, ℕ, ◌+◌, ◌-◌, ◌%◌, ◌<◌, ◌≤◌, List, [], ◌∷◌, ◌++◌, length, map, refl, ap, sym, ◌∙◌, arith, true, false, cond, eqb, Option, Some, None, inl, inr, slice_set, Bool, map-append, length-set, cases_Bool, eqb-true, ne_eqb, common_steps, Waiting, cid, live_in, suits, item_in, State, filled, placed_state, in_flight, commands, item, box, Running, Holds, Ages, AgeIn, last_head, heard, unread, since, commands_of, answers_of, live_at, slot_at, answers, holds, total, odd, bears, Carried, Host}
 use Rattle.nvme_fleet.specs.Views.{placed}
-use Rattle.nvme_fleet.proofs.Totals.{total-append, live-set, slot-same, slot-other}
+use Rattle.nvme_fleet.proofs.Totals.{live-set, slot-same, slot-other}
+use Rattle.nvme_mailbox.proofs.Totals.{total-append}
 use Rattle.nvme_fleet.proofs.Slots.{Apart, apart-set, same-items, same-odd, same-answers}
 use Rattle.nvme_fleet.proofs.Keeps.{Enters, enters, commands-kept, completions-same}
 use Rattle.nvme_fleet.proofs.Queues.{commands-append, flight-total, same-box, eqb-sym}

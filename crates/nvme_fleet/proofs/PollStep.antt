@@ -1,7 +1,7 @@
 -- That a poll of a driver is a step of its mailbox.
 use Rattle.nvme_fleet.proofs.Words.{none-some, Found, Done, Aborted, Polled, Reply, Slot, ticket_in, can_hear, area, MailboxReaction, mailbox_reaction, plain, answer_reply, handed_up, polled_aborted, polled_admin, polled_io, IsStep, PollIsAStep, after_calls, most_bytes, can_be_heard, waiting_at, ◌≡◌, ℕ, ◌+◌, ◌-◌, ◌*◌, ◌/◌, ◌%◌, ◌<◌, ◌≤◌, ◌==◌, Bool, true, not, ◌&&◌, cond, List, [], length, take, drop, Option, None, Some, refl, sym, ap, subst, ◌∙◌, arith, inl, inr, eqb, length-drop, cases_Bool, cases_lt, lt-ltb, le-ltb, eqb-true, length-take-le, slice_set, slice_range, option_map, if◌then◌else◌, Ok, Err, Completion, completion_of, sq_id, sq_head, status, dw0, Status, phase_tag, Lane, Admin, Io, Waiting, Ticket, queue_id, completion_place_in, head_doorbell, data_area, Driver, is_up, ends, Controller, with_head, completion_at, after_write32, box_at, completion_bytes, phase_of, received_in, HostSide, DeviceEnds, Both, host, pair, mail, next_in, pages_of, told_pair, aborted_number, consume, Sound, EndsFit, IsPaired, host_side, device_side, mailbox}
 use Rattle.nvme_driver.specs.declared.faults.PollFault.TheVariants as poll_fault
-use Rattle.nvme_fleet.specs.Deliveries as step
+use Rattle.nvme_mailbox.specs.Deliveries as step
 use Rattle.nvme_fleet.proofs.Places.{no-way}
 use Rattle.nvme_fleet.proofs.Slots.{few}
 use Rattle.nvme_fleet.proofs.Queues.{self-eqb}

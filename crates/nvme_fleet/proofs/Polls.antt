@@ -1,7 +1,8 @@
 -- Poll in one lane: the completion at its head is the first answer that was posted, and its slot is freed.
 use Rattle.nvme_fleet.proofs.Words.{◌≡◌, ℕ, ◌+◌, ◌-◌, ◌%◌, ◌<◌, ◌≤◌, List, [], ◌∷◌, length, refl, ap, sym, ◌∙◌, arith, zero, suc, true, false, not, cond, eqb, Bool, Some, None, inl, inr, slice_set, length-set, cases_Bool, lt-ltb, le-ltb, cases_lt, eqb-true, common_steps, nat_lt, Completion, completion_of, queue_id, completion_bytes, phase_of, AreOf, State, Slot, empty, slot_at, box, answer, front, left_after, can_hear, next_completion, consumed, less, in_flight, commands, completions, Running, Heads, last_head, heard, unread, since, steps, commands_of, answers_of, live_at, live_in, answers, Phases, holds, total, bears, Suited, Ages, Holds, Host}
 use Rattle.nvme_fleet.proofs.Queues.{commands-append, same-box, eqb-sym, same-entry, same-turn}
-use Rattle.nvme_fleet.proofs.Totals.{total-append, live-small, live-within, live-set, slot-same, slot-other}
+use Rattle.nvme_fleet.proofs.Totals.{live-small, live-within, live-set, slot-same, slot-other}
+use Rattle.nvme_mailbox.proofs.Totals.{total-append}
 use Rattle.nvme_fleet.proofs.Slots.{few, Apart, apart-set, same-items, same-odd, same-answers}
 use Rattle.nvme_fleet.proofs.Places.{no-way}
 

@@ -1,7 +1,7 @@
 -- An answer that is posted stands at the end of its lane in the mailbox.
 use Rattle.nvme_fleet.proofs.Words.{none-some, same_Some, ◌≡◌, ℕ, ◌+◌, ◌-◌, ◌*◌, ◌%◌, ◌<◌, ◌≤◌, nat_lt, true, List, length, map, Some, refl, sym, ap, subst, ◌∙◌, arith, inl, inr, slice_get, cases_Bool, lt-ltb, slice_get-map, cid, Completion, completion_entry, completion_of, FitsCompletion, completion_is_read_back, Keep, with_bytes, phase_tag, Lane, Admin, Io, queue_id, completion_queue, data_area, Driver, is_up, waiting_at, answer_len, FetchedCommand, Controller, QueuePair, pair_with, open_pair, after_posting, after_queue_change, completion_at, CommandExecution, after_completion, FetchedItem, box_at, with_box, lane_of, after_answer, with_posted, Effect, Slot, slot_at, item_in, phase_of, finished, finished_bytes, received_in, lane_in, box, DeviceSide, DeviceEnds, Both, mail, pair, next_pair, state, slots_in, whole, held_by, fetched_by, executed_at, base, Sound, IsPaired, IsOfLane, host_side, device_side, mailbox, taken_by, lane_of_queue, submission_as, completion_as, PostingIsAStep, PostingHasRoom, NothingToExecute, request_execution_with}
 use Rattle.std.proofs.Common.{remove}
-use Rattle.nvme_fleet.proofs.Lists.{all-get, all-removed}
+use Rattle.nvme_mailbox.proofs.Lists.{all-get, all-removed}
 use Rattle.std.specs.Option.{option_map}
 use Rattle.nvme_fleet.proofs.PollStep.{tag-is}
 use Rattle.nvme_fleet.proofs.Totals.{map-removed}

@@ -3,8 +3,8 @@ use Rattle.nvme_fleet.proofs.Words.{◌≡◌, ◌+◌, ℕ, zero, suc, Bool, fa
 use Rattle.nvme_driver.specs.Drivers as driver
 use Rattle.nvme_machine.specs.Controllers.{power_cycled}
 use Rattle.nvme_machine.specs.Subsystems.{numbered, replaced, with_controller}
-use Rattle.nvme_fleet.specs.Deliveries as mail
-use Rattle.nvme_fleet.specs.Fleets as mailboxes
+use Rattle.nvme_mailbox.specs.Deliveries as mail
+use Rattle.nvme_mailbox.specs.Fleets as mailboxes
 use Rattle.nvme_event.specs.declared.seen.FleetSeen.TheVariants as seen
 use Rattle.nvme_fleet.proofs.Orders.{pending-abort}
 use Rattle.nvme_fleet.proofs.Places.{no-way}

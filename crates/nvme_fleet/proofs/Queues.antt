@@ -1,6 +1,6 @@
 -- Stretches of entries in the queues of a lane: joined, counted, and with the requests that they bear.
 use Rattle.nvme_fleet.proofs.Words.{◌≡◌, ℕ, ◌+◌, ◌-◌, ◌%◌, ◌<◌, List, [], ◌∷◌, ◌++◌, length, map, refl, ap, ◌∙◌, arith, zero, suc, true, false, eqb, take, drop, ◌*◌, nat_lt, length-map, common_steps, Completion, Item, PostedAnswer, LaneBox, completion_of, command_at, completion_bytes, phase_of, State, Slot, in_flight, commands, completions, item, answers, box, Running, holds, heard, unread, total, live_in, Host}
-use Rattle.nvme_fleet.proofs.Totals.{total-append}
+use Rattle.nvme_mailbox.proofs.Totals.{total-append}
 
 -- a step round the ring
 turn : (s a : ℕ) → ((s + 1) % 8 + a) % 8 ≡ (s + suc a) % 8

@@ -12,7 +12,7 @@ use Rattle.nvme_event.specs.declared.seen.FleetSeen.TheVariants as seen
 use Rattle.nvme_fleet.specs.declared.delivery.DriverCall.TheVariants as call
 use Rattle.nvme_fleet.specs.Layers.{Run, Step}
 use Rattle.nvme_fleet.proofs.Bytes.{runs_of_mailboxes}
-use Rattle.nvme_fleet.proofs.Determined.{failures_never_fall, step-alone, step-counts}
+use Rattle.nvme_mailbox.proofs.Determined.{failures_never_fall, step-alone, step-counts}
 
 -- Tickets stand in one slot at most.
 

@@ -12,7 +12,7 @@ use Rattle.nvme_event.specs.Events.{controller_of, OfItsHost}
 use Rattle.nvme_event.specs.Replies.{Reply}
 use Rattle.nvme_fleet.specs.Deeds.{window_at}
 use Rattle.nvme_fleet.specs.FleetStates.{Layers, fleet_in}
-use Rattle.nvme_fleet.specs.Fleets as mailboxes
+use Rattle.nvme_mailbox.specs.Fleets as mailboxes
 use Rattle.nvme_fleet.specs.Layers.{Step, Run}
 
 -- A run of both layers is one of the mailboxes, so that all that is said of their runs is said of it.

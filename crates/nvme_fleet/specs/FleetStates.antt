@@ -14,10 +14,10 @@ use Rattle.nvme_event.specs.declared.seen.FleetSeen.TheVariants.{NoDriver}
 use Rattle.nvme_event.specs.Replies.{Reply, data_len}
 use Rattle.nvme_fleet.specs.declared.delivery.DriverCall.{DriverCall}
 use Rattle.nvme_fleet.specs.declared.delivery.DriverCall.TheVariants.{BringUp, Place, Ring, Poll, Reset}
-use Rattle.nvme_fleet.specs.Mailboxes.{Mailbox}
-use Rattle.nvme_fleet.specs.Deliveries as mail
-use Rattle.nvme_fleet.specs.Deliveries.{MailboxReaction, plain}
-use Rattle.nvme_fleet.specs.Fleets.{Host, WithDriver, Raw, Fleet}
+use Rattle.nvme_mailbox.specs.Mailboxes.{Mailbox}
+use Rattle.nvme_mailbox.specs.Deliveries as mail
+use Rattle.nvme_mailbox.specs.Deliveries.{MailboxReaction, plain}
+use Rattle.nvme_mailbox.specs.Fleets.{Host, WithDriver, Raw, Fleet}
 use Rattle.nvme_fleet.specs.Sound.{Sound, mailbox}
 use Rattle.nvme_fleet.specs.Steps.{IsStep}
 

@@ -11,7 +11,7 @@ use Rattle.nvme_driver.specs.declared.lane.Lane.TheVariants.{Admin, Io}
 use Rattle.nvme_driver.specs.declared.slots.Waiting.{Waiting}
 use Rattle.nvme_driver.specs.Layout.{list_page, data_area}
 use Rattle.nvme_driver.specs.Drivers.{abort}
-use Rattle.nvme_fleet.specs.Mailboxes.{FetchedItem, Mailbox, ranked}
+use Rattle.nvme_mailbox.specs.Mailboxes.{FetchedItem, Mailbox, ranked}
 use Rattle.nvme_fleet.specs.Views.{Slot, empty, Host, State, Effect, box, item, holds, Holds, finished_bytes, zeros, next_completion, command_at}
 
 abbrev pub same : Lane → Lane → Bool

@@ -11,7 +11,7 @@ use Rattle.nvme_event.specs.declared.event.FleetEvent.TheVariants.{BringUp, Plac
 use Rattle.nvme_event.specs.declared.seen.FleetSeen.{FleetSeen}
 use Rattle.nvme_event.specs.Replies.{Reply}
 use Rattle.nvme_fleet.specs.FleetStates.{Layers, fleet_in}
-use Rattle.nvme_fleet.specs.Fleets as mailboxes
+use Rattle.nvme_mailbox.specs.Fleets as mailboxes
 use Rattle.nvme_fleet.specs.Layers.{Happens, Step, Run, told}
 
 -- One event of the subsystem, and its calls; all drivers stay.

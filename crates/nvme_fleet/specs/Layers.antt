@@ -17,7 +17,7 @@ use Rattle.nvme_fleet.specs.declared.delivery.DriverCall.{DriverCall}
 use Rattle.nvme_fleet.specs.declared.delivery.DriverCall.TheVariants as call
 use Rattle.nvme_fleet.specs.Deeds.{DoesIfAny, Ran, reset_events}
 use Rattle.nvme_fleet.specs.FleetStates.{Layers, fleet_in}
-use Rattle.nvme_fleet.specs.Fleets as mailboxes
+use Rattle.nvme_mailbox.specs.Fleets as mailboxes
 
 -- the driver's place of controller k, which is empty where its host is raw
 abbrev pub driver_at : List (Option Driver) → ℕ → Option (Option Driver)

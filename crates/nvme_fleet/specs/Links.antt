@@ -10,7 +10,7 @@ use Rattle.nvme_driver.specs.Rises.{Rises}
 use Rattle.nvme_machine.specs.declared.seen.Executed.{Executed}
 use Rattle.nvme_machine.specs.Controllers.{Controller, after_store, after_write32, after_fetch}
 use Rattle.nvme_machine.specs.Executing.{Setting, ExecutesNth}
-use Rattle.nvme_fleet.specs.Deliveries.{brought_up}
+use Rattle.nvme_mailbox.specs.Deliveries.{brought_up}
 use Rattle.nvme_fleet.specs.Sound.{Sound, mailbox}
 
 abbrev pub with_controller : Setting → Controller → Setting

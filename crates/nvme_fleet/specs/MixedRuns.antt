@@ -16,11 +16,12 @@ use Rattle.nvme_event.specs.Events.{OfItsHost}
 use Rattle.nvme_event.specs.Replies.{Reply}
 use Rattle.nvme_fleet.specs.Bytes.{is_laid_out, namespace_bytes}
 use Rattle.nvme_fleet.specs.FleetStates.{Layers, fleet_in}
-use Rattle.nvme_fleet.specs.Fleets as mailboxes
+use Rattle.nvme_mailbox.specs.Fleets as mailboxes
 use Rattle.nvme_fleet.specs.LayerCalls.{AreCallsOfRun, AreCallsOfStep}
 use Rattle.nvme_fleet.specs.Layers.{Step}
-use Rattle.nvme_fleet.specs.Regular.{IsRegular}
-use Rattle.nvme_fleet.specs.Secrecy.{layers_over, over}
+use Rattle.nvme_mailbox.specs.Regular.{IsRegular}
+use Rattle.nvme_fleet.specs.Secrecy.{layers_over}
+use Rattle.nvme_mailbox.specs.Secrecy.{over}
 use Rattle.nvme_fleet.specs.Unique.{HaveTicketsOnce}
 
 -- A run at one of its events: the state that it finds and the one that it leaves, and what comes before and behind it.

@@ -2,7 +2,7 @@
 use Rattle.nvme_machine.specs.declared.event.Event.{Event}
 use Rattle.nvme_machine.specs.declared.event.Event.TheVariants.{Store, Write32, Read32, Fetch, Execute, PowerCycle}
 use Rattle.nvme_event.specs.declared.seen.FleetSeen.TheVariants.{NoController}
-use Rattle.nvme_fleet.specs.Fleets.{Fleet, Moment, moment, raw_stored, raw_wrote}
+use Rattle.nvme_mailbox.specs.Fleets.{Fleet, Moment, moment, raw_stored, raw_wrote}
 
 -- a store, or a write to a register
 abbrev pub IsOfHost : Event → Type 0

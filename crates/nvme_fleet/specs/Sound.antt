@@ -12,7 +12,7 @@ use Rattle.nvme_driver.specs.Layout.{queue_id, submission_queue, completion_queu
 use Rattle.nvme_driver.specs.Drivers.{Ends, Driver, is_up, ends}
 use Rattle.nvme_machine.specs.declared.fetched.FetchedCommand.{FetchedCommand}
 use Rattle.nvme_machine.specs.Controllers.{Controller, SubmissionQueue, CompletionQueue, submission_at, completion_at, no_submission_queues, no_completion_queues}
-use Rattle.nvme_fleet.specs.Mailboxes.{Mailbox}
+use Rattle.nvme_mailbox.specs.Mailboxes.{Mailbox}
 use Rattle.nvme_fleet.specs.Views.{received_in}
 use Rattle.nvme_driver.specs.Polls.{waiting_at}
 use Rattle.nvme_spec.specs.Limits.{most_bytes}

@@ -26,8 +26,8 @@ use Rattle.nvme_machine.specs.Subsystems.{after_completion}
 use Rattle.nvme_event.specs.declared.event.FleetEvent.TheVariants.{Execute}
 use Rattle.nvme_event.specs.declared.seen.FleetSeen.TheVariants.{Placed, Polled, Rung, Fetched, Reset, Executed as ExecutedSeen}
 use Rattle.nvme_event.specs.Replies.{Reply}
-use Rattle.nvme_fleet.specs.Mailboxes.{FetchedItem, new_mailbox, with_marks as mark_mailbox}
-use Rattle.nvme_fleet.specs.Executions.{RequestExecution, io_judgement, admin_judgement, IsServed, RequestComesTo}
+use Rattle.nvme_mailbox.specs.Mailboxes.{FetchedItem, new_mailbox, with_marks as mark_mailbox}
+use Rattle.nvme_mailbox.specs.Executions.{RequestExecution, io_judgement, admin_judgement, IsServed, RequestComesTo}
 use Rattle.nvme_fleet.specs.Views.{received_in}
 use Rattle.nvme_driver.specs.declared.request.Request.{Request}
 use Rattle.nvme_driver.specs.declared.faults.PlaceRefusal.{PlaceRefusal}
@@ -36,8 +36,8 @@ use Rattle.nvme_driver.specs.Calls.{Call, Stores, Writes, Reads, Turns}
 use Rattle.nvme_driver.specs.Drivers as driver
 use Rattle.nvme_driver.specs.Polls as poll
 use Rattle.nvme_machine.specs.Controllers.{Controller, new_controller, QueuePair, queues_of, with_marks, open_pair, after_store, after_write32, after_fetch}
-use Rattle.nvme_fleet.specs.Deliveries as mail
-use Rattle.nvme_fleet.specs.Fleets.{Fleet, WithDriver, Step, raw_fetch, host_at, settled, site_of, setting_of, marks_in, after_answer}
+use Rattle.nvme_mailbox.specs.Deliveries as mail
+use Rattle.nvme_mailbox.specs.Fleets.{Fleet, WithDriver, Step, raw_fetch, host_at, settled, site_of, setting_of, marks_in, after_answer}
 use Rattle.nvme_fleet.specs.Sound.{Sound, mailbox}
 
 -- A driver's calls of its port are events of its controller, one after the other. Only bringing up reads and grants

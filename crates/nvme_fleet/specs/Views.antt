@@ -21,7 +21,8 @@ use Rattle.nvme_driver.specs.Layout.{queue_id}
 use Rattle.nvme_driver.specs.Pointers.{stored_list}
 use Rattle.nvme_driver.specs.Drivers.{entry_fields, entry_length, abort}
 use Rattle.nvme_driver.specs.Polls.{answer_len}
-use Rattle.nvme_fleet.specs.Mailboxes.{Item, PostedAnswer, LaneBox}
+use Rattle.nvme_mailbox.specs.Mailboxes.{Item, PostedAnswer, LaneBox}
+use Rattle.nvme_mailbox.specs.Tickets.{total}
 
 -- A slot: the request that waits there, the data at the slot's place, and its list page.
 pub record Slot : Type 0 where
@@ -214,11 +215,6 @@ Heads (e ∷ es) = (e.sq_head < 8) × Heads es
 abbrev pub AreOf : ℕ → List Completion → Type 0
 AreOf q [] = Unit {0}
 AreOf q (e ∷ es) = (e.sq_id ≡ q) × AreOf q es
-
--- a sum over a list
-abbrev pub total : {A : Type 0} → (A → ℕ) → List A → ℕ
-total f [] = 0
-total f (x ∷ xs) = f x + total f xs
 
 -- whether a command, or a completion, bears this slot, 1 or 0
 abbrev pub bears : ℕ → List ℕ → ℕ

@@ -20,7 +20,7 @@ ghost use Rattle.nvme_fleet.specs.FleetStates.{fleet_of, layers_of, opening_laye
 ghost use Rattle.nvme_fleet.specs.Layers.{Applies, AppliesRaw, CallsAt, Cycles, Happens, driver_at, told as told_of};
 ghost use Rattle.nvme_fleet.specs.LayerCalls.{AppliesCalling, HappensCalling};
 ghost use Rattle.nvme_fleet.specs.Linked.{IsThere, controller_in};
-ghost use Rattle.nvme_fleet.specs.Fleets.{Is, Step, ExecutesAt, called, fetched_at, host_at, moment, opening, power_cycled};
+ghost use Rattle.nvme_mailbox.specs.Fleets.{Is, Step, ExecutesAt, called, fetched_at, host_at, moment, opening, power_cycled};
 ghost use Rattle.nvme_fleet.specs.RawEvents.{IsOfHost, raw_moment};
 
 use crate::delivery::{DriverCall, deliver};

@@ -1,34 +1,25 @@
-//! What follows from the definitions. Each law is the contract of a function that does nothing.
+//! What follows from the definitions. Each law is the contract of a function that does nothing; those of mailboxes alone
+//! are passed on.
 
-ghost use Rattle.nvme_fleet.specs.Answered.{DoneAnswersItsRequest, DoneIsItsExecution, NewIsClear, ResetClears, TicketNamesItsRequest};
 ghost use Rattle.nvme_fleet.specs.AllowedCalls.{CallsAreAllowed, CallsOfRunsAreAllowed, FencedCommandsCallNothing, FencedHostsWriteNoBlock};
 ghost use Rattle.nvme_fleet.specs.CallLaws.{StepsHaveCalls, RunsHaveCalls, StepCallsAreUnique, RunCallsAreUnique, FlushedIsOneFlush};
-ghost use Rattle.nvme_fleet.specs.Apart.{HostsAreApart};
 ghost use Rattle.nvme_fleet.specs.Bytes.{RunsOfMailboxes, LayoutStays, FencedEventsWriteNothing, PermissionsStay as BytePermissionsStay, FencingHolds as ByteFencingHolds, OthersWindowsStay};
-ghost use Rattle.nvme_fleet.specs.Determined.{FailuresNeverFall, RunExists, RunIsUnique};
-ghost use Rattle.nvme_fleet.specs.Fencing.{OnlyAllowedActionsReserve, PermissionsStay, FencedWritesAreDenied, FencingHolds};
-ghost use Rattle.nvme_fleet.specs.IoCommands.{OpeningIsNumbered, NumbersStay, ExecutedAsThePolicyAllows};
-ghost use Rattle.nvme_fleet.specs.Preempting.{OutsidersMayNotWrite, OutsidersStayOutside, PreemptedIsOutside, PreemptedStaysOut};
 ghost use Rattle.nvme_fleet.specs.Links.{BringUpIsAStep};
 ghost use Rattle.nvme_fleet.specs.LayerCalls.{LayerCallsAreOfAStep, LayerCallsAreOfARun};
 ghost use Rattle.nvme_fleet.specs.MixedRuns.{EachEventIsReached, FencingHoldsOfEachEvent, SecrecyHoldsOfEachEvent};
-ghost use Rattle.nvme_fleet.specs.PowerCycles.{PowerTakes, PowerAborts, DoneSincePower, PersistenceLasts, FencingOutlastsPower, BytesOutlastPower, SecrecyOutlastsPower, RepliesOutlastPower, LayersOutlastPower, ProtectedUntilPower};
-ghost use Rattle.nvme_fleet.specs.Regular.{OpeningIsRegular, RegularityStays};
-ghost use Rattle.nvme_fleet.specs.Secrecy.{FencedReading, FencedReadingIsSame, LayersReadTheSame};
-ghost use Rattle.nvme_fleet.specs.SinceUp.{DownIsClear, DoneSinceItCameUp};
-ghost use Rattle.nvme_fleet.specs.Tickets.{DriversStay, EachIsHeldOnce, EachTicketGoesOnce, HeldAreCounted, NewHoldsEachOnce, OpeningHasDrivers, OpeningIsNew, TicketsAreConsecutive, TicketsBalance, TicketsOfAnOpeningGoOnce};
+ghost use Rattle.nvme_fleet.specs.PowerCycles.{PowerTakes, BytesOutlastPower, LayersOutlastPower, ProtectedUntilPower};
+ghost use Rattle.nvme_mailbox.specs.PowerCycles.{PowerAborts, DoneSincePower, PersistenceLasts, FencingOutlastsPower, SecrecyOutlastsPower, RepliesOutlastPower};
+ghost use Rattle.nvme_mailbox.specs.Regular.{OpeningIsRegular, RegularityStays};
+ghost use Rattle.nvme_fleet.specs.Secrecy.{LayersReadTheSame};
+ghost use Rattle.nvme_mailbox.specs.Secrecy.{FencedReading, FencedReadingIsSame};
 ghost use Rattle.nvme_fleet.specs.Steps.{OpeningIsSound, JudgedAsItsRequest, AllowedServesItsRequest, AnswersItsRequest, NothingToExecute, PostingHasRoom, PostingIsAStep, IoExecutionIsAStep, AdminJudgedAsItsRequest, AdminAnswersItsRequest, AdminExecutionIsAStep, ExecutionIsAStep, ExecutionIsAFleetStep, NoExecutionIsAFleetStep, RefusalIsAStep, PlaceIsAStep, RingIsAStep, FetchIsAStep, MarksAreSteps, PollIsAStep, ResetIsAStep};
 ghost use Rattle.nvme_fleet.specs.Unique.{LayersRunIsUnique, OpeningHasTicketsOnce, TicketsStayOnce};
-ghost use Rattle.nvme_fleet.specs.Unseen.{UnseenNeverComes};
 
-/// A list of events has one run without a fault of the medium, and one alone: each reply, and what is left, is what the
-/// definitions compute.
-#[tactic(auto, using(crate::proofs::Determined::failures_never_fall, crate::proofs::Determined::run_is_unique))]
-pub fn run_is_determined()
-    ensures count { FailuresNeverFall }
-    ensures exists { RunExists }
-    ensures unique { RunIsUnique }
-{}
+pub use nvme_mailbox::laws::{
+    done_is_its_execution, done_since_it_came_up, executed_as_the_policy_allows, fencing_is_kept,
+    hosts_are_apart, preempted_hosts_stay_out, run_is_determined, tickets_balance, tickets_go_once,
+    trouble_never_comes,
+};
 
 /// The same of both layers: without a fault of the medium a list of events has one run, so that each controller with
 /// its registers, queues and memory, and each driver, is determined. It rests on this, that a ticket stands in one slot
@@ -139,83 +130,6 @@ pub fn executions_are_steps()
     ensures idle { NoExecutionIsAFleetStep }
 {}
 
-/// A host that has a driver goes on having one, and its mailbox becomes what its own events make of it, whatever all
-/// others do: their events leave it as it is, but for the marks of a Preempt and Abort. A power cycle is an event of
-/// all hosts.
-#[tactic(auto, using(crate::proofs::Apart::hosts_are_apart))]
-pub fn hosts_are_apart()
-    ensures apart { HostsAreApart }
-{}
-
-/// Over every run, whatever each ticket weighs: of a host with a driver, the tickets that were held or given are those
-/// that are held, done or aborted; what is executed was waiting or given, and what is done was answered or executed.
-#[tactic(auto, using(crate::proofs::TicketCounts::held_are_counted, crate::proofs::TicketRuns::drivers_stay))]
-pub fn tickets_balance()
-    ensures counted { HeldAreCounted }
-    ensures drivers { DriversStay }
-    ensures balance { TicketsBalance }
-{}
-
-/// Of a host with a driver the tickets are given in order, each once. From an opening on, over every run, each ticket
-/// is executed at most once, and handed up at most once, as done or as aborted; one that was given is held until then.
-#[tactic(auto, using(crate::proofs::TicketCounts::tickets_are_consecutive, crate::proofs::TicketCounts::opening_is_new, crate::proofs::TicketCounts::opening_has_drivers, crate::proofs::TicketCounts::new_holds_each_once, crate::proofs::TicketCounts::each_is_held_once))]
-pub fn tickets_go_once()
-    ensures consecutive { TicketsAreConsecutive }
-    ensures opening { OpeningIsNew }
-    ensures drivers { OpeningHasDrivers }
-    ensures new { NewHoldsEachOnce }
-    ensures held { EachIsHeldOnce }
-    ensures once { EachTicketGoesOnce }
-    ensures opened { TicketsOfAnOpeningGoOnce }
-{}
-
-/// What a driver hands up as done is what the execution of its own request came to, in the site of that moment: status,
-/// double word 0 and data. That request was placed, and then executed, since the mailbox was clear, as a new one is and
-/// each reset leaves it; so nothing from before a reset is handed up as done. A ticket names the one request that was
-/// placed under it, so what is done under its ticket is what the execution of that request came to.
-pub fn done_is_its_execution()
-    ensures new { NewIsClear }
-    ensures reset { ResetClears }
-    ensures done { DoneIsItsExecution }
-    ensures names { TicketNamesItsRequest }
-    ensures request { DoneAnswersItsRequest }
-{}
-
-/// No event of a host with a driver finds a completion queue without room, hands up that a completion answers no
-/// request, or brings a controller up that does not come up.
-pub fn trouble_never_comes()
-    ensures unseen { UnseenNeverComes }
-{}
-
-/// Each I/O command that a controller of a fleet executes, of a driver or of a raw host, is judged by the rules in the
-/// access state of that moment: denied, it is answered with the number and the status of the first rule that fails, and
-/// changes neither access state nor medium; allowed, it does exactly its effect. A raw host's controller bears its
-/// number, at the opening and over every run.
-pub fn executed_as_the_policy_allows()
-    ensures opening { OpeningIsNumbered }
-    ensures numbers { NumbersStay }
-    ensures executed { ExecutedAsThePolicyAllows }
-{}
-
-/// A host that may not write a namespace is answered Reservation Conflict for each of its writes, or the denial of a
-/// rule before, until a reservation command on the namespace is executed that all rules let pass, or power is lost that
-/// its reservation does not outlast.
-pub fn fencing_is_kept()
-    ensures reserves { OnlyAllowedActionsReserve }
-    ensures permissions { PermissionsStay }
-    ensures denied { FencedWritesAreDenied }
-    ensures run { FencingHolds }
-{}
-
-/// A host that a Preempt has removed stays out: while the namespace is held, by whom it may be, its writes are answered
-/// so, until it has a key again, which it gets by its own Reservation Register alone.
-pub fn preempted_hosts_stay_out()
-    ensures outsiders { OutsidersMayNotWrite }
-    ensures outside { OutsidersStayOutside }
-    ensures preempted { PreemptedIsOutside }
-    ensures run { PreemptedStaysOut }
-{}
-
 /// A run of both layers is one of the mailboxes. Fencing is kept below as well: a host that may not write a namespace
 /// changes none of its bytes, until a reservation command on it is executed that all rules let pass, or power is lost
 /// that its reservation does not outlast; and no event changes a byte of the memory that another host shares with its
@@ -227,13 +141,6 @@ pub fn bytes_are_kept()
     ensures permissions { BytePermissionsStay }
     ensures run { ByteFencingHolds }
     ensures windows { OthersWindowsStay }
-{}
-
-/// A driver that is down waits for nothing, from an opening on. So what it hands up as done after any moment at which
-/// it was down was placed, and then executed, since then: since it last came up.
-pub fn done_since_it_came_up()
-    ensures clear { DownIsClear }
-    ensures done { DoneSinceItCameUp }
 {}
 
 /// Hosts that may not read a namespace learn nothing of its bytes, with a driver or raw, until a reservation command on

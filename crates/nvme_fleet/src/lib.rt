@@ -1,11 +1,9 @@
 //! The fleet: hosts over one subsystem. Most have a driver, which its controller and the memory between them stand
-//! beside; a raw host has none, and its controller is used by single stores and register writes. `specs` says what a
-//! host may rely on, in terms of a mailbox for each driver: what it has asked for and where that stands, with nothing
-//! of queues, phase tags, identifiers of commands or addresses.
+//! beside; a raw host has none, and its controller is used by single stores and register writes. What a host may rely
+//! on is said by `nvme_mailbox`, in terms of a mailbox for each driver; `specs` says that driver and controller are one.
 #![tactic(auto)]
 
 mod delivery;
-mod examples;
 mod fleet;
 pub mod laws;
 mod link;

@@ -3,7 +3,7 @@
 ghost use Rattle.std.specs.Prelude.{◌≡◌, ◌+◌};
 ghost use Rattle.nvme_event.specs.declared.seen.FleetSeen.TheVariants.{Placed};
 ghost use Rattle.nvme_fleet.specs.Deeds.{Places};
-ghost use Rattle.nvme_fleet.specs.Deliveries.{placed, plain};
+ghost use Rattle.nvme_mailbox.specs.Deliveries.{placed, plain};
 ghost use Rattle.nvme_fleet.specs.Linked.{KeepsSite, Reaches, linked_controller};
 ghost use Rattle.nvme_fleet.specs.Sound.{Sound, mailbox};
 ghost use Rattle.nvme_fleet.specs.Steps.{IsStep};

@@ -4,7 +4,7 @@ ghost use Rattle.std.specs.Prelude.{◌≡◌, ◌≤◌, ◌+◌, length, take}
 ghost use Rattle.nvme_spec.specs.Limits.{most_bytes};
 ghost use Rattle.nvme_event.specs.declared.seen.FleetSeen.TheVariants.{Polled};
 ghost use Rattle.nvme_fleet.specs.Deeds.{Polls};
-ghost use Rattle.nvme_fleet.specs.Deliveries.{polled};
+ghost use Rattle.nvme_mailbox.specs.Deliveries.{polled};
 ghost use Rattle.nvme_fleet.specs.Linked.{KeepsSite, Reaches, linked_controller};
 ghost use Rattle.nvme_fleet.specs.Sound.{Sound, mailbox};
 ghost use Rattle.nvme_fleet.specs.Steps.{IsStep};

@@ -7,7 +7,7 @@ use Rattle.nvme_event.specs.declared.seen.FleetSeen.{FleetSeen}
 use Rattle.nvme_event.specs.declared.seen.FleetSeen.TheVariants as seen
 use Rattle.nvme_event.specs.Replies.{Reply}
 use Rattle.nvme_fleet.specs.FleetStates.{Layers, fleet_in}
-use Rattle.nvme_fleet.specs.Fleets as mailboxes
+use Rattle.nvme_mailbox.specs.Fleets as mailboxes
 use Rattle.nvme_fleet.specs.Layers.{Run, Step}
 use Rattle.nvme_transcript.specs.Transcript.{line_of, seen_line}
 use Rattle.nvme_grammar.specs.Line.{line_at}

@@ -15,7 +15,7 @@ use Rattle.nvme_event.specs.Replies.{Reply}
 use Rattle.nvme_fleet.specs.FleetStates.{Layers, fleet_in, opening_layers}
 use Rattle.nvme_fleet.specs.Layers.{Run, Step}
 use Rattle.nvme_fleet.specs.Unique.{HaveTicketsOnce}
-use Rattle.nvme_fleet.proofs.Determined.{step-counts}
+use Rattle.nvme_mailbox.proofs.Determined.{step-counts}
 use Rattle.nvme_fleet.proofs.Unique.{layers_run_is_unique, opening_has_tickets_once, tickets_stay_once}
 use Rattle.nvme_transcript.specs.Transcript.{line_of}
 use Rattle.nvme_grammar.specs.declared.line.Line.{Line}

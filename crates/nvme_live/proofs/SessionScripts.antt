@@ -27,13 +27,13 @@ use Rattle.nvme_spec.specs.MediumCalls.{MediumCall}
 use Rattle.nvme_event.specs.declared.event.FleetEvent.{FleetEvent}
 use Rattle.nvme_event.specs.Replies.{Reply}
 use Rattle.nvme_fleet.specs.FleetStates.{Layers, fleet_in, opening_layers}
-use Rattle.nvme_fleet.specs.Fleets.{Fleet, opening}
+use Rattle.nvme_mailbox.specs.Fleets.{Fleet, opening}
 use Rattle.nvme_fleet.proofs.FleetOpening.{opened-mailboxes}
 use Rattle.nvme_machine.specs.Subsystems as machine
 use Rattle.std.specs.Prelude.{map}
 use Rattle.nvme_script.specs.Faults.{IsScript, Runs, Transcribes, events_in}
 use Rattle.nvme_fleet.specs.Layers.{Run}
-use Rattle.nvme_fleet.specs.Fleets as mailboxes
+use Rattle.nvme_mailbox.specs.Fleets as mailboxes
 use Rattle.nvme_fleet.specs.FleetStates.{opening_driver}
 use Rattle.nvme_live.proofs.Kept.{AllFine, IsBlank, IsRunOfLines, RunsBehind, all-fine, all-well, asked-look, asked-other, bytes-silent, is_behind, kept-line, looking-line, looks-look, mailboxes-ran, refused-line, runs-amid, runs-behind, runs-well, silent-line}
 use Rattle.nvme_live.specs.SessionScripts.{IsAScript, IsKeptAs, IsPlayed, PlayedIsARun, RefusedIsAFault, ReplaysAlike, SessionIsAScript, SessionIsAScriptAmidLooks}

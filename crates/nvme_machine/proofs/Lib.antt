@@ -22,3 +22,4 @@ pub mod FencedCalls
 pub mod PowerCycles
 pub mod CallLaws
 pub mod MixedRuns
+pub mod Numbers

@@ -3,10 +3,10 @@ use Rattle.std.proofs.Common.{◌∙◌, List, refl, sym, ap, subst}
 use Rattle.std.specs.Io.KnownBytes.{Appends}
 use Rattle.nvme_spec.specs.Blocks.{Device}
 use Rattle.nvme_event.specs.Replies.{Reply}
-use Rattle.nvme_fleet.specs.Fleets.{Fleet, opening}
-use Rattle.nvme_fleet.specs.FaultFree.{fault_free_replies, fault_free_left}
-use Rattle.nvme_fleet.proofs.Determined.{run_is_unique}
-use Rattle.nvme_fleet.proofs.Existing.{run_exists}
+use Rattle.nvme_mailbox.specs.Fleets.{Fleet, opening}
+use Rattle.nvme_mailbox.specs.FaultFree.{fault_free_replies, fault_free_left}
+use Rattle.nvme_mailbox.proofs.Determined.{run_is_unique}
+use Rattle.nvme_mailbox.proofs.Existing.{run_exists}
 use Rattle.nvme_spec.proofs.Openings.{opening_is_laid_out}
 use Rattle.script_text.specs.Lines.{text_lines}
 use Rattle.nvme_transcript.specs.Transcript.{transcript}

@@ -7,9 +7,9 @@ use Rattle.nvme_driver.specs.declared.faults.PlaceRefusal.{PlaceRefusal}
 use Rattle.nvme_event.specs.declared.event.FleetEvent.{FleetEvent}
 use Rattle.nvme_event.specs.declared.event.FleetEvent.TheVariants.{Place, RawStore}
 use Rattle.nvme_event.specs.Replies.{Reply}
-use Rattle.nvme_fleet.specs.Mailboxes.{Mailbox}
-use Rattle.nvme_fleet.specs.Deliveries.{MailboxReaction, placed, placed_by, refusal}
-use Rattle.nvme_fleet.specs.Fleets.{Host, WithDriver, Raw, Fleet, Moment, Is, Step, called_at, host_at}
+use Rattle.nvme_mailbox.specs.Mailboxes.{Mailbox}
+use Rattle.nvme_mailbox.specs.Deliveries.{MailboxReaction, placed, placed_by, refusal}
+use Rattle.nvme_mailbox.specs.Fleets.{Host, WithDriver, Raw, Fleet, Moment, Is, Step, called_at, host_at}
 use Rattle.nvme_spec.specs.MediumCalls.{MediumCall}
 use Rattle.nvme_driver.specs.Drivers.{Driver, lane_of}
 use Rattle.nvme_driver.specs.Requests.{asked_of}

@@ -6,7 +6,7 @@ use Rattle.nvme_spec.specs.MediumCalls.{MediumCall}
 use Rattle.nvme_event.specs.declared.event.FleetEvent.{FleetEvent}
 use Rattle.nvme_event.specs.Replies.{Reply}
 use Rattle.nvme_machine.specs.Subsystems as machine
-use Rattle.nvme_fleet.specs.Fleets.{Fleet, Run, opening}
+use Rattle.nvme_mailbox.specs.Fleets.{Fleet, Run, opening}
 use Rattle.nvme_fleet.specs.FleetStates.{Layers, fleet_in, opening_driver, opening_layers}
 use Rattle.nvme_fleet.specs.LayerCalls.{AreCallsOfRun}
 use Rattle.nvme_fleet.proofs.FleetOpening.{opened-mailboxes}

@@ -5,7 +5,7 @@ use Rattle.nvme_spec.specs.Blocks.{Device}
 use Rattle.nvme_spec.specs.Configuration.{first_config_fault}
 use Rattle.nvme_event.specs.declared.event.FleetEvent.{FleetEvent}
 use Rattle.nvme_event.specs.Replies.{Reply}
-use Rattle.nvme_fleet.specs.Fleets.{Fleet, Run, opening}
+use Rattle.nvme_mailbox.specs.Fleets.{Fleet, Run, opening}
 use Rattle.script_text.specs.Lines.{text_lines}
 use Rattle.script_text.specs.Streams.{ReadCall}
 use Rattle.script_text.specs.Reading.{longest, IsRead}

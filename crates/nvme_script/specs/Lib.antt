@@ -6,9 +6,9 @@ pub use Rattle.nvme_spec.specs.Blocks
 pub use Rattle.nvme_spec.specs.Configuration
 pub use Rattle.nvme_grammar.specs.Script
 pub use Rattle.nvme_grammar.specs.Lent
-pub use Rattle.nvme_fleet.specs.Fleets
+pub use Rattle.nvme_mailbox.specs.Fleets
 pub use Rattle.nvme_fleet.specs.FleetStates
-pub use Rattle.nvme_fleet.specs.Deliveries
+pub use Rattle.nvme_mailbox.specs.Deliveries
 pub mod Faults
 pub mod ScriptCalls
 pub mod ScriptWrites

@@ -3,7 +3,7 @@ use Rattle.std.specs.Prelude.{◌≡◌, ◌<◌, ◌-◌, ◌*◌, ◌^◌, ℕ
 use Rattle.std.specs.Io.KnownBytes.{Appends}
 use Rattle.nvme_spec.specs.Blocks.{Device}
 use Rattle.nvme_spec.specs.MediumCalls.{MediumCall}
-use Rattle.nvme_fleet.specs.FaultFree.{fault_free_replies, fault_free_left}
+use Rattle.nvme_mailbox.specs.FaultFree.{fault_free_replies, fault_free_left}
 use Rattle.nvme_transcript.specs.Transcript.{transcript}
 use Rattle.nvme_script.specs.Faults.{IsScript, Runs, Stops, events_in, fleet_of_text}
 use Rattle.nvme_script.specs.ScriptCalls.{RunsCalling, StopsCalling}

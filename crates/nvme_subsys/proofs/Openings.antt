@@ -5,36 +5,17 @@ use Rattle.std.specs.List.{list_all, enumerate_from}
 use Rattle.std.proofs.lemmas.Bool.{and_parts, or_parts, eqb-true, eq-eqb, ltb-false}
 use Rattle.std.proofs.lemmas.List.{length-map}
 use Rattle.std.proofs.lemmas.Option.{same_Some}
-use Rattle.nvme_spec.proofs.Passing.{not_false}
 use Rattle.nvme_spec.specs.declared.config.ControllerConfig.{ControllerConfig}
-use Rattle.nvme_spec.specs.declared.config.ConfigFault.TheVariants.{TooMany, BadId, BadSize, DoesNotFit}
 use Rattle.nvme_spec.specs.Blocks.{Device}
-use Rattle.nvme_spec.specs.Configuration.{Configuration, first_config_fault, total_blocks, has_too_many, has_bad_id, has_bad_size}
+use Rattle.nvme_spec.specs.Configuration.{Configuration, first_config_fault}
 use Rattle.nvme_spec.specs.Report.{ControllerHost}
 use Rattle.nvme_spec.specs.World.{World, LiesWithin, host_of, controller_host, opening_world}
 use Rattle.nvme_spec.proofs.Worlds.{known-opening}
 use Rattle.nvme_spec.specs.Execution.{HasKnownRegistrants}
 use Rattle.nvme_machine.specs.Controllers.{Controller, new_controller}
 use Rattle.nvme_machine.specs.Subsystems.{Subsystem, opening, numbered}
+use Rattle.nvme_machine.proofs.Numbers.{accepted, numbered-at}
 use Rattle.nvme_subsys.specs.Sound.{AreNumbered, IsSound}
-
-none_of : (a b d e : Bool) → (if a then Some TooMany else (if b then Some BadId else (if d then Some BadSize else (if e then Some DoesNotFit else None)))) ≡ None → (a ≡ false) × (b ≡ false)
-none_of true b d e h = absurd (cc)
-none_of false true d e h = absurd (cc)
-none_of false false d e h = (refl, refl)
-
-accepted : (c : Configuration) (size : ℕ) → first_config_fault c size ≡ None → (has_too_many c ≡ false) × (has_bad_id c ≡ false)
-unfolding first_config_fault
-accepted c size h = none_of (has_too_many c) (has_bad_id c) (has_bad_size c.namespaces) (nat_lt size (total_blocks c.namespaces)) h
-
-numbered-from : (n : ℕ) (ks : List ControllerConfig) → list_all (λ p. p.1.cntlid == p.0 + 1) (enumerate_from n ks) ≡ true → (i : ℕ) (k : ControllerConfig) → slice_get ks i ≡ Some k → k.cntlid ≡ n + i + 1
-numbered-from n [] h i k at = absurd (cc)
-numbered-from n (x ∷ ks) h zero k at =
-    let two = and_parts (x.cntlid == n + 1) _ h in
-    ap (λ (y : ControllerConfig). y.cntlid) (sym (same_Some _ _ at)) ∙ eqb-true x.cntlid (n + 1) two.0 ∙ omega arith
-numbered-from n (x ∷ ks) h (suc i) k at =
-    let two = and_parts (x.cntlid == n + 1) _ h in
-    numbered-from (n + 1) ks two.1 i k at ∙ omega arith
 
 from-map : (ks : List ControllerConfig) (i : ℕ) (c : Controller) → slice_get (map (λ (k : ControllerConfig). new_controller k.cntlid) ks) i ≡ Some c
     → (k : ControllerConfig) × (slice_get ks i ≡ Some k) × (c.cntlid ≡ k.cntlid)
@@ -55,22 +36,19 @@ hosted (x ∷ ks) zero k n at same =
     (sym (eq-eqb x.cntlid n (ap (λ (y : ControllerConfig). y.cntlid) (same_Some _ _ at) ∙ same))) refl
 hosted (x ∷ ks) (suc i) k n at same = behind (x.cntlid == n) x _ (hosted ks i k n at same)
 
-pub numbers : (c : Configuration) (size : ℕ) → first_config_fault c size ≡ None → AreNumbered (opening_world c) (map (λ (k : ControllerConfig). new_controller k.cntlid) c.controllers)
+numbers : (c : Configuration) (size : ℕ) → first_config_fault c size ≡ None → AreNumbered (opening_world c) (map (λ (k : ControllerConfig). new_controller k.cntlid) c.controllers)
 unfolding host_of opening_world
 numbers c size good = record { identifier = λ k x at. by k x at; configured = λ k x at. there k x at }
   where
-    all : list_all (λ p. p.1.cntlid == p.0 + 1) (enumerate_from 0 c.controllers) ≡ true
-    all = let a = accepted c size good in not_false _ (or_parts _ _ (or_parts _ _ (or_parts _ _ (or_parts _ _ a.1).0).0).0).0
-
     by : (k : ℕ) (x : Controller) → numbered (map (λ (k : ControllerConfig). new_controller k.cntlid) c.controllers) k ≡ Some x → x.cntlid ≡ k
     by zero x at = absurd (cc)
-    by (suc i) x at = let r = from-map c.controllers i x at in r.2 ∙ numbered-from 0 c.controllers all i r.0 r.1 ∙ omega arith
+    by (suc i) x at = let r = from-map c.controllers i x at in r.2 ∙ numbered-at c size good i r.0 r.1 ∙ omega arith
 
     there : (k : ℕ) (x : Controller) → numbered (map (λ (k : ControllerConfig). new_controller k.cntlid) c.controllers) k ≡ Some x → IsSome (host_of (opening_world c) k)
     there zero x at = absurd (cc)
     there (suc i) x at =
         let r = from-map c.controllers i x at in
-        hosted c.controllers i r.0 (suc i) r.1 (numbered-from 0 c.controllers all i r.0 r.1 ∙ omega arith)
+        hosted c.controllers i r.0 (suc i) r.1 (numbered-at c size good i r.0 r.1 ∙ omega arith)
 
 few : (c : Configuration) (size : ℕ) → first_config_fault c size ≡ None → length c.controllers ≤ 16
 few c size good = let a = accepted c size good in ltb-false _ _ (or_parts _ _ (or_parts _ _ a.0).0).0

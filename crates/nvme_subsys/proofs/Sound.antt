@@ -5,56 +5,14 @@ use Rattle.std.specs.Prelude.{find, option_map, slice_get, slice_set, if◌then�
 use Rattle.std.proofs.lemmas.List.{length-set, length-take, get_or_at, set_at, drop_more, take_more, append_assoc}
 use Rattle.std.proofs.lemmas.Option.{same_Some}
 use Rattle.nvme_spec.specs.declared.outcome.Marks.{Marks}
-use Rattle.nvme_spec.specs.declared.registers.RegEffect.{RegEffect}
-use Rattle.nvme_spec.specs.declared.registers.RegEffect.TheVariants.{Nothing, Enable, Disable, Shutdown, SqTail, CqHead}
-use Rattle.nvme_spec.specs.declared.registers.AdminQueues.{AdminQueues}
-use Rattle.nvme_spec.specs.Registers as register
-use Rattle.nvme_spec.specs.Memory.{window_size}
-use Rattle.nvme_spec.specs.Bytes.{with_bytes}
 use Rattle.nvme_spec.specs.World.{World, host_of, LiesWithin}
 use Rattle.nvme_spec.specs.Execution.{HasKnownRegistrants}
 use Rattle.nvme_machine.specs.declared.seen.Executed.{Executed}
 use Rattle.nvme_machine.specs.declared.seen.Executed.TheVariants.{Posted, NoSuch, CqFull}
-use Rattle.nvme_machine.specs.declared.seen.Seen.TheVariants.{Stored, Outside}
-use Rattle.nvme_machine.specs.Controllers.{Controller, SubmissionQueue, reaction, after_store, after_write32, after_fetch, fetched_from, fetchable, taking_effect, with_admin_queues, with_marks}
+use Rattle.nvme_machine.specs.Controllers.{Controller, with_marks}
 use Rattle.nvme_machine.specs.Subsystems.{numbered, marked_from, is_host_among}
 use Rattle.nvme_subsys.specs.Sound.{AreNumbered, IsSound}
 use Rattle.nvme_subsys.specs.Marked.{marked_for, marks_after}
-
--- What keeps a controller's identifier.
-
-pub store-id : (address : ℕ) (bytes : List ℕ) (c : Controller) → (after_store address bytes c).controller.cntlid ≡ c.cntlid
-unfolding after_store
-store-id address bytes c =
-    elim (nat_le (address + length bytes) window_size) as (λ b. (if b then reaction (record c { window = with_bytes c.window address bytes }) Stored else reaction c Outside).controller.cntlid ≡ c.cntlid) [
-      | true ↦ refl
-      | false ↦ refl
-    ]
-
-admin-id : (o : Option AdminQueues) (c : Controller) → (with_admin_queues o c).cntlid ≡ c.cntlid
-admin-id None c = refl
-admin-id (Some q) c = refl
-
-effect-id : (effect : RegEffect) (c : Controller) → (taking_effect effect c).cntlid ≡ c.cntlid
-unfolding taking_effect
-effect-id Nothing c = refl
-effect-id Enable c = admin-id (register.admin_queues c.registers) c
-effect-id Disable c = refl
-effect-id Shutdown c = refl
-effect-id (SqTail q v) c = refl
-effect-id (CqHead q v) c = refl
-
-pub write-id : (offset v : ℕ) (c : Controller) → (after_write32 offset v c).cntlid ≡ c.cntlid
-unfolding after_write32
-write-id offset v c = effect-id (register.after_write c.registers offset v).effect (record c { registers = (register.after_write c.registers offset v).registers })
-
-from-id : (q : ℕ) (c : Controller) (o : Option SubmissionQueue) → (fetched_from q c o).controller.cntlid ≡ c.cntlid
-from-id q c None = refl
-from-id q c (Some s) = refl
-
-pub fetch-id : (q : ℕ) (c : Controller) → (after_fetch q c).controller.cntlid ≡ c.cntlid
-unfolding after_fetch
-fetch-id q c = from-id q c (fetchable c q)
 
 -- Numbers.
 

@@ -14,7 +14,7 @@ ENSURES = re.compile(r"ensures(?: \w+)? \{ (\w+)[^}]*\}")
 STEPS = (
     ("What a subsystem's events are", (("crates/nvme_machine/specs/Subsystems", "Run"),)),
     ("What a fleet's events are",
-     (("crates/nvme_fleet/specs/Fleets", "Step"), ("crates/nvme_fleet/specs/Layers", "Step"))),
+     (("crates/nvme_mailbox/specs/Fleets", "Step"), ("crates/nvme_fleet/specs/Layers", "Step"))),
 )
 INTRODUCTION = """# Reading lists
 
@@ -31,8 +31,9 @@ The lists of a subsystem's and of a fleet's events come first. Those of the theo
 
 
 def law_of(top: Path, crate: str, name: str, library: Library) -> List[Definition]:
-    """The definitions that the contract of a law cites."""
-    text = (top / "crates" / crate / "src/laws.rt").read_text(encoding="utf-8")
+    """The definitions that the contract of a law cites; none where the crate has no such law."""
+    path = top / "crates" / crate / "src/laws.rt"
+    text = path.read_text(encoding="utf-8") if path.is_file() else ""
     module = Module(crate)
     for line in text.split("\n"):
         take_import(module, line)
@@ -46,9 +47,9 @@ def theorems(top: Path, document: Document, library: Library) -> Iterator[Tuple[
     for heading, first, end in document.innermost_sections():
         text = " ".join(document.lines[first:end - 1])
         laws = [it for found in CARRIED.finditer(text) for it in re.findall(r"`(\w+)`", found[1])]
-        of_crate = re.search(r"<!-- excerpt: crates/(\w+)/", text)
-        if laws and of_crate:
-            yield heading, laws, [it for law in laws for it in law_of(top, of_crate[1], law, library)]
+        of_crates = dict.fromkeys(re.findall(r"<!-- excerpt: crates/(\w+)/", text))
+        if laws and of_crates:
+            yield heading, laws, [it for law in laws for crate in of_crates for it in law_of(top, crate, law, library)]
 
 
 def order_of(top: Path, cone: Dict[Key, Definition], library: Library) -> List[str]:

@@ -87,7 +87,7 @@ CHANGED = (
     ("README.md", "docs/pictures/timeline.svg", PICTURE, "does not show docs/pictures/timeline.svg"),
     ("docs/pictures/timeline.svg", ">ring 2<", ">ring 1<", "its events are not those of crates/nvme_examples"),
     ("docs/TUTORIAL.md", "<!-- file: agent.py -->", "<!-- file: agents.py -->", "no file is called agent.py"),
-    ("crates/nvme_fleet/src/laws.rt", "ensures unseen { UnseenNeverComes }", "ensures unseen { tt }",
+    ("crates/nvme_mailbox/src/laws.rt", "ensures unseen { UnseenNeverComes }", "ensures unseen { tt }",
      "no definition is stated by trouble_never_comes"),
     ("crates/nvme_spec/specs/Pointer.antt", "abbrev pub pointer_fault :", "abbrev pub pointer_faults :",
      "pointer_fault of crates/nvme_spec/specs/Pointer is imported, and not found there"),

@@ -1,6 +1,6 @@
 use Rattle.nvme_fleet.proofs.Words.{◌≡◌, ◌≤◌, ◌∙◌, length, sym, ap, subst, arith, most_bytes, fleet_of, layers_of}
 use Rattle.nvme_fleet.specs.FleetStates.{data_in}
-use Rattle.nvme_fleet.specs.Fleets as mailboxes
+use Rattle.nvme_mailbox.specs.Fleets as mailboxes
 use Rattle.nvme_fleet.proofs.FleetRuns.{copied, fits-room}
 use Rattle.nvme_fleet.proofs.LayerCalls.{replied}
 use Rattle.nvme_fleet.proofs.fleet.Fleet.reply_to.Goals as goal

@@ -2,7 +2,8 @@ use Rattle.std.proofs.Common.{◌∙◌, sym, ap}
 use Rattle.nvme_machine.specs.Bare.{seen_of}
 use Rattle.nvme_machine.specs.Controllers.{Reaction, after_fetch}
 use Rattle.nvme_subsys.proofs.Numbers.{reacts, found-at}
-use Rattle.nvme_subsys.proofs.Sound.{sound-set, fetch-id}
+use Rattle.nvme_machine.proofs.Numbers.{fetch-id}
+use Rattle.nvme_subsys.proofs.Sound.{sound-set}
 use Rattle.nvme_subsys.proofs.OverMedium.{state-is}
 use Rattle.nvme_subsys.proofs.subsystem.Subsystem.fetch.Goals as goal
 

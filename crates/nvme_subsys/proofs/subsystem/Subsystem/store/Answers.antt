@@ -2,7 +2,8 @@ use Rattle.std.proofs.Common.{◌∙◌, sym, ap}
 use Rattle.nvme_machine.specs.Bare.{seen_of}
 use Rattle.nvme_machine.specs.Controllers.{Reaction, after_store}
 use Rattle.nvme_subsys.proofs.Numbers.{reacts, found-at}
-use Rattle.nvme_subsys.proofs.Sound.{sound-set, store-id}
+use Rattle.nvme_machine.proofs.Numbers.{store-id}
+use Rattle.nvme_subsys.proofs.Sound.{sound-set}
 use Rattle.nvme_subsys.proofs.OverMedium.{state-is}
 use Rattle.nvme_subsys.proofs.subsystem.Subsystem.store.Goals as goal
 

@@ -1,5 +1,0 @@
-use Rattle.nvme_fleet.proofs.TicketRuns.{tickets_balance}
-use Rattle.nvme_fleet.proofs.laws.tickets_balance.Goals as goal
-
-pub returns-clause-balance : goal.returns-clause-balance
-returns-clause-balance c = tickets_balance

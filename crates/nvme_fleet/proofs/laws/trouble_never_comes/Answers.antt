@@ -1,5 +1,0 @@
-use Rattle.nvme_fleet.proofs.Unseen.{unseen_never_comes}
-use Rattle.nvme_fleet.proofs.laws.trouble_never_comes.Goals as goal
-
-pub returns : goal.returns
-returns c = record { unseen = unseen_never_comes }

@@ -1,0 +1,164 @@
+-- A host's mailbox goes by its own events, but for the marks of others' executions.
+use Rattle.nvme_mailbox.proofs.Words.{◌≡◌, ◌≢◌, ℕ, ◌==◌, Bool, true, false, Option, None, Some, refl, sym, ap, subst, ◌∙◌, arith, slice_get, common_steps, Marks, Executed, Posted, NoSuch, Controller, FleetEvent, BringUp, Place, Ring, Fetch, Execute, Poll, Reset, RawStore, RawWrite32, PowerCycle, FleetSeen, NotRaw, Reply, concerns, FetchedItem, Mailbox, MailboxReaction, plain, fetched, reset, Site, RequestComesTo, WithDriver, Raw, Fleet, Is, Completes, ExecutesItem, ExecutesAt, host_at, with_host, power_cycled, called_at, raw_at, fetched_at, settled, after_answer, site_of, marks_in, replaced, numbered, HasMailbox, Becomes, Posts, ExecutesOwn, OwnStep, OthersStep, MailboxStep, MovesOn, HostsAreApart, marks_seen, marked_by}
+use Rattle.nvme_mailbox.specs.Fleets.{Host}
+use Rattle.nvme_event.specs.declared.seen.FleetSeen.TheVariants.{Executed as ExecutedSeen, NoController, Cycled}
+use Rattle.nvme_mailbox.proofs.MailboxMarks.{spared}
+use Rattle.nvme_mailbox.proofs.HostPlaces.{cycled-host, replaced-other, replaced-here, own-set, called-other, raw-other, fetched-other, marks-numbered}
+
+pub is-same : (j k : ℕ) → (j == k) ≡ true → j ≡ k
+is-same j k h = grind (arith, common_steps, h)
+
+pub same-is : (j k : ℕ) → j ≡ k → (j == k) ≡ true
+same-is j k h = grind (arith, common_steps, h)
+
+pub is-other : (j k : ℕ) → (j == k) ≡ false → j ≢ k
+is-other j k h e = grind (arith, common_steps, h, e)
+
+-- Where a host keeps its place.
+
+keeps : (tells : Bool) (old new : Fleet) (event : FleetEvent) (reply : Reply) (k : ℕ) (m : Mailbox) → concerns event k ≡ false → OthersStep event k m reply new.site m
+    → host_at new k ≡ host_at old k → HasMailbox old k m → MovesOn tells old event reply new k m
+keeps tells old new event reply k m other stays same at = record {
+  mailbox = m;
+  host = same ∙ at;
+  moves = subst (λ b. MailboxStep b event tells k old.site m reply new.site m) (sym other) stays;
+}
+
+own : (tells : Bool) (old new : Fleet) (event : FleetEvent) (reply : Reply) (k : ℕ) (m n : Mailbox) → concerns event k ≡ true → HasMailbox new k n
+    → OwnStep event tells k old.site m reply new.site n → MovesOn tells old event reply new k m
+own tells old new event reply k m n here at h = record {
+  mailbox = n;
+  host = at;
+  moves = subst (λ b. MailboxStep b event tells k old.site m reply new.site n) (sym here) h;
+}
+
+-- what a call leaves there
+calls : (old new : Fleet) (j k : ℕ) (m : Mailbox) (call : Mailbox → MailboxReaction) (reply : Reply) → j ≡ k → HasMailbox old k m → Is (called_at (host_at old j) old j call) reply new
+    → Becomes (call m) reply (call m).mailbox × HasMailbox new k (call m).mailbox
+calls old new j k m call reply same at h =
+    let here : host_at old j ≡ Some (WithDriver m) = ap (host_at old) same ∙ at in
+    let so : Is (called_at (Some (WithDriver m)) old j call) reply new = subst (λ o. Is (called_at o old j call) reply new) here h in
+    ((so.0, refl), ap (λ f. host_at f k) so.1 ∙ ap (λ x. host_at (with_host old x (WithDriver (call m).mailbox)) k) same ∙ own-set old k (WithDriver m) (WithDriver (call m).mailbox) at)
+
+by-call : (tells : Bool) (old new : Fleet) (event : FleetEvent) (j k : ℕ) (m : Mailbox) (call : Mailbox → MailboxReaction) (reply : Reply) (b : Bool) → (j == k) ≡ b → concerns event k ≡ b
+    → OthersStep event k m reply new.site m → (Becomes (call m) reply (call m).mailbox → OwnStep event tells k old.site m reply new.site (call m).mailbox)
+    → HasMailbox old k m → Is (called_at (host_at old j) old j call) reply new → MovesOn tells old event reply new k m
+by-call tells old new event j k m call reply true e here stays becomes at h =
+    let so = calls old new j k m call reply (is-same j k e) at h in
+    own tells old new event reply k m (call m).mailbox here so.1 (becomes so.0)
+by-call tells old new event j k m call reply false e here stays becomes at h =
+    keeps tells old new event reply k m here stays (ap (λ f. host_at f k) h.1 ∙ called-other (host_at old j) old j k call (is-other j k e)) at
+
+by-fetch : (tells : Bool) (old new : Fleet) (j q k : ℕ) (m : Mailbox) (reply : Reply) (b : Bool) → (j == k) ≡ b
+    → HasMailbox old k m → Is (fetched_at (host_at old j) old j q) reply new → MovesOn tells old (Fetch j q) reply new k m
+by-fetch tells old new j q k m reply true e at h =
+    let same = is-same j k e in
+    let here : host_at old j ≡ Some (WithDriver m) = ap (host_at old) same ∙ at in
+    let so : Is (fetched_at (Some (WithDriver m)) old j q) reply new = subst (λ o. Is (fetched_at o old j q) reply new) here h in
+    let n : Mailbox = (fetched q m).mailbox in
+    own tells old new (Fetch j q) reply k m n e
+    (ap (λ f. host_at f k) so.1 ∙ ap (λ x. host_at (with_host old x (WithDriver n)) k) same ∙ own-set old k (WithDriver m) (WithDriver n) at)
+    (so.0, refl)
+by-fetch tells old new j q k m reply false e at h =
+    keeps tells old new (Fetch j q) reply k m e refl (ap (λ f. host_at f k) h.1 ∙ fetched-other (host_at old j) old j k q (is-other j k e)) at
+
+-- a raw host's event does not reach a host with a driver
+by-raw : (tells : Bool) (old new : Fleet) (event : FleetEvent) (j k : ℕ) (m : Mailbox) (change : Controller → Controller) (what : FleetSeen) (reply : Reply) (b : Bool) → (j == k) ≡ b → concerns event k ≡ b
+    → OthersStep event k m reply new.site m → ((reply ≡ plain NotRaw) × (m ≡ m) → OwnStep event tells k old.site m reply new.site m)
+    → HasMailbox old k m → Is (raw_at (host_at old j) old j change what) reply new → MovesOn tells old event reply new k m
+by-raw tells old new event j k m change what reply true e here stays becomes at h =
+    let host : host_at old j ≡ Some (WithDriver m) = ap (host_at old) (is-same j k e) ∙ at in
+    let so : Is (raw_at (Some (WithDriver m)) old j change what) reply new = subst (λ o. Is (raw_at o old j change what) reply new) host h in
+    own tells old new event reply k m m here (ap (λ f. host_at f k) so.1 ∙ at) (becomes (so.0, refl))
+by-raw tells old new event j k m change what reply false e here stays becomes at h =
+    keeps tells old new event reply k m here stays (ap (λ f. host_at f k) h.1 ∙ raw-other (host_at old j) old j k change what (is-other j k e)) at
+
+-- Executions.
+
+settled-at : (f : Fleet) (j k : ℕ) (left : Site) (h : Host) (t : Marks) (m : Mailbox) → numbered (replaced f.hosts j h) k ≡ Some (WithDriver m)
+    → HasMailbox (settled f j left h t) k (marked_by t left.world k m)
+unfolding host_at settled
+settled-at f j k left h t m at = marks-numbered left.world t (replaced f.hosts j h) k m at
+
+-- what another host's execution leaves
+settled-other : (tells : Bool) (old new : Fleet) (reply : Reply) (j i k : ℕ) (left : Site) (h : Host) (executed : Executed) (m : Mailbox) → j ≢ k → (j == k) ≡ false → HasMailbox old k m
+    → reply ≡ plain (ExecutedSeen executed) → new ≡ settled old j left h (marks_in executed) → MovesOn tells old (Execute j i) reply new k m
+unfolding host_at settled
+settled-other tells old new reply j i k left h executed m apart other at gives is =
+    let n : Mailbox = marked_by (marks_in executed) left.world k m in
+    let so : marked_by (marks_seen reply.seen) new.site.world k m ≡ n =
+    ap (λ (f : Fleet). marked_by (marks_seen reply.seen) f.site.world k m) is ∙ ap (λ (r : Reply). marked_by (marks_seen r.seen) left.world k m) gives in record {
+      mailbox = n;
+      host = ap (λ f. host_at f k) is ∙ settled-at old j k left h (marks_in executed) m (replaced-other old.hosts j k h apart ∙ at);
+      moves = subst (λ b. MailboxStep b (Execute j i) tells k old.site m reply new.site n) (sym other) (sym so);
+    }
+
+executes-other : (o : Option Host) (tells : Bool) (old new : Fleet) (j i k : ℕ) (reply : Reply) (m : Mailbox) → j ≢ k → (j == k) ≡ false → HasMailbox old k m
+    → ExecutesAt o tells old j i reply new → MovesOn tells old (Execute j i) reply new k m
+executes-other None tells old new j i k reply m apart other at h =
+    keeps tells old new (Execute j i) reply k m other (spared new.site.world k m reply NoController h.0 refl) (ap (λ f. host_at f k) h.1) at
+executes-other (Some (WithDriver y)) tells old new j i k reply m apart other at h = by (slice_get y.fetched i) h
+  where
+    by : (o : Option FetchedItem) → ExecutesItem o tells old j y i reply new → MovesOn tells old (Execute j i) reply new k m
+    by None h = keeps tells old new (Execute j i) reply k m other (spared new.site.world k m reply (ExecutedSeen NoSuch) h.0 refl) (ap (λ f. host_at f k) h.1) at
+    by (Some x) h =
+        settled-other tells old new reply j i k h.execution.left (WithDriver (after_answer i x h.execution y)) (Posted h.execution.outcome) m apart other at h.gives h.leaves
+executes-other (Some (Raw c)) tells old new j i k reply m apart other at h =
+    settled-other tells old new reply j i k (site_of h.left) (Raw h.left.controller) h.executed m apart other at h.gives h.leaves
+
+completes-own : (tells : Bool) (old new : Fleet) (j k i : ℕ) (m : Mailbox) (x : FetchedItem) (reply : Reply) → j ≡ k → (j == k) ≡ true → HasMailbox old k m → slice_get m.fetched i ≡ Some x
+    → Completes tells old j m i x reply new → MovesOn tells old (Execute j i) reply new k m
+unfolding host_at settled
+completes-own tells old new j k i m x reply same here at found h =
+    let y : Mailbox = after_answer i x h.execution m in
+    let place : numbered (replaced old.hosts j (WithDriver y)) k ≡ Some (WithDriver y) =
+    ap (λ n. numbered (replaced old.hosts n (WithDriver y)) k) same ∙ replaced-here old.hosts k (WithDriver m) (WithDriver y) at in
+    let n : Mailbox = marked_by h.execution.outcome.marks h.execution.left.world k y in
+    let posts : Posts tells k old.site m i x reply new.site n = record {
+      execution = h.execution;
+      comes_to = subst (λ n. RequestComesTo tells n x old.site h.execution) same h.comes_to;
+      gives = h.gives;
+      site = ap (λ (f : Fleet). f.site) h.leaves;
+      leaves = refl;
+    } in
+    own tells old new (Execute j i) reply k m n here
+    (ap (λ f. host_at f k) h.leaves ∙ settled-at old j k h.execution.left (WithDriver y) h.execution.outcome.marks y place)
+    (subst (λ o. ExecutesOwn o tells k old.site m i reply new.site n) (sym found) posts)
+
+executes-own : (tells : Bool) (old new : Fleet) (j i k : ℕ) (reply : Reply) (m : Mailbox) → j ≡ k → (j == k) ≡ true → HasMailbox old k m
+    → ExecutesAt (Some (WithDriver m)) tells old j i reply new → MovesOn tells old (Execute j i) reply new k m
+executes-own tells old new j i k reply m same here at h = by (slice_get m.fetched i) refl h
+  where
+    by : (o : Option FetchedItem) → slice_get m.fetched i ≡ o → ExecutesItem o tells old j m i reply new → MovesOn tells old (Execute j i) reply new k m
+    by None found h =
+        own tells old new (Execute j i) reply k m m here (ap (λ f. host_at f k) h.1 ∙ at)
+        (subst (λ o. ExecutesOwn o tells k old.site m i reply new.site m) (sym found) (h.0, refl))
+    by (Some x) found h = completes-own tells old new j k i m x reply same here at found h
+
+by-execution : (tells : Bool) (old new : Fleet) (j i k : ℕ) (m : Mailbox) (reply : Reply) (b : Bool) → (j == k) ≡ b
+    → HasMailbox old k m → ExecutesAt (host_at old j) tells old j i reply new → MovesOn tells old (Execute j i) reply new k m
+by-execution tells old new j i k m reply true e at h =
+    let same = is-same j k e in
+    executes-own tells old new j i k reply m same e at (subst (λ o. ExecutesAt o tells old j i reply new) (ap (host_at old) same ∙ at) h)
+by-execution tells old new j i k m reply false e at h = executes-other (host_at old j) tells old new j i k reply m (is-other j k e) e at h
+
+-- A power cycle.
+
+by-cycle : (tells : Bool) (old new : Fleet) (k : ℕ) (m : Mailbox) (reply : Reply) → HasMailbox old k m → (reply ≡ plain Cycled) × (new ≡ power_cycled old) → MovesOn tells old PowerCycle reply new k m
+by-cycle tells old new k m reply at h = record {
+  mailbox = (reset m).mailbox;
+  host = ap (λ f. host_at f k) h.1 ∙ cycled-host old k (WithDriver m) at;
+  moves = (h.0, refl);
+}
+
+pub hosts_are_apart : HostsAreApart
+hosts_are_apart tells old new (BringUp j) reply h k m at = by-call tells old new (BringUp j) j k m _ reply (j == k) refl refl refl (λ x. x) at h
+hosts_are_apart tells old new (Place j request) reply h k m at = by-call tells old new (Place j request) j k m _ reply (j == k) refl refl refl (λ x. x) at h
+hosts_are_apart tells old new (Ring j) reply h k m at = by-call tells old new (Ring j) j k m _ reply (j == k) refl refl refl (λ x. x) at h
+hosts_are_apart tells old new (Fetch j q) reply h k m at = by-fetch tells old new j q k m reply (j == k) refl at h
+hosts_are_apart tells old new (Execute j i) reply h k m at = by-execution tells old new j i k m reply (j == k) refl at h
+hosts_are_apart tells old new (Poll j) reply h k m at = by-call tells old new (Poll j) j k m _ reply (j == k) refl refl refl (λ x. x) at h
+hosts_are_apart tells old new (Reset j) reply h k m at = by-call tells old new (Reset j) j k m _ reply (j == k) refl refl refl (λ x. x) at h
+hosts_are_apart tells old new (RawStore j address bytes) reply h k m at = by-raw tells old new (RawStore j address bytes) j k m _ _ reply (j == k) refl refl refl (λ x. x) at h
+hosts_are_apart tells old new (RawWrite32 j offset v) reply h k m at = by-raw tells old new (RawWrite32 j offset v) j k m _ _ reply (j == k) refl refl refl (λ x. x) at h
+hosts_are_apart tells old new PowerCycle reply h k m at = by-cycle tells old new k m reply at h

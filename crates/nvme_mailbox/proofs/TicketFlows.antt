@@ -1,0 +1,238 @@
+-- What becomes of tickets in one event of their host.
+use Rattle.nvme_mailbox.proofs.Words.{reset, ◌≡◌, inl, inr, ℕ, ◌+◌, nat_le, Bool, true, false, List, [], ◌∷◌, ◌++◌, map, Some, refl, sym, ap, subst, arith, if◌then◌else◌, slice_get, Lane, Admin, Io, asked_of, Item, FetchedItem, PostedAnswer, LaneBox, Mailbox, box_at, with_box, lane_of, tickets_in, ranked, rising, open_tickets, names, with_mark, new_item, with_placed, RequestExecution, after_answer, with_posted, answer_for, total, waiting, posted_answers, requests_in, waiting_tickets, answered_tickets, held_tickets, given_in, done_in, aborted_in, Posted, FleetSeen, where_posted, remove}
+use Rattle.nvme_mailbox.specs.Mailboxes.{with_marks}
+use Rattle.nvme_event.specs.declared.seen.FleetSeen.TheVariants as seen
+use Rattle.nvme_mailbox.proofs.MailboxMarks.{DiffersInMarks}
+use Rattle.nvme_mailbox.proofs.Moves.{IsQuiet, Move, Stay, Rise, Take, RingBoth, FetchFirst, HandUp, Free, Clear, Answer, May, moved, reply_of}
+use Rattle.nvme_mailbox.proofs.Totals.{total-append, total-removed}
+
+-- What the tickets of a mailbox weigh.
+
+abbrev pub items : (ℕ → ℕ) → List Item → ℕ
+items w xs = total (λ (i : Item). w i.ticket) xs
+
+abbrev pub taken : (ℕ → ℕ) → List FetchedItem → ℕ
+taken w xs = total (λ (f : FetchedItem). w f.item.ticket) xs
+
+abbrev pub posted : (ℕ → ℕ) → List PostedAnswer → ℕ
+posted w xs = total (λ (a : PostedAnswer). w a.ticket) xs
+
+abbrev pub waits : (ℕ → ℕ) → Mailbox → ℕ
+waits w m = items w m.admin.placed + items w m.admin.rung + items w m.io.placed + items w m.io.rung + taken w m.fetched
+
+abbrev pub posts : (ℕ → ℕ) → Mailbox → ℕ
+posts w m = posted w m.admin.posted + posted w m.io.posted
+
+total-map : {A B : Type 0} (f : B → ℕ) (g : A → B) (xs : List A) → total f (map g xs) ≡ total (λ x. f (g x)) xs
+total-map f g [] = refl
+total-map f g (x ∷ xs) = ap (λ n. f (g x) + n) (total-map f g xs)
+
+pub waits-weigh : (w : ℕ → ℕ) (m : Mailbox) → total w (waiting_tickets m) ≡ waits w m
+unfolding waiting
+waits-weigh w m =
+    let a = total-map w (λ (i : Item). i.ticket) (waiting m) in
+    let b = total-append (λ (i : Item). w i.ticket) (requests_in m.admin ++ requests_in m.io) (map (λ (f : FetchedItem). f.item) m.fetched) in
+    let c = total-append (λ (i : Item). w i.ticket) (requests_in m.admin) (requests_in m.io) in
+    let d = total-append (λ (i : Item). w i.ticket) m.admin.placed m.admin.rung in
+    let e = total-append (λ (i : Item). w i.ticket) m.io.placed m.io.rung in
+    let f = total-map (λ (i : Item). w i.ticket) (λ (f : FetchedItem). f.item) m.fetched in
+    omega (arith, a, b, c, d, e, f)
+
+pub posts-weigh : (w : ℕ → ℕ) (m : Mailbox) → total w (answered_tickets m) ≡ posts w m
+unfolding posted_answers
+posts-weigh w m =
+    let a = total-map w (λ (a : PostedAnswer). a.ticket) (posted_answers m) in
+    let b = total-append (λ (a : PostedAnswer). w a.ticket) m.admin.posted m.io.posted in
+    omega (arith, a, b)
+
+pub held-weigh : (w : ℕ → ℕ) (m : Mailbox) → total w (held_tickets m) ≡ waits w m + posts w m + total w m.aborted
+held-weigh w m =
+    let a = total-append w (waiting_tickets m ++ answered_tickets m) m.aborted in
+    let b = total-append w (waiting_tickets m) (answered_tickets m) in
+    let c = waits-weigh w m in
+    let d = posts-weigh w m in
+    omega (arith, a, b, c, d)
+
+-- What was waiting and what was given is waiting, executed or dropped; what was answered and what was executed is answered,
+-- done or lost; what was aborted, dropped and lost is aborted or handed up as such.
+pub record Flow (w : ℕ → ℕ) (m n : Mailbox) (given executed done aborted : ℕ) : Type 0 where
+  pub dropped : ℕ
+  pub lost : ℕ
+  pub waits : waits w n + executed + dropped ≡ waits w m + given
+  pub answered : posts w n + done + lost ≡ posts w m + executed
+  pub aborts : total w n.aborted + aborted ≡ total w m.aborted + dropped + lost
+
+-- one flow behind another
+pub flows-on : (w : ℕ → ℕ) (l m n : Mailbox) (g h e x d y a b : ℕ) → Flow w l m g e d a → Flow w m n h x y b → Flow w l n (g + h) (e + x) (d + y) (a + b)
+flows-on w l m n g h e x d y a b one two =
+    let p = one.waits in
+    let q = one.answered in
+    let r = one.aborts in
+    let s = two.waits in
+    let t = two.answered in
+    let u = two.aborts in record {
+      dropped = one.dropped + two.dropped;
+      lost = one.lost + two.lost;
+      waits = omega (arith, p, s);
+      answered = omega (arith, q, t);
+      aborts = omega (arith, r, u);
+    }
+
+-- nothing flows where the same requests stand in the mailbox
+pub stays : (w : ℕ → ℕ) (m n : Mailbox) → waits w n ≡ waits w m → posts w n ≡ posts w m → total w n.aborted ≡ total w m.aborted → Flow w m n 0 0 0 0
+stays w m n p q r = record {
+  dropped = 0;
+  lost = 0;
+  waits = omega (arith, p);
+  answered = omega (arith, q);
+  aborts = omega (arith, r);
+}
+
+taken-marked : (w : ℕ → ℕ) (ns : ℕ) (xs : List FetchedItem) → taken w (map (with_mark ns) xs) ≡ taken w xs
+taken-marked w ns [] = refl
+taken-marked w ns (x ∷ xs) = λ i. by (names ns x) i + taken-marked w ns xs i
+  where
+    by : (b : Bool) → w (if b then record x { marked = true } else x).item.ticket ≡ w x.item.ticket
+    by true = refl
+    by false = refl
+
+pub marks_flow : (w : ℕ → ℕ) (m n : Mailbox) → DiffersInMarks m n → Flow w m n 0 0 0 0
+marks_flow w m n (inl e) = subst (λ x. Flow w m x 0 0 0 0) (sym e) (stays w m m refl refl refl)
+marks_flow w m n (inr h) =
+    let e = taken-marked w h.0 m.fetched in
+    subst (λ x. Flow w m x 0 0 0 0) (sym h.1) (stays w m (with_marks h.0 m) (omega (arith, e)) refl refl)
+
+-- a request is the last of its lane
+with-request : (w : ℕ → ℕ) (l : Lane) (i : Item) (m : Mailbox) → Flow w m (with_box l (with_placed (box_at l m) i) (record m { next = m.next + 1 })) (w i.ticket + 0) 0 0 0
+with-request w Admin i m =
+    let e = total-append (λ (i : Item). w i.ticket) m.admin.placed (i ∷ []) in
+    record { dropped = 0; lost = 0; waits = omega (arith, e); answered = omega arith; aborts = omega arith }
+with-request w Io i m =
+    let e = total-append (λ (i : Item). w i.ticket) m.io.placed (i ∷ []) in
+    record { dropped = 0; lost = 0; waits = omega (arith, e); answered = omega arith; aborts = omega arith }
+
+-- a lane's first rung request is fetched
+first-fetched : (w : ℕ → ℕ) (l : Lane) (x : Item) (rest : List Item) (m : Mailbox) → (box_at l m).rung ≡ x ∷ rest → Flow w m (moved (FetchFirst l x rest) m) 0 0 0 0
+first-fetched w Admin x rest m h =
+    let a = total-append (λ (f : FetchedItem). w f.item.ticket) m.fetched (record { item = x; marked = false } ∷ []) in
+    let b = ap (items w) h in
+    stays w m (moved (FetchFirst Admin x rest) m) (omega (arith, a, b)) refl refl
+first-fetched w Io x rest m h =
+    let a = total-append (λ (f : FetchedItem). w f.item.ticket) m.fetched (record { item = x; marked = false } ∷ []) in
+    let b = ap (items w) h in
+    stays w m (moved (FetchFirst Io x rest) m) (omega (arith, a, b)) refl refl
+
+-- the first answer of a lane is handed up
+hands-up : (w : ℕ → ℕ) (l : Lane) (first : PostedAnswer) (rest : List PostedAnswer) (m : Mailbox) → (box_at l m).posted ≡ first ∷ rest → Flow w m (moved (HandUp l first rest) m) 0 0 (w first.ticket + 0) 0
+hands-up w Admin first rest m h =
+    let e = ap (posted w) h in
+    record { dropped = 0; lost = 0; waits = omega arith; answered = omega (arith, e); aborts = omega arith }
+hands-up w Io first rest m h =
+    let e = ap (posted w) h in
+    record { dropped = 0; lost = 0; waits = omega arith; answered = omega (arith, e); aborts = omega arith }
+
+-- A reset drops what waits, and loses the answers: both become aborted.
+
+ranked-weighs : (w : ℕ → ℕ) (t : ℕ) (us : List ℕ) → total w (ranked t us) ≡ w t + total w us
+ranked-weighs w t [] = refl
+ranked-weighs w t (u ∷ us) = by (ranked-weighs w t us) (nat_le t u)
+  where
+    by : total w (ranked t us) ≡ w t + total w us → (b : Bool) → total w (if b then t ∷ u ∷ us else u ∷ ranked t us) ≡ w t + (w u + total w us)
+    by e true = refl
+    by e false = omega (arith, e)
+
+rising-weighs : (w : ℕ → ℕ) (ts : List ℕ) → total w (rising ts) ≡ total w ts
+rising-weighs w [] = refl
+rising-weighs w (t ∷ ts) =
+    let a = ranked-weighs w t (rising ts) in
+    let b = rising-weighs w ts in
+    omega (arith, a, b)
+
+lane-weighs : (w : ℕ → ℕ) (b : LaneBox) → total w (tickets_in b) ≡ items w b.placed + items w b.rung + posted w b.posted
+lane-weighs w b =
+    let p = map (λ (i : Item). i.ticket) b.placed in
+    let r = map (λ (i : Item). i.ticket) b.rung in
+    let a = map (λ (a : PostedAnswer). a.ticket) b.posted in
+    let x = total-append w (p ++ r) a in
+    let y = total-append w p r in
+    let s = total-map w (λ (i : Item). i.ticket) b.placed in
+    let t = total-map w (λ (i : Item). i.ticket) b.rung in
+    let u = total-map w (λ (a : PostedAnswer). a.ticket) b.posted in
+    omega (arith, x, y, s, t, u)
+
+open-weighs : (w : ℕ → ℕ) (m : Mailbox) → total w (open_tickets m) ≡ waits w m + posts w m
+unfolding open_tickets
+open-weighs w m =
+    let f = map (λ (f : FetchedItem). f.item.ticket) m.fetched in
+    let r = rising-weighs w (tickets_in m.admin ++ tickets_in m.io ++ f) in
+    let x = total-append w (tickets_in m.admin ++ tickets_in m.io) f in
+    let y = total-append w (tickets_in m.admin) (tickets_in m.io) in
+    let a = lane-weighs w m.admin in
+    let i = lane-weighs w m.io in
+    let t = total-map w (λ (f : FetchedItem). f.item.ticket) m.fetched in
+    omega (arith, r, x, y, a, i, t)
+
+pub resets : (w : ℕ → ℕ) (m : Mailbox) → Flow w m (reset m).mailbox 0 0 0 0
+resets w m =
+    let a = total-append w m.aborted (open_tickets m) in
+    let b = open-weighs w m in
+    record { dropped = waits w m; lost = posts w m; waits = omega arith; answered = omega arith; aborts = omega (arith, a, b) }
+
+-- An execution.
+
+posts-answer : (w : ℕ → ℕ) (i : ℕ) (x : FetchedItem) (r : RequestExecution) (m : Mailbox) → slice_get m.fetched i ≡ Some x → Flow w m (after_answer i x r m) 0 (w x.item.ticket + 0) 0 0
+unfolding after_answer
+posts-answer w i x r m h = by (lane_of x.item)
+  where
+    gone : w x.item.ticket + taken w (remove m.fetched i) ≡ taken w m.fetched
+    gone = total-removed (λ (f : FetchedItem). w f.item.ticket) m.fetched i x h
+
+    by : (l : Lane) → Flow w m (with_box l (with_posted (box_at l m) x r) (record m { fetched = remove m.fetched i })) 0 (w x.item.ticket + 0) 0 0
+    by Admin =
+        let e = total-append (λ (a : PostedAnswer). w a.ticket) m.admin.posted (answer_for x r m.admin.since ∷ []) in
+        record { dropped = 0; lost = 0; waits = omega (arith, gone); answered = omega (arith, e); aborts = omega arith }
+    by Io =
+        let e = total-append (λ (a : PostedAnswer). w a.ticket) m.io.posted (answer_for x r m.io.since ∷ []) in
+        record { dropped = 0; lost = 0; waits = omega (arith, gone); answered = omega (arith, e); aborts = omega arith }
+
+-- Each move. What it gives is counted by its reply, and by the ticket of the request that it executes.
+
+-- the same numbers, otherwise written
+pub reads : (w : ℕ → ℕ) (m n : Mailbox) (g h e x d y a b : ℕ) → Flow w m n g e d a → g ≡ h → e ≡ x → d ≡ y → a ≡ b → Flow w m n h x y b
+reads w m n g h e x d y a b f p q r s =
+    let t = f.waits in
+    let u = f.answered in
+    let v = f.aborts in
+    record { dropped = f.dropped; lost = f.lost; waits = omega (arith, t, p, q); answered = omega (arith, u, q, r); aborts = omega (arith, v, s) }
+
+abbrev pub FlowsIn : (ℕ → ℕ) → Mailbox → Mailbox → FleetSeen → List ℕ → Type 0
+FlowsIn w m n what tickets =
+    Flow w m n (total w (given_in what)) (total w (where_posted what tickets)) (total w (done_in what)) (total w (aborted_in what))
+
+quiet-flow : (w : ℕ → ℕ) (m n : Mailbox) (what : FleetSeen) (tickets : List ℕ) → IsQuiet what → Flow w m n 0 0 0 0 → FlowsIn w m n what tickets
+quiet-flow w m n what tickets q f =
+    let sum : (xs : List ℕ) → xs ≡ [] → 0 ≡ total w xs = λ xs e. sym (ap (total w) e) in
+    reads w m n 0 (total w (given_in what)) 0 (total w (where_posted what tickets)) 0 (total w (done_in what)) 0 (total w (aborted_in what)) f
+    (sum (given_in what) q.given) (sum (where_posted what tickets) (q.posts tickets)) (sum (done_in what) q.done) (sum (aborted_in what) q.aborted)
+
+-- the ticket of the request that it executes
+abbrev pub Names : Move → List ℕ → Type 0
+Names (Answer i x r) tickets = tickets ≡ x.item.ticket ∷ []
+Names other tickets = Unit {0}
+
+pub flows : (w : ℕ → ℕ) (v : Move) (m : Mailbox) (tickets : List ℕ) → May v m → Names v tickets → FlowsIn w m (moved v m) (reply_of v m).seen tickets
+flows w (Stay what) m tickets q u = quiet-flow w m m what tickets q (stays w m m refl refl refl)
+flows w Rise m tickets q u = stays w m (moved Rise m) refl refl refl
+flows w (Take request) m tickets q u = with-request w (asked_of request).command.lane (new_item m request) m
+flows w RingBoth m tickets q u =
+    let a = total-append (λ (i : Item). w i.ticket) m.admin.rung m.admin.placed in
+    let b = total-append (λ (i : Item). w i.ticket) m.io.rung m.io.placed in
+    stays w m (moved RingBoth m) (omega (arith, a, b)) refl refl
+flows w (FetchFirst l x rest) m tickets q u = first-fetched w l x rest m q
+flows w (HandUp l x rest) m tickets q u = hands-up w l x rest m q
+flows w (Free t ts) m tickets q u =
+    let e = ap (total w) q in
+    record { dropped = 0; lost = 0; waits = omega arith; answered = omega arith; aborts = omega (arith, e) }
+flows w (Clear what) m tickets q u = quiet-flow w m (moved (Clear what) m) what tickets q (resets w m)
+flows w (Answer i x r) m tickets q u =
+    subst (λ ts. FlowsIn w m (after_answer i x r m) (seen.Executed (Posted r.outcome)) ts) (sym u) (posts-answer w i x r m q)
