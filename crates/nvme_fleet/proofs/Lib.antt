@@ -16,7 +16,6 @@ pub mod LaneWindows
 pub mod LaneSlots
 pub mod Placing
 pub mod Fetching
-pub mod Doorbells
 pub mod Ranks
 pub mod Executing
 pub mod Orders

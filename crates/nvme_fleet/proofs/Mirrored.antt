@@ -199,11 +199,6 @@ answer-admin : (t : FetchedCommand) (p : QueuePair) (a : CommandExecution) (c : 
 unfolding after_completion after_posting
 answer-admin t p a c h = change-admin a.change (after_posting 0 t p a.outcome.status a.outcome.dw0 (record c { window = a.left.window })) (all-removed IsAdmin c.fetched 0 h)
 
--- an execution of an admin command over another medium, and what it leaves
-record IsExecutedOver (o : Option Controller) (p q : Subsystem) (k : ℕ) (x : Seen) (m : Device) : Type 0 where
-  step : ExecutesAt o true (over m p) k 0 x (over m q)
-  admin : At AreAdmin k q
-
 completes-over : (p q : Subsystem) (k : ℕ) (c : Controller) (t : FetchedCommand) (pair : QueuePair) (x : Seen) (m : Device) → IsAdmin t → Completes true p k c 0 t pair x q → Completes true (over m p) k c 0 t pair x (over m q)
 unfolding after_execution after_completion
 completes-over p q k c t pair x m is h = record {
