@@ -299,14 +299,3 @@ brought_up c first second = record {
   io = no_pair;
   taken = [];
 }
-
--- the doorbells of a controller: a tail below the size makes what lies before it wait, a head below the size leaves
--- unread what lies behind it
-abbrev pub with_tail : Lane → DeviceSide → ℕ → DeviceSide
-with_tail lane c v = cond (is_ready lane c && nat_lt v 8) (with_pair lane (ring_pair (pair lane c) v) c) c
-
-abbrev pub head_pair : DeviceEnds → ℕ → DeviceEnds
-head_pair p v = record p { unread = (p.posted + 32 - v) % 32 }
-
-abbrev pub with_head : Lane → DeviceSide → ℕ → DeviceSide
-with_head lane c v = cond (is_ready lane c && nat_lt v 32) (with_pair lane (head_pair (pair lane c) v) c) c

@@ -411,14 +411,6 @@ consumed d e =
 abbrev pub less : State → State
 less c = record c { unread = c.unread - 1 }
 
--- the doorbells of a controller that is ready: a tail below the size makes what lies before it wait,
--- a head below the size leaves unread what lies behind it
-abbrev pub with_tail : State → ℕ → State
-with_tail c v = cond (c.ready && nat_lt v 8) (record c { waiting = (v + 8 - c.fetched) % 8 }) c
-
-abbrev pub with_head : State → ℕ → State
-with_head c v = cond (c.ready && nat_lt v 32) (record c { unread = (c.posted + 32 - v) % 32 }) c
-
 -- Resetting.
 
 -- a slot once its request's controller was reset, and the lane
