@@ -1,5 +1,5 @@
 -- What a power cycle makes of drivers, and what outlasts it.
-use Rattle.nvme_mailbox.proofs.Words.{◌≡◌, ◌≢◌, inl, inr, ℕ, Bool, true, false, [], ◌∷◌, refl, sym, ap, subst, ◌∙◌, arith, false≢true, reservation_of, World, IsFleeting, FleetEvent, PowerCycle, Reply, Mailbox, reset, Fleet, Step, held_tickets, is_ticket, times, Forgets, LeavesReservation, ReservesNothing}
+use Rattle.nvme_mailbox.proofs.Words.{◌≡◌, inl, inr, ℕ, Bool, true, false, [], ◌∷◌, refl, sym, ap, subst, ◌∙◌, arith, false≢true, reservation_of, World, IsFleeting, FleetEvent, PowerCycle, Reply, Mailbox, reset, Fleet, Step, held_tickets, is_ticket, times, Forgets, LeavesReservation, ReservesNothing}
 use Rattle.nvme_machine.specs.PowerCycles.{Persists}
 use Rattle.nvme_mailbox.proofs.Answered.{done_is_its_execution, reset_clears}
 use Rattle.nvme_mailbox.proofs.Apart.{hosts_are_apart}

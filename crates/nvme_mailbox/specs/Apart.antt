@@ -1,6 +1,6 @@
 -- What an event makes of the mailbox of one host: an event of its own all that is made of it, one of another host
 -- nothing, but the marks that an execution says.
-use Rattle.std.specs.Prelude.{◌≡◌, ℕ, ◌==◌, Bool, true, false, if◌then◌else◌, Option, None, Some, slice_get}
+use Rattle.std.specs.Prelude.{◌≡◌, ℕ, Bool, true, false, if◌then◌else◌, Option, None, Some, slice_get}
 use Rattle.nvme_spec.specs.declared.outcome.Marks.{Marks}
 use Rattle.nvme_spec.specs.World.{World, host_of}
 use Rattle.nvme_spec.specs.Execution.{no_marks}
