@@ -25,8 +25,6 @@ behind-it tells old mid event reply here events call step c = record {
 
 pub calls_of_runs_are_allowed : CallsOfRunsAreAllowed
 calls_of_runs_are_allowed tells old new [] [] calls h = all-of-none (ComesFrom tells old []) calls h.1
-calls_of_runs_are_allowed tells old new [] (reply ∷ later) calls h = absurd h
-calls_of_runs_are_allowed tells old new (event ∷ events) [] calls h = absurd h
 calls_of_runs_are_allowed tells old new (event ∷ events) (reply ∷ later) calls (mid, here, behind, step, run, joined) =
     subst (AllByRecursion (ComesFrom tells old (event ∷ events))) (sym joined)
     (all-joined (ComesFrom tells old (event ∷ events)) here behind
@@ -34,6 +32,7 @@ calls_of_runs_are_allowed tells old new (event ∷ events) (reply ∷ later) cal
     (λ call may. record { front = []; event = event; later = events; split = refl; given = []; now = old; reached = refl; may = may }) (calls_are_allowed tells old mid event reply here step))
     (all-mapped (ComesFrom tells mid events) (ComesFrom tells old (event ∷ events)) behind (λ call c. behind-it tells old mid event reply here events call step c)
     (calls_of_runs_are_allowed tells mid new events later behind run)))
+calls_of_runs_are_allowed tells old new events later calls h = absurd h
 
 -- Fenced hosts.
 
@@ -55,8 +54,6 @@ extents-stay tells old new e reply step =
 
 pub fenced_hosts_write_no_block : FencedHostsWriteNoBlock
 fenced_hosts_write_no_block tells old new [] [] calls n x own is run fenced = all-of-none (KeepsOff x) calls run.1
-fenced_hosts_write_no_block tells old new [] (reply ∷ later) calls n x own is run fenced = absurd run
-fenced_hosts_write_no_block tells old new (e ∷ events) [] calls n x own is run fenced = absurd run
 fenced_hosts_write_no_block tells old new (e ∷ events) (reply ∷ later) calls n x own is (mid, here, behind, quiet, made, rest, joined) fenced =
     let step : Step tells old e reply mid = layer_calls_are_of_a_step tells old mid e reply here made in
     let same = extents-stay tells old mid e reply step in
@@ -66,3 +63,4 @@ fenced_hosts_write_no_block tells old new (e ∷ events) (reply ∷ later) calls
     (all-mapped (MayCall old e) (KeepsOff x) here (keeps-off old e n x own is fenced.0) (calls_are_allowed tells old mid e reply here made))
     (fenced_hosts_write_no_block tells mid new events later behind n x kept (same.extents n ∙ is) rest
     (still-fenced old.subsystem.world mid.subsystem.world n events (permissions_stay tells old mid e reply n step quiet) fenced.1)))
+fenced_hosts_write_no_block tells old new events later calls n x own is run fenced = absurd run

@@ -17,9 +17,8 @@ use Rattle.nvme_mailbox.proofs.Secrecy.{of-each}
 -- Runs of the mailboxes.
 pub runs_of_mailboxes : RunsOfMailboxes
 runs_of_mailboxes tells old new [] [] run = ap fleet_in run
-runs_of_mailboxes tells old new [] (reply ∷ later) run = absurd run
-runs_of_mailboxes tells old new (e ∷ events) [] run = absurd run
 runs_of_mailboxes tells old new (e ∷ events) (reply ∷ later) run = (let s = run.1 in (fleet_in run.0, s.mailboxes, runs_of_mailboxes tells run.0 new events later run.2))
+runs_of_mailboxes tells old new events later run = absurd run
 
 abbrev content-of : Device → List ℕ
 content-of d = d.content
@@ -72,12 +71,11 @@ still-fenced v w n events same h = of-each (λ k. may_write v k n ≡ false) (λ
 
 pub fencing_holds : FencingHolds
 fencing_holds old new [] [] n laid run fenced = (ap (λ l. namespace_bytes l n) run, λ k. ap (λ (l : Layers). may_write l.subsystem.world k n) run)
-fencing_holds old new [] (reply ∷ later) n laid run fenced = absurd run
-fencing_holds old new (e ∷ events) [] n laid run fenced = absurd run
 fencing_holds old new (e ∷ events) (reply ∷ later) n laid (mid, leaves, step, rest) fenced =
     let may = permissions_stay true old mid e reply n step leaves in
     let r = fencing_holds mid new events later n (layout_stays old mid e reply laid step) rest (still-fenced old.subsystem.world mid.subsystem.world n events may fenced.1) in
     (r.0 ∙ fenced_events_write_nothing old mid e reply n laid step fenced.0, λ k. r.1 k ∙ may k)
+fencing_holds old new events later n laid run fenced = absurd run
 
 -- The windows of other hosts.
 
@@ -103,10 +101,9 @@ AreOf k events = AllByRecursion (λ e. machine.controller_of e ≡ k) events
 
 ran-window : (tells : Bool) (k j : ℕ) (events : List Event) (given : List Seen) (old new : Subsystem) → j ≢ k → AreOf k events → machine.Run tells old events given new → window_at new j ≡ window_at old j
 ran-window tells k j [] [] old new other own run = ap (λ s. window_at s j) run
-ran-window tells k j [] (x ∷ given) old new other own run = absurd run
-ran-window tells k j (e ∷ events) [] old new other own run = absurd run
 ran-window tells k j (e ∷ events) (x ∷ given) old new other own (mid, step, rest) =
     ran-window tells k j events given mid new other own.1 rest ∙ step-window tells old mid e x j step (λ is. other (is ∙ own.0))
+ran-window tells k j events given old new other own run = absurd run
 
 of-call : (k : ℕ) (one : Call) → AreOf k (events_of k one)
 of-call k Turns = (refl, (refl, tt))

@@ -23,12 +23,11 @@ steps_have_calls tells old new event reply h = ([], record { mailboxes = h.mailb
 
 pub runs_have_calls : RunsHaveCalls
 runs_have_calls tells old new [] [] h = ([], (h, refl))
-runs_have_calls tells old new [] (reply ∷ later) h = absurd h
-runs_have_calls tells old new (e ∷ events) [] h = absurd h
 runs_have_calls tells old new (e ∷ events) (reply ∷ later) h =
     let here = steps_have_calls tells old h.0 e reply h.1 in
     let behind = runs_have_calls tells h.0 new events later h.2 in
     (here.0 ++ behind.0, (h.0, here.0, behind.0, here.1, behind.1, refl))
+runs_have_calls tells old new events later h = absurd h
 
 -- They are one list.
 

@@ -10,7 +10,7 @@ counted other m q = refl
 
 poll-counted : (m : Mailbox) → data_len (polled m).reply.seen ≡ length (polled m).reply.bytes
 poll-counted m =
-    let v = polls (λ v. Unit {0}) (λ v p. tt) m in
+    let v = polls (λ v. Unit {0}) (λ v p. tt) (λ lane first rest. tt) m in
     subst (λ (r : MailboxReaction). data_len r.reply.seen ≡ length r.reply.bytes) (sym v.is) (counted v.move m v.may)
 
 -- so many bytes as it says

@@ -60,10 +60,9 @@ layer_calls_are_of_a_step tells old new event reply calls h = record { mailboxes
 
 pub layer_calls_are_of_a_run : LayerCallsAreOfARun
 layer_calls_are_of_a_run tells old new [] [] calls h = h.0
-layer_calls_are_of_a_run tells old new [] (reply ∷ later) calls h = absurd h
-layer_calls_are_of_a_run tells old new (event ∷ events) [] calls h = absurd h
 layer_calls_are_of_a_run tells old new (event ∷ events) (reply ∷ later) calls (mid, here, behind, step, run, joined) =
     (mid, layer_calls_are_of_a_step tells old mid event reply here step, layer_calls_are_of_a_run tells mid new events later behind run)
+layer_calls_are_of_a_run tells old new events later calls h = absurd h
 
 -- The calls of a run go on by those of a step.
 pub more-calls : (tells : Bool) (events : List FleetEvent) (replies : List Reply) (old mid new : Layers) (event : FleetEvent) (last : Reply) (calls later : List MediumCall)
@@ -77,8 +76,6 @@ more-calls tells [] [] old mid new event last calls later ran step = (
   (refl, refl),
   ap (λ cs. cs ++ later) ran.1 ∙ sym (append-nil later),
 )
-more-calls tells [] (r ∷ replies) old mid new event last calls later ran step = absurd ran
-more-calls tells (e ∷ events) [] old mid new event last calls later ran step = absurd ran
 more-calls tells (e ∷ events) (r ∷ replies) old mid new event last calls later (m, here, behind, first, rest, joined) step = (
   m,
   here,
@@ -87,6 +84,7 @@ more-calls tells (e ∷ events) (r ∷ replies) old mid new event last calls lat
   more-calls tells events replies m mid new event last behind later rest step,
   ap (λ cs. cs ++ later) joined ∙ append_assoc here behind later,
 )
+more-calls tells events replies old mid new event last calls later ran step = absurd ran
 
 pub calls-more : {M : Type 0} (step : M → MediumCall → M → Type 0) (tells : Bool) (events : List FleetEvent) (replies : List Reply) (old mid new : Layers) (event : FleetEvent) (last : Reply) (before between after : M)
     → MakesCalls step (AreCallsOfRun tells old events replies mid) before between → MakesCalls step (AreCallsOfStep tells mid event last new) between after

@@ -41,9 +41,8 @@ quiet-over tells event.PowerCycle p q x m quiet h = cycle-over p q m x h
 
 pub quiet-run : (tells : Bool) (events : List Event) (given : List Seen) (p q : Subsystem) (m : Device) → AreQuiet events → Run tells p events given q → Run tells (over m p) events given (over m q)
 quiet-run tells [] [] p q m quiet run = ap (over m) run
-quiet-run tells [] (x ∷ xs) p q m quiet run = absurd run
-quiet-run tells (e ∷ es) [] p q m quiet run = absurd run
 quiet-run tells (e ∷ es) (x ∷ xs) p q m quiet (mid, step, rest) = (over m mid, quiet-over tells e p mid x m quiet.0 step, quiet-run tells es xs mid q m quiet.1 rest)
+quiet-run tells es xs p q m quiet run = absurd run
 
 -- What is known of a controller.
 

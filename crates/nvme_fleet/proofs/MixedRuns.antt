@@ -54,20 +54,18 @@ each_event_is_reached tells old new (e ∷ front) later event (x ∷ replies) ca
 run-extents : (tells : Bool) (old new : Layers) (events : List FleetEvent) (replies : List Reply) (calls : List MediumCall) → AreCallsOfRun tells old events replies new calls
     → HasSameExtents old.subsystem.world new.subsystem.world
 run-extents tells old new [] [] calls h = same-extents old.subsystem.world new.subsystem.world (ap (λ (l : Layers). l.subsystem.world) h.0)
-run-extents tells old new [] (x ∷ later) calls h = absurd h
-run-extents tells old new (event ∷ events) [] calls h = absurd h
 run-extents tells old new (event ∷ events) (x ∷ later) calls (mid, here, behind, step, run, joined) =
     let one = extents-stay tells old mid event x (layer_calls_are_of_a_step tells old mid event x here step) in
     let rest = run-extents tells mid new events later behind run in
     record { hosts = λ k. rest.hosts k ∙ one.hosts k; extents = λ n. rest.extents n ∙ one.extents n }
+run-extents tells old new events later calls h = absurd h
 
 run-laid : (old new : Layers) (events : List FleetEvent) (replies : List Reply) (calls : List MediumCall) → AreCallsOfRun true old events replies new calls
     → is_laid_out old → is_laid_out new
 run-laid old new [] [] calls h laid = subst is_laid_out (sym h.0) laid
-run-laid old new [] (x ∷ later) calls h laid = absurd h
-run-laid old new (event ∷ events) [] calls h laid = absurd h
 run-laid old new (event ∷ events) (x ∷ later) calls (mid, here, behind, step, run, joined) laid =
     run-laid mid new events later behind run (layout_stays old mid event x laid (layer_calls_are_of_a_step true old mid event x here step))
+run-laid old new events later calls h laid = absurd h
 
 -- Writing.
 

@@ -25,12 +25,11 @@ lasts-over : (old new : Layers) (events : List FleetEvent) (replies : List Reply
     → bytes.RunWhere (λ l. LeavesReservation n (fleet_in l)) old events replies new
 unfolding fleet_in
 lasts-over old new [] [] n p run = run
-lasts-over old new [] (x ∷ later) n p run = absurd run
-lasts-over old new (e ∷ events) [] n p run = absurd run
 lasts-over old new (e ∷ events) (x ∷ later) n p (mid, allowed, step, behind) =
     let quiet = left-so n (fleet_in old) e p allowed in
     let same = stays-reserved true (fleet_in old) (fleet_in mid) e x n step.mailboxes quiet in
     (mid, quiet, step, lasts-over mid new events later n (persists-still old.subsystem.world mid.subsystem.world n same p) behind)
+lasts-over old new events later n p run = absurd run
 
 pub layers_outlast_power : LayersOutlastPower
 layers_outlast_power old new other medium events replies others n regular tickets differ p run shut second calm quiet low =
@@ -60,12 +59,11 @@ below-so old new e n quiet p reply step =
 lasts-below : (old new : Layers) (events : List FleetEvent) (replies : List Reply) (n : ℕ) → Persists old.subsystem.world n → bytes.RunWhere (ReservesNothingBelow n) old events replies new
     → bytes.RunWhere (bytes.LeavesReservation n) old events replies new
 lasts-below old new [] [] n p run = run
-lasts-below old new [] (x ∷ later) n p run = absurd run
-lasts-below old new (e ∷ events) [] n p run = absurd run
 lasts-below old new (e ∷ events) (x ∷ later) n p (mid, allowed, step, behind) =
     let quiet = left-below n old e p allowed in
     let same = below-so old mid e n quiet p x step in
     (mid, quiet, step, lasts-below mid new events later n (persists-still old.subsystem.world mid.subsystem.world n same p) behind)
+lasts-below old new events later n p run = absurd run
 
 pub bytes_outlast_power : BytesOutlastPower
 bytes_outlast_power old new events replies n laid p run shut =
@@ -93,9 +91,8 @@ one-protected old new e reply n laid is powered step =
 
 pub protected_until_power : ProtectedUntilPower
 protected_until_power old new [] [] n laid is powered run = (ap (λ l. namespace_bytes l n) run, ap (λ (l : Layers). protection_at l.subsystem.world n) run ∙ is)
-protected_until_power old new [] (x ∷ later) n laid is powered run = absurd run
-protected_until_power old new (e ∷ events) [] n laid is powered run = absurd run
 protected_until_power old new (e ∷ events) (x ∷ later) n laid is powered (mid, step, behind) =
     let one = one-protected old mid e x n laid is powered.0 step in
     let rest = protected_until_power mid new events later n (layout_stays old mid e x laid step) one.1 powered.1 behind in
     (rest.0 ∙ one.0, rest.1)
+protected_until_power old new events later n laid is powered run = absurd run

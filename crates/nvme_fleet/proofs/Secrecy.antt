@@ -12,15 +12,13 @@ use Rattle.nvme_mailbox.proofs.Secrecy.{fenced_reading_is_same, still}
 below : (P : Fleet → FleetEvent → Type 0) (old new : Layers) (events : List FleetEvent) (replies : List Reply) → bytes.RunWhere (λ l. P (fleet_in l)) old events replies new
     → RunWhere P true (fleet_in old) events replies (fleet_in new)
 below P old new [] [] run = ap fleet_in run
-below P old new [] (x ∷ later) run = absurd run
-below P old new (event ∷ events) [] run = absurd run
 below P old new (event ∷ events) (x ∷ later) run = (let s = run.2 in (fleet_in run.0, run.1, s.mailboxes, below P run.0 new events later run.3))
+below P old new events later run = absurd run
 
 plain-run : (P : Layers → FleetEvent → Type 0) (old new : Layers) (events : List FleetEvent) (replies : List Reply) → bytes.RunWhere P old events replies new → layers.Run true old events replies new
 plain-run P old new [] [] run = run
-plain-run P old new [] (x ∷ later) run = absurd run
-plain-run P old new (event ∷ events) [] run = absurd run
 plain-run P old new (event ∷ events) (x ∷ later) run = (run.0, run.2, plain-run P run.0 new events later run.3)
+plain-run P old new events later run = absurd run
 
 -- event by event the second run is the first one over another medium
 leads : (n : ℕ) (old new other : Layers) (m : Device) (events : List FleetEvent) (replies : List Reply) → IsRegular (fleet_in old) → HaveTicketsOnce old → DifferIn n old.subsystem.world old.subsystem.device m
@@ -28,8 +26,6 @@ leads : (n : ℕ) (old new other : Layers) (m : Device) (events : List FleetEven
     → count new.subsystem ≡ count old.subsystem → count other.subsystem ≡ count old.subsystem → count old.subsystem < 2 ^ 64 - 1 → (left : Device) × (other ≡ layers_over left new)
 unfolding fleet_in
 leads n old new other m [] [] regular tickets differ run fenced second a b low = (m, second ∙ ap (layers_over m) (sym run))
-leads n old new other m [] (x ∷ later) regular tickets differ run fenced second a b low = absurd run
-leads n old new other m (event ∷ events) [] regular tickets differ run fenced second a b low = absurd run
 leads n old new other m (event ∷ events) (x ∷ later) regular tickets differ (mid, quiet, step, rest) fenced (mid', step', rest') a b low =
     let p = step-counted old mid event x step in
     let q = run-counted mid new events later (plain-run _ mid new events later rest) in
@@ -44,6 +40,7 @@ leads n old new other m (event ∷ events) (x ∷ later) regular tickets differ 
     (differ-still n old.subsystem.world mid.subsystem.world mid.subsystem.device led.0 same led.2) rest
     (still old.subsystem.world mid.subsystem.world n events (reading-stays true (fleet_in old) (fleet_in mid) event x n step.mailboxes quiet) fenced.1)
     (subst (λ l. layers.Run true l events later other) led.1 rest') (a ∙ sym one) (b ∙ sym one) (subst (λ c. c < 2 ^ 64 - 1) (sym one) low)
+leads n old new other m events later regular tickets differ run fenced second a b low = absurd run
 
 pub layers_read_the_same : LayersReadTheSame
 unfolding fleet_in

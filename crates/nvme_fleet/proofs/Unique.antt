@@ -112,9 +112,8 @@ happens-once tells old new PowerCycle x h all = cycles-once tells old new x h al
 
 pub tickets_stay_once : TicketsStayOnce
 tickets_stay_once tells old new [] [] run all = subst HaveTicketsOnce (sym run) all
-tickets_stay_once tells old new [] (x ∷ later) run all = absurd run
-tickets_stay_once tells old new (e ∷ events) [] run all = absurd run
 tickets_stay_once tells old new (e ∷ events) (x ∷ later) (mid, step, rest) all = tickets_stay_once tells mid new events later rest (happens-once tells old mid e x.seen step.below all)
+tickets_stay_once tells old new events later run all = absurd run
 
 -- The opening.
 

@@ -101,7 +101,6 @@ pub use Rattle.nvme_event.specs.declared.seen.FleetSeen.TheVariants.{Placed, Pol
 pub use Rattle.nvme_fleet.specs.AllowedCalls.{CallsAreAllowed, CallsOfRunsAreAllowed, ComesFrom, FencedCommandsCallNothing, FencedHostsWriteNoBlock, MayCall}
 pub use Rattle.nvme_fleet.specs.Bytes.{FencedEventsWriteNothing, LayoutStays, OthersWindowsStay, RunsOfMailboxes, is_laid_out, namespace_bytes}
 pub use Rattle.nvme_fleet.specs.Deeds.{CallOver, CallStep, ComesUp, Consumes, Does, DoesIfAny, Places, Polls, Ran, Resets, Rings, events_of, events_of_calls, reset_events, ring_events, window_at, window_of}
-pub use Rattle.nvme_mailbox.specs.Deliveries.{placed}
 pub use Rattle.nvme_mailbox.specs.Executions.{admin_served, command_fields, denied_request_execution, queue_pairs}
 pub use Rattle.nvme_fleet.specs.FleetStates.{FleetState, IsCalled, IsSoundFleet, Layers, SoundBy, fleet_of, host_by, hosts_of, layers_of, opening_driver, reaction_to, reply_in}
 unfoldable pub use Rattle.nvme_fleet.specs.FleetStates.{fleet_in}

@@ -192,8 +192,6 @@ walk P Q k m tells old [] [] new run at g = record {
   host = ap (λ f. host_at f k) run ∙ at;
   known = known-map P Any Q (KnownBehind P Q k tells old [] [] new run) (λ i p. tt) (λ a q. inl q) m g;
 }
-walk P Q k m tells old [] (x ∷ later) new run at g = absurd run
-walk P Q k m tells old (event ∷ events) [] new run at g = absurd run
 walk P Q k m tells old (event ∷ events) (x ∷ later) new run at g =
     let one = hosts_are_apart tells old run.0 event x run.1 k m at in
     let R : Item → Type 0 = ItemsNow P k old event x run.0 in
@@ -206,6 +204,7 @@ walk P Q k m tells old (event ∷ events) (x ∷ later) new run at g =
       known = known-map Any Any (KnownBehind R S k tells run.0 events later new run.2) (KnownBehind P Q k tells old (event ∷ events) (x ∷ later) new run) (λ i p. p)
           (behind P Q k tells old event events x later new run) rest.mailbox rest.known;
     }
+walk P Q k m tells old events later new run at g = absurd run
 
 -- What is known of all that waits and of all answers.
 pub known-of : (P : Item → Type 0) (Q : PostedAnswer → Type 0) (m : Mailbox) → AllByRecursion P (waiting m) → AllByRecursion Q (posted_answers m) → Known P Q m

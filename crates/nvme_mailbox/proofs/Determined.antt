@@ -41,12 +41,11 @@ step-counts tells old new event reply h = site-counts tells old new event (leave
 
 pub failures_never_fall : FailuresNeverFall
 failures_never_fall tells old new [] [] run = whole-counts old new run
-failures_never_fall tells old new [] (x ∷ later) run = absurd run
-failures_never_fall tells old new (event ∷ events) [] run = absurd run
 failures_never_fall tells old new (event ∷ events) (x ∷ later) run =
     let one = step-counts tells old run.0 event x run.1 in
     let rest = failures_never_fall tells run.0 new events later run.2 in
     omega (arith, one, rest)
+failures_never_fall tells old new events later run = absurd run
 
 -- Without a fault an execution is as the function says.
 
@@ -131,8 +130,6 @@ step-alone old new event reply h same below = h
 
 pub run_is_unique : RunIsUnique
 run_is_unique old new [] [] run same below = (refl, run)
-run_is_unique old new [] (s ∷ replies) run same below = absurd run
-run_is_unique old new (event ∷ events) [] run same below = absurd run
 run_is_unique old new (event ∷ events) (s ∷ replies) run same below =
     let a = step-counts true old run.0 event s run.1 in
     let b = failures_never_fall true run.0 new events replies run.2 in
@@ -142,3 +139,4 @@ run_is_unique old new (event ∷ events) (s ∷ replies) run same below =
       (λ i. one.0 i ∷ (rest.0 ∙ ap (λ f. fault_free_replies f events) one.1) i),
       rest.1 ∙ ap (λ f. fault_free_left f events) one.1,
     )
+run_is_unique old new events replies run same below = absurd run

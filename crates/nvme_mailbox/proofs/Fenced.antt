@@ -84,10 +84,9 @@ reading-stays tells old new event reply n step quiet k = permission-stays may_re
 
 pub permissions_stay : PermissionsStay
 permissions_stay tells old new [] [] n run k = ap (λ (f : Fleet). may_write f.site.world k n) run
-permissions_stay tells old new [] (x ∷ later) n run k = absurd run
-permissions_stay tells old new (event ∷ events) [] n run k = absurd run
 permissions_stay tells old new (event ∷ events) (x ∷ later) n run k =
     permissions_stay tells run.0 new events later n run.3 k ∙ stays-one tells old run.0 event x n run.2 run.1 k
+permissions_stay tells old new events later n run k = absurd run
 
 -- a run where each event is so, is a run
 pub plainly : (P : Fleet → FleetEvent → Type 0) (tells : Bool) (old new : Fleet) (events : List FleetEvent) (replies : List Reply) → RunWhere P tells old events replies new → Run tells old events replies new

@@ -7,6 +7,7 @@ pub mod MailboxMarks
 pub mod HostPlaces
 pub mod Apart
 pub mod Moves
+pub mod Comings
 pub mod EachHost
 pub mod TicketFlows
 pub mod TicketRuns

@@ -75,9 +75,10 @@ reset-quiet = record { given = refl; posts = λ t. refl; done = refl; aborted = 
 pub cycle-quiet : IsQuiet seen.Cycled
 cycle-quiet = record { given = refl; posts = λ t. refl; done = refl; aborted = refl; bytes = refl; spares = λ u. u }
 
--- it neither takes a request nor answers one
+-- it neither takes a request nor answers one, and hands no answer up
 abbrev pub IsPlain : Move → Type 0
 IsPlain (Take request) = ⊥
+IsPlain (HandUp lane first rest) = ⊥
 IsPlain (Answer i x r) = ⊥
 IsPlain other = Unit {0}
 
@@ -118,12 +119,12 @@ module _ (Of : Move → Type 0) (each : (v : Move) → IsPlain v → Of v) where
       by [] e = quiet m (seen.Fetched Idle) (record { given = refl; posts = λ t. refl; done = refl; aborted = refl; bytes = refl; spares = λ u. u })
       by (x ∷ rest) e = record { move = FetchFirst lane x rest; may = e; of = each (FetchFirst lane x rest) tt; is = refl }
 
-  hands-up : (lane : Lane) (first : PostedAnswer) (rest : List PostedAnswer) (m : Mailbox) → (box_at lane m).posted ≡ first ∷ rest → IsMove Of m (handed_up lane first rest m)
-  hands-up lane first rest m e = record { move = HandUp lane first rest; may = e; of = each (HandUp lane first rest) tt; is = refl }
-
-  pub polls : (m : Mailbox) → IsMove Of m (polled m)
-  polls m = freed m.aborted refl
+  pub polls : ((lane : Lane) (first : PostedAnswer) (rest : List PostedAnswer) → Of (HandUp lane first rest)) → (m : Mailbox) → IsMove Of m (polled m)
+  polls of m = freed m.aborted refl
     where
+      hands-up : (lane : Lane) (first : PostedAnswer) (rest : List PostedAnswer) (m : Mailbox) → (box_at lane m).posted ≡ first ∷ rest → IsMove Of m (handed_up lane first rest m)
+      hands-up lane first rest m e = record { move = HandUp lane first rest; may = e; of = of lane first rest; is = refl }
+
       io : (xs : List PostedAnswer) → m.io.posted ≡ xs → IsMove Of m (polled_io xs m)
       io [] e = quiet m (seen.Polled (Ok None)) (record { given = refl; posts = λ t. refl; done = refl; aborted = refl; bytes = refl; spares = λ u. u })
       io (first ∷ rest) e = hands-up Io first rest m e
@@ -156,6 +157,7 @@ OfEvent tells k s left event v = IsOf v tells k s event left
 
 each-of : (tells : Bool) (k : ℕ) (s left : Site) (event : FleetEvent) (v : Move) → IsPlain v → OfEvent tells k s left event v
 each-of tells k s left event (Take request) p = absurd p
+each-of tells k s left event (HandUp lane first rest) p = absurd p
 each-of tells k s left event (Answer i x r) p = absurd p
 each-of tells k s left event other p = tt
 
@@ -193,7 +195,7 @@ own-moved (Ring j) tells k s left m n reply same h = becomes tells k s left _ m 
 own-moved (Fetch j q) tells k s left m n reply same h = becomes tells k s left _ m n _ reply (λ e. fetches _ e (lane_at q) m) h
 own-moved (Execute j i) tells k s left m n reply same h =
     executes (slice_get m.fetched i) tells k s left (Execute j i) m n i reply refl (ap (λ x. Execute x i) (is-same j k same)) h
-own-moved (Poll j) tells k s left m n reply same h = becomes tells k s left _ m n _ reply (λ e. polls _ e m) h
+own-moved (Poll j) tells k s left m n reply same h = becomes tells k s left _ m n _ reply (λ e. polls _ e (λ lane first rest. tt) m) h
 own-moved (Reset j) tells k s left m n reply same h = becomes tells k s left _ m n _ reply (λ e. clears _ e m seen.Reset reset-quiet) h
 own-moved PowerCycle tells k s left m n reply same h = becomes tells k s left _ m n _ reply (λ e. clears _ e m seen.Cycled cycle-quiet) h
 own-moved (RawStore j address bytes) tells k s left m n reply same h = becomes tells k s left _ m n (mailbox_reaction m seen.NotRaw) reply (λ e. quiet _ e m seen.NotRaw (record { given = refl; posts = λ t. refl; done = refl; aborted = refl; bytes = refl; spares = λ u. u })) h

@@ -1,8 +1,8 @@
 -- Each raw host's controller bears the number of its place.
-use Rattle.nvme_mailbox.proofs.Words.{◌≡◌, ℕ, zero, suc, arith, Bool, true, false, List, [], ◌∷◌, Some, refl, sym, subst, ◌∙◌, map, slice_get, if◌then◌else◌, none-some, same_Some, ControllerConfig, new_controller, FleetEvent, Reply, new_mailbox, WithDriver, Raw, Fleet, Step, new_host, opening, host_at, marked, BearsItsNumber, AreNumbered, OpeningIsNumbered, NumbersStay}
+use Rattle.nvme_mailbox.proofs.Words.{◌≡◌, ℕ, zero, suc, arith, Bool, true, false, List, [], ◌∷◌, Some, refl, subst, ◌∙◌, map, slice_get, if◌then◌else◌, none-some, same_Some, ControllerConfig, new_controller, FleetEvent, Reply, new_mailbox, WithDriver, Raw, Fleet, Step, new_host, opening, host_at, marked, BearsItsNumber, AreNumbered, OpeningIsNumbered, NumbersStay}
 use Rattle.nvme_mailbox.specs.Fleets.{Host}
 use Rattle.nvme_machine.proofs.Numbers.{numbered-at}
-use Rattle.nvme_mailbox.proofs.EachHost.{Keeps, step-keeps}
+use Rattle.nvme_mailbox.proofs.EachHost.{Keeps, step-keeps, run-keeps}
 
 -- Events.
 
@@ -17,10 +17,7 @@ pub step : (tells : Bool) (old new : Fleet) (event : FleetEvent) (reply : Reply)
 step tells old new event reply h all = step-keeps BearsItsNumber keeps tells old new event reply h all
 
 pub numbers_stay : NumbersStay
-numbers_stay tells old new [] [] run all = subst AreNumbered (sym run) all
-numbers_stay tells old new [] (x ∷ later) run all = absurd run
-numbers_stay tells old new (event ∷ events) [] run all = absurd run
-numbers_stay tells old new (event ∷ events) (x ∷ later) run all = numbers_stay tells run.0 new events later run.2 (step tells old run.0 event x run.1 all)
+numbers_stay = run-keeps BearsItsNumber keeps
 
 -- The opening.
 

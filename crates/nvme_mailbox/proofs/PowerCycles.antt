@@ -60,13 +60,12 @@ persists-still old new n same p = record { reservation = p.reservation; there = 
 
 pub persistence_lasts : PersistenceLasts
 persistence_lasts tells old new [] [] n p run = (run, ap (λ (f : Fleet). reservation_of f.site.world n) run)
-persistence_lasts tells old new [] (x ∷ later) n p run = absurd run
-persistence_lasts tells old new (e ∷ events) [] n p run = absurd run
 persistence_lasts tells old new (e ∷ events) (x ∷ later) n p (mid, allowed, step, behind) =
     let quiet = left-so n old e p allowed in
     let same = stays-reserved tells old mid e x n step quiet in
     let rest = persistence_lasts tells mid new events later n (persists-still old.site.world mid.site.world n same p) behind in
     ((mid, quiet, step, rest.0), rest.1 ∙ same)
+persistence_lasts tells old new events later n p run = absurd run
 
 pub fencing_outlasts_power : FencingOutlastsPower
 fencing_outlasts_power tells old mid new events replies n k i x outcome all p shut run found is step =

@@ -49,11 +49,10 @@ event-out old new event n host all (Loses is world) quiet out =
 
 pub outsiders_stay_outside : OutsidersStayOutside
 outsiders_stay_outside tells old new [] [] n host all run out = subst (λ (f : Fleet). IsOutside f.site.world n host) (sym run) out
-outsiders_stay_outside tells old new [] (x ∷ later) n host all run out = absurd run
-outsiders_stay_outside tells old new (event ∷ events) [] n host all run out = absurd run
 outsiders_stay_outside tells old new (event ∷ events) (x ∷ later) n host all run out =
     outsiders_stay_outside tells run.0 new events later n host (step tells old run.0 event x run.2 all) run.3
     (event-out old run.0 event n host all (step-acts tells old run.0 event x run.2) run.1 out)
+outsiders_stay_outside tells old new events later n host all run out = absurd run
 
 -- A preempted host.
 

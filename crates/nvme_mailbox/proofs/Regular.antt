@@ -104,9 +104,8 @@ step-regular old new event reply step regular =
 
 pub regularity_stays : RegularityStays
 regularity_stays old new [] [] run regular = subst IsRegular (sym run) regular
-regularity_stays old new [] (x ∷ later) run regular = absurd run
-regularity_stays old new (event ∷ events) [] run regular = absurd run
 regularity_stays old new (event ∷ events) (x ∷ later) run regular = regularity_stays run.0 new events later run.2 (step-regular old run.0 event x run.1 regular)
+regularity_stays old new events later run regular = absurd run
 
 pub opening_is_regular : OpeningIsRegular
 unfolding opening

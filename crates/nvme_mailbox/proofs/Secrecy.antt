@@ -204,8 +204,6 @@ still old new n events same h = of-each (λ k. may_read old k n ≡ false) (λ k
 
 pub fenced_reading : FencedReading
 fenced_reading old new d [] [] n regular differ run fenced = (d, ap (over d) run, subst (λ (f : Fleet). DifferIn n f.site.world f.site.device d) (sym run) differ)
-fenced_reading old new d [] (x ∷ later) n regular differ run fenced = absurd run
-fenced_reading old new d (event ∷ events) [] n regular differ run fenced = absurd run
 fenced_reading old new d (event ∷ events) (x ∷ later) n regular differ run fenced =
     let mid : Fleet = run.0 in
     let one = step-over n old mid event x d regular differ fenced.0 run.2 in
@@ -213,6 +211,7 @@ fenced_reading old new d (event ∷ events) (x ∷ later) n regular differ run f
     let rest = fenced_reading mid new one.0 events later n (step-regular old mid event x run.2 regular) (differ-still n old.site.world mid.site.world mid.site.device one.0 same one.2) run.3
     (still old.site.world mid.site.world n events (reading-stays true old mid event x n run.2 run.1) fenced.1) in
     (rest.0, (over one.0 mid, leaves-over n old d event run.1, one.1, rest.1), rest.2)
+fenced_reading old new d events later n regular differ run fenced = absurd run
 
 pub fenced_reading_is_same : FencedReadingIsSame
 fenced_reading_is_same old new other d events replies others n regular differ run fenced second calm quiet below =

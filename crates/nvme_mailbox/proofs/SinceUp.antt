@@ -1,11 +1,11 @@
 -- A driver that is down waits for nothing, from an opening on.
-use Rattle.nvme_mailbox.proofs.Words.{true≢false, ◌≡◌, inl, inr, ℕ, ◌+◌, Bool, true, false, List, [], ◌∷◌, map, Some, refl, sym, ap, subst, ◌∙◌, slice_get, none-some, Lane, Admin, Io, FleetEvent, concerns, Reply, LaneBox, Mailbox, box_at, lane_of, new_mailbox, with_box, with_mark, Site, Fleet, Run, WithDriver, after_answer, host_at, opening, HasMailbox, MailboxStep, IsClear, posted_answers, waiting}
+use Rattle.nvme_mailbox.proofs.Words.{true≢false, ◌≡◌, ℕ, ◌+◌, true, false, List, [], ◌∷◌, map, refl, sym, ap, subst, ◌∙◌, slice_get, none-some, Lane, Admin, Io, LaneBox, Mailbox, box_at, lane_of, new_mailbox, with_box, with_mark, WithDriver, after_answer, opening, IsClear, posted_answers, waiting, Device, Configuration, Raw, marked}
 use Rattle.nvme_mailbox.specs.SinceUp.{DoneSinceItCameUp, DownIsClear}
 use Rattle.nvme_mailbox.proofs.Answered.{done_is_its_execution}
-use Rattle.nvme_mailbox.proofs.Apart.{hosts_are_apart}
-use Rattle.nvme_mailbox.proofs.TicketCounts.{opening_has_drivers}
-use Rattle.nvme_mailbox.proofs.MailboxMarks.{DiffersInMarks, others-differ}
-use Rattle.nvme_mailbox.proofs.Moves.{Move, Stay, Rise, Take, RingBoth, FetchFirst, HandUp, Free, Clear, Answer, May, is-ready, moved, own-moved}
+use Rattle.nvme_mailbox.proofs.TicketCounts.{opening_is_new}
+use Rattle.nvme_mailbox.proofs.EachHost.{Each, Keeps, run-keeps}
+use Rattle.nvme_mailbox.specs.Fleets.{Host}
+use Rattle.nvme_mailbox.proofs.Moves.{Move, Stay, Rise, Take, RingBoth, FetchFirst, HandUp, Free, Clear, Answer, May, is-ready, moved}
 
 record IsEmpty (b : LaneBox) : Type 0 where
   placed : b.placed ≡ []
@@ -66,29 +66,18 @@ rests (Answer i x r) m at h = λ down.
     let idle = h (sym (box-up (lane_of x.item) _ _) ∙ down) in
     absurd (none-some _ (sym (ap (λ xs. slice_get xs i) idle.fetched) ∙ at))
 
-rests-marked : (m n : Mailbox) → DiffersInMarks m n → Rests m → Rests n
-rests-marked m n (inl e) h = subst Rests (sym e) h
-rests-marked m n (inr (t, e)) h =
-    subst Rests (sym e) (λ down. let i = h down in record { admin = i.admin; io = i.io; fetched = ap (map (with_mark t)) i.fetched })
+-- Of all hosts.
 
-step-rests : (own : Bool) (event : FleetEvent) (tells : Bool) (k : ℕ) (s left : Site) (m n : Mailbox) (reply : Reply) → concerns event k ≡ own → MailboxStep own event tells k s m reply left n → Rests m → Rests n
-step-rests true event tells k s left m n reply is e h =
-    let v = own-moved event tells k s left m n reply is e in
-    rests-marked (moved v.move m) n v.leaves (rests v.move m v.may h)
-step-rests false event tells k s left m n reply is e h = rests-marked m n (others-differ event k m reply left n e) h
+abbrev RestsAt : ℕ → Host → Type 0
+RestsAt k (WithDriver m) = Rests m
+RestsAt k (Raw c) = Unit {0}
 
--- Runs, from an opening on.
+marked-rests : (k n : ℕ) (h : Host) → RestsAt k h → RestsAt k (marked n h)
+marked-rests k n (WithDriver m) h = λ down. let i = h down in record { admin = i.admin; io = i.io; fetched = ap (map (with_mark n)) i.fetched }
+marked-rests k n (Raw c) h = tt
 
-run-rests : (tells : Bool) (old new : Fleet) (events : List FleetEvent) (replies : List Reply) (k : ℕ) (m n : Mailbox) → Run tells old events replies new → HasMailbox old k m → HasMailbox new k n → Rests m → Rests n
-run-rests tells old new [] [] k m n run at there h = subst Rests (same (sym at ∙ ap (λ f. host_at f k) (sym run) ∙ there)) h
-  where
-    same : Some (WithDriver m) ≡ Some (WithDriver n) → m ≡ n
-    same e = cc
-run-rests tells old new [] (reply ∷ later) k m n run at there h = absurd run
-run-rests tells old new (e ∷ events) [] k m n run at there h = absurd run
-run-rests tells old new (e ∷ events) (reply ∷ later) k m n (mid, step, rest) at there h =
-    let moves = hosts_are_apart tells old mid e reply step k m at in
-    run-rests tells mid new events later k moves.mailbox n rest moves.host there (step-rests (concerns e k) e tells k old.site mid.site m moves.mailbox reply refl moves.moves h)
+keeps : Keeps RestsAt
+keeps = record { move = λ k v m may h. rests v m may h; marks = marked-rests; raw = λ k c d same h. tt }
 
 -- as it opens
 new-rests : Rests (new_mailbox 1)
@@ -98,9 +87,13 @@ new-rests = λ down. record {
   fetched = refl;
 }
 
+opening-rests : (c : Configuration) (d : Device) → Each RestsAt (opening c d)
+opening-rests c d k (WithDriver m) at = subst Rests (sym (opening_is_new c d k m at)) new-rests
+opening-rests c d k (Raw x) at = tt
+
 pub down_is_clear : DownIsClear
-down_is_clear tells c d f events replies run i (k, at, raw) m there down =
-    clear m (run-rests tells (opening c d) f events replies (i + 1) (new_mailbox 1) m run (opening_has_drivers c d i k at raw) there new-rests down)
+down_is_clear tells c d f events replies run i has m there down =
+    clear m (run-keeps RestsAt keeps tells (opening c d) f events replies run (opening-rests c d) (i + 1) (WithDriver m) there down)
 
 pub done_since_it_came_up : DoneSinceItCameUp
 done_since_it_came_up tells c d old mid new before given first events replies run i has m there down reply step ticket dw0 len status says =

@@ -68,13 +68,12 @@ walk : (k : ℕ) (m n : Mailbox) (tells : Bool) (old : Fleet) (events : List Fle
     → Gives m n (along (given k) tells old events replies new run)
 walk k m n tells old [] [] new run at end =
     none m n (ap (λ (x : Mailbox). x.next) (one-mailbox new k n m end (ap (λ f. host_at f k) run ∙ at)))
-walk k m n tells old [] (x ∷ later) new run at end = absurd run
-walk k m n tells old (event ∷ events) [] new run at end = absurd run
 walk k m n tells old (event ∷ events) (x ∷ later) new run at end =
     let one = hosts_are_apart tells old run.0 event x run.1 k m at in
     gives-on m one.mailbox n (given k old event x) (along (given k) tells run.0 events later new run.2)
     (step-gives (concerns event k) event tells k old.site run.0.site m one.mailbox x refl one.moves)
     (walk k one.mailbox n tells run.0 events later new run.2 one.host end)
+walk k m n tells old events later new run at end = absurd run
 
 pub tickets_are_consecutive : TicketsAreConsecutive
 tickets_are_consecutive tells old new events replies run k m n at end = walk k m n tells old events replies new run at end

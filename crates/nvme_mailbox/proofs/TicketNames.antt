@@ -28,8 +28,6 @@ takes-next tells old new event reply k m n x h p =
 not-before : (tells : Bool) (old new : Fleet) (events : List FleetEvent) (replies : List Reply) (run : Run tells old events replies new) (k : ℕ) (m : Mailbox) (x : Item) → HasMailbox old k m
     → Happens (Places k x) tells old events replies new run → m.next ≤ x.ticket
 not-before tells old new [] [] run k m x at h = absurd h
-not-before tells old new [] (r ∷ later) run k m x at h = absurd h
-not-before tells old new (event ∷ events) [] run k m x at h = absurd h
 not-before tells old new (event ∷ events) (r ∷ later) run k m x at (inl p) =
     let one = hosts_are_apart tells old run.0 event r run.1 k m at in
     let t = (takes-next tells old run.0 event r k m one.mailbox x one.moves p).0 in
@@ -40,6 +38,7 @@ not-before tells old new (event ∷ events) (r ∷ later) run k m x at (inr h) =
     let e : one.mailbox.next ≡ m.next + g.0 = g.2 in
     let rest = not-before tells run.0 new events later run.2 k one.mailbox x one.host h in
     omega (arith, e, rest)
+not-before tells old new events later run k m x at h = absurd h
 
 asked_in : Asked → FleetEvent → Asked
 asked_in default (Place k request) = asked_of request
@@ -56,8 +55,6 @@ same-item x y t a = λ i. record { ticket = t i; asked = a i }
 
 pub ticket_names_its_request : TicketNamesItsRequest
 ticket_names_its_request tells old new [] [] run k m at x y h g t = absurd h
-ticket_names_its_request tells old new [] (r ∷ later) run k m at x y h g t = absurd h
-ticket_names_its_request tells old new (event ∷ events) [] run k m at x y h g t = absurd h
 ticket_names_its_request tells old new (event ∷ events) (r ∷ later) run k m at x y (inl p) (inl q) t =
     same-item x y t (same-asked k x y old event r run.0 p q)
 ticket_names_its_request tells old new (event ∷ events) (r ∷ later) run k m at x y (inl p) (inr g) t =
@@ -77,6 +74,7 @@ ticket_names_its_request tells old new (event ∷ events) (r ∷ later) run k m 
 ticket_names_its_request tells old new (event ∷ events) (r ∷ later) run k m at x y (inr h) (inr g) t =
     let one = hosts_are_apart tells old run.0 event r run.1 k m at in
     ticket_names_its_request tells run.0 new events later run.2 k one.mailbox one.host x y h g t
+ticket_names_its_request tells old new events later run k m at x y h g t = absurd h
 
 -- the first of two happenings
 first-happens : (first then : Happening) (tells : Bool) (old : Fleet) (events : List FleetEvent) (replies : List Reply) (new : Fleet) (run : Run tells old events replies new)

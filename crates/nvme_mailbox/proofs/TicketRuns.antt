@@ -41,8 +41,6 @@ pub record Walked (w : ℕ → ℕ) (k : ℕ) (m : Mailbox) (tells : Bool) (old 
 pub walk : (w : ℕ → ℕ) (k : ℕ) (m : Mailbox) (tells : Bool) (old : Fleet) (events : List FleetEvent) (replies : List Reply) (new : Fleet) (run : Run tells old events replies new) → HasMailbox old k m
     → Walked w k m tells old events replies new run
 walk w k m tells old [] [] new run at = record { mailbox = m; host = ap (λ f. host_at f k) run ∙ at; flow = stays w m m refl refl refl }
-walk w k m tells old [] (x ∷ later) new run at = absurd run
-walk w k m tells old (event ∷ events) [] new run at = absurd run
 walk w k m tells old (event ∷ events) (x ∷ later) new run at =
     let one = hosts_are_apart tells old run.0 event x run.1 k m at in
     let rest = walk w k one.mailbox tells run.0 events later new run.2 one.host in
@@ -53,6 +51,7 @@ walk w k m tells old (event ∷ events) (x ∷ later) new run at =
     let d = total-append w (done k old event x) (along (done k) tells run.0 events later new run.2) in
     let a = total-append w (aborted k old event x) (along (aborted k) tells run.0 events later new run.2) in
     record { mailbox = rest.mailbox; host = rest.host; flow = reads w m rest.mailbox _ _ _ _ _ _ _ _ all (sym g) (sym e) (sym d) (sym a) }
+walk w k m tells old events later new run at = absurd run
 
 -- a host has one mailbox
 mail-of : Option Host → Mailbox → Mailbox
