@@ -1,7 +1,7 @@
 -- Identifiers stay, and so does what an execution asks for.
-use Rattle.std.proofs.Common.{◌≡◌, ◌⊎◌, inl, inr, ℕ, zero, suc, ◌+◌, ◌<◌, ◌==◌, get_or, true, false, List, [], ◌∷◌, ◌++◌, length, take, drop, Option, None, Some, refl, sym, ap, subst, ◌∙◌, arith}
+use Rattle.std.proofs.Common.{◌≡◌, ◌⊎◌, inl, inr, ℕ, zero, suc, ◌+◌, ◌<◌, ◌==◌, get_or, true, false, List, [], ◌∷◌, ◌++◌, length, take, drop, Option, Some, refl, sym, ap, subst, ◌∙◌, arith}
 use Rattle.nvme_spec.specs.Report.{ControllerHost}
-use Rattle.std.specs.Prelude.{find, option_map, slice_get, slice_set, if◌then◌else◌, IsSome, nat_le}
+use Rattle.std.specs.Prelude.{find, option_map, slice_get, slice_set, if◌then◌else◌, IsSome}
 use Rattle.std.proofs.lemmas.List.{length-set, length-take, get_or_at, set_at, drop_more, take_more, append_assoc}
 use Rattle.std.proofs.lemmas.Option.{same_Some}
 use Rattle.nvme_spec.specs.declared.outcome.Marks.{Marks}
