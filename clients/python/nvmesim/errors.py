@@ -109,8 +109,8 @@ class RequestRefused(NvmesimError):
         refusal: why.
     """
 
-    def __init__(self, line: str, refusal: Refusal) -> None:
-        super().__init__(f"the driver refuses {line!r}: {refusal.value}, {refusal.words}")
+    def __init__(self, line: str, refusal: Refusal, why: str) -> None:
+        super().__init__(f"the driver refuses {line!r}: {refusal.value}, {why}")
         self.line = line
         self.refusal = refusal
 

@@ -14,6 +14,7 @@ from .history import Command
 from .lines import Bytes
 from .reports import ReservationReport, parse_report
 from .session import Session
+from .words import refused_words
 
 
 @dataclass(frozen=True)
@@ -86,7 +87,7 @@ class Host:
         """
         event = self._session.event(line)
         if isinstance(event.answer, Refused):
-            raise RequestRefused(line, event.answer.refusal)
+            raise RequestRefused(line, event.answer.refusal, refused_words(event.line, event.answer))
         if event.command is None or event.command.ticket is None:
             raise NotDone(f"{line!r} was answered {event.text!r}")
         self._commands[event.command.ticket] = event.command

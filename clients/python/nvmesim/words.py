@@ -235,7 +235,7 @@ def meaning(event: Event, configuration: Configuration) -> str:
     host = configuration.hosts.get(number)
     who = f"{host_words(host)}'s driver" if host is not None else "the driver"
     if isinstance(answer, Refused):
-        return f"{who} refuses {request_words(event.line)}: {_refused_words(event.line, answer)}"
+        return f"{who} refuses {request_words(event.line)}: {refused_words(event.line, answer)}"
     if isinstance(answer, (Fetched, Executed)):
         return f"controller {number} {_controller_words(event, answer)}"
     if isinstance(answer, (Stored, Wrote32)):
@@ -253,7 +253,7 @@ def short_meaning(event: Event) -> str:
     if isinstance(answer, PowerCycled):
         return "all drivers and controllers are down"
     if isinstance(answer, Refused):
-        return f"refused: {_refused_words(event.line, answer)}"
+        return f"refused: {refused_words(event.line, answer)}"
     if isinstance(answer, (Fetched, Executed)):
         return _controller_words(event, answer)
     if isinstance(answer, (Stored, Wrote32)):
@@ -261,7 +261,7 @@ def short_meaning(event: Event) -> str:
     return _driver_words(event, answer)
 
 
-def _refused_words(line: ScriptLine, answer: Refused) -> str:
+def refused_words(line: ScriptLine, answer: Refused) -> str:
     """Why a driver refuses a request; which field no command can say, where that is it."""
     field = _bad_field(line) if answer.refusal is Refusal.BAD_REQUEST else ""
     return f"{answer.refusal.words}: {field}" if field else answer.refusal.words

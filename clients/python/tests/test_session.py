@@ -82,6 +82,8 @@ class UserTest(unittest.TestCase):
                     host.place_flush(1)
                 self.assertIs(caught.exception.refusal, Refusal.NOT_READY)
                 host.up()
+                with self.assertRaisesRegex(RequestRefused, "BadRequest, .*: BLOCKS is 0, and 1 to 256 are taken$"):
+                    host.place_read(1, 0, 0)
                 first, second = host.place_flush(1), host.place_read(1, 0)
                 host.ring()
                 host.controller.fetch(1)
