@@ -47,7 +47,10 @@ def check_pattern(line: ScriptLine, words: Sequence[str]) -> None:
         parse_answer(text)
         check_fits(line, text)
     except ProtocolError:
-        raise NeverAnswered(f"{line.text!r} is never answered {text!r}; {_forms(line)}") from None
+        known = _known(line)
+        unknown = next((it for it in words if not _is_word(line, it, known)), None)
+        why = _forms(line) if unknown is None else f"no answer of it has the word {unknown!r}{_hint(line, unknown)}"
+        raise NeverAnswered(f"{line.text!r} is never answered {text!r}; {why}") from None
 
 
 def holds(words: Sequence[str], answer: str) -> bool:
@@ -76,9 +79,7 @@ def _check_parts(line: ScriptLine, words: Sequence[str]) -> None:
             raise NeverAnswered(f"the number {word} behind a '*' can be any number of the answer: "
                                 "say the word before it too")
         if word != ANY and not _is_word(line, word, known):
-            near = difflib.get_close_matches(word, sorted(known), 1, 0.6)
-            hint = f"; did you mean {near[0]!r}?" if near else f"; {_forms(line)}"
-            raise NeverAnswered(f"no answer of {line.text!r} has the word {word!r}{hint}")
+            raise NeverAnswered(f"no answer of {line.text!r} has the word {word!r}{_hint(line, word)}")
     head = words[0]
     if head != ANY and head not in (*_heads(line), *_MISSES):
         raise NeverAnswered(f"no answer of {line.text!r} begins with {head!r}; {_forms(line)}")
@@ -117,6 +118,12 @@ def _behind_head(line: ScriptLine, words: Sequence[str]) -> Sequence[str]:
     for word in (heads if len(heads) == 1 else ()) + _own_numbers(line):
         words = words[1:] if words and words[0] == word else words
     return words
+
+
+def _hint(line: ScriptLine, word: str) -> str:
+    """What was meant by a word that no answer of the line has, or how its answers begin."""
+    near = difflib.get_close_matches(word, sorted(_known(line)), 1, 0.6)
+    return f"; did you mean {near[0]!r}?" if near else f"; {_forms(line)}"
 
 
 def _forms(line: ScriptLine) -> str:
