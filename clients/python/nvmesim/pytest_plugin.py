@@ -9,7 +9,7 @@ from typing import Any, Iterable, Iterator, Optional, Tuple
 
 import pytest
 
-from .errors import NvmesimError, ScriptError
+from .errors import NvmesimError
 from .expect import Trial, has_marks, read_test, try_script
 from .expect.told import trial_lines
 from .subsystem import Subsystem
@@ -89,7 +89,7 @@ class ScriptItem(pytest.Item):
         """What was wanted beside what came, in place of a trace."""
         if isinstance(excinfo.value, ExpectationsFailed):
             return "\n".join(trial_lines(excinfo.value.trial))
-        if isinstance(excinfo.value, ScriptError):
+        if isinstance(excinfo.value, NvmesimError):  # no script, or no program
             return f"{self.path.name}: {excinfo.value}"
         return super().repr_failure(excinfo, style)
 

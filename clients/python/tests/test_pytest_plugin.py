@@ -74,3 +74,6 @@ class PluginTest(FolderCase):
         status, told = self.pytest("other.nvme")
         self.assertEqual(status, 1, told)
         self.assertIn("the script has no expectation", told)
+        status, told = self.pytest("--nvmelive", "absent", "good.nvme")
+        self.assertEqual((status, told.count("good.nvme: absent is no program that can be run\n")), (1, 1), told)
+        self.assertNotIn("Traceback", told)
