@@ -49,7 +49,8 @@ def find_program(given: Optional[PathLike] = None, name: str = "nvmelive", varia
     found = _beside(name) or shutil.which(name) or _installed(name)
     if found is None:
         raise ProgramNotFound(f"there is no program {name} on the path, nor in {INSTALLED} under any of "
-                              f"{', '.join(map(str, _prefixes()))}; the variable {variable} can name one")
+                              f"{', '.join(map(str, _prefixes()))}: scripts/install puts it there, and the variable "
+                              f"{variable} can name one")
     return Path(found)
 
 

@@ -80,7 +80,7 @@ class InstallationTest(FolderCase):
                                    "except it.ProgramNotFound as fault: print(fault)"],
                                   PYTHONPATH=str(self.folder / "elsewhere"), **environment)
         if "there is no program" in missing:  # else something is installed on this machine
-            self.assertIn(f"{home}/.local", missing)
+            self.assertIn(f"{home}/.local, /usr/local, /usr: scripts/install puts it there", missing)
         for program in (local, on_path, beside):
             program.parent.mkdir(parents=True, exist_ok=True)
             program.write_text("#!/bin/sh\n", encoding="utf-8")
