@@ -127,7 +127,8 @@ def put_others(top: Path, stage: Path) -> None:
     copy_tree(top / "docs", stage / "share/doc/nvmesim/docs")
     for words in OTHERS:
         if os.access(top / words[0], os.X_OK):
-            subprocess.run([str(top / words[0]), *words[1:], str(stage)], check=True)
+            if subprocess.run([str(top / words[0]), *words[1:], str(stage)]).returncode != 0:
+                raise NotInstalled(f"{words[0]} has failed")
 
 
 def fields_of(top: Path) -> Dict[str, str]:
@@ -162,6 +163,11 @@ def fill(top: Path, stage: Path) -> None:
 def names_in(path: Path) -> List[str]:
     """The files that a manifest lists."""
     return SUM.findall(path.read_text(encoding="utf-8"))
+
+
+def commands_of(prefix: Path) -> List[str]:
+    """The commands that are installed under a prefix."""
+    return [Path(it).name for it in names_in(prefix / MANIFEST) if it.startswith("bin/")]
 
 
 def install(top: Path, prefix: Path) -> None:
