@@ -4,15 +4,19 @@ from __future__ import annotations
 
 import argparse
 import contextlib
+import errno
 import io
+import os
 import struct
 import unittest
 from dataclasses import replace
 from typing import List
+from unittest import mock
 
+from nvmesim.__main__ import main
 from nvmesim.conform import Abilities, Answer, Judge, Step, scene
 from nvmesim.conform.command import compare
-from nvmesim.conform.device import Command, DeviceFault
+from nvmesim.conform.device import Command, Device, DeviceFault
 from nvmesim.conform.steps import Places
 
 from .support import LIVE, STANDIN
@@ -108,6 +112,24 @@ class StepTest(unittest.TestCase):
         self.assertGreater(len(each), 1)
         self.assertEqual(len(set(each)), len(each), each)
         self.assertIn("# The device answers 0:00, and the model 0:80.", each)
+
+    def test_what_the_system_refuses(self) -> None:
+        """A device that something else has open for itself, one that is none, and a command that is not carried out."""
+        def busy(path: str, flags: int) -> int:
+            self.assertTrue(flags & os.O_EXCL, path)
+            raise OSError(errno.EBUSY, os.strerror(errno.EBUSY), path)
+
+        wrong = io.StringIO()
+        with mock.patch("nvmesim.conform.device.os.open", busy), contextlib.redirect_stderr(wrong):
+            self.assertEqual(main(["conform", "--device", "/dev/nvme0n1", "--destroy-data"]), 2)
+        self.assertEqual(wrong.getvalue(), "nvmesim: /dev/nvme0n1: Device or resource busy\n")
+        with self.assertRaisesRegex(DeviceFault, "^/dev/null is no namespace of an NVMe device"):
+            Device("/dev/null")
+        with mock.patch("nvmesim.conform.device.fcntl.ioctl", side_effect=[1, OSError(errno.EINVAL, "")]):
+            device = Device("/dev/null")
+            with self.assertRaisesRegex(DeviceFault, "^/dev/null: the system refuses opcode 2h: EINVAL$"):
+                device.submit(Command(False, 2, wanted=512))
+            device.close()
 
     def test_devices_that_can_t_be_compared(self) -> None:
         class Told:

@@ -36,6 +36,12 @@ class CommandTest(FolderCase):
         for words, said in (
                 (["explore", str(RACE), "--bogus"], "unrecognized arguments: --bogus"),
                 (["explore", str(RACE), "--jobs", "x"], "invalid int value: 'x'"),
+                (["explore", str(RACE), "--jobs", "0"], "--jobs and --shards are 1 at least"),
+                (["explore", str(RACE), "--shard", "9/8"], "'9/8' is no part: K/N was wanted, such as 1/8"),
+                (["explore"], "explore wants a SCRIPT, or --merge and files"),
+                (["explore", "--merge", str(text), "--image", str(text)], "--image stands where parts are explored"),
+                (["timeline", str(RACE), "--format", "png"], "a PNG file needs a name: -o FILE"),
+                (["conform", "--device", "/dev/null", "--scenes", "0"], "--scenes and --length are 1 at least"),
                 (["explore", str(self.folder / "absent")], "/absent: No such file or directory"),
                 (["explain", str(text)], "is no text: its byte 0 is no UTF-8"),
                 (["timeline", str(RACE), "-o", "/absent/page"], "/absent/page: No such file or directory"),

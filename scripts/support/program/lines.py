@@ -59,6 +59,8 @@ BEHIND_START = (
     ("read 1 1 ff 1", "10: word 4: SLBA, a number below 2^64, and not 'ff'; did you mean '0xff'?"),
     ("read 1 1 0 ffffffff0",
      "12: word 5: BLOCKS, a number below 2^32, and not 'ffffffff0'"),
+    ("write32 1 20 460001h", "14: word 4: V, a number below 2^32, and not '460001h'"),
+    ("read 1 1 0 1 # the first block", "1: read takes 5 words: read C N SLBA BLOCKS"),
     ("powercycle 1", "1: powercycle takes 1 word: powercycle"),
     ("powrecycle", "1: there is no line 'powrecycle'; did you mean 'powercycle'?"),
 )
