@@ -113,6 +113,29 @@ class StepTest(unittest.TestCase):
         self.assertEqual(len(set(each)), len(each), each)
         self.assertIn("# The device answers 0:00, and the model 0:80.", each)
 
+    def test_a_device_that_goes_away_behind_a_difference(self) -> None:
+        """The difference is told as it was found, and the search ends there."""
+        class Gone(Zeros):
+            most = 0
+
+            def submit(self, command: Command) -> Answer:
+                if self.most and len(self.came) >= self.most:
+                    raise DeviceFault("the system refuses it")
+                return super().submit(command)
+
+        steps, plain = [it for it in scene(1, [PLAIN], 30) if it.verb != "identify"], Zeros()
+        found = Judge([plain], [PLAIN], STANDIN).play(steps)
+        assert found is not None
+        gone = Gone()
+        gone.most = len(plain.came)
+        words = argparse.Namespace(seed=1, scenes=4, length=30, all=True, output=None)
+        shown, wrong = io.StringIO(), io.StringIO()
+        with contextlib.redirect_stdout(shown), contextlib.redirect_stderr(wrong), \
+                mock.patch("nvmesim.conform.command.scene", lambda *_: steps):
+            self.assertEqual(compare(words, Judge([gone], [PLAIN], STANDIN)), 1)
+        self.assertEqual(shown.getvalue().splitlines(), list(Judge([plain], [PLAIN], STANDIN).script(found)))
+        self.assertEqual(wrong.getvalue().count("it can't be made shorter: the system refuses it; it was "), 1)
+
     def test_what_the_system_refuses(self) -> None:
         """A device that something else has open for itself, one that is none, and a command that is not carried out."""
         def busy(path: str, flags: int) -> int:

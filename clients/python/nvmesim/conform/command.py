@@ -107,18 +107,27 @@ def compare(words: argparse.Namespace, judge: Judge) -> int:
         if _kind(found) in told:
             continue
         print(f"scene {number} differs behind {len(found.steps)} commands; it is made shorter", file=sys.stderr)
-        shortest = judge.shortened(found)
+        shortest, is_there = _shortened(judge, found)
         told |= {_kind(found), _kind(shortest)}
         text = "".join(f"{it}\n" for it in judge.script(shortest))
         print(text, end="")
         if words.output:
             Path(words.output).write_text(text, encoding="utf-8")
-        if not words.all:
+        if not words.all or not is_there:
             break
     if told:
         return _DIFFERS
     print(f"no difference in {words.scenes} scenes of {words.length} commands, from seed {words.seed} on")
     return 0
+
+
+def _shortened(judge: Judge, found: Difference) -> Tuple[Difference, bool]:
+    """The shortest difference, and whether the device is still there: a command that differs may have taken it away."""
+    try:
+        return judge.shortened(found), True
+    except DeviceFault as fault:
+        print(f"it can't be made shorter: {fault}", file=sys.stderr)
+        return found, False
 
 
 def _kind(found: Difference) -> Tuple[str, str, str]:
