@@ -8,7 +8,7 @@ use crate::events::CHANGED_NAMESPACES;
 use crate::fault::Outcome;
 use crate::identify::{self, NAMESPACE_NOTICE};
 use crate::status::{EVENT_LIMIT, INVALID_NAMESPACE, INVALID_OPCODE, SUCCESS};
-use crate::target::{Effect, Target, GET_LOG_PAGE, IDENTIFY, KEEP_ALIVE};
+use crate::target::{Effect, Target, GET_LOG_PAGE, IDENTIFY, KEEP_ALIVE, NAMESPACE_ATTACHMENT};
 
 /// Opcodes of admin commands.
 const DELETE_SUBMISSION: u8 = 0x00;
@@ -18,7 +18,6 @@ const CREATE_COMPLETION: u8 = 0x05;
 const SET_FEATURES: u8 = 0x09;
 const GET_FEATURES: u8 = 0x0a;
 const ASYNCHRONOUS_EVENT_REQUEST: u8 = 0x0c;
-const NAMESPACE_ATTACHMENT: u8 = 0x15;
 /// The feature Asynchronous Event Configuration.
 const EVENT_CONFIGURATION: u8 = 0x0b;
 /// Get Log Page: Retain Asynchronous Event.

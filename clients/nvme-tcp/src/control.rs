@@ -1,10 +1,8 @@
 //! Lines of control: what a test, or whoever runs the target, may ask of it beside its hosts.
 
-use crate::bytes::push_hex;
-use crate::configuration::{number, BLOCK};
+use crate::configuration::number;
 use crate::fault::Outcome;
 use crate::target::Target;
-use crate::window::MOST_DATA;
 use std::fmt::Write;
 use std::fs::{self, DirBuilder};
 use std::io::{self, BufRead, BufReader, Read, Write as _};
@@ -57,11 +55,13 @@ pub fn ask(socket: &Path, line: &str) -> io::Result<String> {
 pub struct Console {
     pub stream: UnixStream,
     input: Vec<u8>,
+    /// How many lines were answered.
+    count: u64,
 }
 
 impl Console {
     pub fn new(stream: UnixStream) -> Console {
-        Console { stream, input: Vec::new() }
+        Console { stream, input: Vec::new(), count: 0 }
     }
 
     /// Receives lines and answers them; whether there may be more.
@@ -71,7 +71,8 @@ impl Console {
         self.input.extend(&bytes[..count]);
         while let Some(end) = self.input.iter().position(|byte| *byte == b'\n') {
             let line: Vec<u8> = self.input.drain(..=end).collect();
-            let answer = target.answer_line(String::from_utf8_lossy(&line).trim())?;
+            self.count += 1;
+            let answer = target.answer_line(self.count, String::from_utf8_lossy(&line).trim())?;
             if self.stream.write_all(format!("{answer}\n").as_bytes()).is_err() {
                 return Ok(false);
             }
@@ -81,8 +82,9 @@ impl Console {
 }
 
 impl Target<'_> {
-    /// Answers a line. The answer begins with `!` where there is no such line, or nothing that it speaks of.
-    fn answer_line(&mut self, line: &str) -> Outcome<String> {
+    /// Answers the line with this number. The answer begins with `!` where there is no such line, or nothing that it
+    /// speaks of.
+    fn answer_line(&mut self, number: u64, line: &str) -> Outcome<String> {
         let words: Vec<&str> = line.split_whitespace().collect();
         let answer = match *words {
             ["powercycle"] => {
@@ -92,9 +94,9 @@ impl Target<'_> {
             ["hosts"] => Some(self.hosts()),
             ["counts"] => Some(self.counts()),
             [verb @ ("hold" | "held" | "go"), cntlid] => self.hold_line(verb, cntlid)?,
-            ["?register", cntlid, offset] => self.look_at_register(cntlid, offset),
-            ["?window", cntlid, address, length] => self.look_at_memory(cntlid, address, length),
-            ["?blocks", nsid, slba, count] => self.look_at_blocks(nsid, slba, count),
+            [first, ..] if first.starts_with('?') => {
+                Some(self.look(&words).unwrap_or_else(|nothing| format!("! line {number} {nothing}")))
+            }
             _ => None,
         };
         Ok(answer.unwrap_or_else(|| format!("! {line}")))
@@ -142,38 +144,4 @@ impl Target<'_> {
         let all: u64 = self.controllers.iter().map(|it| it.commands).sum();
         format!("{{\"commands\": {all}, \"controllers\": {{{}}}}}", each.join(", "))
     }
-
-    fn look_at_register(&mut self, cntlid: &str, offset: &str) -> Option<String> {
-        let value = self.machine.read32(number(cntlid)?.try_into().ok()?, number(offset)?.try_into().ok()?).ok()?;
-        Some(format!("register {cntlid} {offset} {value:#010x}"))
-    }
-
-    fn look_at_memory(&mut self, cntlid: &str, address: &str, length: &str) -> Option<String> {
-        let count = usize::try_from(number(length)?).ok().filter(|count| *count <= MOST_DATA)?;
-        let mut bytes = vec![0; count];
-        let place = number(address)?.try_into().ok()?;
-        self.machine.load(number(cntlid)?.try_into().ok()?, place, &mut bytes).ok()?;
-        Some(format!("window {cntlid} {address} {length} {}", digits(&bytes)))
-    }
-
-    fn look_at_blocks(&mut self, nsid: &str, slba: &str, count: &str) -> Option<String> {
-        let blocks = number(count).filter(|count| (1..=256).contains(count))?;
-        let mut bytes = vec![0; blocks as usize * BLOCK as usize];
-        let (id, first) = (number(nsid)?.try_into().ok()?, number(slba)?.try_into().ok()?);
-        if !self.machine.read_blocks(id, first, &mut bytes) {
-            return None;
-        }
-        Some(format!("blocks {nsid} {slba} {count} {}", digits(&bytes)))
-    }
-}
-
-/// Bytes in hexadecimal without the zeros at their end, as `nvmelive` has them.
-fn digits(bytes: &[u8]) -> String {
-    let count = bytes.iter().rposition(|byte| *byte != 0).map_or(0, |last| last + 1);
-    let mut text = Vec::new();
-    push_hex(&mut text, &bytes[..count]);
-    if count == 0 {
-        return "-".to_owned();
-    }
-    String::from_utf8_lossy(&text).into_owned()
 }

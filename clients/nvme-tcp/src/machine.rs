@@ -2,7 +2,7 @@
 
 use crate::fault::Outcome;
 use crate::script::Script;
-use nvmesim::{Executed, Fetched, Subsystem};
+use nvmesim::{Command, Executed, Fetched, Queue, Reservation, Subsystem};
 
 /// The subsystem of this process.
 pub struct Machine<'a> {
@@ -67,6 +67,25 @@ impl<'a> Machine<'a> {
     /// Looks at blocks of a namespace; whether they are there.
     pub fn read_blocks(&mut self, nsid: u32, slba: u64, bytes: &mut [u8]) -> bool {
         self.subsystem.read_blocks(nsid, slba, bytes).is_ok()
+    }
+
+    /// The commands that a controller has fetched and not executed; nothing where there is no such controller.
+    pub fn fetched(&mut self, cntlid: u16) -> Option<Vec<Command>> {
+        self.subsystem.fetched(cntlid).ok()
+    }
+
+    /// The submission and the completion queue of a controller with this identifier, those that there are.
+    pub fn queues(&mut self, cntlid: u16, qid: u16) -> (Option<Queue>, Option<Queue>) {
+        (self.subsystem.submission_queue(cntlid, qid).ok(), self.subsystem.completion_queue(cntlid, qid).ok())
+    }
+
+    /// The reservation of a namespace; nothing where there is no such namespace.
+    pub fn reservation(&mut self, nsid: u32) -> Option<Reservation> {
+        self.subsystem.reservation(nsid).ok()
+    }
+
+    pub fn is_attached(&mut self, cntlid: u16, nsid: u32) -> bool {
+        self.subsystem.is_attached(cntlid, nsid)
     }
 
     /// Hands the lines that are kept to the system.

@@ -21,6 +21,7 @@ mod holding;
 mod identify;
 mod image;
 mod journal;
+mod looking;
 mod machine;
 mod options;
 mod pdu;

@@ -5,7 +5,7 @@ use crate::controller::{Data, ENABLE};
 use crate::fault::Outcome;
 use crate::journal::Record;
 use crate::status::SUCCESS;
-use crate::target::Target;
+use crate::target::{Target, NAMESPACE_ATTACHMENT};
 use crate::window::MOST_ENTRIES;
 
 /// CC of a controller that carries out commands of the journal: entries of 64 and of 16 bytes.
@@ -45,6 +45,9 @@ impl Target<'_> {
             controller.create_queues(&mut self.machine, queue, MOST_ENTRIES)?;
         }
         let completed = controller.run(&mut self.machine, queue, entry, Data::ToController(data))?;
+        if qid == 0 && entry[0] == NAMESPACE_ATTACHMENT {
+            self.follow_attachments();
+        }
         Ok(completed.status == SUCCESS)
     }
 }

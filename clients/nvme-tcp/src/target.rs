@@ -11,6 +11,7 @@ use crate::image::Image;
 use crate::journal::Journal;
 use crate::machine::Machine;
 use crate::status::{COMMAND_SEQUENCE, SUCCESS};
+use nvmesim::Attachment;
 use std::collections::VecDeque;
 use std::fmt;
 use std::io::{self, Write};
@@ -21,6 +22,7 @@ use std::time::Instant;
 pub const GET_LOG_PAGE: u8 = 0x02;
 pub const IDENTIFY: u8 = 0x06;
 pub const KEEP_ALIVE: u8 = 0x18;
+pub const NAMESPACE_ATTACHMENT: u8 = 0x15;
 
 /// What the command line says of the target.
 pub struct Settings {
@@ -62,6 +64,8 @@ pub struct Target<'a> {
     pub controllers: Vec<Controller>,
     /// The association of each controller, where a host has one.
     pub associations: Vec<Option<Association>>,
+    /// What is attached, in the order in which it was.
+    pub attachments: Vec<Attachment>,
     /// Whether the next commands of a controller are held, and those that are.
     pub holds: Vec<bool>,
     pub held: Vec<VecDeque<Held>>,
@@ -76,10 +80,11 @@ impl<'a> Target<'a> {
     pub fn new(machine: Machine<'a>, configuration: Configuration, settings: Settings, image: Option<Image>) -> Self {
         let controllers: Vec<Controller> =
             (1..).zip(&configuration.hosts).map(|(cntlid, host)| Controller::new(cntlid, *host)).collect();
-        let count = controllers.len();
+        let (count, attachments) = (controllers.len(), configuration.config.attached.clone());
         Target {
             machine,
             configuration,
+            attachments,
             associations: (0..count).map(|_| None).collect(),
             holds: vec![false; count],
             held: (0..count).map(|_| VecDeque::new()).collect(),
@@ -143,6 +148,9 @@ impl<'a> Target<'a> {
         data: Data<'_>,
         has_succeeded: bool,
     ) -> Outcome<()> {
+        if qid == 0 && entry[0] == NAMESPACE_ATTACHMENT {
+            self.follow_attachments();
+        }
         match &mut self.image {
             Some(image) if qid != 0 => image.follow(&mut self.machine, &self.configuration, entry)?,
             _ => (),
@@ -150,6 +158,21 @@ impl<'a> Target<'a> {
         match &mut self.journal {
             Some(journal) if has_succeeded => journal.follow(self.controllers[index].cntlid, qid, entry, data),
             _ => Ok(()),
+        }
+    }
+
+    /// Has the list of attachments follow a command that has attached a namespace to controllers, or detached it: the
+    /// new ones stand behind the others, by rising controllers.
+    pub fn follow_attachments(&mut self) {
+        let Target { machine, attachments, .. } = self;
+        attachments.retain(|it| machine.is_attached(it.cntlid, it.nsid));
+        for nsid in self.configuration.config.namespaces.iter().map(|it| it.nsid) {
+            for cntlid in self.controllers.iter().map(|it| it.cntlid) {
+                let it = Attachment { nsid, cntlid };
+                if !attachments.contains(&it) && machine.is_attached(cntlid, nsid) {
+                    attachments.push(it);
+                }
+            }
         }
     }
 

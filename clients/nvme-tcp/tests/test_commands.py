@@ -194,12 +194,13 @@ class Controls(TargetTest):
         host.write(2, b"Hello".ljust(512, b"\0"))
         self.assertEqual(self.target.ask("?blocks 1 2 1"), "blocks 1 2 1 48656c6c6f")
         self.assertEqual(self.target.ask("?blocks 1 3 1"), "blocks 1 3 1 -")
-        self.assertEqual(self.target.ask("?register 1 0x1c"), "register 1 0x1c 0x00000001")
+        self.assertEqual(self.target.ask("?register 1 0x1c"), "register 1 28 0x00000001")
         self.assertTrue(self.target.ask("?window 1 0 16").startswith("window 1 0 16 "))
         host.write(100, b"\xab" * 131072)
         self.assertEqual(self.target.ask("?blocks 1 100 256"), "blocks 1 100 256 " + "ab" * 131072)
-        for line in ("?blocks 1 2048 1", "?blocks 1 0 257", "?blocks 9 0 1", "?register 3 0", "?window 1 4194304 1",
-                     "hold 0", "hold 3", "go x", "nothing", "powercycle now"):
+        self.assertEqual(self.target.ask("?fetched 3"), "! line 1 word 2: there is no such controller")
+        self.assertEqual(self.target.ask("?nothing"), "! line 1 word 1: there is no line '?nothing'")
+        for line in ("hold 0", "hold 3", "go x", "nothing", "powercycle now"):
             self.assertEqual(self.target.ask(line), f"! {line}")
 
     def test_counts(self) -> None:

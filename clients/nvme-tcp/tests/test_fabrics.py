@@ -76,7 +76,7 @@ class Connects(TargetTest):
         for queue in host.queues:
             self.assertRaises(Ended, queue.unit)
         self.assertEqual(self.target.hosts(), [])
-        self.assertEqual(self.target.ask("?register 1 0x14"), "register 1 0x14 0x00000000")
+        self.assertEqual(self.target.ask("?register 1 0x14"), "register 1 20 0x00000000")
 
     def test_an_io_queue_that_is_lost(self) -> None:
         host = self.host(queues=2)
@@ -96,7 +96,7 @@ class Properties(TargetTest):
             self.assertEqual(admin.property(offset, size).status, 0x002 | DNR, offset)
             self.assertEqual(admin.set_property(offset, 1, size).status, 0x002 | DNR, offset)
         self.assertEqual(admin.set_property(CSTS, 1).status, 0x002 | DNR)
-        self.assertEqual(self.target.ask("?register 1 0x28"), "register 1 0x28 0x00001000")
+        self.assertEqual(self.target.ask("?register 1 0x28"), "register 1 40 0x00001000")
 
     def test_a_reset_ends_the_io_queues(self) -> None:
         host = self.host(queues=2)
