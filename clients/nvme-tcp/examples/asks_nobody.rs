@@ -9,6 +9,9 @@ mod bytes;
 #[path = "../src/digest.rs"]
 mod digest;
 #[allow(dead_code)]
+#[path = "../src/output.rs"]
+mod output;
+#[allow(dead_code)]
 #[path = "../src/pdu.rs"]
 mod pdu;
 #[allow(dead_code, unsafe_code)]
@@ -19,6 +22,7 @@ mod poll;
 mod window;
 
 use bytes::{put, u16_at, u32_at};
+use output::Output;
 use pdu::{Agreed, Layout};
 use poll::{Interest, Poll};
 use std::collections::HashMap;
@@ -32,7 +36,7 @@ struct Connection {
     socket: TcpStream,
     input: Vec<u8>,
     end: usize,
-    output: Vec<u8>,
+    output: Output,
 }
 
 impl Connection {
@@ -56,13 +60,13 @@ impl Connection {
         }
         self.input.copy_within(at..self.end, 0);
         self.end -= at;
-        let sent = self.socket.write_all(&self.output);
-        self.output.clear();
+        let sent = self.socket.write_all(self.output.waiting());
+        self.output.sent(self.output.len());
         sent.is_ok()
     }
 }
 
-fn answer(out: &mut Vec<u8>, layout: &Layout, unit: &[u8]) {
+fn answer(out: &mut Output, layout: &Layout, unit: &[u8]) {
     if layout.kind == pdu::IC_REQUEST {
         return pdu::ic_response(out, PLAIN);
     }
@@ -77,14 +81,17 @@ fn answer(out: &mut Vec<u8>, layout: &Layout, unit: &[u8]) {
     match opcode {
         0x01 if layout.data_length == 0 => return pdu::ready_to_transfer(out, PLAIN, cid, 0, length),
         0x02 => {
-            let _ = pdu::controller_data::<Infallible>(out, PLAIN, cid, length, |_| Ok(()));
+            let _ = pdu::controller_data::<Infallible>(out, PLAIN, cid, length, |room| {
+                room.fill(0);
+                Ok(())
+            });
         }
         _ => (),
     }
     complete(out, cid);
 }
 
-fn complete(out: &mut Vec<u8>, cid: u16) {
+fn complete(out: &mut Output, cid: u16) {
     let mut entry = [0; 16];
     entry[0] = 1;
     put(&mut entry, 12, &cid.to_le_bytes());
@@ -104,7 +111,8 @@ fn main() -> Result<()> {
                 let (socket, _) = listener.accept()?;
                 socket.set_nodelay(true)?;
                 poll.add(&socket, next, to_read)?;
-                connections.insert(next, Connection { socket, input: vec![0; 256 << 10], end: 0, output: Vec::new() });
+                connections
+                    .insert(next, Connection { socket, input: vec![0; 256 << 10], end: 0, output: Output::default() });
                 next += 1;
             } else if !connections.get_mut(&it.name).map_or(false, Connection::serve) {
                 connections.remove(&it.name);

@@ -6,6 +6,7 @@ use crate::bytes::{put, u16_at};
 use crate::controller::{Data, ENTRY};
 use crate::fabrics;
 use crate::fault::{Fault, Outcome};
+use crate::output::Output;
 use crate::pdu::{self, Agreed, Fatal, Layout, COMMON};
 use crate::pointer::Pointer;
 use crate::status::{Status, COMMAND_ID_CONFLICT, COMMAND_SEQUENCE, SUCCESS, TRANSIENT_TRANSPORT};
@@ -68,9 +69,8 @@ pub struct Connection {
     input: Vec<u8>,
     begin: usize,
     end: usize,
-    /// What is to be sent, and how much of it was.
-    output: Vec<u8>,
-    sent: usize,
+    /// What is to be sent.
+    output: Output,
     /// Whether PDUs wait until the host has taken answers.
     waits: bool,
     /// When the connection is closed, unless something happens before.
@@ -90,8 +90,7 @@ impl Connection {
             input: vec![0; INPUT],
             begin: 0,
             end: 0,
-            output: Vec::new(),
-            sent: 0,
+            output: Output::default(),
             waits: false,
             deadline: Some(Instant::now() + BEFORE_CONNECT),
             is_closed: false,
@@ -109,7 +108,7 @@ impl Connection {
 
     /// Whether more is to be received, and whether there is something to send.
     pub fn wants(&self) -> (bool, bool) {
-        (self.phase == Phase::Ending || !self.is_full(), self.sent < self.output.len())
+        (self.phase == Phase::Ending || !self.is_full(), self.output.len() != 0)
     }
 
     /// Whether PDUs can be taken that had to wait.
@@ -118,7 +117,7 @@ impl Connection {
     }
 
     fn is_full(&self) -> bool {
-        self.output.len() - self.sent >= OUTPUT_FULL
+        self.output.len() >= OUTPUT_FULL
     }
 
     /// Receives what has come, and takes all PDUs that are whole.
@@ -322,20 +321,14 @@ impl Connection {
 
     /// Sends as much as the system takes.
     pub fn send(&mut self) {
-        while self.sent < self.output.len() && !self.is_closed {
-            match self.socket.write(&self.output[self.sent..]) {
-                Ok(count) => self.sent += count,
+        while self.output.len() != 0 && !self.is_closed {
+            match self.socket.write(self.output.waiting()) {
+                Ok(count) => self.output.sent(count),
                 Err(error) if error.kind() == io::ErrorKind::Interrupted => (),
-                Err(error) if is_passing(&error) => {
-                    self.output.drain(..self.sent);
-                    self.sent = 0;
-                    return;
-                }
+                Err(error) if is_passing(&error) => return,
                 Err(_) => self.is_closed = true,
             }
         }
-        self.output.clear();
-        self.sent = 0;
         if self.phase == Phase::Ending && self.socket.shutdown(Shutdown::Write).is_err() {
             self.is_closed = true;
         }

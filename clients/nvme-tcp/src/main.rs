@@ -24,6 +24,7 @@ mod journal;
 mod looking;
 mod machine;
 mod options;
+mod output;
 mod pdu;
 mod pointer;
 #[allow(unsafe_code)]

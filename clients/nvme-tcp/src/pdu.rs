@@ -2,6 +2,7 @@
 
 use crate::bytes::{put, u16_at, u32_at};
 use crate::digest::crc32c;
+use crate::output::Output;
 use crate::window::MOST_DATA;
 
 /// The types of PDUs.
@@ -194,35 +195,35 @@ fn head(kind: u8, flags: u8, header: usize, data: usize, length: usize) -> [u8; 
 }
 
 /// Answers ICReq: data of a host begin at a multiple of 4, and a PDU of it has at most MAXH2CDATA.
-pub fn ic_response(out: &mut Vec<u8>, agreed: Agreed) {
+pub fn ic_response(out: &mut Output, agreed: Agreed) {
     let mut unit = [0; IC];
     put(&mut unit, 0, &head(IC_RESPONSE, 0, IC, 0, IC));
     unit[11] = u8::from(agreed.header_digests) | u8::from(agreed.data_digests) << 1;
     put(&mut unit, 12, &(MOST_DATA as u32).to_le_bytes());
-    out.extend(unit);
+    out.put(&unit);
 }
 
 /// Ends a connection, and repeats the header at fault.
-pub fn termination(out: &mut Vec<u8>, fatal: Fatal, header: &[u8]) {
+pub fn termination(out: &mut Output, fatal: Fatal, header: &[u8]) {
     let repeated = &header[..header.len().min(MOST_REPEATED)];
     let mut unit = [0; DATA];
     put(&mut unit, 0, &head(CONTROLLER_TERMINATION, 0, DATA, 0, DATA + repeated.len()));
     put(&mut unit, 8, &fatal.status.to_le_bytes());
     put(&mut unit, 10, &fatal.field.to_le_bytes());
-    out.extend(unit);
-    out.extend(repeated);
+    out.put(&unit);
+    out.put(repeated);
 }
 
 /// A header of 24 bytes, with its digest where there is one.
-fn push_header(out: &mut Vec<u8>, agreed: Agreed, unit: &[u8; DATA]) {
-    out.extend(unit);
+fn push_header(out: &mut Output, agreed: Agreed, unit: &[u8; DATA]) {
+    out.put(unit);
     if agreed.header_digests {
-        out.extend(crc32c(unit).to_le_bytes());
+        out.put(&crc32c(unit).to_le_bytes());
     }
 }
 
 /// A completion queue entry.
-pub fn response(out: &mut Vec<u8>, agreed: Agreed, entry: &[u8; 16]) {
+pub fn response(out: &mut Output, agreed: Agreed, entry: &[u8; 16]) {
     let digest = agreed.header_digest();
     let mut unit = [0; DATA];
     put(&mut unit, 0, &head(RESPONSE_CAPSULE, u8::from(digest != 0), DATA, 0, DATA + digest));
@@ -231,7 +232,7 @@ pub fn response(out: &mut Vec<u8>, agreed: Agreed, entry: &[u8; 16]) {
 }
 
 /// Asks for data of a command, from this offset on.
-pub fn ready_to_transfer(out: &mut Vec<u8>, agreed: Agreed, cid: u16, tag: u16, length: usize) {
+pub fn ready_to_transfer(out: &mut Output, agreed: Agreed, cid: u16, tag: u16, length: usize) {
     let digest = agreed.header_digest();
     let mut unit = [0; DATA];
     put(&mut unit, 0, &head(READY_TO_TRANSFER, u8::from(digest != 0), DATA, 0, DATA + digest));
@@ -241,29 +242,30 @@ pub fn ready_to_transfer(out: &mut Vec<u8>, agreed: Agreed, cid: u16, tag: u16, 
     push_header(out, agreed, &unit);
 }
 
-/// All data of a command in one PDU: the header, and room for so many bytes, which `fill` writes.
+/// All data of a command in one PDU: the header, and room for so many bytes, all of which `fill` writes.
 pub fn controller_data<E>(
-    out: &mut Vec<u8>,
+    out: &mut Output,
     agreed: Agreed,
     cid: u16,
     length: usize,
     fill: impl FnOnce(&mut [u8]) -> Result<(), E>,
 ) -> Result<(), E> {
     let unit_step = 4 * (usize::from(agreed.alignment) + 1);
-    let place = (DATA + agreed.header_digest() + unit_step - 1) / unit_step * unit_step;
+    let header = DATA + agreed.header_digest();
+    let place = (header + unit_step - 1) / unit_step * unit_step;
     let data_digest = if agreed.data_digests { DIGEST } else { 0 };
     let flags = LAST | u8::from(agreed.header_digests) | u8::from(agreed.data_digests) << 1;
     let mut unit = [0; DATA];
     put(&mut unit, 0, &head(CONTROLLER_DATA, flags, DATA, place, place + length + data_digest));
     put(&mut unit, 8, &cid.to_le_bytes());
     put(&mut unit, 16, &(length as u32).to_le_bytes());
-    let begun = out.len();
     push_header(out, agreed, &unit);
-    out.resize(begun + place + length, 0);
-    fill(&mut out[begun + place..])?;
+    out.room(place - header).fill(0);
+    let room = out.room(length);
+    fill(room)?;
     if agreed.data_digests {
-        let digest = crc32c(&out[begun + place..]);
-        out.extend(digest.to_le_bytes());
+        let digest = crc32c(room);
+        out.put(&digest.to_le_bytes());
     }
     Ok(())
 }

@@ -1,0 +1,71 @@
+//! Bytes that are to be sent. Their room is kept, and what stood there before is written over, so that data are put in
+//! place once.
+
+/// Bytes in the order in which they go.
+#[derive(Default)]
+pub struct Output {
+    bytes: Vec<u8>,
+    begin: usize,
+    end: usize,
+}
+
+impl Output {
+    /// How many bytes there are.
+    pub fn len(&self) -> usize {
+        self.end - self.begin
+    }
+
+    /// The bytes.
+    pub fn waiting(&self) -> &[u8] {
+        &self.bytes[self.begin..self.end]
+    }
+
+    /// So many of them have been sent.
+    pub fn sent(&mut self, count: usize) {
+        self.begin += count;
+        if self.begin == self.end {
+            (self.begin, self.end) = (0, 0);
+        }
+    }
+
+    /// Puts bytes behind the others.
+    pub fn put(&mut self, part: &[u8]) {
+        self.room(part.len()).copy_from_slice(part);
+    }
+
+    /// Room for so many bytes behind the others. It has bytes of before, and the caller writes all of it.
+    pub fn room(&mut self, length: usize) -> &mut [u8] {
+        if self.begin != 0 && self.end + length > self.bytes.len() {
+            self.bytes.copy_within(self.begin..self.end, 0);
+            (self.begin, self.end) = (0, self.len());
+        }
+        let place = self.end;
+        self.end += length;
+        if self.end > self.bytes.len() {
+            self.bytes.resize(self.end, 0);
+        }
+        &mut self.bytes[place..self.end]
+    }
+}
+
+#[cfg(test)]
+mod tests {
+    use super::*;
+
+    #[test]
+    fn bytes_go_in_their_order() {
+        let (mut output, mut came) = (Output::default(), Vec::<u8>::new());
+        for count in 1..200_u8 {
+            output.put(&vec![count; usize::from(count)]);
+            let taken = output.len().min(90);
+            came.extend(&output.waiting()[..taken]);
+            output.sent(taken);
+        }
+        came.extend(output.waiting());
+        let wanted: Vec<u8> = (1..200_u8).flat_map(|count| vec![count; usize::from(count)]).collect();
+        assert_eq!(came, wanted);
+        output.sent(output.len());
+        output.put(&[1]);
+        assert_eq!(output.waiting(), [1]);
+    }
+}
