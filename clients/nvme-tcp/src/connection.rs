@@ -252,11 +252,11 @@ impl Connection {
         let part = Part { cid, tag, offset, is_last, is_sound, data };
         if let Some(transfer) = self.transfers.take(&part)? {
             if transfer.is_sound {
-                self.carry_out(target, &transfer.entry, Data::ToController(&transfer.data))?;
+                self.carry_out(target, &transfer.entry, Data::ToController(transfer.data(&part)))?;
             } else {
                 self.answer(target, cid, Answer::of(TRANSIENT_TRANSPORT))?;
             }
-            self.transfers.end(transfer.data);
+            self.transfers.end(transfer);
             self.request_data();
         }
         Ok(())

@@ -11,10 +11,21 @@ const MOST_ACTIVE: usize = 8;
 /// A command whose data are on their way.
 pub struct Transfer {
     pub entry: [u8; ENTRY],
-    pub data: Vec<u8>,
+    data: Vec<u8>,
     length: usize,
     /// Whether the digests of all data so far were right.
     pub is_sound: bool,
+}
+
+impl Transfer {
+    /// All its data, the last of which were in this part.
+    pub fn data<'d>(&'d self, last: &Part<'d>) -> &'d [u8] {
+        if self.data.is_empty() {
+            last.data
+        } else {
+            &self.data
+        }
+    }
 }
 
 /// What is asked of the host: the command, the tag of its data, and how many there are.
@@ -65,13 +76,13 @@ impl Transfers {
     pub fn next_request(&mut self) -> Option<Request> {
         let free = self.active.iter().position(Option::is_none)?;
         let (entry, length) = self.waiting.pop_front()?;
-        let mut data = self.spare.pop().unwrap_or_default();
-        data.reserve_exact(length);
+        let data = self.spare.pop().unwrap_or_default();
         self.active[free] = Some(Transfer { entry, data, length, is_sound: true });
         Some(Request { cid: u16_at(&entry, 2), tag: free as u16, length })
     }
 
-    /// Takes data, which come in their order; the command, where it has all of them now.
+    /// Takes data, which come in their order; the command, where it has all of them now. Where they have come in one
+    /// part they are not copied, and stay in that.
     pub fn take(&mut self, part: &Part<'_>) -> Result<Option<Transfer>, Fatal> {
         let slot = self.active.get_mut(usize::from(part.tag)).ok_or(OUT_OF_RANGE)?;
         let transfer = slot.as_mut().ok_or(OUT_OF_RANGE)?;
@@ -80,13 +91,17 @@ impl Transfers {
         if !is_next || u16_at(&transfer.entry, 2) != part.cid || part.is_last != (end == transfer.length) {
             return Err(OUT_OF_RANGE);
         }
-        transfer.data.extend(part.data);
         transfer.is_sound &= part.is_sound;
+        if part.data.len() < transfer.length {
+            transfer.data.reserve_exact(transfer.length - part.offset);
+            transfer.data.extend(part.data);
+        }
         Ok(if part.is_last { slot.take() } else { None })
     }
 
     /// Takes back the memory of a command that has its data.
-    pub fn end(&mut self, mut data: Vec<u8>) {
+    pub fn end(&mut self, transfer: Transfer) {
+        let mut data = transfer.data;
         data.clear();
         self.spare.push(data);
     }
@@ -118,8 +133,19 @@ mod tests {
             assert!(transfers.take(&wrong).is_err());
         }
         assert!(transfers.take(&part(0, 0, &[1; 4], false)).unwrap().is_none());
-        let whole = transfers.take(&part(0, 4, &[2; 4], true)).unwrap().unwrap();
-        assert_eq!(whole.data, [1, 1, 1, 1, 2, 2, 2, 2]);
+        let last = part(0, 4, &[2; 4], true);
+        let whole = transfers.take(&last).unwrap().unwrap();
+        assert_eq!(whole.data(&last), [1, 1, 1, 1, 2, 2, 2, 2]);
+    }
+
+    #[test]
+    fn data_of_one_part_stay_where_they_are() {
+        let mut transfers = Transfers::default();
+        transfers.begin([0; ENTRY], 8);
+        transfers.next_request().unwrap();
+        let all = part(0, 0, &[3; 8], true);
+        let whole = transfers.take(&all).unwrap().unwrap();
+        assert_eq!((whole.data(&all), whole.data.capacity()), (&[3; 8][..], 0));
     }
 
     #[test]
