@@ -25,6 +25,9 @@ const DISCOVERY_IDLE: Duration = Duration::from_secs(120);
 const BEFORE_CLOSE: Duration = Duration::from_secs(1);
 /// The room for what is received and not taken yet: the longest PDU, and short ones beside it.
 const INPUT: usize = pdu::MOST + (64 << 10);
+/// A PDU that is longer than this is long, and behind the rest of one no more than so much is received with it.
+const LONG: usize = 32 << 10;
+const BEHIND_LONG: usize = 4 << 10;
 /// With so many bytes that the host has not taken, nothing more of it is carried out.
 const OUTPUT_FULL: usize = 1 << 20;
 
@@ -125,13 +128,25 @@ impl Connection {
         self.input.copy_within(self.begin..self.end, 0);
         self.end -= self.begin;
         self.begin = 0;
-        match self.socket.read(&mut self.input[self.end..]) {
+        let last = self.last_wanted();
+        match self.socket.read(&mut self.input[self.end..last]) {
             Ok(0) => self.is_closed = true,
             Ok(count) => self.end += count,
             Err(error) if is_passing(&error) => (),
             Err(_) => self.is_closed = true,
         }
         self.take_all(target)
+    }
+
+    /// Where what is received next ends at most: not far behind a long PDU that is there in part, so that not much of the
+    /// one behind it has to be moved to the front.
+    fn last_wanted(&self) -> usize {
+        let head = &self.input[..self.end.min(COMMON)];
+        let layout = if head.len() == COMMON { Layout::of(head, self.agreed).ok() } else { None };
+        match layout {
+            Some(layout) if layout.length > self.end.max(LONG) => INPUT.min(layout.length + BEHIND_LONG),
+            _ => INPUT,
+        }
     }
 
     /// Takes the PDUs that are whole, as long as there is room for their answers.
