@@ -1,6 +1,6 @@
 //! The run as a script: each event as a line of a script, and what it gave as a line of its transcript.
 
-use crate::bytes::push_hex;
+use crate::bytes::{push_hex, push_number};
 use crate::configuration::Configuration;
 use crate::fault::{Fault, Outcome};
 use nvmesim::{Executed, Fetched};
@@ -28,11 +28,31 @@ impl Text {
     }
 }
 
-/// Writes lines that do not fail, since they go to memory.
-macro_rules! line {
-    ($text:expr, $($words:tt)*) => {{
-        let _ = writeln!($text.waiting, $($words)*);
-    }};
+/// A part of a line.
+#[derive(Clone, Copy)]
+enum Word<'w> {
+    /// This text.
+    Is(&'w str),
+    /// A number in decimal digits.
+    Number(u64),
+    /// Bytes in hexadecimal digits.
+    Hex(&'w [u8]),
+}
+
+use Word::{Hex, Is, Number};
+
+impl Text {
+    /// Puts a line behind the others.
+    fn line(&mut self, words: &[Word<'_>]) {
+        for word in words {
+            match *word {
+                Is(text) => self.waiting.extend_from_slice(text.as_bytes()),
+                Number(number) => push_number(&mut self.waiting, number),
+                Hex(bytes) => push_hex(&mut self.waiting, bytes),
+            }
+        }
+        self.waiting.push(b'\n');
+    }
 }
 
 /// A script that is being kept, and its transcript.
@@ -48,43 +68,49 @@ impl Script {
         beside.push(".out");
         let mut script = Script { lines: Text::new(path)?, transcript: Text::new(Path::new(&beside))? };
         script.lines.waiting.extend(configuration.lines().bytes());
-        line!(script.lines, "start");
+        script.lines.line(&[Is("start")]);
         Ok(script)
     }
 
     pub fn stored(&mut self, cntlid: u16, address: u64, bytes: &[u8]) {
-        let _ = write!(self.lines.waiting, "store {cntlid} {address} hex:");
-        push_hex(&mut self.lines.waiting, bytes);
-        self.lines.waiting.push(b'\n');
-        line!(self.transcript, "stored {cntlid}");
+        let c = Number(cntlid.into());
+        self.lines.line(&[Is("store "), c, Is(" "), Number(address), Is(" hex:"), Hex(bytes)]);
+        self.transcript.line(&[Is("stored "), c]);
     }
 
     pub fn wrote(&mut self, cntlid: u16, offset: u64, value: u32) {
-        line!(self.lines, "write32 {cntlid} {offset} {value}");
-        line!(self.transcript, "wrote32 {cntlid}");
+        let c = Number(cntlid.into());
+        self.lines.line(&[Is("write32 "), c, Is(" "), Number(offset), Is(" "), Number(value.into())]);
+        self.transcript.line(&[Is("wrote32 "), c]);
     }
 
     pub fn fetched(&mut self, cntlid: u16, qid: u16, fetched: Fetched) {
-        line!(self.lines, "fetch {cntlid} {qid}");
-        let what = if fetched == Fetched::Took { "took" } else { "idle" };
-        line!(self.transcript, "fetch {cntlid} {qid} {what}");
+        let line = [Is("fetch "), Number(cntlid.into()), Is(" "), Number(qid.into())];
+        self.lines.line(&line);
+        let [verb, c, blank, q] = line;
+        self.transcript.line(&[verb, c, blank, q, Is(if fetched == Fetched::Took { " took" } else { " idle" })]);
     }
 
     pub fn executed(&mut self, cntlid: u16, i: usize, executed: Executed) {
-        line!(self.lines, "execute {cntlid} {i}");
+        let line = [Is("execute "), Number(cntlid.into()), Is(" "), Number(i as u64)];
+        self.lines.line(&line);
+        let [verb, c, blank, i] = line;
         match executed {
             Executed::Posted(it) => {
-                let rule = it.denied_by.unwrap_or(0);
-                line!(self.transcript, "execute {cntlid} {i} posted {:x}:{:02x} {rule}", it.sct, it.sc);
+                // A Status Code Type has one digit.
+                let (sct, rule) = (Number(it.sct.into()), Number(it.denied_by.unwrap_or(0).into()));
+                let sc = [it.sc];
+                let [posted, colon, behind] = [" posted ", ":", " "].map(Is);
+                self.transcript.line(&[verb, c, blank, i, posted, sct, colon, Hex(&sc), behind, rule]);
             }
-            Executed::CqFull => line!(self.transcript, "execute {cntlid} {i} full"),
-            Executed::NoSuch => line!(self.transcript, "execute {cntlid} {i} none"),
+            Executed::CqFull => self.transcript.line(&[verb, c, blank, i, Is(" full")]),
+            Executed::NoSuch => self.transcript.line(&[verb, c, blank, i, Is(" none")]),
         }
     }
 
     pub fn cycled(&mut self) {
-        line!(self.lines, "powercycle");
-        line!(self.transcript, "powercycle");
+        self.lines.line(&[Is("powercycle")]);
+        self.transcript.line(&[Is("powercycle")]);
     }
 
     /// Hands all lines to the system.
