@@ -141,7 +141,7 @@ impl<'a> Server<'a> {
                 }
             }
         }
-        self.target.machine.flush_script()
+        self.target.hand_over()
     }
 
     fn close_late(&mut self, now: Instant) -> Outcome<()> {
@@ -176,8 +176,8 @@ impl<'a> Server<'a> {
     }
 }
 
-/// Sends what a connection has to say, and takes PDUs that had to wait for that. The lines of the script go first, so
-/// that it has all that a host was told.
+/// Sends what a connection has to say, and takes PDUs that had to wait for that. Script and image go first, so that they
+/// have all that a host was told.
 fn finish(
     target: &mut Target<'_>,
     poll: &Poll,
@@ -186,7 +186,7 @@ fn finish(
     interest: &mut Interest,
 ) -> Outcome<()> {
     loop {
-        target.machine.flush_script()?;
+        target.hand_over()?;
         connection.send();
         if !connection.has_more() {
             break;

@@ -7,7 +7,7 @@ use crate::controller::{Controller, Data, ENTRY};
 use crate::fabrics;
 use crate::fault::Outcome;
 use crate::holding::Held;
-use crate::image::Image;
+use crate::image::{Done, Image};
 use crate::journal::Journal;
 use crate::machine::Machine;
 use crate::status::{COMMAND_SEQUENCE, SUCCESS};
@@ -152,13 +152,23 @@ impl<'a> Target<'a> {
             self.follow_attachments();
         }
         match &mut self.image {
-            Some(image) if qid != 0 => image.follow(&mut self.machine, &self.configuration, entry)?,
+            Some(image) if qid != 0 => {
+                let done = Done { entry, data: if has_succeeded { data } else { Data::None } };
+                image.follow(&mut self.machine, &self.configuration, done)?;
+            }
             _ => (),
         }
         match &mut self.journal {
             Some(journal) if has_succeeded => journal.follow(self.controllers[index].cntlid, qid, entry, data),
             _ => Ok(()),
         }
+    }
+
+    /// Hands to the system what it has to have before a host hears of its commands: the lines of the script, and the
+    /// blocks of the image.
+    pub fn hand_over(&mut self) -> Outcome<()> {
+        self.machine.flush_script()?;
+        self.image.as_mut().map_or(Ok(()), Image::flush)
     }
 
     /// Has the list of attachments follow a command that has attached a namespace to controllers, or detached it: the
