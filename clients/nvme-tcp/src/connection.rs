@@ -29,7 +29,7 @@ const INPUT: usize = pdu::MOST + (64 << 10);
 const LONG: usize = 32 << 10;
 const BEHIND_LONG: usize = 4 << 10;
 /// With so many bytes that the host has not taken, nothing more of it is carried out.
-const OUTPUT_FULL: usize = 1 << 20;
+const OUTPUT_FULL: usize = 128 << 10;
 
 /// How far a connection is.
 #[derive(Clone, Copy, Debug, PartialEq, Eq)]
