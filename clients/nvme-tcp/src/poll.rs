@@ -1,9 +1,9 @@
-//! The system's poll, epoll(7): one of the two files where something is unsafe. The other is that of the library's
-//! calls, clients/rust/src/raw.rs.
+//! The system's poll, epoll(7), and its options of sockets: one of the two files where something is unsafe. The other is
+//! that of the library's calls, clients/rust/src/raw.rs.
 //!
 //! What makes it safe: `Event` is laid out as the kernel's `struct epoll_event` on x86-64, which is packed; the arrays
-//! that the calls are given are as long as they are told; and a descriptor that a call has returned is owned by nobody
-//! else.
+//! and values that the calls are given are as long as they are told; and a descriptor that a call has returned is owned
+//! by nobody else.
 
 use std::io;
 use std::os::unix::io::{AsRawFd, FromRawFd, OwnedFd, RawFd};
@@ -46,6 +46,23 @@ extern "C" {
     fn epoll_create1(flags: i32) -> i32;
     fn epoll_ctl(poll: i32, what: i32, descriptor: i32, event: *mut Event) -> i32;
     fn epoll_wait(poll: i32, events: *mut Event, most: i32, milliseconds: i32) -> i32;
+    fn setsockopt(socket: i32, level: i32, option: i32, value: *const i32, size: u32) -> i32;
+}
+
+/// Options of sockets by their levels: SO_KEEPALIVE; the seconds without a byte behind which the system asks whether the
+/// other side is there, TCP_KEEPIDLE; those between two such questions, TCP_KEEPINTVL; how many of them are in vain until
+/// the connection ends, TCP_KEEPCNT; and the milliseconds after which it ends where what was sent is not acknowledged,
+/// TCP_USER_TIMEOUT.
+const ASKS: [(i32, i32, i32); 5] = [(1, 9, 1), (6, 4, 30), (6, 5, 10), (6, 6, 6), (6, 18, 90_000)];
+
+/// Has the system end a connection whose other side was not heard of for 90 seconds.
+pub fn end_when_lost(socket: &impl AsRawFd) -> io::Result<()> {
+    ASKS.iter().try_for_each(|(level, option, value)| {
+        match unsafe { setsockopt(socket.as_raw_fd(), *level, *option, value, 4) } {
+            0 => Ok(()),
+            _ => Err(io::Error::last_os_error()),
+        }
+    })
 }
 
 /// The descriptors that are waited for.

@@ -4,7 +4,7 @@ use crate::association::{HostQueue, Session};
 use crate::connection::Connection;
 use crate::control::Console;
 use crate::fault::{Fault, Outcome};
-use crate::poll::{Interest, Poll, Ready};
+use crate::poll::{end_when_lost, Interest, Poll, Ready};
 use crate::target::{Effect, Target};
 use std::collections::HashMap;
 use std::io;
@@ -84,6 +84,7 @@ impl<'a> Server<'a> {
             self.next += 1;
             let local = socket.local_addr();
             let is_set = socket.set_nonblocking(true).and_then(|()| socket.set_nodelay(true));
+            let is_set = is_set.and_then(|()| end_when_lost(&socket));
             if let (Ok(local), Ok(()), Ok(())) = (local, is_set, self.poll.add(&socket, name, TO_READ)) {
                 let queue = HostQueue::new(name, peer.ip(), local);
                 self.connections.insert(name, (Connection::new(socket, queue), TO_READ));

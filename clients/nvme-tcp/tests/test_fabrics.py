@@ -1,8 +1,10 @@
 """Fabrics: Connect, Disconnect, properties, discovery, Keep Alive, events, and many hosts at once."""
+import os
 import random
 import struct
 import threading
 import time
+from pathlib import Path
 
 from tests.host import CAP, CC, CSTS, DISCOVERY, ENABLE, SUBSYSTEM, VS, Ended, Host, Queue
 from tests.targets import BLOCKS, TargetTest
@@ -174,6 +176,20 @@ class Advertises(TargetTest):
 
 
 class Lives(TargetTest):
+    def test_a_host_that_vanishes(self) -> None:
+        """The system asks whether a host is there of which nothing is heard, so that one without a Keep Alive Timeout
+        does not keep its controller: each connection has a timer for that, of at most 30 seconds."""
+        host = self.host(keep_alive=0)
+        for queue in (host.admin, *host.queues):
+            ends = [f"0100007F:{port:04X}" for port in (self.target.port, queue.socket.getsockname()[1])]
+            self.wait_for(lambda: self.timer(ends)[0] == "02")
+            self.assertLessEqual(int(self.timer(ends)[1], 16), 30 * os.sysconf("SC_CLK_TCK"))
+
+    def timer(self, ends: list) -> list:
+        """The kind of the timer that a connection has, and when it is over: 02 is that of such a question."""
+        rows = [line.split() for line in Path("/proc/net/tcp").read_text(encoding="ascii").splitlines()]
+        return next(row[5].split(":") for row in rows if row[1:3] == ends)
+
     def test_keep_alive(self) -> None:
         host = self.host(keep_alive=1000)
         for _ in range(5):
