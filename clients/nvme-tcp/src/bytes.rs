@@ -25,9 +25,6 @@ pub fn text_of(field: &[u8]) -> &[u8] {
     field.split(|byte| *byte == 0).next().unwrap_or(field)
 }
 
-/// How many bytes are put into digits at a time.
-const CHUNK: usize = 64;
-
 /// The two digits of a byte, the upper one in the lower half. It has no branch, so that a processor does several at a
 /// time.
 fn digits(byte: u8) -> u16 {
@@ -40,13 +37,10 @@ fn digits(byte: u8) -> u16 {
 
 /// Puts the digits of bytes behind what stands in a text.
 pub fn push_hex(text: &mut Vec<u8>, bytes: &[u8]) {
-    text.reserve(2 * bytes.len());
-    for chunk in bytes.chunks(CHUNK) {
-        let mut pairs = [0; 2 * CHUNK];
-        for (pair, byte) in pairs.chunks_exact_mut(2).zip(chunk) {
-            pair.copy_from_slice(&digits(*byte).to_le_bytes());
-        }
-        text.extend_from_slice(&pairs[..2 * chunk.len()]);
+    let begin = text.len();
+    text.resize(begin + 2 * bytes.len(), 0);
+    for (pair, byte) in text[begin..].chunks_exact_mut(2).zip(bytes) {
+        pair.copy_from_slice(&digits(*byte).to_le_bytes());
     }
 }
 

@@ -18,7 +18,7 @@ impl<'a> Machine<'a> {
     pub fn store(&mut self, cntlid: u16, address: u64, bytes: &[u8]) -> Outcome<()> {
         self.subsystem.store(cntlid, address, bytes)?;
         if let Some(script) = &mut self.script {
-            script.stored(cntlid, address, bytes);
+            script.stored(cntlid, address, bytes)?;
         }
         Ok(())
     }
@@ -88,8 +88,18 @@ impl<'a> Machine<'a> {
         self.subsystem.is_attached(cntlid, nsid)
     }
 
-    /// Hands the lines that are kept to the system.
-    pub fn flush_script(&mut self) -> Outcome<()> {
-        self.script.as_mut().map_or(Ok(()), Script::flush)
+    /// Hands the lines that are kept to the system, or has that begun: it has them when so many pieces are done.
+    pub fn begin_script(&mut self) -> Outcome<u64> {
+        self.script.as_mut().map_or(Ok(0), Script::begin)
+    }
+
+    /// How many pieces of the script are done.
+    pub fn script_done(&mut self) -> Outcome<u64> {
+        self.script.as_mut().map_or(Ok(0), Script::done)
+    }
+
+    /// Waits until another piece of the script is done.
+    pub fn wait_for_script(&mut self) -> Outcome<()> {
+        self.script.as_mut().map_or(Ok(()), Script::wait)
     }
 }

@@ -7,6 +7,7 @@
 mod admin;
 mod answer;
 mod association;
+mod behind;
 mod bytes;
 mod configuration;
 mod connection;

@@ -1,32 +1,16 @@
 //! The run as a script: each event as a line of a script, and what it gave as a line of its transcript.
 
-use crate::bytes::{push_hex, push_number};
+use crate::behind::{Behind, Piece, Text};
+use crate::bytes::push_number;
 use crate::configuration::Configuration;
 use crate::fault::{Fault, Outcome};
 use nvmesim::{Executed, Fetched};
 use std::fs::File;
-use std::io::{self, Write};
+use std::io;
 use std::path::Path;
 
-/// A text that is written to a file in pieces.
-struct Text {
-    file: File,
-    waiting: Vec<u8>,
-}
-
-impl Text {
-    fn new(path: &Path) -> io::Result<Text> {
-        Ok(Text { file: File::create(path)?, waiting: Vec::new() })
-    }
-
-    fn flush(&mut self) -> Outcome<()> {
-        if !self.waiting.is_empty() {
-            self.file.write_all(&self.waiting).map_err(Fault::Script)?;
-            self.waiting.clear();
-        }
-        Ok(())
-    }
-}
+/// Lines of so many bytes are a piece, which goes to the file before the next are there.
+const PIECE: usize = 64 << 10;
 
 /// A part of a line.
 #[derive(Clone, Copy)]
@@ -41,24 +25,23 @@ enum Word<'w> {
 
 use Word::{Hex, Is, Number};
 
-impl Text {
-    /// Puts a line behind the others.
-    fn line(&mut self, words: &[Word<'_>]) {
-        for word in words {
-            match *word {
-                Is(text) => self.waiting.extend_from_slice(text.as_bytes()),
-                Number(number) => push_number(&mut self.waiting, number),
-                Hex(bytes) => push_hex(&mut self.waiting, bytes),
-            }
+/// Puts a line behind others.
+fn push(lines: &mut Text, words: &[Word<'_>]) {
+    for word in words {
+        match *word {
+            Is(text) => lines.text().extend_from_slice(text.as_bytes()),
+            Number(number) => push_number(lines.text(), number),
+            Hex(bytes) => lines.push_digits(bytes),
         }
-        self.waiting.push(b'\n');
     }
+    lines.text().push(b'\n');
 }
 
 /// A script that is being kept, and its transcript.
 pub struct Script {
-    lines: Text,
-    transcript: Text,
+    /// The lines that go to the files next, and what they have given.
+    piece: Piece,
+    files: Behind,
 }
 
 impl Script {
@@ -66,34 +49,38 @@ impl Script {
     pub fn new(path: &Path, configuration: &Configuration) -> io::Result<Script> {
         let mut beside = path.as_os_str().to_owned();
         beside.push(".out");
-        let mut script = Script { lines: Text::new(path)?, transcript: Text::new(Path::new(&beside))? };
-        script.lines.waiting.extend(configuration.lines().bytes());
-        script.lines.line(&[Is("start")]);
+        let files = Behind::new([File::create(path)?, File::create(&beside)?])?;
+        let mut script = Script { piece: Piece::default(), files };
+        push(&mut script.piece[0], &[Is(&configuration.lines()), Is("start")]);
         Ok(script)
     }
 
-    pub fn stored(&mut self, cntlid: u16, address: u64, bytes: &[u8]) {
+    pub fn stored(&mut self, cntlid: u16, address: u64, bytes: &[u8]) -> Outcome<()> {
         let c = Number(cntlid.into());
-        self.lines.line(&[Is("store "), c, Is(" "), Number(address), Is(" hex:"), Hex(bytes)]);
-        self.transcript.line(&[Is("stored "), c]);
+        push(&mut self.piece[0], &[Is("store "), c, Is(" "), Number(address), Is(" hex:"), Hex(bytes)]);
+        push(&mut self.piece[1], &[Is("stored "), c]);
+        if self.piece[0].len() >= PIECE {
+            self.begin()?;
+        }
+        Ok(())
     }
 
     pub fn wrote(&mut self, cntlid: u16, offset: u64, value: u32) {
         let c = Number(cntlid.into());
-        self.lines.line(&[Is("write32 "), c, Is(" "), Number(offset), Is(" "), Number(value.into())]);
-        self.transcript.line(&[Is("wrote32 "), c]);
+        push(&mut self.piece[0], &[Is("write32 "), c, Is(" "), Number(offset), Is(" "), Number(value.into())]);
+        push(&mut self.piece[1], &[Is("wrote32 "), c]);
     }
 
     pub fn fetched(&mut self, cntlid: u16, qid: u16, fetched: Fetched) {
         let line = [Is("fetch "), Number(cntlid.into()), Is(" "), Number(qid.into())];
-        self.lines.line(&line);
+        push(&mut self.piece[0], &line);
         let [verb, c, blank, q] = line;
-        self.transcript.line(&[verb, c, blank, q, Is(if fetched == Fetched::Took { " took" } else { " idle" })]);
+        push(&mut self.piece[1], &[verb, c, blank, q, Is(if fetched == Fetched::Took { " took" } else { " idle" })]);
     }
 
     pub fn executed(&mut self, cntlid: u16, i: usize, executed: Executed) {
         let line = [Is("execute "), Number(cntlid.into()), Is(" "), Number(i as u64)];
-        self.lines.line(&line);
+        push(&mut self.piece[0], &line);
         let [verb, c, blank, i] = line;
         match executed {
             Executed::Posted(it) => {
@@ -101,21 +88,33 @@ impl Script {
                 let (sct, rule) = (Number(it.sct.into()), Number(it.denied_by.unwrap_or(0).into()));
                 let sc = [it.sc];
                 let [posted, colon, behind] = [" posted ", ":", " "].map(Is);
-                self.transcript.line(&[verb, c, blank, i, posted, sct, colon, Hex(&sc), behind, rule]);
+                push(&mut self.piece[1], &[verb, c, blank, i, posted, sct, colon, Hex(&sc), behind, rule]);
             }
-            Executed::CqFull => self.transcript.line(&[verb, c, blank, i, Is(" full")]),
-            Executed::NoSuch => self.transcript.line(&[verb, c, blank, i, Is(" none")]),
+            Executed::CqFull => push(&mut self.piece[1], &[verb, c, blank, i, Is(" full")]),
+            Executed::NoSuch => push(&mut self.piece[1], &[verb, c, blank, i, Is(" none")]),
         }
     }
 
     pub fn cycled(&mut self) {
-        self.lines.line(&[Is("powercycle")]);
-        self.transcript.line(&[Is("powercycle")]);
+        push(&mut self.piece[0], &[Is("powercycle")]);
+        push(&mut self.piece[1], &[Is("powercycle")]);
     }
 
-    /// Hands all lines to the system.
-    pub fn flush(&mut self) -> Outcome<()> {
-        self.lines.flush()?;
-        self.transcript.flush()
+    /// Hands all lines to the system, or has that begun: so many pieces are done when it has them.
+    pub fn begin(&mut self) -> Outcome<u64> {
+        if self.piece[0].len() != 0 {
+            self.files.begin(&mut self.piece).map_err(Fault::Script)?;
+        }
+        Ok(self.files.begun())
+    }
+
+    /// How many pieces are done.
+    pub fn done(&mut self) -> Outcome<u64> {
+        self.files.done().map_err(Fault::Script)
+    }
+
+    /// Waits until another piece is done.
+    pub fn wait(&mut self) -> Outcome<()> {
+        self.files.wait().map_err(Fault::Script)
     }
 }

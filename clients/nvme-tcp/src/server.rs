@@ -6,7 +6,7 @@ use crate::control::Console;
 use crate::fault::{Fault, Outcome};
 use crate::poll::{end_when_lost, Interest, Poll, Ready};
 use crate::target::{Effect, Target};
-use std::collections::HashMap;
+use std::collections::{HashMap, VecDeque};
 use std::io;
 use std::net::TcpListener;
 use std::os::unix::net::UnixListener;
@@ -25,13 +25,36 @@ const MOST_CONSOLES: usize = 8;
 /// What the poll is asked of a connection at first.
 const TO_READ: Interest = Interest { read: true, write: false };
 
+/// A connection that is served.
+struct Served {
+    connection: Connection,
+    interest: Interest,
+    /// So many pieces of the script are done before it says what it has to say, and is heard again.
+    waits_for: Option<u64>,
+}
+
+impl Served {
+    /// Has the poll wait for what the connection waits for.
+    fn wait_by(&mut self, poll: &Poll, name: u64) -> Outcome<()> {
+        let (read, write) = self.connection.wants();
+        let wanted = Interest { read, write };
+        if wanted != self.interest && !self.connection.is_closed {
+            poll.change(&self.connection.socket, name, wanted).map_err(Fault::System)?;
+            self.interest = wanted;
+        }
+        Ok(())
+    }
+}
+
 /// The target with its connections.
 pub struct Server<'a> {
     target: Target<'a>,
     poll: Poll,
     hosts: TcpListener,
     control: Option<UnixListener>,
-    connections: HashMap<u64, (Connection, Interest)>,
+    connections: HashMap<u64, Served>,
+    /// The connections that wait for the script, in the order in which they have begun to.
+    waiting: VecDeque<u64>,
     consoles: HashMap<u64, Console>,
     next: u64,
 }
@@ -45,8 +68,8 @@ impl<'a> Server<'a> {
         if let Some(control) = &control {
             poll.add(control, CONTROL, TO_READ)?;
         }
-        let (connections, consoles) = (HashMap::new(), HashMap::new());
-        Ok(Server { target, poll, hosts, control, connections, consoles, next: FIRST })
+        let (connections, waiting, consoles) = (HashMap::new(), VecDeque::new(), HashMap::new());
+        Ok(Server { target, poll, hosts, control, connections, waiting, consoles, next: FIRST })
     }
 
     /// Serves until the target ends.
@@ -61,15 +84,21 @@ impl<'a> Server<'a> {
     }
 
     fn turn(&mut self, ready: &mut Vec<Ready>, look: &mut Instant) -> Outcome<()> {
-        self.poll.wait(LOOK.as_millis() as i32, ready).map_err(Fault::System)?;
+        let patience = if self.waiting.is_empty() { LOOK } else { Duration::ZERO };
+        self.poll.wait(patience.as_millis() as i32, ready).map_err(Fault::System)?;
+        let mut is_idle = true;
         for it in ready.iter() {
             match it.name {
                 HOSTS => self.accept_hosts()?,
                 CONTROL => self.accept_console(),
                 name if self.consoles.contains_key(&name) => self.serve_console(name)?,
-                name => self.serve(name, *it)?,
+                name => is_idle &= !self.serve(name, *it)?,
             }
         }
+        if is_idle {
+            self.target.machine.wait_for_script()?;
+        }
+        self.resume()?;
         let now = Instant::now();
         if now >= *look {
             *look = now + LOOK;
@@ -87,7 +116,8 @@ impl<'a> Server<'a> {
             let is_set = is_set.and_then(|()| end_when_lost(&socket));
             if let (Ok(local), Ok(()), Ok(())) = (local, is_set, self.poll.add(&socket, name, TO_READ)) {
                 let queue = HostQueue::new(name, peer.ip(), local);
-                self.connections.insert(name, (Connection::new(socket, queue), TO_READ));
+                let connection = Connection::new(socket, queue);
+                self.connections.insert(name, Served { connection, interest: TO_READ, waits_for: None });
                 self.make_room()?;
             }
         }
@@ -97,7 +127,7 @@ impl<'a> Server<'a> {
     /// Closes the oldest connection that is no queue of a controller, where there are too many.
     fn make_room(&mut self) -> Outcome<()> {
         let is_guest = |it: &Connection| !matches!(it.queue.session, Session::Controller { .. });
-        let guests = self.connections.iter().filter(|(_, (it, _))| is_guest(it)).map(|(name, _)| *name);
+        let guests = self.connections.iter().filter(|(_, it)| is_guest(&it.connection)).map(|(name, _)| *name);
         let (count, oldest) = guests.fold((0, u64::MAX), |(count, oldest), name| (count + 1, oldest.min(name)));
         if count > MOST_GUESTS {
             self.close(oldest)?;
@@ -105,24 +135,75 @@ impl<'a> Server<'a> {
         Ok(())
     }
 
-    fn serve(&mut self, name: u64, ready: Ready) -> Outcome<()> {
-        if let Some((connection, interest)) = self.connections.get_mut(&name) {
-            if ready.read || ready.is_over {
-                connection.receive(&mut self.target)?;
+    /// Serves a connection, unless it waits for the script; whether it did.
+    fn serve(&mut self, name: u64, ready: Ready) -> Outcome<bool> {
+        let served = match self.connections.get_mut(&name) {
+            Some(served) if served.waits_for.is_none() => served,
+            _ => return Ok(false),
+        };
+        if ready.read || ready.is_over {
+            served.connection.receive(&mut self.target)?;
+        }
+        self.finish(name, false)?;
+        Ok(true)
+    }
+
+    /// Has connections say what they have to say whose lines the script has now.
+    fn resume(&mut self) -> Outcome<()> {
+        for _ in 0..self.waiting.len() {
+            let done = self.target.machine.script_done()?;
+            let name = self.waiting.pop_front().unwrap_or_default();
+            match self.connections.get_mut(&name) {
+                Some(served) if served.waits_for > Some(done) => self.waiting.push_back(name),
+                Some(served) => {
+                    served.waits_for = None;
+                    self.finish(name, true)?;
+                }
+                None => (),
             }
-            finish(&mut self.target, &self.poll, name, connection, interest)?;
-            let is_closed = connection.is_closed;
-            if is_closed {
-                self.close(name)?;
-            }
-            self.apply_effects()?;
         }
         Ok(())
     }
 
+    /// Goes on with a connection, and with what that has done to others.
+    fn finish(&mut self, name: u64, is_handed: bool) -> Outcome<()> {
+        self.send(name, is_handed)?;
+        if self.connections.get(&name).map_or(false, |it| it.connection.is_closed) {
+            self.close(name)?;
+        }
+        self.apply_effects()
+    }
+
+    /// Sends what a connection has to say, and takes PDUs that had to wait for that. Script and image go first, unless
+    /// they are handed over, so that they have all that a host was told. Where the script takes a while, the connection
+    /// waits for it.
+    fn send(&mut self, name: u64, is_handed: bool) -> Outcome<()> {
+        let Server { target, connections, waiting, .. } = self;
+        let served = match connections.get_mut(&name) {
+            Some(served) => served,
+            None => return Ok(()),
+        };
+        let mut is_handed = is_handed;
+        loop {
+            let pieces = if is_handed { 0 } else { target.hand_over()? };
+            if pieces > target.machine.script_done()? {
+                if served.waits_for.replace(pieces).is_none() {
+                    waiting.push_back(name);
+                }
+                return Ok(());
+            }
+            served.connection.send();
+            if !served.connection.has_more() {
+                return served.wait_by(&self.poll, name);
+            }
+            served.connection.take_all(target)?;
+            is_handed = false;
+        }
+    }
+
     /// Closes a connection: its queue ends.
     fn close(&mut self, name: u64) -> Outcome<()> {
-        if let Some((connection, _)) = self.connections.remove(&name) {
+        if let Some(Served { connection, .. }) = self.connections.remove(&name) {
             let _ = self.poll.remove(&connection.socket);
             self.target.lose(&connection.queue)?;
         }
@@ -135,21 +216,21 @@ impl<'a> Server<'a> {
             match effect {
                 Effect::Close(name) => self.close(name)?,
                 Effect::Answer(name, cid, answer) => {
-                    if let Some((connection, interest)) = self.connections.get_mut(&name) {
-                        connection.answer(&mut self.target, cid, answer)?;
-                        finish(&mut self.target, &self.poll, name, connection, interest)?;
+                    if let Some(served) = self.connections.get_mut(&name) {
+                        served.connection.answer(&mut self.target, cid, answer)?;
+                        self.send(name, false)?;
                     }
                 }
             }
         }
-        self.target.hand_over()
+        self.target.hand_over().map(|_| ())
     }
 
     fn close_late(&mut self, now: Instant) -> Outcome<()> {
         self.target.expire(now)?;
         self.apply_effects()?;
         let late: Vec<u64> =
-            self.connections.iter().filter(|(_, (it, _))| it.is_late(now)).map(|(name, _)| *name).collect();
+            self.connections.iter().filter(|(_, it)| it.connection.is_late(now)).map(|(name, _)| *name).collect();
         late.into_iter().try_for_each(|name| self.close(name))
     }
 
@@ -175,30 +256,4 @@ impl<'a> Server<'a> {
         }
         self.apply_effects()
     }
-}
-
-/// Sends what a connection has to say, and takes PDUs that had to wait for that. Script and image go first, so that they
-/// have all that a host was told.
-fn finish(
-    target: &mut Target<'_>,
-    poll: &Poll,
-    name: u64,
-    connection: &mut Connection,
-    interest: &mut Interest,
-) -> Outcome<()> {
-    loop {
-        target.hand_over()?;
-        connection.send();
-        if !connection.has_more() {
-            break;
-        }
-        connection.take_all(target)?;
-    }
-    let (read, write) = connection.wants();
-    let wanted = Interest { read, write };
-    if wanted != *interest && !connection.is_closed {
-        poll.change(&connection.socket, name, wanted).map_err(Fault::System)?;
-        *interest = wanted;
-    }
-    Ok(())
 }

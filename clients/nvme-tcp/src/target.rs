@@ -164,11 +164,12 @@ impl<'a> Target<'a> {
         }
     }
 
-    /// Hands to the system what it has to have before a host hears of its commands: the lines of the script, and the
-    /// blocks of the image.
-    pub fn hand_over(&mut self) -> Outcome<()> {
-        self.machine.flush_script()?;
-        self.image.as_mut().map_or(Ok(()), Image::flush)
+    /// Hands to the system what it has to have before a host hears of its commands: the blocks of the image, and the
+    /// lines of the script, which it may not have yet. It has them when so many pieces of the script are done.
+    pub fn hand_over(&mut self) -> Outcome<u64> {
+        let pieces = self.machine.begin_script()?;
+        self.image.as_mut().map_or(Ok(()), Image::flush)?;
+        Ok(pieces)
     }
 
     /// Has the list of attachments follow a command that has attached a namespace to controllers, or detached it: the
