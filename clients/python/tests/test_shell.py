@@ -190,7 +190,7 @@ def at_terminal(command: Sequence[str], keys: Sequence[Tuple[bytes, bytes]]) -> 
     child, terminal = pty.fork()
     if child == 0:
         os.execvpe(command[0], list(command), {**environment(), "TERM": "xterm"})
-    shown, until = b"", time.monotonic() + 30
+    shown, until = b"", time.monotonic() + 120
     for wanted, typed in [*keys, (b"\0never", b"")]:
         begin = len(shown)
         while wanted not in shown[begin:] and select.select([terminal], [], [], max(0.0, until - time.monotonic()))[0]:
