@@ -1,21 +1,21 @@
 -- Both layers over another medium: what an event makes of them, but for the medium.
-use Rattle.nvme_fleet.proofs.Words.{fault_free_step, ◌≡◌, ◌<◌, ◌+◌, ◌-◌, ◌^◌, ℕ, Bool, true, false, List, [], ◌∷◌, Option, None, Some, Result, Ok, Err, sym, ap, subst, ◌∙◌, if◌then◌else◌, Device, may_read, Answer, Done, NotUp, PlaceRefusal, PollFault, UpFault, Found, Lane, Request, Waiting, Ticket, Call, Turns, Driver, is_up, stores_of, head_doorbell, answered, answered_poll, found, found_poll, without_calls, Event, DifferIn, over, Subsystem, after_power_cycle, controller_at, FleetEvent, BringUp, Place, Ring, Fetch, Execute, Poll, Reset, RawStore, RawWrite32, PowerCycle, FleetSeen, OfItsHost, Reply, DriverCall, ComesUp, Consumes, Does, DoesIfAny, Places, Polls, Ran, Rings, events_of_calls, reset_events, ring_events, window_at, Layers, fleet_in, Applies, AppliesRaw, CallsAt, Cycles, Happens, driver_at, resets_from, IsRegular, layers_over, HaveTicketsOnce, polled}
-use Rattle.nvme_driver.specs.declared.faults.PollFault.TheVariants as poll_fault
+use Rattle.nvme_fleet.proofs.Words.{fault_free_step, ◌≡◌, ◌<◌, ◌+◌, ◌-◌, ◌^◌, ℕ, true, false, List, [], ◌∷◌, Option, None, Some, Result, Ok, Err, sym, ap, subst, ◌∙◌, Device, may_read, Answer, Done, NotUp, PlaceRefusal, PollFault, UpFault, Request, Ticket, Call, Turns, Driver, stores_of, head_doorbell, Event, DifferIn, over, Subsystem, after_power_cycle, controller_at, FleetEvent, BringUp, Place, Ring, Fetch, Execute, Poll, Reset, RawStore, RawWrite32, PowerCycle, FleetSeen, OfItsHost, Reply, DriverCall, ComesUp, Consumes, Does, DoesIfAny, Places, Polls, Ran, Rings, events_of_calls, reset_events, ring_events, window_at, Layers, fleet_in, Applies, AppliesRaw, CallsAt, Cycles, Happens, driver_at, resets_from, IsRegular, layers_over, HaveTicketsOnce, polled}
 use Rattle.nvme_machine.specs.declared.event.Event.TheVariants as event
 use Rattle.nvme_machine.proofs.Secrecy as machine
 use Rattle.nvme_fleet.specs.declared.delivery.DriverCall.TheVariants as call
 use Rattle.nvme_fleet.specs.Layers.{Step}
 use Rattle.nvme_fleet.proofs.Bytes.{IsSameSite, same-site}
 use Rattle.nvme_mailbox.proofs.Existing.{IsOther, other-site}
-use Rattle.nvme_fleet.proofs.Mirrored.{ArePlain, AreQuiet, IsQuiet, quiet-over, quiet-run, rises-over}
+use Rattle.nvme_fleet.proofs.Mirrored.{AreQuiet, IsQuiet, quiet-over, quiet-run, rises-over}
+use Rattle.nvme_fleet.proofs.PlainCalls.{IsPlain, plain-polled}
 use Rattle.nvme_fleet.proofs.Unique.{AreCalm, count, happens-alone}
 
 -- Calls of a driver.
 
-quiet-calls : (k : ℕ) (calls : List Call) → ArePlain calls → AreQuiet (events_of_calls k calls)
+quiet-calls : (k : ℕ) (calls : List Call) → IsPlain calls → AreQuiet (events_of_calls k calls)
 quiet-calls k [] plain = tt
-quiet-calls k (Turns ∷ calls) plain = absurd plain.0
-quiet-calls k (one ∷ calls) plain = (tt, quiet-calls k calls plain.1)
+quiet-calls k (Turns ∷ calls) plain = absurd plain
+quiet-calls k (one ∷ calls) plain = (tt, quiet-calls k calls plain)
 
 ran-over : (events : List Event) (p q : Subsystem) (m : Device) → AreQuiet events → Ran true p events q → Ran true (over m p) events (over m q)
 ran-over events p q m quiet h = (h.0, quiet-run true events h.0 p q m quiet h.1)
@@ -26,28 +26,12 @@ up-over k m d d' p q (Err fault) h = (h.0, ap (over m) h.1)
 
 place-over : (k : ℕ) (m : Device) (request : Request) (d d' : Driver) (p q : Subsystem) (result : Result Ticket PlaceRefusal) → Places true k request d p result d' q → Places true k request d (over m p) result d' (over m q)
 place-over k m request d d' p q (Ok ticket) (slot, free, is, ran) =
-    (slot, free, is, ran-over (events_of_calls k (stores_of d request slot)) p q m (quiet-calls k (stores_of d request slot) (tt, (tt, (tt, tt)))) ran)
+    (slot, free, is, ran-over (events_of_calls k (stores_of d request slot)) p q m (quiet-calls k (stores_of d request slot) tt) ran)
 place-over k m request d d' p q (Err why) h = (h.0, ap (over m) h.1)
 
 ring-over : (k : ℕ) (m : Device) (d d' : Driver) (p q : Subsystem) (result : Result (Unit {0}) NotUp) → Rings true k d p result d' q → Rings true k d (over m p) result d' (over m q)
 ring-over k m d d' p q (Ok u) h = (h.0, ran-over (ring_events k d) p q m (tt, (tt, tt)) h.1)
 ring-over k m d d' p q (Err e) h = (h.0, ap (over m) h.1)
-
-answered-plain : (d : Driver) (window : List ℕ) (lane : Lane) (entry : List ℕ) (o : Option Waiting) → ArePlain (answered_poll d window lane entry o).calls
-answered-plain d window lane entry None = tt
-answered-plain d window lane entry (Some w) = (tt, tt)
-
-found-plain : (d : Driver) (window : List ℕ) (o : Option Found) → ArePlain (found_poll d window o).calls
-found-plain d window None = tt
-found-plain d window (Some f) = answered-plain d window f.lane f.entry (answered d f.lane f.entry)
-
-polled-plain : (d : Driver) (o : Option ℕ) (window : List ℕ) → ArePlain (polled d o window).calls
-polled-plain d (Some slot) window = tt
-polled-plain d None window = by (is_up d.state)
-  where
-    by : (b : Bool) → ArePlain (if b then found_poll d window (found d window) else without_calls (Err poll_fault.NotUp) d).calls
-    by true = found-plain d window (found d window)
-    by false = tt
 
 consumes-over : (k : ℕ) (m : Device) (p q : Subsystem) (result : Result (Option Answer) PollFault) → Consumes true k p result q → Consumes true k (over m p) result (over m q)
 consumes-over k m p q (Ok (Some (Done ticket status dw0 len))) (lane, head, ran) = (lane, head, ran-over (event.Write32 k (head_doorbell lane) head ∷ []) p q m (tt, tt) ran)
@@ -62,7 +46,7 @@ poll-over k m d d' p q result h =
       is_oldest = h.is_oldest;
       gives = h.gives;
       driver = h.driver;
-      ran = ran-over (events_of_calls k (polled d h.oldest w).calls) p q m (quiet-calls k (polled d h.oldest w).calls (polled-plain d h.oldest w)) h.ran;
+      ran = ran-over (events_of_calls k (polled d h.oldest w).calls) p q m (quiet-calls k (polled d h.oldest w).calls (plain-polled d h.oldest w)) h.ran;
       consumes = consumes-over k m p q result h.consumes;
     }
 

@@ -44,6 +44,7 @@ pub mod AdminKinds
 pub mod AnswerStep
 pub mod AdminStep
 pub mod ExecuteStep
+pub mod PlainCalls
 pub mod StartStep
 pub mod OwnCommands
 pub mod TurnStep

@@ -9,13 +9,12 @@ use Rattle.nvme_machine.specs.Calling.{AreCallsAs, AreCallsOfExecution}
 use Rattle.nvme_machine.specs.EventCalls.{AreCallsOfRun}
 use Rattle.nvme_subsys.proofs.Numbers as numbers
 use Rattle.nvme_fleet.proofs.AdminTurns.{AreAdmin, IsAdmin, fetch-admin, fetched_by}
-use Rattle.nvme_fleet.proofs.LinkedStep.{plain-polled}
 use Rattle.nvme_fleet.proofs.Members.{fresh-down}
 use Rattle.nvme_fleet.proofs.Places.{no-way}
-use Rattle.nvme_fleet.proofs.Reaching.{IsFresh, fresh-call, plain-first, put, reacted-as}
+use Rattle.nvme_fleet.proofs.Reaching.{IsFresh, fresh-call, put, reacted-as}
 use Rattle.nvme_fleet.proofs.RiseLink.{bytes_of}
 use Rattle.nvme_fleet.proofs.Seating.{controller-there, get-set}
-use Rattle.nvme_fleet.proofs.StartStep.{IsPlain}
+use Rattle.nvme_fleet.proofs.PlainCalls.{IsPlain, plain-first, plain-polled}
 
 -- An admin command makes no call.
 

@@ -1,9 +1,9 @@
 -- What a driver does over a link is exactly these events of its controller.
-use Rattle.nvme_fleet.proofs.Words.{◌≡◌, ◌+◌, ℕ, Bool, true, false, List, [], ◌∷◌, ◌++◌, Option, None, Some, Result, Ok, Err, refl, sym, ap, subst, OnOk, OnErr, is_ok, if◌then◌else◌, sq_head, Answer, NotUp, PlaceRefusal, PollFault, UpFault, AlreadyUp, Found, Lane, Admin, Io, Request, Waiting, Ticket, Call, Calls, Writes, Driver, IsPlaced, after_reset, ends, is_up, reset_calls, ring_calls, stores_of, tail_of, tail_doorbell, IsPolled, answered, answered_poll, consumed_ends, found, found_poll, head_of, without_calls, Rises, Event, Seen, Subsystem, CallOver, CallStep, ComesUp, Consumes, Places, Polls, Ran, Resets, Rings, events_of, events_of_calls, window_at, Linked, Reaches, linked_controller, polled}
-use Rattle.nvme_driver.specs.declared.faults.PollFault.TheVariants.{NotUp as NotUpFault}
+use Rattle.nvme_fleet.proofs.Words.{◌≡◌, ◌+◌, ℕ, Bool, true, false, List, [], ◌∷◌, ◌++◌, Option, Some, Result, Ok, Err, refl, sym, ap, subst, OnOk, OnErr, is_ok, if◌then◌else◌, sq_head, Answer, NotUp, PlaceRefusal, PollFault, UpFault, AlreadyUp, Admin, Io, Request, Ticket, Call, Calls, Writes, Driver, IsPlaced, after_reset, ends, is_up, reset_calls, ring_calls, stores_of, tail_of, tail_doorbell, IsPolled, consumed_ends, head_of, Rises, Event, Seen, Subsystem, CallOver, CallStep, ComesUp, Consumes, Places, Polls, Ran, Resets, Rings, events_of, events_of_calls, window_at, Linked, Reaches, linked_controller, polled}
+use Rattle.nvme_driver.specs.declared.answer.Answer.TheVariants.{Done}
 use Rattle.nvme_driver.specs.Polls.{Poll}
 use Rattle.nvme_machine.specs.Subsystems.{Run}
-use Rattle.nvme_fleet.proofs.LinkedStep.{plain-polled}
+use Rattle.nvme_fleet.proofs.PlainCalls.{IsUndone, by-poll, plain-polled}
 use Rattle.nvme_fleet.proofs.Reaching.{IsFresh, calls-over, rises-below, window-there}
 use Rattle.nvme_fleet.proofs.RiseLink.{bytes_of, step_of}
 
@@ -58,21 +58,14 @@ nothing-ran tells old new (s ∷ given, h) = absurd h
 abbrev Consumed : Bool → ℕ → Poll → Subsystem → Subsystem → Type 0
 Consumed tells k x old new = Ran tells old (events_of_calls k x.calls) new → Consumes tells k old x.answer new
 
-for-answered : (tells : Bool) (k : ℕ) (d : Driver) (window : List ℕ) (lane : Lane) (entry : List ℕ) (o : Option Waiting) (old new : Subsystem) → Consumed tells k (answered_poll d window lane entry o) old new
-for-answered tells k d window lane entry None old new h = nothing-ran tells old new h
-for-answered tells k d window lane entry (Some w) old new h = (lane, head_of (consumed_ends (ends lane d) (sq_head entry)), h)
-
-for-found : (tells : Bool) (k : ℕ) (d : Driver) (window : List ℕ) (o : Option Found) (old new : Subsystem) → Consumed tells k (found_poll d window o) old new
-for-found tells k d window None old new h = nothing-ran tells old new h
-for-found tells k d window (Some f) old new h = for-answered tells k d window f.lane f.entry (answered d f.lane f.entry) old new h
-
-for-up : (tells : Bool) (k : ℕ) (d : Driver) (window : List ℕ) (up : Bool) (old new : Subsystem) → Consumed tells k (if up then found_poll d window (found d window) else without_calls (Err NotUpFault) d) old new
-for-up tells k d window true old new h = for-found tells k d window (found d window) old new h
-for-up tells k d window false old new h = nothing-ran tells old new h
+undone-consumes : (tells : Bool) (k : ℕ) (answer : Result (Option Answer) PollFault) (old new : Subsystem) → IsUndone answer → new ≡ old → Consumes tells k old answer new
+undone-consumes tells k (Ok (Some (Done ticket status dw0 len))) old new u h = absurd u
+undone-consumes tells k answer old new u h = h
 
 for-polled : (tells : Bool) (k : ℕ) (d : Driver) (window : List ℕ) (oldest : Option ℕ) (old new : Subsystem) → Consumed tells k (polled d oldest window) old new
-for-polled tells k d window (Some slot) old new h = nothing-ran tells old new h
-for-polled tells k d window None old new h = for-up tells k d window (is_up d.state) old new h
+for-polled tells k d window oldest old new =
+    by-poll (λ x. Consumed tells k x old new) (λ answer u e h. undone-consumes tells k answer old new u (nothing-ran tells old new h))
+    (λ v e lane entry w h. (lane, head_of (consumed_ends (ends lane e) (sq_head entry)), h)) d oldest window
 
 pub polls-below : (tells : Bool) (d d' : Driver) (p q : Linked) (result : Result (Option Answer) PollFault) (buffer : List ℕ) → Reaches p → IsPolled (CallOver tells) d (linked_controller p).window p result d' q buffer
     → Polls tells (p.place + 1) d p.subsystem result d' q.subsystem

@@ -1,10 +1,10 @@
 -- What a driver does over its port, and that it is the step of its mailbox.
-use Rattle.nvme_fleet.proofs.Words.{◌≡◌, ℕ, Bool, true, false, List, length, take, Option, None, Some, refl, sym, ap, subst, ◌∙◌, Result, Ok, Err, IfOk, IfErr, OnOk, OnErr, if◌then◌else◌, submission_of, Request, Answer, Ticket, PollFault, Found, Waiting, Lane, PlaceRefusal, Call, Calls, asked_of, Driver, is_up, Controller, Setting, Placed, Polled, Reply, MailboxReaction, Linked, linked_controller, linked_setting, with_controller, Sound, mailbox, IsStep, after_calls}
-use Rattle.nvme_driver.specs.declared.faults.PollFault.TheVariants.{NotUp}
+use Rattle.nvme_fleet.proofs.Words.{◌≡◌, ℕ, Bool, List, length, take, Option, None, Some, refl, sym, ap, subst, ◌∙◌, Result, Ok, Err, IfOk, IfErr, OnOk, OnErr, submission_of, Request, Answer, Ticket, PollFault, PlaceRefusal, Call, Calls, asked_of, Driver, Controller, Setting, Placed, Polled, Reply, MailboxReaction, Linked, linked_controller, linked_setting, with_controller, Sound, mailbox, IsStep, after_calls}
 use Rattle.nvme_driver.specs.Drivers as driver
 use Rattle.nvme_driver.specs.Polls as poll
 use Rattle.nvme_mailbox.specs.Deliveries as mail
-use Rattle.nvme_fleet.proofs.StartStep.{IsPlain, calls-are, calls-id}
+use Rattle.nvme_fleet.proofs.PlainCalls.{IsPlain, plain-polled}
+use Rattle.nvme_fleet.proofs.StartStep.{calls-are, calls-id}
 use Rattle.nvme_fleet.proofs.RiseLink.{Stays, stays-same, step_of, calls-linked}
 use Rattle.nvme_fleet.proofs.PlaceStep.{place_is_a_step, refusal_is_a_step}
 use Rattle.nvme_fleet.proofs.PollStep.{poll_is_a_step}
@@ -28,23 +28,6 @@ linked-step r d d' old new c a b n k e f s = record {
   world = ap (λ (x : Setting). x.world) n;
   device = ap (λ (x : Setting). x.device) n;
 }
-
--- A poll makes one call, a write, or none.
-plain-answered : (d : Driver) (window : List ℕ) (lane : Lane) (entry : List ℕ) (o : Option Waiting) → IsPlain (poll.answered_poll d window lane entry o).calls
-plain-answered d window lane entry None = tt
-plain-answered d window lane entry (Some w) = tt
-
-plain-found : (d : Driver) (window : List ℕ) (o : Option Found) → IsPlain (poll.found_poll d window o).calls
-plain-found d window None = tt
-plain-found d window (Some f) = plain-answered d window f.lane f.entry (poll.answered d f.lane f.entry)
-
-plain-up : (d : Driver) (window : List ℕ) (u : Bool) → IsPlain (if u then poll.found_poll d window (poll.found d window) else poll.without_calls (Err NotUp) d).calls
-plain-up d window true = plain-found d window (poll.found d window)
-plain-up d window false = tt
-
-pub plain-polled : (d : Driver) (oldest : Option ℕ) (window : List ℕ) → IsPlain (poll.polled d oldest window).calls
-plain-polled d (Some i) window = tt
-plain-polled d None window = plain-up d window (is_up d.state)
 
 -- What it hands up, with the bytes of the mailbox's reply at the front of the buffer.
 pub record IsHandedUp (d d' : Driver) (old new : Setting) (result : Result (Option Answer) PollFault) (buffer : List ℕ) : Type 0 where

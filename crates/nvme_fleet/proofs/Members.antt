@@ -1,10 +1,11 @@
 -- What a driver's calls come to at its controller.
-use Rattle.nvme_fleet.proofs.Words.{◌≡◌, ◌+◌, ℕ, Bool, true, false, List, [], ◌∷◌, Result, Ok, Err, refl, sym, ap, subst, ◌∙◌, is_ok, if◌then◌else◌, Admin, Down, Up, Failed, UpFault, AlreadyUp, NotUp, Call, Writes, Calls, Driver, is_up, is_down, ring_calls, reset_calls, after_reset, Rises, Setting, Mailbox, MailboxReaction, brought_up, rung, reset, plain, Sound, is_failed, mailbox, IsStep, after_calls, rung_reply, AllByRecursion, Linked, KeepsSite, Reaches, linked_controller, linked_setting, CallOver, ComesUp}
+use Rattle.nvme_fleet.proofs.Words.{◌≡◌, ◌+◌, Bool, true, false, List, [], ◌∷◌, Result, Ok, Err, refl, sym, ap, subst, ◌∙◌, is_ok, Admin, Down, Up, Failed, UpFault, AlreadyUp, NotUp, Call, Calls, Driver, is_up, is_down, ring_calls, reset_calls, after_reset, Rises, Setting, Mailbox, MailboxReaction, brought_up, rung, reset, plain, Sound, is_failed, mailbox, IsStep, after_calls, rung_reply, AllByRecursion, Linked, KeepsSite, Reaches, linked_controller, linked_setting, CallOver, ComesUp}
 use Rattle.nvme_driver.specs.declared.state.State.{State}
 use Rattle.std.specs.Borrow.{GName}
 use Rattle.nvme_event.specs.declared.seen.FleetSeen.TheVariants as seen
 use Rattle.nvme_fleet.proofs.AdminTurns.{IsAdmin}
-use Rattle.nvme_fleet.proofs.StartStep.{IsPlain, calls-are, calls-id}
+use Rattle.nvme_fleet.proofs.PlainCalls.{IsPlain, plain-ring}
+use Rattle.nvme_fleet.proofs.StartStep.{calls-are, calls-id}
 use Rattle.nvme_fleet.proofs.RiseLink.{Stays, stays-same, step_of, bytes_of, calls-linked, rises-linked}
 use Rattle.nvme_fleet.proofs.LinkDeeds.{comes-up-below, stays-below}
 use Rattle.nvme_fleet.proofs.Reaching.{IsFresh, rises-there}
@@ -35,10 +36,6 @@ pub reset-step : (tells : Bool) (d d' : Driver) (old new : Linked) → Sound d (
 reset-step tells d d' old new s e h = rw (e, ← controller-is tells reset_calls old new tt h) (reset_is_a_step d (linked_controller old) s)
 
 -- Ringing.
-pub plain-ring : (b : Bool) (x y : ℕ) (u v : ℕ) → IsPlain (if b then Writes x u ∷ Writes y v ∷ [] else [])
-plain-ring true x y u v = tt
-plain-ring false x y u v = tt
-
 rung-as : (result : Result (Unit {0}) NotUp) (b : Bool) → is_ok result ≡ b → rung_reply b ≡ plain (seen.Rung result)
 rung-as (Ok u) b h = ap rung_reply (sym h)
 rung-as (Err e) b h = ap rung_reply (sym h)

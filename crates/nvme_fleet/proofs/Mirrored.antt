@@ -9,6 +9,7 @@ use Rattle.nvme_machine.specs.declared.event.Event.TheVariants as event
 use Rattle.nvme_machine.specs.declared.seen.Seen.TheVariants as given
 use Rattle.nvme_machine.specs.Subsystems.{Completes, ExecutesAt, Run, Step, after_execution, marked_from, numbered, replaced, with_controller}
 use Rattle.nvme_machine.proofs.Staying.{replaced-same}
+use Rattle.nvme_fleet.proofs.PlainCalls.{IsPlain}
 use Rattle.nvme_fleet.proofs.AdminTurns.{AreAdmin, IsAdmin, change-admin, enabled-admin, fetch-admin, store-admin, write-admin}
 
 -- Events that execute nothing.
@@ -272,21 +273,11 @@ call-over k m Turns p q all h =
     let r = turn-run k h.given p q m all h.run in
     record { step = record { given = h.given; run = r.0; answers = h.answers }; admin = r.1 }
 
-abbrev pub IsPlain : Call → Type 0
-IsPlain Turns = ⊥
-IsPlain one = Unit {0}
-
-abbrev pub ArePlain : List Call → Type 0
-ArePlain [] = Unit {0}
-ArePlain (call ∷ calls) = IsPlain call × ArePlain calls
-
-plain-over : (k : ℕ) (m : Device) (call : Call) (p q : Subsystem) → IsPlain call → CallStep true k p call q → CallStep true k (over m p) call (over m q)
-plain-over k m Turns p q plain h = absurd plain
-plain-over k m one p q plain h = record { given = h.given; run = quiet-run true (events_of k one) h.given p q m (tt, tt) h.run; answers = h.answers }
-
-plain-calls : (k : ℕ) (m : Device) (calls : List Call) (p q : Subsystem) → ArePlain calls → Calls (CallStep true k) p calls q → Calls (CallStep true k) (over m p) calls (over m q)
+plain-calls : (k : ℕ) (m : Device) (calls : List Call) (p q : Subsystem) → IsPlain calls → Calls (CallStep true k) p calls q → Calls (CallStep true k) (over m p) calls (over m q)
 plain-calls k m [] p q plain h = ap (over m) h
-plain-calls k m (call ∷ calls) p q plain (mid, one, rest) = (over m mid, plain-over k m call p mid plain.0 one, plain-calls k m calls mid q plain.1 rest)
+plain-calls k m (Turns ∷ calls) p q plain h = absurd plain
+plain-calls k m (call ∷ calls) p q plain (mid, one, rest) =
+    (over m mid, record { given = one.given; run = quiet-run true (events_of k call) one.given p mid m (tt, tt) one.run; answers = one.answers }, plain-calls k m calls mid q plain rest)
 
 both-over : (ready : Bool) (k : ℕ) (m : Device) (d d' : Driver) (p q : Subsystem) (result : Result (Unit {0}) UpFault) → At AreAdmin k p ⊎ (ready ≡ false) → CreatesBoth (CallStep true k) (λ s. window_at s k) ready d p result d' q
     → CreatesBoth (CallStep true k) (λ s. window_at s k) ready d (over m p) result d' (over m q)
@@ -306,6 +297,6 @@ unfolding Rises
 rises-over k m d d' p q result (value, on, starts, both) = (
   value,
   over m on,
-  plain-calls k m (start_calls value) p on (tt, (tt, (tt, (tt, (tt, (tt, (tt, (tt, (tt, (tt, (tt, (tt, tt)))))))))))) starts,
+  plain-calls k m (start_calls value) p on tt starts,
   both-over (is_ready value) k m (started d) d' on q result (start-leaves true k value p on starts) both,
 )

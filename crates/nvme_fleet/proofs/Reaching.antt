@@ -7,7 +7,7 @@ use Rattle.nvme_subsys.proofs.Numbers as numbers
 use Rattle.nvme_fleet.proofs.AdminTurns.{AreAdmin, call-admin, call-named, fetch-admin, fetched_by, one-quiet}
 use Rattle.nvme_fleet.proofs.RiseLink.{step_of, bytes_of}
 use Rattle.nvme_fleet.proofs.Seating.{controller-there, get-set, others-set}
-use Rattle.nvme_fleet.proofs.StartStep.{IsPlain}
+use Rattle.nvme_fleet.proofs.PlainCalls.{IsPlain, plain-first}
 
 -- Runs of one event, and of two.
 
@@ -138,10 +138,6 @@ over-there tells call p q place h =
     (subst (λ n. LinkStep tells (linked_setting p) call (setting_in q.subsystem n)) (sym place) h.step, h.others, place)
 
 -- Calls that grant no turn.
-
-pub plain-first : (call : Call) (calls : List Call) → IsPlain (call ∷ calls) → IsPlain (call ∷ []) × IsPlain calls
-plain-first Turns calls h = absurd h
-plain-first call calls h = (tt, h)
 
 pub calls-over : (tells : Bool) (calls : List Call) (p q : Linked) → IsPlain calls → Reaches p → Calls (CallOver tells) p calls q → Calls (step_of tells) p calls q
 calls-over tells [] p q plain at h = h

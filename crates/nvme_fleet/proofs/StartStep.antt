@@ -1,12 +1,7 @@
 -- A controller that is off, once a driver has set its registers and enabled it.
 use Rattle.nvme_fleet.proofs.Words.{◌≡◌, ℕ, ◌+◌, ◌^◌, ◌<◌, ◌≤◌, Bool, false, List, [], ◌∷◌, ◌++◌, length, Option, None, Some, refl, ap, ◌∙◌, arith, le-leb, with_bytes, Off, Ready, is_enabled, after_write, prepared, configured, can_enable, value_at, with_low, with_high, Admin, Io, Call, Stores, Writes, Reads, Turns, Calls, submission_queue, completion_queue, cc, csts, aqa, asq_low, asq_high, acq_low, acq_high, admin_sizes, enabling, zero_page, Controller, SubmissionQueue, CompletionQueue, after_store, after_write32, taking_effect, no_submission_queues, no_completion_queues, Setting, zeros, zeroed_all, IsOff, store-id, write-id, after_call, after_calls, LinkStep, with_controller}
+use Rattle.nvme_fleet.proofs.PlainCalls.{IsPlain}
 use Rattle.nvme_fleet.proofs.Ups.{zeros-are}
-
--- Calls that grant no turn.
-abbrev pub IsPlain : List Call → Type 0
-IsPlain [] = Unit {0}
-IsPlain (Turns ∷ calls) = ⊥
-IsPlain (call ∷ calls) = IsPlain calls
 
 pub calls-are : (tells : Bool) (calls : List Call) (old new : Setting) → IsPlain calls → Calls (LinkStep tells) old calls new
     → new ≡ with_controller old (after_calls calls old.controller)

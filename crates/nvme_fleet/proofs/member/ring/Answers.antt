@@ -1,6 +1,7 @@
 use Rattle.nvme_fleet.proofs.Words.{is_up, ring_calls}
 use Rattle.nvme_fleet.proofs.LinkDeeds.{rings-below}
-use Rattle.nvme_fleet.proofs.Members.{plain-ring, ring-site, ring-step}
+use Rattle.nvme_fleet.proofs.Members.{ring-site, ring-step}
+use Rattle.nvme_fleet.proofs.PlainCalls.{plain-ring}
 use Rattle.nvme_fleet.proofs.Reaching.{calls-over}
 use Rattle.nvme_fleet.proofs.LinkCalls.{kept-over, over-links}
 use Rattle.nvme_fleet.proofs.member.ring.Goals as goal
