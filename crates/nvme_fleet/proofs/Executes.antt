@@ -5,7 +5,7 @@ use Rattle.nvme_fleet.proofs.Totals.{live-within, live-small, live-set, slot-sam
 use Rattle.nvme_mailbox.proofs.Totals.{total-append, total-removed}
 use Rattle.nvme_fleet.proofs.Slots.{few, Apart, apart-set, same-items, same-odd, same-answers}
 use Rattle.nvme_fleet.proofs.Keeps.{EntersCompletion, answered, commands-same, completions-kept}
-use Rattle.nvme_fleet.proofs.Queues.{flight-total, completions-append, same-box, self-eqb, same-entry, same-turn}
+use Rattle.nvme_fleet.proofs.Queues.{flight-total, completions-append, same-box, self-eqb, same-entry, same-turn, since-zero}
 use Rattle.nvme_fleet.proofs.Places.{no-way}
 
 last-more : (h : ℕ) (es : List Completion) (e : Completion) → last_head h (es ++ e ∷ []) ≡ e.sq_head
@@ -131,9 +131,6 @@ posted-item d c ans i x bytes h =
 
 last-done : (d : Host) (c : State) (ans : Effect) (i : ℕ) (x bytes : List ℕ) → Executes d c ans i x bytes → last_head (heard d) (unread (executed d x bytes) (executed_state c i x ans)) ≡ c.fetched
 last-done d c ans i x bytes h = ap (last_head (heard d)) (unread-more d c ans i x bytes h) ∙ last-more (heard d) (unread d c) (finished c ans x)
-
-since-zero : (f : ℕ) → f < 8 → (f + 8 - f) % 8 ≡ 0
-since-zero f h = omega arith
 
 since-done : (d : Host) (c : State) (ans : Effect) (i : ℕ) (x bytes : List ℕ) → Executes d c ans i x bytes → since (executed d x bytes) (executed_state c i x ans) ≡ 0
 since-done d c ans i x bytes h = ap (λ l. (c.fetched + 8 - l) % 8) (last-done d c ans i x bytes h) ∙ since-zero c.fetched ((h.fetched).running).fetched

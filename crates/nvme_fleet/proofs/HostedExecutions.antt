@@ -1,25 +1,22 @@
 -- What an execution leaves of a fleet's drivers and controllers is the step of the fleet.
-use Rattle.nvme_fleet.proofs.Words.{◌≡◌, ℕ, ◌+◌, Bool, false, List, [], ◌∷◌, Option, None, Some, refl, sym, ap, subst, ◌∙◌, slice_get, slice_set, if◌then◌else◌, Device, World, host_of, no_marks, FetchedCommand, Executed, Posted, NoSuch, CqFull, Controller, is_host_among, Setting, setting, FinishesOne, ExecutesNth, marks_after, set-same, Driver, plain, Fleet, ExecutesAt, host_at, marked, marked_from, marks_in, settled, site_of, Sound, host_by, hosts_of, SoundBy}
+use Rattle.nvme_fleet.proofs.Words.{◌≡◌, ℕ, ◌+◌, Bool, List, [], ◌∷◌, Option, None, Some, refl, sym, ap, subst, ◌∙◌, slice_get, slice_set, if◌then◌else◌, Device, World, host_of, no_marks, FetchedCommand, Executed, Posted, NoSuch, CqFull, Controller, Setting, setting, FinishesOne, ExecutesNth, marks_after, set-same, Driver, plain, Fleet, ExecutesAt, host_at, marked, marked_from, marks_in, settled, site_of, Sound, host_by, hosts_of, SoundBy}
 use Rattle.nvme_mailbox.specs.Fleets.{Host}
 use Rattle.nvme_event.specs.declared.seen.FleetSeen.TheVariants as seen
 use Rattle.nvme_fleet.proofs.ExecuteStep.{execution_is_a_step}
 use Rattle.nvme_fleet.proofs.FleetStep.{execution_is_a_fleet_step, no_execution_is_a_fleet_step}
 use Rattle.nvme_fleet.proofs.Hosting.{controller-set, replaced-at, hosts-marked}
 use Rattle.nvme_fleet.proofs.Hosted.{over, host-is}
+use Rattle.nvme_machine.proofs.Denials.{not_one}
 
 -- all drivers are sound with their controllers
 abbrev pub AllSound : List (Option Driver) → List Controller → Type 0
 AllSound ds cs = (i : ℕ) (d : Option Driver) (c : Controller) → slice_get ds i ≡ Some d → slice_get cs i ≡ Some c → SoundBy d c
 
 -- where no host is removed, none is marked
-nobody : (o : Option ℕ) → is_host_among [] o ≡ false
-nobody None = refl
-nobody (Some host) = refl
-
 unmarked : (w : World) (k : ℕ) (hs : List Host) → marked_from w no_marks k hs ≡ hs
 unmarked w k [] = refl
 unmarked w k (h ∷ hs) =
-    ap (λ b. (if b then marked 0 h else h) ∷ marked_from w no_marks (k + 1) hs) (nobody (host_of w k)) ∙ ap (λ rest. h ∷ rest) (unmarked w (k + 1) hs)
+    ap (λ b. (if b then marked 0 h else h) ∷ marked_from w no_marks (k + 1) hs) (not_one (host_of w k)) ∙ ap (λ rest. h ∷ rest) (unmarked w (k + 1) hs)
 
 -- the hosts behind an execution
 hosts-after : (w : World) (ds : List (Option Driver)) (cs : List Controller) (x : Executed) → AllSound ds cs → hosts_of ds (marks_after w x cs) ≡ marked_from w (marks_in x) 1 (hosts_of ds cs)

@@ -1,5 +1,5 @@
 -- What the two commands that create a driver's queues come to: they succeed, and change nothing but the queues.
-use Rattle.nvme_fleet.proofs.Words.{◌≡◌, ℕ, true, false, List, [], ◌∷◌, length, None, Some, refl, Queues, QueueChange, MakeCq, MakeSq, World, AdminExecution, admin_execution, create_completion_queue, create_submission_queue}
+use Rattle.nvme_fleet.proofs.Words.{◌≡◌, ℕ, true, false, List, [], ◌∷◌, length, None, Some, refl, Queues, QueueChange, MakeCq, MakeSq, World, AdminExecution, admin_execution, create_completion_queue, create_submission_queue, Completion, completion_entry}
 use Rattle.nvme_wire.specs.Submission as entry
 use Rattle.nvme_spec.specs.Statuses as status
 use Rattle.nvme_spec.specs.Rules as rules
@@ -54,3 +54,7 @@ first-size = refl
 pub second-size : length (entry.submission_entry create_submission_queue) ≡ 64
 unfolding entry.submission_entry
 second-size = refl
+
+pub length-completion : (c : Completion) → length (completion_entry c) ≡ 16
+unfolding completion_entry
+length-completion c = refl

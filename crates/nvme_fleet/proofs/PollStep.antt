@@ -12,6 +12,7 @@ use Rattle.nvme_driver.specs.Polls as poll
 use Rattle.nvme_fleet.specs.Lanes.{told}
 use Rattle.nvme_fleet.proofs.Linking.{of, pair-is, part-in}
 use Rattle.nvme_fleet.proofs.Registering.{head-written}
+use Rattle.nvme_fleet.proofs.RingStep.{same-ahead}
 
 -- A poll is a step of the mailbox.
 
@@ -140,9 +141,6 @@ HeadsAt lane d c = Heads lane (host_side d) (device_side c)
 
 abbrev request_of : (lane : Lane) (d : Driver) (c : Controller) → HeadsAt lane d c → Waiting
 request_of lane d c h = (h.own).waiting
-
-same-ahead : (v f : ℕ) → (8 + v - f) % 8 ≡ (v + 8 - f) % 8
-same-ahead v f = ap (λ n. (n - f) % 8) (omega arith)
 
 hear-is : (lane : Lane) (d : Driver) (w : List ℕ) (head : ℕ) → EndsFit (ends lane d) → can_be_heard (ends lane d).tail head ≡ can_hear (host lane (host_side d) w) head
 hear-is Admin d w head f = rw (f.tail, same-ahead d.admin.tail.put head) refl

@@ -10,6 +10,7 @@ use Rattle.nvme_fleet.proofs.Linking.{of, submission-is, completion-is, pair-is}
 use Rattle.nvme_fleet.proofs.LaneSlots.{slot-in}
 use Rattle.nvme_fleet.proofs.Polling.{Own, own-is}
 use Rattle.nvme_fleet.proofs.Executing.{Takes, takes, Runs, runs, execute-both, execute-mail, answered_box, has-room}
+use Rattle.nvme_fleet.proofs.OwnCommands.{length-completion}
 
 queue-is : (t : FetchedCommand) → IsOfLane t → t.queue ≡ queue_id (lane_of_queue t.queue)
 queue-is t (inl e) = rw e refl
@@ -101,10 +102,6 @@ finished-is Admin c p t a bytes q h =
 finished-is Io c p t a bytes q h =
     let e = pair-is Io c p in
     rw (q, tag-is (p.io).posted h) (ap (λ (x : DeviceEnds). made a t 1 x) (sym e))
-
-length-completion : (f : Completion) → length (completion_entry f) ≡ 16
-unfolding completion_entry
-length-completion f = refl
 
 -- the bytes of the completion
 bytes-are : (lane : Lane) (c : Controller) (p : IsPaired c) (t : FetchedCommand) (a : CommandExecution) (bytes : List ℕ) → t.queue ≡ queue_id lane → (of lane c p).posted < 64

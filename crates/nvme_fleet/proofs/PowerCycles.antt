@@ -12,7 +12,7 @@ use Rattle.nvme_fleet.specs.Bytes as bytes
 use Rattle.nvme_fleet.proofs.Bytes.{by-event, fencing_holds, layout_stays}
 use Rattle.nvme_fleet.proofs.Secrecy.{layers_read_the_same}
 use Rattle.nvme_fleet.specs.PowerCycles.{BytesOutlastPower, LayersOutlastPower, PowerTakes, ProtectedUntilPower, ReservesNothingBelow}
-use Rattle.nvme_mailbox.proofs.PowerCycles.{fleeting, left-so, persists-still, stays-reserved}
+use Rattle.nvme_mailbox.proofs.PowerCycles.{fleeting, left-so, stays-reserved}
 
 pub power_takes : PowerTakes
 power_takes tells old new reply step =
@@ -28,7 +28,7 @@ lasts-over old new [] [] n p run = run
 lasts-over old new (e ∷ events) (x ∷ later) n p (mid, allowed, step, behind) =
     let quiet = left-so n (fleet_in old) e p allowed in
     let same = stays-reserved true (fleet_in old) (fleet_in mid) e x n step.mailboxes quiet in
-    (mid, quiet, step, lasts-over mid new events later n (persists-still old.subsystem.world mid.subsystem.world n same p) behind)
+    (mid, quiet, step, lasts-over mid new events later n (machine_proofs.persists-still old.subsystem.world mid.subsystem.world n same p) behind)
 lasts-over old new events later n p run = absurd run
 
 pub layers_outlast_power : LayersOutlastPower
@@ -62,7 +62,7 @@ lasts-below old new [] [] n p run = run
 lasts-below old new (e ∷ events) (x ∷ later) n p (mid, allowed, step, behind) =
     let quiet = left-below n old e p allowed in
     let same = below-so old mid e n quiet p x step in
-    (mid, quiet, step, lasts-below mid new events later n (persists-still old.subsystem.world mid.subsystem.world n same p) behind)
+    (mid, quiet, step, lasts-below mid new events later n (machine_proofs.persists-still old.subsystem.world mid.subsystem.world n same p) behind)
 lasts-below old new events later n p run = absurd run
 
 pub bytes_outlast_power : BytesOutlastPower

@@ -11,6 +11,7 @@ use Rattle.nvme_fleet.proofs.Places.{no-way}
 use Rattle.nvme_fleet.proofs.Registering.{disabled-off}
 use Rattle.nvme_fleet.proofs.ResetStep.{fits, abort-size}
 use Rattle.nvme_fleet.proofs.Resetting.{reset-both, reset-mail}
+use Rattle.nvme_fleet.proofs.HostedExecutions.{AllSound}
 
 -- One host.
 
@@ -47,10 +48,7 @@ host-so None c s = refl
 host-so (Some d) c s = ap WithDriver (are-reset d c s).mail
 
 -- what holds of each pair
-abbrev AreSound : List (Option Driver) → List Controller → Type 0
-AreSound ds cs = (i : ℕ) (d : Option Driver) (c : Controller) → slice_get ds i ≡ Some d → slice_get cs i ≡ Some c → SoundBy d c
-
-hosts-so : (ds : List (Option Driver)) (cs : List Controller) → AreSound ds cs
+hosts-so : (ds : List (Option Driver)) (cs : List Controller) → AllSound ds cs
     → hosts_of (map (option_map after_reset) ds) (map power_cycled cs) ≡ map host_cycled (hosts_of ds cs)
 hosts-so [] cs s = refl
 hosts-so (d ∷ ds) [] s = refl
@@ -70,7 +68,7 @@ controller-before [] i x h = absurd (cc)
 controller-before (c ∷ cs) zero x h = (c, refl, sym (same_Some _ _ h))
 controller-before (c ∷ cs) (suc i) x h = controller-before cs i x h
 
-all-sound : (ds : List (Option Driver)) (cs : List Controller) → AreSound ds cs → AreSound (map (option_map after_reset) ds) (map power_cycled cs)
+all-sound : (ds : List (Option Driver)) (cs : List Controller) → AllSound ds cs → AllSound (map (option_map after_reset) ds) (map power_cycled cs)
 all-sound ds cs s i e x at there =
     let d = driver-before ds i e at in
     let c = controller-before cs i x there in

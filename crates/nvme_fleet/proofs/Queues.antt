@@ -83,3 +83,7 @@ same-entry w a b e = ap (λ i. take 16 (drop (4096 + 16 * i) w)) e
 
 pub same-turn : (a b : ℕ) → a % 64 ≡ b % 64 → phase_of a ≡ phase_of b
 same-turn a b e = ap (λ i. nat_lt i 32) e
+
+-- a queue whose ends are the same holds nothing
+pub since-zero : (f : ℕ) → f < 8 → (f + 8 - f) % 8 ≡ 0
+since-zero f h = omega arith

@@ -8,7 +8,7 @@ use Rattle.nvme_fleet.proofs.Fetching.{ring-both, ring-mail}
 abbrev rung_one : Lane → Controller → ℕ → Controller
 rung_one lane c v = record c { submission = slice_set c.submission (queue_id lane) (option_map (with_tail v) (submission_at c (queue_id lane))) }
 
-same-ahead : (v f : ℕ) → (8 + v - f) % 8 ≡ (v + 8 - f) % 8
+pub same-ahead : (v f : ℕ) → (8 + v - f) % 8 ≡ (v + 8 - f) % 8
 same-ahead v f = ap (λ n. (n - f) % 8) (omega arith)
 
 paired-rung : (lane : Lane) (c : Controller) (p : IsPaired c) (v : ℕ) → v < 8 → IsPaired (rung_one lane c v)

@@ -6,8 +6,8 @@ use Rattle.nvme_fleet.proofs.Places.{no-way}
 use Rattle.nvme_fleet.proofs.Windows.{stored-length}
 use Rattle.nvme_fleet.proofs.Rising.{IsOwn, up-both, up-mail, zeroed-size}
 use Rattle.nvme_fleet.proofs.StartStep.{running, setting_calls, calls-are, value-is, started-is, ready-value}
-use Rattle.nvme_fleet.proofs.OwnCommands.{first_change, second_change, completions-made, submissions-made, first-cid, second-cid, first-size, second-size}
-use Rattle.nvme_fleet.proofs.TurnStep.{Round, round, own_completion, own-size, says-own, with_admin, ends_at, put_window}
+use Rattle.nvme_fleet.proofs.OwnCommands.{first_change, second_change, completions-made, submissions-made, first-cid, second-cid, first-size, second-size, length-completion}
+use Rattle.nvme_fleet.proofs.TurnStep.{Round, round, own_completion, says-own, with_admin, ends_at, put_window}
 
 -- the queues that they create
 abbrev made_completions : Option CompletionQueue
@@ -23,7 +23,7 @@ own n f = record { command = submission_entry f; completion = completion_entry (
 is-own : (n : ℕ) (f : SqeFields) → n < 32 → length (submission_entry f) ≡ 64 → command_cid (submission_entry f) ≡ 24 → IsOwn (own n f)
 is-own n f h size i = record {
   command = size;
-  completion = own-size (own_completion n (submission_entry f));
+  completion = length-completion (own_completion n (submission_entry f));
   phase = (says-own n (submission_entry f) h i).phase;
 }
 
@@ -87,7 +87,7 @@ first-size-of w l =
     let b : List ℕ = completion_entry (own_completion 0 e) in
     let z = zeroed-size w l in
     let p : length (with_bytes (zeroed_all w) 0 e) ≡ 4194304 = stored-length (zeroed_all w) e 0 (omega (arith, z, first-size)) ∙ z in
-    stored-length (with_bytes (zeroed_all w) 0 e) b 4096 (omega (arith, p, own-size (own_completion 0 e))) ∙ p
+    stored-length (with_bytes (zeroed_all w) 0 e) b 4096 (omega (arith, p, length-completion (own_completion 0 e))) ∙ p
 
 second-part : (tells : Bool) (k : ℕ) (d d' : Driver) (old mid new : Setting) (result : Result (Unit {0}) UpFault) (left : Driver) → length old.controller.window ≡ 4194304
     → left ≡ with_admin (ends_at 1) (started d)

@@ -5,7 +5,7 @@ use Rattle.nvme_wire.specs.Completion.{cid}
 use Rattle.nvme_spec.specs.Statuses as done
 use Rattle.nvme_fleet.proofs.Registering.{tail-written, head-written}
 use Rattle.nvme_fleet.proofs.StartStep.{running, stored-at, calls-are}
-use Rattle.nvme_fleet.proofs.OwnCommands.{only_change}
+use Rattle.nvme_fleet.proofs.OwnCommands.{only_change, length-completion}
 
 -- It is put and rung.
 
@@ -76,10 +76,6 @@ own-fits n e h = record {
   sc = omega arith;
 }
 
-pub own-size : (c : Completion) → length (completion_entry c) ≡ 16
-unfolding completion_entry
-own-size c = refl
-
 own-phase : (n : ℕ) → n < 32 → phase_tag 32 n ≡ true
 own-phase n h = let e : n / 32 % 2 ≡ 0 = omega (arith, h) in rw e refl
 
@@ -123,7 +119,7 @@ found-is : (n : ℕ) (w e : List ℕ) → n < 32 → length w ≡ 4194304 → co
 found-is n w e h size i =
     let b : List ℕ = completion_entry (own_completion n e) in
     found-as n b (next_entry Admin (ends_put n) (with_bytes w (0x1000 + 16 * (n % 32)) b)) h (says-own n e h i)
-    (part-there w b (0x1000 + 16 * (n % 32)) 16 (own-size (own_completion n e)) (omega (arith, size)))
+    (part-there w b (0x1000 + 16 * (n % 32)) 16 (length-completion (own_completion n e)) (omega (arith, size)))
 
 -- one turn is enough
 one-turn : {S A : Type 0} (step : S → Call → S → Type 0) (look : S → Option A) (old new : S) (answer : Option A) (found : A) (P : S → Type 0)

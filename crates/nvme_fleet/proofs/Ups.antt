@@ -5,7 +5,7 @@ use Rattle.std.proofs.lemmas.List.{length-append}
 use Rattle.std.proofs.Math.ListN.{get_or-append}
 use Rattle.nvme_fleet.proofs.Windows.{stored-length}
 use Rattle.nvme_fleet.proofs.Keeps.{Enters, enters, EntersCompletion, answered}
-use Rattle.nvme_fleet.proofs.Queues.{same-entry, same-turn}
+use Rattle.nvme_fleet.proofs.Queues.{same-entry, same-turn, since-zero}
 use Rattle.nvme_fleet.proofs.Places.{no-way, never}
 use Rattle.nvme_fleet.proofs.Orders.{idle-age}
 
@@ -213,9 +213,6 @@ resting-box d c r = rw (r.off, r.put, r.unheard) refl
 quiet-since : (p : ℕ) → p < 8 → (p + 8 - (p + 8 - 0) % 8) % 8 ≡ 0
 quiet-since p h = omega arith
 
-quiet-flight : (p : ℕ) → p < 8 → (p + 8 - p) % 8 ≡ 0
-quiet-flight p h = omega arith
-
 pub quiet-box : (d : Host) (c : State) → Quiet d c → box d c ≡ record { placed = []; rung = []; posted = []; unheard = 0; since = 0 }
 unfolding box
-quiet-box d c s = rw (s.unread, s.waiting, s.fetched, s.unheard, quiet-flight d.put s.put, quiet-since d.put s.put) refl
+quiet-box d c s = rw (s.unread, s.waiting, s.fetched, s.unheard, since-zero d.put s.put, quiet-since d.put s.put) refl

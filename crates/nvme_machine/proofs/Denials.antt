@@ -30,7 +30,7 @@ use Rattle.nvme_machine.specs.Subsystems.{Subsystem, Step, Completes, ExecutesAt
 use Rattle.nvme_machine.specs.Runs.{Waits, DeniedChangesItsEntryAlone, AllowedDoesItsEffect}
 
 -- no hosts, no marks
-not_one : (o : Option ℕ) → is_host_among [] o ≡ false
+pub not_one : (o : Option ℕ) → is_host_among [] o ≡ false
 not_one None = refl
 not_one (Some h) = refl
 

@@ -85,7 +85,7 @@ stays-reserved old new event seen n step quiet = elim (only_allowed_actions_rese
   | inr (inr forgets) ↦ absurd (quiet.1 forgets)
 ]
 
-persists-still : (old new : World) (n : ℕ) → reservation_of new n ≡ reservation_of old n → Persists old n → Persists new n
+pub persists-still : (old new : World) (n : ℕ) → reservation_of new n ≡ reservation_of old n → Persists old n → Persists new n
 persists-still old new n same p = record { reservation = p.reservation; there = same ∙ p.there; set = p.set }
 
 pub persistence_lasts : PersistenceLasts

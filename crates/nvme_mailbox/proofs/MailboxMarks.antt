@@ -1,5 +1,6 @@
 -- A mailbox whose fetched requests may have been marked.
-use Rattle.nvme_mailbox.proofs.Words.{◌≡◌, ◌⊎◌, inl, inr, ℕ, Bool, true, false, [], Option, None, Some, refl, sym, ap, ◌∙◌, if◌then◌else◌, Marks, World, host_of, no_marks, is_host_among, FleetEvent, Execute, FleetSeen, Reply, Mailbox, plain, Site, marks_seen, marked_by, OthersStep}
+use Rattle.nvme_mailbox.proofs.Words.{◌≡◌, ◌⊎◌, inl, inr, ℕ, Bool, true, false, sym, ap, ◌∙◌, if◌then◌else◌, Marks, World, host_of, no_marks, is_host_among, FleetEvent, Execute, FleetSeen, Reply, Mailbox, plain, Site, marks_seen, marked_by, OthersStep}
+use Rattle.nvme_machine.proofs.Denials.{not_one}
 use Rattle.nvme_mailbox.specs.Mailboxes.{with_marks}
 
 -- the second is the first, or the first with what it has fetched on one namespace marked
@@ -19,11 +20,7 @@ others-differ event k m reply left n h = inl h
 
 -- no marks leave it as it is
 unmarked : (w : World) (k : ℕ) (m : Mailbox) → marked_by no_marks w k m ≡ m
-unmarked w k m = by (host_of w k)
-  where
-    by : (o : Option ℕ) → (if is_host_among [] o then with_marks 0 m else m) ≡ m
-    by None = refl
-    by (Some host) = refl
+unmarked w k m = ap (λ b. if b then with_marks 0 m else m) (not_one (host_of w k))
 
 pub spared : (w : World) (k : ℕ) (m : Mailbox) (reply : Reply) (what : FleetSeen) → reply ≡ plain what → marks_seen what ≡ no_marks → m ≡ marked_by (marks_seen reply.seen) w k m
 spared w k m reply what gives none =

@@ -8,6 +8,7 @@ use Rattle.nvme_mailbox.proofs.Refused as refused
 use Rattle.nvme_mailbox.proofs.Secrecy.{fenced_reading, fenced_reading_is_same}
 use Rattle.nvme_mailbox.proofs.TicketFlows.{held-weigh, resets}
 use Rattle.nvme_mailbox.specs.PowerCycles.{DoneSincePower, FencingOutlastsPower, IsAborted, PersistenceLasts, PowerAborts, RepliesOutlastPower, SecrecyOutlastsPower}
+use Rattle.nvme_machine.proofs.PowerCycles.{persists-still}
 
 -- Drivers.
 
@@ -54,9 +55,6 @@ stays-reserved tells old new e reply n step quiet = elim (only_allowed_actions_r
   | inr (inl allowed) ↦ absurd (quiet.0 allowed)
   | inr (inr forgotten) ↦ absurd (quiet.1 forgotten)
 ]
-
-pub persists-still : (old new : World) (n : ℕ) → reservation_of new n ≡ reservation_of old n → Persists old n → Persists new n
-persists-still old new n same p = record { reservation = p.reservation; there = same ∙ p.there; set = p.set }
 
 pub persistence_lasts : PersistenceLasts
 persistence_lasts tells old new [] [] n p run = (run, ap (λ (f : Fleet). reservation_of f.site.world n) run)
