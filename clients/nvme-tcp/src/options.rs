@@ -25,8 +25,9 @@ CONFIG has the lines of a script before `start`: controllers with their hosts, n
   --help, -h                   print this
   --version                    print the version
 
-Lines of control: powercycle, hold C, held C, go C, hosts, counts, ?register C OFF, ?window C ADDR LEN,
-?blocks N SLBA COUNT. Exit status: 1 the configuration is refused, 2 a file, a socket or the system failed, 3 bad
+Lines of control: powercycle, hold C, held C, go C, hosts, counts; and those that look, as in nvmelive: ?reservation N,
+?attached, ?namespaces, ?blocks N SLBA COUNT, ?fetched C, ?queues C, ?registers C, ?register C OFF, ?window C ADDR LEN.
+Exit status: 1 the configuration is refused, or there is no such line; 2 a file, a socket or the system failed; 3 bad
 command line. It ends by a signal alone.
 ";
 

@@ -83,6 +83,7 @@ impl<'a> Server<'a> {
         }
     }
 
+    /// Serves all that can be served. Where that is nothing, and connections wait for the script, it waits for that too.
     fn turn(&mut self, ready: &mut Vec<Ready>, look: &mut Instant) -> Outcome<()> {
         let patience = if self.waiting.is_empty() { LOOK } else { Duration::ZERO };
         self.poll.wait(patience.as_millis() as i32, ready).map_err(Fault::System)?;
