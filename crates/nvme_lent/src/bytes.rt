@@ -27,6 +27,13 @@ impl LentBytes {
     pub fn into_slice<'a>(self) -> &'a mut [u8]
         ensures { result.now ≡ self.items }
     {
+        self.lent()
+    }
+
+    /// The bytes where they are. This alone is proved by hand, since a pointer becomes a slice.
+    fn lent<'a>(self) -> &'a mut [u8]
+        ensures { result.now ≡ self.items }
+    {
         let LentBytes { at, len } = self;
         unsafe { std::slice::from_raw_parts_mut(at, len) }
     }

@@ -1,4 +1,4 @@
--- `into_slice` lends the bytes for as long as the caller asks. Assumes `Logic`.
+-- `lent` lends the bytes for as long as the caller asks. Assumes `Logic`.
 use Rattle.std.proofs.Common.{◌≡◌, ℕ, ◌^◌, ◌<◌, List, [], ◌∷◌, ◌++◌, length, refl, sym, ◌∙◌, arith, w64}
 use mir.Syntax.{named}
 use mir.Val.{Val, vint, vstruct, vcons, vnil, of_list}
@@ -33,10 +33,10 @@ use Rattle.core.proofs.alloc.Calls.{Goes-blank}
 use Rattle.core.proofs.alloc.Shapes.{after}
 use Rattle.std.proofs.raw_atomic.Walks.{proved_at, leaves}
 use Rattle.nvme_lent.specs.contracts.bytes.LentBytes as held
-use Rattle.nvme_lent.specs.contracts.bytes.LentBytes.into_slice.{ended, clauses}
-use Rattle.nvme_lent.specs.contracts.bytes.LentBytes.into_slice.Key.{name as #self}
-use Rattle.nvme_lent.proofs.bytes.LentBytes.into_slice.Statement.{statement}
-use Rattle.nvme_lent.proofs.bytes.LentBytes.into_slice.Code as code
+use Rattle.nvme_lent.specs.contracts.bytes.LentBytes.lent.{ended, clauses}
+use Rattle.nvme_lent.specs.contracts.bytes.LentBytes.lent.Key.{name as #self}
+use Rattle.nvme_lent.proofs.bytes.LentBytes.lent.Statement.{statement}
+use Rattle.nvme_lent.proofs.bytes.LentBytes.lent.Code as code
 
 abbrev word : Ptr → ℕ → Val
 word p n = vstruct (vcons (ptr_val p) (vcons (vint w64 n) vnil))
@@ -47,8 +47,8 @@ fields_own p n = (Struct (record { name = []; args = []; types = []; fields = Ra
 told : (p : Ptr) (n : ℕ) (vs : List Val) → shadow (fields_own p n vs) → (vs ≡ word p n ∷ []) × (n < 2 ^ 64)
 told p n vs s = (s.1.0 ∙ (λ i. vstruct (of_list (s.1.1.0 i ++ (s.1.1.1.0.0 i ++ []))) ∷ []), s.1.1.1.0.1)
 
-pub into_slice_spec : {M : Type 1} → statement M
-into_slice_spec 𝓤 𝓛 𝓜 𝓡 wired =
+pub lent_spec : {M : Type 1} → statement M
+lent_spec 𝓤 𝓛 𝓜 𝓡 wired =
     let H = 𝓛.H in let 𝓣 = tables 𝓤 H 𝓜 𝓡 𝓡.env in let c = clauses 𝓛 𝓜.mem 𝓡.returns in let fn = code.function in
     let hs : Stays ended.signature.params ended.kept = (stay_dropped (plain (λ _. held.the_row)) ended.kept.0, tt) in
     proved_at 𝓛 ended hs c 𝓜 𝓡 (Goes-blank 𝓛 1 (plain (λ _. held.the_row)) ended.kept.0 (λ κs x f. tt), tt) #self fn (code.unfolded 𝓤 H 𝓜 𝓡 wired) (λ z are.
