@@ -1,5 +1,5 @@
 -- What C sees of the access state: who is attached to a namespace, who is registered with it, and who holds it.
-use Rattle.std.specs.Prelude.{ℕ, ◌/◌, ◌%◌, ◌^◌, length, Bool, true, false, if◌then◌else◌, Option, Some, None, option_map, slice_get}
+use Rattle.std.specs.Prelude.{ℕ, ◌/◌, ◌%◌, ◌^◌, length, false, if◌then◌else◌, Option, Some, None, slice_get}
 use Rattle.nvme_spec.specs.declared.access.Hold.{Hold as Holding}
 use Rattle.nvme_spec.specs.declared.access.Hold.TheVariants.{Free, One, All}
 use Rattle.nvme_spec.specs.declared.access.Registrant.{Registrant as Registered}

@@ -5,10 +5,11 @@ use Rattle.nvme_spec.specs.MediumCalls.{MakesCalls}
 use Rattle.nvme_lent.specs.OwnOrLent.{step_of}
 use Rattle.nvme_machine.specs.declared.bare.BareSeen.{BareSeen}
 use Rattle.nvme_machine.specs.declared.bare.BareSeen.TheVariants.{Cycled}
+use Rattle.nvme_machine.specs.declared.event.Event.{Event as SubsystemEvent}
 use Rattle.nvme_machine.specs.Bare.{seen_of, seen_with, marks_by}
 use Rattle.nvme_machine.specs.Controllers.{Controller, Reaction}
 use Rattle.nvme_machine.specs.EventCalls.{CallingAt}
-use Rattle.nvme_machine.specs.Subsystems.{Reacts, ExecutesAt, controller_at, after_power_cycle}
+use Rattle.nvme_machine.specs.Subsystems.{Reacts, Step, ExecutesAt, controller_at, after_power_cycle}
 use Rattle.nvme_library.specs.declared.answer.Answer.{Answer}
 use Rattle.nvme_library.specs.Answers.{answer_of, closed}
 use Rattle.nvme_library.specs.Holding.{Inside}
@@ -22,6 +23,10 @@ abbrev pub Happens : Event → Option Inside → Answer → Option Inside → Ty
 Happens E None answer new = (answer ≡ closed) × (new ≡ None)
 Happens E (Some old) answer None = ⊥
 Happens E (Some old) answer (Some new) = (seen : BareSeen) × (answer ≡ answer_of seen) × E old seen new
+
+-- an event that calls no medium
+abbrev pub Stepping : SubsystemEvent → Event
+Stepping event old seen new = Step true old.state event (seen_of seen) new.state × (new.medium ≡ old.medium)
 
 -- a controller reacts, and the medium is not called
 abbrev pub Reacting : ℕ → (Controller → Reaction) → Event

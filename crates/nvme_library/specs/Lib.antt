@@ -8,3 +8,4 @@ pub mod Opening
 pub mod Queues
 pub mod Submitting
 pub mod Turns
+pub mod Whole

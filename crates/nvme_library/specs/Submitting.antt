@@ -1,10 +1,13 @@
 -- One command from its entry to its completion: the events of a host's turn, in a row.
 use Rattle.std.specs.Prelude.{◌≡◌, ℕ, List, Option, Some, None, Result, Ok, Err}
+use Rattle.nvme_wire.specs.Completion.{completion_entry}
+use Rattle.nvme_wire.specs.Submission.{cid}
+use Rattle.nvme_spec.specs.Queues.{phase_tag}
 use Rattle.nvme_machine.specs.declared.bare.BareExecuted.TheVariants.{Posted}
 use Rattle.nvme_machine.specs.declared.bare.BareSeen.{BareSeen}
 use Rattle.nvme_machine.specs.declared.bare.BareSeen.TheVariants.{Fetched, Executed}
 use Rattle.nvme_machine.specs.declared.seen.Fetched.TheVariants.{Took}
-use Rattle.nvme_machine.specs.Controllers.{Controller, after_store, wrote, after_fetch}
+use Rattle.nvme_machine.specs.Controllers.{Controller, CompletionQueue, completion_at, after_store, wrote, after_fetch}
 use Rattle.nvme_machine.specs.Subsystems.{controller_at}
 use Rattle.nvme_library.specs.declared.answer.Answer.{Answer}
 use Rattle.nvme_library.specs.declared.turn.Turn.{Turn}
@@ -75,3 +78,35 @@ Submits k qid entry None answer before left new = (answer ≡ closed) × (left �
 Submits k qid entry (Some old) answer before left None = ⊥
 Submits k qid entry (Some old) answer before left (Some new) =
     SubmitsTo (controller_at old.state k) k qid entry old answer before left new
+
+-- The command was answered: what C is told is that its completion was posted, and in the buffer stands the entry of the
+-- completion queue that answers this very command, by the command identifier of its entry. It comes from the submission
+-- queue, whose head is behind the command; it has the phase tag that was next, and double word 0 and the status that C
+-- is told.
+pub record IsAnswered (c : Controller) (qid : ℕ) (turn : Turn) (entry : List ℕ) (answer : Answer) (left : List ℕ)
+    : Type 0 where
+  pub posted : answer.what ≡ 6
+  pub queue : CompletionQueue
+  pub at : completion_at c turn.cqid ≡ Some queue
+  pub bytes : left ≡ completion_entry (record {
+    dw0 = answer.value;
+    sq_head = turn.tail;
+    sq_id = qid;
+    cid = cid entry;
+    phase = phase_tag queue.tail.size queue.tail.posted;
+    status = record { sct = answer.sct; sc = answer.sc };
+  })
+
+-- where there is a turn, the command was answered
+abbrev pub AnswersBy : Controller → Result Turn ℕ → ℕ → List ℕ → Answer → List ℕ → Type 0
+AnswersBy c (Err why) qid entry answer left = Unit {0}
+AnswersBy c (Ok turn) qid entry answer left = IsAnswered c qid turn entry answer left
+
+abbrev pub AnswersAt : Option Controller → ℕ → List ℕ → Answer → List ℕ → Type 0
+AnswersAt None qid entry answer left = Unit {0}
+AnswersAt (Some c) qid entry answer left = AnswersBy c (turn_of c qid) qid entry answer left
+
+-- A turn always ends with the completion of its command.
+abbrev pub AlwaysAnswers : ℕ → ℕ → List ℕ → Option Inside → Answer → List ℕ → Type 0
+AlwaysAnswers k qid entry None answer left = Unit {0}
+AlwaysAnswers k qid entry (Some old) answer left = AnswersAt (controller_at old.state k) qid entry answer left

@@ -1,7 +1,8 @@
 //! The events of a subsystem, each in a call of its own.
 
 ghost use Rattle.nvme_machine.specs.Controllers.{after_store, wrote, has_read, after_fetch};
-ghost use Rattle.nvme_library.specs.Events.{Happens, Reacting, Executing, Cycling};
+ghost use Rattle.nvme_machine.specs.EventCalls.{ExecutesNothing};
+ghost use Rattle.nvme_library.specs.Events.{Happens, Stepping, Reacting, Executing, Cycling};
 
 use crate::answer::Answer;
 use crate::handle::Handle;
@@ -21,12 +22,7 @@ pub extern "C" fn nvmesim_store(
 ) -> Answer
     ensures { Happens (Reacting cntlid (after_store address bytes.now)) sim.old.slot.value result sim.new.slot.value }
 {
-    let Some(mut subsystem) = sim.take(alloc) else {
-        return Answer::closed();
-    };
-    let seen = subsystem.react(Event::Store(cntlid, address, bytes));
-    *sim = Handle::of(subsystem);
-    Answer::of(seen)
+    happen(alloc, sim, Event::Store(cntlid, address, bytes))
 }
 
 /// A host writes a register of its controller, a doorbell among them: `WROTE`; or `NO_CONTROLLER` or `CLOSED`.
@@ -40,12 +36,7 @@ pub extern "C" fn nvmesim_write32(
 ) -> Answer
     ensures { Happens (Reacting cntlid (wrote offset value)) sim.old.slot.value result sim.new.slot.value }
 {
-    let Some(mut subsystem) = sim.take(alloc) else {
-        return Answer::closed();
-    };
-    let seen = subsystem.react(Event::Write32(cntlid, offset, value));
-    *sim = Handle::of(subsystem);
-    Answer::of(seen)
+    happen(alloc, sim, Event::Write32(cntlid, offset, value))
 }
 
 /// A host reads a register of its controller: `VALUE`, with the value; or `NO_CONTROLLER` or `CLOSED`.
@@ -58,12 +49,7 @@ pub extern "C" fn nvmesim_read32(
 ) -> Answer
     ensures { Happens (Reacting cntlid (has_read offset)) sim.old.slot.value result sim.new.slot.value }
 {
-    let Some(mut subsystem) = sim.take(alloc) else {
-        return Answer::closed();
-    };
-    let seen = subsystem.react(Event::Read32(cntlid, offset));
-    *sim = Handle::of(subsystem);
-    Answer::of(seen)
+    happen(alloc, sim, Event::Read32(cntlid, offset))
 }
 
 /// A controller fetches the next command of a submission queue: `TOOK`, or `IDLE` where there is none to fetch; or
@@ -72,12 +58,7 @@ pub extern "C" fn nvmesim_read32(
 pub extern "C" fn nvmesim_fetch(alloc: Global, sim: &mut Handle, cntlid: u16, qid: u16) -> Answer
     ensures { Happens (Reacting cntlid (after_fetch qid)) sim.old.slot.value result sim.new.slot.value }
 {
-    let Some(mut subsystem) = sim.take(alloc) else {
-        return Answer::closed();
-    };
-    let seen = subsystem.react(Event::Fetch(cntlid, qid));
-    *sim = Handle::of(subsystem);
-    Answer::of(seen)
+    happen(alloc, sim, Event::Fetch(cntlid, qid))
 }
 
 /// A controller executes the i-th, from 0, of the commands that it has fetched and not executed, and posts its
@@ -101,10 +82,19 @@ pub extern "C" fn nvmesim_execute(alloc: Global, sim: &mut Handle, cntlid: u16, 
 pub extern "C" fn nvmesim_power_cycle(alloc: Global, sim: &mut Handle) -> Answer
     ensures { Happens Cycling sim.old.slot.value result sim.new.slot.value }
 {
+    happen(alloc, sim, Event::PowerCycle)
+}
+
+/// An event that is no execution happens, where a subsystem is open.
+#[inline(always)]
+fn happen(alloc: Global, sim: &mut Handle, event: Event) -> Answer
+    requires quiet { ExecutesNothing event }
+    ensures { Happens (Stepping event.entry) sim.old.slot.value result sim.new.slot.value }
+{
     let Some(mut subsystem) = sim.take(alloc) else {
         return Answer::closed();
     };
-    let seen = subsystem.react(Event::PowerCycle);
+    let seen = subsystem.react(event);
     *sim = Handle::of(subsystem);
     Answer::of(seen)
 }

@@ -1,6 +1,8 @@
 //! What C holds of a subsystem.
 
 ghost use Rattle.std.specs.Prelude.{◌≡◌, Some, None, is_some, IfSome, IfNone};
+ghost use Rattle.std.proofs.Props.{props};
+ghost use Rattle.nvme_library.specs.Whole.{AreWhole, HoldsWhole};
 
 use crate::slot::Slot;
 use box_pointer::BoxPointer;
@@ -16,6 +18,7 @@ pub struct Handle {
     pub(crate) slot: Slot,
     is_open: bool,
     ghost told: { is_some slot.value ≡ is_open },
+    ghost whole: { HoldsWhole slot.value } by { Prim.hlevel props },
 }
 
 /// What C may hand from one thread to another. That it is so is proved where a type has this trait.
@@ -38,6 +41,7 @@ impl Handle {
     /// This subsystem.
     #[inline(always)]
     pub(crate) fn of(subsystem: Box<Subsystem<OwnOrLent>>) -> Handle
+        requires { AreWhole subsystem.value.state }
         ensures { result.slot.value ≡ Some subsystem.entry.value }
     {
         Handle {
@@ -59,6 +63,7 @@ impl Handle {
     pub(crate) fn take(&mut self, alloc: Global) -> Option<Box<Subsystem<OwnOrLent>>>
         ensures emptied { self.new.slot.value ≡ None }
         ensures some { IfSome result (λ subsystem. self.old.slot.value ≡ Some subsystem.value) }
+        ensures whole { IfSome result (λ subsystem. AreWhole subsystem.value.state) }
         ensures none { IfNone result (self.old.slot.value ≡ None) }
     {
         let Handle { slot, is_open } = mem::replace(self, Handle::closed(alloc));

@@ -4,7 +4,7 @@ ghost use Rattle.nvme_machine.specs.Subsystems.{controller_at};
 ghost use Rattle.nvme_machine.specs.Controllers.{after_store, wrote};
 ghost use Rattle.nvme_library.specs.Events.{Reacting};
 ghost use Rattle.nvme_library.specs.Turns.{tail_doorbell};
-ghost use Rattle.nvme_library.specs.Submitting.{Submits, SubmitsTo, TakesTurn, Does, Fetching, Completing, Completes, Consumes};
+ghost use Rattle.nvme_library.specs.Submitting.{Submits, AlwaysAnswers, SubmitsTo, TakesTurn, Does, Fetching, Completing, Completes, Consumes};
 
 use crate::answer::Answer;
 use crate::codes;
@@ -21,7 +21,8 @@ use std::alloc::Global;
 /// queue and writes the doorbell, the controller fetches the command, executes it and posts the completion, and the
 /// host reads that, of 16 bytes, and writes the head doorbell. No other event comes between.
 ///
-/// `POSTED`, with the status; or `NOT_READY`, `NO_QUEUE`, `BUSY`, `NO_CONTROLLER` or `CLOSED`, and nothing has happened.
+/// `POSTED`, with the status, and the buffer has the completion of this very command; or `NOT_READY`, `NO_QUEUE`, `BUSY`,
+/// `NO_CONTROLLER` or `CLOSED`, and nothing has happened.
 #[unsafe(no_mangle)]
 pub extern "C" fn nvmesim_submit(
     alloc: Global,
@@ -31,8 +32,9 @@ pub extern "C" fn nvmesim_submit(
     entry: &[u8; 64],
     completion: &mut [u8; 16],
 ) -> Answer
-    ensures { Submits cntlid qid entry.now sim.old.slot.value result completion.old completion.new
+    ensures submits { Submits cntlid qid entry.now sim.old.slot.value result completion.old completion.new
         sim.new.slot.value }
+    ensures answers { AlwaysAnswers cntlid qid entry.now sim.old.slot.value result completion.new }
 {
     let Some(mut subsystem) = sim.take(alloc) else {
         return Answer::closed();
