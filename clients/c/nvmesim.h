@@ -73,8 +73,8 @@ enum {
 
 /* What an event gave. What does not come with an answer is 0. */
 typedef struct nvmesim_answer {
-    uint32_t what;  /* one of the numbers above */
     uint32_t value; /* the register's value, or double word 0 of the completion queue entry */
+    uint32_t what;  /* one of the numbers above */
     uint8_t sct;    /* NVMESIM_POSTED: the Status Code Type */
     uint8_t sc;     /* and the Status Code */
     uint8_t rule;   /* the number of the rule that denied the command, or 0 where it was allowed */
@@ -186,9 +186,10 @@ nvmesim_answer nvmesim_execute(nvmesim *sim, uint16_t cntlid, size_t i);
 
 /* One command from its entry (64 bytes) to its completion queue entry (16 bytes), for a host that wants no order of its
  * own: store at the tail of the submission queue, as the doorbell last had it, tail doorbell, fetch, execute, load of
- * the completion, head doorbell. These are the events, and no other comes between. POSTED, with the status; or
- * NOT_READY, NO_QUEUE, NO_CONTROLLER, CLOSED, or BUSY where a command waits at the queue, a completion at its
- * completion queue, or the controller has 64 commands; then nothing has happened, and the completion is not written. */
+ * the completion, head doorbell. These are the events, and no other comes between. POSTED, with the status, and the
+ * completion is that of this very command; or NOT_READY, NO_QUEUE, NO_CONTROLLER, CLOSED, or BUSY where a command waits
+ * at the queue, a completion at its completion queue, or the controller has 64 commands; then nothing has happened, and
+ * the completion is not written. */
 nvmesim_answer nvmesim_submit(nvmesim *sim, uint16_t cntlid, uint16_t qid, const uint8_t *entry, uint8_t *completion);
 
 /* Power is lost in all of the subsystem, and comes back: CYCLED, or CLOSED. */

@@ -52,7 +52,7 @@ class _Attached(ctypes.Structure):
 
 
 class _Answer(ctypes.Structure):
-    _fields_ = [("what", ctypes.c_uint32), ("value", ctypes.c_uint32), ("sct", ctypes.c_uint8), ("sc", ctypes.c_uint8),
+    _fields_ = [("value", ctypes.c_uint32), ("what", ctypes.c_uint32), ("sct", ctypes.c_uint8), ("sc", ctypes.c_uint8),
                 ("rule", ctypes.c_uint8)]
 
 

@@ -16,8 +16,8 @@ pub struct Bytes {
 
 #[repr(C)]
 pub struct Answer {
-    pub what: u32,
     pub value: u32,
+    pub what: u32,
     pub sct: u8,
     pub sc: u8,
     pub rule: u8,

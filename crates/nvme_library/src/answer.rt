@@ -10,10 +10,10 @@ use nvme_machine::{BareExecuted, BareOutcome, BareSeen, Fetched};
 #[repr(C)]
 #[derive(Clone, Copy)]
 pub struct Answer {
-    /// Which answer it is: one of the numbers of `codes`.
-    pub what: u32,
     /// The value of the register, or double word 0 of the completion queue entry.
     pub value: u32,
+    /// Which answer it is: one of the numbers of `codes`.
+    pub what: u32,
     /// The Status Code Type of the completion queue entry.
     pub sct: u8,
     /// Its Status Code.
@@ -29,8 +29,8 @@ impl Answer {
         ensures { result ≡ plain what }
     {
         Answer {
-            what,
             value: 0,
+            what,
             sct: 0,
             sc: 0,
             rule: 0,
@@ -43,8 +43,8 @@ impl Answer {
         ensures { result ≡ value_answer value }
     {
         Answer {
-            what: codes::VALUE,
             value,
+            what: codes::VALUE,
             sct: 0,
             sc: 0,
             rule: 0,
@@ -57,8 +57,8 @@ impl Answer {
         ensures { result ≡ posted outcome }
     {
         Answer {
-            what: codes::POSTED,
             value: outcome.dw0,
+            what: codes::POSTED,
             sct: outcome.status.sct,
             sc: outcome.status.sc,
             rule: outcome.rule,
