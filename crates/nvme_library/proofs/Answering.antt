@@ -272,7 +272,7 @@ turned-with c qid entry s x whole ready at to few consumed long =
     let can = fetchable-is c₂ qid s₂ rung.state (subst (λ ts. length ts < 64) (sym rung.fetched) few) at₂ refl in
     let stored = stored-is c start entry (omega (arith, ends, long)) in
     let is : turned qid (turn_with (length c.fetched) s x) entry c ≡ fetched_from qid c₂ (Some s₂) =
-        ap (λ (r : Reaction). after_fetch qid (after_write32 (tail_doorbell qid) v r.controller)) stored ∙ fetched-is c₂ qid s₂ can in
+    ap (λ (r : Reaction). after_fetch qid (after_write32 (tail_doorbell qid) v r.controller)) stored ∙ fetched-is c₂ qid s₂ can in
     let lies = whole.window.completion s.cqid x to in
     let sized = lies.0.size in
     let tail-below : tail_of x < x.tail.size = mod_below x.tail.posted x.tail.size (omega (arith, sized.0)) in
@@ -365,7 +365,7 @@ answered k qid c d turn entry before left old new answer whole at has long h =
     let o : BareOutcome = posted.0 in
     let why : Outcome = outcome_with e.marks o in
     let step : Step true old.state (Execute k turn.place) (Executed (Posted why)) h.executed.state =
-        subst (λ u. ExecutesAt (controller_at old.state k) true old.state k turn.place (seen_with e.marks u) h.executed.state) posted.1 e.executes in
+    subst (λ u. ExecutesAt (controller_at old.state k) true old.state k turn.place (seen_with e.marks u) h.executed.state) posted.1 e.executes in
     let waits : Waits old.state k turn.place d t p = record { at = at; found = has.found; room = room } in
     let stands = posted_is_unread true old.state h.executed.state k turn.place d t p why step waits (λ j c₁ at₁. (let w = whole j c₁ at₁ in w.window)) in
     let placed = whole k d at in

@@ -6,13 +6,11 @@ use denote.RawPtr.{Ptr}
 use Rattle.std.specs.Box.Ownership.{box_owns}
 use Rattle.std.specs.Global.{Global}
 use Rattle.std.specs.contracts.impls.GlobalAllocator.TheImpl.{ghosts}
-use Rattle.nvme_lent.specs.contracts.either.OwnOrLent as medium
-use Rattle.nvme_lent.specs.contracts.either.OwnOrLentMedium.TheImpl.{ghosts as medium_ghosts}
-use Rattle.nvme_subsys.specs.contracts.subsystem.Subsystem as subsystem
+use Rattle.nvme_library.specs.contracts.held.Held as held
 
 -- a subsystem over a medium of its own blocks or of lent ones
 abbrev pub Row : RattleType
-Row = subsystem.the_row medium.the_row medium_ghosts
+Row = held.the_row
 
 -- as contracts see it: its state, and its medium
 abbrev pub Inside : Type 0

@@ -6,7 +6,6 @@ ghost use Rattle.nvme_library.specs.Events.{Happens, Stepping, Reacting, Executi
 
 use crate::answer::Answer;
 use crate::handle::Handle;
-use nvme_spec::Marks;
 use nvme_subsys::Event;
 use std::alloc::Global;
 
@@ -71,8 +70,7 @@ pub extern "C" fn nvmesim_execute(alloc: Global, sim: &mut Handle, cntlid: u16, 
     let Some(mut subsystem) = sim.take(alloc) else {
         return Answer::closed();
     };
-    let mut marks = Marks::none();
-    let seen = subsystem.execute_marking(cntlid, i, &mut marks);
+    let seen = subsystem.execute(cntlid, i);
     *sim = Handle::of(subsystem);
     Answer::of(seen)
 }

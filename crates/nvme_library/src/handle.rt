@@ -4,10 +4,9 @@ ghost use Rattle.std.specs.Prelude.{◌≡◌, Some, None, is_some, IfSome, IfNo
 ghost use Rattle.std.proofs.Props.{props};
 ghost use Rattle.nvme_library.specs.Whole.{AreWhole, HoldsWhole};
 
+use crate::held::Held;
 use crate::slot::Slot;
 use box_pointer::BoxPointer;
-use nvme_lent::OwnOrLent;
-use nvme_subsys::Subsystem;
 use std::alloc::Global;
 use std::mem;
 
@@ -40,7 +39,7 @@ impl Handle {
 
     /// This subsystem.
     #[inline(always)]
-    pub(crate) fn of(subsystem: Box<Subsystem<OwnOrLent>>) -> Handle
+    pub(crate) fn of(subsystem: Box<Held>) -> Handle
         requires { AreWhole subsystem.value.state }
         ensures { result.slot.value ≡ Some subsystem.entry.value }
     {
@@ -60,7 +59,7 @@ impl Handle {
 
     /// Takes the subsystem out, if one is open.
     #[inline(always)]
-    pub(crate) fn take(&mut self, alloc: Global) -> Option<Box<Subsystem<OwnOrLent>>>
+    pub(crate) fn take(&mut self, alloc: Global) -> Option<Box<Held>>
         ensures emptied { self.new.slot.value ≡ None }
         ensures some { IfSome result (λ subsystem. self.old.slot.value ≡ Some subsystem.value) }
         ensures whole { IfSome result (λ subsystem. AreWhole subsystem.value.state) }

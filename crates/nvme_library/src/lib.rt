@@ -8,6 +8,7 @@ mod codes;
 mod configuration;
 pub mod events;
 mod handle;
+mod held;
 pub mod looking;
 pub mod naming;
 pub mod opening;

@@ -6,9 +6,8 @@ ghost use Rattle.nvme_library.specs.Looking.{Loads, LoadsFrom, LooksHeld, look_n
 
 use crate::codes;
 use crate::handle::Handle;
-use nvme_lent::OwnOrLent;
+use crate::held::Held;
 use nvme_medium::MediumFault;
-use nvme_subsys::Subsystem;
 use std::alloc::Global;
 
 /// Loads bytes of the memory of a controller's host, from this address on: `OK`; or `OUTSIDE`, `NO_CONTROLLER` or
@@ -57,12 +56,7 @@ pub extern "C" fn nvmesim_read_blocks(
 }
 
 /// Copies bytes out of a controller's window.
-pub(crate) fn load_from(
-    subsystem: &Subsystem<OwnOrLent>,
-    cntlid: u16,
-    address: u64,
-    bytes: &mut [u8],
-) -> u32
+pub(crate) fn load_from(subsystem: &Held, cntlid: u16, address: u64, bytes: &mut [u8]) -> u32
     ensures { LoadsFrom (controller_at subsystem.now.state cntlid) address bytes.old result bytes.new }
 {
     let Some(controller) = subsystem.controller(cntlid) else {

@@ -9,6 +9,7 @@ ghost use Rattle.nvme_library.specs.Opening.{Opens, OpensOver, IsFault, fault_nu
 use crate::codes;
 use crate::configuration::{Attached, Controller, Namespace, config_of};
 use crate::handle::Handle;
+use crate::held::Held;
 use nvme_lent::{LentBytes, LentMedium, OwnOrLent};
 use nvme_medium::MemMedium;
 use nvme_spec::ConfigFault;
@@ -107,7 +108,7 @@ fn opened(
     namespaces: &[Namespace],
     attached: &[Attached],
     medium: OwnOrLent,
-) -> Result<Box<Subsystem<OwnOrLent>>, ConfigFault>
+) -> Result<Box<Held>, ConfigFault>
     ensures opened { IfOk result
         (λ subsystem. OpensOver (configuration_of controllers.now namespaces.now attached.now) (bytes_of medium.entry)
         (blocks_of medium.entry) (is_lent medium.entry) subsystem.value) }
@@ -118,7 +119,7 @@ fn opened(
         return Err(ConfigFault::NoMemory);
     };
     match Subsystem::new(alloc, &config, medium) {
-        Ok(subsystem) => match Box::new(alloc, subsystem) {
+        Ok(subsystem) => match Box::new(alloc, Held::of(subsystem)) {
             Ok(boxed) => Ok(boxed),
             Err(_) => Err(ConfigFault::NoMemory),
         },

@@ -3,9 +3,8 @@
 ghost use Rattle.std.specs.Prelude.{◌≡◌, Option, Some, None, true, is_some};
 ghost use Rattle.nvme_library.specs.Holding.{Inside, holds};
 
+use crate::held::Held;
 use box_pointer::BoxPointer;
-use nvme_lent::OwnOrLent;
-use nvme_subsys::Subsystem;
 use std::alloc::Global;
 use std::marker::Model;
 use std::ptr;
@@ -28,7 +27,7 @@ unsafe impl Send for Slot {}
 
 impl Slot {
     /// The place of this one.
-    pub(crate) fn of(pointer: BoxPointer<Subsystem<OwnOrLent>, Global>) -> Slot
+    pub(crate) fn of(pointer: BoxPointer<Held, Global>) -> Slot
         ensures { result.value ≡ Some pointer.entry.value }
     {
         let BoxPointer { at, alloc } = pointer;
@@ -39,13 +38,13 @@ impl Slot {
     }
 
     /// The one that stands there.
-    pub(crate) fn into_pointer(self) -> BoxPointer<Subsystem<OwnOrLent>, Global>
+    pub(crate) fn into_pointer(self) -> BoxPointer<Held, Global>
         requires { is_some self.value ≡ true }
         ensures { self.value ≡ Some result.value }
     {
         let Slot { at, alloc } = self;
         BoxPointer {
-            at: at as *mut Subsystem<OwnOrLent>,
+            at: at as *mut Held,
             alloc,
         }
     }

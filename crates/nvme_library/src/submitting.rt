@@ -9,12 +9,11 @@ ghost use Rattle.nvme_library.specs.Submitting.{Submits, AlwaysAnswers, SubmitsT
 use crate::answer::Answer;
 use crate::codes;
 use crate::handle::Handle;
+use crate::held::Held;
 use crate::looking::load_from;
 use crate::turn::{Turn, head_doorbell, tail_doorbell, turn_of};
-use nvme_lent::OwnOrLent;
 use nvme_machine::{BareExecuted, BareSeen, Fetched};
-use nvme_spec::Marks;
-use nvme_subsys::{Event, Subsystem};
+use nvme_subsys::Event;
 use std::alloc::Global;
 
 /// A host takes its turn at a pair of queues in which nothing waits: it stores a command at the tail of the submission
@@ -46,7 +45,7 @@ pub extern "C" fn nvmesim_submit(
 
 /// A command is submitted, where its host has a turn.
 fn submit_to(
-    subsystem: &mut Subsystem<OwnOrLent>,
+    subsystem: &mut Held,
     cntlid: u16,
     qid: u16,
     entry: &[u8; 64],
@@ -66,7 +65,7 @@ fn submit_to(
 
 /// The events of a turn.
 fn take_turn(
-    subsystem: &mut Subsystem<OwnOrLent>,
+    subsystem: &mut Held,
     cntlid: u16,
     qid: u16,
     turn: Turn,
@@ -81,13 +80,7 @@ fn take_turn(
 }
 
 /// The host stores the entry and writes the tail doorbell, and the controller fetches.
-fn fetch(
-    subsystem: &mut Subsystem<OwnOrLent>,
-    cntlid: u16,
-    qid: u16,
-    turn: Turn,
-    entry: &[u8; 64],
-) -> BareSeen
+fn fetch(subsystem: &mut Held, cntlid: u16, qid: u16, turn: Turn, entry: &[u8; 64]) -> BareSeen
     ensures { Fetching cntlid qid turn entry.now subsystem.old result subsystem.new }
 {
     store_entry(subsystem, cntlid, turn, entry);
@@ -96,14 +89,14 @@ fn fetch(
 }
 
 /// The host stores the entry at the tail.
-fn store_entry(subsystem: &mut Subsystem<OwnOrLent>, cntlid: u16, turn: Turn, entry: &[u8; 64])
+fn store_entry(subsystem: &mut Held, cntlid: u16, turn: Turn, entry: &[u8; 64])
     ensures { Does (Reacting cntlid (after_store turn.entry_at entry.now)) subsystem.old subsystem.new }
 {
     subsystem.react(Event::Store(cntlid, turn.entry_at, entry));
 }
 
 /// The host writes the doorbell of the tail.
-fn ring_tail(subsystem: &mut Subsystem<OwnOrLent>, cntlid: u16, qid: u16, turn: Turn)
+fn ring_tail(subsystem: &mut Held, cntlid: u16, qid: u16, turn: Turn)
     ensures { Does (Reacting cntlid (wrote (tail_doorbell qid) turn.tail)) subsystem.old subsystem.new }
 {
     subsystem.react(Event::Write32(cntlid, tail_doorbell(qid), turn.tail));
@@ -111,7 +104,7 @@ fn ring_tail(subsystem: &mut Subsystem<OwnOrLent>, cntlid: u16, qid: u16, turn: 
 
 /// What was fetched is executed, where a command was.
 fn finish(
-    subsystem: &mut Subsystem<OwnOrLent>,
+    subsystem: &mut Held,
     cntlid: u16,
     turn: Turn,
     seen: BareSeen,
@@ -127,28 +120,16 @@ fn finish(
 }
 
 /// The controller executes the command, and the host consumes its completion.
-fn complete(
-    subsystem: &mut Subsystem<OwnOrLent>,
-    cntlid: u16,
-    turn: Turn,
-    completion: &mut [u8; 16],
-) -> Answer
+fn complete(subsystem: &mut Held, cntlid: u16, turn: Turn, completion: &mut [u8; 16]) -> Answer
     ensures { Completing cntlid turn subsystem.old result completion.old completion.new subsystem.new }
 {
-    let mut marks = Marks::none();
-    let seen = subsystem.execute_marking(cntlid, turn.place, &mut marks);
+    let seen = subsystem.execute(cntlid, turn.place);
     consume(subsystem, cntlid, turn, seen, completion);
     Answer::of(seen)
 }
 
 /// The host reads the completion and writes the head doorbell, where one was posted.
-fn consume(
-    subsystem: &mut Subsystem<OwnOrLent>,
-    cntlid: u16,
-    turn: Turn,
-    seen: BareSeen,
-    completion: &mut [u8; 16],
-)
+fn consume(subsystem: &mut Held, cntlid: u16, turn: Turn, seen: BareSeen, completion: &mut [u8; 16])
     ensures { Consumes seen cntlid turn subsystem.old completion.old completion.new subsystem.new }
 {
     if let BareSeen::Executed(BareExecuted::Posted(_)) = seen {

@@ -9,5 +9,5 @@ use Rattle.nvme_library.proofs.events.nvmesim_execute.Goals as goal
 pub of-requires : goal.of-requires
 of-requires c =
     let before = subst (λ (s : Inside). AreWhole s.state) (sym c.deref_mut.ensures.value) c.in-Some.ensures.whole in
-    let x = c.execute_marking-seen in
-    step_keeps_whole true _ x.new.self.state (Execute c.args.cntlid c.args.i) (seen_with x.new.marks x.result) x.ensures.executes before
+    let x = c.execute-seen in
+    step_keeps_whole true _ x.new.self.state (Execute c.args.cntlid c.args.i) (seen_with x.ensures.marks x.result) x.ensures.executes before

@@ -11,14 +11,12 @@ use Rattle.std.proofs.Crossing as heap
 use Rattle.std_alloc.proofs.SendSync.{quiet, lies}
 use Rattle.std_heap.proofs.Global.TheSendSync as handle
 use Rattle.std.specs.Global.{Global}
-use Rattle.nvme_lent.proofs.either.OwnOrLent.TheSendSync as medium
-use Rattle.nvme_lent.specs.contracts.either.OwnOrLentMedium.TheImpl.{ghosts as medium_ghosts}
-use Rattle.nvme_subsys.proofs.subsystem.Subsystem.TheSendSync as subsystem
+use Rattle.nvme_library.proofs.held.Held.TheSendSync as subsystem
 use Rattle.nvme_library.specs.Holding.{Row, Inside, holds}
 use Rattle.nvme_library.specs.contracts.slot.Slot.{the_row, the_type}
 
 inside : IsSend Row
-inside = subsystem.the_send _ medium_ghosts medium.the_send
+inside = subsystem.the_send
 
 held : (alloc : Global) (at : Ptr) (value : Option Inside) → Keyless (holds alloc at value)
 held alloc at None = tt

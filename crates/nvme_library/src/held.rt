@@ -1,0 +1,109 @@
+//! What stands behind a handle: a subsystem, and room for what its executions mark.
+
+ghost use Rattle.std.specs.Prelude.{◌≡◌, ◌%◌, ◌/◌, true, length, None, Some, IfNone, IfSome};
+ghost use Rattle.nvme_spec.specs.World.{namespace_of};
+ghost use Rattle.nvme_lent.specs.OwnOrLent.{step_of};
+ghost use Rattle.nvme_machine.specs.Bare.{seen_of};
+ghost use Rattle.nvme_machine.specs.EventCalls.{ExecutesNothing};
+ghost use Rattle.nvme_machine.specs.Subsystems.{Step, controller_at};
+ghost use Rattle.nvme_subsys.specs.Looking.{Looks, LooksBy, place_in};
+ghost use Rattle.nvme_library.specs.Events.{Executing};
+
+use nvme_ctrl::Controller;
+use nvme_lent::OwnOrLent;
+use nvme_machine::BareSeen;
+use nvme_medium::MediumFault;
+use nvme_ns::Spaces;
+use nvme_spec::Marks;
+use nvme_subsys::{Event, Subsystem};
+use std::marker::Model;
+
+/// A subsystem that C holds, which is what contracts see of it. The room for what an execution marks stands beside it,
+/// empty, since to make it costs as much as a fetch.
+#[derive(Drop)]
+pub struct Held {
+    subsystem: Subsystem<OwnOrLent>,
+    marks: Marks,
+}
+
+impl Model for Held {
+    ghost use Rattle.std.specs.Prelude.{◌≡◌};
+    ghost use Rattle.nvme_lent.specs.declared.either.OwnOrLent.{OwnOrLent as Blocks};
+    ghost use Rattle.nvme_machine.specs.Subsystems.{Subsystem as State};
+    ghost use Rattle.nvme_spec.specs.Execution.{no_marks};
+    ghost use Rattle.nvme_subsys.specs.OverMedium.{OverMedium};
+
+    ghost Value = { OverMedium State Blocks };
+
+    ghost view = { λ h. h.subsystem };
+
+    ghost invariant = { λ h. h.marks ≡ no_marks };
+}
+
+impl Held {
+    /// This subsystem.
+    pub(crate) fn of(subsystem: Subsystem<OwnOrLent>) -> Held
+        ensures { result ≡ subsystem.entry }
+    {
+        Held {
+            subsystem,
+            marks: Marks::none(),
+        }
+    }
+
+    /// An event that is no execution.
+    #[inline(always)]
+    pub(crate) fn react(&mut self, event: Event) -> BareSeen
+        requires quiet { ExecutesNothing event }
+        ensures step { Step true self.old.state event.entry (seen_of result) self.new.state }
+        ensures medium { self.new.medium ≡ self.old.medium }
+    {
+        self.subsystem.react(event)
+    }
+
+    /// A controller executes a command.
+    #[inline(always)]
+    pub(crate) fn execute(&mut self, cntlid: u16, i: usize) -> BareSeen
+        ensures { Executing cntlid i self.old result self.new }
+    {
+        let seen = self.subsystem.execute_marking(cntlid, i, &mut self.marks);
+        self.marks.nsid = 0;
+        self.marks.hosts.clear();
+        seen
+    }
+
+    /// The controller of an identifier, if there is one.
+    #[inline(always)]
+    pub(crate) fn controller(&self, cntlid: u16) -> Option<&Controller>
+        ensures none { IfNone result (controller_at self.now.state cntlid ≡ None) }
+        ensures some { IfSome result (λ controller. controller_at self.now.state cntlid ≡ Some controller.now) }
+    {
+        self.subsystem.controller(cntlid)
+    }
+
+    /// The access state.
+    #[inline(always)]
+    pub(crate) fn spaces(&self) -> &Spaces
+        ensures { result.now ≡ self.now.state.world }
+    {
+        self.subsystem.spaces()
+    }
+
+    /// Reads blocks of a namespace as the medium has them.
+    #[inline(always)]
+    pub(crate) fn read_blocks(
+        &mut self,
+        nsid: u32,
+        slba: u64,
+        buffer: &mut [u8],
+    ) -> Option<Result<(), MediumFault>>
+        requires whole { length buffer.old % 512 ≡ 0 }
+        ensures look { Looks true (place_in (namespace_of self.old.state.world nsid) slba (length buffer.old / 512))
+            self.old.state buffer.new result self.new.state }
+        ensures calls { LooksBy step_of true self.old.state.device.content
+            (place_in (namespace_of self.old.state.world nsid) slba (length buffer.old / 512))
+            (length buffer.old / 512) buffer.old buffer.new self.old.medium result self.new.medium }
+    {
+        self.subsystem.read_blocks(nsid, slba, buffer)
+    }
+}
