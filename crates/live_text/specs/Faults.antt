@@ -37,12 +37,15 @@ abbrev pub nearest_text : Option LookingWord → List ℕ
 nearest_text None = codes "; ?help names all"
 nearest_text (Some k) = codes "; did you mean '" ++ word_text k ++ codes "'?"
 
+-- no line begins with this word
+abbrev pub no_line_text : List ℕ → Option LookingWord → List ℕ
+no_line_text word nearest = codes "there is no line '" ++ line_text.shown_word word ++ codes "'" ++ nearest_text nearest
+
 abbrev pub why_text : Why → List ℕ
 why_text why.TooLong = codes "a line has at most 1048576 bytes"
 why_text (why.Line reason) = line_text.why_text reason
 why_text (why.Looking word) = codes "the line is " ++ form_text word
-why_text (why.NoLine word nearest) =
-    codes "there is no line '" ++ line_text.shown_word word.now ++ codes "'" ++ nearest_text nearest
+why_text (why.NoLine word nearest) = no_line_text word.now nearest
 why_text why.BeforeStart = codes "this line stands before 'start', which was said already"
 why_text why.BehindStart = codes "this line needs a 'start' before it, and there was none yet"
 why_text why.NoController = codes "there is no such controller"

@@ -1,13 +1,13 @@
 //! Why a line is not carried out, and what it is answered.
 
-ghost use Rattle.std.specs.Prelude.{◌≡◌, Some, map};
+ghost use Rattle.std.specs.Prelude.{◌≡◌, map};
+ghost use Rattle.script_text.specs.Pages.{Adds};
 ghost use Rattle.nvme_grammar.specs.Room.{HasBytesRoom};
 ghost use Rattle.live_text.specs.Faults as spec;
 
 use crate::looking_word::LookingWord;
-use nvme_grammar::{ShownWord, Why as LineWhy, foreign_byte, line_fault};
-use script_text::words_of;
-use std::fmt;
+use nvme_grammar::{Why as LineWhy, foreign_byte, line_fault, put_word_between};
+use script_text::{NoRoom, Page, Spell, put_both, put_labelled, put_three, words_of};
 
 /// Why a line is not carried out. Its text is a sentence for a person.
 #[derive(Clone, Copy)]
@@ -60,59 +60,53 @@ impl Why<'_> {
     }
 }
 
-/// The looking line that a word is near to, as a question, else where all stand.
-#[derive(Clone, Copy)]
-struct NearestText(Option<LookingWord>);
-
-impl fmt::Display for NearestText {
-    ghost output = { λ text. Some (spec.nearest_text text.0) };
-
-    fn fmt<W: fmt::Write>(&self, f: &mut fmt::Formatter<W>) -> fmt::Result {
-        match self.0 {
-            Some(word) => write!(f, "; did you mean '{}'?", word.text()),
-            None => write!(f, "; ?help names all"),
-        }
-    }
+/// Puts the looking line that a word is near to, as a question, else where all stand.
+fn put_nearest<P: Page>(page: &mut P, nearest: Option<LookingWord>) -> Result<(), NoRoom>
+    ensures { Adds P.room result (P.written page.old) (spec.nearest_text nearest) (P.written page.new) }
+{
+    let Some(word) = nearest else {
+        return page.put_str("; ?help names all");
+    };
+    put_three(page, "; did you mean '", word.text(), "'?")
 }
 
-impl fmt::Display for Why<'_> {
-    ghost output = { λ why. Some (spec.why_text why) };
+/// Puts that no line begins with a word.
+fn put_no_line<P: Page>(
+    page: &mut P,
+    word: &[u8],
+    nearest: Option<LookingWord>,
+) -> Result<(), NoRoom>
+    ensures { Adds P.room result (P.written page.old) (spec.no_line_text word.now nearest) (P.written page.new) }
+{
+    put_word_between(page, "there is no line '", word, "'")?;
+    put_nearest(page, nearest)
+}
 
-    fn fmt<W: fmt::Write>(&self, f: &mut fmt::Formatter<W>) -> fmt::Result {
+impl Spell for Why<'_> {
+    ghost spelled = { spec.why_text };
+
+    fn spell<P: Page>(&self, page: &mut P) -> Result<(), NoRoom> {
         match self {
-            Why::TooLong => write!(f, "a line has at most 1048576 bytes"),
-            Why::Line(why) => write!(f, "{why}"),
-            Why::Looking(word) => write!(f, "the line is {}", word.form()),
-            Why::NoLine { word, nearest } => write!(
-                f,
-                "there is no line '{}'{}",
-                ShownWord(word),
-                NearestText(*nearest)
-            ),
-            Why::BeforeStart => write!(
-                f,
-                "this line stands before 'start', which was said already"
-            ),
-            Why::BehindStart => write!(
-                f,
-                "this line needs a 'start' before it, and there was none yet"
-            ),
-            Why::NoController => write!(f, "there is no such controller"),
-            Why::NoDriver => write!(f, "there is no such controller with a driver"),
-            Why::NoNamespace => write!(f, "there is no such namespace"),
-            Why::OutsideWindow => {
-                write!(
-                    f,
-                    "at most 131072 bytes of the window are shown, and it has 4194304"
-                )
+            Why::TooLong => page.put_str("a line has at most 1048576 bytes"),
+            Why::Line(why) => why.spell(page),
+            Why::Looking(word) => put_both(page, "the line is ", word.form()),
+            Why::NoLine { word, nearest } => put_no_line(page, word, *nearest),
+            Why::BeforeStart => {
+                page.put_str("this line stands before 'start', which was said already")
             }
-            Why::OutsideNamespace => {
-                write!(
-                    f,
-                    "1 to 256 blocks of the namespace are shown, and these are not all in it"
-                )
+            Why::BehindStart => {
+                page.put_str("this line needs a 'start' before it, and there was none yet")
             }
-            Why::MediumFailed => write!(f, "the medium failed"),
+            Why::NoController => page.put_str("there is no such controller"),
+            Why::NoDriver => page.put_str("there is no such controller with a driver"),
+            Why::NoNamespace => page.put_str("there is no such namespace"),
+            Why::OutsideWindow => page.put_str(
+                "at most 131072 bytes of the window are shown, and it has 4194304",
+            ),
+            Why::OutsideNamespace => page.put_str(
+                "1 to 256 blocks of the namespace are shown, and these are not all in it",
+            ),
+            Why::MediumFailed => page.put_str("the medium failed"),
         }
     }
 }
@@ -124,17 +118,14 @@ pub struct Refusal<'a> {
     pub why: Why<'a>,
 }
 
-impl fmt::Display for Refusal<'_> {
-    ghost output = { λ r. Some (spec.refusal r.number r.why) };
+impl Spell for Refusal<'_> {
+    ghost spelled = { λ r. spec.refusal r.number r.why };
 
-    fn fmt<W: fmt::Write>(&self, f: &mut fmt::Formatter<W>) -> fmt::Result {
-        write!(
-            f,
-            "! line {} word {}: {}",
-            self.number,
-            self.why.word(),
-            self.why
-        )
+    fn spell<P: Page>(&self, page: &mut P) -> Result<(), NoRoom> {
+        put_labelled(page, "! line ", self.number)?;
+        put_labelled(page, " word ", self.why.word() as u64)?;
+        page.put_str(": ")?;
+        self.why.spell(page)
     }
 }
 

@@ -1,13 +1,12 @@
 //! How the lines of a session are written, by their first words: those of scripts, and those that look.
 
-ghost use Rattle.std.specs.Prelude.{◌≡◌, Some};
+ghost use Rattle.std.specs.Prelude.{◌≡◌};
 ghost use Rattle.live_text.specs.Forms as spec;
 
 use crate::looking_word::LookingWord;
 use nvme_grammar::Keyword;
-use std::fmt;
 
-/// A kind of line. Its text is how such a line is written.
+/// A kind of line.
 #[derive(Clone, Copy, Debug, PartialEq, Eq)]
 pub enum Form {
     /// A line of a script.
@@ -16,14 +15,15 @@ pub enum Form {
     Looking(LookingWord),
 }
 
-impl fmt::Display for Form {
-    ghost output = { λ form. Some (spec.form_text form) };
-
-    fn fmt<W: fmt::Write>(&self, f: &mut fmt::Formatter<W>) -> fmt::Result {
-        f.write_str(match self {
+impl Form {
+    /// How such a line is written.
+    pub fn text(self) -> &'static str
+        ensures { result.now ≡ spec.form_text self }
+    {
+        match self {
             Form::Line(keyword) => keyword.form(),
             Form::Looking(word) => word.form(),
-        })
+        }
     }
 }
 

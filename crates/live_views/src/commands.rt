@@ -1,11 +1,11 @@
 //! What looking lines show of the commands that a controller has fetched.
 
-ghost use Rattle.std.specs.Prelude.{Some};
+ghost use Rattle.script_text.specs.Pages.{Adds};
 ghost use Rattle.live_views.specs.Showing.{command_text, commands_text, fetched_text, kind_text};
 
 use crate::names::{bit_name, command_name};
 use nvme_machine::FetchedCommand;
-use std::fmt;
+use script_text::{NoRoom, Page, Spell, put_both, put_labelled};
 
 /// The fetched commands of a controller.
 #[derive(Clone, Copy)]
@@ -14,72 +14,46 @@ pub struct FetchedText<'a> {
     pub commands: &'a [FetchedCommand],
 }
 
-impl fmt::Display for FetchedText<'_> {
-    ghost output = { λ c. Some (fetched_text c.cntlid c.commands.now) };
+impl Spell for FetchedText<'_> {
+    ghost spelled = { λ c. fetched_text c.cntlid c.commands.now };
 
-    fn fmt<W: fmt::Write>(&self, f: &mut fmt::Formatter<W>) -> fmt::Result {
-        write!(f, "fetched {}{}", self.cntlid, CommandsText(self.commands))
+    fn spell<P: Page>(&self, page: &mut P) -> Result<(), NoRoom> {
+        put_labelled(page, "fetched ", u64::from(self.cntlid))?;
+        put_commands(page, self.commands)
     }
 }
 
-/// Commands, each with its place among them.
-#[derive(Clone, Copy)]
-struct CommandsText<'a>(&'a [FetchedCommand]);
-
-impl fmt::Display for CommandsText<'_> {
-    ghost output = { λ c. Some (commands_text 0 c.0.now) };
-
-    fn fmt<W: fmt::Write>(&self, f: &mut fmt::Formatter<W>) -> fmt::Result {
-        let mut place: usize = 0;
-        let mut rest = self.0;
-        while let Some((command, behind)) = rest.split_first() {
-            write!(f, "{}", CommandText { place, command })?;
-            rest = behind;
-            place = place.saturating_add(1);
-        }
-        Ok(())
+/// Puts commands, each with its place among them.
+fn put_commands<P: Page>(page: &mut P, commands: &[FetchedCommand]) -> Result<(), NoRoom>
+    ensures { Adds P.room result (P.written page.old) (commands_text 0 commands.now) (P.written page.new) }
+{
+    let mut place: usize = 0;
+    let mut rest = commands;
+    while let Some((command, behind)) = rest.split_first() {
+        put_command(page, place, command)?;
+        rest = behind;
+        place = place.saturating_add(1);
     }
+    Ok(())
 }
 
-/// A fetched command, and its place among them.
-#[derive(Clone, Copy)]
-struct CommandText<'a> {
-    place: usize,
-    command: &'a FetchedCommand,
+/// Puts a fetched command, and its place among them.
+fn put_command<P: Page>(page: &mut P, place: usize, command: &FetchedCommand) -> Result<(), NoRoom>
+    ensures { Adds P.room result (P.written page.old) (command_text place command.now) (P.written page.new) }
+{
+    put_labelled(page, " command ", place as u64)?;
+    put_labelled(page, " queue ", u64::from(command.queue))?;
+    put_labelled(page, " cid ", u64::from(command.entry.cid()))?;
+    put_kind(page, command)
 }
 
-impl fmt::Display for CommandText<'_> {
-    ghost output = { λ c. Some (command_text c.place c.command.now) };
-
-    fn fmt<W: fmt::Write>(&self, f: &mut fmt::Formatter<W>) -> fmt::Result {
-        let command = self.command;
-        write!(
-            f,
-            " command {} queue {} cid {}{}",
-            self.place,
-            command.queue,
-            command.entry.cid(),
-            KindText(command)
-        )
-    }
-}
-
-/// What a fetched command is, and whether it is marked.
-#[derive(Clone, Copy)]
-struct KindText<'a>(&'a FetchedCommand);
-
-impl fmt::Display for KindText<'_> {
-    ghost output = { λ c. Some (kind_text c.0.now) };
-
-    fn fmt<W: fmt::Write>(&self, f: &mut fmt::Formatter<W>) -> fmt::Result {
-        let command = self.0;
-        let opcode = command.entry.opcode();
-        write!(
-            f,
-            " opcode {opcode} name {} nsid {} marked {}",
-            command_name(command.queue, opcode),
-            command.entry.nsid(),
-            bit_name(command.marked)
-        )
-    }
+/// Puts what a fetched command is, and whether it is marked.
+fn put_kind<P: Page>(page: &mut P, command: &FetchedCommand) -> Result<(), NoRoom>
+    ensures { Adds P.room result (P.written page.old) (kind_text command.now) (P.written page.new) }
+{
+    let opcode = command.entry.opcode();
+    put_labelled(page, " opcode ", u64::from(opcode))?;
+    put_both(page, " name ", command_name(command.queue, opcode))?;
+    put_labelled(page, " nsid ", u64::from(command.entry.nsid()))?;
+    put_both(page, " marked ", bit_name(command.marked))
 }

@@ -1,12 +1,12 @@
 //! What looking lines show of a controller, and of blocks.
 
-ghost use Rattle.std.specs.Prelude.{◌≡◌, ◌+◌, ◌<◌, Some};
+ghost use Rattle.std.specs.Prelude.{◌≡◌, ◌+◌, ◌<◌, ◌++◌};
 ghost use Rattle.nvme_spec.specs.Registers.{value_at};
+ghost use Rattle.script_text.specs.Pages.{Adds};
 ghost use Rattle.live_views.specs.Showing.{blocks_text, narrow_text, queue_registers_text, register_text, registers_text, state_registers_text, wide_text, window_text};
 
 use nvme_ctrl::Controller;
-use script_text::HexText;
-use std::fmt;
+use script_text::{HexText, NoRoom, Page, Spell, put_hex_in, put_labelled};
 
 /// Bytes of a controller's window.
 #[derive(Clone, Copy)]
@@ -16,19 +16,15 @@ pub struct WindowText<'a> {
     pub bytes: &'a [u8],
 }
 
-impl fmt::Display for WindowText<'_> {
-    ghost output = { λ w. Some (window_text w.cntlid w.address w.bytes.now) };
+impl Spell for WindowText<'_> {
+    ghost spelled = { λ w. window_text w.cntlid w.address w.bytes.now };
 
-    fn fmt<W: fmt::Write>(&self, f: &mut fmt::Formatter<W>) -> fmt::Result {
-        let bytes = self.bytes;
-        write!(
-            f,
-            "window {} {} {} {}",
-            self.cntlid,
-            self.address,
-            bytes.len(),
-            HexText(bytes)
-        )
+    fn spell<P: Page>(&self, page: &mut P) -> Result<(), NoRoom> {
+        put_labelled(page, "window ", u64::from(self.cntlid))?;
+        put_labelled(page, " ", self.address)?;
+        put_labelled(page, " ", self.bytes.len() as u64)?;
+        page.put_str(" ")?;
+        HexText(self.bytes).spell(page)
     }
 }
 
@@ -41,18 +37,15 @@ pub struct BlocksText<'a> {
     pub bytes: &'a [u8],
 }
 
-impl fmt::Display for BlocksText<'_> {
-    ghost output = { λ b. Some (blocks_text b.nsid b.slba b.count b.bytes.now) };
+impl Spell for BlocksText<'_> {
+    ghost spelled = { λ b. blocks_text b.nsid b.slba b.count b.bytes.now };
 
-    fn fmt<W: fmt::Write>(&self, f: &mut fmt::Formatter<W>) -> fmt::Result {
-        write!(
-            f,
-            "blocks {} {} {} {}",
-            self.nsid,
-            self.slba,
-            self.count,
-            HexText(self.bytes)
-        )
+    fn spell<P: Page>(&self, page: &mut P) -> Result<(), NoRoom> {
+        put_labelled(page, "blocks ", u64::from(self.nsid))?;
+        put_labelled(page, " ", self.slba)?;
+        put_labelled(page, " ", u64::from(self.count))?;
+        page.put_str(" ")?;
+        HexText(self.bytes).spell(page)
     }
 }
 
@@ -64,44 +57,14 @@ pub struct RegisterText {
     pub value: u32,
 }
 
-impl fmt::Display for RegisterText {
-    ghost output = { λ r. Some (register_text r.cntlid r.offset r.value) };
+impl Spell for RegisterText {
+    ghost spelled = { λ r. register_text r.cntlid r.offset r.value };
 
-    fn fmt<W: fmt::Write>(&self, f: &mut fmt::Formatter<W>) -> fmt::Result {
-        let value = self.value;
-        write!(f, "register {} {} 0x{value:08x}", self.cntlid, self.offset)
-    }
-}
-
-/// A register of one double word.
-#[derive(Clone, Copy)]
-struct NarrowText(u32);
-
-impl fmt::Display for NarrowText {
-    ghost output = { λ r. Some (narrow_text r.0) };
-
-    #[tactic(auto, unfolding(crate::specs::Showing::narrow_text))]
-    fn fmt<W: fmt::Write>(&self, f: &mut fmt::Formatter<W>) -> fmt::Result {
-        let value = self.0;
-        write!(f, "0x{value:08x}")
-    }
-}
-
-/// A register of two double words.
-#[derive(Clone, Copy)]
-struct WideText {
-    high: u32,
-    low: u32,
-}
-
-impl fmt::Display for WideText {
-    ghost output = { λ r. Some (wide_text r.high r.low) };
-
-    #[tactic(auto, unfolding(crate::specs::Showing::wide_text))]
-    fn fmt<W: fmt::Write>(&self, f: &mut fmt::Formatter<W>) -> fmt::Result {
-        let high = self.high;
-        let low = self.low;
-        write!(f, "0x{high:08x}{low:08x}")
+    fn spell<P: Page>(&self, page: &mut P) -> Result<(), NoRoom> {
+        put_labelled(page, "register ", u64::from(self.cntlid))?;
+        put_labelled(page, " ", self.offset)?;
+        page.put_str(" 0x")?;
+        put_hex_in(page, 8, u64::from(self.value))
     }
 }
 
@@ -112,75 +75,66 @@ pub struct RegistersText<'a> {
     pub controller: &'a Controller,
 }
 
-impl fmt::Display for RegistersText<'_> {
-    ghost output = { λ r. Some (registers_text r.cntlid r.controller.now.registers) };
+impl Spell for RegistersText<'_> {
+    ghost spelled = { λ r. registers_text r.cntlid r.controller.now.registers };
 
-    fn fmt<W: fmt::Write>(&self, f: &mut fmt::Formatter<W>) -> fmt::Result {
-        let controller = self.controller;
-        write!(
-            f,
-            "registers {}{}{}",
-            self.cntlid,
-            StateText(controller),
-            QueuesAtText(controller)
-        )
+    fn spell<P: Page>(&self, page: &mut P) -> Result<(), NoRoom> {
+        put_labelled(page, "registers ", u64::from(self.cntlid))?;
+        put_state(page, self.controller)?;
+        put_places(page, self.controller)
     }
 }
 
-/// A register of one double word of a controller, at this offset.
-fn narrow(controller: &Controller, offset: u64) -> NarrowText
-    ensures { result.0 ≡ value_at controller.now.registers offset }
+/// Puts a register of one double word, at this offset, behind its name.
+#[tactic(auto, unfolding(crate::specs::Showing::narrow_text))]
+fn put_narrow<P: Page>(
+    page: &mut P,
+    name: &str,
+    controller: &Controller,
+    offset: u64,
+) -> Result<(), NoRoom>
+    ensures { Adds P.room result (P.written page.old)
+        (name.now ++ narrow_text (value_at controller.now.registers offset)) (P.written page.new) }
 {
-    NarrowText(controller.read32(offset))
+    page.put_str(name)?;
+    page.put_str("0x")?;
+    put_hex_in(page, 8, u64::from(controller.read32(offset)))
 }
 
-/// A register of two double words of a controller, the lower of which is at this offset.
-fn wide(controller: &Controller, offset: u64) -> WideText
+/// Puts a register of two double words, the lower of which is at this offset, behind its name.
+#[tactic(auto, unfolding(crate::specs::Showing::wide_text))]
+fn put_wide<P: Page>(
+    page: &mut P,
+    name: &str,
+    controller: &Controller,
+    offset: u64,
+) -> Result<(), NoRoom>
     requires { offset < 4096 }
-    ensures low { result.low ≡ value_at controller.now.registers offset }
-    ensures high { result.high ≡ value_at controller.now.registers (offset + 4) }
+    ensures { Adds P.room result (P.written page.old)
+        (name.now ++ wide_text (value_at controller.now.registers (offset + 4)) (value_at controller.now.registers offset))
+        (P.written page.new) }
 {
-    WideText {
-        high: controller.read32(offset + 4),
-        low: controller.read32(offset),
-    }
+    page.put_str(name)?;
+    page.put_str("0x")?;
+    put_hex_in(page, 8, u64::from(controller.read32(offset + 4)))?;
+    put_hex_in(page, 8, u64::from(controller.read32(offset)))
 }
 
-/// What a controller can do, is told and says of itself.
-#[derive(Clone, Copy)]
-struct StateText<'a>(&'a Controller);
-
-impl fmt::Display for StateText<'_> {
-    ghost output = { λ c. Some (state_registers_text c.0.now.registers) };
-
-    fn fmt<W: fmt::Write>(&self, f: &mut fmt::Formatter<W>) -> fmt::Result {
-        let controller = self.0;
-        write!(
-            f,
-            " cap {} vs {} cc {} csts {}",
-            wide(controller, 0x00),
-            narrow(controller, 0x08),
-            narrow(controller, 0x14),
-            narrow(controller, 0x1c)
-        )
-    }
+/// Puts what a controller can do, is told and says of itself.
+fn put_state<P: Page>(page: &mut P, controller: &Controller) -> Result<(), NoRoom>
+    ensures { Adds P.room result (P.written page.old) (state_registers_text controller.now.registers) (P.written page.new) }
+{
+    put_wide(page, " cap ", controller, 0x00)?;
+    put_narrow(page, " vs ", controller, 0x08)?;
+    put_narrow(page, " cc ", controller, 0x14)?;
+    put_narrow(page, " csts ", controller, 0x1c)
 }
 
-/// Where the admin queues of a controller lie, and how long they are.
-#[derive(Clone, Copy)]
-struct QueuesAtText<'a>(&'a Controller);
-
-impl fmt::Display for QueuesAtText<'_> {
-    ghost output = { λ c. Some (queue_registers_text c.0.now.registers) };
-
-    fn fmt<W: fmt::Write>(&self, f: &mut fmt::Formatter<W>) -> fmt::Result {
-        let controller = self.0;
-        write!(
-            f,
-            " aqa {} asq {} acq {}",
-            narrow(controller, 0x24),
-            wide(controller, 0x28),
-            wide(controller, 0x30)
-        )
-    }
+/// Puts where the admin queues of a controller lie, and how long they are.
+fn put_places<P: Page>(page: &mut P, controller: &Controller) -> Result<(), NoRoom>
+    ensures { Adds P.room result (P.written page.old) (queue_registers_text controller.now.registers) (P.written page.new) }
+{
+    put_narrow(page, " aqa ", controller, 0x24)?;
+    put_wide(page, " asq ", controller, 0x28)?;
+    put_wide(page, " acq ", controller, 0x30)
 }

@@ -1,13 +1,12 @@
 //! What looking lines show of a driver.
 
-ghost use Rattle.std.specs.Prelude.{◌≡◌, ◌<◌, ◌↔◌, IfSome, IsSome, Some, if◌then◌else◌, nat_lt, codes};
 ghost use Rattle.std.specs.List.{flat_map};
-ghost use Rattle.std.specs.Fmt.{decimal};
+ghost use Rattle.script_text.specs.Pages.{Adds};
 ghost use Rattle.live_views.specs.Showing.{driver_text, slot_text, next_text};
 
 use crate::names::{driver_state_name, lane_name, life_name};
 use nvme_driver::{Driver, Waiting};
-use std::fmt;
+use script_text::{NoRoom, Page, Spell, put_both, put_labelled, put_number};
 
 /// A driver.
 #[derive(Clone, Copy)]
@@ -16,71 +15,48 @@ pub struct DriverText<'a> {
     pub driver: &'a Driver,
 }
 
-impl fmt::Display for DriverText<'_> {
-    ghost output = { λ d. Some (driver_text d.cntlid d.driver.now) };
+impl Spell for DriverText<'_> {
+    ghost spelled = { λ d. driver_text d.cntlid d.driver.now };
 
-    fn fmt<W: fmt::Write>(&self, f: &mut fmt::Formatter<W>) -> fmt::Result {
-        let driver = self.driver;
-        write!(
-            f,
-            "driver {} state {} next {}{}",
-            self.cntlid,
-            driver_state_name(driver.state()),
-            NextText(driver),
-            SlotsText(driver.slots())
-        )
+    fn spell<P: Page>(&self, page: &mut P) -> Result<(), NoRoom> {
+        put_labelled(page, "driver ", u64::from(self.cntlid))?;
+        put_both(page, " state ", driver_state_name(self.driver.state()))?;
+        page.put_str(" next ")?;
+        put_next(page, self.driver)?;
+        put_slots(page, self.driver.slots())
     }
 }
 
-/// The next ticket of a driver.
-#[derive(Clone, Copy)]
-struct NextText<'a>(&'a Driver);
-
-impl fmt::Display for NextText<'_> {
-    ghost output = { λ d. Some (next_text d.0.now.next) };
-
-    fn fmt<W: fmt::Write>(&self, f: &mut fmt::Formatter<W>) -> fmt::Result {
-        match self.0.next_ticket() {
-            Some(ticket) => write!(f, "{}", ticket.0),
-            None => write!(f, "none"),
-        }
+/// Puts the next ticket of a driver.
+fn put_next<P: Page>(page: &mut P, driver: &Driver) -> Result<(), NoRoom>
+    ensures { Adds P.room result (P.written page.old) (next_text driver.now.next) (P.written page.new) }
+{
+    match driver.next_ticket() {
+        Some(ticket) => put_number(page, ticket.0),
+        None => page.put_str("none"),
     }
 }
 
-/// The requests that were not handed up.
-#[derive(Clone, Copy)]
-struct SlotsText<'a>(&'a [Option<Waiting>]);
-
-impl fmt::Display for SlotsText<'_> {
-    ghost output = { λ s. Some (flat_map slot_text s.0.now) };
-
-    fn fmt<W: fmt::Write>(&self, f: &mut fmt::Formatter<W>) -> fmt::Result {
-        let mut rest = self.0;
-        while let Some((first, behind)) = rest.split_first() {
-            write!(f, "{}", SlotText(*first))?;
-            rest = behind;
-        }
-        Ok(())
+/// Puts the requests that were not handed up.
+fn put_slots<P: Page>(page: &mut P, slots: &[Option<Waiting>]) -> Result<(), NoRoom>
+    ensures { Adds P.room result (P.written page.old) (flat_map slot_text slots.now) (P.written page.new) }
+{
+    let mut rest = slots;
+    while let Some((first, behind)) = rest.split_first() {
+        put_slot(page, *first)?;
+        rest = behind;
     }
+    Ok(())
 }
 
-/// A request that was not handed up, if there is one.
-#[derive(Clone, Copy)]
-struct SlotText(Option<Waiting>);
-
-impl fmt::Display for SlotText {
-    ghost output = { λ s. Some (slot_text s.0) };
-
-    fn fmt<W: fmt::Write>(&self, f: &mut fmt::Formatter<W>) -> fmt::Result {
-        match self.0 {
-            Some(waiting) => write!(
-                f,
-                " ticket {} lane {} is {}",
-                waiting.ticket.0,
-                lane_name(waiting.lane),
-                life_name(waiting.live)
-            ),
-            None => Ok(()),
-        }
-    }
+/// Puts a request that was not handed up, if there is one.
+fn put_slot<P: Page>(page: &mut P, slot: Option<Waiting>) -> Result<(), NoRoom>
+    ensures { Adds P.room result (P.written page.old) (slot_text slot) (P.written page.new) }
+{
+    let Some(waiting) = slot else {
+        return page.put_str("");
+    };
+    put_labelled(page, " ticket ", waiting.ticket.0)?;
+    put_both(page, " lane ", lane_name(waiting.lane))?;
+    put_both(page, " is ", life_name(waiting.live))
 }

@@ -1,12 +1,13 @@
 //! What looking lines show of a controller's queues.
 
-ghost use Rattle.std.specs.Prelude.{◌≡◌, Some};
+ghost use Rattle.std.specs.Prelude.{◌≡◌, ◌++◌, codes, decimal};
+ghost use Rattle.script_text.specs.Pages.{Adds};
 ghost use Rattle.nvme_machine.specs.Controllers.{completion_at, submission_at};
 ghost use Rattle.live_views.specs.Showing.{completion_text, queues_text, submission_text, pair_text};
 
 use crate::names::bit_name;
 use nvme_ctrl::{CompletionQueue, Controller, SubmissionQueue};
-use std::fmt;
+use script_text::{NoRoom, Page, Spell, put_both, put_labelled};
 
 /// The queues of a controller.
 #[derive(Clone, Copy)]
@@ -15,103 +16,81 @@ pub struct QueuesText<'a> {
     pub controller: &'a Controller,
 }
 
-impl fmt::Display for QueuesText<'_> {
-    ghost output = { λ q. Some (queues_text q.cntlid q.controller.now) };
+impl Spell for QueuesText<'_> {
+    ghost spelled = { λ q. queues_text q.cntlid q.controller.now };
 
-    fn fmt<W: fmt::Write>(&self, f: &mut fmt::Formatter<W>) -> fmt::Result {
-        let controller = self.controller;
-        write!(
-            f,
-            "queues {}{}{}{}{}{}",
-            self.cntlid,
-            PairText { qid: 0, controller },
-            PairText { qid: 1, controller },
-            PairText { qid: 2, controller },
-            PairText { qid: 3, controller },
-            PairText { qid: 4, controller }
-        )
+    fn spell<P: Page>(&self, page: &mut P) -> Result<(), NoRoom> {
+        put_labelled(page, "queues ", u64::from(self.cntlid))?;
+        put_pair(page, 0, self.controller)?;
+        put_pair(page, 1, self.controller)?;
+        put_pair(page, 2, self.controller)?;
+        put_pair(page, 3, self.controller)?;
+        put_pair(page, 4, self.controller)
     }
 }
 
-/// The queues of one identifier, those that there are.
-#[derive(Clone, Copy)]
-struct PairText<'a> {
+/// Puts the queues of one identifier, those that there are.
+fn put_pair<P: Page>(page: &mut P, qid: u16, controller: &Controller) -> Result<(), NoRoom>
+    ensures { Adds P.room result (P.written page.old) (pair_text controller.now qid) (P.written page.new) }
+{
+    put_submission(page, qid, controller.submission_queue(qid))?;
+    put_completion(page, qid, controller.completion_queue(qid))
+}
+
+/// Puts which queue it is, where it lies, and how many entries it has.
+fn put_queue<P: Page>(
+    page: &mut P,
+    name: &str,
     qid: u16,
-    controller: &'a Controller,
+    base: u64,
+    size: u16,
+) -> Result<(), NoRoom>
+    ensures { Adds P.room result (P.written page.old)
+        (name.now ++ decimal qid ++ codes " place " ++ decimal base ++ codes " size " ++ decimal size)
+        (P.written page.new) }
+{
+    put_labelled(page, name, u64::from(qid))?;
+    put_labelled(page, " place ", base)?;
+    put_labelled(page, " size ", u64::from(size))
 }
 
-impl fmt::Display for PairText<'_> {
-    ghost output = { λ p. Some (pair_text p.controller.now p.qid) };
-
-    fn fmt<W: fmt::Write>(&self, f: &mut fmt::Formatter<W>) -> fmt::Result {
-        let qid = self.qid;
-        let submission = self.controller.submission_queue(qid);
-        let completion = self.controller.completion_queue(qid);
-        write!(
-            f,
-            "{}{}",
-            SubmissionText {
-                qid,
-                queue: submission
-            },
-            CompletionText {
-                qid,
-                queue: completion
-            }
-        )
-    }
+/// Puts the two ends of a queue.
+fn put_ends<P: Page>(page: &mut P, head: u16, tail: u16) -> Result<(), NoRoom>
+    ensures { Adds P.room result (P.written page.old)
+        (codes " head " ++ decimal head ++ codes " tail " ++ decimal tail) (P.written page.new) }
+{
+    put_labelled(page, " head ", u64::from(head))?;
+    put_labelled(page, " tail ", u64::from(tail))
 }
 
-/// A submission queue, if there is one.
-#[derive(Clone, Copy)]
-struct SubmissionText {
+/// Puts a submission queue, if there is one.
+fn put_submission<P: Page>(
+    page: &mut P,
     qid: u16,
     queue: Option<SubmissionQueue>,
+) -> Result<(), NoRoom>
+    ensures { Adds P.room result (P.written page.old) (submission_text qid queue) (P.written page.new) }
+{
+    let Some(queue) = queue else {
+        return page.put_str("");
+    };
+    put_queue(page, " sq ", qid, queue.base(), queue.size())?;
+    put_ends(page, queue.head(), queue.tail())?;
+    put_labelled(page, " to ", u64::from(queue.cqid()))
 }
 
-impl fmt::Display for SubmissionText {
-    ghost output = { λ s. Some (submission_text s.qid s.queue) };
-
-    fn fmt<W: fmt::Write>(&self, f: &mut fmt::Formatter<W>) -> fmt::Result {
-        match self.queue {
-            Some(queue) => write!(
-                f,
-                " sq {} place {} size {} head {} tail {} to {}",
-                self.qid,
-                queue.base(),
-                queue.size(),
-                queue.head(),
-                queue.tail(),
-                queue.cqid()
-            ),
-            None => Ok(()),
-        }
-    }
-}
-
-/// A completion queue, if there is one.
-#[derive(Clone, Copy)]
-struct CompletionText {
+/// Puts a completion queue, if there is one.
+fn put_completion<P: Page>(
+    page: &mut P,
     qid: u16,
     queue: Option<CompletionQueue>,
-}
-
-impl fmt::Display for CompletionText {
-    ghost output = { λ s. Some (completion_text s.qid s.queue) };
-
-    fn fmt<W: fmt::Write>(&self, f: &mut fmt::Formatter<W>) -> fmt::Result {
-        match self.queue {
-            Some(queue) => write!(
-                f,
-                " cq {} place {} size {} head {} tail {} phase {}",
-                self.qid,
-                queue.base(),
-                queue.size(),
-                queue.head(),
-                queue.tail(),
-                bit_name(queue.phase())
-            ),
-            None => Ok(()),
-        }
-    }
+) -> Result<(), NoRoom>
+    ensures { Adds P.room result (P.written page.old) (completion_text qid queue) (P.written page.new) }
+{
+    let Some(queue) = queue else {
+        return page.put_str("");
+    };
+    put_queue(page, " cq ", qid, queue.base(), queue.size())?;
+    put_ends(page, queue.head(), queue.tail())?;
+    put_both(page, " phase ", bit_name(queue.phase()))
 }

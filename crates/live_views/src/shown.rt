@@ -1,8 +1,9 @@
 //! What a looking line shows, as a value whose text is the answer.
 
-ghost use Rattle.std.specs.Prelude.{◌≡◌, Some};
+ghost use Rattle.std.specs.Prelude.{◌≡◌};
+ghost use Rattle.script_text.specs.Pages.{Adds};
 ghost use Rattle.live_text.specs.Faults.{refusal};
-ghost use Rattle.live_views.specs.Showing.{controller_shown, early_text, reservation_shown, window_shown};
+ghost use Rattle.live_views.specs.Showing.{controller_shown, early_text, help_text, reservation_shown, window_shown};
 ghost use Rattle.live_views.specs.Shown.{shown_by};
 
 use crate::commands::FetchedText;
@@ -15,7 +16,7 @@ use nvme_ctrl::Controller;
 use nvme_grammar::Keyword;
 use nvme_ns::Spaces;
 use nvme_spec::MOST_BYTES;
-use std::fmt;
+use script_text::{NoRoom, Page, Spell, put_both};
 
 /// What a looking line shows.
 #[derive(Clone, Copy)]
@@ -37,29 +38,33 @@ pub enum Shown<'a> {
     Reservation(ReservationText<'a>),
 }
 
-impl fmt::Display for Shown<'_> {
-    ghost output = { λ shown. Some (shown_by shown) };
+impl Spell for Shown<'_> {
+    ghost spelled = { shown_by };
 
-    fn fmt<W: fmt::Write>(&self, f: &mut fmt::Formatter<W>) -> fmt::Result {
+    fn spell<P: Page>(&self, page: &mut P) -> Result<(), NoRoom> {
         match self {
-            Shown::Nothing(refusal) => write!(f, "{refusal}"),
-            Shown::Help => {
-                let keywords = Keyword::all_texts();
-                let looking_words = LookingWord::all_texts();
-                write!(f, "help{keywords}{looking_words}")
-            }
-            Shown::HelpOn(form) => write!(f, "help {form}"),
-            Shown::Window(text) => write!(f, "{text}"),
-            Shown::Register(text) => write!(f, "{text}"),
-            Shown::Registers(text) => write!(f, "{text}"),
-            Shown::Queues(text) => write!(f, "{text}"),
-            Shown::Fetched(text) => write!(f, "{text}"),
-            Shown::Driver(text) => write!(f, "{text}"),
-            Shown::Namespaces(text) => write!(f, "{text}"),
-            Shown::Attached(text) => write!(f, "{text}"),
-            Shown::Reservation(text) => write!(f, "{text}"),
+            Shown::Nothing(refusal) => refusal.spell(page),
+            Shown::Help => put_help(page),
+            Shown::HelpOn(form) => put_both(page, "help ", form.text()),
+            Shown::Window(text) => text.spell(page),
+            Shown::Register(text) => text.spell(page),
+            Shown::Registers(text) => text.spell(page),
+            Shown::Queues(text) => text.spell(page),
+            Shown::Fetched(text) => text.spell(page),
+            Shown::Driver(text) => text.spell(page),
+            Shown::Namespaces(text) => text.spell(page),
+            Shown::Attached(text) => text.spell(page),
+            Shown::Reservation(text) => text.spell(page),
         }
     }
+}
+
+/// Puts the first words of all lines.
+fn put_help<P: Page>(page: &mut P) -> Result<(), NoRoom>
+    ensures { Adds P.room result (P.written page.old) help_text (P.written page.new) }
+{
+    page.put_str("help")?;
+    put_both(page, Keyword::all_texts(), LookingWord::all_texts())
 }
 
 /// Nothing, for this reason, at the line with this number.

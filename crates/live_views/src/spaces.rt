@@ -1,105 +1,92 @@
 //! What looking lines show of the access state.
 
-ghost use Rattle.std.specs.Prelude.{◌≡◌, ◌/◌, ◌%◌, Some};
+ghost use Rattle.std.specs.Prelude.{◌≡◌, ◌/◌, ◌%◌, ◌++◌, codes, decimal};
 ghost use Rattle.std.specs.List.{flat_map};
+ghost use Rattle.script_text.specs.Pages.{Adds};
 ghost use Rattle.live_views.specs.Showing.{attached_text, attachment_text, hold_text, host_text, namespace_text, namespaces_text, registrant_text, reservation_text};
 
 use crate::names::bit_name;
 use nvme_ns::Namespace;
 use nvme_resv::{Hold, Registrant, Reservation};
 use nvme_spec::HostId;
-use std::fmt;
+use script_text::{NoRoom, Page, Spell, put_both, put_hex, put_hex_in, put_labelled};
 
 /// All namespaces.
 #[derive(Clone, Copy)]
 pub struct NamespacesText<'a>(pub &'a [Namespace]);
 
-impl fmt::Display for NamespacesText<'_> {
-    ghost output = { λ n. Some (namespaces_text n.0.now) };
+impl Spell for NamespacesText<'_> {
+    ghost spelled = { λ n. namespaces_text n.0.now };
 
-    fn fmt<W: fmt::Write>(&self, f: &mut fmt::Formatter<W>) -> fmt::Result {
-        write!(f, "namespaces{}", EachNamespace(self.0))
+    fn spell<P: Page>(&self, page: &mut P) -> Result<(), NoRoom> {
+        page.put_str("namespaces")?;
+        put_namespaces(page, self.0)
     }
 }
 
-/// Namespaces, one after the other.
-#[derive(Clone, Copy)]
-struct EachNamespace<'a>(&'a [Namespace]);
-
-impl fmt::Display for EachNamespace<'_> {
-    ghost output = { λ n. Some (flat_map namespace_text n.0.now) };
-
-    fn fmt<W: fmt::Write>(&self, f: &mut fmt::Formatter<W>) -> fmt::Result {
-        let mut rest = self.0;
-        while let Some((first, behind)) = rest.split_first() {
-            write!(f, "{}", NamespaceText(first))?;
-            rest = behind;
-        }
-        Ok(())
+/// Puts namespaces, one after the other.
+fn put_namespaces<P: Page>(page: &mut P, namespaces: &[Namespace]) -> Result<(), NoRoom>
+    ensures { Adds P.room result (P.written page.old) (flat_map namespace_text namespaces.now) (P.written page.new) }
+{
+    let mut rest = namespaces;
+    while let Some((first, behind)) = rest.split_first() {
+        put_namespace(page, first)?;
+        rest = behind;
     }
+    Ok(())
 }
 
-/// A namespace.
-#[derive(Clone, Copy)]
-struct NamespaceText<'a>(&'a Namespace);
+/// Puts where a namespace lies on the medium.
+fn put_extent<P: Page>(page: &mut P, first: u64, blocks: u64) -> Result<(), NoRoom>
+    ensures { Adds P.room result (P.written page.old)
+        (codes " first " ++ decimal first ++ codes " blocks " ++ decimal blocks) (P.written page.new) }
+{
+    put_labelled(page, " first ", first)?;
+    put_labelled(page, " blocks ", blocks)
+}
 
-impl fmt::Display for NamespaceText<'_> {
-    ghost output = { λ n. Some (namespace_text n.0.now) };
-
-    fn fmt<W: fmt::Write>(&self, f: &mut fmt::Formatter<W>) -> fmt::Result {
-        let namespace = self.0;
-        write!(
-            f,
-            " namespace {} first {} blocks {} shared {} protected {}",
-            namespace.nsid(),
-            namespace.first_block(),
-            namespace.blocks(),
-            bit_name(namespace.is_shared()),
-            namespace.protection_state()
-        )
-    }
+/// Puts a namespace.
+fn put_namespace<P: Page>(page: &mut P, namespace: &Namespace) -> Result<(), NoRoom>
+    ensures { Adds P.room result (P.written page.old) (namespace_text namespace.now) (P.written page.new) }
+{
+    put_labelled(page, " namespace ", u64::from(namespace.nsid()))?;
+    put_extent(page, namespace.first_block(), namespace.blocks())?;
+    put_both(page, " shared ", bit_name(namespace.is_shared()))?;
+    put_labelled(page, " protected ", u64::from(namespace.protection_state()))
 }
 
 /// What is attached.
 #[derive(Clone, Copy)]
 pub struct AttachedText<'a>(pub &'a [(u16, u32)]);
 
-impl fmt::Display for AttachedText<'_> {
-    ghost output = { λ a. Some (attached_text a.0.now) };
+impl Spell for AttachedText<'_> {
+    ghost spelled = { λ a. attached_text a.0.now };
 
-    fn fmt<W: fmt::Write>(&self, f: &mut fmt::Formatter<W>) -> fmt::Result {
-        write!(f, "attached{}", EachAttachment(self.0))
+    fn spell<P: Page>(&self, page: &mut P) -> Result<(), NoRoom> {
+        page.put_str("attached")?;
+        put_attachments(page, self.0)
     }
 }
 
-/// Attachments, one after the other.
-#[derive(Clone, Copy)]
-struct EachAttachment<'a>(&'a [(u16, u32)]);
-
-impl fmt::Display for EachAttachment<'_> {
-    ghost output = { λ a. Some (flat_map attachment_text a.0.now) };
-
-    fn fmt<W: fmt::Write>(&self, f: &mut fmt::Formatter<W>) -> fmt::Result {
-        let mut rest = self.0;
-        while let Some((first, behind)) = rest.split_first() {
-            write!(f, "{}", AttachmentText(*first))?;
-            rest = behind;
-        }
-        Ok(())
+/// Puts attachments, one after the other.
+fn put_attachments<P: Page>(page: &mut P, attachments: &[(u16, u32)]) -> Result<(), NoRoom>
+    ensures { Adds P.room result (P.written page.old) (flat_map attachment_text attachments.now) (P.written page.new) }
+{
+    let mut rest = attachments;
+    while let Some((first, behind)) = rest.split_first() {
+        put_attachment(page, *first)?;
+        rest = behind;
     }
+    Ok(())
 }
 
-/// An attachment: a controller, and a namespace.
-#[derive(Clone, Copy)]
-struct AttachmentText((u16, u32));
-
-impl fmt::Display for AttachmentText {
-    ghost output = { λ a. Some (attachment_text a.0) };
-
-    fn fmt<W: fmt::Write>(&self, f: &mut fmt::Formatter<W>) -> fmt::Result {
-        let (cntlid, nsid) = self.0;
-        write!(f, " controller {cntlid} namespace {nsid}")
-    }
+/// Puts an attachment: a controller, and a namespace.
+fn put_attachment<P: Page>(page: &mut P, attachment: (u16, u32)) -> Result<(), NoRoom>
+    ensures { Adds P.room result (P.written page.old) (attachment_text attachment) (P.written page.new) }
+{
+    let (cntlid, nsid) = attachment;
+    put_labelled(page, " controller ", u64::from(cntlid))?;
+    put_labelled(page, " namespace ", u64::from(nsid))
 }
 
 /// The reservation of a namespace.
@@ -110,21 +97,18 @@ pub struct ReservationText<'a> {
     pub protected: u32,
 }
 
-impl fmt::Display for ReservationText<'_> {
-    ghost output = { λ r. Some (reservation_text r.nsid r.reservation.now r.protected) };
+impl Spell for ReservationText<'_> {
+    ghost spelled = { λ r. reservation_text r.nsid r.reservation.now r.protected };
 
-    fn fmt<W: fmt::Write>(&self, f: &mut fmt::Formatter<W>) -> fmt::Result {
+    fn spell<P: Page>(&self, page: &mut P) -> Result<(), NoRoom> {
         let reservation = self.reservation;
-        write!(
-            f,
-            "reservation {} {} generation {} persists {} protected {}{}",
-            self.nsid,
-            HoldText(reservation.hold()),
-            reservation.generation(),
-            bit_name(reservation.ptpl()),
-            self.protected,
-            RegistrantsText(reservation.registrants())
-        )
+        put_labelled(page, "reservation ", u64::from(self.nsid))?;
+        page.put_str(" ")?;
+        put_hold(page, reservation.hold())?;
+        put_labelled(page, " generation ", u64::from(reservation.generation()))?;
+        put_both(page, " persists ", bit_name(reservation.ptpl()))?;
+        put_labelled(page, " protected ", u64::from(self.protected))?;
+        put_registrants(page, reservation.registrants())
     }
 }
 
@@ -138,67 +122,56 @@ fn halves(number: u128) -> (u64, u64)
     (upper as u64, lower as u64)
 }
 
-/// The identifier of a host, in hexadecimal.
-#[derive(Clone, Copy)]
-struct HostText(HostId);
+/// Puts the identifier of a host, in hexadecimal.
+#[tactic(auto, unfolding(crate::specs::Showing::host_text))]
+fn put_host<P: Page>(page: &mut P, host: HostId) -> Result<(), NoRoom>
+    ensures { Adds P.room result (P.written page.old) (host_text host) (P.written page.new) }
+{
+    let (upper, lower) = halves(host);
+    page.put_str("0x")?;
+    if upper == 0 {
+        return put_hex(page, lower);
+    }
+    put_hex(page, upper)?;
+    put_hex_in(page, 16, lower)
+}
 
-impl fmt::Display for HostText {
-    ghost output = { λ h. Some (host_text h.0) };
-
-    #[tactic(auto, unfolding(crate::specs::Showing::host_text))]
-    fn fmt<W: fmt::Write>(&self, f: &mut fmt::Formatter<W>) -> fmt::Result {
-        let (upper, lower) = halves(self.0);
-        if upper == 0 {
-            write!(f, "0x{lower:x}")
-        } else {
-            write!(f, "0x{upper:x}{lower:016x}")
+/// Puts who holds a reservation, with its type.
+fn put_hold<P: Page>(page: &mut P, hold: Hold) -> Result<(), NoRoom>
+    ensures { Adds P.room result (P.written page.old) (hold_text hold) (P.written page.new) }
+{
+    match hold {
+        Hold::Free => page.put_str("type 0 holder none"),
+        Hold::One(rtype, host) => {
+            put_labelled(page, "type ", u64::from(rtype))?;
+            page.put_str(" holder ")?;
+            put_host(page, host)
+        }
+        Hold::All(rtype) => {
+            put_labelled(page, "type ", u64::from(rtype))?;
+            page.put_str(" holder all")
         }
     }
 }
 
-/// Who holds a reservation, with its type.
-#[derive(Clone, Copy)]
-struct HoldText(Hold);
-
-impl fmt::Display for HoldText {
-    ghost output = { λ h. Some (hold_text h.0) };
-
-    fn fmt<W: fmt::Write>(&self, f: &mut fmt::Formatter<W>) -> fmt::Result {
-        match self.0 {
-            Hold::Free => write!(f, "type 0 holder none"),
-            Hold::One(rtype, host) => { write!(f, "type {rtype} holder {}", HostText(host)) }
-            Hold::All(rtype) => write!(f, "type {rtype} holder all"),
-        }
+/// Puts registrants, one after the other.
+fn put_registrants<P: Page>(page: &mut P, registrants: &[Registrant]) -> Result<(), NoRoom>
+    ensures { Adds P.room result (P.written page.old) (flat_map registrant_text registrants.now) (P.written page.new) }
+{
+    let mut rest = registrants;
+    while let Some((first, behind)) = rest.split_first() {
+        put_registrant(page, *first)?;
+        rest = behind;
     }
+    Ok(())
 }
 
-/// Registrants, one after the other.
-#[derive(Clone, Copy)]
-struct RegistrantsText<'a>(&'a [Registrant]);
-
-impl fmt::Display for RegistrantsText<'_> {
-    ghost output = { λ r. Some (flat_map registrant_text r.0.now) };
-
-    fn fmt<W: fmt::Write>(&self, f: &mut fmt::Formatter<W>) -> fmt::Result {
-        let mut rest = self.0;
-        while let Some((first, behind)) = rest.split_first() {
-            write!(f, "{}", RegistrantText(*first))?;
-            rest = behind;
-        }
-        Ok(())
-    }
-}
-
-/// A registrant.
-#[derive(Clone, Copy)]
-struct RegistrantText(Registrant);
-
-impl fmt::Display for RegistrantText {
-    ghost output = { λ r. Some (registrant_text r.0) };
-
-    fn fmt<W: fmt::Write>(&self, f: &mut fmt::Formatter<W>) -> fmt::Result {
-        let host = HostText(self.0.host);
-        let key = self.0.key;
-        write!(f, " registrant {host} key 0x{key:x}")
-    }
+/// Puts a registrant.
+fn put_registrant<P: Page>(page: &mut P, registrant: Registrant) -> Result<(), NoRoom>
+    ensures { Adds P.room result (P.written page.old) (registrant_text registrant) (P.written page.new) }
+{
+    page.put_str(" registrant ")?;
+    put_host(page, registrant.host)?;
+    page.put_str(" key 0x")?;
+    put_hex(page, registrant.key)
 }

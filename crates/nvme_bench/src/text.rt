@@ -2,9 +2,10 @@
 
 use crate::stopwatch::{BYTES, Measured, since, tell};
 use nvme_grammar::{Buffers, parse};
-use script_text::{HexText, data_in};
+use script_text::{HexText, NoRoom, Spell, Text, data_in};
 use std::alloc::{AllocError, Global};
 use std::io;
+use std::io::ErrorKind;
 use std::rt::Clock;
 use std::time::Instant;
 
@@ -94,8 +95,19 @@ fn noise(alloc: Global) -> Result<Vec<u8>, AllocError> {
 fn digits(alloc: Global, bytes: &[u8]) -> io::Result<Vec<u8>> {
     let mut word = Vec::new(alloc);
     word.extend_from_slice(b"hex:")?;
-    word.extend_from_slice(format!(in alloc; "{}", HexText(bytes))?.as_bytes())?;
+    let mut text = Text::new(alloc)?;
+    put(&mut text, bytes)?;
+    word.extend_from_slice(text.as_bytes())?;
     Ok(word)
+}
+
+/// Puts bytes as digits in place of what a text has.
+fn put(text: &mut Text, bytes: &[u8]) -> io::Result<()> {
+    text.clear();
+    match HexText(bytes).spell(text) {
+        Ok(()) => Ok(()),
+        Err(NoRoom) => Err(io::Error::from(ErrorKind::OutOfMemory)),
+    }
 }
 
 /// A script with 1,000 lines of a kind.
@@ -112,13 +124,12 @@ fn script(alloc: Global, line: &[u8]) -> Result<Vec<u8>, AllocError> {
 }
 
 fn shown<R: Clock + AllocGlobal>(rt: &R, bytes: &[u8], rounds: u32) -> io::Result<Measured> {
-    let mut text = String::with_capacity(rt.alloc(), 2 * BYTES)?;
+    let mut text = Text::new(rt.alloc())?;
     let mut sum = 0_u64;
     let start = Instant::now(rt)?;
     for _ in 0..rounds {
-        text.clear();
-        write!(text, "{}", HexText(bytes))?;
-        sum = sum.wrapping_add(text.len() as u64);
+        put(&mut text, bytes)?;
+        sum = sum.wrapping_add(text.as_bytes().len() as u64);
     }
     since(rt, start, rounds, sum)
 }

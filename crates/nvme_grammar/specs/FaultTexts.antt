@@ -64,14 +64,21 @@ abbrev pub too_late_text : Keyword → List ℕ
 too_late_text Start = codes "start stands in a script once"
 too_late_text k = keyword_text k ++ codes " stands before 'start', which was said already"
 
+-- no line begins with this word
+abbrev pub unknown_text : List ℕ → Option Keyword → List ℕ
+unknown_text word nearest = codes "there is no line '" ++ shown_word word ++ codes "'" ++ nearest_text nearest
+
+-- the word is not what its place wants
+abbrev pub misfit_text : Place → List ℕ → List ℕ
+misfit_text wanted word = wanted_text wanted ++ codes ", and not '" ++ shown_word word ++ codes "'" ++ prefix_text wanted word
+
 abbrev pub why_text : Why → List ℕ
 why_text (Byte b) =
     codes "the byte \\x" ++ byte_text b ++ codes " is neither a visible character nor a space, a tab or a carriage return"
-why_text (Unknown word nearest) = codes "there is no line '" ++ shown_word word.now ++ codes "'" ++ nearest_text nearest
+why_text (Unknown word nearest) = unknown_text word.now nearest
 why_text (Count k) =
     keyword_text k ++ codes " takes " ++ count_text (length (places_of k) + 1) (behind_of k) ++ codes ": " ++ form_text k
-why_text (Misfit number wanted word) =
-    wanted_text wanted ++ codes ", and not '" ++ shown_word word.now ++ codes "'" ++ prefix_text wanted word.now
+why_text (Misfit number wanted word) = misfit_text wanted word.now
 why_text (TooEarly k) =
     keyword_text k ++ codes " needs a 'start' before it, and there is none" ++ nearest_text (meant_early k)
 why_text (TooLate k) = too_late_text k

@@ -1,112 +1,163 @@
 //! The texts of a line's fault.
 
-ghost use Rattle.std.specs.Prelude.{◌≡◌, ◌≤◌, ◌+◌, Some, length, take};
+ghost use Rattle.std.specs.Prelude.{◌≡◌, ◌≤◌, ◌+◌, ◌++◌, Some, length, take};
 ghost use Rattle.std.specs.Char.{is_ascii_hexdigit};
 ghost use Rattle.std.specs.List.{flat_map, list_all};
-ghost use Rattle.nvme_grammar.specs.FaultTexts.{fault_text, why_text, shown_byte, shown_word, count_text, nearest_text, meant_early, lacks_prefix, prefix_text, most_shown};
+ghost use Rattle.script_text.specs.Pages.{Adds};
+ghost use Rattle.nvme_grammar.specs.FaultTexts as spec;
+ghost use Rattle.nvme_grammar.specs.FaultTexts.{meant_early, most_shown};
 ghost use Rattle.nvme_grammar.specs.Keywords.{places_of, behind_of};
+ghost use Rattle.nvme_grammar.specs.declared.fault.Why.TheVariants as line_why;
 
 use super::fault::{LineFault, Why};
 use super::keyword::Keyword;
 use super::place::{Behind, Operand, Place};
+use arrayvec::ArrayString;
+use script_text::{
+    NoRoom, Page, Spell, put_both, put_byte_between, put_labelled, put_number, put_three,
+};
 use std::fmt;
 
 /// How many bytes of a word are shown.
 const MOST_SHOWN: usize = 32;
 
+/// How many bytes the text of a fault has at most, and some more.
+const ROOM: usize = 512;
+
 impl fmt::Display for LineFault<'_> {
-    ghost output = { λ fault. Some (fault_text fault) };
+    ghost output = { λ fault. Some (spec.fault_text fault) };
 
     fn fmt<W: fmt::Write>(&self, f: &mut fmt::Formatter<W>) -> fmt::Result {
-        match self.why {
-            Why::Misfit { number, .. } => {
-                write!(f, "{}: word {}: {}", self.column, number, self.why)
-            }
-            Why::Byte(_)
-            | Why::Unknown { .. }
-            | Why::Count(_)
-            | Why::TooEarly(_)
-            | Why::TooLate(_) => write!(f, "{}: {}", self.column, self.why),
+        let mut page = ArrayString::<ROOM>::new();
+        match self.spell(&mut page) {
+            Ok(()) => f.write_str(page.as_str()),
+            Err(NoRoom) => Err(fmt::Error),
         }
     }
 }
 
-impl fmt::Display for Why<'_> {
-    ghost output = { λ why. Some (why_text why) };
+impl Spell for LineFault<'_> {
+    ghost spelled = { spec.fault_text };
 
-    fn fmt<W: fmt::Write>(&self, f: &mut fmt::Formatter<W>) -> fmt::Result {
+    fn spell<P: Page>(&self, page: &mut P) -> Result<(), NoRoom> {
+        put_number(page, self.column as u64)?;
+        page.put_str(": ")?;
+        put_number_of_word(page, self.why)?;
+        self.why.spell(page)
+    }
+}
+
+/// Puts which word is at fault, where it is one in particular.
+fn put_number_of_word<P: Page>(page: &mut P, why: Why<'_>) -> Result<(), NoRoom>
+    ensures { Adds P.room result (P.written page.old) (spec.word_text why.entry) (P.written page.new) }
+{
+    match why {
+        Why::Misfit { number, .. } => {
+            put_labelled(page, "word ", number as u64)?;
+            page.put_str(": ")
+        }
+        Why::Byte(_) | Why::Unknown { .. } | Why::Count(_) | Why::TooEarly(_) | Why::TooLate(_) =>
+            page.put_str(""),
+    }
+}
+
+impl Spell for Why<'_> {
+    ghost spelled = { spec.why_text };
+
+    fn spell<P: Page>(&self, page: &mut P) -> Result<(), NoRoom> {
         match self {
-            Why::Byte(byte) => write!(
-                f,
-                "the byte \\x{byte:02x} is neither a visible character nor a space, a tab or a carriage return"
-            ),
-            Why::Unknown { word, nearest } => write!(
-                f,
-                "there is no line '{}'{}",
-                ShownWord(word),
-                NearestText(*nearest)
-            ),
-            Why::Count(keyword) => write!(
-                f,
-                "{} takes {}: {}",
-                keyword.text(),
-                CountText(*keyword),
-                keyword.form()
-            ),
-            Why::Misfit { wanted, word, .. } => write!(
-                f,
-                "{}, and not '{}'{}",
-                *wanted,
-                ShownWord(word),
-                PrefixText(*wanted, word)
-            ),
-            Why::TooEarly(keyword) => write!(
-                f,
-                "{} needs a 'start' before it, and there is none{}",
-                keyword.text(),
-                NearestText(meant_early(*keyword))
-            ),
-            Why::TooLate(Keyword::Start) => write!(f, "start stands in a script once"),
-            Why::TooLate(keyword) => write!(
-                f,
-                "{} stands before 'start', which was said already",
-                keyword.text()
-            ),
+            Why::Byte(byte) => put_foreign(page, *byte),
+            Why::Unknown { word, nearest } => put_unknown(page, word, *nearest),
+            Why::Count(keyword) => put_count(page, *keyword),
+            Why::Misfit { wanted, word, .. } => put_misfit(page, *wanted, word),
+            Why::TooEarly(keyword) => put_too_early(page, *keyword),
+            Why::TooLate(keyword) => put_too_late(page, *keyword),
         }
     }
 }
 
-/// How many words the lines of a keyword have.
-#[derive(Clone, Copy)]
-struct CountText(Keyword);
+/// Puts that a byte may not stand in a line.
+fn put_foreign<P: Page>(page: &mut P, byte: u8) -> Result<(), NoRoom>
+    ensures { Adds P.room result (P.written page.old) (spec.why_text (line_why.Byte byte)) (P.written page.new) }
+{
+    let behind = " is neither a visible character nor a space, a tab or a carriage return";
+    put_byte_between(page, "the byte \\x", byte, behind)
+}
 
-impl fmt::Display for CountText {
-    ghost output = { λ text. Some (count_text (length (places_of text.0) + 1) (behind_of text.0)) };
+/// Puts that no line begins with a word, and which keyword is meant, as a question.
+fn put_unknown<P: Page>(page: &mut P, word: &[u8], nearest: Option<Keyword>) -> Result<(), NoRoom>
+    ensures { Adds P.room result (P.written page.old) (spec.unknown_text word.now nearest) (P.written page.new) }
+{
+    put_word_between(page, "there is no line '", word, "'")?;
+    put_nearest(page, nearest)
+}
 
-    fn fmt<W: fmt::Write>(&self, f: &mut fmt::Formatter<W>) -> fmt::Result {
-        let words = self.0.places().len() + 1;
-        match self.0.behind() {
-            Behind::Nothing if words == 1 => write!(f, "1 word"),
-            Behind::Nothing => write!(f, "{words} words"),
-            Behind::Raw => write!(f, "{words} words, or one more"),
-            Behind::Controllers => write!(f, "{words} words or more"),
-        }
+/// Puts how many words the lines of a keyword have, and how such a line is written.
+fn put_count<P: Page>(page: &mut P, keyword: Keyword) -> Result<(), NoRoom>
+    ensures { Adds P.room result (P.written page.old) (spec.why_text (line_why.Count keyword)) (P.written page.new) }
+{
+    page.put_str(keyword.text())?;
+    page.put_str(" takes ")?;
+    put_words(page, keyword.places().len() as u64 + 1, keyword.behind())?;
+    page.put_str(": ")?;
+    page.put_str(keyword.form())
+}
+
+/// Puts how many words a line has, its keyword among them.
+fn put_words<P: Page>(page: &mut P, words: u64, behind: Behind) -> Result<(), NoRoom>
+    ensures { Adds P.room result (P.written page.old) (spec.count_text words behind) (P.written page.new) }
+{
+    if words == 1 && behind == Behind::Nothing {
+        return page.put_str("1 word");
+    }
+    put_number(page, words)?;
+    page.put_str(match behind {
+        Behind::Nothing => " words",
+        Behind::Raw => " words, or one more",
+        Behind::Controllers => " words or more",
+    })
+}
+
+/// Puts that a word is not what its place wants.
+fn put_misfit<P: Page>(page: &mut P, wanted: Place, word: &[u8]) -> Result<(), NoRoom>
+    ensures { Adds P.room result (P.written page.old) (spec.misfit_text wanted word.now) (P.written page.new) }
+{
+    wanted.spell(page)?;
+    put_word_between(page, ", and not '", word, "'")?;
+    put_prefix(page, wanted, word)
+}
+
+/// Puts that an event stands before `start`, and which line there is meant, as a question.
+fn put_too_early<P: Page>(page: &mut P, keyword: Keyword) -> Result<(), NoRoom>
+    ensures { Adds P.room result (P.written page.old) (spec.why_text (line_why.TooEarly keyword)) (P.written page.new) }
+{
+    let behind = " needs a 'start' before it, and there is none";
+    put_both(page, keyword.text(), behind)?;
+    put_nearest(page, meant_early(keyword))
+}
+
+/// Puts that a line stands behind `start`.
+fn put_too_late<P: Page>(page: &mut P, keyword: Keyword) -> Result<(), NoRoom>
+    ensures { Adds P.room result (P.written page.old) (spec.too_late_text keyword) (P.written page.new) }
+{
+    match keyword {
+        Keyword::Start => page.put_str("start stands in a script once"),
+        _ => put_both(
+            page,
+            keyword.text(),
+            " stands before 'start', which was said already",
+        ),
     }
 }
 
-/// The keyword that is meant, as a question.
-#[derive(Clone, Copy)]
-struct NearestText(Option<Keyword>);
-
-impl fmt::Display for NearestText {
-    ghost output = { λ text. Some (nearest_text text.0) };
-
-    fn fmt<W: fmt::Write>(&self, f: &mut fmt::Formatter<W>) -> fmt::Result {
-        match self.0 {
-            Some(keyword) => write!(f, "; did you mean '{}'?", keyword.text()),
-            None => Ok(()),
-        }
-    }
+/// Puts the keyword that is meant, as a question.
+fn put_nearest<P: Page>(page: &mut P, nearest: Option<Keyword>) -> Result<(), NoRoom>
+    ensures { Adds P.room result (P.written page.old) (spec.nearest_text nearest) (P.written page.new) }
+{
+    let Some(keyword) = nearest else {
+        return page.put_str("");
+    };
+    put_three(page, "; did you mean '", keyword.text(), "'?")
 }
 
 /// The line before `start` that is meant by an event there.
@@ -128,60 +179,60 @@ fn are_digits(word: &[u8]) -> bool
 
 /// Whether a word is hexadecimal digits that lack their `0x`, and would fit with it.
 fn lacks_prefix(operand: Operand, word: &[u8]) -> bool
-    ensures { result ≡ lacks_prefix operand word.now }
+    ensures { result ≡ spec.lacks_prefix operand word.now }
 {
     word.len() <= operand.digits() && are_digits(word)
 }
 
-/// The number that is meant by a word that lacks its `0x`, as a question.
-#[derive(Clone, Copy)]
-struct PrefixText<'a>(Place, &'a [u8]);
-
-impl fmt::Display for PrefixText<'_> {
-    ghost output = { λ text. Some (prefix_text text.0 text.1.now) };
-
-    #[tactic(auto, unfolding(crate::specs::FaultTexts::prefix_text))]
-    fn fmt<W: fmt::Write>(&self, f: &mut fmt::Formatter<W>) -> fmt::Result {
-        match self.0 {
-            Place::Number(operand) if lacks_prefix(operand, self.1) => {
-                write!(f, "; did you mean '0x{}'?", ShownWord(self.1))
-            }
-            _ => Ok(()),
+/// Puts the number that is meant by a word that lacks its `0x`, as a question.
+#[tactic(auto, unfolding(crate::specs::FaultTexts::prefix_text))]
+fn put_prefix<P: Page>(page: &mut P, place: Place, word: &[u8]) -> Result<(), NoRoom>
+    ensures { Adds P.room result (P.written page.old) (spec.prefix_text place word.now) (P.written page.new) }
+{
+    match place {
+        Place::Number(operand) if lacks_prefix(operand, word) => {
+            put_word_between(page, "; did you mean '0x", word, "'?")
         }
+        _ => page.put_str(""),
     }
 }
 
-/// A byte of a word, as it is or escaped.
-#[derive(Clone, Copy)]
-struct ShownByte(u8);
-
-impl fmt::Display for ShownByte {
-    ghost output = { λ byte. Some (shown_byte byte.0) };
-
-    fn fmt<W: fmt::Write>(&self, f: &mut fmt::Formatter<W>) -> fmt::Result {
-        if 33 <= self.0 && self.0 <= 126 {
-            write!(f, "{}", char::from(self.0))
-        } else {
-            write!(f, "\\x{:02x}", self.0)
-        }
-    }
+/// Puts a word, as reasons show it, between two texts.
+pub fn put_word_between<P: Page>(
+    page: &mut P,
+    front: &str,
+    word: &[u8],
+    behind: &str,
+) -> Result<(), NoRoom>
+    ensures { Adds P.room result (P.written page.old) (front.now ++ spec.shown_word word.now ++ behind.now)
+        (P.written page.new) }
+{
+    page.put_str(front)?;
+    ShownWord(word).spell(page)?;
+    page.put_str(behind)
 }
 
-/// Bytes of a word, each as it is or escaped.
-#[derive(Clone, Copy)]
-struct ShownBytes<'a>(&'a [u8]);
-
-impl fmt::Display for ShownBytes<'_> {
-    ghost output = { λ text. Some (flat_map shown_byte text.0.now) };
-
-    fn fmt<W: fmt::Write>(&self, f: &mut fmt::Formatter<W>) -> fmt::Result {
-        let mut rest = self.0;
-        while let Some((first, behind)) = rest.split_first() {
-            write!(f, "{}", ShownByte(*first))?;
-            rest = behind;
-        }
-        Ok(())
+/// Puts a byte of a word, as it is or escaped.
+fn put_shown_byte<P: Page>(page: &mut P, byte: u8) -> Result<(), NoRoom>
+    ensures { Adds P.room result (P.written page.old) (spec.shown_byte byte) (P.written page.new) }
+{
+    if 33 <= byte && byte <= 126 {
+        let mut character = [0u8; 4];
+        return page.put_str(char::from(byte).encode_utf8(&mut character));
     }
+    put_byte_between(page, "\\x", byte, "")
+}
+
+/// Puts bytes of a word, each as it is or escaped.
+fn put_shown_bytes<P: Page>(page: &mut P, bytes: &[u8]) -> Result<(), NoRoom>
+    ensures { Adds P.room result (P.written page.old) (flat_map spec.shown_byte bytes.now) (P.written page.new) }
+{
+    let mut rest = bytes;
+    while let Some((first, behind)) = rest.split_first() {
+        put_shown_byte(page, *first)?;
+        rest = behind;
+    }
+    Ok(())
 }
 
 /// The first bytes of a word that is longer.
@@ -197,13 +248,14 @@ fn front_of(word: &[u8]) -> &[u8]
 #[derive(Clone, Copy)]
 pub struct ShownWord<'a>(pub &'a [u8]);
 
-impl fmt::Display for ShownWord<'_> {
-    ghost output = { λ text. Some (shown_word text.0.now) };
+impl Spell for ShownWord<'_> {
+    ghost spelled = { λ text. spec.shown_word text.0.now };
 
-    fn fmt<W: fmt::Write>(&self, f: &mut fmt::Formatter<W>) -> fmt::Result {
+    fn spell<P: Page>(&self, page: &mut P) -> Result<(), NoRoom> {
         if self.0.len() <= MOST_SHOWN {
-            return write!(f, "{}", ShownBytes(self.0));
+            return put_shown_bytes(page, self.0);
         }
-        write!(f, "{}..", ShownBytes(front_of(self.0)))
+        put_shown_bytes(page, front_of(self.0))?;
+        page.put_str("..")
     }
 }

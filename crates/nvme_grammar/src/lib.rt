@@ -25,7 +25,7 @@ mod script;
 pub use beginning::begins_script;
 pub use buffers::Buffers;
 pub use fault::{LineFault, Why, fault_at, foreign_byte, line_fault};
-pub use fault_text::ShownWord;
+pub use fault_text::{ShownWord, put_word_between};
 pub use kept::KeptEvent;
 pub use keyword::Keyword;
 pub use line::{Line, parse_line};

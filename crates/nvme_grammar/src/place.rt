@@ -1,14 +1,16 @@
 //! What stands in the places of a line.
 
-ghost use Rattle.std.specs.Prelude.{◌≡◌, ◌*◌, ◌/◌, ◌≤◌, length, Some};
+ghost use Rattle.std.specs.Prelude.{◌≡◌, ◌*◌, ◌/◌, ◌≤◌, length};
 ghost use Rattle.nvme_spec.specs.Limits.{most_bytes};
 ghost use Rattle.nvme_grammar.specs.LineFaults.{suits};
 ghost use Rattle.nvme_grammar.specs.Places.{operand_name, operand_bits, spells, place_behind, takes_behind, wanted_text};
 
 use super::configuration::is_shared;
 use super::request::bit_in;
-use script_text::{bytes_in, data_in, number_u8, number_u16, number_u32, number_u64, number_u128};
-use std::fmt;
+use script_text::{
+    NoRoom, Page, Spell, bytes_in, data_in, number_u8, number_u16, number_u32, number_u64,
+    number_u128, put_labelled,
+};
 
 /// A number of a line, by what it is of.
 #[derive(Clone, Copy, Debug, PartialEq, Eq)]
@@ -156,25 +158,25 @@ impl Place {
     }
 }
 
-impl fmt::Display for Place {
-    ghost output = { λ place. Some (wanted_text place) };
+impl Spell for Place {
+    ghost spelled = { wanted_text };
 
     /// What the place wants.
-    fn fmt<W: fmt::Write>(&self, f: &mut fmt::Formatter<W>) -> fmt::Result {
+    fn spell<P: Page>(&self, page: &mut P) -> Result<(), NoRoom> {
         match self {
             Place::Number(operand) => {
-                write!(f, "{}, a number below 2^{}", operand.name(), operand.bits())
+                page.put_str(operand.name())?;
+                put_labelled(page, ", a number below 2^", u64::from(operand.bits()))
             }
-            Place::Iekey => write!(f, "IEKEY, 0 or 1"),
-            Place::Host => write!(f, "the word 'host'"),
-            Place::Blocks => write!(f, "the word 'blocks'"),
-            Place::Sharing => write!(f, "'shared' or 'private'"),
-            Place::Raw => write!(f, "'raw' or nothing"),
-            Place::Data => write!(
-                f,
-                "DATA, fill: and two hexadecimal digits, or hex: and pairs of them that BLOCKS have room for"
+            Place::Iekey => page.put_str("IEKEY, 0 or 1"),
+            Place::Host => page.put_str("the word 'host'"),
+            Place::Blocks => page.put_str("the word 'blocks'"),
+            Place::Sharing => page.put_str("'shared' or 'private'"),
+            Place::Raw => page.put_str("'raw' or nothing"),
+            Place::Data => page.put_str(
+                "DATA, fill: and two hexadecimal digits, or hex: and pairs of them that BLOCKS have room for",
             ),
-            Place::Bytes => write!(f, "hex: and pairs of hexadecimal digits"),
+            Place::Bytes => page.put_str("hex: and pairs of hexadecimal digits"),
         }
     }
 }

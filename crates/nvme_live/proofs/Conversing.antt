@@ -52,7 +52,7 @@ asked-kept line = by (nat_lt 1048576 (length line)) refl
 
 -- A line before `start`.
 pub comes-by : {W : Type 0} (Sends : W → Sending → W → Type 0) (said : Result (Unit {0}) ScriptFault) (result : Result Settled ScriptFault) (n : ℕ) (old : SetUp) (asks : Asked) (new : SetUp) (before after : W) (answer : List ℕ)
-    → (MayBe : Type 0) → (MayBe → MayLackRoom (Setting old) asks) → IfOk said (λ _. result ≡ Ok settled.Answered) → IfErr said (λ fault. result ≡ Err fault) → SettlesAlike n old asks answer new → Says Sends MayBe said answer before after → Comes Sends result n old asks new before after
+    → (MayBe : List ℕ → Type 0) → (MayBe answer → MayLackRoom (Setting old) asks answer) → IfOk said (λ _. result ≡ Ok settled.Answered) → IfErr said (λ fault. result ≡ Err fault) → SettlesAlike n old asks answer new → Says Sends MayBe said answer before after → Comes Sends result n old asks new before after
 comes-by Sends (Ok x) result n old asks new before after answer MayBe may is other alike says = subst (λ (r : Result Settled ScriptFault). Comes Sends r n old asks new before after) (sym is) (answer, alike, says)
 comes-by Sends (Err Write) result n old asks new before after answer MayBe may other is alike says = subst (λ (r : Result Settled ScriptFault). Comes Sends r n old asks new before after) (sym is) (answer, alike, says)
 comes-by Sends (Err NoMemory) result n old asks new before after answer MayBe may other is alike says = subst (λ (r : Result Settled ScriptFault). Comes Sends r n old asks new before after) (sym is) (inr (answer, alike, may says.0, says.1))
@@ -151,7 +151,7 @@ module _ {R W : Type 0} (Reads : R → LineCall → R → Type 0) (Sends : W →
       (line-starves (TurnOf tells blocks d) Reads Sends (Setting c0) (Setting c1) 1 k u v x y h w z line reads alone says (sym (asks-whole Reads v w line asks reads is) ∙ sets) (inr crowded) unwritten))
   came-to-fault NoMemory (inr (answer, alike, may, unwritten)) =
       inr (line-stops (TurnOf tells blocks d) Reads Sends (Setting c0) (Setting c1) 1 k u v x y h w z line reads _ (Setting c2) answer (settles-whole answer alike)
-      (subst (λ (q : Asked). MayLackRoom (Setting c1) q) (asks-whole Reads v w line asks reads is) may, unwritten))
+      (subst (λ (q : Asked). MayLackRoom (Setting c1) q answer) (asks-whole Reads v w line asks reads is) may, unwritten))
   came-to-fault (Syntax i) q = absurd q
   came-to-fault (Config i f) q = absurd q
   came-to-fault TooLong q = absurd q
@@ -177,7 +177,7 @@ module _ {M R W : Type 0} (Reads : R → LineCall → R → Type 0) (Sends : W �
   pub ran-stopped : (fault : ScriptFault) → Answered Sends (MayLackRoom (Running l1) asks) (Err fault) (λ answer. AnswersLineBy step tells k asks (over l1 m1) answer (over l2 m2)) y z
       → EndsBy fault (TurnOver step tells blocks d) Reads Sends standing_over first (over (Running l0) m0) (over (Running l2) m2) u w x z
   ran-stopped Write (answer, says, broke) = stopped _ answer says broke
-  ran-stopped NoMemory (answer, says, (may, same)) = inr (stopped _ answer says (subst (λ (q : Asked). MayLackRoom (Running l1) q) (asks-whole Reads v w line asks reads is) may, same))
+  ran-stopped NoMemory (answer, says, (may, same)) = inr (stopped _ answer says (subst (λ (q : Asked). MayLackRoom (Running l1) q answer) (asks-whole Reads v w line asks reads is) may, same))
   ran-stopped (Syntax i) (answer, says, h) = absurd h
   ran-stopped (Config i f) (answer, says, h) = absurd h
   ran-stopped TooLong (answer, says, h) = absurd h

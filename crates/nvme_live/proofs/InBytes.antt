@@ -87,7 +87,7 @@ module _ {R W : Type 0} (read : R → LineCall → R → Type 0) (remaining : R 
     starved = h.starved;
   })
   failures_in_bytes NoMemory tells blocks d n old new unread left before after (inr h) =
-      inr (stops-in-bytes tells blocks d n old unread before (λ mid line w answer z. MayLackRoom mid (asked line) × (z ≡ w)) (λ mid line w answer z. MayLackRoom mid (asked line) × (z ≡ w)) (λ mid line w z answer s. (s.0, ap contents s.1)) new left after h)
+      inr (stops-in-bytes tells blocks d n old unread before (λ mid line w answer z. MayLackRoom mid (asked line) answer × (z ≡ w)) (λ mid line w answer z. MayLackRoom mid (asked line) answer × (z ≡ w)) (λ mid line w z answer s. (s.0, ap contents s.1)) new left after h)
   failures_in_bytes (Syntax k) tells blocks d n old new unread left before after h = absurd h
   failures_in_bytes TooLong tells blocks d n old new unread left before after h = absurd h
 

@@ -28,7 +28,7 @@ use Rattle.nvme_live.specs.Asking.{asked}
 use Rattle.nvme_live.specs.AnswerCalls.{TurnOver}
 use Rattle.nvme_live.specs.Conversations.{ComesToStart, Converses, Ends, EndsBy, FromStart, standing_over}
 use Rattle.nvme_live.specs.Lives.{Rests, StartFails, StartRefused, device_in}
-use Rattle.nvme_live.specs.Saying.{with_feed}
+use Rattle.nvme_live.specs.Saying.{LacksRoom, with_feed}
 use Rattle.nvme_live.specs.Standings.{Standing, Setting, Running, Over, Starts, Turn, refused_text, started_text}
 use Rattle.nvme_live.specs.Streams.{Came, LineCall, Says, Sending, Sent}
 use Rattle.nvme_live.proofs.Lifting.{conversed-over}
@@ -64,7 +64,7 @@ refused-start Sends Read blocks d n s fault reason before after is because h = a
 
 -- where the answer of an accepted `start` is not sent
 pub unsaid-start : {W : Type 0} (Sends : W → Sending → W → Type 0) (fault : ScriptFault) (blocks : ℕ) (d : Device) (n : ℕ) (s : SetUp) (before after : W) → first_config_fault s.configuration blocks ≡ None
-    → Says Sends ⊥ (Err fault) (with_feed started_text) before after → StartFails Sends fault blocks d n s before after
+    → Says Sends (λ _. ⊥) (Err fault) (with_feed started_text) before after → StartFails Sends fault blocks d n s before after
 unsaid-start Sends Write blocks d n s before after accepted broke = (with_feed started_text, Running (opening_layers s.configuration d), accepted-start (first_config_fault s.configuration blocks) blocks d n s accepted, broke)
 unsaid-start Sends NoMemory blocks d n s before after accepted h = absurd h.0
 unsaid-start Sends (Syntax k) blocks d n s before after accepted h = absurd h
@@ -74,7 +74,7 @@ unsaid-start Sends Read blocks d n s before after accepted h = absurd h
 
 -- what became of the answer of one that was refused
 pub said-refused : {W : Type 0} (Sends : W → Sending → W → Type 0) (fault : ScriptFault) (n : ℕ) (why : ConfigFault) (reason : Option (ℕ × BrokenRule)) (before after : W) → why ≢ WantOfMemory
-    → Says Sends (Unit {0}) (Err fault) (with_feed (refused_text n why reason)) before after → StartRefused Sends fault n why reason before after
+    → Says Sends LacksRoom (Err fault) (with_feed (refused_text n why reason)) before after → StartRefused Sends fault n why reason before after
 said-refused Sends Write n why reason before after other broke = (other, broke)
 said-refused Sends NoMemory n why reason before after other h = h.1
 said-refused Sends (Syntax k) n why reason before after other h = absurd h

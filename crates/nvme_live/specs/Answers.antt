@@ -62,6 +62,6 @@ AnswersLine tells n (Sets line) old answer new = (answer ≡ with_feed (refusal 
 AnswersLine tells n (Does event) old answer new = Happens tells old event answer new
 
 -- An answer of which this is said was sent, or else not, in the way that the result tells.
-abbrev pub Answered : {W : Type 0} → (W → Sending → W → Type 0) → Type 0 → Result (Unit {0}) ScriptFault
+abbrev pub Answered : {W : Type 0} → (W → Sending → W → Type 0) → (List ℕ → Type 0) → Result (Unit {0}) ScriptFault
     → (List ℕ → Type 0) → W → W → Type 0
 Answered Sends MayBe result Of before after = (answer : List ℕ) × Of answer × Says Sends MayBe result answer before after

@@ -63,12 +63,12 @@ abbrev pub BreaksOff : {S R W : Type 0} → (ℕ → S → List ℕ → List ℕ
 BreaksOff Turns Reads Sends n old new unread left before after =
     Stops Turns Reads Sends (λ mid line w answer z. Sends w (Broken answer) z) n old new unread left before after
 
--- its text had no room, as that of `ok` always has, and nothing was called
+-- its text had no room, since it is longer than a text may be, and nothing was called
 abbrev pub FindsNoRoom : {S R W : Type 0} → (ℕ → S → List ℕ → List ℕ → S → Type 0) → (R → LineCall → R → Type 0)
     → (W → Sending → W → Type 0) → (S → Standing) → ℕ → S → S → R → R → W → W → Type 0
 FindsNoRoom Turns Reads Sends standing n old new unread left before after =
-    Stops Turns Reads Sends (λ mid line w answer z. MayLackRoom (standing mid) (asked line) × (z ≡ w)) n old new unread
-    left before after
+    Stops Turns Reads Sends (λ mid line w answer z. MayLackRoom (standing mid) (asked line) answer × (z ≡ w)) n old
+    new unread left before after
 
 -- It stopped at a call that read no line, since it failed.
 pub record Unread {S R W : Type 0} (Turns : ℕ → S → List ℕ → List ℕ → S → Type 0) (Reads : R → LineCall → R → Type 0)

@@ -28,7 +28,7 @@ Comes Sends (Err Write) n old asks new before after =
     (answer : List ℕ) × SettlesAlike n old asks answer new × Sends before (Broken answer) after
 Comes Sends (Err NoMemory) n old asks new before after =
     ((line : Line) × (asks ≡ Sets line) × IsCrowded old line × (new ≡ old) × (after ≡ before))
-    ⊎ ((answer : List ℕ) × SettlesAlike n old asks answer new × MayLackRoom (Setting old) asks × (after ≡ before))
+    ⊎ ((answer : List ℕ) × SettlesAlike n old asks answer new × MayLackRoom (Setting old) asks answer × (after ≡ before))
 Comes Sends (Err (Syntax k)) n old asks new before after = ⊥
 Comes Sends (Err (Config k fault)) n old asks new before after = ⊥
 Comes Sends (Err TooLong) n old asks new before after = ⊥

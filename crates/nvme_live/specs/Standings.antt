@@ -16,7 +16,7 @@ use Rattle.nvme_live.specs.declared.asking.Asked.{Asked}
 use Rattle.nvme_live.specs.declared.asking.Asked.TheVariants.{Fails, Nothing, Looks, Sets, Does}
 use Rattle.nvme_live.specs.Answers.{AnswersLine}
 use Rattle.nvme_live.specs.Asking.{asked}
-use Rattle.nvme_live.specs.Saying.{with_feed}
+use Rattle.nvme_live.specs.Saying.{LacksRoom, with_feed}
 use Rattle.nvme_live.specs.SetUps.{SetUp, numbered_reason, with_line}
 use Rattle.live_views.specs.Showing.{early_text}
 
@@ -27,20 +27,20 @@ pub data Standing : Type 0 where
   Running : Layers → Standing
   Over : ℕ → ConfigFault → Standing
 
--- Whether the text of an answer may lack room, where a session stands so, by what its line asks. The answer to a line that
--- says nothing, or sets something up, is `ok`, and never does.
-abbrev pub MayLackRoom : Standing → Asked → Type 0
-MayLackRoom (Setting s) (Fails why) = Unit {0}
-MayLackRoom (Setting s) Nothing = ⊥
-MayLackRoom (Setting s) (Looks looking) = Unit {0}
-MayLackRoom (Setting s) (Sets line) = ⊥
-MayLackRoom (Setting s) (Does event) = Unit {0}
-MayLackRoom (Running l) (Fails why) = Unit {0}
-MayLackRoom (Running l) Nothing = ⊥
-MayLackRoom (Running l) (Looks looking) = Unit {0}
-MayLackRoom (Running l) (Sets line) = Unit {0}
-MayLackRoom (Running l) (Does event) = Unit {0}
-MayLackRoom (Over k fault) asks = ⊥
+-- Whether the text of an answer lacks room, where a session stands so, by what its line asks: only where it is longer
+-- than a text may be. The answer to a line that says nothing, or sets something up, is `ok`, and never does.
+abbrev pub MayLackRoom : Standing → Asked → List ℕ → Type 0
+MayLackRoom (Setting s) (Fails why) answer = LacksRoom answer
+MayLackRoom (Setting s) Nothing answer = ⊥
+MayLackRoom (Setting s) (Looks looking) answer = LacksRoom answer
+MayLackRoom (Setting s) (Sets line) answer = ⊥
+MayLackRoom (Setting s) (Does event) answer = LacksRoom answer
+MayLackRoom (Running l) (Fails why) answer = LacksRoom answer
+MayLackRoom (Running l) Nothing answer = ⊥
+MayLackRoom (Running l) (Looks looking) answer = LacksRoom answer
+MayLackRoom (Running l) (Sets line) answer = LacksRoom answer
+MayLackRoom (Running l) (Does event) answer = LacksRoom answer
+MayLackRoom (Over k fault) asks answer = ⊥
 
 -- the line that is at fault, by its number, and what of it
 abbrev pub reason_text : Option (ℕ × BrokenRule) → List ℕ

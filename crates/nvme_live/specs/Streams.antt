@@ -58,13 +58,13 @@ abbrev pub GivesLine : {R : Type 0} → (R → LineCall → R → Type 0) → Bo
 GivesLine Reads true old new line = (whole : List ℕ) × Reads old (Came whole) new × (line ≡ kept whole)
 GivesLine Reads false old new line = Reads old Ended new × (line ≡ [])
 
--- What sending an answer came to: it was sent, or a call failed; or else, if it may be, nothing was called, since its text
--- had no room.
-abbrev pub Says : {W : Type 0} → (W → Sending → W → Type 0) → Type 0 → Result (Unit {0}) ScriptFault → List ℕ → W → W
-    → Type 0
+-- What sending an answer came to: it was sent, or a call failed; or else, if it may be of such an answer, nothing was
+-- called, since its text had no room.
+abbrev pub Says : {W : Type 0} → (W → Sending → W → Type 0) → (List ℕ → Type 0) → Result (Unit {0}) ScriptFault → List ℕ
+    → W → W → Type 0
 Says Sends MayBe (Ok done) answer old new = Sends old (Sent answer) new
 Says Sends MayBe (Err Write) answer old new = Sends old (Broken answer) new
-Says Sends MayBe (Err NoMemory) answer old new = MayBe × (new ≡ old)
+Says Sends MayBe (Err NoMemory) answer old new = MayBe answer × (new ≡ old)
 Says Sends MayBe (Err (Syntax k)) answer old new = ⊥
 Says Sends MayBe (Err (Config k fault)) answer old new = ⊥
 Says Sends MayBe (Err TooLong) answer old new = ⊥

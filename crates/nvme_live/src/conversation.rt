@@ -21,6 +21,7 @@ use nvme_fleet::Fleet;
 use nvme_medium::Medium;
 use nvme_program::ScriptFault;
 use nvme_spec::Config;
+use script_text::Text;
 
 /// Answers the lines before the fleet is there, up to `start`, whose number is the answer; `None` at the end of the
 /// input.
@@ -31,7 +32,7 @@ pub fn set_up<R: LineSource, W: FlushedSink>(
     bytes: &mut [u8],
     identifiers: &mut [u16],
     blocks: &mut [u8],
-    text: &mut String,
+    text: &mut Text,
     reader: &mut R,
     writer: &mut W,
 ) -> Result<Option<u64>, ScriptFault>
@@ -67,7 +68,7 @@ fn converse<R: LineSource, W: FlushedSink, M: Medium>(
     bytes: &mut [u8],
     identifiers: &mut [u16],
     blocks: &mut [u8],
-    text: &mut String,
+    text: &mut Text,
     reader: &mut R,
     writer: &mut W,
 ) -> Result<(), ScriptFault>

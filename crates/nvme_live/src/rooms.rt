@@ -4,7 +4,7 @@
 ghost use Rattle.std.specs.Prelude.{◌≡◌, IfOk, length};
 
 use crate::asking::LINE_LIMIT;
-use nvme_transcript::LONGEST_LINE as LONGEST_ANSWER;
+use script_text::Text;
 use std::alloc::{AllocError, Global};
 
 /// Half of the bytes of the longest script, and one more: what one of its lines can spell.
@@ -20,7 +20,7 @@ pub struct Rooms {
     /// Blocks that are looked at, and what a line spells whose fault is looked for.
     pub blocks: Vec<u8>,
     /// One answer.
-    pub text: String,
+    pub text: Text,
     /// One line of the input, and one byte more.
     pub line: Vec<u8>,
 }
@@ -43,7 +43,7 @@ impl Rooms {
             bytes: room_for_bytes(alloc)?,
             identifiers: vec![in alloc; 0; MOST_SPELLED]?,
             blocks: room_for_bytes(alloc)?,
-            text: String::with_capacity(alloc, LONGEST_ANSWER)?,
+            text: Text::new(alloc)?,
             line: Vec::with_capacity(alloc, LINE_LIMIT + 1)?,
         })
     }

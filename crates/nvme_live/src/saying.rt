@@ -1,18 +1,16 @@
 //! Answers on their way to the writer: each is written whole and flushed.
 
-ghost use Rattle.std.specs.Prelude.{IfSome};
-ghost use Rattle.nvme_live.specs.Saying.{with_feed};
+ghost use Rattle.script_text.specs.Pages.{Adds, most_text};
+ghost use Rattle.nvme_live.specs.Saying.{LacksRoom, with_feed};
 ghost use Rattle.nvme_live.specs.Streams.{Says, SendsBy};
 
 use crate::streams::FlushedSink;
 use nvme_program::ScriptFault;
-use script_text::write_whole;
-use std::fmt;
-use std::fmt::Write as _;
+use script_text::{NoRoom, Page, Spell, Text, write_whole};
 
 /// Writes bytes whole, and flushes them.
 pub fn send<W: FlushedSink>(writer: &mut W, bytes: &[u8]) -> Result<(), ScriptFault>
-    ensures { Says (SendsBy W.step W.flushes W.contents) ⊥ result bytes.now writer.old writer.new }
+    ensures { Says (SendsBy W.step W.flushes W.contents) (λ _. ⊥) result bytes.now writer.old writer.new }
 {
     if write_whole(writer, bytes).is_err() {
         return Err(ScriptFault::Write);
@@ -23,19 +21,27 @@ pub fn send<W: FlushedSink>(writer: &mut W, bytes: &[u8]) -> Result<(), ScriptFa
     Ok(())
 }
 
-/// Writes a line, by way of a text with room for it, and flushes it. Where the text has no room, nothing is written, and
-/// the fault is `NoMemory`.
-pub fn say<W: FlushedSink, D: fmt::Display + Drop>(
+/// Puts a line behind what a text has.
+fn put_line<T: Spell>(text: &mut Text, line: &T) -> Result<(), NoRoom>
+    ensures { Adds most_text result text.old (with_feed (T.spelled line.now)) text.new }
+{
+    line.spell(text)?;
+    text.put_str("\n")
+}
+
+/// Writes a line, by way of a text, and flushes it. Where the text has no room for it, nothing is written, and the fault
+/// is `NoMemory`.
+pub fn say<W: FlushedSink, T: Spell>(
     writer: &mut W,
-    text: &mut String,
-    line: D,
+    text: &mut Text,
+    line: &T,
 ) -> Result<(), ScriptFault>
-    ensures { IfSome (D.output line) (λ shown.
-        Says (SendsBy W.step W.flushes W.contents) (Unit {0}) result (with_feed shown) writer.old writer.new) }
+    ensures { Says (SendsBy W.step W.flushes W.contents) LacksRoom result (with_feed (T.spelled line.now))
+        writer.old writer.new }
 {
     text.clear();
-    if writeln!(text, "{line}").is_err() {
-        return Err(ScriptFault::NoMemory);
+    match put_line(text, line) {
+        Ok(()) => send(writer, text.as_bytes()),
+        Err(NoRoom) => Err(ScriptFault::NoMemory),
     }
-    send(writer, text.as_bytes())
 }

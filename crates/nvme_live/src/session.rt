@@ -1,6 +1,7 @@
 //! A session from the script that is run first to its end.
 
 ghost use Rattle.std.specs.Prelude.{◌≡◌, ◌<◌, ◌-◌, ◌^◌, ℕ, List, Option, IfErr, IfOk, None, Ok, OnErr, OnOk, Some, length};
+ghost use Rattle.script_text.specs.Pages.{Adds};
 ghost use Rattle.script_text.specs.Reading.{IsRead};
 ghost use Rattle.nvme_spec.specs.Configuration.{first_config_fault};
 ghost use Rattle.nvme_ns.specs.Configured.{configuration};
@@ -15,7 +16,7 @@ ghost use Rattle.nvme_live.specs.Conversations.{Ends, EndsBy, FromStart, standin
 ghost use Rattle.nvme_live.specs.Lives.{Fails, FailsBehindReading, FailsFirst, LivesOn, Rests, RunsTo, StartFails, StartRefused, surroundings};
 ghost use Rattle.nvme_live.specs.Saying.{with_feed};
 ghost use Rattle.nvme_live.specs.SetUps.{HasSetUpRoom, set_up_of};
-ghost use Rattle.nvme_live.specs.Standings.{Setting, refused_text, started_text};
+ghost use Rattle.nvme_live.specs.Standings.{Setting, reason_text, refused_text, started_text};
 ghost use Rattle.nvme_live.specs.Streams.{ReadsBy, SendsBy, Sent};
 
 use crate::conversation::{run_on, set_up};
@@ -29,9 +30,9 @@ use nvme_medium::Medium;
 use nvme_program::{BrokenRule, ScriptFault, config_fault_name};
 use nvme_script::run_events;
 use nvme_spec::{Config, ConfigFault};
-use script_text::Source;
+use script_text::{NoRoom, Page, Source, Spell, Text, put_both, put_labelled};
 use std::alloc::Global;
-use std::{fmt, io};
+use std::io;
 
 /// The answer to `start`, which has this number, where the configuration is refused: the fault, and the line that is at
 /// fault, by its number, with the rule that it breaks.
@@ -42,25 +43,26 @@ struct RefusedText {
     reason: Option<(u64, BrokenRule)>,
 }
 
-impl fmt::Display for RefusedText {
-    ghost output = { λ r. Some (refused_text r.number r.fault r.reason) };
+impl Spell for RefusedText {
+    ghost spelled = { λ r. refused_text r.number r.fault r.reason };
 
-    fn fmt<W: fmt::Write>(&self, f: &mut fmt::Formatter<W>) -> fmt::Result {
-        match self.reason {
-            Some((line, rule)) => write!(
-                f,
-                "refused line {}: {}; line {line}: {rule}",
-                self.number,
-                config_fault_name(self.fault)
-            ),
-            None => write!(
-                f,
-                "refused line {}: {}",
-                self.number,
-                config_fault_name(self.fault)
-            ),
-        }
+    fn spell<P: Page>(&self, page: &mut P) -> Result<(), NoRoom> {
+        put_labelled(page, "refused line ", self.number)?;
+        put_both(page, ": ", config_fault_name(self.fault))?;
+        put_reason(page, self.reason)
     }
+}
+
+/// Puts the line that is at fault, and what of it.
+fn put_reason<P: Page>(page: &mut P, reason: Option<(u64, BrokenRule)>) -> Result<(), NoRoom>
+    ensures { Adds P.room result (P.written page.old) (reason_text reason) (P.written page.new) }
+{
+    let Some((line, rule)) = reason else {
+        return page.put_str("");
+    };
+    put_labelled(page, "; line ", line)?;
+    page.put_str(": ")?;
+    rule.spell(page)
 }
 
 /// Answers `start`, whose fleet was refused for this reason; want of memory is not answered.
@@ -68,7 +70,7 @@ fn refuse_start<W: FlushedSink>(
     number: u64,
     fault: ConfigFault,
     reason: Option<(u64, BrokenRule)>,
-    text: &mut String,
+    text: &mut Text,
     writer: &mut W,
 ) -> ScriptFault
     ensures { StartRefused (SendsBy W.step W.flushes W.contents) result number fault reason writer.old writer.new }
@@ -78,7 +80,7 @@ fn refuse_start<W: FlushedSink>(
         _ => match say(
             writer,
             text,
-            RefusedText {
+            &RefusedText {
                 number,
                 fault,
                 reason,
@@ -96,7 +98,7 @@ fn start<W: FlushedSink, M: Medium>(
     number: u64,
     config: &Config,
     numbers: &LineNumbers,
-    text: &mut String,
+    text: &mut Text,
     writer: &mut W,
     medium: M,
 ) -> Result<Fleet<M>, (ScriptFault, M)>

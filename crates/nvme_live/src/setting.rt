@@ -19,6 +19,7 @@ use live_views::shown_early;
 use nvme_grammar::Line;
 use nvme_program::ScriptFault;
 use nvme_spec::Config;
+use script_text::Text;
 
 /// What a line before `start` came to.
 #[derive(Clone, Copy, Debug, PartialEq, Eq)]
@@ -68,7 +69,7 @@ pub fn settle<W: FlushedSink>(
     asked: Asked<'_>,
     config: &mut Config,
     numbers: &mut LineNumbers,
-    text: &mut String,
+    text: &mut Text,
     writer: &mut W,
 ) -> Result<Settled, ScriptFault>
     requires { HasSetUpRoom config.old numbers.old }
@@ -80,7 +81,7 @@ pub fn settle<W: FlushedSink>(
         Asked::Sets(line) => take(number, line, config, numbers, writer),
         Asked::Fails(why) => answered(refuse(number, why, text, writer)),
         Asked::Nothing => answered(send(writer, b"ok\n")),
-        Asked::Looks(looking) => answered(say(writer, text, shown_early(number, looking))),
+        Asked::Looks(looking) => answered(say(writer, text, &shown_early(number, looking))),
         Asked::Does(_) => answered(refuse(number, Why::BehindStart, text, writer)),
     }
 }

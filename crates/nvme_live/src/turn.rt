@@ -8,7 +8,7 @@ ghost use Rattle.nvme_live.specs.Asking.{asked_by_value};
 ghost use Rattle.nvme_subsys.specs.OverMedium.{over};
 ghost use Rattle.nvme_live.specs.Answers.{Answered, place_of};
 ghost use Rattle.nvme_live.specs.AnswerCalls.{AnswersLineBy, HappensBy, ShowsBlocksBy, ShowsBy};
-ghost use Rattle.nvme_live.specs.Saying.{with_feed};
+ghost use Rattle.nvme_live.specs.Saying.{LacksRoom, with_feed};
 ghost use Rattle.nvme_live.specs.Standings.{MayLackRoom, Running};
 ghost use Rattle.nvme_live.specs.Streams.{Says, SendsBy};
 
@@ -23,29 +23,30 @@ use nvme_medium::Medium;
 use nvme_program::ScriptFault;
 use nvme_spec::Marks;
 use nvme_transcript::TranscriptLine;
+use script_text::Text;
 
 /// Answers a line that is not carried out.
 #[tactic(auto, using(live_text::proofs::ByValue::refusal_by_value))]
 pub fn refuse<W: FlushedSink>(
     number: u64,
     why: Why<'_>,
-    text: &mut String,
+    text: &mut Text,
     writer: &mut W,
 ) -> Result<(), ScriptFault>
-    ensures { Says (SendsBy W.step W.flushes W.contents) (Unit {0}) result
+    ensures { Says (SendsBy W.step W.flushes W.contents) LacksRoom result
         (with_feed (refusal number (why_by_value why.entry))) writer.old writer.new }
 {
-    say(writer, text, Refusal { number, why })
+    say(writer, text, &Refusal { number, why })
 }
 
 /// Makes an event happen, and writes its line.
 fn apply<W: FlushedSink, M: Medium>(
     event: FleetEvent<'_>,
     fleet: &mut Fleet<M>,
-    text: &mut String,
+    text: &mut Text,
     writer: &mut W,
 ) -> Result<(), ScriptFault>
-    ensures { Answered (SendsBy W.step W.flushes W.contents) (Unit {0}) result (λ answer.
+    ensures { Answered (SendsBy W.step W.flushes W.contents) LacksRoom result (λ answer.
         HappensBy M.step M.tells (over (layers_of fleet.old.state) fleet.old.medium) (event_by_value event.entry) answer
         (over (layers_of fleet.new.state) fleet.new.medium)) writer.old writer.new }
 {
@@ -57,7 +58,7 @@ fn apply<W: FlushedSink, M: Medium>(
         seen: &seen,
         bytes: data,
     };
-    say(writer, text, shown)
+    say(writer, text, &shown)
 }
 
 /// Answers a line that looks at blocks of a namespace.
@@ -66,11 +67,11 @@ fn look_at_blocks<W: FlushedSink, M: Medium>(
     place: (u32, u64, u32),
     fleet: &mut Fleet<M>,
     blocks: &mut [u8],
-    text: &mut String,
+    text: &mut Text,
     writer: &mut W,
 ) -> Result<(), ScriptFault>
     requires { length blocks.old ≡ 2097153 }
-    ensures { Answered (SendsBy W.step W.flushes W.contents) (Unit {0}) result (λ answer.
+    ensures { Answered (SendsBy W.step W.flushes W.contents) LacksRoom result (λ answer.
         ShowsBlocksBy M.step (place_of place.0 place.1 place.2 (layers_of fleet.old.state)) M.tells number place.0
         place.1 place.2 (over (layers_of fleet.old.state) fleet.old.medium) answer
         (over (layers_of fleet.new.state) fleet.new.medium)) writer.old writer.new }
@@ -84,7 +85,7 @@ fn look_at_blocks<W: FlushedSink, M: Medium>(
         Some(Ok(())) => say(
             writer,
             text,
-            BlocksText {
+            &BlocksText {
                 nsid,
                 slba,
                 count,
@@ -102,11 +103,11 @@ fn look<W: FlushedSink, M: Medium>(
     looking: Looking,
     fleet: &mut Fleet<M>,
     blocks: &mut [u8],
-    text: &mut String,
+    text: &mut Text,
     writer: &mut W,
 ) -> Result<(), ScriptFault>
     requires { length blocks.old ≡ 2097153 }
-    ensures { Answered (SendsBy W.step W.flushes W.contents) (Unit {0}) result (λ answer. ShowsBy M.step M.tells number looking
+    ensures { Answered (SendsBy W.step W.flushes W.contents) LacksRoom result (λ answer. ShowsBy M.step M.tells number looking
         (over (layers_of fleet.old.state) fleet.old.medium) answer (over (layers_of fleet.new.state) fleet.new.medium))
         writer.old writer.new }
 {
@@ -114,7 +115,7 @@ fn look<W: FlushedSink, M: Medium>(
         Looking::Blocks { nsid, slba, count } => {
             look_at_blocks(number, (nsid, slba, count), fleet, blocks, text, writer)
         }
-        _ => say(writer, text, shown_of(number, looking, fleet)),
+        _ => say(writer, text, &shown_of(number, looking, fleet)),
     }
 }
 
@@ -124,7 +125,7 @@ pub fn answer<W: FlushedSink, M: Medium>(
     asked: Asked<'_>,
     fleet: &mut Fleet<M>,
     blocks: &mut [u8],
-    text: &mut String,
+    text: &mut Text,
     writer: &mut W,
 ) -> Result<(), ScriptFault>
     requires { length blocks.old ≡ 2097153 }

@@ -6,6 +6,7 @@ ghost use Rattle.nvme_program.specs.Reasons.{rule_text, sentence_text};
 ghost use Rattle.nvme_program.specs.declared.configuration.BrokenRule.TheVariants as broken;
 
 use crate::configuration::BrokenRule;
+use script_text::{NoRoom, Page, Spell, put_labelled};
 use std::fmt;
 
 /// A sentence: text around as many numbers.
@@ -25,6 +26,25 @@ impl fmt::Display for Sentence {
             Sentence::One(front, number, end) => write!(f, "{front}{number}{end}"),
             Sentence::Two(front, first, between, second, end) => {
                 write!(f, "{front}{first}{between}{second}{end}")
+            }
+        }
+    }
+}
+
+impl Spell for Sentence {
+    ghost spelled = { sentence_text };
+
+    fn spell<P: Page>(&self, page: &mut P) -> Result<(), NoRoom> {
+        match self {
+            Sentence::Plain(text) => page.put_str(text),
+            Sentence::One(front, number, end) => {
+                put_labelled(page, front, *number)?;
+                page.put_str(end)
+            }
+            Sentence::Two(front, first, between, second, end) => {
+                put_labelled(page, front, *first)?;
+                put_labelled(page, between, *second)?;
+                page.put_str(end)
             }
         }
     }
@@ -128,5 +148,13 @@ impl fmt::Display for BrokenRule {
 
     fn fmt<W: fmt::Write>(&self, f: &mut fmt::Formatter<W>) -> fmt::Result {
         write!(f, "{}", self.sentence())
+    }
+}
+
+impl Spell for BrokenRule {
+    ghost spelled = { rule_text };
+
+    fn spell<P: Page>(&self, page: &mut P) -> Result<(), NoRoom> {
+        self.sentence().spell(page)
     }
 }

@@ -34,7 +34,7 @@ module _ {W : Type 0} (write : W → WriteCall → W → Type 0) where
   -- what a line came to
   pub line-written : (line : List ℕ) (x y : W) (r : Result (Unit {0}) Error) (P : Type 0) (A : Type 0) → WritesLine write line x r y → OnOk r A → (A → IsWritten {T = Unit {0}} {E = Error} write line x (Ok tt) y → P) → OnOk r P
   line-written line x y (Ok u) P A (inl whole) ok then = then ok whole
-  line-written line x y (Ok u) P A (inr (failed, same)) ok then = absurd (false≢true failed)
+  line-written line x y (Ok u) P A (inr (long, failed, same)) ok then = absurd (false≢true failed)
   line-written line x y (Err e) P A h ok then = tt
 
   pub line-failed : (line : List ℕ) (x y : W) (r : Result (Unit {0}) Error) (P : Type 0) (A : Type 0) → WritesLine write line x r y → OnErr r A → (A → FailsLine write line x y → P) → OnErr r P

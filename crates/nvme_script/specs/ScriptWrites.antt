@@ -26,7 +26,7 @@ WritesLines write [] old new = new ≡ old
 WritesLines {W} write (line ∷ lines) old new =
     (mid : W) × IsWritten {T = Unit {0}} {E = Error} write line old (Ok tt) mid × WritesLines write lines mid new
 
--- a line was not written whole: by its writes, the last of which failed, or because its text had no room
+-- a line was not written whole: by its writes, the last of which failed, or because it is longer than a text may be
 abbrev pub FailsLine : {W : Type 0} → (W → WriteCall → W → Type 0) → List ℕ → W → W → Type 0
 FailsLine write line old new = (fault : Error) × WritesLine {T = Unit {0}} write line old (Err fault) new
 

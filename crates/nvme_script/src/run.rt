@@ -18,8 +18,8 @@ use nvme_grammar::{Buffers, KeptEvent, Script, parse};
 use nvme_medium::Medium;
 use nvme_program::ScriptFault;
 use nvme_spec::{ConfigFault, Marks};
-use nvme_transcript::{LONGEST_LINE, TranscriptLine, write_line};
-use script_text::{Sink, Source, read_text};
+use nvme_transcript::{TranscriptLine, write_line};
+use script_text::{Sink, Source, Text, read_text};
 use std::alloc::Global;
 use std::io;
 
@@ -29,7 +29,7 @@ struct Ready {
     script: Script,
     buffers: Buffers,
     /// One line of the transcript.
-    line: String,
+    line: Text,
 }
 
 /// Judges a text, and makes the room that its events work in.
@@ -43,7 +43,7 @@ fn prepare(alloc: Global, text: &[u8]) -> Result<Ready, ScriptFault>
 {
     let mut buffers = Buffers::for_text(alloc, text)?;
     let script = parse(alloc, text, &mut buffers.bytes, &mut buffers.identifiers)?;
-    let line = String::with_capacity(alloc, LONGEST_LINE)?;
+    let line = Text::new(alloc)?;
     Ok(Ready {
         script,
         buffers,
@@ -78,7 +78,7 @@ fn run_event<W: Sink, M: Medium>(
     fleet: &mut Fleet<M>,
     bytes: &mut [u8],
     identifiers: &mut [u16],
-    line: &mut String,
+    line: &mut Text,
     marks: &mut Marks,
     writer: &mut W,
 ) -> io::Result<()>
@@ -114,7 +114,7 @@ pub fn run_events<W: Sink, M: Medium>(
     fleet: &mut Fleet<M>,
     bytes: &mut [u8],
     identifiers: &mut [u16],
-    line: &mut String,
+    line: &mut Text,
     writer: &mut W,
 ) -> io::Result<()>
     requires bytes_room { HasTextRoom text.now bytes.old }
@@ -219,7 +219,7 @@ pub fn run_text<W: Sink, M: Medium>(
 /// no call made of it; after `Write` exactly the events up to and including the one whose line could not be written have
 /// happened, the lines before that one were written whole, and of its own line not all. Of the medium exactly the calls
 /// of the events that happened are made, in their order. Each line is written by writes of all that is left of it, and
-/// `Write` comes only where one of them failed, or where a line's text had no room.
+/// `Write` comes only where one of them failed, or where a line is longer than a text may be.
 pub fn run_script<R: Source, W: Sink, M: Medium>(
     alloc: Global,
     reader: &mut R,

@@ -14,8 +14,11 @@ use Rattle.nvme_machine.specs.declared.seen.Fetched.TheVariants.{Took, Idle}
 use Rattle.nvme_machine.specs.declared.seen.Executed.{Executed}
 use Rattle.nvme_machine.specs.declared.seen.Executed.TheVariants.{Posted, NoSuch, CqFull}
 use Rattle.nvme_driver.specs.FaultNames.{up_fault_text, refusal_text, poll_fault_text}
+use Rattle.nvme_driver.specs.declared.faults.NotUp.{NotUp}
+use Rattle.nvme_driver.specs.declared.faults.PlaceRefusal.{PlaceRefusal}
 use Rattle.nvme_driver.specs.declared.faults.UpFault.{UpFault}
 use Rattle.nvme_driver.specs.declared.faults.PollFault.{PollFault}
+use Rattle.nvme_driver.specs.declared.ticket.Ticket.{Ticket}
 use Rattle.nvme_driver.specs.declared.answer.Answer.{Answer}
 use Rattle.nvme_driver.specs.declared.answer.Answer.TheVariants.{Done, Aborted}
 use Rattle.script_text.specs.HexText.{hex_or_dash, without_trailing_zeros}
@@ -63,13 +66,23 @@ polled_text (Ok (Some answer)) bytes = answer_text answer bytes
 polled_text (Ok None) bytes = codes "nothing"
 polled_text (Err fault) bytes = poll_fault_text fault
 
+-- what came of bringing a controller up, of a request that was to be placed, and of ringing
+abbrev pub brought_text : List ℕ → Result (Unit {0}) UpFault → List ℕ
+brought_text c up = codes "up " ++ c ++ codes " " ++ up_text up
+
+abbrev pub placed_text : List ℕ → Result Ticket PlaceRefusal → List ℕ
+placed_text c (Ok ticket) = codes "placed " ++ c ++ codes " " ++ decimal ticket.0
+placed_text c (Err refusal) = codes "refused " ++ c ++ codes " " ++ refusal_text refusal
+
+abbrev pub rung_text : List ℕ → Result (Unit {0}) NotUp → List ℕ
+rung_text c (Ok rung) = codes "rung " ++ c
+rung_text c (Err fault) = codes "rung " ++ c ++ codes " NotUp"
+
 -- what an event gave to see, by its controller and its subject, and the data that came with it
 abbrev pub seen_text : List ℕ → List ℕ → FleetSeen → List ℕ → List ℕ
-seen_text c s (seen.Up up) bytes = codes "up " ++ c ++ codes " " ++ up_text up
-seen_text c s (seen.Placed (Ok ticket)) bytes = codes "placed " ++ c ++ codes " " ++ decimal ticket.0
-seen_text c s (seen.Placed (Err refusal)) bytes = codes "refused " ++ c ++ codes " " ++ refusal_text refusal
-seen_text c s (seen.Rung (Ok rung)) bytes = codes "rung " ++ c
-seen_text c s (seen.Rung (Err fault)) bytes = codes "rung " ++ c ++ codes " NotUp"
+seen_text c s (seen.Up up) bytes = brought_text c up
+seen_text c s (seen.Placed placed) bytes = placed_text c placed
+seen_text c s (seen.Rung rung) bytes = rung_text c rung
 seen_text c s (seen.Fetched fetched) bytes = codes "fetch " ++ s ++ codes " " ++ fetched_text fetched
 seen_text c s (seen.Executed executed) bytes = codes "execute " ++ s ++ codes " " ++ executed_text executed
 seen_text c s (seen.Polled polled) bytes = codes "poll " ++ c ++ codes " " ++ polled_text polled bytes

@@ -1,8 +1,9 @@
 -- A line on its way to a writer.
-use Rattle.std.specs.Prelude.{◌≡◌, ◌⊎◌, ℕ, List, Result, IsErr}
+use Rattle.std.specs.Prelude.{◌≡◌, ◌⊎◌, ◌<◌, ℕ, List, length, Result, IsErr}
+use Rattle.script_text.specs.Pages.{most_text}
 use Rattle.script_text.specs.Streams.{WriteCall}
 use Rattle.script_text.specs.Writing.{IsWritten}
 
--- a line was written by its writes and no others, or its text had no room, and nothing was written
+-- a line was written by its writes and no others, or a text has no room for it, and nothing was written
 abbrev pub WritesLine : {S T E : Type 0} → (S → WriteCall → S → Type 0) → List ℕ → S → Result T E → S → Type 0
-WritesLine step line old outcome new = IsWritten step line old outcome new ⊎ (IsErr outcome × (new ≡ old))
+WritesLine step line old outcome new = IsWritten step line old outcome new ⊎ ((most_text < length line) × IsErr outcome × (new ≡ old))

@@ -8,4 +8,4 @@ mod short;
 mod writing;
 
 pub use line::TranscriptLine;
-pub use writing::{LONGEST_LINE, write_line};
+pub use writing::write_line;

@@ -1,15 +1,20 @@
 //! How the transcript shows what an event gave.
 
-ghost use Rattle.std.specs.Prelude.{Some};
+ghost use Rattle.std.specs.Prelude.{◌≡◌, ◌++◌, codes, decimal};
+ghost use Rattle.script_text.specs.Pages.{Adds};
+ghost use Rattle.nvme_wire.specs.StatusNames.{status_text};
+ghost use Rattle.nvme_driver.specs.FaultNames.{poll_fault_text, refusal_text, up_fault_text};
 ghost use Rattle.nvme_machine.specs.Bare.{executed_of};
 ghost use Rattle.nvme_event.specs.Bare.{seen_of};
-ghost use Rattle.nvme_transcript.specs.Transcript.{answer_text, data_text, event_text, executed_text, fetched_text, polled_text, subject_text, up_text};
+ghost use Rattle.nvme_transcript.specs.Transcript.{answer_text, brought_text, data_text, event_text, executed_text, fetched_text, placed_text, polled_text, rung_text, subject_text};
 
-use nvme_driver::{Answer, PollFault, UpFault};
+use nvme_driver::{Answer, NotUp, PlaceRefusal, PollFault, Ticket, UpFault};
 use nvme_event::{BareFleetSeen, FleetEvent};
 use nvme_machine::{BareExecuted, Fetched};
-use script_text::HexText;
-use std::fmt;
+use nvme_wire::Status;
+use script_text::{
+    HexText, NoRoom, Page, Spell, put_both, put_hex, put_hex_in, put_labelled, put_number,
+};
 
 /// The line of an event: what it gave to see, and the data that came with it.
 #[derive(Clone, Copy)]
@@ -19,164 +24,220 @@ pub struct TranscriptLine<'a> {
     pub bytes: &'a [u8],
 }
 
-impl fmt::Display for TranscriptLine<'_> {
-    ghost output = { λ line. Some (event_text line.event (seen_of line.seen.now) line.bytes.now) };
+impl Spell for TranscriptLine<'_> {
+    ghost spelled = { λ line. event_text line.event (seen_of line.seen.now) line.bytes.now };
 
-    fn fmt<W: fmt::Write>(&self, f: &mut fmt::Formatter<W>) -> fmt::Result {
-        let cntlid = self.event.cntlid();
-        let subject = Subject(self.event);
+    fn spell<P: Page>(&self, page: &mut P) -> Result<(), NoRoom> {
+        let cntlid = u64::from(self.event.cntlid());
         match self.seen {
-            BareFleetSeen::Up(up) => write!(f, "up {cntlid} {}", UpText(up)),
-            BareFleetSeen::Placed(Ok(ticket)) => write!(f, "placed {cntlid} {}", ticket.0),
-            BareFleetSeen::Placed(Err(refusal)) => write!(f, "refused {cntlid} {refusal}"),
-            BareFleetSeen::Rung(Ok(())) => write!(f, "rung {cntlid}"),
-            BareFleetSeen::Rung(Err(fault)) => write!(f, "rung {cntlid} {fault}"),
-            BareFleetSeen::Fetched(fetched) => write!(
-                f,
-                "fetch {subject} {}",
-                FetchedText(fetched)
-            ),
-            BareFleetSeen::Executed(executed) => {
-                write!(f, "execute {subject} {}", ExecutedText(executed))
-            }
+            BareFleetSeen::Up(up) => put_up(page, cntlid, up),
+            BareFleetSeen::Placed(placed) => put_placed(page, cntlid, placed),
+            BareFleetSeen::Rung(rung) => put_rung(page, cntlid, rung),
+            BareFleetSeen::Fetched(fetched) => put_fetched(page, &self.event, fetched),
+            BareFleetSeen::Executed(executed) => put_executed(page, &self.event, executed),
             BareFleetSeen::Polled(polled) => {
-                let bytes = self.bytes;
-                write!(f, "poll {cntlid} {}", PolledText { polled, bytes })
+                put_labelled(page, "poll ", cntlid)?;
+                page.put_str(" ")?;
+                put_polled(page, polled, self.bytes)
             }
-            BareFleetSeen::Reset => write!(f, "reset {cntlid}"),
-            BareFleetSeen::Stored => write!(f, "stored {cntlid}"),
-            BareFleetSeen::Outside => write!(f, "outside {cntlid}"),
-            BareFleetSeen::Wrote => write!(f, "wrote32 {cntlid}"),
-            BareFleetSeen::Cycled => write!(f, "powercycle"),
-            BareFleetSeen::NoController => write!(f, "nocontroller {cntlid}"),
-            BareFleetSeen::NoDriver => write!(f, "nodriver {cntlid}"),
-            BareFleetSeen::NotRaw => write!(f, "notraw {cntlid}"),
+            BareFleetSeen::Reset => put_labelled(page, "reset ", cntlid),
+            BareFleetSeen::Stored => put_labelled(page, "stored ", cntlid),
+            BareFleetSeen::Outside => put_labelled(page, "outside ", cntlid),
+            BareFleetSeen::Wrote => put_labelled(page, "wrote32 ", cntlid),
+            BareFleetSeen::Cycled => page.put_str("powercycle"),
+            BareFleetSeen::NoController => put_labelled(page, "nocontroller ", cntlid),
+            BareFleetSeen::NoDriver => put_labelled(page, "nodriver ", cntlid),
+            BareFleetSeen::NotRaw => put_labelled(page, "notraw ", cntlid),
         }
     }
 }
 
-/// The controller of an event, with the queue of a fetch or the place of an execution.
-#[derive(Clone, Copy)]
-struct Subject<'a>(FleetEvent<'a>);
+/// Puts what came of bringing a controller up.
+fn put_up<P: Page>(page: &mut P, cntlid: u64, up: &Result<(), UpFault>) -> Result<(), NoRoom>
+    ensures { Adds P.room result (P.written page.old) (brought_text (decimal cntlid) up.now) (P.written page.new) }
+{
+    put_labelled(page, "up ", cntlid)?;
+    page.put_str(" ")?;
+    match up {
+        Ok(()) => page.put_str("ok"),
+        Err(fault) => put_up_fault(page, fault),
+    }
+}
 
-impl fmt::Display for Subject<'_> {
-    ghost output = { λ subject. Some (subject_text subject.0) };
-
-    fn fmt<W: fmt::Write>(&self, f: &mut fmt::Formatter<W>) -> fmt::Result {
-        match self.0 {
-            FleetEvent::Fetch(cntlid, qid) => write!(f, "{cntlid} {qid}"),
-            FleetEvent::Execute(cntlid, i) => write!(f, "{cntlid} {i}"),
-            event => write!(f, "{}", event.cntlid()),
+/// Puts why a driver did not come up.
+fn put_up_fault<P: Page>(page: &mut P, fault: &UpFault) -> Result<(), NoRoom>
+    ensures { Adds P.room result (P.written page.old) (up_fault_text fault.now) (P.written page.new) }
+{
+    match fault {
+        UpFault::AlreadyUp => page.put_str("AlreadyUp"),
+        UpFault::NotReady => page.put_str("NotReady"),
+        UpFault::NoAnswer => page.put_str("NoAnswer"),
+        UpFault::Refused(status) => {
+            page.put_str("Refused ")?;
+            put_status(page, *status)
         }
     }
 }
 
-/// What came of bringing a controller up.
-#[derive(Clone, Copy)]
-struct UpText<'a>(&'a Result<(), UpFault>);
+/// Puts a status: its type, and its code in two digits.
+fn put_status<P: Page>(page: &mut P, status: Status) -> Result<(), NoRoom>
+    ensures { Adds P.room result (P.written page.old) (status_text status) (P.written page.new) }
+{
+    put_hex(page, u64::from(status.sct))?;
+    page.put_str(":")?;
+    put_hex_in(page, 2, u64::from(status.sc))
+}
 
-impl fmt::Display for UpText<'_> {
-    ghost output = { λ text. Some (up_text text.0.now) };
-
-    fn fmt<W: fmt::Write>(&self, f: &mut fmt::Formatter<W>) -> fmt::Result {
-        match self.0 {
-            Ok(()) => write!(f, "ok"),
-            Err(fault) => write!(f, "{fault}"),
+/// Puts what came of a request that was to be placed.
+fn put_placed<P: Page>(
+    page: &mut P,
+    cntlid: u64,
+    placed: &Result<Ticket, PlaceRefusal>,
+) -> Result<(), NoRoom>
+    ensures { Adds P.room result (P.written page.old) (placed_text (decimal cntlid) placed.now) (P.written page.new) }
+{
+    match placed {
+        Ok(ticket) => {
+            put_labelled(page, "placed ", cntlid)?;
+            put_labelled(page, " ", ticket.0)
+        }
+        Err(refusal) => {
+            put_labelled(page, "refused ", cntlid)?;
+            put_both(page, " ", refusal_name(*refusal))
         }
     }
 }
 
-/// What came of a fetch.
-#[derive(Clone, Copy)]
-struct FetchedText<'a>(&'a Fetched);
+/// The name of a refusal.
+fn refusal_name(refusal: PlaceRefusal) -> &'static str
+    ensures { result.now ≡ refusal_text refusal }
+{
+    match refusal {
+        PlaceRefusal::NotReady => "NotReady",
+        PlaceRefusal::BadRequest => "BadRequest",
+        PlaceRefusal::NoSlot => "NoSlot",
+        PlaceRefusal::RingFull => "RingFull",
+        PlaceRefusal::TicketsExhausted => "TicketsExhausted",
+    }
+}
 
-impl fmt::Display for FetchedText<'_> {
-    ghost output = { λ text. Some (fetched_text text.0.now) };
+/// Puts what came of ringing.
+fn put_rung<P: Page>(page: &mut P, cntlid: u64, rung: &Result<(), NotUp>) -> Result<(), NoRoom>
+    ensures { Adds P.room result (P.written page.old) (rung_text (decimal cntlid) rung.now) (P.written page.new) }
+{
+    put_labelled(page, "rung ", cntlid)?;
+    page.put_str(match rung {
+        Ok(()) => "",
+        Err(NotUp) => " NotUp",
+    })
+}
 
-    fn fmt<W: fmt::Write>(&self, f: &mut fmt::Formatter<W>) -> fmt::Result {
-        match self.0 {
-            Fetched::Took => write!(f, "took"),
-            Fetched::Idle => write!(f, "idle"),
+/// Puts the controller of an event, with the queue of a fetch or the place of an execution.
+fn put_subject<P: Page>(page: &mut P, event: &FleetEvent<'_>) -> Result<(), NoRoom>
+    ensures { Adds P.room result (P.written page.old) (subject_text event.now) (P.written page.new) }
+{
+    match event {
+        FleetEvent::Fetch(cntlid, qid) => {
+            put_number(page, u64::from(*cntlid))?;
+            put_labelled(page, " ", u64::from(*qid))
+        }
+        FleetEvent::Execute(cntlid, i) => {
+            put_number(page, u64::from(*cntlid))?;
+            put_labelled(page, " ", *i as u64)
+        }
+        event => put_number(page, u64::from(event.cntlid())),
+    }
+}
+
+/// Puts what came of a fetch.
+fn put_fetched<P: Page>(
+    page: &mut P,
+    event: &FleetEvent<'_>,
+    fetched: &Fetched,
+) -> Result<(), NoRoom>
+    ensures { Adds P.room result (P.written page.old)
+        (codes "fetch " ++ subject_text event.now ++ codes " " ++ fetched_text fetched.now) (P.written page.new) }
+{
+    page.put_str("fetch ")?;
+    put_subject(page, event)?;
+    page.put_str(match fetched {
+        Fetched::Took => " took",
+        Fetched::Idle => " idle",
+    })
+}
+
+/// Puts what came of an execution.
+fn put_executed<P: Page>(
+    page: &mut P,
+    event: &FleetEvent<'_>,
+    executed: &BareExecuted,
+) -> Result<(), NoRoom>
+    ensures { Adds P.room result (P.written page.old)
+        (codes "execute " ++ subject_text event.now ++ codes " " ++ executed_text (executed_of executed.now))
+        (P.written page.new) }
+{
+    page.put_str("execute ")?;
+    put_subject(page, event)?;
+    match executed {
+        BareExecuted::Posted(outcome) => {
+            page.put_str(" posted ")?;
+            put_status(page, outcome.status)?;
+            put_labelled(page, " ", u64::from(u16::from(outcome.rule)))
+        }
+        BareExecuted::NoSuch => page.put_str(" none"),
+        BareExecuted::CqFull => page.put_str(" full"),
+    }
+}
+
+/// Puts what a poll handed up, and the data that came with it.
+fn put_polled<P: Page>(
+    page: &mut P,
+    polled: &Result<Option<Answer>, PollFault>,
+    bytes: &[u8],
+) -> Result<(), NoRoom>
+    ensures { Adds P.room result (P.written page.old) (polled_text polled.now bytes.now) (P.written page.new) }
+{
+    match polled {
+        Ok(Some(answer)) => put_answer(page, answer, bytes),
+        Ok(None) => page.put_str("nothing"),
+        Err(PollFault::NotUp) => page.put_str("NotUp"),
+        Err(PollFault::UnknownCommand) => page.put_str("UnknownCommand"),
+    }
+}
+
+/// Puts an answer that is handed up, and the data that came with it.
+fn put_answer<P: Page>(page: &mut P, answer: &Answer, bytes: &[u8]) -> Result<(), NoRoom>
+    ensures { Adds P.room result (P.written page.old) (answer_text answer.now bytes.now) (P.written page.new) }
+{
+    match answer {
+        Answer::Done {
+            ticket,
+            status,
+            dw0,
+            ..
+        } => {
+            put_number(page, ticket.0)?;
+            page.put_str(" ")?;
+            put_status(page, *status)?;
+            page.put_str(" ")?;
+            put_hex_in(page, 8, u64::from(*dw0))?;
+            put_data(page, bytes)
+        }
+        Answer::Aborted { ticket } => {
+            put_number(page, ticket.0)?;
+            page.put_str(" aborted")
         }
     }
 }
 
-/// What came of an execution.
-#[derive(Clone, Copy)]
-struct ExecutedText<'a>(&'a BareExecuted);
-
-impl fmt::Display for ExecutedText<'_> {
-    ghost output = { λ text. Some (executed_text (executed_of text.0.now)) };
-
-    fn fmt<W: fmt::Write>(&self, f: &mut fmt::Formatter<W>) -> fmt::Result {
-        match self.0 {
-            BareExecuted::Posted(outcome) => write!(
-                f,
-                "posted {} {}",
-                outcome.status, outcome.rule
-            ),
-            BareExecuted::NoSuch => write!(f, "none"),
-            BareExecuted::CqFull => write!(f, "full"),
-        }
+/// Puts how many bytes came, and the bytes; where none came, nothing.
+pub fn put_data<P: Page>(page: &mut P, bytes: &[u8]) -> Result<(), NoRoom>
+    ensures { Adds P.room result (P.written page.old) (data_text bytes.now) (P.written page.new) }
+{
+    if bytes.is_empty() {
+        return page.put_str("");
     }
-}
-
-/// What a poll handed up, and the data that came with it.
-#[derive(Clone, Copy)]
-struct PolledText<'a> {
-    polled: &'a Result<Option<Answer>, PollFault>,
-    bytes: &'a [u8],
-}
-
-impl fmt::Display for PolledText<'_> {
-    ghost output = { λ text. Some (polled_text text.polled.now text.bytes.now) };
-
-    fn fmt<W: fmt::Write>(&self, f: &mut fmt::Formatter<W>) -> fmt::Result {
-        match self.polled {
-            Ok(Some(answer)) => {
-                let bytes = self.bytes;
-                write!(f, "{}", AnswerText { answer, bytes })
-            }
-            Ok(None) => write!(f, "nothing"),
-            Err(fault) => write!(f, "{fault}"),
-        }
-    }
-}
-
-/// An answer that is handed up, and the data that came with it.
-#[derive(Clone, Copy)]
-struct AnswerText<'a> {
-    answer: &'a Answer,
-    bytes: &'a [u8],
-}
-
-impl fmt::Display for AnswerText<'_> {
-    ghost output = { λ text. Some (answer_text text.answer.now text.bytes.now) };
-
-    fn fmt<W: fmt::Write>(&self, f: &mut fmt::Formatter<W>) -> fmt::Result {
-        match self.answer {
-            Answer::Done {
-                ticket,
-                status,
-                dw0,
-                ..
-            } => write!(f, "{} {status} {dw0:08x}{}", ticket.0, DataText(self.bytes)),
-            Answer::Aborted { ticket } => write!(f, "{} aborted", ticket.0),
-        }
-    }
-}
-
-/// How many bytes came, and the bytes; where none came, nothing.
-#[derive(Clone, Copy)]
-pub struct DataText<'a>(pub &'a [u8]);
-
-impl fmt::Display for DataText<'_> {
-    ghost output = { λ text. Some (data_text text.0.now) };
-
-    fn fmt<W: fmt::Write>(&self, f: &mut fmt::Formatter<W>) -> fmt::Result {
-        if self.0.is_empty() {
-            return Ok(());
-        }
-        write!(f, " {} {}", self.0.len(), HexText(self.0))
-    }
+    put_labelled(page, " ", bytes.len() as u64)?;
+    page.put_str(" ")?;
+    HexText(bytes).spell(page)
 }

@@ -2,6 +2,7 @@
 
 ghost use Rattle.std.specs.Prelude.{◌≡◌, ◌≢◌, [], OnOk, OnErr};
 ghost use Rattle.std.specs.Io.KnownBytes.{Appends};
+ghost use Rattle.script_text.specs.Pages.{Adds, most_text};
 ghost use Rattle.script_text.specs.Writing.{Cuts};
 ghost use Rattle.nvme_event.specs.Bare.{seen_of};
 ghost use Rattle.nvme_transcript.specs.Putting.{Puts};
@@ -9,23 +10,17 @@ ghost use Rattle.nvme_transcript.specs.Transcript.{event_text, seen_line};
 ghost use Rattle.nvme_transcript.specs.Writing.{WritesLine};
 ghost use Rattle.nvme_transcript.specs.declared.short.Put.TheVariants.{All};
 
-use crate::line::{DataText, TranscriptLine};
+use crate::line::{TranscriptLine, put_data};
 use crate::short::{Put, Short, put_line};
-use nvme_spec::MOST_BYTES;
-use script_text::{Sink, write_whole};
-use std::alloc::AllocError;
-use std::fmt::Write as _;
+use script_text::{NoRoom, Page, Sink, Spell, Text, write_whole};
 use std::io;
 use std::io::ErrorKind;
 
-/// How many bytes the longest line has, and a few more: the answer of a Read of 256 blocks.
-pub const LONGEST_LINE: usize = 2 * MOST_BYTES + 96;
-
-/// Writes a line of the transcript, by way of a text with room for it. Where that fails, not all of the line was
+/// Writes a line of the transcript, by way of a text. Where that fails, not all of the line was
 /// written, and nothing behind the write that failed.
 pub fn write_line<W: Sink>(
     writer: &mut W,
-    text: &mut String,
+    text: &mut Text,
     line: &TranscriptLine<'_>,
 ) -> io::Result<()>
     ensures writes { WritesLine W.step (seen_line line.now.event (seen_of line.now.seen.now) line.now.bytes.now)
@@ -51,21 +46,20 @@ pub fn write_line<W: Sink>(
 }
 
 /// Puts a line together in an empty text: its data behind what was put together of it before, or all of it.
-fn spell(
-    text: &mut String,
-    short: &str,
-    put: Put,
-    line: &TranscriptLine<'_>,
-) -> Result<(), AllocError>
-    requires empty { text.old.bytes.items ≡ [] }
+fn spell(text: &mut Text, short: &str, put: Put, line: &TranscriptLine<'_>) -> Result<(), NoRoom>
+    requires empty { text.old ≡ [] }
     requires put { Puts put line.now.bytes.now short.now
         (event_text line.now.event (seen_of line.now.seen.now) line.now.bytes.now) }
     requires not_all { put ≢ All }
-    ensures line { OnOk result
-        (text.new.bytes.items ≡ seen_line line.now.event (seen_of line.now.seen.now) line.now.bytes.now) }
+    ensures line { Adds most_text result [] (seen_line line.now.event (seen_of line.now.seen.now) line.now.bytes.now)
+        text.new }
 {
     match put {
-        Put::AllButData => writeln!(text, "{short}{}", DataText(line.bytes)),
-        _ => writeln!(text, "{line}"),
+        Put::AllButData => {
+            text.put_str(short)?;
+            put_data(text, line.bytes)?;
+        }
+        _ => line.spell(text)?,
     }
+    text.put_str("\n")
 }

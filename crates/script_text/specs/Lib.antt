@@ -3,6 +3,7 @@ pub mod Front
 pub mod HexText
 pub mod Lines
 pub mod Numbers
+pub mod Pages
 pub mod Reading
 pub mod StreamLaws
 pub mod Streams

@@ -1,11 +1,12 @@
 //! Data in a transcript: hexadecimal, without the zero bytes at the end.
 
-ghost use Rattle.std.specs.Prelude.{◌≡◌, ◌<◌, ◌≤◌, ◌==◌, false, length, map, take, Some};
+ghost use Rattle.std.specs.Prelude.{◌≡◌, ◌<◌, ◌≤◌, ◌==◌, false, length, map, take};
 ghost use Rattle.std.specs.Fmt.{digit_glyph};
 ghost use Rattle.std.specs.List.{flat_map, list_all};
+ghost use Rattle.script_text.specs.Pages.{Adds};
 ghost use Rattle.script_text.specs.HexText.{hex_pair, high_digit, low_digit, hex_or_dash, without_trailing_zeros};
 
-use std::fmt;
+use crate::page::{NoRoom, Page, Spell};
 
 /// How many bytes are put into digits at a time.
 const CHUNK: usize = 128;
@@ -134,19 +135,27 @@ fn text_of<'a>(rest: &[u8], digits: &'a mut [u8; 2 * CHUNK]) -> &'a str
     unsafe { str::from_utf8_unchecked(&digits[..2 * rest.len()]) }
 }
 
-impl fmt::Display for HexText<'_> {
-    ghost output = { λ t. Some (hex_or_dash (without_trailing_zeros t.0.now)) };
+impl Spell for HexText<'_> {
+    ghost spelled = { λ t. hex_or_dash (without_trailing_zeros t.0.now) };
 
-    fn fmt<W: fmt::Write>(&self, f: &mut fmt::Formatter<W>) -> fmt::Result {
-        let mut rest = trimmed(self.0);
+    fn spell<P: Page>(&self, page: &mut P) -> Result<(), NoRoom> {
+        let rest = trimmed(self.0);
         if rest.is_empty() {
-            return f.write_str("-");
+            return page.put_str("-");
         }
-        let mut digits = [0; 2 * CHUNK];
-        while let Some((chunk, behind)) = rest.split_first_chunk::<CHUNK>() {
-            f.write_str(text_of_chunk(chunk, &mut digits))?;
-            rest = behind;
-        }
-        f.write_str(text_of(rest, &mut digits))
+        put_digits(page, rest)
     }
+}
+
+/// Puts bytes in hexadecimal.
+fn put_digits<P: Page>(page: &mut P, bytes: &[u8]) -> Result<(), NoRoom>
+    ensures { Adds P.room result (P.written page.old) (flat_map hex_pair bytes.now) (P.written page.new) }
+{
+    let mut rest = bytes;
+    let mut digits = [0; 2 * CHUNK];
+    while let Some((chunk, behind)) = rest.split_first_chunk::<CHUNK>() {
+        page.put_str(text_of_chunk(chunk, &mut digits))?;
+        rest = behind;
+    }
+    page.put_str(text_of(rest, &mut digits))
 }

@@ -7,10 +7,12 @@ mod data;
 mod decoding;
 mod examples;
 mod front;
+mod hex_number;
 mod hex_text;
 pub mod laws;
 mod lines;
 mod number;
+mod page;
 mod reading;
 mod stream;
 mod words;
@@ -18,9 +20,13 @@ mod writing;
 
 pub use data::{bytes_in, data_in, is_data};
 pub use front::{FrontNumber, front_number};
+pub use hex_number::{put_byte_between, put_hex, put_hex_in};
 pub use hex_text::HexText;
 pub use lines::{front_line, line_bound};
 pub use number::{number_u8, number_u16, number_u32, number_u64, number_u128};
+pub use page::{
+    MOST_TEXT, NoRoom, Page, Spell, Text, put_both, put_labelled, put_number, put_three,
+};
 pub use reading::{ReadFault, read_text};
 pub use stream::{Sink, Source};
 pub use words::{

@@ -18,7 +18,6 @@ TABLE = "a table, of a line or two for each case"
 LONG_BODIES: Dict[Tuple[str, str], Tuple[int, str]] = {
     ("crates/nvme_grammar/src/keyword.rt", "Keyword::places"): (67, TABLE),
     ("crates/nvme_program/src/reason.rt", "ReasonDisplay::fmt"): (61, TABLE),
-    ("crates/nvme_grammar/src/fault_text.rt", "WhyDisplay::fmt"): (40, TABLE),
     ("crates/controller_tests/src/tests/ns.rt", "tests::ns::faults_are_named"): (43, TABLE),
     ("crates/controller_tests/src/tests/driver.rt", "tests::driver::an_unknown_completion_fails_the_driver"):
         (43, TABLE),

@@ -33,6 +33,8 @@ KNOWN = {
     ("crates/nvme_fleet/src/running.rt", "let _fits = bytes.extend_from_slice(self.data());"),
     # The text of a short line has a fixed size.
     ("crates/nvme_transcript/src/writing.rt", 'short.push_str("\\n");'),
+    # A text has room for a whole line from the beginning, and is not asked for more.
+    ("crates/script_text/src/page.rt", "match self.bytes.extend_from_slice(piece.as_bytes()) {"),
     # `parse`.
     ("crates/nvme_grammar/src/script.rt", "Line::Event(event) => self.events.push(KeptEvent::of(event, before))?,"),
     ("crates/nvme_grammar/src/script.rt",

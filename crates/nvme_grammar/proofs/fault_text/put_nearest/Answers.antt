@@ -1,0 +1,4 @@
+use Rattle.nvme_grammar.proofs.fault_text.put_nearest.Goals as goal
+
+pub returns : goal.returns
+returns g c = rw (c.in-Some.is, ← c.text.ensures) c.put_three.ensures
