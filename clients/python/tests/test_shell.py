@@ -8,7 +8,7 @@ import subprocess
 import sys
 import time
 import unittest
-from typing import Dict, List, Sequence, Tuple
+from typing import Dict, List, Optional, Sequence, Tuple
 
 from nvmesim import Status
 from nvmesim.shell.statuses import status_lines
@@ -21,6 +21,8 @@ RESERVED = ["up 1", "register 1 1 0 0 3 0 0x11", "ring 1", "fetch 1 1", "execute
             "acquire 1 1 0 1 0x11 0", "ring 1", "fetch 1 1", "execute 1 0", "poll 1"]
 HELD = ["namespace 1: Write Exclusive (RTYPE 1), held by host a1h; generation 1; persists through a loss of power; "
         "not write protected", "    host a1h with key 11h, a holder; controller 1"]
+# Ctrl-C, as a terminal sends it.
+INTERRUPT = b"\x03"
 
 
 def environment() -> Dict[str, str]:
@@ -174,7 +176,7 @@ class ShellTest(FolderCase):
 
     def test_a_terminal(self) -> None:
         """Lines are edited, completed and kept; Ctrl-C forgets one, and Ctrl-D ends the session."""
-        keys = [(b"> ", b"controller 1 host 1\n"), (b"ok\r\n> ", b"forgotten"), (b"forgotten", b"\x03"),
+        keys = [(b"> ", b"controller 1 host 1\n"), (b"ok\r\n> ", b"forgotten"), (b"forgotten", INTERRUPT),
                 (b"session\r\n> ", b"?stat\t0:83\n"), (b"detached\r\n> ", b"\x1b[A\x1b[A\n"),
                 (b"ok\r\n> ", b"list\n"), (b"  2  controller 1 host 1\r\n> ", b"\x04")]
         status, shown = at_terminal([sys.executable, "-m", "nvmesim", "shell"], keys)
@@ -190,19 +192,30 @@ def at_terminal(command: Sequence[str], keys: Sequence[Tuple[bytes, bytes]]) -> 
     child, terminal = pty.fork()
     if child == 0:
         os.execvpe(command[0], list(command), {**environment(), "TERM": "xterm"})
-    shown, until = b"", time.monotonic() + 120
+    shown, last, until = b"", b"", time.monotonic() + 60
     for wanted, typed in [*keys, (b"\0never", b"")]:
-        begin = len(shown)
-        while wanted not in shown[begin:] and select.select([terminal], [], [], max(0.0, until - time.monotonic()))[0]:
-            try:
-                piece = os.read(terminal, 65536)
-            except OSError:  # the other side is closed
-                break
-            shown += piece
+        begin, piece = len(shown), b""
+        while piece is not None and wanted not in shown[begin:] and time.monotonic() < until:
+            piece = shown_next(terminal, last)
+            shown += piece or b""
         if typed:
             os.write(terminal, typed)
+        last = typed
     os.close(terminal)
     return os.waitstatus_to_exitcode(os.waitpid(child, 0)[1]), shown.decode("utf-8", "replace")
+
+
+def shown_next(terminal: int, last: bytes) -> Optional[bytes]:
+    """What a terminal shows next; None where the other side is closed. Ctrl-C is typed again where nothing follows it
+    for a second: Python's readline passes over a signal that comes while it shows a key."""
+    if not select.select([terminal], [], [], 1)[0]:
+        if last == INTERRUPT:
+            os.write(terminal, last)
+        return b""
+    try:
+        return os.read(terminal, 65536)
+    except OSError:
+        return None
 
 
 if __name__ == "__main__":
