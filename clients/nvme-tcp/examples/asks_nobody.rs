@@ -1,5 +1,6 @@
-//! A server that answers as the target does, and asks nobody: reads of zeros, and writes that go nowhere. What the
-//! target takes beside it is what the subsystem takes. `asks_nobody ADDRESS`.
+//! A server that answers the same bytes as the target, and asks nobody: it keeps blocks in memory, and judges no command.
+//! What the target takes beside it is what the subsystem takes. It believes what `load` sends. `asks_nobody ADDRESS
+//! [nothing]`; with that word it keeps no blocks, reads are of zeros, and writes go nowhere.
 #![deny(unsafe_code)]
 
 #[allow(dead_code)]
@@ -21,7 +22,7 @@ mod poll;
 #[path = "../src/window.rs"]
 mod window;
 
-use bytes::{put, u16_at, u32_at};
+use bytes::{put, u16_at, u32_at, u64_at};
 use output::Output;
 use pdu::{Agreed, Layout};
 use poll::{Interest, Poll};
@@ -31,17 +32,44 @@ use std::io::{Read, Result, Write};
 use std::net::{TcpListener, TcpStream};
 
 const PLAIN: Agreed = Agreed { header_digests: false, data_digests: false, alignment: 0 };
+const BYTES: usize = 32768 * 512;
+
+/// The bytes of the blocks, or none, where nothing is kept.
+struct Blocks(Vec<u8>);
+
+impl Blocks {
+    /// Puts data at a place.
+    fn write(&mut self, place: usize, data: &[u8]) {
+        if let Some(blocks) = self.0.get_mut(place..place + data.len()) {
+            blocks.copy_from_slice(data);
+        }
+    }
+
+    /// What stands at a place.
+    fn read(&self, place: usize, room: &mut [u8]) {
+        match self.0.get(place..place + room.len()) {
+            Some(blocks) => room.copy_from_slice(blocks),
+            None => room.fill(0),
+        }
+    }
+}
 
 struct Connection {
     socket: TcpStream,
     input: Vec<u8>,
     end: usize,
     output: Output,
+    /// The places of the data that commands were asked for, by their identifiers.
+    asked: HashMap<u16, usize>,
 }
 
 impl Connection {
+    fn new(socket: TcpStream) -> Connection {
+        Connection { socket, input: vec![0; 256 << 10], end: 0, output: Output::default(), asked: HashMap::new() }
+    }
+
     /// Serves what has come; whether the host is still there.
-    fn serve(&mut self) -> bool {
+    fn serve(&mut self, blocks: &mut Blocks) -> bool {
         match self.socket.read(&mut self.input[self.end..]) {
             Ok(0) | Err(_) => return false,
             Ok(count) => self.end += count,
@@ -55,7 +83,7 @@ impl Connection {
             if self.end - at < layout.length {
                 break;
             }
-            answer(&mut self.output, &layout, &self.input[at..at + layout.length]);
+            answer(&mut self.output, blocks, &mut self.asked, &layout, &self.input[at..at + layout.length]);
             at += layout.length;
         }
         self.input.copy_within(at..self.end, 0);
@@ -66,23 +94,30 @@ impl Connection {
     }
 }
 
-fn answer(out: &mut Output, layout: &Layout, unit: &[u8]) {
+fn answer(out: &mut Output, blocks: &mut Blocks, asked: &mut HashMap<u16, usize>, layout: &Layout, unit: &[u8]) {
     if layout.kind == pdu::IC_REQUEST {
         return pdu::ic_response(out, PLAIN);
     }
-    let (opcode, cid) = (unit[8], u16_at(unit, 10));
     if layout.kind == pdu::HOST_DATA {
+        let (cid, _, offset, _) = pdu::host_data_fields(unit);
+        blocks.write(asked[&cid] + offset, layout.data_in(unit));
         if layout.flags & pdu::LAST != 0 {
-            complete(out, u16_at(unit, 8));
+            complete(out, cid);
         }
         return;
     }
-    let length = u32_at(unit, 40) as usize;
+    let (opcode, cid, length) = (unit[8], u16_at(unit, 10), u32_at(unit, 40) as usize);
+    // What Connect has there is no block, and is not looked at.
+    let place = (u64_at(unit, 48) as usize).wrapping_mul(512) % BYTES;
     match opcode {
-        0x01 if layout.data_length == 0 => return pdu::ready_to_transfer(out, PLAIN, cid, 0, length),
+        0x01 if layout.data_length == 0 => {
+            asked.insert(cid, place);
+            return pdu::ready_to_transfer(out, PLAIN, cid, 0, length);
+        }
+        0x01 => blocks.write(place, layout.data_in(unit)),
         0x02 => {
             let _ = pdu::controller_data::<Infallible>(out, PLAIN, cid, length, |room| {
-                room.fill(0);
+                blocks.read(place, room);
                 Ok(())
             });
         }
@@ -99,7 +134,9 @@ fn complete(out: &mut Output, cid: u16) {
 }
 
 fn main() -> Result<()> {
-    let listener = TcpListener::bind(std::env::args().nth(1).expect("an address"))?;
+    let words: Vec<String> = std::env::args().collect();
+    let mut blocks = Blocks(vec![0; if words.len() > 2 { 0 } else { BYTES }]);
+    let listener = TcpListener::bind(&words[1])?;
     println!("asks nobody at {}", listener.local_addr()?);
     let (mut poll, to_read) = (Poll::new()?, Interest { read: true, write: false });
     poll.add(&listener, 0, to_read)?;
@@ -111,10 +148,9 @@ fn main() -> Result<()> {
                 let (socket, _) = listener.accept()?;
                 socket.set_nodelay(true)?;
                 poll.add(&socket, next, to_read)?;
-                connections
-                    .insert(next, Connection { socket, input: vec![0; 256 << 10], end: 0, output: Output::default() });
+                connections.insert(next, Connection::new(socket));
                 next += 1;
-            } else if !connections.get_mut(&it.name).map_or(false, Connection::serve) {
+            } else if !connections.get_mut(&it.name).map_or(false, |it: &mut Connection| it.serve(&mut blocks)) {
                 connections.remove(&it.name);
             }
         }
