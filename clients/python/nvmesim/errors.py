@@ -122,16 +122,21 @@ class NvmeError(NvmesimError):
         line: the request's line.
         status: the status, with its code and its standard name.
         rule: the rule that denied the command; `Rule.NONE` where it was allowed and then failed.
+        cause: which field has which value, and what it met, where rule 6 or 11 denied the command and the call of this
+            request executed it; else an empty text.
     """
 
-    def __init__(self, line: str, status: Status, rule: Rule) -> None:
+    def __init__(self, line: str, status: Status, rule: Rule, cause: str = "") -> None:
         words = f"{status.text} ({status.code})"
         if rule is not Rule.NONE:
             words += f" by rule {rule.value}: {rule.words}"
+        if cause:
+            words += f": {cause}"
         super().__init__(f"{line!r} was answered {words}")
         self.line = line
         self.status = status
         self.rule = rule
+        self.cause = cause
 
 
 class RequestAborted(NvmesimError):

@@ -6,6 +6,7 @@ from typing import Dict, Optional, Union
 
 from . import lines, looks
 from .answers import Polled, Refused, Reset, Rung, Up
+from .causes import cause_of
 from .controllers import Controller, ControllersLike, answer_of, numbers_of
 from .enums import (AcquireAction, ExecuteOutcome, Persistence, PollOutcome, Protection, RegisterAction, ReleaseAction,
                     ReservationType, Status)
@@ -13,6 +14,7 @@ from .errors import NotDone, NvmeError, RequestAborted, RequestRefused
 from .history import Command
 from .lines import Bytes
 from .reports import ReservationReport, parse_report
+from .script import Configuration
 from .session import Session
 from .words import refused_words
 
@@ -232,8 +234,9 @@ class Host:
             raise NotDone(f"controller {self.number} has placed no request under ticket {ticket} here")
         if command.polled is not None and ticket not in self.answers:
             raise NotDone(f"the answer of ticket {ticket} of controller {self.number} was delivered before")
+        cause = ""
         if command.reset is None and command.polled is None:
-            self._execute(command)
+            cause = self._execute(command)
         while ticket not in self.answers:
             polled = self.poll()
             if polled.ticket is None:
@@ -244,16 +247,19 @@ class Host:
         if answer.outcome is PollOutcome.ABORTED or answer.status is None:
             raise RequestAborted(line)
         if answer.status is not Status.SUCCESSFUL_COMPLETION:
-            raise NvmeError(line, answer.status, command.rule)
+            raise NvmeError(line, answer.status, command.rule, cause)
         return answer
 
-    def _execute(self, command: Command) -> None:
-        """Has a request rung, fetched and executed, as far as it is not."""
+    def _execute(self, command: Command) -> str:
+        """Has a request rung, fetched and executed, as far as it is not; why it was denied, where that can be said."""
         if command.rung is None:
             self.ring()
         while command.fetched is None:
             if not self.controller.fetch(command.queue).took:
                 raise NotDone(f"controller {self.number} fetches nothing more from queue {command.queue}")
         place = self._session.follower.place_of(command)
-        if place is not None and self.controller.execute(place).outcome is not ExecuteOutcome.POSTED:
+        if place is None:
+            return ""
+        if self.controller.execute(place).outcome is not ExecuteOutcome.POSTED:
             raise NotDone(f"controller {self.number} has no room for a completion")
+        return cause_of(command, Configuration({self.number: self.host}, (), {}), self._session.look)

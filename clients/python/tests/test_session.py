@@ -56,10 +56,15 @@ class UserTest(unittest.TestCase):
                 for host in (one, two):
                     host.up()
                     host.register(disk, new_key=host.host)
+                with self.assertRaises(NvmeError) as caught:
+                    one.acquire(disk, ReservationType.WRITE_EXCLUSIVE, 0xC3)
+                self.assertIs(caught.exception.rule, Rule.ACTION)
+                self.assertEqual(caught.exception.cause, "CRKEY is c3h, and host a1h has registered key a1h")
+                self.assertTrue(str(caught.exception).endswith(f": {caught.exception.cause}"))
                 one.acquire(disk, ReservationType.WRITE_EXCLUSIVE, one.host)
                 with self.assertRaises(NvmeError) as caught:
                     two.write(disk, 0, b"b2")
-                self.assertIs(caught.exception.rule, Rule.RESERVATION)
+                self.assertEqual((caught.exception.rule, caught.exception.cause), (Rule.RESERVATION, ""))
                 told = subsystem.reservation(disk)
                 self.assertEqual((told.rtype, told.holder, told.registrants),
                                  (ReservationType.WRITE_EXCLUSIVE, 0xA1, {0xA1: 0xA1, 0xB2: 0xB2}))
