@@ -113,6 +113,20 @@ class StepTest(unittest.TestCase):
         self.assertEqual(len(set(each)), len(each), each)
         self.assertIn("# The device answers 0:00, and the model 0:80.", each)
 
+    def test_a_terminal_is_told_how_far_it_is(self) -> None:
+        class Terminal(io.StringIO):
+            def isatty(self) -> bool:
+                return True
+
+        words = argparse.Namespace(seed=5, scenes=2, length=30, all=False, output=None)
+        for stream, told in ((Terminal(), "\rscene 1 of 2\033[K\r\033[K\rscene 2 of 2\033[K\r\033[K"),
+                             (io.StringIO(), "")):
+            judge = Judge([Zeros()], [PLAIN], STANDIN)
+            with mock.patch.object(judge, "play", lambda _: None), contextlib.redirect_stdout(io.StringIO()), \
+                    contextlib.redirect_stderr(stream):
+                self.assertEqual(compare(words, judge), 0)
+            self.assertEqual(stream.getvalue(), told)
+
     def test_a_device_that_goes_away_behind_a_difference(self) -> None:
         """The difference is told as it was found, and the search ends there."""
         class Gone(Zeros):

@@ -101,7 +101,9 @@ def compare(words: argparse.Namespace, judge: Judge) -> int:
     """Plays the scenes, and prints the first difference, or one of each kind; the exit status."""
     told: Set[Tuple[str, str, str]] = set()
     for number in range(words.seed, words.seed + words.scenes):
+        _show(f"scene {number - words.seed + 1} of {words.scenes}")
         found = judge.play(scene(number, judge.hosts, words.length))
+        _show("")
         if found is None:
             continue
         if _kind(found) in told:
@@ -119,6 +121,12 @@ def compare(words: argparse.Namespace, judge: Judge) -> int:
         return _DIFFERS
     print(f"no difference in {words.scenes} scenes of {words.length} commands, from seed {words.seed} on")
     return 0
+
+
+def _show(text: str) -> None:
+    """Says on a terminal how far it is, in place of what was said before."""
+    if sys.stderr.isatty():
+        print(f"\r{text}\033[K", end="", file=sys.stderr, flush=True)
 
 
 def _shortened(judge: Judge, found: Difference) -> Tuple[Difference, bool]:
