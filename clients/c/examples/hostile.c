@@ -2,7 +2,7 @@
  * that nvmelive takes for these events to LINES, and what each gave as nvmelive answers to ANSWERS, so that both can be
  * compared: the same answers, and the same bytes in the image.
  *
- *     cc hostile.c $(pkg-config --cflags --libs nvmesim) -o hostile
+ *     cc hostile.c $(pkg-config --cflags --libs nvmesim) -o hostile && truncate -s 32K other.img
  *     ./hostile 1000000 1 one.img LINES ANSWERS && nvmelive other.img <LINES | cmp - ANSWERS && cmp one.img other.img
  */
 #define _POSIX_C_SOURCE 200809L

@@ -12,12 +12,14 @@ VERSION = "1"
 CRATE = "nvme_library"
 MOST_TOLD = 4000
 PKGCONFIG = """prefix=${{pcfiledir}}/../..
+includedir=${{prefix}}/include
+libdir=${{prefix}}/lib
 
 Name: nvmesim
 Description: A proved NVMe subsystem that several hosts share
 Version: {version}
-Cflags: -I${{prefix}}/include
-Libs: -L${{prefix}}/lib -lnvmesim
+Cflags: -I${{includedir}}
+Libs: -L${{libdir}} -lnvmesim
 """
 
 
@@ -57,16 +59,29 @@ def proved_archive(top):
     return folder / "out" / f"lib{CRATE}.a"
 
 
-def built_archive(top):
-    """The archive, where it is built and no source is newer; else None."""
+def unproved_archive(top):
+    """Where the archive is kept that is built without its proofs."""
+    return top / "out" / "library" / "libnvmesim-unproved.a"
+
+
+def is_newer(archive, sources):
+    """Whether an archive is there, and newer than its sources."""
+    return archive.is_file() and archive.stat().st_mtime > sources
+
+
+def built_archives(top):
+    """The archives that are built, of whose sources none is newer: the proved one first, if it is there."""
     try:
         rt = toolchain.load(top)
     except toolchain.NoToolchain:
-        return None
+        return []
     crate = toolchain.crates_of(rt, str(top))[CRATE]
-    archive = Path(crate.folder, "out", f"lib{CRATE}.a")
     newest = max(proving.newest_source(it) for it in [*crate.below(), crate])
-    return archive if archive.is_file() and archive.stat().st_mtime > newest else None
+    # The one without its proofs has functions by the header, too.
+    makers = [top / "clients/c/nvmesim.h", *Path(__file__).parent.glob("*.py")]
+    proved, unproved = Path(crate.folder, "out", f"lib{CRATE}.a"), unproved_archive(top)
+    found = [proved] if is_newer(proved, newest) else []
+    return [*found, unproved] if is_newer(unproved, max(newest, *(it.stat().st_mtime for it in makers))) else found
 
 
 def whole_object(archive, room):
@@ -104,3 +119,10 @@ def put(top, archive, prefix):
     shutil.copyfile(top / "clients" / "c" / "nvmesim.h", prefix / "include" / "nvmesim.h")
     text = PKGCONFIG.format(version=VERSION)
     (prefix / "lib" / "pkgconfig" / "nvmesim.pc").write_text(text, encoding="utf-8")
+
+
+def put_examples(top, prefix):
+    """Puts the examples for C, and the crate for Rust with its own, under a folder."""
+    share, passed = prefix / "share" / "nvmesim", shutil.ignore_patterns("target", "out")
+    shutil.copytree(top / "clients/c/examples", share / "examples/c", dirs_exist_ok=True)
+    shutil.copytree(top / "clients/rust", share / "rust", ignore=passed, dirs_exist_ok=True)

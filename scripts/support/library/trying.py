@@ -105,6 +105,9 @@ class Trial:
             status, text = self.run([program, "3"])
             problem = (status or text) and f"status {status}\n{text}"
         self.check("the tests of the one without proofs", problem)
+        kept = building.built_archives(self.top)
+        self.check("what scripts/install takes: the proved one, and else that",
+                   kept[1:] != [building.unproved_archive(self.top)] and f"{kept}")
 
     def rust(self):
         """The crate: its tests, those in its documents, the example, and where it is unsafe."""
@@ -114,6 +117,9 @@ class Trial:
         status, text = self.run([*words[:1], "test", *words[1:], "--locked", "--manifest-path", crate / "Cargo.toml"],
                                 env=environment)
         self.check("the crate for Rust", status and text)
+        if shutil.which("pkg-config"):
+            del environment["NVMESIM_LIB"]
+            environment["PKG_CONFIG_PATH"] = str(self.prefix / "lib/pkgconfig")
         status, text = self.run([*words[:1], "run", *words[1:], "--locked", "--manifest-path", crate / "Cargo.toml",
                                  "--example", "two_hosts"], env=environment)
         wanted = (self.clients / "examples/two_hosts.out").read_text(encoding="utf-8")

@@ -13,7 +13,7 @@ from typing import Dict, List, Tuple
 
 from support.building import unproved
 from support.library import header
-from support.library.building import CRATE, NotBuilt, call, put
+from support.library.building import CRATE, NotBuilt, call, put, unproved_archive
 
 LENT = "nvme_lent"
 # What the header declares of a call: its result, and its parameters.
@@ -125,8 +125,8 @@ def compiled(kit: unproved.Kit, room: Path, top: Path) -> Path:
     return room / "unproved.a"
 
 
-def build(top: Path, prefix: Path) -> None:
-    """Builds the library without its proofs, and puts it under a folder."""
+def archive(top: Path) -> Path:
+    """Builds the archive without its proofs, and keeps it; where it is."""
     with tempfile.TemporaryDirectory(prefix="nvmesim-unproved-") as place:
         room = Path(place)
         try:
@@ -137,4 +137,13 @@ def build(top: Path, prefix: Path) -> None:
             unproved.kept_module(kit, CRATE, room)
         except (unproved.NotBuilt, unproved.toolchain.NoToolchain) as error:
             raise NotBuilt(str(error)) from error
-        put(top, compiled(kit, room, top), prefix)
+        kept = unproved_archive(top)
+        kept.parent.mkdir(parents=True, exist_ok=True)
+        # Whoever reads it meanwhile has a whole one.
+        shutil.copyfile(compiled(kit, room, top), kept.with_suffix(".new"))
+        return kept.with_suffix(".new").replace(kept)
+
+
+def build(top: Path, prefix: Path) -> None:
+    """Builds the library without its proofs, and puts it under a folder."""
+    put(top, archive(top), prefix)
