@@ -24,7 +24,7 @@ use Rattle.nvme_live.specs.Asking.{asked}
 use Rattle.nvme_live.specs.Saying.{with_feed}
 use Rattle.nvme_live.specs.Settling.{Comes, SettlesAlike}
 use Rattle.nvme_live.specs.Standings.{MayLackRoom, Standing, Setting, Running, Turn, TurnOf}
-use Rattle.nvme_live.specs.Conversations.{CanStarve, ComesToStart, Converses, Ends, EndsBy, Starves, Stops, Uncounted, Unread, alone, standing_over}
+use Rattle.nvme_live.specs.Conversations.{CanRun, CanStarve, ComesToStart, Converses, Ends, EndsBy, Starves, Stops, Uncounted, Unread, alone, standing_over}
 use Rattle.nvme_live.specs.Streams.{Failed, GivesLine, LineCall, Says, Sending, Sent}
 use Rattle.nvme_live.specs.Taking.{kept}
 use Rattle.nvme_live.proofs.Takings.{kept-all, kept-short}
@@ -98,7 +98,7 @@ module _ {S R W : Type 0} (Turns : ℕ → S → List ℕ → List ℕ → S →
       unsent = unsent;
     }
 
-    pub line-starves : (standing : S → Standing) (says : Line) → asked reads.0 ≡ Sets says → CanStarve (standing b) says → z ≡ y → Starves Turns Reads Sends standing first a b u w x z
+    pub line-starves : (standing : S → Standing) (says : Line) → asked reads.0 ≡ Sets says → CanStarve (standing b) says (CanRun Turns standing k b reads.0) → z ≡ y → Starves Turns Reads Sends standing first a b u w x z
     line-starves standing says sets starved same = record {
       next = k;
       between = v;

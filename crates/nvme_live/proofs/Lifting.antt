@@ -8,7 +8,8 @@ use Rattle.nvme_fleet.specs.FleetStates.{Layers}
 use Rattle.nvme_program.specs.declared.fault.ScriptFault.{ScriptFault}
 use Rattle.nvme_program.specs.declared.fault.ScriptFault.TheVariants.{Syntax, Config, TooLong, NoMemory, Read, Write}
 use Rattle.nvme_live.specs.AnswerCalls.{TurnOver}
-use Rattle.nvme_live.specs.Conversations.{Converses, Ends, EndsBy, Stops, alone, standing_over}
+use Rattle.nvme_grammar.specs.declared.line.Line.{Line}
+use Rattle.nvme_live.specs.Conversations.{CanRun, CanStarve, Converses, Ends, EndsBy, Stops, alone, standing_over}
 use Rattle.nvme_live.specs.SetUps.{SetUp}
 use Rattle.nvme_live.specs.Standings.{LineByLine, Over, Running, Setting, Standing, TurnOf}
 use Rattle.nvme_live.specs.Streams.{LineCall, Sending}
@@ -90,6 +91,11 @@ module _ {M : Type 0} (step : M → MediumCall → M → Type 0) (tells : Bool) 
         by (Running l) conversed turn unsent = absurd (not-running b turn.0 turn.2)
         by (Over k fault) conversed turn unsent = absurd turn
 
+    starves-over : (n : ℕ) (s : SetUp) (line : List ℕ) (says : Line) → CanStarve (Setting s) says (CanRun (TurnOf tells blocks d) alone n (Setting s) line)
+        → CanStarve (Setting s) says (CanRun (TurnOver step tells blocks d) standing_over n (over (Setting s) m) line)
+    starves-over n s line says (inl (is, (answer, later, turn, l, runs))) = inl (is, (answer, over later m, (turn, refl), l, runs))
+    starves-over n s line says (inr crowded) = inr crowded
+
     pub ends_by-over : (fault : ScriptFault) (a b : SetUp) (u w : R) (x z : W) → EndsBy fault (TurnOf tells blocks d) Reads Sends alone 1 (Setting a) (Setting b) u w x z
         → EndsBy fault (TurnOver step tells blocks d) Reads Sends standing_over 1 (over (Setting a) m) (over (Setting b) m) u w x z
     ends_by-over (Config k f) a b u w x z (next, conversed, is) = (next, conversed-over a b next u w x z conversed, is)
@@ -104,7 +110,7 @@ module _ {M : Type 0} (step : M → MediumCall → M → Type 0) (tells : Bool) 
       taken = h.taken;
       says = h.says;
       sets = h.sets;
-      starved = h.starved;
+      starved = starves-over h.next b h.line h.says h.starved;
     })
     ends_by-over NoMemory a b u w x z (inr h) = inr (stops-over _ a b u w x z h)
     ends_by-over (Syntax k) a b u w x z h = absurd h

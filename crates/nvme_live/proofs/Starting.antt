@@ -1,15 +1,16 @@
 -- What `start` comes to.
-use Rattle.std.proofs.Common.{◌≡◌, ◌≢◌, ◌+◌, ℕ, Bool, List, Option, None, Some, inl, refl, sym, ap, subst, ◌∙◌}
-use Rattle.std.specs.Prelude.{false, is_some, unwrap_or, Result, Ok, Err, IfOk, IfErr}
+use Rattle.std.proofs.Common.{◌≡◌, ◌≢◌, ◌+◌, ◌⊎◌, ℕ, Bool, List, Option, None, Some, inl, inr, refl, sym, ap, subst, ◌∙◌}
+use Rattle.std.specs.Prelude.{true, false, if◌then◌else◌, is_some, nat_lt, unwrap_or, Result, Ok, Err, IfOk, IfErr}
 use Rattle.std.specs.List.{list_any}
 use Rattle.nvme_spec.specs.Blocks.{Device}
 use Rattle.nvme_spec.specs.MediumCalls.{MediumCall}
 use Rattle.nvme_subsys.specs.OverMedium.{over}
-use Rattle.nvme_spec.specs.Configuration.{Configuration, empty_configuration, first_config_fault}
+use Rattle.nvme_spec.specs.Configuration.{Configuration, empty_configuration, first_config_fault, has_bad_id, has_bad_size, has_too_many, total_blocks}
 use Rattle.nvme_program.specs.declared.configuration.BrokenRule.{BrokenRule}
 use Rattle.nvme_live.specs.SetUps.{SetUp, numbered_reason}
+use Rattle.nvme_live.specs.SetUpLaws.{RunsWhereAccepted}
 use Rattle.nvme_spec.specs.declared.config.ConfigFault.{ConfigFault}
-use Rattle.nvme_spec.specs.declared.config.ConfigFault.TheVariants.{NoMemory as WantOfMemory}
+use Rattle.nvme_spec.specs.declared.config.ConfigFault.TheVariants.{BadId, BadSize, DoesNotFit, NoMemory as WantOfMemory, TooMany}
 use Rattle.nvme_machine.specs.Subsystems as machine
 use Rattle.nvme_fleet.specs.FleetStates.{Layers, opening_layers}
 use Rattle.nvme_ns.specs.Configured.{configuration}
@@ -26,10 +27,10 @@ use Rattle.nvme_live.specs.declared.asking.Asked.{Asked}
 use Rattle.nvme_live.specs.declared.asking.Asked.TheVariants.{Sets}
 use Rattle.nvme_live.specs.Asking.{asked}
 use Rattle.nvme_live.specs.AnswerCalls.{TurnOver}
-use Rattle.nvme_live.specs.Conversations.{ComesToStart, Converses, Ends, EndsBy, FromStart, standing_over}
+use Rattle.nvme_live.specs.Conversations.{CanRun, ComesToStart, Converses, Ends, EndsBy, FromStart, standing_over}
 use Rattle.nvme_live.specs.Lives.{Rests, StartFails, StartRefused, device_in}
 use Rattle.nvme_live.specs.Saying.{LacksRoom, with_feed}
-use Rattle.nvme_live.specs.Standings.{Standing, Setting, Running, Over, Starts, Turn, refused_text, started_text}
+use Rattle.nvme_live.specs.Standings.{MayLackRoom, Standing, Setting, Running, Over, Starts, Turn, refused_text, started_text}
 use Rattle.nvme_live.specs.Streams.{Came, LineCall, Says, Sending, Sent}
 use Rattle.nvme_live.proofs.Lifting.{conversed-over}
 use Rattle.nvme_live.proofs.Sessions.{conversed-none, conversed-one, ends-behind, ends_by-behind}
@@ -40,6 +41,25 @@ accepted-start o blocks d n s e = subst (λ (p : Option ConfigFault). Starts p b
 refuses : (o : Option ConfigFault) (fault : ConfigFault) → fault ≡ unwrap_or o WantOfMemory → fault ≢ WantOfMemory → o ≡ Some fault
 refuses None fault e other = absurd (other e)
 refuses (Some f) fault e other = ap Some (sym e)
+
+-- want of memory is the fault of no configuration
+never-wanting : (c : Configuration) (blocks : ℕ) → first_config_fault c blocks ≡ Some WantOfMemory → ⊥
+unfolding first_config_fault
+never-wanting c blocks = by (has_too_many c) (has_bad_id c) (has_bad_size c.namespaces) (nat_lt blocks (total_blocks c.namespaces))
+  where
+    by : (many id size room : Bool) → (if many then Some TooMany else (if id then Some BadId else (if size then Some BadSize else (if room then Some DoesNotFit else None)))) ≡ Some WantOfMemory → ⊥
+    by true id size room e = cc
+    by false true size room e = cc
+    by false false true room e = cc
+    by false false false true e = cc
+    by false false false false e = cc
+
+-- why a `start` is not answered: its configuration has no fault, or the text for that has no room
+unanswered : (o : Option ConfigFault) (fault : ConfigFault) (says : ConfigFault → List ℕ) → (o ≡ Some WantOfMemory → ⊥) → fault ≡ unwrap_or o WantOfMemory
+    → (fault ≡ WantOfMemory) ⊎ LacksRoom (says fault) → (o ≡ None) ⊎ ((f : ConfigFault) × (o ≡ Some f) × LacksRoom (says f))
+unanswered None fault says never is why = inl refl
+unanswered (Some f) fault says never is (inl e) = absurd (never (ap Some (sym is ∙ e)))
+unanswered (Some f) fault says never is (inr lacks) = inr (f, refl, subst (λ g. LacksRoom (says g)) is lacks)
 
 -- a reason that is what the definition gives for this fault
 pub refused-start : {W : Type 0} (Sends : W → Sending → W → Type 0) (result : ScriptFault) (blocks : ℕ) (d : Device) (n : ℕ) (s : SetUp) (fault : ConfigFault) (reason : Option (ℕ × BrokenRule)) (before after : W) → fault ≡ unwrap_or (first_config_fault s.configuration blocks) WantOfMemory
@@ -57,7 +77,11 @@ refused-start Sends Write blocks d n s fault reason before after is because (oth
       (ap (λ (r : Option (ℕ × BrokenRule)). with_feed (refused_text n fault r)) because, refl),
   broke,
 )
-refused-start Sends NoMemory blocks d n s fault reason before after is because h = h
+refused-start Sends NoMemory blocks d n s fault reason before after is because (why, same) = (
+  unanswered (first_config_fault s.configuration blocks) fault (λ f. with_feed (refused_text n f (numbered_reason s blocks f))) (never-wanting s.configuration blocks) is
+      (subst (λ (r : Option (ℕ × BrokenRule)). (fault ≡ WantOfMemory) ⊎ LacksRoom (with_feed (refused_text n fault r))) because why),
+  same,
+)
 refused-start Sends (Syntax k) blocks d n s fault reason before after is because h = absurd h
 refused-start Sends TooLong blocks d n s fault reason before after is because h = absurd h
 refused-start Sends Read blocks d n s fault reason before after is because h = absurd h
@@ -76,11 +100,30 @@ unsaid-start Sends Read blocks d n s before after accepted h = absurd h
 pub said-refused : {W : Type 0} (Sends : W → Sending → W → Type 0) (fault : ScriptFault) (n : ℕ) (why : ConfigFault) (reason : Option (ℕ × BrokenRule)) (before after : W) → why ≢ WantOfMemory
     → Says Sends LacksRoom (Err fault) (with_feed (refused_text n why reason)) before after → StartRefused Sends fault n why reason before after
 said-refused Sends Write n why reason before after other broke = (other, broke)
-said-refused Sends NoMemory n why reason before after other h = h.1
+said-refused Sends NoMemory n why reason before after other h = (inr h.0, h.1)
 said-refused Sends (Syntax k) n why reason before after other h = absurd h
 said-refused Sends (Config k f) n why reason before after other h = absurd h
 said-refused Sends TooLong n why reason before after other h = absurd h
 said-refused Sends Read n why reason before after other h = absurd h
+
+runs-only : (o : Option ConfigFault) (blocks : ℕ) (d : Device) (n : ℕ) (s : SetUp) (answer : List ℕ) (later : Standing) (l : Layers) → Starts o blocks d n s answer later → later ≡ Running l → o ≡ None
+runs-only None blocks d n s answer later l says is = refl
+runs-only (Some fault) blocks d n s answer later l says is = absurd (not-running n fault l (sym says.1 ∙ is))
+  where
+    not-running : (n : ℕ) (fault : ConfigFault) (l : Layers) → Over n fault ≡ Running l → ⊥
+    not-running n fault l e = cc
+
+pub runs_where_accepted : RunsWhereAccepted
+runs_where_accepted tells blocks d n s line starts = (
+  λ runs. runs-only (first_config_fault s.configuration blocks) blocks d n s runs.0 runs.1 runs.3 (subst (λ (q : Asked). Turn tells blocks d n (Setting s) q runs.0 runs.1) starts runs.2) runs.4,
+  λ accepted. (
+    with_feed started_text,
+    Running (opening_layers s.configuration d),
+    subst (λ (q : Asked). Turn tells blocks d n (Setting s) q (with_feed started_text) (Running (opening_layers s.configuration d))) (sym starts) (accepted-start (first_config_fault s.configuration blocks) blocks d n s accepted),
+    opening_layers s.configuration d,
+    refl,
+  ),
+)
 
 opened-device : (c : Configuration) (d : Device) → (opening_layers c d).subsystem.device ≡ d
 unfolding machine.opening
@@ -94,6 +137,15 @@ module _ {M R W : Type 0} (Reads : R → LineCall → R → Type 0) (Sends : W �
     (taken : Reads between (Came line) u) (starts : asked line ≡ Sets Start) where
   turn : (answer : List ℕ) (new : Standing) → Starts (first_config_fault c.configuration blocks) blocks d n c answer new → TurnOver step tells blocks d n (over (Setting c) m) line answer (over new m)
   turn answer new s = (subst (λ (q : Asked). Turn tells blocks d n (Setting c) q answer new) (sym starts) s, refl)
+
+  can-run : first_config_fault c.configuration blocks ≡ None → CanRun (TurnOver step tells blocks d) standing_over n (over (Setting c) m) line
+  can-run accepted = (
+    with_feed started_text,
+    over (Running (opening_layers c.configuration d)) m,
+    turn (with_feed started_text) (Running (opening_layers c.configuration d)) (accepted-start (first_config_fault c.configuration blocks) blocks d n c accepted),
+    opening_layers c.configuration d,
+    refl,
+  )
 
   module _ (l : Layers) (z : W) (opened : l ≡ opening_layers c.configuration d) (accepted : first_config_fault c.configuration blocks ≡ None) (said : Sends y (Sent (with_feed started_text)) z) where
     begun : Converses (TurnOver step tells blocks d) Reads Sends n (over (Setting c) m) (n + 1) (over (Running l) m) between u y z
@@ -149,7 +201,7 @@ module _ {M R W : Type 0} (Reads : R → LineCall → R → Type 0) (Sends : W �
     medium = kept;
     rests = ap device kept ∙ told ∙ sym (starts-device (first_config_fault c.configuration blocks) blocks d n c answer new s);
   }
-  start-fails NoMemory z left same kept told = record {
+  start-fails NoMemory z left (inl accepted, same) kept told = record {
     last = over (Setting c) m;
     ended = inl (record {
       next = n;
@@ -160,7 +212,25 @@ module _ {M R W : Type 0} (Reads : R → LineCall → R → Type 0) (Sends : W �
       taken = taken;
       says = Start;
       sets = starts;
-      starved = inl refl;
+      starved = inl (refl, can-run accepted);
+    });
+    medium = kept;
+    rests = ap device kept ∙ told;
+  }
+  start-fails NoMemory z left (inr (fault, is, lacks), same) kept told = record {
+    last = over (Over n fault) m;
+    ended = inr (record {
+      next = n;
+      mid = over (Setting c) m;
+      between = between;
+      written = y;
+      conversed = conversed-none (TurnOver step tells blocks d) Reads Sends n (over (Setting c) m) between y;
+      line = line;
+      taken = taken;
+      answer = with_feed (refused_text n fault (numbered_reason c blocks fault));
+      turn = turn (with_feed (refused_text n fault (numbered_reason c blocks fault))) (Over n fault)
+          (subst (λ (o : Option ConfigFault). Starts o blocks d n c (with_feed (refused_text n fault (numbered_reason c blocks fault))) (Over n fault)) (sym is) (refl, refl));
+      unsent = (subst (λ (q : Asked). MayLackRoom (Setting c) q (with_feed (refused_text n fault (numbered_reason c blocks fault)))) (sym starts) lacks, same);
     });
     medium = kept;
     rests = ap device kept ∙ told;

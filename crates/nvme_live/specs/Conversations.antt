@@ -2,6 +2,7 @@
 -- of an answer are is said elsewhere: over a medium and streams, whose calls they are, or of what is known of these alone.
 use Rattle.std.specs.Prelude.{◌≡◌, ◌⊎◌, ◌≤◌, ◌<◌, ◌+◌, ◌-◌, ◌^◌, ℕ, Bool, List, [], ◌∷◌, length, Option, None, Some, Result, Ok, Err}
 use Rattle.nvme_spec.specs.Blocks.{Device}
+use Rattle.nvme_fleet.specs.FleetStates.{Layers}
 use Rattle.nvme_live.specs.SetUps.{IsCrowded, SetUp}
 use Rattle.nvme_grammar.specs.declared.line.Line.{Line}
 use Rattle.nvme_grammar.specs.declared.line.Line.TheVariants.{Start}
@@ -85,14 +86,21 @@ pub record Uncounted {S R W : Type 0} (Turns : ℕ → S → List ℕ → List �
   pub conversed : Converses Turns Reads Sends n old next new unread left before after
   pub many : 2 ^ 64 - 1 ≤ next
 
--- a line that can want memory, where a session stands so: `start`, or one that sets up, of too many
-abbrev pub CanStarve : Standing → Line → Type 0
-CanStarve (Setting s) line = (line ≡ Start) ⊎ IsCrowded s line
-CanStarve (Running l) line = ⊥
-CanStarve (Over k fault) line = ⊥
+-- The n-th line, read where a session stands so, can be answered, and the session runs then: of `start`, that its
+-- configuration has no fault.
+abbrev pub CanRun : {S : Type 0} → (ℕ → S → List ℕ → List ℕ → S → Type 0) → (S → Standing) → ℕ → S → List ℕ → Type 0
+CanRun {S} Turns standing n old line =
+    (answer : List ℕ) × (later : S) × Turns n old line answer later × (l : Layers) × (standing later ≡ Running l)
 
--- It stopped at a line for which no memory was found, which starts, or sets up and is one of too many: it is not
--- answered, and changed nothing.
+-- a line that can want memory, where a session stands so: `start`, if the session can run, or one that sets up, of too
+-- many
+abbrev pub CanStarve : Standing → Line → Type 0 → Type 0
+CanStarve (Setting s) line Runs = ((line ≡ Start) × Runs) ⊎ IsCrowded s line
+CanStarve (Running l) line Runs = ⊥
+CanStarve (Over k fault) line Runs = ⊥
+
+-- It stopped at a line for which no memory was found, which starts a configuration without a fault, or sets up and is one
+-- of too many: it is not answered, and changed nothing.
 pub record Starves {S R W : Type 0} (Turns : ℕ → S → List ℕ → List ℕ → S → Type 0) (Reads : R → LineCall → R → Type 0)
     (Sends : W → Sending → W → Type 0) (standing : S → Standing) (n : ℕ) (old new : S) (unread left : R)
     (before after : W) : Type 0 where
@@ -103,7 +111,7 @@ pub record Starves {S R W : Type 0} (Turns : ℕ → S → List ℕ → List ℕ
   pub taken : Reads between (Came line) left
   pub says : Line
   pub sets : asked line ≡ Sets says
-  pub starved : CanStarve (standing new) says
+  pub starved : CanStarve (standing new) says (CanRun Turns standing next new line)
 
 -- what the fault is by which a session ends, once it has begun, where it stands so
 abbrev pub EndsBy : {S R W : Type 0} → ScriptFault → (ℕ → S → List ℕ → List ℕ → S → Type 0)

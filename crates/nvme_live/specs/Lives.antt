@@ -20,7 +20,7 @@ use Rattle.nvme_program.specs.FaultKinds.{of_reading}
 use Rattle.nvme_script.specs.Faults.{IsScript, IsEarlyFault, events_in}
 use Rattle.nvme_script.specs.ScriptCalls.{RanCalling, layers_of_text}
 use Rattle.nvme_script.specs.ScriptWrites.{RunsWriting, StopsWriting, TranscribesBy}
-use Rattle.nvme_live.specs.Saying.{with_feed}
+use Rattle.nvme_live.specs.Saying.{LacksRoom, with_feed}
 use Rattle.nvme_live.specs.Streams.{Broken, LineCall, Sending, SendsBy, Sent}
 use Rattle.nvme_live.specs.SetUps.{SetUp, nothing_set_up, numbered_reason}
 use Rattle.nvme_live.specs.Standings.{Standing, Setting, Running, Over, Starts, refused_text}
@@ -42,7 +42,8 @@ pub record Rests {M : Type 0} (device : M → Device) (Ended : OverMedium Standi
   pub medium : left ≡ last.medium
   pub rests : device left ≡ device_in d last.state
 
--- What `start`, the n-th line, comes to where its fleet is not opened, or its answer is not sent.
+-- What `start`, the n-th line, comes to where its fleet is not opened, or its answer is not sent. Memory is wanted for the
+-- fleet of a configuration without a fault; or the answer that names the fault has no room.
 abbrev pub StartFails : {W : Type 0} → (W → Sending → W → Type 0) → ScriptFault → ℕ → Device → ℕ → SetUp → W → W
     → Type 0
 StartFails Sends (Config k fault) blocks d n s before after =
@@ -51,7 +52,11 @@ StartFails Sends (Config k fault) blocks d n s before after =
 StartFails Sends Write blocks d n s before after =
     (answer : List ℕ) × (new : Standing) × Starts (first_config_fault s.configuration blocks) blocks d n s answer new
     × Sends before (Broken answer) after
-StartFails Sends NoMemory blocks d n s before after = after ≡ before
+StartFails Sends NoMemory blocks d n s before after =
+    ((first_config_fault s.configuration blocks ≡ None)
+    ⊎ ((fault : ConfigFault) × (first_config_fault s.configuration blocks ≡ Some fault)
+    × LacksRoom (with_feed (refused_text n fault (numbered_reason s blocks fault)))))
+    × (after ≡ before)
 StartFails Sends (Syntax k) blocks d n s before after = ⊥
 StartFails Sends TooLong blocks d n s before after = ⊥
 StartFails Sends Read blocks d n s before after = ⊥
@@ -117,7 +122,8 @@ StartRefused Sends (Config k why) n fault reason before after =
     × Sends before (Sent (with_feed (refused_text n fault reason))) after
 StartRefused Sends Write n fault reason before after =
     (fault ≢ WantOfMemory) × Sends before (Broken (with_feed (refused_text n fault reason))) after
-StartRefused Sends NoMemory n fault reason before after = after ≡ before
+StartRefused Sends NoMemory n fault reason before after =
+    ((fault ≡ WantOfMemory) ⊎ LacksRoom (with_feed (refused_text n fault reason))) × (after ≡ before)
 StartRefused Sends (Syntax k) n fault reason before after = ⊥
 StartRefused Sends TooLong n fault reason before after = ⊥
 StartRefused Sends Read n fault reason before after = ⊥

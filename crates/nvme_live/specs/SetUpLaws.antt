@@ -1,16 +1,18 @@
 -- Of which lines a session has the numbers, and that a refused `start` names one of them.
-use Rattle.std.specs.Prelude.{◌≡◌, ◌+◌, ℕ, Bool, false, is_some, if◌then◌else◌, List, [], ◌∷◌, length, slice_get, Option, Some}
+use Rattle.std.specs.Prelude.{◌≡◌, ◌↔◌, ◌+◌, ℕ, Bool, false, is_some, if◌then◌else◌, List, [], ◌∷◌, length, slice_get, Option, None, Some}
 use Rattle.nvme_spec.specs.Blocks.{Device}
 use Rattle.nvme_spec.specs.Configuration.{first_config_fault}
 use Rattle.nvme_spec.specs.declared.config.ConfigFault.{ConfigFault}
 use Rattle.nvme_grammar.specs.Script.{attachment_in, controller_in, namespace_in}
 use Rattle.nvme_grammar.specs.declared.line.Line.{Line}
+use Rattle.nvme_grammar.specs.declared.line.Line.TheVariants.{Start}
 use Rattle.nvme_program.specs.declared.configuration.BrokenRule.{BrokenRule}
 use Rattle.nvme_live.specs.declared.asking.Asked.{Asked}
 use Rattle.nvme_live.specs.declared.asking.Asked.TheVariants.{Fails, Nothing, Looks, Sets, Does}
 use Rattle.nvme_live.specs.Asking.{asked}
+use Rattle.nvme_live.specs.Conversations.{CanRun, alone}
 use Rattle.nvme_live.specs.SetUps.{SetUp, nothing_set_up, numbered_reason}
-use Rattle.nvme_live.specs.Standings.{Setting, Session}
+use Rattle.nvme_live.specs.Standings.{Setting, Session, TurnOf}
 
 -- whether something of a kind is set up by what a line asks
 abbrev pub sets_up : {A : Type 0} → (Line → Option A) → Asked → Bool
@@ -41,6 +43,13 @@ abbrev pub SetUpIsNumbered : Type 0
 SetUpIsNumbered =
     (tells : Bool) (blocks : ℕ) (d : Device) (lines answers : List (List ℕ)) (s : SetUp)
     → Session tells blocks d 1 (Setting nothing_set_up) lines answers (Setting s) → IsNumbered lines s
+
+-- A session can run behind its `start` exactly where what it has set up has no fault. So only there can it end for want of
+-- memory at `start`.
+abbrev pub RunsWhereAccepted : Type 0
+RunsWhereAccepted =
+    (tells : Bool) (blocks : ℕ) (d : Device) (n : ℕ) (s : SetUp) (line : List ℕ) → asked line ≡ Sets Start
+    → (CanRun (TurnOf tells blocks d) alone n (Setting s) line ↔ (first_config_fault s.configuration blocks ≡ None))
 
 -- the line with this number, of lines from the first on, sets up something
 pub record IsSettingLine (k : ℕ) (lines : List (List ℕ)) : Type 0 where

@@ -28,11 +28,13 @@ pub data Standing : Type 0 where
   Over : ℕ → ConfigFault → Standing
 
 -- Whether the text of an answer lacks room, where a session stands so, by what its line asks: only where it is longer
--- than a text may be. The answer to a line that says nothing, or sets something up, is `ok`, and never does.
+-- than a text may be. The answer to a line that says nothing, or sets something up, is `ok`, and never does; nor does
+-- `started`, so that of `start` only a refusal can.
 abbrev pub MayLackRoom : Standing → Asked → List ℕ → Type 0
 MayLackRoom (Setting s) (Fails why) answer = LacksRoom answer
 MayLackRoom (Setting s) Nothing answer = ⊥
 MayLackRoom (Setting s) (Looks looking) answer = LacksRoom answer
+MayLackRoom (Setting s) (Sets Start) answer = LacksRoom answer
 MayLackRoom (Setting s) (Sets line) answer = ⊥
 MayLackRoom (Setting s) (Does event) answer = LacksRoom answer
 MayLackRoom (Running l) (Fails why) answer = LacksRoom answer

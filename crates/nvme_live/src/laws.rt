@@ -3,7 +3,7 @@
 ghost use Rattle.nvme_live.specs.Keeping.{KeptLinesAreARun, KeptLinesRunAmidLooks, KeptLinesTranscribe};
 ghost use Rattle.nvme_live.specs.SessionLaws.{AnsweredLinesAreASession, EndIsUnique, EndsInBytes, EndsStandAlone, FailuresInBytes, LinesBeforeStartAreAnswered, LinesOfARunAreAnswered, SessionIsUnique, SessionsStandAlone, StartIsAnswered};
 ghost use Rattle.nvme_live.specs.SessionScripts.{PlayedIsARun, RefusedIsAFault, ReplaysAlike, SessionIsAScript, SessionIsAScriptAmidLooks};
-ghost use Rattle.nvme_live.specs.SetUpLaws.{RefusalNamesALine, SetUpIsNumbered};
+ghost use Rattle.nvme_live.specs.SetUpLaws.{RefusalNamesALine, RunsWhereAccepted, SetUpIsNumbered};
 ghost use Rattle.nvme_live.specs.Streams.{ReadsBy, SendsBy};
 ghost use Rattle.nvme_live.specs.Taking.{LinesAreKnown};
 
@@ -67,8 +67,10 @@ pub fn lines_are_answered()
 {}
 
 /// What a session has set up has the numbers of the lines that set it up, counted over all of its lines; and where it
-/// can't start with that, the answer to `start` names one of these lines, and the rule that it breaks.
+/// can't start with that, the answer to `start` names one of these lines, and the rule that it breaks. It can start with
+/// all that has no fault, and with nothing else.
 pub fn refusals_name_a_line()
     ensures numbered { SetUpIsNumbered }
     ensures reason { RefusalNamesALine }
+    ensures accepted { RunsWhereAccepted }
 {}

@@ -310,8 +310,9 @@ fn refused_at(start: usize, fault: ConfigFault) -> ScriptFault
 /// session's own `start` is refused, with the number of that line, and it is answered so; `Write` where a write or the
 /// flush of an answer failed, and what its line does was done; `Read` where the reading of the next line failed, or where
 /// there were 18,446,744,073,709,551,614 lines, and no more can be counted; `NoMemory` where no memory was found for the
-/// fleet, for a line before `start` of whose kind there are more already than a configuration may have, or for the text
-/// of an answer, of which nothing was written then. The medium is as after the last event.
+/// fleet of a configuration that has no fault, for a line before `start` of whose kind there are more already than a
+/// configuration may have, or for the text of an answer, of which nothing was written then. The medium is as after the
+/// last event.
 pub fn run_live<S: Source, R: LineSource, W: FlushedSink, M: Medium>(
     alloc: Global,
     script: &mut S,
