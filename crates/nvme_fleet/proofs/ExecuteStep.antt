@@ -1,9 +1,8 @@
 -- An execution of a command of either lane is the step of the mailbox.
-use Rattle.nvme_fleet.proofs.Words.{same_Some, ◌≡◌, ℕ, ◌^◌, ◌<◌, ◌==◌, Bool, List, map, Some, refl, sym, ap, subst, ◌∙◌, arith, slice_get, slice_get-map, FitsCompletion, Outcome, Verdict, Allowed, Denied, Keep, admin_execution, Scene, ExecutesBy, Fits, execution_fits, Lane, Admin, Io, queue_id, Driver, FetchedCommand, Executed, Controller, QueuePair, open_pair, queues_of, CommandExecution, admin_command_execution, CommandComesToAs, CommandComesTo, IoCommandComesTo, Setting, ExecutesNth, Finishes, FinishesOver, FinishesOne, scene_in, FetchedItem, RequestComesTo, held_by, fetched_by, Sound, host_side, mailbox, taken_by, lane_of_queue, IsAnsweredInItsSlot, IsExecuted, request_execution_with, IoExecutionIsAStep, AdminExecutionIsAStep, ExecutionIsAStep}
-use Rattle.nvme_fleet.proofs.FetchStep.{side-small}
-use Rattle.std.specs.Option.{option_map}
+use Rattle.nvme_fleet.proofs.Words.{same_Some, ◌≡◌, ℕ, ◌^◌, ◌<◌, ◌==◌, Bool, List, Some, refl, sym, ap, subst, ◌∙◌, arith, slice_get, FitsCompletion, Outcome, Verdict, Allowed, Denied, Keep, admin_execution, Scene, ExecutesBy, Fits, execution_fits, Lane, Admin, Io, queue_id, Driver, FetchedCommand, Executed, Controller, QueuePair, open_pair, queues_of, CommandExecution, admin_command_execution, CommandComesToAs, CommandComesTo, IoCommandComesTo, Setting, ExecutesNth, Finishes, FinishesOver, FinishesOne, scene_in, FetchedItem, RequestComesTo, Sound, mailbox, lane_of_queue, IsAnsweredInItsSlot, IsExecuted, request_execution_with, IoExecutionIsAStep, AdminExecutionIsAStep, ExecutionIsAStep}
+use Rattle.nvme_fleet.proofs.OneLane.{running}
 use Rattle.nvme_spec.specs.IoData as spec
-use Rattle.nvme_fleet.proofs.PostStep.{known, up-of, open-is, pair_in, fields_of, item_at, posting_has_room, posting_is_a_step}
+use Rattle.nvme_fleet.proofs.PostStep.{known, open-is, pair_in, fields_of, item_at, found-at, posting_has_room, posting_is_a_step}
 use Rattle.nvme_fleet.proofs.HeldStep.{held-known}
 use Rattle.nvme_fleet.proofs.AdminStep.{admin_answers_its_request, admin-fits}
 use Rattle.nvme_fleet.proofs.AnswerStep.{answers_its_request}
@@ -19,8 +18,9 @@ executes-zero (Allowed plan) tells k x old new o h = h.dw0
 pair-head : (d : Driver) (c : Controller) (i : ℕ) (t : FetchedCommand) (p : QueuePair) → Sound d c → slice_get c.fetched i ≡ Some t → open_pair c t ≡ Some p → p.submission.head.fetched < 8
 pair-head d c i t p s g e =
     let k = known d c i t s g in
-    let same : p ≡ pair_in k.lane c k.paired = same_Some p (pair_in k.lane c k.paired) (sym e ∙ open-is k.lane c k.paired t k.queue k.room) in
-    subst (λ (z : QueuePair). z.submission.head.fetched < 8) (sym same) (side-small k.lane d c k.paired s (up-of d c i t s g))
+    let same : p ≡ pair_in (lane_of_queue t.queue) c = same_Some p (pair_in (lane_of_queue t.queue) c) (sym e ∙ open-is (lane_of_queue t.queue) d c i t k) in
+    let r = running (lane_of_queue t.queue) d c s k.up in
+    subst (λ (z : QueuePair). z.submission.head.fetched < 8) (sym same) r.fetched
 
 pub completion-fits : (lane : Lane) (d : Driver) (c : Controller) (i : ℕ) (t : FetchedCommand) (p : QueuePair) (a : CommandExecution) → Sound d c → slice_get c.fetched i ≡ Some t → t.queue ≡ queue_id lane
     → open_pair c t ≡ Some p → Fits a.outcome.status × (a.outcome.dw0 < 2 ^ 32) → FitsCompletion (fields_of t p a)
@@ -46,11 +46,6 @@ completion-fits lane d c i t p a s g q e f =
     lane-back : (l : Lane) → lane_of_queue (queue_id l) ≡ l
     lane-back Admin = refl
     lane-back Io = refl
-
-found-at : (d : Driver) (c : Controller) (i : ℕ) (t : FetchedCommand) → slice_get c.fetched i ≡ Some t → slice_get (mailbox d c).fetched i ≡ Some (item_at d c t)
-found-at d c i t g =
-    slice_get-map (fetched_by (held_by (host_side d) c.window)) (map taken_by c.fetched) i
-    ∙ ap (option_map (fetched_by (held_by (host_side d) c.window))) (slice_get-map taken_by c.fetched i ∙ ap (option_map taken_by) g)
 
 io-answers : (tells : Bool) (d : Driver) (t : FetchedCommand) (old : Setting) (a : CommandExecution) → t.queue ≡ 1
     → CommandComesTo tells (queues_of old.controller) old.controller.cntlid t (scene_in old) a → IoCommandComesTo tells old.controller.cntlid t (scene_in old) a
@@ -140,7 +135,7 @@ admin_execution_is_a_step tells d i t old executed new s g q h =
 pub execution_is_a_step : ExecutionIsAStep
 execution_is_a_step tells d i t old executed new s g h =
     let k = known d old.controller i t s g in
-    by-lane k.lane k.queue
+    by-lane (lane_of_queue t.queue) k.queue
   where
     by-lane : (lane : Lane) → t.queue ≡ queue_id lane → IsExecuted tells d i old executed new
     by-lane Admin q = admin_execution_is_a_step tells d i t old executed new s g q h

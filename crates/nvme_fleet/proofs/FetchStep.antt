@@ -1,14 +1,20 @@
--- A fetch is a step of the mailbox.
-use Rattle.nvme_fleet.proofs.Words.{all-joined, ◌≡◌, ℕ, zero, suc, ◌<◌, true, List, [], ◌∷◌, length, Option, None, Some, refl, sym, ap, subst, ◌∙◌, arith, inl, inr, nat_lt, cases_Bool, cases_lt, lt-ltb, ne_eqb, length-map, map-append, slice_index_or, Lane, Admin, Io, queue_id, Driver, is_up, Idle, Controller, SubmissionQueue, fetchable, after_fetch, fetched_from, submission_at, most_fetched, Item, Mailbox, box_at, MailboxReaction, mailbox_reaction, plain, fetched, fetched_first, fetched_of, lane_at, raw_fetch, DeviceEnds, DeviceSide, Both, mail, pair, state, fetch, fetched_pair, Sound, IsPaired, IsOff, IsOfLane, host_side, device_side, mailbox, submission_as, taken_by, waiting_count, IsStep, FetchIsAStep}
+-- A fetch is a step of the mailbox: it takes the first request that is rung in its lane, and the other lane stays.
+use Rattle.nvme_fleet.proofs.Words.{all-joined, ◌≡◌, ℕ, zero, suc, ◌+◌, ◌-◌, ◌%◌, ◌<◌, ◌≤◌, true, false, List, [], ◌∷◌, ◌++◌, length, Option, None, Some, refl, sym, ap, subst, ◌∙◌, arith, inl, inr, nat_lt, cases_Bool, cases_lt, lt-ltb, ne_eqb, append-nil, map-append, slice_index_or, Lane, Admin, Io, queue_id, Driver, is_up, Idle, FetchedCommand, Controller, SubmissionQueue, fetchable, after_fetch as after_fetch_of, fetched_from, submission_at, most_fetched, Item, FetchedItem, LaneBox, with_box, MailboxReaction, mailbox_reaction, plain, fetched, fetched_first, fetched_of, lane_at, raw_fetch, State, box, item, command_at, DeviceEnds, Both, same, other, host, state, pages_of, commands_in, fetched_by, held_by, lane_of_queue, Sound, IsPaired, IsOff, IsOfLane, mailbox, submission_as, IsStep, FetchIsAStep}
 use Rattle.nvme_event.specs.declared.seen.FleetSeen.TheVariants.{Fetched}
-use Rattle.nvme_fleet.proofs.Places.{no-way}
-use Rattle.nvme_fleet.proofs.Linking.{of, submission-is, pair-is, entry-in}
-use Rattle.nvme_fleet.proofs.Fetching.{fetch-both, fetch-mail, fetch-idle, taken-few}
+use Rattle.nvme_machine.specs.Controllers.{head_entry}
+use Rattle.nvme_mailbox.specs.Deliveries.{with_rest}
+use Rattle.nvme_fleet.specs.Views.{after_fetch}
+use Rattle.nvme_fleet.proofs.Slots.{few}
+use Rattle.nvme_fleet.proofs.Fetches.{fetch-rung, fetch-box, fetch-running, idle-rung, same-up}
+use Rattle.nvme_fleet.proofs.Placing.{length-taken}
+use Rattle.nvme_fleet.proofs.OneLane.{running, box-is, AtLane, sound-at, mail-at}
+use Rattle.nvme_fleet.proofs.Linking.{counts, submission-is, same-completion, Counted, counted, entry-in}
+use Rattle.nvme_fleet.proofs.Resetting.{state-off}
 
 -- nothing is fetched
 idle-step : (d : Driver) (c : Controller) (q : ℕ) → Sound d c → fetchable c q ≡ None → fetched q (mailbox d c) ≡ mailbox_reaction (mailbox d c) (Fetched Idle)
-    → IsStep (fetched q (mailbox d c)) d (after_fetch q c).controller (plain (Fetched (raw_fetch c q)))
-unfolding after_fetch
+    → IsStep (fetched q (mailbox d c)) d (after_fetch_of q c).controller (plain (Fetched (raw_fetch c q)))
+unfolding after_fetch_of
 idle-step d c q s none same =
     let e : fetched_from q c (fetchable c q) ≡ fetched_from q c None = ap (fetched_from q c) none in
     record {
@@ -17,8 +23,8 @@ idle-step d c q s none same =
       gives = rw none (ap (λ (r : MailboxReaction). r.reply) same);
     }
 
--- a lane where none waits
-empty-queue : (lane : Lane) (c : Controller) (p : IsPaired c) → (of lane c p).waiting ≡ 0 → fetchable c (queue_id lane) ≡ None
+-- a lane where none waits, and one where one does
+empty-queue : (lane : Lane) (c : Controller) → IsPaired c → (state lane c).waiting ≡ 0 → fetchable c (queue_id lane) ≡ None
 unfolding fetchable
 empty-queue lane c p z =
     elim (cases_Bool (nat_lt (length c.fetched) most_fetched)) [
@@ -26,113 +32,155 @@ empty-queue lane c p z =
       | inr t ↦ rw (p.ready, t) refl
     ]
 
--- a lane where one does
-open-queue : (lane : Lane) (c : Controller) (p : IsPaired c) → length c.fetched < 64 → 0 < (of lane c p).waiting → fetchable c (queue_id lane) ≡ Some (submission_as lane (of lane c p))
+open-queue : (lane : Lane) (c : Controller) → IsPaired c → length c.fetched < 64 → 0 < (state lane c).waiting → fetchable c (queue_id lane) ≡ Some (submission_as lane (counts lane c))
 unfolding fetchable
-open-queue lane c p few some = rw (p.ready, lt-ltb (length c.fetched) 64 few, submission-is lane c p, lt-ltb 0 (of lane c p).waiting some) refl
+open-queue lane c p few some = rw (p.ready, lt-ltb (length c.fetched) 64 few, submission-is lane c p, lt-ltb 0 (state lane c).waiting some) refl
+
+-- the list of fetched commands never fills
+lane-few : (lane : Lane) (d : Driver) (c : Controller) → Sound d c → is_up d.state ≡ true → length (commands_in lane c.fetched) ≤ 24
+lane-few lane d c s u = omega (arith, few (host lane d c.window) (state lane c) (running lane d c s u))
+
+-- the command that is fetched
+abbrev new_command : Lane → Controller → FetchedCommand
+new_command lane c = record { entry = head_entry c (submission_as lane (counts lane c)); queue = queue_id lane; marked = false }
 
 -- the controller once it fetched in a lane
-abbrev taken_in : (lane : Lane) (c : Controller) → IsPaired c → Controller
-taken_in lane c p = (fetched_from (queue_id lane) c (Some (submission_as lane (of lane c p)))).controller
+abbrev taken_in : Lane → Controller → Controller
+taken_in lane c = (fetched_from (queue_id lane) c (Some (submission_as lane (counts lane c)))).controller
 
-side-is : (lane : Lane) (c : Controller) (p : IsPaired c) → (of lane c p).fetched < 8 → device_side (taken_in lane c p) ≡ fetch lane (device_side c)
-side-is Admin c p h = rw (p.submission, p.completion, map-append taken_by c.fetched (_ ∷ []), entry-in Admin c.window (p.admin).fetched h) refl
-side-is Io c p h = rw (p.submission, p.completion, map-append taken_by c.fetched (_ ∷ []), entry-in Io c.window (p.io).fetched h) refl
+abbrev fetched_counts : Lane → Controller → DeviceEnds
+fetched_counts lane c = record (counts lane c) { fetched = ((state lane c).fetched + 1) % 8; waiting = (state lane c).waiting - 1 }
 
-paired-taken : (lane : Lane) (c : Controller) (p : IsPaired c) → IsPaired (taken_in lane c p)
-paired-taken Admin c p = record {
-  admin = fetched_pair p.admin;
-  io = p.io;
-  submission = rw p.submission refl;
-  completion = p.completion;
-  fetched = all-joined IsOfLane c.fetched _ p.fetched (inl refl, tt);
-  ready = p.ready;
-  enabled = p.enabled;
-}
-paired-taken Io c p = record {
-  admin = p.admin;
-  io = fetched_pair p.io;
-  submission = rw p.submission refl;
-  completion = p.completion;
-  fetched = all-joined IsOfLane c.fetched _ p.fetched (inr refl, tt);
-  ready = p.ready;
-  enabled = p.enabled;
-}
+of-lane : (lane : Lane) (x : List ℕ) → IsOfLane (record { entry = x; queue = queue_id lane; marked = false })
+of-lane Admin x = inl refl
+of-lane Io x = inr refl
 
--- what was rung decides
-first-is : (lane : Lane) (m : Mailbox) (xs : List Item) → (box_at lane m).rung ≡ xs → fetched_of (Some lane) m ≡ fetched_first lane xs m
-first-is lane m xs h = ap (λ ys. fetched_first lane ys m) h
+taken-so : (lane : Lane) (c : Controller) → IsPaired c → Counted lane c (taken_in lane c) (fetched_counts lane c)
+taken-so lane c p =
+    counted lane c (taken_in lane c) (fetched_counts lane c) p refl (same-completion lane c p)
+    (all-joined IsOfLane c.fetched (new_command lane c ∷ []) p.fetched (of-lane lane (head_entry c (submission_as lane (counts lane c))), tt)) refl
+
+-- a lane's commands of two lists, and of one command
+commands-append : (lane : Lane) (xs ys : List FetchedCommand) → commands_in lane (xs ++ ys) ≡ commands_in lane xs ++ commands_in lane ys
+commands-append lane [] ys = refl
+commands-append lane (x ∷ xs) ys =
+    elim (cases_Bool (same (lane_of_queue x.queue) lane)) [
+      | inl e ↦ rw e (ap (λ l. x.entry ∷ l) (commands-append lane xs ys))
+      | inr e ↦ rw e (commands-append lane xs ys)
+    ]
+
+one-here : (lane : Lane) (x : List ℕ) → commands_in lane (record { entry = x; queue = queue_id lane; marked = false } ∷ []) ≡ x ∷ []
+one-here Admin x = refl
+one-here Io x = refl
+
+one-there : (lane : Lane) (x : List ℕ) → commands_in (other lane) (record { entry = x; queue = queue_id lane; marked = false } ∷ []) ≡ []
+one-there Admin x = refl
+one-there Io x = refl
+
+one-item : (lane : Lane) (d : Driver) (w x : List ℕ) → fetched_by (held_by d w) (record { entry = x; queue = queue_id lane; marked = false }) ≡ record { item = item (held_by d w lane) x; marked = false }
+one-item Admin d w x = refl
+one-item Io d w x = refl
+
+-- a fetch in a lane where one waits
+record Waits (lane : Lane) (d : Driver) (c : Controller) : Type 0 where
+  sound : Sound d c
+  up : is_up d.state ≡ true
+  some : 0 < (state lane c).waiting
+  entry : head_entry c (submission_as lane (counts lane c)) ≡ command_at (pages_of lane c.window) (state lane c).fetched
+
+waits : (lane : Lane) (d : Driver) (c : Controller) → Sound d c → is_up d.state ≡ true → 0 < (state lane c).waiting → Waits lane d c
+waits lane d c s u p =
+    let r = running lane d c s u in
+    record { sound = s; up = u; some = p; entry = entry-in lane c.window (state lane c).fetched r.fetched }
+
+taken-at : (lane : Lane) (d : Driver) (c : Controller) → Waits lane d c → AtLane lane d d c (taken_in lane c) d.next (host lane d c.window) (after_fetch (state lane c))
+taken-at lane d c h =
+    let k = taken-so lane c (h.sound.up h.up) in
+    let x : List ℕ = head_entry c (submission_as lane (counts lane c)) in
+    let here = commands-append lane c.fetched (new_command lane c ∷ [])
+    ∙ ap (λ ys. commands_in lane c.fetched ++ ys) (one-here lane (head_entry c (submission_as lane (counts lane c))) ∙ ap (λ y. y ∷ []) h.entry) in
+    let there = commands-append (other lane) c.fetched (new_command lane c ∷ [])
+    ∙ ap (λ ys. commands_in (other lane) c.fetched ++ ys) (one-there lane (head_entry c (submission_as lane (counts lane c)))) ∙ append-nil (commands_in (other lane) c.fetched) in
+    record {
+      up = refl;
+      next = refl;
+      later = omega arith;
+      window = refl;
+      slots = refl;
+      host_here = refl;
+      host_there = refl;
+      state_here = k.here
+          ∙ (λ i. record (state lane c) { fetched = ((state lane c).fetched + 1) % 8; waiting = (state lane c).waiting - 1; taken = here i });
+      state_there = k.there ∙ (λ i. record (state (other lane) c) { taken = there i });
+    }
+
+taken-sound : (lane : Lane) (d : Driver) (c : Controller) → Waits lane d c → Sound d (taken_in lane c)
+taken-sound lane d c h =
+    let s = h.sound in
+    let b : Both d c = s.both in
+    sound-at lane d d c (taken_in lane c) d.next _ _ (taken-at lane d c h) s h.up
+    (same-up b.first _ _ _ (b.each lane) h.up (fetch-running _ _ (running lane d c s h.up) h.some)) s.fits s.sizes (taken-so lane c (s.up h.up)).paired
+
+-- the first request that is rung in the lane, and the rest
+abbrev first_rung : Lane → Driver → Controller → Item
+first_rung lane d c = item (held_by d c.window lane) (command_at (pages_of lane c.window) (state lane c).fetched)
+
+abbrev rest_rung : Lane → Driver → Controller → List Item
+rest_rung lane d c = (box (host lane d c.window) (after_fetch (state lane c))).rung
+
+taken-mail : (lane : Lane) (d : Driver) (c : Controller) → Waits lane d c → mailbox d (taken_in lane c) ≡ (fetched_first lane (first_rung lane d c ∷ rest_rung lane d c) (mailbox d c)).mailbox
+taken-mail lane d c h =
+    let fs : List FetchedItem = (mailbox d c).fetched ++ record { item = first_rung lane d c; marked = false } ∷ [] in
+    mail-at lane d d c (taken_in lane c) d.next _ _ (taken-at lane d c h) ((mailbox d c).fetched ++ record { item = first_rung lane d c; marked = false } ∷ [])
+    (map-append (fetched_by (held_by d c.window)) c.fetched (new_command lane c ∷ [])
+    ∙ ap (λ x. (mailbox d c).fetched ++ x ∷ []) (one-item lane d c.window (head_entry c (submission_as lane (counts lane c)))
+    ∙ ap (λ x. (let t : FetchedItem = record { item = item (held_by d c.window lane) x; marked = false } in t)) h.entry))
+    refl
+    ∙ ap (λ u. with_box lane u (record (mailbox d c) { fetched = (mailbox d c).fetched ++ record { item = first_rung lane d c; marked = false } ∷ [] }))
+    (fetch-box (host lane d c.window) (state lane c) (running lane d c h.sound h.up) h.some ∙ ap (λ u. with_rest u (rest_rung lane d c)) (sym (box-is lane d c)))
+
+-- In a lane.
+
+abbrev Fetches : Lane → Driver → Controller → Type 0
+Fetches lane d c = IsStep (fetched (queue_id lane) (mailbox d c)) d (after_fetch_of (queue_id lane) c).controller (plain (Fetched (raw_fetch c (queue_id lane))))
 
 lane-is : (lane : Lane) → lane_at (queue_id lane) ≡ Some lane
 lane-is Admin = refl
 lane-is Io = refl
 
-at-lane : (lane : Lane) (m : Mailbox) → fetched (queue_id lane) m ≡ fetched_of (Some lane) m
-at-lane lane m = ap (λ o. fetched_of o m) (lane-is lane)
+-- what was rung decides
+rung-is : (lane : Lane) (d : Driver) (c : Controller) (xs : List Item) → (box (host lane d c.window) (state lane c)).rung ≡ xs → fetched (queue_id lane) (mailbox d c) ≡ fetched_first lane xs (mailbox d c)
+rung-is lane d c xs h =
+    ap (λ o. fetched_of o (mailbox d c)) (lane-is lane) ∙ ap (λ ys. fetched_first lane ys (mailbox d c)) (ap (λ (b : LaneBox). b.rung) (box-is lane d c) ∙ h)
 
-state-fetched : (lane : Lane) (k : DeviceSide) (n : ℕ) → (state lane k).fetched < n → (pair lane k).fetched < n
-state-fetched lane k n h = h
-
-pub side-small : (lane : Lane) (d : Driver) (c : Controller) (p : IsPaired c) → Sound d c → is_up d.state ≡ true → (of lane c p).fetched < 8
-side-small lane d c p s u =
-    let b : Both (host_side d) (device_side c) = s.both in
-    let r = (b.each lane).up u in
-    subst (λ (x : DeviceEnds). x.fetched < 8) (pair-is lane c p) (state-fetched lane (device_side c) 8 r.fetched)
-
--- a fetch in a lane where none waits, and where one does
-none-waits : (lane : Lane) (d : Driver) (c : Controller) (p : IsPaired c) → Sound d c → (of lane c p).waiting ≡ 0
-    → IsStep (fetched (queue_id lane) (mailbox d c)) d (after_fetch (queue_id lane) c).controller (plain (Fetched (raw_fetch c (queue_id lane))))
-none-waits lane d c p s z =
-    let w : (pair lane (device_side c)).waiting ≡ 0 = ap (λ (x : DeviceEnds). x.waiting) (pair-is lane c p) ∙ z in
-    let r : (box_at lane (mailbox d c)).rung ≡ [] = fetch-idle lane (host_side d) (device_side c) w in
-    idle-step d c (queue_id lane) s (empty-queue lane c p z) (at-lane lane (mailbox d c) ∙ first-is lane (mailbox d c) [] r)
-
-one-waits : (lane : Lane) (d : Driver) (c : Controller) (p : IsPaired c) → Sound d c → is_up d.state ≡ true → 0 < (of lane c p).waiting
-    → IsStep (fetched (queue_id lane) (mailbox d c)) d (after_fetch (queue_id lane) c).controller (plain (Fetched (raw_fetch c (queue_id lane))))
-unfolding after_fetch
-one-waits lane d c p s u some =
-    let few : length c.fetched < 64 = subst (λ n. n < 64) (length-map c.fetched taken_by) (taken-few (host_side d) (device_side c) s.both) in
-    let o = open-queue lane c p few some in
-    let small = side-small lane d c p s u in
-    let e : fetched_from (queue_id lane) c (fetchable c (queue_id lane)) ≡ fetched_from (queue_id lane) c (Some (submission_as lane (of lane c p))) = ap (fetched_from (queue_id lane) c) o in
-    let k : (fetched_from (queue_id lane) c (fetchable c (queue_id lane))).controller ≡ taken_in lane c p = ap (λ r. r.controller) e in
-    let w : 0 < (pair lane (device_side c)).waiting = subst (λ n. 0 < n) (sym (ap (λ (x : DeviceEnds). x.waiting) (pair-is lane c p))) some in
-    let v = side-is lane c p small in
-    let b : Both (host_side d) (device_side (taken_in lane c p)) = subst (Both (host_side d)) (sym v) (fetch-both lane (host_side d) (device_side c) s.both w) in
-    let m = fetch-mail lane (host_side d) (device_side c) s.both w in
-    let f = at-lane lane (mailbox d c) ∙ first-is lane (mailbox d c) _ m.0 in
-    let sound : Sound d (taken_in lane c p) = record { both = b; fits = s.fits; sizes = s.sizes; up = λ t. paired-taken lane c p; down = λ t. absurd (no-way (is_up d.state) t u) } in
+one-waits : (lane : Lane) (d : Driver) (c : Controller) → Waits lane d c → Fetches lane d c
+unfolding after_fetch_of
+one-waits lane d c h =
+    let few : length c.fetched < 64 = omega (arith, length-taken c.fetched, lane-few Admin d c h.sound h.up, lane-few Io d c h.sound h.up) in
+    let o = open-queue lane c (h.sound.up h.up) few h.some in
+    let k : (fetched_from (queue_id lane) c (fetchable c (queue_id lane))).controller ≡ taken_in lane c = ap (λ x. (fetched_from (queue_id lane) c x).controller) o in
+    let f = rung-is lane d c (first_rung lane d c ∷ rest_rung lane d c) (fetch-rung (host lane d c.window) (state lane c) h.some) in
     record {
-      sound = subst (Sound d) (sym k) sound;
-      mail = ap (λ (r : MailboxReaction). r.mailbox) f ∙ sym (ap (mailbox d) k ∙ ap (mail (host_side d)) v ∙ m.1);
+      sound = subst (Sound d) (sym k) (taken-sound lane d c h);
+      mail = ap (λ (r : MailboxReaction). r.mailbox) f ∙ sym (ap (mailbox d) k ∙ taken-mail lane d c h);
       gives = rw o (ap (λ (r : MailboxReaction). r.reply) f);
     }
 
-by-lane : (lane : Lane) (d : Driver) (c : Controller) (p : IsPaired c) → Sound d c → is_up d.state ≡ true
-    → IsStep (fetched (queue_id lane) (mailbox d c)) d (after_fetch (queue_id lane) c).controller (plain (Fetched (raw_fetch c (queue_id lane))))
-by-lane lane d c p s u = elim (cases_lt 0 (of lane c p).waiting) [
-  | inl some ↦ one-waits lane d c p s u some
-  | inr none ↦ none-waits lane d c p s (omega (arith, none))
-]
+none-waits : (lane : Lane) (d : Driver) (c : Controller) → Sound d c → (state lane c).waiting ≡ 0 → fetchable c (queue_id lane) ≡ None → Fetches lane d c
+none-waits lane d c s z none = idle-step d c (queue_id lane) s none (rung-is lane d c [] (idle-rung (host lane d c.window) (state lane c) z))
 
 -- where the controller is off there is no queue
 off-queue : (c : Controller) (q : ℕ) → IsOff c → fetchable c q ≡ None
 unfolding fetchable
 off-queue c q o = rw o.off refl
 
-off-rung : (lane : Lane) (d : Driver) (c : Controller) → Sound d c → IsOff c → (box_at lane (mailbox d c)).rung ≡ []
-off-rung Admin d c s o = fetch-idle Admin (host_side d) (device_side c) (ap (λ l. waiting_count (slice_index_or l 0 None)) o.submission)
-off-rung Io d c s o = fetch-idle Io (host_side d) (device_side c) (ap (λ l. waiting_count (slice_index_or l 1 None)) o.submission)
-
-off-lane : (lane : Lane) (d : Driver) (c : Controller) → Sound d c → IsOff c
-    → IsStep (fetched (queue_id lane) (mailbox d c)) d (after_fetch (queue_id lane) c).controller (plain (Fetched (raw_fetch c (queue_id lane))))
-off-lane lane d c s o = idle-step d c (queue_id lane) s (off-queue c (queue_id lane) o) (at-lane lane (mailbox d c) ∙ first-is lane (mailbox d c) [] (off-rung lane d c s o))
-
-lane-step : (lane : Lane) (d : Driver) (c : Controller) → Sound d c
-    → IsStep (fetched (queue_id lane) (mailbox d c)) d (after_fetch (queue_id lane) c).controller (plain (Fetched (raw_fetch c (queue_id lane))))
+lane-step : (lane : Lane) (d : Driver) (c : Controller) → Sound d c → Fetches lane d c
 lane-step lane d c s = elim (cases_Bool (is_up d.state)) [
-  | inl u ↦ by-lane lane d c (s.up u) s u
-  | inr u ↦ off-lane lane d c s (s.down u)
+  | inl u ↦ elim (cases_lt 0 (state lane c).waiting) [
+    | inl some ↦ one-waits lane d c (waits lane d c s u some)
+    | inr none ↦ (let z : (state lane c).waiting ≡ 0 = omega (arith, none) in none-waits lane d c s z (empty-queue lane c (s.up u) z))
+  ]
+  | inr u ↦ none-waits lane d c s (ap (λ (x : State). x.waiting) (state-off lane c c (s.down u) refl)) (off-queue c (queue_id lane) (s.down u))
 ]
 
 -- no other queue is there

@@ -1,12 +1,8 @@
 -- A fetched command of a lane, its slot, and the request that the mailbox has in its place.
-use Rattle.nvme_fleet.proofs.Words.{same_Some, ◌≡◌, ℕ, ◌-◌, ◌<◌, List, [], ◌∷◌, ◌++◌, length, map, take, drop, Some, Ok, refl, sym, ap, subst, ◌∙◌, arith, slice_get, take-take, slice_get-map, SqeFields, cid, most_bytes, Rule, judgement_by, else_by, first_failing, pointer_rule, data_in, first_failing-append, Lane, data_area, stored_list, waiting_at, Driver, FetchedCommand, Controller, FetchedItem, command_entry, Slot, asked_in, item_in, lane_in, received_in, Both, whole, area, listed, fetched_by, held_by, Sound, host_side, device_side, mailbox, taken_by, lane_of_queue}
-use Rattle.std.specs.Option.{option_map}
-use Rattle.nvme_fleet.proofs.LaneSlots.{slot-in}
-use Rattle.nvme_fleet.proofs.Polling.{Own, own-is}
-use Rattle.nvme_fleet.proofs.Executing.{Takes}
+use Rattle.nvme_fleet.proofs.Words.{same_Some, ◌≡◌, ℕ, ◌-◌, ◌<◌, List, [], ◌∷◌, ◌++◌, length, take, drop, Some, Ok, refl, sym, ap, subst, ◌∙◌, arith, slice_get, take-take, SqeFields, cid, most_bytes, Rule, judgement_by, else_by, first_failing, pointer_rule, data_in, first_failing-append, Lane, data_area, stored_list, waiting_at, Driver, FetchedCommand, Controller, FetchedItem, command_entry, Slot, asked_in, item_in, lane_in, received_in, area, listed, Sound, mailbox, lane_of_queue}
 use Rattle.nvme_fleet.proofs.Commands.{IsSuited, is-suited, SameFields, same-fields, read-so}
 use Rattle.nvme_fleet.proofs.Transferring.{IsMoved, moved}
-use Rattle.nvme_fleet.proofs.PostStep.{known, slot_seen, item_at}
+use Rattle.nvme_fleet.proofs.PostStep.{Known, known, slot_seen, seen-is, seen, item_at, found-at}
 
 -- What is known of a command of a lane and its slot.
 pub record IsHeld (lane : Lane) (d : Driver) (c : Controller) (t : FetchedCommand) : Type 0 where
@@ -18,11 +14,10 @@ pub record IsHeld (lane : Lane) (d : Driver) (c : Controller) (t : FetchedComman
   pub same : SameFields t.entry (command_entry (asked_in (slot_seen lane d c t) t.entry))
   pub moves : IsMoved c.window (cid t.entry) t.entry (asked_in (slot_seen lane d c t) t.entry).moved
 
-held : (lane : Lane) (d : Driver) (c : Controller) (t : FetchedCommand) (i : ℕ) (s : Sound d c) → Takes lane (host_side d) (device_side c) i t.entry → IsHeld lane d c t
-held lane d c t i s k =
-    let b : Both (host_side d) (device_side c) = s.both in
-    let o : Own lane c.window (cid t.entry) (waiting_at d.slots (cid t.entry)) = own-is lane c.window (cid t.entry) (waiting_at d.slots (cid t.entry)) k.live in
-    let e : slot_seen lane d c t ≡ whole c.window (cid t.entry) o.waiting = slot-in lane c.window 0 d.slots (cid t.entry) (cid t.entry) (omega arith) ∙ o.slot in
+held : (lane : Lane) (d : Driver) (c : Controller) (i : ℕ) (t : FetchedCommand) → Known lane d c i t → IsHeld lane d c t
+held lane d c i t k =
+    let e = seen-is lane d c i t k in
+    let w = seen lane d c i t k in
     let h = is-suited (slot_seen lane d c t) t.entry (k.one).suits_it in
     let r = read-so (slot_seen lane d c t) t.entry h (k.one).within in
     let l = h.there in
@@ -31,11 +26,11 @@ held lane d c t i s k =
     record {
       suited = h;
       within = (k.one).within;
-      of_lane = ap (λ (z : Slot). lane_in z.waiting) e ∙ o.of_lane;
-      received = ap (λ (z : Slot). received_in z.waiting) e ∙ sym (ap received_in o.is);
+      of_lane = w.of_lane;
+      received = w.received;
       bytes = ap (λ (z : Slot). z.bytes) e;
       same = same-fields (slot_seen lane d c t) t.entry h (k.one).within;
-      moves = moved c.window (cid t.entry) t.entry (asked_in (slot_seen lane d c t) t.entry).moved b.window (k.one).within h.most there (ap (λ (z : SqeFields). z.prp1) r) (ap (λ (z : SqeFields). z.prp2) r);
+      moves = moved c.window (cid t.entry) t.entry (asked_in (slot_seen lane d c t) t.entry).moved k.sound.both.window (k.one).within h.most there (ap (λ (z : SqeFields). z.prp1) r) (ap (λ (z : SqeFields). z.prp2) r);
     }
 
 -- the rule on the pointer passes
@@ -48,10 +43,7 @@ without-pointer xs p q h =
     first_failing-append xs (p ∷ q ∷ []) ∙ ap (λ j. else_by (first_failing xs) (else_by j (first_failing (q ∷ [])))) h ∙ sym (first_failing-append xs (q ∷ []))
 
 pub held-known : (lane : Lane) (d : Driver) (c : Controller) (i : ℕ) (t : FetchedCommand) → Sound d c → slice_get c.fetched i ≡ Some t → lane_of_queue t.queue ≡ lane → IsHeld lane d c t
-held-known lane d c i t s g q =
-    let k = known d c i t s g in
-    let e : k.lane ≡ lane = sym k.of_lane ∙ q in
-    held lane d c t i s (subst (λ l. Takes l (host_side d) (device_side c) i t.entry) e k.takes)
+held-known lane d c i t s g q = held lane d c i t (subst (λ l. Known l d c i t) q (known d c i t s g))
 
 -- the data that the command gathers are those of the request, where it receives none
 pub data-same : (lane : Lane) (d : Driver) (c : Controller) (t : FetchedCommand) (h : IsHeld lane d c t) → (asked_in (slot_seen lane d c t) t.entry).received ≡ 0
@@ -68,11 +60,7 @@ data-same lane d c t h z =
 
 -- the request that the mailbox has
 pub item-is : (d : Driver) (c : Controller) (i : ℕ) (t : FetchedCommand) (x : FetchedItem) → slice_get c.fetched i ≡ Some t → slice_get (mailbox d c).fetched i ≡ Some x → x ≡ item_at d c t
-item-is d c i t x g f =
-    let e : slice_get (mailbox d c).fetched i ≡ Some (item_at d c t) =
-    slice_get-map (fetched_by (held_by (host_side d) c.window)) (map taken_by c.fetched) i
-    ∙ ap (option_map (fetched_by (held_by (host_side d) c.window))) (slice_get-map taken_by c.fetched i ∙ ap (option_map taken_by) g) in
-    same_Some x (item_at d c t) (sym f ∙ e)
+item-is d c i t x g f = same_Some x (item_at d c t) (sym f ∙ found-at d c i t g)
 
 pub asked-in : (lane : Lane) (d : Driver) (c : Controller) (t : FetchedCommand) → lane_of_queue t.queue ≡ lane → (item_at d c t).item.asked ≡ asked_in (slot_seen lane d c t) t.entry
 unfolding item_in

@@ -1,5 +1,5 @@
 -- Windows that differ in one slot or in the queue pages of one lane, and stores that leave such windows.
-use Rattle.nvme_fleet.proofs.Words.{list_page, data_area, ◌≡◌, ℕ, ◌+◌, ◌*◌, ◌<◌, ◌≤◌, List, length, ap, ◌∙◌, arith, false, eqb, take, drop, ◌⊎◌, inl, inr, take-take, cases_lt, eqb-false, most_bytes, with_bytes, Lane, Admin, Io, other, base, pages_of, area, listed}
+use Rattle.nvme_fleet.proofs.Words.{list_page, data_area, ◌≡◌, ℕ, ◌+◌, ◌*◌, ◌<◌, ◌≤◌, List, length, ap, ◌∙◌, arith, false, eqb, take, drop, ◌⊎◌, inl, inr, take-take, cases_lt, eqb-false, most_bytes, with_bytes, Lane, Admin, Io, other, submission_queue, pages_of, area, listed}
 use Rattle.std.proofs.lemmas.List.{length-drop}
 use Rattle.nvme_fleet.proofs.Windows.{stored-length, stored-apart, stored-in}
 use Rattle.nvme_fleet.proofs.LanePages.{first-here, second-here}
@@ -34,13 +34,13 @@ list-apart : (w bytes : List ℕ) (at k : ℕ) → at + length bytes ≤ length 
 unfolding listed
 list-apart w bytes at k i h = stored-apart w bytes at (list_page k) 4096 i h
 
-base-small : (lane : Lane) → base lane ≤ 8192
+base-small : (lane : Lane) → submission_queue lane ≤ 8192
 base-small Admin = omega arith
 base-small Io = omega arith
 
-pages-apart : (lane : Lane) (w bytes : List ℕ) (at : ℕ) → at + length bytes ≤ length w → (base lane + 8192 ≤ at) ⊎ (at + length bytes ≤ base lane) → pages_of lane (with_bytes w at bytes) ≡ pages_of lane w
+pages-apart : (lane : Lane) (w bytes : List ℕ) (at : ℕ) → at + length bytes ≤ length w → (submission_queue lane + 8192 ≤ at) ⊎ (at + length bytes ≤ submission_queue lane) → pages_of lane (with_bytes w at bytes) ≡ pages_of lane w
 unfolding pages_of
-pages-apart lane w bytes at i h = stored-apart w bytes at (base lane) 8192 i h
+pages-apart lane w bytes at i h = stored-apart w bytes at (submission_queue lane) 8192 i h
 
 apart-data : (base k s n : ℕ) → eqb k s ≡ false → n ≤ most_bytes → (base + most_bytes * k + most_bytes ≤ base + most_bytes * s) ⊎ (base + most_bytes * s + n ≤ base + most_bytes * k)
 apart-data base k s n q h =
@@ -93,20 +93,20 @@ page-here b w bytes at p q =
     ap (take 8192) (second-here w bytes at b (omega (arith, p, q))) ∙
     first-here (drop b w) bytes at 8192 p (omega (arith, length-drop b w, q))
 
-here-of : (lane : Lane) (w bytes : List ℕ) (at : ℕ) → at + length bytes ≤ 8192 → base lane + 8192 ≤ length w → pages_of lane (with_bytes w (base lane + at) bytes) ≡ with_bytes (pages_of lane w) at bytes
+here-of : (lane : Lane) (w bytes : List ℕ) (at : ℕ) → at + length bytes ≤ 8192 → submission_queue lane + 8192 ≤ length w → pages_of lane (with_bytes w (submission_queue lane + at) bytes) ≡ with_bytes (pages_of lane w) at bytes
 unfolding pages_of
-here-of lane w bytes at p q = page-here (base lane) w bytes at p q
+here-of lane w bytes at p q = page-here (submission_queue lane) w bytes at p q
 
-there-of : (lane : Lane) (w bytes : List ℕ) (at : ℕ) → at + length bytes ≤ 8192 → length w ≡ 4194304 → pages_of (other lane) (with_bytes w (base lane + at) bytes) ≡ pages_of (other lane) w
+there-of : (lane : Lane) (w bytes : List ℕ) (at : ℕ) → at + length bytes ≤ 8192 → length w ≡ 4194304 → pages_of (other lane) (with_bytes w (submission_queue lane + at) bytes) ≡ pages_of (other lane) w
 there-of Admin w bytes at p q = pages-apart Io w bytes (0 + at) (omega (arith, p, q)) (inr (omega (arith, p)))
 there-of Io w bytes at p q = pages-apart Admin w bytes (8192 + at) (omega (arith, p, q)) (inl (omega arith))
 
-pub pages : (lane : Lane) (w bytes : List ℕ) (at : ℕ) → length w ≡ 4194304 → at + length bytes ≤ 8192 → Pages lane w (with_bytes w (base lane + at) bytes) at bytes
+pub pages : (lane : Lane) (w bytes : List ℕ) (at : ℕ) → length w ≡ 4194304 → at + length bytes ≤ 8192 → Pages lane w (with_bytes w (submission_queue lane + at) bytes) at bytes
 pages lane w bytes at l p =
-    let i : base lane + at + length bytes ≤ length w = omega (arith, base-small lane, l, p) in
+    let i : submission_queue lane + at + length bytes ≤ length w = omega (arith, base-small lane, l, p) in
     record {
-      size = stored-length w bytes (base lane + at) i;
-      slots = λ k g. record { areas = area-apart w bytes (base lane + at) k i (inr (omega (arith, base-small lane, p))); lists = list-apart w bytes (base lane + at) k i (inr (omega (arith, base-small lane, p))) };
+      size = stored-length w bytes (submission_queue lane + at) i;
+      slots = λ k g. record { areas = area-apart w bytes (submission_queue lane + at) k i (inr (omega (arith, base-small lane, p))); lists = list-apart w bytes (submission_queue lane + at) k i (inr (omega (arith, base-small lane, p))) };
       here = here-of lane w bytes at p (omega (arith, base-small lane, l));
       there = there-of lane w bytes at p l;
     }

@@ -14,12 +14,10 @@ pub mod Ups
 pub mod LanePages
 pub mod LaneWindows
 pub mod LaneSlots
+pub mod OneLane
 pub mod Placing
-pub mod Fetching
 pub mod Ranks
-pub mod Executing
 pub mod Orders
-pub mod Polling
 pub mod Resetting
 pub mod Rising
 pub mod Registering

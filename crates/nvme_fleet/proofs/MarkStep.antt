@@ -1,39 +1,32 @@
 -- Marks reach the mailbox where they reach its controller.
-use Rattle.nvme_fleet.proofs.Words.{◌≡◌, ℕ, suc, ◌==◌, ◌&&◌, not, Bool, true, false, List, [], ◌∷◌, map, Some, refl, sym, ap, ◌∙◌, slice_get, if◌then◌else◌, AllByRecursion, nsid, Lane, Admin, Io, Driver, FetchedCommand, Controller, lane_of, is_io, item_in, box, Both, commands_in, host, state, held_by, fetched_by, Sound, IsOfLane, host_side, device_side, mailbox, taken_by, lane_of_queue, MarksAreSteps}
+use Rattle.nvme_fleet.proofs.Words.{◌≡◌, ℕ, suc, ◌==◌, ◌&&◌, not, Bool, true, false, List, [], ◌∷◌, map, Some, refl, sym, ap, ◌∙◌, slice_get, if◌then◌else◌, AllByRecursion, nsid, Lane, Admin, Io, Driver, FetchedCommand, Controller, lane_of, is_io, item_in, box, Both, commands_in, host, state, held_by, fetched_by, Sound, IsOfLane, mailbox, lane_of_queue, MarksAreSteps}
 use Rattle.nvme_machine.specs.Controllers as machine
 use Rattle.nvme_mailbox.specs.Mailboxes as mail
-use Rattle.nvme_fleet.proofs.Placing.{same-holds}
+use Rattle.nvme_fleet.proofs.OneLane.{same-holds}
 use Rattle.nvme_fleet.proofs.PostStep.{item_at, known, seen, lane-of-item}
 
 abbrev marked : ℕ → FetchedCommand → FetchedCommand
 marked n t = machine.with_mark n t
 
--- a mark leaves a command's lane and entry
-command-same : (n : ℕ) (t : FetchedCommand) → (taken_by (marked n t)).command ≡ t.entry
-command-same n t = elim (machine.names n t) as (λ b. (taken_by (if b then record t { marked = true } else t)).command ≡ t.entry) [
-  | true ↦ refl
-  | false ↦ refl
-]
-
-lane-same : (n : ℕ) (t : FetchedCommand) → (taken_by (marked n t)).lane ≡ lane_of_queue t.queue
-lane-same n t = elim (machine.names n t) as (λ b. (taken_by (if b then record t { marked = true } else t)).lane ≡ lane_of_queue t.queue) [
+-- a mark leaves all else of a command
+same-but : (n : ℕ) (t : FetchedCommand) → marked n t ≡ record t { marked = (marked n t).marked }
+same-but n t = elim (machine.names n t) as (λ b. (if b then record t { marked = true } else t) ≡ record t { marked = (if b then record t { marked = true } else t).marked }) [
   | true ↦ refl
   | false ↦ refl
 ]
 
 queue-same : (n : ℕ) (t : FetchedCommand) → (marked n t).queue ≡ t.queue
-queue-same n t = elim (machine.names n t) as (λ b. (if b then record t { marked = true } else t).queue ≡ t.queue) [
-  | true ↦ refl
-  | false ↦ refl
-]
+queue-same n t = ap (λ (x : FetchedCommand). x.queue) (same-but n t)
 
-lanes-same : (lane : Lane) (n : ℕ) (ts : List FetchedCommand) → commands_in lane (map taken_by (map (marked n) ts)) ≡ commands_in lane (map taken_by ts)
+entry-same : (n : ℕ) (t : FetchedCommand) → (marked n t).entry ≡ t.entry
+entry-same n t = ap (λ (x : FetchedCommand). x.entry) (same-but n t)
+
+lanes-same : (lane : Lane) (n : ℕ) (ts : List FetchedCommand) → commands_in lane (map (marked n) ts) ≡ commands_in lane ts
 lanes-same lane n [] = refl
-lanes-same lane n (t ∷ ts) = rw (lane-same n t, command-same n t, lanes-same lane n ts) refl
+lanes-same lane n (t ∷ ts) = rw (queue-same n t, entry-same n t, lanes-same lane n ts) refl
 
-state-same : (lane : Lane) (n : ℕ) (c : Controller) → state lane (device_side (machine.with_marks n c)) ≡ state lane (device_side c)
-state-same Admin n c = rw (lanes-same Admin n c.fetched) refl
-state-same Io n c = rw (lanes-same Io n c.fetched) refl
+state-same : (lane : Lane) (n : ℕ) (c : Controller) → state lane (machine.with_marks n c) ≡ state lane c
+state-same lane n c = ap (λ ts. record (state lane c) { taken = ts }) (lanes-same lane n c.fetched)
 
 all-marked : (n : ℕ) (ts : List FetchedCommand) → AllByRecursion IsOfLane ts → AllByRecursion IsOfLane (map (marked n) ts)
 all-marked n [] a = tt
@@ -48,7 +41,7 @@ reaches : (d : Driver) (c : Controller) (i : ℕ) (t : FetchedCommand) → Sound
 unfolding item_in
 reaches d c i t s g =
     let k = known d c i t s g in
-    record { lane = lane-of-item k.lane d c t k.of_lane (seen k.lane d c i t k.takes) ∙ sym k.of_lane; space = refl }
+    record { lane = lane-of-item (lane_of_queue t.queue) d c t refl (seen (lane_of_queue t.queue) d c i t k); space = refl }
 
 io-is : (q : ℕ) → is_io (lane_of_queue q) ≡ not (q == 0)
 io-is q = elim (q == 0) as (λ b. is_io (if b then Admin else Io) ≡ not b) [
@@ -62,24 +55,24 @@ names-same d c n t r =
     ∙ ap (λ m. is_io (lane_of_queue t.queue) && (m == n)) r.space
     ∙ ap (λ b. b && (nsid t.entry == n)) (io-is t.queue)
 
-item-marked : (d : Driver) (c : Controller) (n : ℕ) (t : FetchedCommand) → Reaches d c t → fetched_by (held_by (host_side d) c.window) (taken_by (marked n t)) ≡ mail.with_mark n (item_at d c t)
+item-marked : (d : Driver) (c : Controller) (n : ℕ) (t : FetchedCommand) → Reaches d c t → fetched_by (held_by d c.window) (marked n t) ≡ mail.with_mark n (item_at d c t)
 item-marked d c n t r =
     by (machine.names n t) ∙ ap (λ b. if b then record (item_at d c t) { marked = true } else item_at d c t) (sym (names-same d c n t r))
   where
-    by : (b : Bool) → fetched_by (held_by (host_side d) c.window) (taken_by (if b then record t { marked = true } else t)) ≡ (if b then record (item_at d c t) { marked = true } else item_at d c t)
+    by : (b : Bool) → fetched_by (held_by d c.window) (if b then record t { marked = true } else t) ≡ (if b then record (item_at d c t) { marked = true } else item_at d c t)
     by true = refl
     by false = refl
 
 items-marked : (d : Driver) (c : Controller) (n : ℕ) (ts : List FetchedCommand) → ((i : ℕ) (t : FetchedCommand) → slice_get ts i ≡ Some t → Reaches d c t)
-    → map (fetched_by (held_by (host_side d) c.window)) (map taken_by (map (marked n) ts)) ≡ map (mail.with_mark n) (map (fetched_by (held_by (host_side d) c.window)) (map taken_by ts))
+    → map (fetched_by (held_by d c.window)) (map (marked n) ts) ≡ map (mail.with_mark n) (map (fetched_by (held_by d c.window)) ts)
 items-marked d c n [] h = refl
 items-marked d c n (t ∷ ts) h =
     λ j. item-marked d c n t (h 0 t refl) j ∷ items-marked d c n ts (λ i u g. h (suc i) u g) j
 
 pub marks_are_steps : MarksAreSteps
 marks_are_steps d c n s =
-    let b : Both (host_side d) (device_side c) = s.both in
-    let both : Both (host_side d) (device_side (machine.with_marks n c)) = record {
+    let b : Both d c = s.both in
+    let both : Both d (machine.with_marks n c) = record {
       first = b.first;
       window = b.window;
       slots = b.slots;
@@ -96,5 +89,5 @@ marks_are_steps d c n s =
         up = λ u. let p = s.up u in record { admin = p.admin; io = p.io; submission = p.submission; completion = p.completion; fetched = all-marked n c.fetched p.fetched; ready = p.ready; enabled = p.enabled };
         down = λ u. let o = s.down u in record { submission = o.submission; completion = o.completion; fetched = ap (map (marked n)) o.fetched; off = o.off; disabled = o.disabled };
       };
-      mail = λ j. record (mailbox d c) { admin = box (host Admin (host_side d) c.window) (a j); io = box (host Io (host_side d) c.window) (o j); fetched = e j };
+      mail = λ j. record (mailbox d c) { admin = box (host Admin d c.window) (a j); io = box (host Io d c.window) (o j); fetched = e j };
     }

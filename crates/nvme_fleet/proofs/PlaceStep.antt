@@ -1,13 +1,18 @@
--- A placing is a step of the mailbox.
-use Rattle.nvme_fleet.proofs.Words.{◌≡◌, ℕ, zero, suc, ◌+◌, ◌-◌, ◌*◌, ◌%◌, ◌<◌, ◌≤◌, ◌==◌, nat_lt, Bool, true, false, not, ◌&&◌, List, [], ◌∷◌, length, take, Option, None, Some, refl, sym, ap, subst, ◌∙◌, arith, inl, inr, cases_lt, ne_eqb, le-leb, bytes_eq-Decides, bytes_eq, slice_set, if◌then◌else◌, nat_le, SqeFields, submission_entry, submission_of, cid, with_bytes, most_bytes, window_size, Lane, Admin, Io, Waiting, Request, PlaceRefusal, NotReady, BadRequest, NoSlot, RingFull, TicketsExhausted, list_page, data_area, submission_queue, stored_list, Asked, asked_of, is_bad, Driver, is_up, ends, entry_of, entry_fields, entry_length, free_slot, place_refusal, ticket_count, stores_of, waiting_of, waiting_at, length-stored_list, entries_move_their_data, Controller, after_store, Item, Mailbox, box_at, with_box, MailboxReaction, refusal, placed_by, new_item, with_placed, Slot, asked_in, is_plain, suits, item_in, received_in, Both, Placement, whole, area, mail, placed_window, base, Sound, EndsFit, IsPaired, host_side, device_side, mailbox, PlaceIsAStep, RefusalIsAStep, after_calls}
+-- A placing is a step of the mailbox: the lane of the request takes it, and the other lane sees the next ticket alone.
+use Rattle.nvme_fleet.proofs.Words.{◌≡◌, ℕ, zero, suc, ◌+◌, ◌-◌, ◌*◌, ◌%◌, ◌<◌, ◌≤◌, ◌==◌, nat_lt, Bool, true, false, not, ◌&&◌, cond, eqb, List, [], ◌∷◌, length, take, Option, None, Some, refl, sym, ap, subst, ◌∙◌, arith, inl, inr, cases_lt, ne_eqb, le-leb, bytes_eq-Decides, bytes_eq, slice_set, length-set, if◌then◌else◌, nat_le, SqeFields, submission_entry, submission_of, cid, with_bytes, most_bytes, Lane, Admin, Io, Waiting, Request, PlaceRefusal, NotReady, BadRequest, NoSlot, RingFull, TicketsExhausted, list_page, data_area, submission_queue, stored_list, Asked, asked_of, is_bad, Driver, is_up, ends, entry_of, entry_fields, entry_length, free_slot, place_refusal, put_ends, ticket_count, stores_of, waiting_of, waiting_at, length-stored_list, entries_move_their_data, Controller, after_store, LaneBox, box_at, with_box, MailboxReaction, refusal, placed_by, new_item, with_placed, Host, State, Slot, empty, box, live_in, live_at, asked_in, is_plain, suits, item_in, received_in, placed_state, Both, other, host, state, slot_in, slots_in, whole, area, listed, pages_of, in_order, aborted_number, ranked_too, Sound, mailbox, PlaceIsAStep, RefusalIsAStep, after_calls}
 use Rattle.nvme_driver.specs.Drivers as driver
 use Rattle.nvme_driver.specs.Drivers.{lane_of}
 use Rattle.nvme_driver.proofs.Placing.{length-entry}
-use Rattle.nvme_fleet.specs.Lanes as lanes
-use Rattle.nvme_fleet.specs.Lanes.{placed}
-use Rattle.nvme_fleet.proofs.Places.{no-way}
+use Rattle.nvme_mailbox.specs.Deliveries.{with_request}
+use Rattle.nvme_fleet.specs.Views.{placed as placed_one}
+use Rattle.nvme_fleet.proofs.Places.{Places, place-box, place-holds, no-way}
+use Rattle.nvme_fleet.proofs.Empties.{bare-of}
 use Rattle.nvme_fleet.proofs.Sizes.{Sizes, sizes, plain as plain_request}
-use Rattle.nvme_fleet.proofs.Placing.{Fills, fills, free-some, Goes, free-same, place-both, place-mail}
+use Rattle.nvme_fleet.proofs.StartStep.{stored-at}
+use Rattle.nvme_fleet.proofs.LaneWindows.{Same, same-both, Leaves, leaves-both, leaves-data, leaves-list, areas-list, Pages, pages, area-front, list-front}
+use Rattle.nvme_fleet.proofs.LaneSlots.{slot-in, slots-here, slots-there, same-self, same-other}
+use Rattle.nvme_fleet.proofs.OneLane.{Changed, changed, AtLane, running, box-is, size-set, sound-at, fetched-at, mail-at}
+use Rattle.nvme_fleet.proofs.Placing.{free-some, free-same}
 
 -- The tests of a placing see the same in a mailbox and in its driver.
 
@@ -30,21 +35,17 @@ same-tests true bad a a' b b' more h = let e = h refl in rw (e.0, e.1) refl
 same-tests false bad a a' b b' more h = refl
 
 unheard-is : (lane : Lane) (d : Driver) (c : Controller) → (box_at lane (mailbox d c)).unheard ≡ (ends lane d).tail.unheard
-unfolding Rattle.nvme_fleet.specs.Views.box
-unheard-is Admin d c = refl
-unheard-is Io d c = refl
-
-unheard-small : (lane : Lane) (d : Driver) (c : Controller) → Sound d c → is_up d.state ≡ true → (ends lane d).tail.unheard < 8
-unheard-small Admin d c s u = let b : Both (host_side d) (device_side c) = s.both in let r = (b.each Admin).up u in r.room
-unheard-small Io d c s u = let b : Both (host_side d) (device_side c) = s.both in let r = (b.each Io).up u in r.room
+unfolding box
+unheard-is lane d c = ap (λ (b : LaneBox). b.unheard) (box-is lane d c)
 
 refusal-is : (d : Driver) (c : Controller) (request : Request) → Sound d c → refusal (mailbox d c) request ≡ place_refusal d request
 refusal-is d c request s =
     same-tests (is_up d.state) (is_bad request) _ _ _ _ (nat_lt d.next ticket_count) (λ u.
-    let f = s.fits (lane_of request) in (
-      free-same (host_side d) (device_side c) s.both u,
+    let f = s.fits (lane_of request) in
+    let r = running (lane_of request) d c s u in (
+      free-same d c s.both u,
       ap (λ n. n == 7) (unheard-is (lane_of request) d c)
-          ∙ full-is (ends (lane_of request) d).tail.unheard (unheard-small (lane_of request) d c s u)
+          ∙ full-is (ends (lane_of request) d).tail.unheard r.room
           ∙ ap (λ n. n - 1 - (ends (lane_of request) d).tail.unheard == 0) (sym f.tail),
     ))
 
@@ -72,12 +73,6 @@ below-seven u h e = elim (cases_lt u 7) [
   | inr g ↦ (let k : 8 - 1 - u ≡ 0 = omega (arith, g) in absurd (no-way (8 - 1 - u == 0) e (rw k refl)))
 ]
 
--- The stores.
-
-stored-is : (at : ℕ) (bytes : List ℕ) (c : Controller) → at + length bytes ≤ window_size → (after_store at bytes c).controller ≡ record c { window = with_bytes c.window at bytes }
-unfolding after_store
-stored-is at bytes c h = rw (le-leb (at + length bytes) window_size h) refl
-
 -- A command suits a slot whose request it spells, and whose list is there.
 same-bytes : (xs ys : List ℕ) → xs ≡ ys → bytes_eq xs ys ≡ true
 same-bytes xs ys e = let d = bytes_eq-Decides xs ys in d.1 e
@@ -90,21 +85,45 @@ suits-by s x a k is named spelled most less there plainly =
     ∙ ap (λ n. bytes_eq x (submission_entry (entry_fields a n)) && (nat_le a.moved most_bytes && (nat_le a.received a.moved && (bytes_eq (take (length (stored_list n a.moved)) s.list) (stored_list n a.moved) && is_plain a)))) named
     ∙ rw (same-bytes x _ spelled, le-leb a.moved most_bytes most, le-leb a.received a.moved less, same-bytes _ _ there, plainly) refl
 
--- A placing, as its driver makes it.
-abbrev placement : Driver → Request → ℕ → Placement
-placement d request slot = record {
-  waiting = waiting_of d request;
-  slot = slot;
-  bytes = (asked_of request).sent;
-  list = stored_list slot (asked_of request).moved;
-  command = entry_of request slot;
-}
+-- what is stored of a request: its data and its list in the slot, the entry at the lane's tail, and no other part
+pub record Fills (lane : Lane) (w w' : List ℕ) (s p : ℕ) (bytes list entry : List ℕ) : Type 0 where
+  pub size : length w' ≡ length w
+  pub slots : (k : ℕ) → k < 24 → eqb k s ≡ false → Same w w' k
+  pub here : pages_of lane w' ≡ with_bytes (pages_of lane w) (64 * p) entry
+  pub there : pages_of (other lane) w' ≡ pages_of (other lane) w
+  pub data_in : take (length bytes) (area w' s) ≡ bytes
+  pub list_in : take (length list) (listed w' s) ≡ list
 
--- what is known of it
+pub fills : (lane : Lane) (w bytes list entry : List ℕ) (s p : ℕ) → length w ≡ 4194304 → s < 24 → p < 8 → length bytes ≤ most_bytes → length list ≤ 4096 → length entry ≡ 64 →
+    Fills lane w (with_bytes (with_bytes (with_bytes w (data_area s) bytes) (list_page s) list) (submission_queue lane + 64 * p) entry) s p bytes list entry
+fills lane w bytes list entry s p l a b h g e =
+    let u = with_bytes w (data_area s) bytes in
+    let v = with_bytes (with_bytes w (data_area s) bytes) (list_page s) list in
+    let one : Leaves w u s = leaves-data w bytes s l a h in
+    let m : length u ≡ 4194304 = one.size ∙ l in
+    let two : Leaves u v s = leaves-list u list s m a (omega (arith, g)) in
+    let n : length v ≡ 4194304 = two.size ∙ m in
+    let three : Pages lane v (with_bytes v (submission_queue lane + 64 * p) entry) (64 * p) entry = pages lane v entry (64 * p) n (omega (arith, b, e)) in
+    let all : Leaves w v s = leaves-both w u v s one two in
+    let own : Same v (with_bytes v (submission_queue lane + 64 * p) entry) s = three.slots s a in
+    record {
+      size = three.size ∙ all.size;
+      slots = λ k i q. same-both w v (with_bytes v (submission_queue lane + 64 * p) entry) k (all.slots k i q) (three.slots k i);
+      here = three.here ∙ ap (λ x. with_bytes x (64 * p) entry) (all.pages lane);
+      there = three.there ∙ all.pages (other lane);
+      data_in = ap (take (length bytes)) (own.areas ∙ areas-list u list s m a (omega (arith, g))) ∙ area-front w bytes s (omega (arith, l, a)) h;
+      list_in = ap (take (length list)) own.lists ∙ list-front u list s (omega (arith, m, a)) g;
+    }
+
+-- What is known of a placing.
+abbrev window_then : Driver → Controller → Request → ℕ → List ℕ
+window_then d c request slot = driver.placed_window d c.window request slot
+
 record Known (d : Driver) (c : Controller) (request : Request) (slot : ℕ) : Type 0 where
   sound : Sound d c
   up : is_up d.state ≡ true
   good : is_bad request ≡ false
+  put : (ends (lane_of request) d).tail.put < 8
   room : (ends (lane_of request) d).tail.unheard < 7
   within : slot < 24
   free : waiting_at d.slots slot ≡ None
@@ -116,45 +135,36 @@ known : (d : Driver) (c : Controller) (request : Request) (slot : ℕ) → Sound
 known d c request slot s h f say =
     let p = passes (is_up d.state) (is_bad request) _ _ _ h in
     let g = s.fits (lane_of request) in
-    let b : Both (host_side d) (device_side c) = s.both in
+    let b : Both d c = s.both in
+    let r = running (lane_of request) d c s p.up in
     let a = free-some d.slots slot f in
     let q : (8 - 1 - (ends (lane_of request) d).tail.unheard == 0) ≡ false = ap (λ n. n - 1 - (ends (lane_of request) d).tail.unheard == 0) (sym g.tail) ∙ p.room in
     record {
       sound = s;
       up = p.up;
       good = p.good;
-      room = below-seven (ends (lane_of request) d).tail.unheard (unheard-small (lane_of request) d c s p.up) q;
+      put = r.put;
+      room = below-seven (ends (lane_of request) d).tail.unheard r.room q;
       within = omega (arith, a.0, b.slots);
       free = a.1;
       says = say;
       sized = sizes request p.good;
     }
 
-put-of : (lane : Lane) (d : Driver) → (lanes.ends lane (host_side d)).put ≡ (ends lane d).tail.put
-put-of Admin d = refl
-put-of Io d = refl
-
-unheard-of : (lane : Lane) (d : Driver) → (lanes.ends lane (host_side d)).unheard ≡ (ends lane d).tail.unheard
-unheard-of Admin d = refl
-unheard-of Io d = refl
-
-put-small : (lane : Lane) (d : Driver) (c : Controller) → Sound d c → is_up d.state ≡ true → (ends lane d).tail.put < 8
-put-small Admin d c s u = let b : Both (host_side d) (device_side c) = s.both in let r = (b.each Admin).up u in r.put
-put-small Io d c s u = let b : Both (host_side d) (device_side c) = s.both in let r = (b.each Io).up u in r.put
-
-abbrev window_then : Driver → Controller → Request → ℕ → List ℕ
-window_then d c request slot = placed_window (lane_of request) c.window (lanes.ends (lane_of request) (host_side d)).put (placement d request slot)
+queue-low : (lane : Lane) → submission_queue lane ≤ 8192
+queue-low Admin = omega arith
+queue-low Io = omega arith
 
 filled-so : (d : Driver) (c : Controller) (request : Request) (slot : ℕ) → Known d c request slot
-    → Fills (lane_of request) c.window (window_then d c request slot) slot (lanes.ends (lane_of request) (host_side d)).put (asked_of request).sent (stored_list slot (asked_of request).moved) (entry_of request slot)
+    → Fills (lane_of request) c.window (window_then d c request slot) slot (ends (lane_of request) d).tail.put (asked_of request).sent (stored_list slot (asked_of request).moved) (entry_of request slot)
 filled-so d c request slot k =
-    let s = k.sound in
-    let b : Both (host_side d) (device_side c) = s.both in
     let z = k.sized in
-    let p : (lanes.ends (lane_of request) (host_side d)).put < 8 = subst (λ n. n < 8) (sym (put-of (lane_of request) d)) (put-small (lane_of request) d c s k.up) in
     let l = length-stored_list slot (asked_of request).moved z.most in
-    fills (lane_of request) c.window (asked_of request).sent (stored_list slot (asked_of request).moved) (entry_of request slot) slot
-    (lanes.ends (lane_of request) (host_side d)).put b.window k.within p (omega (arith, z.sent, z.most)) (omega (arith, l)) (length-entry (entry_fields (asked_of request) slot))
+    let two : List ℕ = with_bytes (with_bytes c.window (data_area slot) (asked_of request).sent) (list_page slot) (stored_list slot (asked_of request).moved) in
+    let e : (ends (lane_of request) d).tail.put % 8 ≡ (ends (lane_of request) d).tail.put = omega (arith, k.put) in
+    subst (λ n. Fills (lane_of request) c.window (with_bytes two (submission_queue (lane_of request) + 64 * n) (entry_of request slot)) slot (ends (lane_of request) d).tail.put (asked_of request).sent (stored_list slot (asked_of request).moved) (entry_of request slot)) (sym e)
+    (fills (lane_of request) c.window (asked_of request).sent (stored_list slot (asked_of request).moved) (entry_of request slot) slot
+    (ends (lane_of request) d).tail.put k.sound.both.window k.within k.put (omega (arith, z.sent, z.most)) (omega (arith, l)) (length-entry (entry_fields (asked_of request) slot)))
 
 -- the command asks what the request asks
 asked-so : (d : Driver) (c : Controller) (request : Request) (slot : ℕ) → Known d c request slot
@@ -174,130 +184,143 @@ asked-so d c request slot k =
       received = (asked_of request).received;
     }
 
-goes-so : (d : Driver) (c : Controller) (request : Request) (slot : ℕ) → Known d c request slot
-    → Goes (lane_of request) (host_side d) (device_side c) (placement d request slot)
-goes-so d c request slot k =
-    let s = k.sound in
-    let f = filled-so d c request slot k in
-    let z = k.sized in
-    let named : cid (entry_of request slot) ≡ slot = ap (λ (x : SqeFields). x.cid) k.says in
-    record {
-      both = s.both;
-      up = k.up;
-      room = subst (λ n. n < 7) (sym (unheard-of (lane_of request) d)) k.room;
-      within = k.within;
-      free = k.free;
-      own_lane = refl;
-      live = refl;
-      ticket = refl;
-      size = length-entry (entry_fields (asked_of request) slot);
-      named = named;
-      fills = f;
-      suits_it = suits-by (whole (window_then d c request slot) slot (waiting_of d request)) (entry_of request slot) (asked_of request) slot (asked-so d c request slot k) named refl z.most z.received f.list_in (plain_request request);
-    }
-
--- the driver's side, and the controller's
-host-placed : (lane : Lane) (d : Driver) (w : Waiting) (slot : ℕ) (r : Placement) → EndsFit (ends lane d) → r.waiting ≡ w → r.slot ≡ slot
-    → host_side (driver.with_ends lane (driver.put_ends (ends lane d)) (record d { next = d.next + 1; slots = slice_set d.slots slot (Some w) })) ≡ placed lane (host_side d) r
-host-placed Admin d w slot r f a b = rw (f.tail, a, b) refl
-host-placed Io d w slot r f a b = rw (f.tail, a, b) refl
-
-place-of : (lane : Lane) (put : ℕ) → put < 8 → submission_queue lane + 64 * (put % 8) ≡ base lane + 64 * put
-place-of Admin put h = omega (arith, h)
-place-of Io put h = omega (arith, h)
-
-fits-placed : (lane l : Lane) (d : Driver) (n : ℕ) (slots : List (Option Waiting)) → EndsFit (ends Admin d) → EndsFit (ends Io d) → EndsFit (ends l (driver.with_ends lane (driver.put_ends (ends lane d)) (record d { next = n; slots = slots })))
-fits-placed Admin Admin d n slots f g = record { tail = f.tail; head = f.head }
-fits-placed Admin Io d n slots f g = g
-fits-placed Io Admin d n slots f g = f
-fits-placed Io Io d n slots f g = record { tail = g.tail; head = g.head }
-
-slots-placed : (lane : Lane) (e : driver.Ends) (d : Driver) → (driver.with_ends lane e d).slots ≡ d.slots
-slots-placed Admin e d = refl
-slots-placed Io e d = refl
-
-state-placed : (lane : Lane) (e : driver.Ends) (d : Driver) → (driver.with_ends lane e d).state ≡ d.state
-state-placed Admin e d = refl
-state-placed Io e d = refl
-
-size-set : (slots : List (Option Waiting)) (i k : ℕ) (w : Waiting) → w.received ≤ most_bytes → ((j : ℕ) → received_in (waiting_at slots j) ≤ most_bytes) → received_in (waiting_at (slice_set slots i (Some w)) k) ≤ most_bytes
-size-set [] i k w h g = g k
-size-set (x ∷ xs) zero zero w h g = h
-size-set (x ∷ xs) zero (suc k) w h g = g (suc k)
-size-set (x ∷ xs) (suc i) zero w h g = g zero
-size-set (x ∷ xs) (suc i) (suc k) w h g = size-set xs i k w h (λ j. g (suc j))
-
--- the controller once all was stored
-abbrev controller_then : Driver → Controller → Request → ℕ → Controller
-controller_then d c request slot = record c { window = window_then d c request slot }
-
-base-small : (lane : Lane) (put : ℕ) → put < 8 → submission_queue lane + 64 * (put % 8) + 64 ≤ window_size
-base-small Admin put h = omega (arith, h)
-base-small Io put h = omega (arith, h)
-
-entry-place : (d : Driver) (c : Controller) (request : Request) → (ends (lane_of request) d).tail.put < 8
-    → driver.entry_place d request ≡ base (lane_of request) + 64 * (lanes.ends (lane_of request) (host_side d)).put
-entry-place d c request h = place-of (lane_of request) (ends (lane_of request) d).tail.put h ∙ ap (λ n. base (lane_of request) + 64 * n) (sym (put-of (lane_of request) d))
-
-stores-so : (d : Driver) (c : Controller) (request : Request) (slot : ℕ) → Known d c request slot → after_calls (stores_of d request slot) c ≡ controller_then d c request slot
-stores-so d c request slot k =
-    let s = k.sound in
-    let z = k.sized in
-    let p = put-small (lane_of request) d c s k.up in
-    let sent : List ℕ = (asked_of request).sent in
-    let list : List ℕ = stored_list slot (asked_of request).moved in
-    let one : List ℕ = with_bytes c.window (data_area slot) (asked_of request).sent in
-    let two : List ℕ = with_bytes (with_bytes c.window (data_area slot) (asked_of request).sent) (list_page slot) (stored_list slot (asked_of request).moved) in
-    let l = length-stored_list slot (asked_of request).moved z.most in
-    let e = length-entry (entry_fields (asked_of request) slot) in
-    let a = stored-is (data_area slot) (asked_of request).sent c (omega (arith, k.within, z.sent, z.most)) in
-    let b = stored-is (list_page slot) (stored_list slot (asked_of request).moved) (record c { window = with_bytes c.window (data_area slot) (asked_of request).sent }) (omega (arith, k.within, l)) in
-    let g = base-small (lane_of request) (ends (lane_of request) d).tail.put p in
-    let t = stored-is (driver.entry_place d request) (entry_of request slot) (record c { window = with_bytes (with_bytes c.window (data_area slot) (asked_of request).sent) (list_page slot) (stored_list slot (asked_of request).moved) }) (omega (arith, e, g)) in
-    ap (λ x. (after_store (driver.entry_place d request) (entry_of request slot) (after_store (list_page slot) (stored_list slot (asked_of request).moved) x).controller).controller) a
-    ∙ ap (λ x. (after_store (driver.entry_place d request) (entry_of request slot) x).controller) b
-    ∙ t
-    ∙ ap (λ n. record c { window = with_bytes (with_bytes (with_bytes c.window (data_area slot) (asked_of request).sent) (list_page slot) (stored_list slot (asked_of request).moved)) n (entry_of request slot) }) (entry-place d c request p)
-
 new-item-so : (d : Driver) (c : Controller) (request : Request) (slot : ℕ) → Known d c request slot
     → item_in (whole (window_then d c request slot) slot (waiting_of d request)) (entry_of request slot) ≡ new_item (mailbox d c) request
 unfolding item_in
 new-item-so d c request slot k = ap (λ (a : Asked). record { ticket = d.next; asked = a }) (asked-so d c request slot k)
 
-paired-window : (c : Controller) (w : List ℕ) → IsPaired c → IsPaired (record c { window = w })
-paired-window c w p = record { admin = p.admin; io = p.io; submission = p.submission; completion = p.completion; fetched = p.fetched; ready = p.ready; enabled = p.enabled }
+-- What becomes of the lane.
+abbrev host_then : Driver → Controller → Request → ℕ → Host
+host_then d c request slot =
+    placed_one (host (lane_of request) d c.window) (waiting_of d request) slot (area (window_then d c request slot) slot) (listed (window_then d c request slot) slot)
 
--- a mailbox with one more item
-abbrev with_one : Lane → Mailbox → Item → Mailbox
-with_one l m x = with_box l (with_placed (box_at l m) x) (record m { next = m.next + 1 })
+abbrev state_then : Driver → Controller → Request → ℕ → State
+state_then d c request slot = placed_state (host (lane_of request) d c.window) (state (lane_of request) c) (entry_of request slot)
+
+-- the controller once all was stored
+abbrev controller_then : Driver → Controller → Request → ℕ → Controller
+controller_then d c request slot = record c { window = window_then d c request slot }
+
+-- no lane has a request in the slot
+free-in : (l : Lane) (d : Driver) (c : Controller) (request : Request) (slot : ℕ) → Known d c request slot → slot_in l c.window slot (waiting_at d.slots slot) ≡ empty
+free-in l d c request slot k = ap (slot_in l c.window slot) k.free
+
+idle-in : (l : Lane) (d : Driver) (c : Controller) (request : Request) (slot : ℕ) → Known d c request slot → live_at (slots_in l c.window 0 d.slots) slot ≡ 0
+idle-in l d c request slot k = ap live_in (slot-in l c.window d.slots slot ∙ free-in l d c request slot k)
+
+-- What the driver's ends, next ticket and slots become.
+abbrev ChangedSo : Driver → Request → ℕ → Type 0
+ChangedSo d request slot =
+    Changed (lane_of request) d (driver.placed d request slot) (put_ends (ends (lane_of request) d)) (d.next + 1) (slice_set d.slots slot (Some (waiting_of d request)))
+
+changed-so : (d : Driver) (request : Request) (slot : ℕ) → ChangedSo d request slot
+changed-so d request slot = changed (lane_of request) d (put_ends (ends (lane_of request) d)) (d.next + 1) (slice_set d.slots slot (Some (waiting_of d request)))
+
+placed-at : (d : Driver) (c : Controller) (request : Request) (slot : ℕ) → Known d c request slot
+    → AtLane (lane_of request) d (driver.placed d request slot) c (controller_then d c request slot) (d.next + 1) (host_then d c request slot) (state_then d c request slot)
+placed-at d c request slot k =
+    let w : List ℕ = window_then d c request slot in
+    let f = filled-so d c request slot k in
+    let x = changed-so d request slot in
+    let b : Both d c = k.sound.both in
+    let g = k.sound.fits (lane_of request) in
+    let here = slots-here (lane_of request) c.window (window_then d c request slot) d.slots slot (Some (waiting_of d request)) b.slots k.within f.slots
+    ∙ ap (λ t. slice_set (slots_in (lane_of request) c.window 0 d.slots) slot (cond t (whole (window_then d c request slot) slot (waiting_of d request)) empty)) (same-self (lane_of request)) in
+    let there = slots-there (other (lane_of request)) c.window (window_then d c request slot) d.slots slot (Some (waiting_of d request)) b.slots k.within f.slots (free-in (other (lane_of request)) d c request slot k)
+    (ap (λ t. cond t (whole (window_then d c request slot) slot (waiting_of d request)) empty) (same-other (lane_of request))) in
+    let t = g.tail in
+    record {
+      up = x.state;
+      next = x.next;
+      later = omega arith;
+      window = f.size;
+      slots = ap length x.slots ∙ length-set d.slots slot (Some (waiting_of d request));
+      host_here = x.here (window_then d c request slot)
+          ∙ (λ i. record (host (lane_of request) d c.window) {
+            next = d.next + 1;
+            slots = here i;
+            put = ((ends (lane_of request) d).tail.put + 1) % t i;
+            unheard = (ends (lane_of request) d).tail.unheard + 1;
+          });
+      host_there = x.there (window_then d c request slot) ∙ (λ i. record (host (other (lane_of request)) d c.window) { next = d.next + 1; slots = there i });
+      state_here = λ i. record (state (lane_of request) c) { window = f.here i };
+      state_there = λ i. record (state (other (lane_of request)) c) { window = f.there i };
+    }
+
+-- what the lane's own Place asks for
+places-so : (d : Driver) (c : Controller) (request : Request) (slot : ℕ) → Known d c request slot
+    → Places (host (lane_of request) d c.window) (state (lane_of request) c) (entry_of request slot) (waiting_of d request) slot (area (window_then d c request slot) slot) (listed (window_then d c request slot) slot)
+places-so d c request slot k =
+    let f = filled-so d c request slot k in
+    let z = k.sized in
+    let named : cid (entry_of request slot) ≡ slot = ap (λ (x : SqeFields). x.cid) k.says in
+    record {
+      running = running (lane_of request) d c k.sound k.up;
+      free = idle-in (lane_of request) d c request slot k;
+      within = k.within;
+      room = k.room;
+      size = length-entry (entry_fields (asked_of request) slot);
+      named = named;
+      live = refl;
+      ticket = refl;
+      suits_it = suits-by (whole (window_then d c request slot) slot (waiting_of d request)) (entry_of request slot) (asked_of request) slot (asked-so d c request slot k) named refl z.most z.received f.list_in (plain_request request);
+    }
+
+stores-so : (d : Driver) (c : Controller) (request : Request) (slot : ℕ) → Known d c request slot → after_calls (stores_of d request slot) c ≡ controller_then d c request slot
+stores-so d c request slot k =
+    let z = k.sized in
+    let l = length-stored_list slot (asked_of request).moved z.most in
+    let e = length-entry (entry_fields (asked_of request) slot) in
+    let low = queue-low (lane_of request) in
+    let p = k.put in
+    let one : Controller = record c { window = with_bytes c.window (data_area slot) (asked_of request).sent } in
+    let two : Controller = record c { window = with_bytes (with_bytes c.window (data_area slot) (asked_of request).sent) (list_page slot) (stored_list slot (asked_of request).moved) } in
+    let a = stored-at (data_area slot) (asked_of request).sent c (omega (arith, k.within, z.sent, z.most)) in
+    let b = stored-at (list_page slot) (stored_list slot (asked_of request).moved) one (omega (arith, k.within, l)) in
+    ap (λ x. (after_store (driver.entry_place d request) (entry_of request slot) (after_store (list_page slot) (stored_list slot (asked_of request).moved) x).controller).controller) a
+    ∙ ap (λ x. (after_store (driver.entry_place d request) (entry_of request slot) x).controller) b
+    ∙ stored-at (driver.entry_place d request) (entry_of request slot) two (omega (arith, e, low, p))
+
+aborted-set : (xs : List (Option Waiting)) (i : ℕ) (t : Waiting) → waiting_at xs i ≡ None → t.live ≡ true → in_order aborted_number (slice_set xs i (Some t)) ≡ in_order aborted_number xs
+aborted-set [] i t h l = refl
+aborted-set (x ∷ xs) zero t h l = rw (h, l) refl
+aborted-set (x ∷ xs) (suc i) t h l = ap (ranked_too (aborted_number x)) (aborted-set xs i t h l)
+
+sound-so : (d : Driver) (c : Controller) (request : Request) (slot : ℕ) → Known d c request slot → Sound (driver.placed d request slot) (controller_then d c request slot)
+sound-so d c request slot k =
+    let s = k.sound in
+    let b : Both d c = s.both in
+    let z = k.sized in
+    let x = changed-so d request slot in
+    let g = s.fits (lane_of request) in
+    let p = s.up k.up in
+    sound-at (lane_of request) d (driver.placed d request slot) c (controller_then d c request slot) (d.next + 1) _ _ (placed-at d c request slot k) s k.up
+    (place-holds b.first _ _ (entry_of request slot) (waiting_of d request) slot _ _ (b.each (lane_of request)) k.up (places-so d c request slot k))
+    (x.fits (record { tail = g.tail; head = g.head }) s.fits)
+    (λ j. subst (λ xs. received_in (waiting_at xs j) ≤ most_bytes) (sym x.slots) (size-set d.slots slot j (Some (waiting_of d request)) (omega (arith, z.received, z.most)) s.sizes))
+    (record { admin = p.admin; io = p.io; submission = p.submission; completion = p.completion; fetched = p.fetched; ready = p.ready; enabled = p.enabled })
+
+mail-so : (d : Driver) (c : Controller) (request : Request) (slot : ℕ) → Known d c request slot → mailbox (driver.placed d request slot) (controller_then d c request slot) ≡ with_request (mailbox d c) request
+mail-so d c request slot k =
+    let b : Both d c = k.sound.both in
+    let at = placed-at d c request slot k in
+    let x = changed-so d request slot in
+    let box_then = place-box _ _ (entry_of request slot) (waiting_of d request) slot _ _ (places-so d c request slot k)
+    ∙ ap (λ u. with_placed u (item_in (whole (window_then d c request slot) slot (waiting_of d request)) (entry_of request slot))) (sym (box-is (lane_of request) d c))
+    ∙ ap (with_placed (box_at (lane_of request) (mailbox d c))) (new-item-so d c request slot k) in
+    mail-at (lane_of request) d (driver.placed d request slot) c (controller_then d c request slot) (d.next + 1) _ _ at (mailbox d c).fetched
+    (fetched-at (lane_of request) d (driver.placed d request slot) c (controller_then d c request slot) (d.next + 1) _ _ at slot _ refl c.fetched
+    (λ l. (bare-of b.first _ _ slot (b.each l) (idle-in l d c request slot k)).taken))
+    (ap (in_order aborted_number) x.slots ∙ aborted-set d.slots slot (waiting_of d request) k.free refl)
+    ∙ ap (λ u. with_box (lane_of request) u (record (mailbox d c) { next = d.next + 1 })) box_then
 
 pub place_is_a_step : PlaceIsAStep
 place_is_a_step d c request slot s h f say =
     let k = known d c request slot s h f say in
-    let z = k.sized in
-    let lane : Lane = lane_of request in
-    let r : Placement = placement d request slot in
-    let goes = goes-so d c request slot k in
-    let hd : host_side (driver.placed d request slot) ≡ placed (lane_of request) (host_side d) (placement d request slot) =
-    host-placed (lane_of request) d (waiting_of d request) slot (placement d request slot) (s.fits (lane_of request)) refl refl in
-    let both : Both (host_side (driver.placed d request slot)) (device_side (controller_then d c request slot)) =
-    subst (λ x. Both x (device_side (controller_then d c request slot))) (sym hd) (place-both (lane_of request) (host_side d) (device_side c) (placement d request slot) goes) in
     let e = stores-so d c request slot k in
-    let st = state-placed (lane_of request) (driver.put_ends (ends (lane_of request) d)) (record d { next = d.next + 1; slots = slice_set d.slots slot (Some (waiting_of d request)) }) in
-    let sl = slots-placed (lane_of request) (driver.put_ends (ends (lane_of request) d)) (record d { next = d.next + 1; slots = slice_set d.slots slot (Some (waiting_of d request)) }) in
-    let small : (waiting_of d request).received ≤ most_bytes = omega (arith, z.received, z.most) in
-    let sound : Sound (driver.placed d request slot) (controller_then d c request slot) = record {
-      both = both;
-      fits = λ l. fits-placed (lane_of request) l d (d.next + 1) (slice_set d.slots slot (Some (waiting_of d request))) (s.fits Admin) (s.fits Io);
-      sizes = λ j. subst (λ xs. received_in (waiting_at xs j) ≤ most_bytes) (sym sl) (size-set d.slots slot j (waiting_of d request) small s.sizes);
-      up = λ t. paired-window c (window_then d c request slot) (s.up k.up);
-      down = λ t. absurd (no-way (is_up d.state) (ap is_up (sym st) ∙ t) k.up);
-    } in
-    let m = place-mail (lane_of request) (host_side d) (device_side c) (placement d request slot) goes in
     let q = ap (λ o. placed_by o (mailbox d c) request) (refusal-is d c request s ∙ h) in
-    let i = ap (λ x. with_one (lane_of request) (mailbox d c) x) (new-item-so d c request slot k) in
     record {
-      sound = subst (Sound (driver.placed d request slot)) (sym e) sound;
-      mail = ap (λ (x : MailboxReaction). x.mailbox) q ∙ sym (ap (mailbox (driver.placed d request slot)) e ∙ ap (λ x. mail x (device_side (controller_then d c request slot))) hd ∙ m ∙ i);
+      sound = subst (Sound (driver.placed d request slot)) (sym e) (sound-so d c request slot k);
+      mail = ap (λ (x : MailboxReaction). x.mailbox) q ∙ sym (ap (mailbox (driver.placed d request slot)) e ∙ mail-so d c request slot k);
       gives = ap (λ (x : MailboxReaction). x.reply) q;
     }

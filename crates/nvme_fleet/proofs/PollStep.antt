@@ -1,33 +1,29 @@
--- That a poll of a driver is a step of its mailbox.
-use Rattle.nvme_fleet.proofs.Words.{none-some, Found, Done, Aborted, Polled, Reply, Slot, ticket_in, can_hear, area, MailboxReaction, mailbox_reaction, plain, answer_reply, handed_up, polled_aborted, polled_admin, polled_io, IsStep, PollIsAStep, after_calls, most_bytes, can_be_heard, waiting_at, ◌≡◌, ℕ, ◌+◌, ◌-◌, ◌*◌, ◌/◌, ◌%◌, ◌<◌, ◌≤◌, ◌==◌, Bool, true, not, ◌&&◌, cond, List, [], length, take, drop, Option, None, Some, refl, sym, ap, subst, ◌∙◌, arith, inl, inr, eqb, length-drop, cases_Bool, cases_lt, lt-ltb, le-ltb, eqb-true, length-take-le, slice_set, slice_range, option_map, if◌then◌else◌, Ok, Err, Completion, completion_of, sq_id, sq_head, status, dw0, Status, phase_tag, Lane, Admin, Io, Waiting, Ticket, queue_id, completion_place_in, head_doorbell, data_area, Driver, is_up, ends, Controller, with_head, completion_at, after_write32, box_at, completion_bytes, phase_of, received_in, HostSide, DeviceEnds, Both, host, pair, mail, next_in, pages_of, told_pair, aborted_number, consume, Sound, EndsFit, IsPaired, host_side, device_side, mailbox}
+-- That a poll of a driver is a step of its mailbox: the first request that was aborted is handed up, or else the first answer
+-- of a lane.
+use Rattle.nvme_fleet.proofs.Words.{none-some, Done, Aborted, Polled, Reply, Host, Slot, PostedAnswer, empty, ticket_in, can_hear, area, MailboxReaction, mailbox_reaction, plain, answer_reply, handed_up, polled_aborted, polled_admin, polled_io, IsStep, PollIsAStep, after_calls, most_bytes, can_be_heard, waiting_at, ◌≡◌, ℕ, zero, suc, ◌+◌, ◌-◌, ◌*◌, ◌/◌, ◌%◌, ◌⊎◌, ◌<◌, ◌≤◌, ◌==◌, Bool, true, false, not, ◌&&◌, cond, List, [], ◌∷◌, length, take, drop, Option, None, Some, refl, sym, ap, subst, ◌∙◌, arith, inl, inr, length-drop, length-set, take-take, cases_Bool, cases_lt, lt-ltb, le-ltb, length-take-le, slice_set, slice_range, option_map, if◌then◌else◌, Ok, Err, Completion, completion_of, sq_id, sq_head, status, dw0, Status, phase_tag, Lane, Admin, Io, Waiting, Ticket, queue_id, submission_queue, completion_place_in, head_doorbell, data_area, Ends, Driver, is_up, ends, consumed_ends, Controller, DeviceEnds, with_head, completion_at, after_write32, box_at, with_box, LaneBox, box, answer, front, heard, less, consumed as consumed_one, next_completion, completion_bytes, phase_of, received_in, live_in, live_at as live_slot, holds, commands_of, Both, same, other, host, state, slot_in, slots_in, commands_in, pages_of, held_by, in_order, aborted_number, Sound, EndsFit, completion_as, mailbox}
 use Rattle.nvme_driver.specs.declared.faults.PollFault.TheVariants as poll_fault
 use Rattle.nvme_mailbox.specs.Deliveries as step
-use Rattle.nvme_fleet.proofs.Places.{no-way}
-use Rattle.nvme_fleet.proofs.Slots.{few}
-use Rattle.nvme_fleet.proofs.Queues.{self-eqb}
-use Rattle.nvme_fleet.proofs.Orders.{pending-same, pending-other, NotBelow}
-use Rattle.nvme_fleet.proofs.Polling.{Heads, poll-both, poll-mail, first_answer, first-is, rest_posted, area-data, looks, looks-none, hears-it, of-queue, none-there, none-aborted, aborted-mail, freed-both, heads}
 use Rattle.nvme_wire.specs.Completion.{cid}
 use Rattle.nvme_driver.specs.Polls as poll
-use Rattle.nvme_fleet.specs.Lanes.{told}
-use Rattle.nvme_fleet.proofs.Linking.{of, pair-is, part-in}
+use Rattle.nvme_fleet.proofs.Slots.{few, apart-set}
+use Rattle.nvme_fleet.proofs.Queues.{self-eqb}
+use Rattle.nvme_fleet.proofs.Polls.{poll-posted, poll-box, poll-holds, none-posted, next-none, next-some, hears, front-of-lane, front-live, bare as bare_front}
+use Rattle.nvme_fleet.proofs.Places.{Bare}
+use Rattle.nvme_fleet.proofs.Empties.{emptied, emptied-holds, emptied-box, bare-of}
+use Rattle.nvme_fleet.proofs.Orders.{NotBelow, ticket_aborted, oldest-first, empty-order, live-freed}
+use Rattle.nvme_fleet.proofs.LaneSlots.{Own, own-at, slot-in, slots-here, slots-there, same-fetched}
+use Rattle.nvme_fleet.proofs.OneLane.{each-lane, same-holds, running, box-is, Changed, changed, AtLane, size-set, sound-at, fetched-at, mail-at}
+use Rattle.nvme_fleet.proofs.Linking.{counts, completion-is, same-submission, Counted, counted, part-in, range-is}
 use Rattle.nvme_fleet.proofs.Registering.{head-written}
 use Rattle.nvme_fleet.proofs.RingStep.{same-ahead}
-
--- A poll is a step of the mailbox.
 
 -- The next completion as the driver looks at it.
 
 bytes-in : (lane : Lane) (w : List ℕ) (n : ℕ) → slice_range w (completion_place_in lane n) (completion_place_in lane n + 16) ≡ completion_bytes (pages_of lane w) n
 unfolding pages_of
-bytes-in Admin w n =
-    let k : 0x1000 + 16 * (n % 32) + 16 - (0x1000 + 16 * (n % 32)) ≡ 16 = omega arith in
-    let e : 0x1000 + 16 * (n % 32) ≡ 0 + (4096 + 16 * (n % 32)) = omega arith in
-    ap (λ m. take m (drop (0x1000 + 16 * (n % 32)) w)) k ∙ ap (λ m. take 16 (drop m w)) e ∙ sym (part-in w 0 (4096 + 16 * (n % 32)) 16 (omega arith))
-bytes-in Io w n =
-    let k : 0x3000 + 16 * (n % 32) + 16 - (0x3000 + 16 * (n % 32)) ≡ 16 = omega arith in
-    let e : 0x3000 + 16 * (n % 32) ≡ 0x2000 + (4096 + 16 * (n % 32)) = omega arith in
-    ap (λ m. take m (drop (0x3000 + 16 * (n % 32)) w)) k ∙ ap (λ m. take 16 (drop m w)) e ∙ sym (part-in w 0x2000 (4096 + 16 * (n % 32)) 16 (omega arith))
+bytes-in lane w n =
+    let e : completion_place_in lane n ≡ submission_queue lane + (4096 + 16 * (n % 32)) = omega arith in
+    range-is w (completion_place_in lane n) 16 ∙ ap (λ m. take 16 (drop m w)) e ∙ sym (part-in w (submission_queue lane) (4096 + 16 * (n % 32)) 16 (omega arith))
 
 pub tag-is : (n : ℕ) → n < 64 → phase_tag 32 n ≡ phase_of n
 tag-is n h = elim (cases_lt n 32) [
@@ -42,30 +38,29 @@ tag-is n h = elim (cases_lt n 32) [
 ]
 
 -- whether it is new, and what it is
-abbrev is_next : Lane → HostSide → List ℕ → Bool
+abbrev is_next : Lane → Driver → List ℕ → Bool
 is_next lane d w =
     let e = completion_of (completion_bytes (pages_of lane w) (host lane d w).consumed) in
     cond e.phase (phase_of (host lane d w).consumed) (not (phase_of (host lane d w).consumed))
 
 new-is : (lane : Lane) (d : Driver) (w : List ℕ) → (ends lane d).head.consumed < 64
-    → poll.new_in lane (ends lane d) w ≡ (if is_next lane (host_side d) w then Some (completion_bytes (pages_of lane w) (ends lane d).head.consumed) else None)
-new-is Admin d w h = rw (bytes-in Admin w d.admin.head.consumed, tag-is d.admin.head.consumed h) refl
-new-is Io d w h = rw (bytes-in Io w d.io.head.consumed, tag-is d.io.head.consumed h) refl
+    → poll.new_in lane (ends lane d) w ≡ (if is_next lane d w then Some (completion_bytes (pages_of lane w) (ends lane d).head.consumed) else None)
+new-is lane d w h = rw (bytes-in lane w (ends lane d).head.consumed, tag-is (ends lane d).head.consumed h) refl
 
-new-none : (lane : Lane) (d : Driver) (w : List ℕ) → (ends lane d).head.consumed < 64 → next_in lane (host_side d) w ≡ None → poll.new_in lane (ends lane d) w ≡ None
-new-none lane d w h e = elim (cases_Bool (is_next lane (host_side d) w)) [
-  | inl t ↦ absurd (some-none _ (sym (ap (λ b. cond b (Some (completion_of (completion_bytes (pages_of lane w) (host lane (host_side d) w).consumed))) None) t) ∙ e))
+new-none : (lane : Lane) (d : Driver) (w : List ℕ) → (ends lane d).head.consumed < 64 → next_completion (host lane d w) (pages_of lane w) ≡ None → poll.new_in lane (ends lane d) w ≡ None
+new-none lane d w h e = elim (cases_Bool (is_next lane d w)) [
+  | inl t ↦ absurd (some-none _ (sym (ap (λ b. cond b (Some (completion_of (completion_bytes (pages_of lane w) (host lane d w).consumed))) None) t) ∙ e))
   | inr t ↦ new-is lane d w h ∙ ap (λ b. if b then Some (completion_bytes (pages_of lane w) (ends lane d).head.consumed) else None) t
 ]
   where
     some-none : (x : Completion) → Some x ≡ None → ⊥
     some-none x h = cc
 
-new-some : (lane : Lane) (d : Driver) (w : List ℕ) (x : Completion) → (ends lane d).head.consumed < 64 → next_in lane (host_side d) w ≡ Some x
+new-some : (lane : Lane) (d : Driver) (w : List ℕ) (x : Completion) → (ends lane d).head.consumed < 64 → next_completion (host lane d w) (pages_of lane w) ≡ Some x
     → poll.new_in lane (ends lane d) w ≡ Some (completion_bytes (pages_of lane w) (ends lane d).head.consumed)
-new-some lane d w x h e = elim (cases_Bool (is_next lane (host_side d) w)) [
+new-some lane d w x h e = elim (cases_Bool (is_next lane d w)) [
   | inl t ↦ new-is lane d w h ∙ ap (λ b. if b then Some (completion_bytes (pages_of lane w) (ends lane d).head.consumed) else None) t
-  | inr t ↦ absurd (none-some x (sym (ap (λ b. cond b (Some (completion_of (completion_bytes (pages_of lane w) (host lane (host_side d) w).consumed))) None) t) ∙ e))
+  | inr t ↦ absurd (none-some x (sym (ap (λ b. cond b (Some (completion_of (completion_bytes (pages_of lane w) (host lane d w).consumed))) None) t) ∙ e))
 ]
 
 -- Aborted requests.
@@ -96,125 +91,228 @@ below-is t (Some w) h = elim (cases_Bool w.live) [
   | inr l ↦ rw l (rw l at h)
 ]
 
--- The head's doorbell.
+waiting-past : (xs : List (Option Waiting)) (i : ℕ) → length xs ≤ i → waiting_at xs i ≡ None
+waiting-past [] i h = refl
+waiting-past (x ∷ xs) zero h = let z : ⊥ = omega (arith, h) in absurd z
+waiting-past (x ∷ xs) (suc i) h = waiting-past xs i (omega (arith, h))
 
--- a lane whose head was written
-abbrev told_one : Lane → Controller → ℕ → Controller
-told_one lane c v = record c { completion = slice_set c.completion (queue_id lane) (option_map (with_head v) (completion_at c (queue_id lane))) }
+within-of : (xs : List (Option Waiting)) (i : ℕ) (p : Waiting) → waiting_at xs i ≡ Some p → i < length xs
+within-of xs i p h = elim (cases_lt i (length xs)) [
+  | inl l ↦ l
+  | inr g ↦ absurd (none-some p (sym (waiting-past xs i g) ∙ h))
+]
 
-fewer : (n k p : ℕ) → n < 64 → 0 < k → k < 32 → p ≡ (n + k) % 64 → (32 + p % 32 - (n + 1) % 64 % 32) % 32 ≡ k - 1
-fewer n k p a b e f = omega arith
+-- an aborted request is live in no lane
+record IsDead (slots : List (Option Waiting)) (i : ℕ) : Type 0 where
+  within : i < length slots
+  idle : (l : Lane) (w : List ℕ) → live_slot (slots_in l w 0 slots) i ≡ 0
 
-paired-told : (lane : Lane) (c : Controller) (p : IsPaired c) (v : ℕ) → v < 32 → (32 + (of lane c p).posted % 32 - v) % 32 ≡ (of lane c p).unread - 1 → IsPaired (told_one lane c v)
-paired-told Admin c p v h e = record {
-  admin = told_pair p.admin;
-  io = p.io;
-  submission = p.submission;
-  completion = rw (p.completion, lt-ltb v 32 h, e) refl;
-  fetched = p.fetched;
-  ready = p.ready;
-  enabled = p.enabled;
-}
-paired-told Io c p v h e = record {
-  admin = p.admin;
-  io = told_pair p.io;
-  submission = p.submission;
-  completion = rw (p.completion, lt-ltb v 32 h, e) refl;
-  fetched = p.fetched;
-  ready = p.ready;
-  enabled = p.enabled;
-}
+dead-in : (o : Option Waiting) (t : ℕ) → aborted_number o ≡ Some t → (x : Waiting) × (o ≡ Some x) × (x.live ≡ false)
+dead-in None t e = absurd (none-some t e)
+dead-in (Some x) t e = elim (cases_Bool x.live) [
+  | inl h ↦ let z : None ≡ Some t = rw h at e in absurd (none-some t z)
+  | inr h ↦ (x, refl, h)
+]
 
-side-told : (lane : Lane) (c : Controller) (p : IsPaired c) (v : ℕ) → v < 32 → (32 + (of lane c p).posted % 32 - v) % 32 ≡ (of lane c p).unread - 1
-    → device_side (told_one lane c v) ≡ told lane (device_side c)
-side-told Admin c p v h e = rw (p.completion, lt-ltb v 32 h, e) refl
-side-told Io c p v h e = rw (p.completion, lt-ltb v 32 h, e) refl
+idle-in : (l : Lane) (w : List ℕ) (n : ℕ) (x : Waiting) → x.live ≡ false → live_in (slot_in l w n (Some x)) ≡ 0
+idle-in l w n x h = elim (cases_Bool (same x.lane l)) [
+  | inl s ↦ rw (s, h) refl
+  | inr s ↦ rw s refl
+]
 
--- An answer of a lane.
+dead : (slots : List (Option Waiting)) (i t : ℕ) → ticket_aborted slots i ≡ Some t → IsDead slots i
+dead slots i t e =
+    let x = dead-in (waiting_at slots i) t e in
+    record {
+      within = within-of slots i x.0 x.1;
+      idle = λ l w. ap live_in (slot-in l w slots i ∙ ap (slot_in l w i) x.1) ∙ idle-in l w i x.0 x.2;
+    }
 
--- the entry at the head of a lane's queue, and its request
+freed-host : (l : Lane) (d : Driver) (w : List ℕ) (i : ℕ) → length d.slots ≡ 24 → i < 24 → host l (poll.freed d i) w ≡ emptied (host l d w) i
+freed-host Admin d w i e h = rw (slots-here Admin w w d.slots i None e h (λ k b q. record { areas = refl; lists = refl })) refl
+freed-host Io d w i e h = rw (slots-here Io w w d.slots i None e h (λ k b q. record { areas = refl; lists = refl })) refl
+
+-- an aborted request is handed up
+aborts : (d : Driver) (c : Controller) (i : ℕ) (t : Ticket) → Sound d c → poll.aborted_at d.slots i ≡ Some t → ((k : ℕ) → poll.IsNotBelow t (poll.aborted_at d.slots k))
+    → IsStep (step.polled (mailbox d c)) (poll.freed d i) c (plain (Polled (Ok (Some (Aborted t)))))
+aborts d c i t s e low =
+    let b : Both d c = s.both in
+    let n = number-is (waiting_at d.slots i) t e in
+    let g = dead d.slots i t.0 n in
+    let hosts : (l : Lane) → host l (poll.freed d i) c.window ≡ emptied (host l d c.window) i = λ l. freed-host l d c.window i b.slots (omega (arith, g.within, b.slots)) in
+    let bare : (l : Lane) → Bare (host l d c.window) (state l c) i = λ l. bare-of b.first _ _ i (b.each l) (g.idle l c.window) in
+    let boxes : (l : Lane) → box (host l (poll.freed d i) c.window) (state l c) ≡ box (host l d c.window) (state l c) =
+    λ l. ap (λ (u : Host). box u (state l c)) (hosts l) ∙ emptied-box (host l d c.window) (state l c) i (bare l) in
+    let f = oldest-first d.slots i t.0 n (λ k. below-is t (waiting_at d.slots k) (low k)) in
+    let taken = same-fetched (held_by d c.window) (held_by (poll.freed d i) c.window) i
+    (λ l k q. ap (λ (u : Host). holds u k) (hosts l) ∙ apart-set (slots_in l c.window 0 d.slots) i empty k q) c.fetched (λ l. (bare l).taken) in
+    let admin = boxes Admin in
+    let io = boxes Io in
+    let q = ap (λ ts. polled_aborted ts (mailbox d c)) f in
+    record {
+      sound = record {
+        both = record {
+          first = b.first;
+          window = b.window;
+          slots = length-set d.slots i None ∙ b.slots;
+          each = λ l. same-holds b.first _ _ _ _ (emptied-holds b.first _ _ i (g.idle l c.window) (b.each l)) (hosts l) refl;
+        };
+        fits = each-lane Admin (λ l. EndsFit (ends l (poll.freed d i))) (s.fits Admin) (s.fits Io);
+        sizes = λ k. size-set d.slots i k None (omega arith) s.sizes;
+        up = s.up;
+        down = s.down;
+      };
+      mail = ap (λ (r : MailboxReaction). r.mailbox) q
+          ∙ sym (λ j. record (mailbox d c) { admin = admin j; io = io j; fetched = taken j; aborted = in_order aborted_number (poll.freed d i).slots });
+      gives = ap (λ (r : MailboxReaction). r.reply) q;
+    }
+
+-- The completion at the head of a lane's queue.
+
+-- the entry, the completion, and the answer that it is
 abbrev entry_at : Lane → Driver → Controller → List ℕ
-entry_at lane d c = completion_bytes (pages_of lane c.window) (host lane (host_side d) c.window).consumed
+entry_at lane d c = completion_bytes (pages_of lane c.window) (ends lane d).head.consumed
 
-abbrev HeadsAt : Lane → Driver → Controller → Type 0
-HeadsAt lane d c = Heads lane (host_side d) (device_side c)
+abbrev head-of : Lane → Driver → Controller → Completion
+head-of lane d c = front (host lane d c.window) (state lane c)
 
-abbrev request_of : (lane : Lane) (d : Driver) (c : Controller) → HeadsAt lane d c → Waiting
-request_of lane d c h = (h.own).waiting
+abbrev first_answer : Lane → Driver → Controller → PostedAnswer
+first_answer lane d c = answer (held_by d c.window lane) (heard (host lane d c.window)) (head-of lane d c)
 
-hear-is : (lane : Lane) (d : Driver) (w : List ℕ) (head : ℕ) → EndsFit (ends lane d) → can_be_heard (ends lane d).tail head ≡ can_hear (host lane (host_side d) w) head
-hear-is Admin d w head f = rw (f.tail, same-ahead d.admin.tail.put head) refl
-hear-is Io d w head f = rw (f.tail, same-ahead d.io.tail.put head) refl
+abbrev rest_posted : Lane → Driver → Controller → List PostedAnswer
+rest_posted lane d c = (box (consumed_one (host lane d c.window) (head-of lane d c)) (less (state lane c))).posted
+
+-- what is known of it
+record Heads (lane : Lane) (d : Driver) (c : Controller) : Type 0 where
+  sound : Sound d c
+  up : is_up d.state ≡ true
+  some : 0 < (state lane c).unread
+  own : Own lane (waiting_at d.slots (cid (entry_at lane d c)))
+  within : cid (entry_at lane d c) < 24
+  heard : can_be_heard (ends lane d).tail (sq_head (entry_at lane d c)) ≡ true
+
+heads : (lane : Lane) (d : Driver) (c : Controller) → Sound d c → is_up d.state ≡ true → 0 < (state lane c).unread → Heads lane d c
+heads lane d c s u p =
+    let r = running lane d c s u in
+    let b : Both d c = s.both in
+    let f = s.fits lane in
+    let o = own-at lane c.window d.slots (cid (entry_at lane d c)) (front-live (host lane d c.window) (state lane c) r p) in
+    record {
+      sound = s;
+      up = u;
+      some = p;
+      own = o;
+      within = omega (arith, within-of d.slots (cid (entry_at lane d c)) o.waiting o.is, b.slots);
+      heard = hear-is lane d c.window (sq_head (entry_at lane d c)) f ∙ hears (host lane d c.window) (state lane c) r p;
+    }
+  where
+    hear-is : (lane : Lane) (d : Driver) (w : List ℕ) (head : ℕ) → EndsFit (ends lane d) → can_be_heard (ends lane d).tail head ≡ can_hear (host lane d w) head
+    hear-is lane d w head f = rw (f.tail, same-ahead (ends lane d).tail.put head) refl
 
 own-live : (lane : Lane) (w : Waiting) → w.lane ≡ lane → w.live ≡ true → poll.live_in lane (Some w) ≡ Some w
 own-live lane w a b =
     let q : (queue_id w.lane == queue_id lane) ≡ true = self-eqb _ _ (ap queue_id a) in
     ap (λ t. if t && w.live then Some w else None) q ∙ ap (λ t. if t then Some w else None) b
 
-knows-it : (lane : Lane) (d : Driver) (c : Controller) (h : HeadsAt lane d c) → Sound d c → poll.answered d lane (entry_at lane d c) ≡ Some (request_of lane d c h)
-knows-it lane d c h s =
-    let x = entry_at lane d c in
-    let a : (sq_id (entry_at lane d c) == queue_id lane) ≡ true = self-eqb _ _ (of-queue lane (host_side d) (device_side c) h) in
-    let b : can_be_heard (ends lane d).tail (sq_head (entry_at lane d c)) ≡ true = hear-is lane d c.window _ (s.fits lane) ∙ hears-it lane (host_side d) (device_side c) h in
-    let w : waiting_at d.slots (cid (entry_at lane d c)) ≡ Some (request_of lane d c h) = (h.own).is in
+knows-it : (lane : Lane) (d : Driver) (c : Controller) (h : Heads lane d c) → poll.answered d lane (entry_at lane d c) ≡ Some (h.own).waiting
+knows-it lane d c h =
+    let a : (sq_id (entry_at lane d c) == queue_id lane) ≡ true = self-eqb _ _ (front-of-lane (host lane d c.window) (state lane c) (running lane d c h.sound h.up) h.some) in
     ap (λ t. if t && can_be_heard (ends lane d).tail (sq_head (entry_at lane d c)) then poll.live_in lane (waiting_at d.slots (cid (entry_at lane d c))) else None) a
-    ∙ ap (λ t. if t then poll.live_in lane (waiting_at d.slots (cid (entry_at lane d c))) else None) b
-    ∙ ap (poll.live_in lane) w
-    ∙ own-live lane (request_of lane d c h) (h.own).of_lane (h.own).live
+    ∙ ap (λ t. if t then poll.live_in lane (waiting_at d.slots (cid (entry_at lane d c))) else None) h.heard
+    ∙ ap (poll.live_in lane) (h.own).is
+    ∙ own-live lane (h.own).waiting (h.own).of_lane (h.own).live
 
-abbrev answer_at : (lane : Lane) (d : Driver) (c : Controller) → HeadsAt lane d c → poll.Poll
-answer_at lane d c h = poll.answered_poll d c.window lane (entry_at lane d c) (Some (request_of lane d c h))
+abbrev answer_at : (lane : Lane) (d : Driver) (c : Controller) → Heads lane d c → poll.Poll
+answer_at lane d c h = poll.answered_poll d c.window lane (entry_at lane d c) (Some (h.own).waiting)
 
--- what becomes of the driver
-host-consumed : (lane : Lane) (d : Driver) (x : List ℕ) → EndsFit (ends lane d) → can_be_heard (ends lane d).tail (sq_head x) ≡ true
-    → host_side (poll.consumed d lane x) ≡ consume lane (host_side d) (completion_of x)
-host-consumed Admin d x f b = rw (b, f.tail, f.head, same-ahead d.admin.tail.put (sq_head x)) refl
-host-consumed Io d x f b = rw (b, f.tail, f.head, same-ahead d.io.tail.put (sq_head x)) refl
+-- what becomes of the driver's ends
+consumed-is : (e : Ends) (head : ℕ) → EndsFit e → can_be_heard e.tail head ≡ true
+    → consumed_ends e head ≡ record { tail = record e.tail { unheard = (e.tail.put + 8 - head) % 8 }; head = record e.head { consumed = (e.head.consumed + 1) % 64 } }
+consumed-is e head f b = rw (b, f.tail, f.head, same-ahead e.tail.put head) refl
 
-fits-consumed : (lane l : Lane) (d : Driver) (x : List ℕ) → EndsFit (ends Admin d) → EndsFit (ends Io d) → can_be_heard (ends lane d).tail (sq_head x) ≡ true → EndsFit (ends l (poll.consumed d lane x))
-fits-consumed Admin Admin d x f g b = record { tail = rw b f.tail; head = f.head }
-fits-consumed Admin Io d x f g b = g
-fits-consumed Io Admin d x f g b = f
-fits-consumed Io Io d x f g b = record { tail = rw b g.tail; head = g.head }
+abbrev ChangedSo : Lane → Driver → List ℕ → Type 0
+ChangedSo lane d x = Changed lane d (poll.consumed d lane x) (consumed_ends (ends lane d) (sq_head x)) d.next (slice_set d.slots (cid x) None)
 
-slots-consumed : (lane : Lane) (d : Driver) (x : List ℕ) → (poll.consumed d lane x).slots ≡ slice_set d.slots (cid x) None
-slots-consumed Admin d x = refl
-slots-consumed Io d x = refl
+changed-so : (lane : Lane) (d : Driver) (x : List ℕ) → ChangedSo lane d x
+changed-so lane d x = changed lane d (consumed_ends (ends lane d) (sq_head x)) d.next (slice_set d.slots (cid x) None)
 
-state-consumed : (lane : Lane) (d : Driver) (x : List ℕ) → (poll.consumed d lane x).state ≡ d.state
-state-consumed Admin d x = refl
-state-consumed Io d x = refl
+-- and of the controller, where the head is written to its doorbell
+abbrev told_one : Lane → Controller → ℕ → Controller
+told_one lane c v = record c { completion = slice_set c.completion (queue_id lane) (option_map (with_head v) (completion_at c (queue_id lane))) }
 
-pub size-freed : (slots : List (Option Waiting)) (i k : ℕ) → ((j : ℕ) → received_in (waiting_at slots j) ≤ most_bytes) → received_in (waiting_at (slice_set slots i None) k) ≤ most_bytes
-size-freed slots i k h = elim (cases_Bool (eqb k i)) [
-  | inl t ↦
-      let z : waiting_at (slice_set slots i None) k ≡ None = ap (waiting_at (slice_set slots i None)) (eqb-true k i t) ∙ pending-same slots i in
-      rw z (omega arith)
-  | inr t ↦ rw (pending-other slots i k t) (h k)
-]
+abbrev told_counts : Lane → Controller → DeviceEnds
+told_counts lane c = record (counts lane c) { unread = (state lane c).unread - 1 }
 
--- and of the doorbell
-head-value : (lane : Lane) (d : Driver) (x : List ℕ) → EndsFit (ends lane d) → poll.head_of (poll.consumed_ends (ends lane d) (sq_head x)) ≡ ((ends lane d).head.consumed + 1) % 64 % 32
-head-value lane d x f = rw f.head refl
+abbrev head_then : Lane → Driver → ℕ
+head_then lane d = ((ends lane d).head.consumed + 1) % 64 % 32
 
-less-unread : (lane : Lane) (d : Driver) (c : Controller) (p : IsPaired c) → Sound d c → is_up d.state ≡ true → 0 < (pair lane (device_side c)).unread
-    → (32 + (of lane c p).posted % 32 - ((ends lane d).head.consumed + 1) % 64 % 32) % 32 ≡ (of lane c p).unread - 1
-less-unread Admin d c p s u some =
-    let b : Both (host_side d) (device_side c) = s.both in
-    let r = (b.each Admin).up u in
-    let e = pair-is Admin c p in
-    let k : (p.admin).unread ≡ (device_side c).admin.unread = sym (ap (λ (x : DeviceEnds). x.unread) e) in
-    let m : (p.admin).posted ≡ (device_side c).admin.posted = sym (ap (λ (x : DeviceEnds). x.posted) e) in
-    let n : (device_side c).admin.unread < 32 = omega (arith, few _ _ r) in
-    fewer d.admin.head.consumed (p.admin).unread (p.admin).posted r.consumed (omega (arith, k, some)) (omega (arith, k, n)) (m ∙ r.posted ∙ ap (λ y. (d.admin.head.consumed + y) % 64) (sym k))
-less-unread Io d c p s u some =
-    let b : Both (host_side d) (device_side c) = s.both in
-    let r = (b.each Io).up u in
-    let e = pair-is Io c p in
-    let k : (p.io).unread ≡ (device_side c).io.unread = sym (ap (λ (x : DeviceEnds). x.unread) e) in
-    let m : (p.io).posted ≡ (device_side c).io.posted = sym (ap (λ (x : DeviceEnds). x.posted) e) in
-    let n : (device_side c).io.unread < 32 = omega (arith, few _ _ r) in
-    fewer d.io.head.consumed (p.io).unread (p.io).posted r.consumed (omega (arith, k, some)) (omega (arith, k, n)) (m ∙ r.posted ∙ ap (λ y. (d.io.head.consumed + y) % 64) (sym k))
+fewer : (n k p : ℕ) → n < 64 → 0 < k → k < 32 → p ≡ (n + k) % 64 → (32 + p % 32 - (n + 1) % 64 % 32) % 32 ≡ k - 1
+fewer n k p a b e f = omega arith
+
+told-so : (lane : Lane) (d : Driver) (c : Controller) → Heads lane d c → Counted lane c (told_one lane c (head_then lane d)) (told_counts lane c)
+told-so lane d c h =
+    let p = h.sound.up h.up in
+    let r = running lane d c h.sound h.up in
+    let few : (state lane c).unread < 32 = omega (arith, few (host lane d c.window) (state lane c) r) in
+    let v : head_then lane d < 32 = omega arith in
+    let e : with_head (head_then lane d) (completion_as lane (counts lane c)) ≡ completion_as lane (told_counts lane c) =
+    rw (lt-ltb (head_then lane d) 32 v, fewer (ends lane d).head.consumed (state lane c).unread (state lane c).posted r.consumed h.some few r.posted) refl in
+    counted lane c (told_one lane c (head_then lane d)) (told_counts lane c) p (same-submission lane c p)
+    (ap (λ o. slice_set c.completion (queue_id lane) (option_map (with_head (head_then lane d)) o)) (completion-is lane c p) ∙ ap (λ q. slice_set c.completion (queue_id lane) (Some q)) e)
+    p.fetched refl
+
+polled-at : (lane : Lane) (d : Driver) (c : Controller) → Heads lane d c
+    → AtLane lane d (poll.consumed d lane (entry_at lane d c)) c (told_one lane c (head_then lane d)) d.next (consumed_one (host lane d c.window) (head-of lane d c)) (less (state lane c))
+polled-at lane d c h =
+    let b : Both d c = h.sound.both in
+    let x = changed-so lane d (entry_at lane d c) in
+    let t = told-so lane d c h in
+    let q = consumed-is (ends lane d) (sq_head (entry_at lane d c)) (h.sound.fits lane) h.heard in
+    let here = slots-here lane c.window c.window d.slots (cid (entry_at lane d c)) None b.slots h.within (λ k g e. record { areas = refl; lists = refl }) in
+    let there = slots-there (other lane) c.window c.window d.slots (cid (entry_at lane d c)) None b.slots h.within (λ k g e. record { areas = refl; lists = refl }) ((h.own).absent c.window (cid (entry_at lane d c))) refl in
+    record {
+      up = x.state;
+      next = x.next;
+      later = omega arith;
+      window = refl;
+      slots = ap length x.slots ∙ length-set d.slots (cid (entry_at lane d c)) None;
+      host_here = x.here c.window
+          ∙ (λ i. record (host lane d c.window) { slots = here i; put = (q i).tail.put; unheard = (q i).tail.unheard; consumed = (q i).head.consumed });
+      host_there = x.there c.window ∙ (λ i. record (host (other lane) d c.window) { slots = there i });
+      state_here = t.here;
+      state_there = t.there;
+    }
+
+polled-sound : (lane : Lane) (d : Driver) (c : Controller) → Heads lane d c → Sound (poll.consumed d lane (entry_at lane d c)) (told_one lane c (head_then lane d))
+polled-sound lane d c h =
+    let s = h.sound in
+    let b : Both d c = s.both in
+    let f = s.fits lane in
+    let x = changed-so lane d (entry_at lane d c) in
+    let t = told-so lane d c h in
+    let q = consumed-is (ends lane d) (sq_head (entry_at lane d c)) f h.heard in
+    sound-at lane d (poll.consumed d lane (entry_at lane d c)) c (told_one lane c (head_then lane d)) d.next _ _ (polled-at lane d c h) s h.up
+    (poll-holds b.first _ _ (b.each lane) h.up h.some)
+    (x.fits (subst EndsFit (sym q) (record { tail = f.tail; head = f.head })) s.fits)
+    (λ k. subst (λ xs. received_in (waiting_at xs k) ≤ most_bytes) (sym x.slots) (size-set d.slots (cid (entry_at lane d c)) k None (omega arith) s.sizes))
+    t.paired
+
+-- the first answer of the lane is gone
+polled-mail : (lane : Lane) (d : Driver) (c : Controller) → Heads lane d c
+    → mailbox (poll.consumed d lane (entry_at lane d c)) (told_one lane c (head_then lane d)) ≡ (handed_up lane (first_answer lane d c) (rest_posted lane d c) (mailbox d c)).mailbox
+polled-mail lane d c h =
+    let b : Both d c = h.sound.both in
+    let r = running lane d c h.sound h.up in
+    let at = polled-at lane d c h in
+    let x = changed-so lane d (entry_at lane d c) in
+    let gone = bare-of b.first _ _ (cid (entry_at lane d c)) (b.each (other lane))
+    (ap live_in (slot-in (other lane) c.window d.slots (cid (entry_at lane d c)) ∙ (h.own).absent c.window (cid (entry_at lane d c)))) in
+    mail-at lane d (poll.consumed d lane (entry_at lane d c)) c (told_one lane c (head_then lane d)) d.next _ _ at (mailbox d c).fetched
+    (fetched-at lane d (poll.consumed d lane (entry_at lane d c)) c (told_one lane c (head_then lane d)) d.next _ _ at (cid (entry_at lane d c)) empty refl c.fetched
+    (each-lane lane (λ l. commands_of (cid (entry_at lane d c)) (commands_in l c.fetched) ≡ 0) (bare_front (host lane d c.window) (state lane c) r h.some).taken gone.taken))
+    (ap (in_order aborted_number) x.slots ∙ live-freed d.slots (cid (entry_at lane d c)) (h.own).counts)
+    ∙ ap (λ u. with_box lane u (mailbox d c)) (poll-box (host lane d c.window) (state lane c) r h.some
+    ∙ ap (λ (u : LaneBox). record u { posted = rest_posted lane d c; unheard = u.unheard - (first_answer lane d c).step }) (sym (box-is lane d c)))
 
 -- an answer is as long as the request says where it succeeded
 len-small : (received : ℕ) (why : Status) → received ≤ most_bytes → poll.answer_len received why ≤ most_bytes
@@ -232,149 +330,109 @@ place-small w k n l h g =
 abbrev poll_reply : poll.Poll → Reply
 poll_reply p = record { seen = Polled p.answer; bytes = p.bytes }
 
-range-is : (w : List ℕ) (at n : ℕ) → slice_range w at (at + n) ≡ take n (drop at w)
-range-is w at n = ap (λ m. take m (drop at w)) (omega arith)
+area-data : (w : List ℕ) (s n : ℕ) → n ≤ most_bytes → take n (area w s) ≡ slice_range w (data_area s) (data_area s + n)
+unfolding area
+area-data w s n h = take-take n most_bytes (drop (data_area s) w) h ∙ sym (range-is w (data_area s) n)
 
-answer-is : (lane : Lane) (d : Driver) (c : Controller) (h : HeadsAt lane d c) → Sound d c
-    → answer_reply (first_answer lane (host_side d) (device_side c)) ≡ poll_reply (answer_at lane d c h)
-answer-is lane d c h s =
-    let w : Waiting = request_of lane d c h in
-    let x = entry_at lane d c in
-    let b : Both (host_side d) (device_side c) = s.both in
-    let size : received_in (waiting_at d.slots (cid (entry_at lane d c))) ≤ most_bytes = s.sizes (cid (entry_at lane d c)) in
-    let small : (request_of lane d c h).received ≤ most_bytes = subst (λ o. received_in o ≤ most_bytes) (h.own).is size in
-    let n : ℕ = poll.answer_len (request_of lane d c h).received (status (entry_at lane d c)) in
-    let g : poll.answer_len (request_of lane d c h).received (status (entry_at lane d c)) ≤ most_bytes = len-small (request_of lane d c h).received (status (entry_at lane d c)) small in
-    let k : cid (entry_at lane d c) < 24 = omega (arith, h.within, b.slots) in
-    let e = first-is lane (host_side d) (device_side c) h in
-    let t : take (poll.answer_len (request_of lane d c h).received (status (entry_at lane d c))) (area c.window (cid (entry_at lane d c)))
-    ≡ slice_range c.window (data_area (cid (entry_at lane d c))) (data_area (cid (entry_at lane d c)) + poll.answer_len (request_of lane d c h).received (status (entry_at lane d c))) =
-    area-data c.window (cid (entry_at lane d c)) _ g ∙ sym (range-is c.window (data_area (cid (entry_at lane d c))) _) in
-    let l : length (take (poll.answer_len (request_of lane d c h).received (status (entry_at lane d c))) (area c.window (cid (entry_at lane d c)))) ≡ poll.answer_len (request_of lane d c h).received (status (entry_at lane d c)) =
-    ap length (area-data c.window (cid (entry_at lane d c)) _ g) ∙ place-small c.window (cid (entry_at lane d c)) _ b.window k g in
-    ap (λ (z : Slot). answer_reply (record { ticket = ticket_in z.waiting; status = status (entry_at lane d c); dw0 = dw0 (entry_at lane d c); bytes = take (poll.answer_len (received_in z.waiting) (status (entry_at lane d c))) z.bytes; step = (first_answer lane (host_side d) (device_side c)).step })) e
-    ∙ (λ i. record { seen = Polled (Ok (Some (Done (request_of lane d c h).ticket (status (entry_at lane d c)) (dw0 (entry_at lane d c)) (l i)))); bytes = t i })
+answer-is : (lane : Lane) (d : Driver) (c : Controller) (h : Heads lane d c) → answer_reply (first_answer lane d c) ≡ poll_reply (answer_at lane d c h)
+answer-is lane d c h =
+    let n : ℕ = cid (entry_at lane d c) in
+    let why : Status = status (entry_at lane d c) in
+    let size : received_in (waiting_at d.slots (cid (entry_at lane d c))) ≤ most_bytes = h.sound.sizes (cid (entry_at lane d c)) in
+    let small : ((h.own).waiting).received ≤ most_bytes = subst (λ o. received_in o ≤ most_bytes) (h.own).is size in
+    let g = len-small ((h.own).waiting).received (status (entry_at lane d c)) small in
+    let e = slot-in lane c.window d.slots (cid (entry_at lane d c)) ∙ (h.own).slot c.window (cid (entry_at lane d c)) in
+    let t = area-data c.window (cid (entry_at lane d c)) (poll.answer_len ((h.own).waiting).received (status (entry_at lane d c))) g in
+    let l = ap length (t ∙ range-is c.window (data_area (cid (entry_at lane d c))) (poll.answer_len ((h.own).waiting).received (status (entry_at lane d c))))
+    ∙ place-small c.window (cid (entry_at lane d c)) (poll.answer_len ((h.own).waiting).received (status (entry_at lane d c))) h.sound.both.window h.within g in
+    ap (λ (z : Slot). answer_reply (record { ticket = ticket_in z.waiting; status = status (entry_at lane d c); dw0 = dw0 (entry_at lane d c); bytes = take (poll.answer_len (received_in z.waiting) (status (entry_at lane d c))) z.bytes; step = (first_answer lane d c).step })) e
+    ∙ (λ i. record { seen = Polled (Ok (Some (Done ((h.own).waiting).ticket (status (entry_at lane d c)) (dw0 (entry_at lane d c)) (l i)))); bytes = t i })
 
 -- a completion of a lane is handed up
-hands-up : (lane : Lane) (d : Driver) (c : Controller) (h : HeadsAt lane d c) → Sound d c
-    → IsStep (handed_up lane (first_answer lane (host_side d) (device_side c)) (rest_posted lane (host_side d) (device_side c)) (mailbox d c))
-    (answer_at lane d c h).driver (after_calls (answer_at lane d c h).calls c) (poll_reply (answer_at lane d c h))
-hands-up lane d c h s =
-    let p = s.up h.up in
-    let x = entry_at lane d c in
-    let f = s.fits lane in
-    let can : can_be_heard (ends lane d).tail (sq_head (entry_at lane d c)) ≡ true = hear-is lane d c.window _ f ∙ hears-it lane (host_side d) (device_side c) h in
-    let v : ℕ = ((ends lane d).head.consumed + 1) % 64 % 32 in
-    let vs : ((ends lane d).head.consumed + 1) % 64 % 32 < 32 = omega arith in
-    let less = less-unread lane d c p s h.up h.some in
-    let e : after_calls (answer_at lane d c h).calls c ≡ told_one lane c (((ends lane d).head.consumed + 1) % 64 % 32) =
-    ap (λ n. after_write32 (head_doorbell lane) n c) (head-value lane d (entry_at lane d c) f)
-    ∙ head-written lane c (((ends lane d).head.consumed + 1) % 64 % 32) p.enabled p.ready (omega arith) in
-    let hd : host_side (poll.consumed d lane (entry_at lane d c)) ≡ consume lane (host_side d) (completion_of (entry_at lane d c)) = host-consumed lane d (entry_at lane d c) f can in
-    let dd = side-told lane c p (((ends lane d).head.consumed + 1) % 64 % 32) vs less in
-    let both : Both (host_side (poll.consumed d lane (entry_at lane d c))) (device_side (told_one lane c (((ends lane d).head.consumed + 1) % 64 % 32))) =
-    subst (λ k. Both k (device_side (told_one lane c (((ends lane d).head.consumed + 1) % 64 % 32)))) (sym hd)
-    (subst (Both (consume lane (host_side d) (completion_of (entry_at lane d c)))) (sym dd) (poll-both lane (host_side d) (device_side c) h)) in
-    let st = state-consumed lane d (entry_at lane d c) in
-    let sound : Sound (poll.consumed d lane (entry_at lane d c)) (told_one lane c (((ends lane d).head.consumed + 1) % 64 % 32)) = record {
-      both = both;
-      fits = λ l. fits-consumed lane l d (entry_at lane d c) (s.fits Admin) (s.fits Io) can;
-      sizes = λ k. subst (λ xs. received_in (waiting_at xs k) ≤ most_bytes) (sym (slots-consumed lane d (entry_at lane d c))) (size-freed d.slots (cid (entry_at lane d c)) k s.sizes);
-      up = λ t. paired-told lane c p (((ends lane d).head.consumed + 1) % 64 % 32) vs less;
-      down = λ t. absurd (no-way (is_up d.state) (ap is_up (sym st) ∙ t) h.up);
-    } in
+hands-up : (lane : Lane) (d : Driver) (c : Controller) (h : Heads lane d c)
+    → IsStep (handed_up lane (first_answer lane d c) (rest_posted lane d c) (mailbox d c)) (answer_at lane d c h).driver (after_calls (answer_at lane d c h).calls c) (poll_reply (answer_at lane d c h))
+hands-up lane d c h =
+    let p = h.sound.up h.up in
+    let f = h.sound.fits lane in
+    let v : poll.head_of (consumed_ends (ends lane d) (sq_head (entry_at lane d c))) ≡ head_then lane d = rw f.head refl in
+    let e : after_calls (answer_at lane d c h).calls c ≡ told_one lane c (head_then lane d) =
+    ap (λ n. after_write32 (head_doorbell lane) n c) v ∙ head-written lane c (head_then lane d) p.enabled p.ready (omega arith) in
     record {
-      sound = subst (Sound (poll.consumed d lane (entry_at lane d c))) (sym e) sound;
-      mail = sym (ap (mailbox (poll.consumed d lane (entry_at lane d c))) e ∙ ap (mail (host_side (poll.consumed d lane (entry_at lane d c)))) dd ∙ ap (λ k. mail k (told lane (device_side c))) hd ∙ (poll-mail lane (host_side d) (device_side c) h).1);
-      gives = answer-is lane d c h s;
+      sound = subst (Sound (poll.consumed d lane (entry_at lane d c))) (sym e) (polled-sound lane d c h);
+      mail = sym (ap (mailbox (poll.consumed d lane (entry_at lane d c))) e ∙ polled-mail lane d c h);
+      gives = answer-is lane d c h;
     }
 
--- an aborted request is handed up
-fits-freed : (l : Lane) (d : Driver) (i : ℕ) → EndsFit (ends l d) → EndsFit (ends l (poll.freed d i))
-fits-freed Admin d i f = f
-fits-freed Io d i f = f
+-- What is found, where nothing was aborted.
 
-aborts : (d : Driver) (c : Controller) (i : ℕ) (t : Ticket) → Sound d c → poll.aborted_at d.slots i ≡ Some t → ((k : ℕ) → poll.IsNotBelow t (poll.aborted_at d.slots k))
-    → IsStep (step.polled (mailbox d c)) (poll.freed d i) c (plain (Polled (Ok (Some (Aborted t)))))
-aborts d c i t s e low =
-    let n = number-is (waiting_at d.slots i) t e in
-    let m = aborted-mail (host_side d) (device_side c) i t.0 s.both n (λ k. below-is t (waiting_at d.slots k) (low k)) in
-    let f = ap (λ ts. polled_aborted ts (mailbox d c)) m.0 in
-    record {
-      sound = record {
-        both = freed-both (host_side d) (device_side c) i t.0 s.both n;
-        fits = λ l. fits-freed l d i (s.fits l);
-        sizes = λ k. size-freed d.slots i k s.sizes;
-        up = s.up;
-        down = s.down;
-      };
-      mail = ap (λ (r : MailboxReaction). r.mailbox) f ∙ sym m.1;
-      gives = ap (λ (r : MailboxReaction). r.reply) f;
-    }
+abbrev Finds : Driver → Controller → MailboxReaction → Type 0
+Finds d c r =
+    IsStep r (poll.found_poll d c.window (poll.found d c.window)).driver (after_calls (poll.found_poll d c.window (poll.found d c.window)).calls c) (poll_reply (poll.found_poll d c.window (poll.found d c.window)))
 
--- nothing was aborted
-abbrev plainly : Driver → Controller → Option Found → Type 0
-plainly d c o = IsStep (polled_admin (box_at Admin (mailbox d c)).posted (mailbox d c)) (poll.found_poll d c.window o).driver
-    (after_calls (poll.found_poll d c.window o).calls c) (poll_reply (poll.found_poll d c.window o))
+-- a completion of a lane
+finds-one : (lane : Lane) (d : Driver) (c : Controller) (r : MailboxReaction) → Heads lane d c → poll.found d c.window ≡ Some (record { lane = lane; entry = entry_at lane d c })
+    → r ≡ handed_up lane (first_answer lane d c) (rest_posted lane d c) (mailbox d c) → Finds d c r
+finds-one lane d c r h found q =
+    let known = ap (poll.found_poll d c.window) found ∙ ap (poll.answered_poll d c.window lane (entry_at lane d c)) (knows-it lane d c h) in
+    subst (λ y. Finds d c y) (sym q)
+    (subst (λ k. IsStep (handed_up lane (first_answer lane d c) (rest_posted lane d c) (mailbox d c)) k.driver (after_calls k.calls c) (poll_reply k)) (sym known) (hands-up lane d c h))
 
-io-found : (d : Driver) (c : Controller) → Sound d c → is_up d.state ≡ true → (box_at Admin (mailbox d c)).posted ≡ [] → poll.new_in Admin d.admin c.window ≡ None
-    → plainly d c (poll.found d c.window)
-io-found d c s u z none =
-    let b : Both (host_side d) (device_side c) = s.both in
-    let r = (b.each Io).up u in
-    let g : polled_admin (box_at Admin (mailbox d c)).posted (mailbox d c) ≡ polled_io (box_at Io (mailbox d c)).posted (mailbox d c) = ap (λ xs. polled_admin xs (mailbox d c)) z in
-    elim (cases_lt 0 (device_side c).io.unread) [
-      | inl some ↦
-          let h = heads Io (host_side d) (device_side c) b u some in
-          let m = poll-mail Io (host_side d) (device_side c) h in
-          let found : poll.found d c.window ≡ Some (record { lane = Io; entry = entry_at Io d c }) =
-          ap (λ o. poll.found_or (poll.found_in Admin o) (poll.found_in Io (poll.new_in Io d.io c.window))) none
-          ∙ ap (poll.found_in Io) (new-some Io d c.window _ r.consumed (looks Io (host_side d) (device_side c) h)) in
-          let known : poll.found_poll d c.window (poll.found d c.window) ≡ answer_at Io d c h =
-          ap (poll.found_poll d c.window) found ∙ ap (poll.answered_poll d c.window Io (entry_at Io d c)) (knows-it Io d c h s) in
-          let q : polled_admin (box_at Admin (mailbox d c)).posted (mailbox d c) ≡ handed_up Io (first_answer Io (host_side d) (device_side c)) (rest_posted Io (host_side d) (device_side c)) (mailbox d c) =
-          g ∙ ap (λ xs. polled_io xs (mailbox d c)) m.0 in
-          subst (λ y. IsStep y (poll.found_poll d c.window (poll.found d c.window)).driver (after_calls (poll.found_poll d c.window (poll.found d c.window)).calls c) (poll_reply (poll.found_poll d c.window (poll.found d c.window)))) (sym q)
-          (subst (λ k. IsStep (handed_up Io (first_answer Io (host_side d) (device_side c)) (rest_posted Io (host_side d) (device_side c)) (mailbox d c)) k.driver (after_calls k.calls c) (poll_reply k)) (sym known) (hands-up Io d c h s))
-      | inr over ↦
-          let y : (device_side c).io.unread ≡ 0 = omega (arith, over) in
-          let found : poll.found d c.window ≡ None =
-          ap (λ o. poll.found_or (poll.found_in Admin o) (poll.found_in Io (poll.new_in Io d.io c.window))) none
-          ∙ ap (poll.found_in Io) (new-none Io d c.window r.consumed (looks-none Io (host_side d) (device_side c) b u y)) in
-          let q : polled_admin (box_at Admin (mailbox d c)).posted (mailbox d c) ≡ mailbox_reaction (mailbox d c) (Polled (Ok None)) =
-          g ∙ ap (λ xs. polled_io xs (mailbox d c)) (none-there Io (host_side d) (device_side c) y) in
-          subst (λ k. IsStep (polled_admin (box_at Admin (mailbox d c)).posted (mailbox d c)) k.driver (after_calls k.calls c) (poll_reply k)) (sym (ap (poll.found_poll d c.window) found))
-          (record { sound = s; mail = ap (λ (r : MailboxReaction). r.mailbox) q; gives = ap (λ (r : MailboxReaction). r.reply) q })
+-- or none
+finds-none : (d : Driver) (c : Controller) (r : MailboxReaction) → Sound d c → poll.found d c.window ≡ None → r ≡ mailbox_reaction (mailbox d c) (Polled (Ok None)) → Finds d c r
+finds-none d c r s found q =
+    subst (λ k. IsStep r k.driver (after_calls k.calls c) (poll_reply k)) (sym (ap (poll.found_poll d c.window) found))
+    (record { sound = s; mail = ap (λ (x : MailboxReaction). x.mailbox) q; gives = ap (λ (x : MailboxReaction). x.reply) q })
+
+-- a lane as the driver and the mailbox see it: an answer, or none
+record Has (lane : Lane) (d : Driver) (c : Controller) : Type 0 where
+  heads : Heads lane d c
+  found : poll.new_in lane (ends lane d) c.window ≡ Some (entry_at lane d c)
+  posted : (box_at lane (mailbox d c)).posted ≡ first_answer lane d c ∷ rest_posted lane d c
+
+record HasNone (lane : Lane) (d : Driver) (c : Controller) : Type 0 where
+  found : poll.new_in lane (ends lane d) c.window ≡ None
+  posted : (box_at lane (mailbox d c)).posted ≡ []
+
+has : (lane : Lane) (d : Driver) (c : Controller) → Sound d c → is_up d.state ≡ true → Has lane d c ⊎ HasNone lane d c
+has lane d c s u =
+    let r = running lane d c s u in
+    let b = ap (λ (x : LaneBox). x.posted) (box-is lane d c) in
+    elim (cases_lt 0 (state lane c).unread) [
+      | inl some ↦ inl (record {
+        heads = heads lane d c s u some;
+        found = new-some lane d c.window _ r.consumed (next-some (host lane d c.window) (state lane c) r some);
+        posted = b ∙ poll-posted (host lane d c.window) (state lane c) r some;
+      })
+      | inr over ↦ (let z : (state lane c).unread ≡ 0 = omega (arith, over) in inr (record {
+        found = new-none lane d c.window r.consumed (next-none (host lane d c.window) (state lane c) r z);
+        posted = b ∙ none-posted (host lane d c.window) (state lane c) z;
+      }))
     ]
 
-all-found : (d : Driver) (c : Controller) → Sound d c → is_up d.state ≡ true → plainly d c (poll.found d c.window)
-all-found d c s u =
-    let b : Both (host_side d) (device_side c) = s.both in
-    let r = (b.each Admin).up u in
-    elim (cases_lt 0 (device_side c).admin.unread) [
-      | inl some ↦
-          let h = heads Admin (host_side d) (device_side c) b u some in
-          let m = poll-mail Admin (host_side d) (device_side c) h in
-          let found : poll.found d c.window ≡ Some (record { lane = Admin; entry = entry_at Admin d c }) =
-          ap (λ o. poll.found_or (poll.found_in Admin o) (poll.found_in Io (poll.new_in Io d.io c.window))) (new-some Admin d c.window _ r.consumed (looks Admin (host_side d) (device_side c) h)) in
-          let known : poll.found_poll d c.window (poll.found d c.window) ≡ answer_at Admin d c h =
-          ap (poll.found_poll d c.window) found ∙ ap (poll.answered_poll d c.window Admin (entry_at Admin d c)) (knows-it Admin d c h s) in
-          let q : polled_admin (box_at Admin (mailbox d c)).posted (mailbox d c) ≡ handed_up Admin (first_answer Admin (host_side d) (device_side c)) (rest_posted Admin (host_side d) (device_side c)) (mailbox d c) =
-          ap (λ xs. polled_admin xs (mailbox d c)) m.0 in
-          subst (λ y. IsStep y (poll.found_poll d c.window (poll.found d c.window)).driver (after_calls (poll.found_poll d c.window (poll.found d c.window)).calls c) (poll_reply (poll.found_poll d c.window (poll.found d c.window)))) (sym q)
-          (subst (λ k. IsStep (handed_up Admin (first_answer Admin (host_side d) (device_side c)) (rest_posted Admin (host_side d) (device_side c)) (mailbox d c)) k.driver (after_calls k.calls c) (poll_reply k)) (sym known) (hands-up Admin d c h s))
-      | inr over ↦
-          let y : (device_side c).admin.unread ≡ 0 = omega (arith, over) in
-          io-found d c s u (none-there Admin (host_side d) (device_side c) y) (new-none Admin d c.window r.consumed (looks-none Admin (host_side d) (device_side c) b u y))
-    ]
+-- of the admin lane first
+all-found : (d : Driver) (c : Controller) → Sound d c → is_up d.state ≡ true → Finds d c (polled_admin (mailbox d c).admin.posted (mailbox d c))
+all-found d c s u = by (has Admin d c s u) (has Io d c s u)
+  where
+    by : Has Admin d c ⊎ HasNone Admin d c → Has Io d c ⊎ HasNone Io d c → Finds d c (polled_admin (mailbox d c).admin.posted (mailbox d c))
+    by (inl a) i = finds-one Admin d c _ a.heads (ap (λ o. poll.found_or (poll.found_in Admin o) (poll.found_in Io (poll.new_in Io d.io c.window))) a.found) (ap (λ xs. polled_admin xs (mailbox d c)) a.posted)
+    by (inr n) (inl a) = finds-one Io d c _ a.heads (λ j. poll.found_or (poll.found_in Admin (n.found j)) (poll.found_in Io (a.found j)))
+        (ap (λ xs. polled_admin xs (mailbox d c)) n.posted ∙ ap (λ xs. polled_io xs (mailbox d c)) a.posted)
+    by (inr n) (inr m) = finds-none d c _ s (λ j. poll.found_or (poll.found_in Admin (n.found j)) (poll.found_in Io (m.found j)))
+        (ap (λ xs. polled_admin xs (mailbox d c)) n.posted ∙ ap (λ xs. polled_io xs (mailbox d c)) m.posted)
+
+-- where the driver is up
+abbrev Polls : Bool → Driver → Controller → Type 0
+Polls t d c =
+    let p : poll.Poll = if t then poll.found_poll d c.window (poll.found d c.window) else poll.without_calls (Err poll_fault.NotUp) d in
+    IsStep (if t then polled_admin (mailbox d c).admin.posted (mailbox d c) else mailbox_reaction (mailbox d c) (Polled (Err poll_fault.NotUp))) p.driver (after_calls p.calls c) (poll_reply p)
 
 pub poll_is_a_step : PollIsAStep
 poll_is_a_step d c (Some i) s h =
     subst (λ o. IsStep (step.polled (mailbox d c)) (poll.freed d i) c (plain (Polled (Ok (Some (Aborted (poll.ticket_of o))))))) (sym h.1) (aborts d c i h.0 s h.1 h.2)
 poll_is_a_step d c None s h =
-    let n = none-aborted (host_side d) (device_side c) (λ k. number-none (waiting_at d.slots k) (h k)) in
-    let f : step.polled (mailbox d c) ≡ polled_aborted [] (mailbox d c) = ap (λ ts. polled_aborted ts (mailbox d c)) n in
-    subst (λ y. IsStep y (poll.polled d None c.window).driver (after_calls (poll.polled d None c.window).calls c) (poll_reply (poll.polled d None c.window))) (sym f) (elim (cases_Bool (is_up d.state)) [
-      | inl u ↦ subst (λ t. IsStep (if t then polled_admin (box_at Admin (mailbox d c)).posted (mailbox d c) else mailbox_reaction (mailbox d c) (Polled (Err poll_fault.NotUp))) (if t then poll.found_poll d c.window (poll.found d c.window) else poll.without_calls (Err poll_fault.NotUp) d).driver (after_calls (if t then poll.found_poll d c.window (poll.found d c.window) else poll.without_calls (Err poll_fault.NotUp) d).calls c) (poll_reply (if t then poll.found_poll d c.window (poll.found d c.window) else poll.without_calls (Err poll_fault.NotUp) d))) (sym u) (all-found d c s u)
-      | inr u ↦ subst (λ t. IsStep (if t then polled_admin (box_at Admin (mailbox d c)).posted (mailbox d c) else mailbox_reaction (mailbox d c) (Polled (Err poll_fault.NotUp))) (if t then poll.found_poll d c.window (poll.found d c.window) else poll.without_calls (Err poll_fault.NotUp) d).driver (after_calls (if t then poll.found_poll d c.window (poll.found d c.window) else poll.without_calls (Err poll_fault.NotUp) d).calls c) (poll_reply (if t then poll.found_poll d c.window (poll.found d c.window) else poll.without_calls (Err poll_fault.NotUp) d))) (sym u) (record { sound = s; mail = refl; gives = refl })
+    let n = empty-order aborted_number d.slots (λ k. number-none (waiting_at d.slots k) (h k)) in
+    subst (λ y. IsStep y (poll.polled d None c.window).driver (after_calls (poll.polled d None c.window).calls c) (poll_reply (poll.polled d None c.window))) (sym (ap (λ ts. polled_aborted ts (mailbox d c)) n))
+    (elim (cases_Bool (is_up d.state)) [
+      | inl u ↦ subst (λ t. Polls t d c) (sym u) (all-found d c s u)
+      | inr u ↦ subst (λ t. Polls t d c) (sym u) (record { sound = s; mail = refl; gives = refl })
     ])

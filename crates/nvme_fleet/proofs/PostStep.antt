@@ -1,45 +1,65 @@
--- An answer that is posted stands at the end of its lane in the mailbox.
-use Rattle.nvme_fleet.proofs.Words.{none-some, same_Some, ◌≡◌, ℕ, ◌+◌, ◌-◌, ◌*◌, ◌%◌, ◌<◌, ◌≤◌, nat_lt, true, List, length, map, Some, refl, sym, ap, subst, ◌∙◌, arith, inl, inr, slice_get, cases_Bool, lt-ltb, slice_get-map, cid, Completion, completion_entry, completion_of, FitsCompletion, completion_is_read_back, Keep, with_bytes, phase_tag, Lane, Admin, Io, queue_id, completion_queue, data_area, Driver, is_up, waiting_at, answer_len, FetchedCommand, Controller, QueuePair, pair_with, open_pair, after_posting, after_queue_change, completion_at, CommandExecution, after_completion, FetchedItem, box_at, with_box, lane_of, after_answer, with_posted, Effect, Slot, slot_at, item_in, phase_of, finished, finished_bytes, received_in, lane_in, box, DeviceSide, DeviceEnds, Both, mail, pair, next_pair, state, slots_in, whole, held_by, fetched_by, executed_at, base, Sound, IsPaired, IsOfLane, host_side, device_side, mailbox, taken_by, lane_of_queue, submission_as, completion_as, PostingIsAStep, PostingHasRoom, NothingToExecute, request_execution_with}
+-- An answer that is posted stands at the end of its lane in the mailbox, and the other lane stays.
+use Rattle.nvme_fleet.proofs.Words.{none-some, same_Some, ◌≡◌, ℕ, ◌+◌, ◌-◌, ◌*◌, ◌%◌, ◌<◌, ◌≤◌, nat_lt, true, false, eqb, List, [], ◌∷◌, ◌++◌, length, take, Some, refl, sym, ap, subst, ◌∙◌, arith, inl, inr, slice_get, slice_set, cases_Bool, lt-ltb, slice_get-map, cid, Completion, completion_entry, completion_of, FitsCompletion, completion_is_read_back, Keep, with_bytes, most_bytes, phase_tag, Lane, queue_id, submission_queue, completion_queue, data_area, Driver, is_up, waiting_at, answer_len, FetchedCommand, Controller, QueuePair, pair_with, open_pair, after_posting, after_queue_change, completion_at, CommandExecution, after_completion, FetchedItem, box_at, with_box, lane_of, after_answer, with_posted, Effect, Host, State, Slot, DeviceEnds, slot_at, item_in, finished, finished_bytes, received_in, lane_in, live_in, commands_of, box, executed as executed_one, executed_state, Both, same, other, host, state, pages_of, area, listed, slots_in, commands_in, whole, held_by, fetched_by, lane_of_queue, Sound, IsPaired, IsOfLane, mailbox, submission_as, completion_as, PostingIsAStep, PostingHasRoom, NothingToExecute, request_execution_with}
 use Rattle.std.proofs.Common.{remove}
 use Rattle.nvme_mailbox.proofs.Lists.{all-get, all-removed}
 use Rattle.std.specs.Option.{option_map}
 use Rattle.nvme_fleet.proofs.PollStep.{tag-is}
 use Rattle.nvme_fleet.proofs.Totals.{map-removed}
-use Rattle.nvme_fleet.proofs.Places.{no-way}
-use Rattle.nvme_fleet.proofs.Linking.{of, submission-is, completion-is, pair-is}
-use Rattle.nvme_fleet.proofs.LaneSlots.{slot-in}
-use Rattle.nvme_fleet.proofs.Polling.{Own, own-is}
-use Rattle.nvme_fleet.proofs.Executing.{Takes, takes, Runs, runs, execute-both, execute-mail, answered_box, has-room}
+use Rattle.nvme_fleet.proofs.Empties.{bare-of}
+use Rattle.nvme_fleet.proofs.Executes.{Fetched as FetchedOne, fetched as fetched_one, Executes, given, execute-box, execute-holds}
+use Rattle.nvme_fleet.proofs.LaneWindows.{Same, same-both, Leaves, leaves-data, lists-data, Pages, pages, area-front}
+use Rattle.nvme_fleet.proofs.LaneSlots.{Own, own-at, slot-in, slots-here, slots-there, set-waiting, same-self, same-other}
+use Rattle.nvme_fleet.proofs.Ranks.{rank, ranked-in, removed-there}
+use Rattle.nvme_fleet.proofs.OneLane.{each-lane, running, box-is, AtLane, sound-at, fetched-at, mail-at}
+use Rattle.nvme_fleet.proofs.Linking.{counts, submission-is, completion-is, same-submission, Counted, counted}
 use Rattle.nvme_fleet.proofs.OwnCommands.{length-completion}
+
+-- what an execution stores: data in the slot, the completion entry in its lane's pages, and no other part
+record Stores (lane : Lane) (w w' : List ℕ) (s at : ℕ) (bytes entry : List ℕ) : Type 0 where
+  size : length w' ≡ length w
+  slots : (k : ℕ) → k < 24 → eqb k s ≡ false → Same w w' k
+  lists : listed w' s ≡ listed w s
+  data_in : take (length bytes) (area w' s) ≡ bytes
+  here : pages_of lane w' ≡ with_bytes (pages_of lane w) at entry
+  there : pages_of (other lane) w' ≡ pages_of (other lane) w
+
+stores : (lane : Lane) (w bytes entry : List ℕ) (s at : ℕ) → length w ≡ 4194304 → s < 24 → length bytes ≤ most_bytes → at + length entry ≤ 8192 →
+    Stores lane w (with_bytes (with_bytes w (data_area s) bytes) (submission_queue lane + at) entry) s at bytes entry
+stores lane w bytes entry s at l a b h =
+    let u = with_bytes w (data_area s) bytes in
+    let one : Leaves w u s = leaves-data w bytes s l a b in
+    let m : length u ≡ 4194304 = one.size ∙ l in
+    let two : Pages lane u (with_bytes u (submission_queue lane + at) entry) at entry = pages lane u entry at m h in
+    let own : Same u (with_bytes u (submission_queue lane + at) entry) s = two.slots s a in
+    record {
+      size = two.size ∙ one.size;
+      slots = λ k i q. same-both w u (with_bytes u (submission_queue lane + at) entry) k (one.slots k i q) (two.slots k i);
+      lists = own.lists ∙ lists-data w bytes s l a b;
+      data_in = ap (take (length bytes)) own.areas ∙ area-front w bytes s (omega (arith, l, a)) b;
+      here = two.here ∙ ap (λ x. with_bytes x at entry) (one.pages lane);
+      there = two.there ∙ one.pages (other lane);
+    }
 
 queue-is : (t : FetchedCommand) → IsOfLane t → t.queue ≡ queue_id (lane_of_queue t.queue)
 queue-is t (inl e) = rw e refl
 queue-is t (inr e) = rw e refl
 
 -- its queues, which have room
-abbrev pub pair_in : (lane : Lane) (c : Controller) → IsPaired c → QueuePair
-pair_in lane c p = pair_with (submission_as lane (of lane c p)) (completion_as lane (of lane c p))
+abbrev pub pair_in : Lane → Controller → QueuePair
+pair_in lane c = pair_with (submission_as lane (counts lane c)) (completion_as lane (counts lane c))
 
-cqid-at : (lane : Lane) (c : Controller) (p : IsPaired c) → completion_at c (submission_as lane (of lane c p)).cqid ≡ Some (completion_as lane (of lane c p))
+cqid-at : (lane : Lane) (c : Controller) → IsPaired c → completion_at c (submission_as lane (counts lane c)).cqid ≡ Some (completion_as lane (counts lane c))
 cqid-at lane c p = completion-is lane c p
 
-pub open-is : (lane : Lane) (c : Controller) (p : IsPaired c) (t : FetchedCommand) → t.queue ≡ queue_id lane → (of lane c p).unread < 24 → open_pair c t ≡ Some (pair_in lane c p)
-unfolding open_pair
-open-is lane c p t q room =
-    let r : nat_lt 0 (32 - 1 - (of lane c p).unread) ≡ true = lt-ltb 0 (32 - 1 - (of lane c p).unread) (omega (arith, room)) in
-    rw (q, submission-is lane c p, cqid-at lane c p, r) refl
-
--- what is known of the i-th command
-pub record Known (d : Driver) (c : Controller) (i : ℕ) (t : FetchedCommand) : Type 0 where
-  pub lane : Lane
+-- what is known of the i-th command, which is of this lane
+pub record Known (lane : Lane) (d : Driver) (c : Controller) (i : ℕ) (t : FetchedCommand) : Type 0 where
+  pub sound : Sound d c
+  pub there : slice_get c.fetched i ≡ Some t
   pub of_lane : lane_of_queue t.queue ≡ lane
   pub queue : t.queue ≡ queue_id lane
-  pub takes : Takes lane (host_side d) (device_side c) i t.entry
-  pub paired : IsPaired c
-  pub room : (of lane c paired).unread < 24
-
-unread-of : (lane : Lane) (c : Controller) (p : IsPaired c) (n : ℕ) → (pair lane (device_side c)).unread < n → (of lane c p).unread < n
-unread-of lane c p n h = subst (λ (x : DeviceEnds). x.unread < n) (pair-is lane c p) h
+  pub up : is_up d.state ≡ true
+  pub one : FetchedOne (host lane d c.window) (state lane c) (rank lane c.fetched i) t.entry
+  pub own : Own lane (waiting_at d.slots (cid t.entry))
 
 pub up-of : (d : Driver) (c : Controller) (i : ℕ) (t : FetchedCommand) → Sound d c → slice_get c.fetched i ≡ Some t → is_up d.state ≡ true
 up-of d c i t s g = elim (cases_Bool (is_up d.state)) [
@@ -47,36 +67,72 @@ up-of d c i t s g = elim (cases_Bool (is_up d.state)) [
   | inr u ↦ (let o = s.down u in absurd (none-some t (sym (ap (λ ts. slice_get ts i) o.fetched) ∙ g)))
 ]
 
-pub known : (d : Driver) (c : Controller) (i : ℕ) (t : FetchedCommand) → Sound d c → slice_get c.fetched i ≡ Some t → Known d c i t
+pub known : (d : Driver) (c : Controller) (i : ℕ) (t : FetchedCommand) → Sound d c → slice_get c.fetched i ≡ Some t → Known (lane_of_queue t.queue) d c i t
 known d c i t s g =
     let u = up-of d c i t s g in
     let p = s.up u in
-    let e = queue-is t (all-get IsOfLane c.fetched i t g p.fetched) in
-    let there : slice_get (map taken_by c.fetched) i ≡ Some (taken_by t) = slice_get-map taken_by c.fetched i ∙ ap (option_map taken_by) g in
-    let k = takes (lane_of_queue t.queue) (host_side d) (device_side c) i t.entry t.marked s.both there in
+    let r = ranked-in (lane_of_queue t.queue) c.fetched i t g (same-self (lane_of_queue t.queue)) in
+    let o = fetched_one (host (lane_of_queue t.queue) d c.window) (state (lane_of_queue t.queue) c) (rank (lane_of_queue t.queue) c.fetched i) t.entry (running (lane_of_queue t.queue) d c s u) r.there in
     record {
-      lane = lane_of_queue t.queue;
+      sound = s;
+      there = g;
       of_lane = refl;
-      queue = e;
-      takes = k;
-      paired = p;
-      room = unread-of (lane_of_queue t.queue) c p 24 (has-room (lane_of_queue t.queue) (host_side d) (device_side c) i t.entry k);
+      queue = queue-is t (all-get IsOfLane c.fetched i t g p.fetched);
+      up = u;
+      one = o;
+      own = own-at (lane_of_queue t.queue) c.window d.slots (cid t.entry) o.live;
     }
 
+pub open-is : (lane : Lane) (d : Driver) (c : Controller) (i : ℕ) (t : FetchedCommand) → Known lane d c i t → open_pair c t ≡ Some (pair_in lane c)
+unfolding open_pair
+open-is lane d c i t k =
+    let p = k.sound.up k.up in
+    let room = (k.one).room in
+    let r : nat_lt 0 (32 - 1 - (state lane c).unread) ≡ true = lt-ltb 0 (32 - 1 - (state lane c).unread) (omega (arith, room)) in
+    rw (k.queue, submission-is lane c p, cqid-at lane c p, r) refl
+
 pub posting_has_room : PostingHasRoom
-posting_has_room d c i t s g =
-    let k = known d c i t s g in
-    (pair_in k.lane c k.paired, open-is k.lane c k.paired t k.queue k.room)
+posting_has_room d c i t s g = (pair_in (lane_of_queue t.queue) c, open-is (lane_of_queue t.queue) d c i t (known d c i t s g))
 
 pub nothing_to_execute : NothingToExecute
-nothing_to_execute d c i g =
-    slice_get-map (fetched_by (held_by (host_side d) c.window)) (map taken_by c.fetched) i
-    ∙ ap (option_map (fetched_by (held_by (host_side d) c.window))) (slice_get-map taken_by c.fetched i ∙ ap (option_map taken_by) g)
+nothing_to_execute d c i g = slice_get-map (fetched_by (held_by d c.window)) c.fetched i ∙ ap (option_map (fetched_by (held_by d c.window))) g
+
+-- The request of a command.
+
+-- the command's slot, as its lane sees it
+abbrev pub slot_seen : Lane → Driver → Controller → FetchedCommand → Slot
+slot_seen lane d c t = slot_at (slots_in lane c.window 0 d.slots) (cid t.entry)
+
+pub seen-is : (lane : Lane) (d : Driver) (c : Controller) (i : ℕ) (t : FetchedCommand) (k : Known lane d c i t) → slot_seen lane d c t ≡ whole c.window (cid t.entry) (k.own).waiting
+seen-is lane d c i t k = slot-in lane c.window d.slots (cid t.entry) ∙ (k.own).slot c.window (cid t.entry)
+
+pub record Seen (lane : Lane) (d : Driver) (c : Controller) (t : FetchedCommand) : Type 0 where
+  pub received : received_in (slot_seen lane d c t).waiting ≡ received_in (waiting_at d.slots (cid t.entry))
+  pub of_lane : lane_in (slot_seen lane d c t).waiting ≡ lane
+
+pub seen : (lane : Lane) (d : Driver) (c : Controller) (i : ℕ) (t : FetchedCommand) → Known lane d c i t → Seen lane d c t
+seen lane d c i t k =
+    let e = seen-is lane d c i t k in
+    record {
+      received = ap (λ (s : Slot). received_in s.waiting) e ∙ sym (ap received_in (k.own).is);
+      of_lane = ap (λ (s : Slot). lane_in s.waiting) e ∙ (k.own).of_lane;
+    }
+
+-- the request that the mailbox has in its place
+abbrev pub item_at : Driver → Controller → FetchedCommand → FetchedItem
+item_at d c t = fetched_by (held_by d c.window) t
+
+pub found-at : (d : Driver) (c : Controller) (i : ℕ) (t : FetchedCommand) → slice_get c.fetched i ≡ Some t → slice_get (mailbox d c).fetched i ≡ Some (item_at d c t)
+found-at d c i t g = slice_get-map (fetched_by (held_by d c.window)) c.fetched i ∙ ap (option_map (fetched_by (held_by d c.window))) g
+
+pub lane-of-item : (lane : Lane) (d : Driver) (c : Controller) (t : FetchedCommand) → lane_of_queue t.queue ≡ lane → Seen lane d c t → lane_of (item_at d c t).item ≡ lane
+unfolding item_in
+lane-of-item lane d c t q s = ap (λ l. lane_in (slot_at (slots_in l c.window 0 d.slots) (cid t.entry)).waiting) q ∙ s.of_lane
 
 -- The completion, and what it leaves of the controller.
 
 -- an answer as its lane sees it
-abbrev pub effect_of : CommandExecution → List ℕ → Effect
+abbrev effect_of : CommandExecution → List ℕ → Effect
 effect_of a bytes = record { status = a.outcome.status; dw0 = a.outcome.dw0; bytes = bytes }
 
 -- the completion as the controller spells it
@@ -90,109 +146,172 @@ fields_of t p a = record {
   status = a.outcome.status;
 }
 
--- its fields, by the lane's counts
-abbrev made : CommandExecution → FetchedCommand → ℕ → DeviceEnds → Completion
-made a t q x = record { dw0 = a.outcome.dw0; sq_head = x.fetched; sq_id = q; cid = cid t.entry; phase = phase_of x.posted; status = a.outcome.status }
-
-finished-is : (lane : Lane) (c : Controller) (p : IsPaired c) (t : FetchedCommand) (a : CommandExecution) (bytes : List ℕ) → t.queue ≡ queue_id lane → (of lane c p).posted < 64
-    → fields_of t (pair_in lane c p) a ≡ finished (state lane (device_side c)) (effect_of a bytes) t.entry
-finished-is Admin c p t a bytes q h =
-    let e = pair-is Admin c p in
-    rw (q, tag-is (p.admin).posted h) (ap (λ (x : DeviceEnds). made a t 0 x) (sym e))
-finished-is Io c p t a bytes q h =
-    let e = pair-is Io c p in
-    rw (q, tag-is (p.io).posted h) (ap (λ (x : DeviceEnds). made a t 1 x) (sym e))
-
--- the bytes of the completion
-bytes-are : (lane : Lane) (c : Controller) (p : IsPaired c) (t : FetchedCommand) (a : CommandExecution) (bytes : List ℕ) → t.queue ≡ queue_id lane → (of lane c p).posted < 64
-    → completion_entry (fields_of t (pair_in lane c p) a) ≡ finished_bytes (state lane (device_side c)) (effect_of a bytes) t.entry
-unfolding finished_bytes
-bytes-are lane c p t a bytes q h = ap completion_entry (finished-is lane c p t a bytes q h)
-
 -- the controller then
-abbrev posted_then : (lane : Lane) (c : Controller) → IsPaired c → ℕ → FetchedCommand → CommandExecution → Controller
-posted_then lane c p i t a = after_posting i t (pair_in lane c p) a.outcome.status a.outcome.dw0 (record c { window = a.left.window })
+abbrev posted_then : Lane → Controller → ℕ → FetchedCommand → CommandExecution → Controller
+posted_then lane c i t a = after_posting i t (pair_in lane c) a.outcome.status a.outcome.dw0 (record c { window = a.left.window })
 
-slot-place : (lane : Lane) (n : ℕ) → completion_queue lane + 16 * (n % 32) ≡ base lane + (4096 + 16 * (n % 32))
-slot-place Admin n = omega arith
-slot-place Io n = omega arith
+abbrev posted_counts : Lane → Controller → DeviceEnds
+posted_counts lane c = record (counts lane c) { posted = ((state lane c).posted + 1) % 64; unread = (state lane c).unread + 1 }
 
-paired-posted : (lane : Lane) (c : Controller) (p : IsPaired c) (i : ℕ) (t : FetchedCommand) (a : CommandExecution) → IsPaired (posted_then lane c p i t a)
+posted-so : (lane : Lane) (c : Controller) (i : ℕ) (t : FetchedCommand) (a : CommandExecution) → IsPaired c → Counted lane c (posted_then lane c i t a) (posted_counts lane c)
 unfolding after_posting
-paired-posted Admin c p i t a = record {
-  admin = next_pair p.admin;
-  io = p.io;
-  submission = p.submission;
-  completion = rw p.completion refl;
-  fetched = all-removed IsOfLane c.fetched i p.fetched;
-  ready = p.ready;
-  enabled = p.enabled;
-}
-paired-posted Io c p i t a = record {
-  admin = p.admin;
-  io = next_pair p.io;
-  submission = p.submission;
-  completion = rw p.completion refl;
-  fetched = all-removed IsOfLane c.fetched i p.fetched;
-  ready = p.ready;
-  enabled = p.enabled;
-}
+posted-so lane c i t a p = counted lane c (posted_then lane c i t a) (posted_counts lane c) p (same-submission lane c p) refl (all-removed IsOfLane c.fetched i p.fetched) refl
 
-side-posted : (lane : Lane) (c : Controller) (p : IsPaired c) (i : ℕ) (t : FetchedCommand) (a : CommandExecution) (bytes : List ℕ) → t.queue ≡ queue_id lane → (of lane c p).posted < 64
-    → a.left.window ≡ with_bytes c.window (data_area (cid t.entry)) bytes
-    → device_side (posted_then lane c p i t a) ≡ executed_at lane (device_side c) i t.entry (effect_of a bytes)
+-- the window: the data in the slot, the completion in the lane's pages
+abbrev window_then : Lane → Controller → FetchedCommand → CommandExecution → List ℕ → List ℕ
+window_then lane c t a bytes =
+    with_bytes (with_bytes c.window (data_area (cid t.entry)) bytes) (submission_queue lane + (4096 + 16 * ((state lane c).posted % 32)))
+    (finished_bytes (state lane c) (effect_of a bytes) t.entry)
+
+-- what is known of an answer
+record Answers (lane : Lane) (d : Driver) (c : Controller) (i : ℕ) (t : FetchedCommand) (a : CommandExecution) (bytes : List ℕ) : Type 0 where
+  known : Known lane d c i t
+  size : length (finished_bytes (state lane c) (effect_of a bytes) t.entry) ≡ 16
+  reads : completion_of (finished_bytes (state lane c) (effect_of a bytes) t.entry) ≡ finished (state lane c) (effect_of a bytes) t.entry
+  fits : answer_len (received_in (slot_seen lane d c t).waiting) a.outcome.status ≤ length bytes
+  wrote : Stores lane c.window (window_then lane c t a bytes) (cid t.entry) (4096 + 16 * ((state lane c).posted % 32)) bytes (finished_bytes (state lane c) (effect_of a bytes) t.entry)
+  window : (posted_then lane c i t a).window ≡ window_then lane c t a bytes
+
+finished-is : (lane : Lane) (c : Controller) (t : FetchedCommand) (a : CommandExecution) (bytes : List ℕ) → t.queue ≡ queue_id lane → (state lane c).posted < 64
+    → fields_of t (pair_in lane c) a ≡ finished (state lane c) (effect_of a bytes) t.entry
+finished-is lane c t a bytes q h = rw (q, tag-is (state lane c).posted h) refl
+
+bytes-are : (lane : Lane) (c : Controller) (t : FetchedCommand) (a : CommandExecution) (bytes : List ℕ) → t.queue ≡ queue_id lane → (state lane c).posted < 64
+    → completion_entry (fields_of t (pair_in lane c) a) ≡ finished_bytes (state lane c) (effect_of a bytes) t.entry
+unfolding finished_bytes
+bytes-are lane c t a bytes q h = ap completion_entry (finished-is lane c t a bytes q h)
+
+place-is : (lane : Lane) (n : ℕ) → completion_queue lane + 16 * (n % 32) ≡ submission_queue lane + (4096 + 16 * (n % 32))
+place-is lane n = omega arith
+
+window-is : (lane : Lane) (c : Controller) (i : ℕ) (t : FetchedCommand) (a : CommandExecution) (bytes : List ℕ) → completion_entry (fields_of t (pair_in lane c) a) ≡ finished_bytes (state lane c) (effect_of a bytes) t.entry
+    → a.left.window ≡ with_bytes c.window (data_area (cid t.entry)) bytes → (posted_then lane c i t a).window ≡ window_then lane c t a bytes
 unfolding after_posting
-side-posted Admin c p i t a bytes q h w =
-    let b = bytes-are Admin c p t a bytes q h in
-    let e = slot-place Admin (p.admin).posted in
-    rw (b, e, w, map-removed taken_by c.fetched i) (rw (p.submission, p.completion) refl)
-side-posted Io c p i t a bytes q h w =
-    let b = bytes-are Io c p t a bytes q h in
-    let e = slot-place Io (p.io).posted in
-    rw (b, e, w, map-removed taken_by c.fetched i) (rw (p.submission, p.completion) refl)
+window-is lane c i t a bytes b w = λ j. with_bytes (w j) (place-is lane (state lane c).posted j) (b j)
 
--- The request of a command.
-
--- the command's slot, as its lane sees it
-abbrev pub slot_seen : Lane → Driver → Controller → FetchedCommand → Slot
-slot_seen lane d c t = slot_at (slots_in lane c.window 0 d.slots) (cid t.entry)
-
-pub record Seen (lane : Lane) (d : Driver) (c : Controller) (t : FetchedCommand) : Type 0 where
-  pub received : received_in (slot_seen lane d c t).waiting ≡ received_in (waiting_at d.slots (cid t.entry))
-  pub of_lane : lane_in (slot_seen lane d c t).waiting ≡ lane
-
-pub seen : (lane : Lane) (d : Driver) (c : Controller) (i : ℕ) (t : FetchedCommand) → Takes lane (host_side d) (device_side c) i t.entry → Seen lane d c t
-seen lane d c i t k =
-    let o : Own lane c.window (cid t.entry) (waiting_at d.slots (cid t.entry)) = own-is lane c.window (cid t.entry) (waiting_at d.slots (cid t.entry)) k.live in
-    let e : slot_seen lane d c t ≡ whole c.window (cid t.entry) o.waiting = slot-in lane c.window 0 d.slots (cid t.entry) (cid t.entry) (omega arith) ∙ o.slot in
+answers : (lane : Lane) (d : Driver) (c : Controller) (i : ℕ) (t : FetchedCommand) (a : CommandExecution) (bytes : List ℕ) → Known lane d c i t → FitsCompletion (fields_of t (pair_in lane c) a)
+    → a.left.window ≡ with_bytes c.window (data_area (cid t.entry)) bytes → length bytes ≤ most_bytes → answer_len (received_in (waiting_at d.slots (cid t.entry))) a.outcome.status ≤ length bytes
+    → Answers lane d c i t a bytes
+answers lane d c i t a bytes k f w few whole =
+    let r = running lane d c k.sound k.up in
+    let small : (state lane c).posted < 64 = omega (arith, r.posted) in
+    let b = bytes-are lane c t a bytes k.queue small in
+    let sight = seen lane d c i t k in
+    let z : length (finished_bytes (state lane c) (effect_of a bytes) t.entry) ≡ 16 = sym (ap length b) ∙ length-completion (fields_of t (pair_in lane c) a) in
     record {
-      received = ap (λ (s : Slot). received_in s.waiting) e ∙ sym (ap received_in o.is);
-      of_lane = ap (λ (s : Slot). lane_in s.waiting) e ∙ o.of_lane;
+      known = k;
+      size = z;
+      reads = sym (ap completion_of b) ∙ completion_is_read_back (fields_of t (pair_in lane c) a) f ∙ finished-is lane c t a bytes k.queue small;
+      fits = subst (λ n. answer_len n a.outcome.status ≤ length bytes) (sym sight.received) whole;
+      wrote = stores lane c.window bytes (finished_bytes (state lane c) (effect_of a bytes) t.entry) (cid t.entry) (4096 + 16 * ((state lane c).posted % 32)) k.sound.both.window (k.one).within few (omega (arith, z));
+      window = window-is lane c i t a bytes b w;
     }
 
--- the request that the mailbox has in its place
-abbrev pub item_at : Driver → Controller → FetchedCommand → FetchedItem
-item_at d c t = fetched_by (held_by (host_side d) c.window) (taken_by t)
+-- what the lane's own Execute asks for
+executes-so : (lane : Lane) (d : Driver) (c : Controller) (i : ℕ) (t : FetchedCommand) (a : CommandExecution) (bytes : List ℕ) → Answers lane d c i t a bytes
+    → Executes (host lane d c.window) (state lane c) (effect_of a bytes) (rank lane c.fetched i) t.entry (area (window_then lane c t a bytes) (cid t.entry))
+executes-so lane d c i t a bytes h = record { fetched = (h.known).one; size = h.size; reads = h.reads; fits = h.fits; gets = h.wrote.data_in }
 
-pub lane-of-item : (lane : Lane) (d : Driver) (c : Controller) (t : FetchedCommand) → lane_of_queue t.queue ≡ lane → Seen lane d c t → lane_of (item_at d c t).item ≡ lane
-unfolding item_in
-lane-of-item lane d c t q s = ap (λ l. lane_in (slot_at (slots_in l c.window 0 d.slots) (cid t.entry)).waiting) q ∙ s.of_lane
+-- What becomes of the lane.
+abbrev host_then : Lane → Driver → Controller → FetchedCommand → CommandExecution → List ℕ → Host
+host_then lane d c t a bytes = executed_one (host lane d c.window) t.entry (area (window_then lane c t a bytes) (cid t.entry))
+
+abbrev state_then : Lane → Controller → ℕ → FetchedCommand → CommandExecution → List ℕ → State
+state_then lane c i t a bytes = executed_state (state lane c) (rank lane c.fetched i) t.entry (effect_of a bytes)
+
+abbrev Posts : Lane → Driver → Controller → ℕ → FetchedCommand → CommandExecution → List ℕ → Type 0
+Posts lane d c i t a bytes = AtLane lane d d c (posted_then lane c i t a) d.next (host_then lane d c t a bytes) (state_then lane c i t a bytes)
+
+-- the commands of the lanes
+removed-here : (lane : Lane) (d : Driver) (c : Controller) (i : ℕ) (t : FetchedCommand) → Known lane d c i t → commands_in lane (remove c.fetched i) ≡ remove (commands_in lane c.fetched) (rank lane c.fetched i)
+removed-here lane d c i t k = (ranked-in lane c.fetched i t k.there (ap (λ l. same l lane) k.of_lane ∙ same-self lane)).removed
+
+still-there : (lane : Lane) (d : Driver) (c : Controller) (i : ℕ) (t : FetchedCommand) → Known lane d c i t → commands_in (other lane) (remove c.fetched i) ≡ commands_in (other lane) c.fetched
+still-there lane d c i t k = removed-there (other lane) c.fetched i t k.there (ap (λ l. same l (other lane)) k.of_lane ∙ same-other lane)
+
+posted-at : (lane : Lane) (d : Driver) (c : Controller) (i : ℕ) (t : FetchedCommand) (a : CommandExecution) (bytes : List ℕ) → Answers lane d c i t a bytes → Posts lane d c i t a bytes
+unfolding after_posting
+posted-at lane d c i t a bytes h =
+    let k = h.known in
+    let b : Both d c = k.sound.both in
+    let o = k.own in
+    let w = h.wrote in
+    let n : cid t.entry < 24 = (k.one).within in
+    let v = h.window in
+    let q = posted-so lane c i t a (k.sound.up k.up) in
+    let e = seen-is lane d c i t k in
+    let stay = ap (slots_in lane (window_then lane c t a bytes) 0) (sym (set-waiting d.slots (cid t.entry) (omega (arith, n, b.slots)))) in
+    let here = ap (slots_in lane (window_then lane c t a bytes) 0) (sym (set-waiting d.slots (cid t.entry) (omega (arith, n, b.slots))))
+    ∙ slots-here lane c.window (window_then lane c t a bytes) d.slots (cid t.entry) (waiting_at d.slots (cid t.entry)) b.slots n w.slots
+    ∙ ap (slice_set (slots_in lane c.window 0 d.slots) (cid t.entry))
+    (o.slot (window_then lane c t a bytes) (cid t.entry)
+    ∙ (λ j. record { waiting = Some o.waiting; bytes = area (window_then lane c t a bytes) (cid t.entry); list = w.lists j })
+    ∙ ap (λ (s : Slot). record s { bytes = area (window_then lane c t a bytes) (cid t.entry) }) (sym e)) in
+    let there = ap (slots_in (other lane) (window_then lane c t a bytes) 0) (sym (set-waiting d.slots (cid t.entry) (omega (arith, n, b.slots))))
+    ∙ slots-there (other lane) c.window (window_then lane c t a bytes) d.slots (cid t.entry) (waiting_at d.slots (cid t.entry)) b.slots n w.slots (o.absent c.window (cid t.entry)) (o.absent (window_then lane c t a bytes) (cid t.entry)) in
+    let taken = removed-here lane d c i t k in
+    let left = still-there lane d c i t k in
+    let pages = ap (pages_of lane) v ∙ w.here in
+    let others = ap (pages_of (other lane)) v ∙ w.there in
+    record {
+      up = refl;
+      next = refl;
+      later = omega arith;
+      window = ap length v ∙ w.size;
+      slots = refl;
+      host_here = ap (host lane d) v ∙ (λ j. record (host lane d c.window) { slots = here j });
+      host_there = ap (host (other lane) d) v ∙ (λ j. record (host (other lane) d c.window) { slots = there j });
+      state_here = q.here
+          ∙ (λ j. record (state lane c) { window = pages j; posted = ((state lane c).posted + 1) % 64; unread = (state lane c).unread + 1; taken = taken j });
+      state_there = q.there ∙ (λ j. record (state (other lane) c) { window = others j; taken = left j });
+    }
 
 -- its answer, in its lane
 box-posted : (lane : Lane) (d : Driver) (c : Controller) (t : FetchedCommand) (a : CommandExecution) (bytes : List ℕ) → lane_of_queue t.queue ≡ lane → Seen lane d c t
-    → answered_box lane (host_side d) (device_side c) t.entry (effect_of a bytes) ≡ with_posted (box_at lane (mailbox d c)) (item_at d c t) (request_execution_with d t a bytes)
+    → record (box (host lane d c.window) (state lane c)) { posted = (box (host lane d c.window) (state lane c)).posted ++ given (host lane d c.window) (state lane c) (effect_of a bytes) t.entry ∷ []; since = 0 }
+    ≡ with_posted (box (host lane d c.window) (state lane c)) (item_at d c t) (request_execution_with d t a bytes)
 unfolding item_in box
-box-posted Admin d c t a bytes q s = rw (q, s.received) refl
-box-posted Io d c t a bytes q s = rw (q, s.received) refl
+box-posted lane d c t a bytes q s = rw (q, s.received) refl
 
-posted-small : (lane : Lane) (d : Driver) (c : Controller) (p : IsPaired c) → Sound d c → is_up d.state ≡ true → (of lane c p).posted < 64
-posted-small lane d c p s u =
-    let b : Both (host_side d) (device_side c) = s.both in
-    let r = (b.each lane).up u in
-    subst (λ (x : DeviceEnds). x.posted < 64) (pair-is lane c p) (state-posted lane (device_side c) 64 (omega (arith, r.posted)))
-  where
-    state-posted : (l : Lane) (k : DeviceSide) (n : ℕ) → (state l k).posted < n → (pair l k).posted < n
-    state-posted l k n h = h
+answered : (lane : Lane) (d : Driver) (c : Controller) (i : ℕ) (t : FetchedCommand) (a : CommandExecution) (bytes : List ℕ) → lane_of_queue t.queue ≡ lane → Seen lane d c t
+    → with_box lane (with_posted (box (host lane d c.window) (state lane c)) (item_at d c t) (request_execution_with d t a bytes)) (record (mailbox d c) { fetched = remove (mailbox d c).fetched i })
+    ≡ after_answer i (item_at d c t) (request_execution_with d t a bytes) (mailbox d c)
+unfolding after_answer
+answered lane d c i t a bytes q s =
+    ap (λ b. with_box lane (with_posted b (item_at d c t) (request_execution_with d t a bytes)) (record (mailbox d c) { fetched = remove (mailbox d c).fetched i })) (sym (box-is lane d c))
+    ∙ ap (λ l. with_box l (with_posted (box_at l (mailbox d c)) (item_at d c t) (request_execution_with d t a bytes)) (record (mailbox d c) { fetched = remove (mailbox d c).fetched i })) (sym (lane-of-item lane d c t q s))
+
+-- no command bears the slot then
+bare-then : (lane : Lane) (d : Driver) (c : Controller) (i : ℕ) (t : FetchedCommand) → Known lane d c i t → (l : Lane) → commands_of (cid t.entry) (commands_in l (remove c.fetched i)) ≡ 0
+bare-then lane d c i t k =
+    let b : Both d c = k.sound.both in
+    let o = k.own in
+    each-lane lane (λ l. commands_of (cid t.entry) (commands_in l (remove c.fetched i)) ≡ 0)
+    (ap (commands_of (cid t.entry)) (removed-here lane d c i t k) ∙ (k.one).rest)
+    (ap (commands_of (cid t.entry)) (still-there lane d c i t k)
+    ∙ (bare-of b.first _ _ (cid t.entry) (b.each (other lane)) (ap live_in (slot-in (other lane) c.window d.slots (cid t.entry) ∙ o.absent c.window (cid t.entry)))).taken)
+
+posted-mail : (lane : Lane) (d : Driver) (c : Controller) (i : ℕ) (t : FetchedCommand) (a : CommandExecution) (bytes : List ℕ) → Answers lane d c i t a bytes
+    → mailbox d (posted_then lane c i t a) ≡ after_answer i (item_at d c t) (request_execution_with d t a bytes) (mailbox d c)
+unfolding after_posting
+posted-mail lane d c i t a bytes h =
+    let k = h.known in
+    let at = posted-at lane d c i t a bytes h in
+    let sight = seen lane d c i t k in
+    mail-at lane d d c (posted_then lane c i t a) d.next _ _ at (remove (mailbox d c).fetched i)
+    (fetched-at lane d d c (posted_then lane c i t a) d.next _ _ at (cid t.entry) _ refl (remove c.fetched i) (bare-then lane d c i t k) ∙ map-removed (fetched_by (held_by d c.window)) c.fetched i)
+    refl
+    ∙ ap (λ u. with_box lane u (record (mailbox d c) { fetched = remove (mailbox d c).fetched i }))
+    (execute-box _ _ (effect_of a bytes) (rank lane c.fetched i) t.entry _ (executes-so lane d c i t a bytes h) ∙ box-posted lane d c t a bytes k.of_lane sight)
+    ∙ answered lane d c i t a bytes k.of_lane sight
+
+posted-sound : (lane : Lane) (d : Driver) (c : Controller) (i : ℕ) (t : FetchedCommand) (a : CommandExecution) (bytes : List ℕ) → Answers lane d c i t a bytes → Sound d (posted_then lane c i t a)
+posted-sound lane d c i t a bytes h =
+    let k = h.known in
+    let s = k.sound in
+    let b : Both d c = s.both in
+    sound-at lane d d c (posted_then lane c i t a) d.next _ _ (posted-at lane d c i t a bytes h) s k.up
+    (execute-holds b.first _ _ (effect_of a bytes) (rank lane c.fetched i) t.entry _ (b.each lane) k.up (executes-so lane d c i t a bytes h)) s.fits s.sizes (posted-so lane c i t a (s.up k.up)).paired
 
 -- the controller, where the queues stay
 kept : (c : Controller) (i : ℕ) (t : FetchedCommand) (p : QueuePair) (a : CommandExecution) → a.change ≡ Keep
@@ -200,46 +319,16 @@ kept : (c : Controller) (i : ℕ) (t : FetchedCommand) (p : QueuePair) (a : Comm
 unfolding after_completion after_queue_change
 kept c i t p a e = rw e refl
 
-answered : (lane : Lane) (d : Driver) (c : Controller) (i : ℕ) (t : FetchedCommand) (a : CommandExecution) (bytes : List ℕ) → lane_of_queue t.queue ≡ lane → Seen lane d c t
-    → with_box lane (answered_box lane (host_side d) (device_side c) t.entry (effect_of a bytes)) (record (mailbox d c) { fetched = remove (mailbox d c).fetched i })
-    ≡ after_answer i (item_at d c t) (request_execution_with d t a bytes) (mailbox d c)
-unfolding after_answer
-answered lane d c i t a bytes q s =
-    ap (λ b. with_box lane b (record (mailbox d c) { fetched = remove (mailbox d c).fetched i })) (box-posted lane d c t a bytes q s)
-    ∙ ap (λ l. with_box l (with_posted (box_at l (mailbox d c)) (item_at d c t) (request_execution_with d t a bytes)) (record (mailbox d c) { fetched = remove (mailbox d c).fetched i })) (sym (lane-of-item lane d c t q s))
-
 pub posting_is_a_step : PostingIsAStep
 posting_is_a_step d c i t p a s g queues h =
     let k = known d c i t s g in
-    let u = up-of d c i t s g in
-    let lane : Lane = k.lane in
-    let bytes : List ℕ = h.bytes in
-    let is-pair : p ≡ pair_in k.lane c k.paired = same_Some p (pair_in k.lane c k.paired) (sym queues ∙ open-is k.lane c k.paired t k.queue k.room) in
-    let small = posted-small k.lane d c k.paired s u in
-    let result : after_completion i t p a c ≡ posted_then k.lane c k.paired i t a =
-    kept c i t p a h.queues ∙ ap (λ x. after_posting i t x a.outcome.status a.outcome.dw0 (record c { window = a.left.window })) is-pair in
-    let sight = seen k.lane d c i t k.takes in
-    let b = bytes-are k.lane c k.paired t a h.bytes k.queue small in
-    let size : length (finished_bytes (state k.lane (device_side c)) (effect_of a h.bytes) t.entry) ≡ 16 = sym (ap length b) ∙ length-completion (fields_of t (pair_in k.lane c k.paired) a) in
-    let fits : FitsCompletion (fields_of t (pair_in k.lane c k.paired) a) = subst (λ x. FitsCompletion (fields_of t x a)) is-pair h.fits in
-    let reads : completion_of (finished_bytes (state k.lane (device_side c)) (effect_of a h.bytes) t.entry) ≡ finished (state k.lane (device_side c)) (effect_of a h.bytes) t.entry =
-    sym (ap completion_of b) ∙ completion_is_read_back (fields_of t (pair_in k.lane c k.paired) a) fits ∙ finished-is k.lane c k.paired t a h.bytes k.queue small in
-    let enough : answer_len (received_in (slot_seen k.lane d c t).waiting) a.outcome.status ≤ length h.bytes = subst (λ n. answer_len n a.outcome.status ≤ length h.bytes) (sym sight.received) h.whole in
-    let r : Runs k.lane (host_side d) (device_side c) i t.entry (effect_of a h.bytes) = runs k.lane (host_side d) (device_side c) i t.entry (effect_of a h.bytes) k.takes size reads h.few enough in
-    let side = side-posted k.lane c k.paired i t a h.bytes k.queue small h.window in
-    let both : Both (host_side d) (device_side (posted_then k.lane c k.paired i t a)) = subst (Both (host_side d)) (sym side) (execute-both k.lane (host_side d) (device_side c) i t.entry (effect_of a h.bytes) r) in
-    let sound : Sound d (posted_then k.lane c k.paired i t a) = record {
-      both = both;
-      fits = s.fits;
-      sizes = s.sizes;
-      up = λ y. paired-posted k.lane c k.paired i t a;
-      down = λ y. absurd (no-way (is_up d.state) y u);
-    } in
-    let m = execute-mail k.lane (host_side d) (device_side c) i t.entry (effect_of a h.bytes) r in
+    let q : p ≡ pair_in (lane_of_queue t.queue) c = same_Some p (pair_in (lane_of_queue t.queue) c) (sym queues ∙ open-is (lane_of_queue t.queue) d c i t k) in
+    let result : after_completion i t p a c ≡ posted_then (lane_of_queue t.queue) c i t a =
+    kept c i t p a h.queues ∙ ap (λ x. after_posting i t x a.outcome.status a.outcome.dw0 (record c { window = a.left.window })) q in
+    let r = answers (lane_of_queue t.queue) d c i t a h.bytes k (subst (λ x. FitsCompletion (fields_of t x a)) q h.fits) h.window h.few h.whole in
     record {
       item = item_at d c t;
-      found = slice_get-map (fetched_by (held_by (host_side d) c.window)) (map taken_by c.fetched) i
-          ∙ ap (option_map (fetched_by (held_by (host_side d) c.window))) (slice_get-map taken_by c.fetched i ∙ ap (option_map taken_by) g);
-      sound = subst (Sound d) (sym result) sound;
-      mail = ap (mailbox d) result ∙ ap (mail (host_side d)) side ∙ m ∙ answered k.lane d c i t a h.bytes k.of_lane sight;
+      found = found-at d c i t g;
+      sound = subst (Sound d) (sym result) (posted-sound (lane_of_queue t.queue) d c i t a h.bytes r);
+      mail = ap (mailbox d) result ∙ posted-mail (lane_of_queue t.queue) d c i t a h.bytes r;
     }

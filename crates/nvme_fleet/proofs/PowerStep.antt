@@ -1,16 +1,13 @@
 -- A power cycle is a step of each mailbox, and of the fleet.
-use Rattle.nvme_fleet.proofs.Words.{◌≡◌, ◌+◌, ℕ, zero, suc, Bool, false, List, [], ◌∷◌, map, Option, None, Some, refl, sym, ap, subst, ◌∙◌, slice_get, option_map, length-map, same_Some, Driver, after_reset, waiting_at, Seen, Cycled, Wrote, NoController, Controller, after_write32, wrote, Subsystem, ReactsAs, controller_at, after_power_cycle, Ran, FleetState, IsSoundFleet, SoundBy, fleet_in, fleet_of, host_by, hosts_of, layers_of, WithDriver, Fleet, host_cycled, Both, Cycles, resets_from, AreCycled, Sound, IsOff, host_side, device_side, mailbox}
+use Rattle.nvme_fleet.proofs.Words.{◌≡◌, ◌+◌, ℕ, zero, suc, Bool, List, [], ◌∷◌, map, Option, None, Some, refl, sym, ap, subst, ◌∙◌, slice_get, option_map, length-map, same_Some, Driver, after_reset, Seen, Cycled, Wrote, NoController, Controller, after_write32, wrote, Subsystem, ReactsAs, controller_at, after_power_cycle, Ran, FleetState, IsSoundFleet, SoundBy, fleet_in, fleet_of, host_by, hosts_of, layers_of, WithDriver, Fleet, host_cycled, Cycles, resets_from, AreCycled, Sound, IsOff, mailbox}
 use Rattle.nvme_driver.specs.Drivers as driver
 use Rattle.nvme_machine.specs.Controllers.{power_cycled}
 use Rattle.nvme_machine.specs.Subsystems.{numbered, replaced, with_controller}
 use Rattle.nvme_mailbox.specs.Deliveries as mail
 use Rattle.nvme_mailbox.specs.Fleets as mailboxes
 use Rattle.nvme_event.specs.declared.seen.FleetSeen.TheVariants as seen
-use Rattle.nvme_fleet.proofs.Orders.{pending-abort}
-use Rattle.nvme_fleet.proofs.Places.{no-way}
 use Rattle.nvme_fleet.proofs.Registering.{disabled-off}
-use Rattle.nvme_fleet.proofs.ResetStep.{fits, abort-size}
-use Rattle.nvme_fleet.proofs.Resetting.{reset-both, reset-mail}
+use Rattle.nvme_fleet.proofs.Resetting.{reset-sound, reset-mail}
 use Rattle.nvme_fleet.proofs.HostedExecutions.{AllSound}
 
 -- One host.
@@ -24,18 +21,10 @@ pub record AreReset (d : Driver) (c : Controller) : Type 0 where
   pub mail : mailbox (after_reset d) (power_cycled c) ≡ (mail.reset (mailbox d c)).mailbox
 
 pub are-reset : (d : Driver) (c : Controller) → Sound d c → AreReset d c
-are-reset d c s =
-    let b : Both (host_side d) (device_side c) = s.both in
-    record {
-      sound = record {
-        both = reset-both (host_side d) (device_side c) b;
-        fits = fits d;
-        sizes = λ k. rw (pending-abort d.slots k) (abort-size (waiting_at d.slots k) (s.sizes k));
-        up = λ u. absurd (no-way false refl u);
-        down = λ u. is-off c;
-      };
-      mail = reset-mail (host_side d) (device_side c) b;
-    }
+are-reset d c s = record {
+  sound = reset-sound d c (power_cycled c) s (is-off c) refl;
+  mail = reset-mail d c (power_cycled c) s.both (is-off c) refl;
+}
 
 -- All hosts.
 

@@ -1,9 +1,7 @@
 -- That a reset of a driver and its controller is a step of the mailbox.
-use Rattle.nvme_fleet.proofs.Words.{◌≤◌, Option, None, Some, most_bytes, Waiting, abort, waiting_at, received_in, ◌≡◌, false, refl, sym, ap, subst, ◌∙◌, inl, inr, cases_Bool, Off, Lane, Admin, Io, Driver, is_up, ends, after_reset, reset_calls, Controller, without_queues, Both, Sound, EndsFit, IsOff, host_side, device_side, mailbox, ResetIsAStep, after_calls}
-use Rattle.nvme_fleet.proofs.Orders.{pending-abort}
-use Rattle.nvme_fleet.proofs.Places.{no-way}
+use Rattle.nvme_fleet.proofs.Words.{◌≡◌, refl, sym, ap, subst, ◌∙◌, inl, inr, cases_Bool, Off, Driver, is_up, after_reset, reset_calls, Controller, without_queues, Sound, IsOff, mailbox, ResetIsAStep, after_calls}
 use Rattle.nvme_fleet.proofs.Registering.{disabled, disabled-off}
-use Rattle.nvme_fleet.proofs.Resetting.{reset-both, reset-mail}
+use Rattle.nvme_fleet.proofs.Resetting.{reset-sound, reset-mail}
 
 -- A reset is a step of the mailbox.
 
@@ -29,27 +27,11 @@ written d c s = elim (cases_Bool (is_up d.state)) [
   | inr u ↦ let o = s.down u in disabled-off c o.disabled ∙ same-off c o
 ]
 
-pub fits : (d : Driver) (lane : Lane) → EndsFit (ends lane (after_reset d))
-fits d Admin = record { tail = refl; head = refl }
-fits d Io = record { tail = refl; head = refl }
-
-pub abort-size : (o : Option Waiting) → received_in o ≤ most_bytes → received_in (abort o) ≤ most_bytes
-abort-size None h = h
-abort-size (Some w) h = h
-
 pub reset_is_a_step : ResetIsAStep
 reset_is_a_step d c s =
     let e = written d c s in
-    let b : Both (host_side d) (device_side c) = s.both in
-    let sound : Sound (after_reset d) (off_now c) = record {
-      both = reset-both (host_side d) (device_side c) b;
-      fits = fits d;
-      sizes = λ k. rw (pending-abort d.slots k) (abort-size (waiting_at d.slots k) (s.sizes k));
-      up = λ u. absurd (no-way false refl u);
-      down = λ u. is-off c;
-    } in
     record {
-      sound = subst (Sound (after_reset d)) (sym e) sound;
-      mail = sym (reset-mail (host_side d) (device_side c) b) ∙ ap (mailbox (after_reset d)) (sym e);
+      sound = subst (Sound (after_reset d)) (sym e) (reset-sound d c (off_now c) s (is-off c) refl);
+      mail = sym (reset-mail d c (off_now c) s.both (is-off c) refl) ∙ ap (mailbox (after_reset d)) (sym e);
       gives = refl;
     }

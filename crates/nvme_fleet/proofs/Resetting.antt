@@ -1,15 +1,14 @@
 -- A reset over both lanes: all that is open is aborted, by rising tickets.
-use Rattle.nvme_fleet.proofs.Words.{item_in, rising, PostedAnswer, waiting_at, empty_box, open_tickets, tickets_in, Item, FetchedItem, cid, abort, Waiting, ◌≡◌, ℕ, ◌+◌, ◌≤◌, List, [], ◌∷◌, ◌++◌, map, refl, ap, sym, ◌∙◌, arith, zero, suc, false, cond, eqb, Option, Some, None, inl, inr, map-append, length-map, cases_Bool, Completion, Slot, empty, slot_at, box, abort_slot, off, ticket_in, live_waiting, live_in, live_at as live_slot, commands_of, answers_of, unread, AgeIn, Ages as AgesOne, Lane, Admin, Io, same, Taken, HostSide, DeviceSide, Both, whole, slot_in, slots_in, commands_in, host, state, fetched_by, held_by, mail, in_order, aborted_number, turned_off, Host}
-use Rattle.nvme_fleet.proofs.Ranks.{same-self}
+use Rattle.nvme_fleet.proofs.Words.{item_in, rising, PostedAnswer, waiting_at, empty_box, open_tickets, tickets_in, Item, FetchedItem, cid, abort, Waiting, most_bytes, ◌≡◌, ℕ, ◌+◌, ◌≤◌, List, [], ◌∷◌, ◌++◌, length, map, refl, ap, sym, ◌∙◌, arith, zero, suc, false, cond, eqb, Option, Some, None, inl, inr, map-append, length-map, cases_Bool, Completion, Slot, empty, slot_at, box, abort_slot, off, ticket_in, received_in, live_at as live_slot, commands_of, answers_of, unread, AgeIn, Ages as AgesOne, Lane, Admin, Io, same, Driver, ends, after_reset, FetchedCommand, Controller, lane_of_queue, Both, whole, slots_in, commands_in, host, state, fetched_by, held_by, in_order, aborted_number, Host, Sound, EndsFit, IsOff, mailbox}
+use Rattle.nvme_mailbox.specs.Deliveries as mail
 use Rattle.nvme_fleet.specs.Views.{reset as reset_one}
 use Rattle.nvme_fleet.proofs.Totals.{live-small}
 use Rattle.nvme_fleet.proofs.Queues.{self-eqb}
+use Rattle.nvme_fleet.proofs.Places.{no-way}
 use Rattle.nvme_fleet.proofs.Resets.{reset-holds, reset-box, Whole, whole-of, placed-part, rung-part, parts, slots_of, cids_of, ticket_slot, placed-tickets, rung-tickets, posted-tickets}
-use Rattle.nvme_fleet.specs.Lanes.{reset}
-use Rattle.nvme_fleet.proofs.LaneSlots.{slot-in}
-use Rattle.nvme_fleet.proofs.Orders.{live_at, ticket_at, Ages, times, rising-slots, abort-all}
-use Rattle.nvme_fleet.proofs.Placing.{same-holds}
-use Rattle.nvme_fleet.proofs.Polling.{Own, own-is, same-mail}
+use Rattle.nvme_fleet.proofs.LaneSlots.{slot-in, own-at, live-of, same-self}
+use Rattle.nvme_fleet.proofs.Orders.{live_at, ticket_at, Ages, times, rising-slots, abort-all, pending-abort}
+use Rattle.nvme_fleet.proofs.OneLane.{same-holds}
 
 -- Reset of both lanes is Reset of each
 slots-reset : (lane : Lane) (w : List ℕ) (k : ℕ) (slots : List (Option Waiting)) → slots_in lane w k (map abort slots) ≡ map abort_slot (slots_in lane w k slots)
@@ -21,21 +20,37 @@ slots-reset lane w k (Some x ∷ xs) =
       | inr e ↦ rw (e, slots-reset lane w (suc k) xs) refl
     ]
 
-host-reset : (lane : Lane) (d : HostSide) (w : List ℕ) → host lane (reset d) w ≡ reset_one (host lane d w)
+host-reset : (lane : Lane) (d : Driver) (w : List ℕ) → host lane (after_reset d) w ≡ reset_one (host lane d w)
 host-reset Admin d w = rw (slots-reset Admin w 0 d.slots) refl
 host-reset Io d w = rw (slots-reset Io w 0 d.slots) refl
 
-state-reset : (lane : Lane) (c : DeviceSide) → state lane (turned_off c) ≡ off (state lane c)
-state-reset Admin c = refl
-state-reset Io c = refl
+-- a controller that is off, over the same window
+pub state-off : (lane : Lane) (c c' : Controller) → IsOff c' → c'.window ≡ c.window → state lane c' ≡ off (state lane c)
+state-off Admin c c' o w = rw (o.submission, o.completion, o.fetched, w) refl
+state-off Io c c' o w = rw (o.submission, o.completion, o.fetched, w) refl
 
-pub reset-both : (d : HostSide) (c : DeviceSide) → Both d c → Both (reset d) (turned_off c)
-reset-both d c b =
+abort-size : (o : Option Waiting) → received_in o ≤ most_bytes → received_in (abort o) ≤ most_bytes
+abort-size None h = h
+abort-size (Some w) h = h
+
+fits : (d : Driver) (lane : Lane) → EndsFit (ends lane (after_reset d))
+fits d Admin = record { tail = refl; head = refl }
+fits d Io = record { tail = refl; head = refl }
+
+pub reset-sound : (d : Driver) (c c' : Controller) → Sound d c → IsOff c' → c'.window ≡ c.window → Sound (after_reset d) c'
+reset-sound d c c' s o w =
+    let b : Both d c = s.both in
     record {
-      first = d.next;
-      window = b.window;
-      slots = length-map d.slots abort ∙ b.slots;
-      each = λ l. same-holds d.next _ _ _ _ (reset-holds b.first _ _ (b.each l)) (host-reset l d c.window) (state-reset l c);
+      both = record {
+        first = d.next;
+        window = ap length w ∙ b.window;
+        slots = length-map d.slots abort ∙ b.slots;
+        each = λ l. same-holds d.next _ _ _ _ (reset-holds b.first _ _ (b.each l)) (ap (host l (after_reset d)) w ∙ host-reset l d c.window) (state-off l c c' o w);
+      };
+      fits = fits d;
+      sizes = λ k. rw (pending-abort d.slots k) (abort-size (waiting_at d.slots k) (s.sizes k));
+      up = λ u. absurd (no-way false refl u);
+      down = λ u. o;
     }
 
 -- both lanes together are all slots
@@ -49,10 +64,6 @@ ages-forget first next w k (None ∷ xs) a b zero = tt
 ages-forget first next w k (Some x ∷ xs) a b zero = age-of first next w k x.lane x (a 0) (b 0)
 ages-forget first next w k (x ∷ xs) a b (suc i) = ages-forget first next w (suc k) xs (λ j. a (suc j)) (λ j. b (suc j)) i
 
-live-of : (w : List ℕ) (k : ℕ) (l : Lane) (p : Waiting) → live_waiting (Some p) ≡ live_in (cond (same l Admin) (whole w k p) empty) + live_in (cond (same l Io) (whole w k p) empty)
-live-of w k Admin p = omega arith
-live-of w k Io p = omega arith
-
 live-forget : (w : List ℕ) (k : ℕ) (slots : List (Option Waiting)) (i : ℕ) → live_at slots i ≡ live_slot (slots_in Admin w k slots) i + live_slot (slots_in Io w k slots) i
 live-forget w k [] i = omega arith
 live-forget w k (None ∷ xs) zero = omega arith
@@ -62,9 +73,8 @@ live-forget w k (x ∷ xs) (suc i) = live-forget w (suc k) xs i
 -- a lane's live request has the ticket that its slot has without lanes
 ticket-same : (lane : Lane) (w : List ℕ) (slots : List (Option Waiting)) (n : ℕ) → live_slot (slots_in lane w 0 slots) n ≡ 1 → ticket_slot (slots_in lane w 0 slots) n ≡ ticket_at slots n
 ticket-same lane w slots n l =
-    let e : slot_at (slots_in lane w 0 slots) n ≡ slot_in lane w n (waiting_at slots n) = slot-in lane w 0 slots n n (omega arith) in
-    let o : Own lane w n (waiting_at slots n) = own-is lane w n (waiting_at slots n) (sym (ap live_in e) ∙ l) in
-    ap (λ (s : Slot). ticket_in s.waiting) (e ∙ o.slot) ∙ sym (ap ticket_in o.is)
+    let o = own-at lane w slots n l in
+    ap (λ (s : Slot). ticket_in s.waiting) (slot-in lane w slots n ∙ o.slot w n) ∙ sym (ap ticket_in o.is)
 
 less-times : (i n : ℕ) (ns : List ℕ) (k : ℕ) → times i (n ∷ ns) ≤ k → times i ns ≤ k
 less-times i n ns k h = omega (arith, h)
@@ -77,43 +87,43 @@ tickets-same lane w slots (n ∷ ns) h =
     let l : live_slot (slots_in lane w 0 slots) n ≡ 1 = omega (arith, h n, v, live-small (slot_at (slots_in lane w 0 slots) n)) in
     rw (ticket-same lane w slots n l, tickets-same lane w slots ns (λ i. less-times i n ns _ (h i))) refl
 
-abbrev slots_taken : List Taken → List ℕ
+abbrev slots_taken : List FetchedCommand → List ℕ
 slots_taken [] = []
-slots_taken (t ∷ ts) = cid t.command ∷ slots_taken ts
+slots_taken (t ∷ ts) = cid t.entry ∷ slots_taken ts
 
 one-lane : (l : Lane) (x : List ℕ) (i : ℕ) (us vs : List (List ℕ)) →
     commands_of i (cond (same l Admin) (x ∷ us) us) + commands_of i (cond (same l Io) (x ∷ vs) vs) ≡ cond (eqb (cid x) i) 1 0 + (commands_of i us + commands_of i vs)
 one-lane Admin x i us vs = omega arith
 one-lane Io x i us vs = omega arith
 
-times-taken : (i : ℕ) (ts : List Taken) → times i (slots_taken ts) ≡ commands_of i (commands_in Admin ts) + commands_of i (commands_in Io ts)
+times-taken : (i : ℕ) (ts : List FetchedCommand) → times i (slots_taken ts) ≡ commands_of i (commands_in Admin ts) + commands_of i (commands_in Io ts)
 times-taken i [] = omega arith
-times-taken i (t ∷ ts) = omega (arith, times-taken i ts, one-lane t.lane t.command i (commands_in Admin ts) (commands_in Io ts))
+times-taken i (t ∷ ts) = omega (arith, times-taken i ts, one-lane (lane_of_queue t.queue) t.entry i (commands_in Admin ts) (commands_in Io ts))
 
 -- a command's lane holds its slot
-own-more : (t : Taken) (ts : List Taken) (n : ℕ) → n ≡ cid t.command → commands_of n (commands_in t.lane (t ∷ ts)) ≡ 1 + commands_of n (commands_in t.lane ts)
+own-more : (t : FetchedCommand) (ts : List FetchedCommand) (n : ℕ) → n ≡ cid t.entry → commands_of n (commands_in (lane_of_queue t.queue) (t ∷ ts)) ≡ 1 + commands_of n (commands_in (lane_of_queue t.queue) ts)
 own-more t ts n e =
-    ap (λ b. commands_of n (cond b (t.command ∷ commands_in t.lane ts) (commands_in t.lane ts))) (same-self t.lane) ∙
-    ap (λ b. cond b 1 0 + commands_of n (commands_in t.lane ts)) (ap (λ m. eqb m n) (sym e) ∙ self-eqb n n refl)
+    ap (λ b. commands_of n (cond b (t.entry ∷ commands_in (lane_of_queue t.queue) ts) (commands_in (lane_of_queue t.queue) ts))) (same-self (lane_of_queue t.queue)) ∙
+    ap (λ b. cond b 1 0 + commands_of n (commands_in (lane_of_queue t.queue) ts)) (ap (λ m. eqb m n) (sym e) ∙ self-eqb n n refl)
 
-fewer-taken : (lane : Lane) (t : Taken) (ts : List Taken) (i k : ℕ) → commands_of i (commands_in lane (t ∷ ts)) ≤ k → commands_of i (commands_in lane ts) ≤ k
-fewer-taken lane t ts i k h = elim (cases_Bool (same t.lane lane)) [
+fewer-taken : (lane : Lane) (t : FetchedCommand) (ts : List FetchedCommand) (i k : ℕ) → commands_of i (commands_in lane (t ∷ ts)) ≤ k → commands_of i (commands_in lane ts) ≤ k
+fewer-taken lane t ts i k h = elim (cases_Bool (same (lane_of_queue t.queue) lane)) [
   | inl e ↦
-      let y : commands_of i (t.command ∷ commands_in lane ts) ≤ k = rw e at h in
+      let y : commands_of i (t.entry ∷ commands_in lane ts) ≤ k = rw e at h in
       omega (arith, y)
   | inr e ↦ rw e at h
 ]
 
 -- what was fetched has the tickets of its slots
-taken-tickets : (d : HostSide) (w : List ℕ) (ts : List Taken) → ((lane : Lane) (i : ℕ) → commands_of i (commands_in lane ts) ≤ live_slot (slots_in lane w 0 d.slots) i) →
+taken-tickets : (d : Driver) (w : List ℕ) (ts : List FetchedCommand) → ((lane : Lane) (i : ℕ) → commands_of i (commands_in lane ts) ≤ live_slot (slots_in lane w 0 d.slots) i) →
     map (λ (f : FetchedItem). f.item.ticket) (map (fetched_by (held_by d w)) ts) ≡ map (ticket_at d.slots) (slots_taken ts)
 unfolding item_in
 taken-tickets d w [] h = refl
 taken-tickets d w (t ∷ ts) h =
-    let n : ℕ = cid t.command in
-    let l : live_slot (slots_in t.lane w 0 d.slots) n ≡ 1 =
-    omega (arith, h t.lane n, own-more t ts n refl, live-small (slot_at (slots_in t.lane w 0 d.slots) n)) in
-    rw (ticket-same t.lane w d.slots n l, taken-tickets d w ts (λ lane i. fewer-taken lane t ts i _ (h lane i))) refl
+    let n : ℕ = cid t.entry in
+    let l : live_slot (slots_in (lane_of_queue t.queue) w 0 d.slots) n ≡ 1 =
+    omega (arith, h (lane_of_queue t.queue) n, own-more t ts n refl, live-small (slot_at (slots_in (lane_of_queue t.queue) w 0 d.slots) n)) in
+    rw (ticket-same (lane_of_queue t.queue) w d.slots n l, taken-tickets d w ts (λ lane i. fewer-taken lane t ts i _ (h lane i))) refl
 
 times-slots : (i : ℕ) (xs : List (List ℕ)) → times i (slots_of xs) ≡ commands_of i xs
 times-slots i [] = refl
@@ -127,16 +137,16 @@ times-append : (i : ℕ) (xs ys : List ℕ) → times i (xs ++ ys) ≡ times i x
 times-append i [] ys = omega arith
 times-append i (x ∷ xs) ys = omega (arith, times-append i xs ys)
 
-abbrev WholeIn : Lane → HostSide → DeviceSide → Type 0
+abbrev WholeIn : Lane → Driver → Controller → Type 0
 WholeIn lane d c = Whole (host lane d c.window) (state lane c)
 
 -- the tickets of a lane of the mailbox, by its slots
-record Lists (lane : Lane) (d : HostSide) (c : DeviceSide) : Type 0 where
+record Lists (lane : Lane) (d : Driver) (c : Controller) : Type 0 where
   placed : map (λ (i : Item). i.ticket) (box (host lane d c.window) (state lane c)).placed ≡ map (ticket_at d.slots) (slots_of (placed-part (host lane d c.window) (state lane c)))
   rung : map (λ (i : Item). i.ticket) (box (host lane d c.window) (state lane c)).rung ≡ map (ticket_at d.slots) (slots_of (rung-part (state lane c)))
   posted : map (λ (p : PostedAnswer). p.ticket) (box (host lane d c.window) (state lane c)).posted ≡ map (ticket_at d.slots) (cids_of (unread (host lane d c.window) (state lane c)))
 
-lists : (lane : Lane) (d : HostSide) (c : DeviceSide) → WholeIn lane d c → Lists lane d c
+lists : (lane : Lane) (d : Driver) (c : Controller) → WholeIn lane d c → Lists lane d c
 lists lane d c w =
     let h : Host = host lane d c.window in
     let p = placed-part (host lane d c.window) (state lane c) in
@@ -148,17 +158,17 @@ lists lane d c w =
       posted = posted-tickets (host lane d c.window) (state lane c) ∙ tickets-same lane c.window d.slots (cids_of u) (λ i. omega (arith, w.carried i, times-cids i u));
     }
 
-taken-bound : (d : HostSide) (c : DeviceSide) → ((l : Lane) → WholeIn l d c) → (lane : Lane) (i : ℕ) → commands_of i (commands_in lane c.taken) ≤ live_slot (slots_in lane c.window 0 d.slots) i
+taken-bound : (d : Driver) (c : Controller) → ((l : Lane) → WholeIn l d c) → (lane : Lane) (i : ℕ) → commands_of i (commands_in lane c.fetched) ≤ live_slot (slots_in lane c.window 0 d.slots) i
 taken-bound d c a lane i = omega (arith, (a lane).carried i)
 
 -- the slots of a lane's requests that were not answered, but for those that were fetched, and of all such requests
-abbrev named_in : Lane → HostSide → DeviceSide → List ℕ
+abbrev named_in : Lane → Driver → Controller → List ℕ
 named_in lane d c =
     slots_of (placed-part (host lane d c.window) (state lane c)) ++ slots_of (rung-part (state lane c))
     ++ cids_of (unread (host lane d c.window) (state lane c))
 
-abbrev all_named : HostSide → DeviceSide → List ℕ
-all_named d c = named_in Admin d c ++ named_in Io d c ++ slots_taken c.taken
+abbrev all_named : Driver → Controller → List ℕ
+all_named d c = named_in Admin d c ++ named_in Io d c ++ slots_taken c.fetched
 
 map-three : (f : ℕ → ℕ) (a b c : List ℕ) → map f a ++ map f b ++ map f c ≡ map f (a ++ b ++ c)
 map-three f a b c = rw (map-append f (a ++ b) c, map-append f a b) refl
@@ -166,19 +176,19 @@ map-three f a b c = rw (map-append f (a ++ b) c, map-append f a b) refl
 times-three : (i : ℕ) (a b c : List ℕ) → times i (a ++ b ++ c) ≡ times i a + times i b + times i c
 times-three i a b c = omega (arith, times-append i (a ++ b) c, times-append i a b)
 
-lane-named : (lane : Lane) (d : HostSide) (c : DeviceSide) → WholeIn lane d c → tickets_in (box (host lane d c.window) (state lane c)) ≡ map (ticket_at d.slots) (named_in lane d c)
+lane-named : (lane : Lane) (d : Driver) (c : Controller) → WholeIn lane d c → tickets_in (box (host lane d c.window) (state lane c)) ≡ map (ticket_at d.slots) (named_in lane d c)
 lane-named lane d c w =
     let p : Lists lane d c = lists lane d c w in
     rw (p.placed, p.rung, p.posted) (map-three (ticket_at d.slots) _ _ _)
 
-outstanding-named : (d : HostSide) (c : DeviceSide) → ((l : Lane) → WholeIn l d c) → open_tickets (mail d c) ≡ rising (map (ticket_at d.slots) (all_named d c))
+outstanding-named : (d : Driver) (c : Controller) → ((l : Lane) → WholeIn l d c) → open_tickets (mailbox d c) ≡ rising (map (ticket_at d.slots) (all_named d c))
 unfolding open_tickets
 outstanding-named d c w =
-    ap rising (λ i. lane-named Admin d c (w Admin) i ++ lane-named Io d c (w Io) i ++ taken-tickets d c.window c.taken (taken-bound d c w) i)
-    ∙ ap rising (map-three (ticket_at d.slots) (named_in Admin d c) (named_in Io d c) (slots_taken c.taken))
+    ap rising (λ i. lane-named Admin d c (w Admin) i ++ lane-named Io d c (w Io) i ++ taken-tickets d c.window c.fetched (taken-bound d c w) i)
+    ∙ ap rising (map-three (ticket_at d.slots) (named_in Admin d c) (named_in Io d c) (slots_taken c.fetched))
 
-lane-times : (lane : Lane) (d : HostSide) (c : DeviceSide) (i : ℕ) → WholeIn lane d c →
-    times i (named_in lane d c) + commands_of i (commands_in lane c.taken) ≡ live_slot (slots_in lane c.window 0 d.slots) i
+lane-times : (lane : Lane) (d : Driver) (c : Controller) (i : ℕ) → WholeIn lane d c →
+    times i (named_in lane d c) + commands_of i (commands_in lane c.fetched) ≡ live_slot (slots_in lane c.window 0 d.slots) i
 lane-times lane d c i w =
     let p = placed-part (host lane d c.window) (state lane c) in
     let r = rung-part (state lane c) in
@@ -193,29 +203,29 @@ lane-times lane d c i w =
       parts (host lane d c.window) (state lane c) i w,
     )
 
-named-times : (d : HostSide) (c : DeviceSide) → ((l : Lane) → WholeIn l d c) → (i : ℕ) → times i (all_named d c) ≡ live_at d.slots i
+named-times : (d : Driver) (c : Controller) → ((l : Lane) → WholeIn l d c) → (i : ℕ) → times i (all_named d c) ≡ live_at d.slots i
 named-times d c w i =
     omega (
       arith,
-      times-three i (named_in Admin d c) (named_in Io d c) (slots_taken c.taken),
+      times-three i (named_in Admin d c) (named_in Io d c) (slots_taken c.fetched),
       lane-times Admin d c i (w Admin),
       lane-times Io d c i (w Io),
-      times-taken i c.taken,
+      times-taken i c.fetched,
       live-forget c.window 0 d.slots i,
     )
 
-reset-empty : (l : Lane) (d : HostSide) (c : DeviceSide) → box (host l (reset d) c.window) (state l (turned_off c)) ≡ empty_box
-reset-empty l d c =
-    ap (λ (u : Host). box u (state l (turned_off c))) (host-reset l d c.window) ∙ ap (box (reset_one (host l d c.window))) (state-reset l c) ∙ reset-box (host l d c.window) (state l c)
+reset-empty : (l : Lane) (d : Driver) (c c' : Controller) → IsOff c' → c'.window ≡ c.window → box (host l (after_reset d) c'.window) (state l c') ≡ empty_box
+reset-empty l d c c' o w = (λ i. box ((ap (host l (after_reset d)) w ∙ host-reset l d c.window) i) (state-off l c c' o w i)) ∙ reset-box (host l d c.window) (state l c)
 
 -- Reset aborts all that is open
-pub reset-mail : (d : HostSide) (c : DeviceSide) → Both d c →
-    mail (reset d) (turned_off c)
-    ≡ record { up = false; next = (mail d c).next; admin = empty_box; io = empty_box; fetched = []; aborted = (mail d c).aborted ++ open_tickets (mail d c) }
-reset-mail d c b =
-    let w : (l : Lane) → WholeIn l d c = λ l. whole-of b.first _ _ (b.each l) in
-    let e : in_order aborted_number (map abort d.slots) ≡ in_order aborted_number d.slots ++ open_tickets (mail d c) =
+pub reset-mail : (d : Driver) (c c' : Controller) → Both d c → IsOff c' → c'.window ≡ c.window → mailbox (after_reset d) c' ≡ (mail.reset (mailbox d c)).mailbox
+reset-mail d c c' b o w =
+    let h : (l : Lane) → WholeIn l d c = λ l. whole-of b.first _ _ (b.each l) in
+    let e : in_order aborted_number (map abort d.slots) ≡ in_order aborted_number d.slots ++ open_tickets (mailbox d c) =
     abort-all b.first d.next d.slots (ages-forget b.first d.next c.window 0 d.slots (b.each Admin).ages (b.each Io).ages) ∙
     ap (λ ts. in_order aborted_number d.slots ++ ts)
-    (sym (outstanding-named d c w ∙ rising-slots (all_named d c) d.slots (named-times d c w))) in
-    same-mail _ _ _ _ _ _ _ _ _ _ (reset-empty Admin d c) (reset-empty Io d c) refl e
+    (sym (outstanding-named d c h ∙ rising-slots (all_named d c) d.slots (named-times d c h))) in
+    let admin = reset-empty Admin d c c' o w in
+    let io = reset-empty Io d c c' o w in
+    let none = ap (map (fetched_by (held_by (after_reset d) c'.window))) o.fetched in
+    λ i. record { up = false; next = d.next; admin = admin i; io = io i; fetched = none i; aborted = e i }

@@ -1,84 +1,83 @@
--- A ring is a step of the mailbox.
-use Rattle.nvme_fleet.proofs.Words.{◌≡◌, ℕ, ◌+◌, ◌-◌, ◌%◌, ◌^◌, ◌<◌, true, false, [], ◌∷◌, refl, sym, ap, subst, ◌∙◌, arith, inl, inr, cases_Bool, lt-ltb, slice_set, option_map, if◌then◌else◌, Ok, Err, Lane, Admin, Io, queue_id, tail_doorbell, Driver, is_up, tail_of, ring_calls, Writes, Controller, with_tail, submission_at, after_write32, Rung, MailboxReaction, mailbox_reaction, rung, ring_lane, Both, pair, with_pair, mail, ring, ring_pair, Sound, IsPaired, host_side, device_side, mailbox, IsStep, RingIsAStep, after_calls, rung_reply}
-use Rattle.nvme_fleet.proofs.Places.{no-way}
+-- A ring is a step of the mailbox: of one lane, and then of the other.
+use Rattle.nvme_fleet.proofs.Words.{◌≡◌, ℕ, ◌+◌, ◌-◌, ◌%◌, ◌^◌, ◌<◌, true, false, [], ◌∷◌, Some, refl, sym, ap, subst, ◌∙◌, arith, inl, inr, cases_Bool, lt-ltb, slice_set, option_map, if◌then◌else◌, Ok, Err, Lane, Admin, Io, queue_id, tail_doorbell, Driver, is_up, ends, tail_of, ring_calls, Writes, Controller, with_tail, submission_at, after_write32, Rung, Mailbox, MailboxReaction, mailbox_reaction, box_at, with_box, rung, ring_lane, in_flight, DeviceEnds, Both, host, state, Sound, submission_as, mailbox, IsStep, RingIsAStep, after_calls, rung_reply}
+use Rattle.nvme_fleet.specs.Views.{rung as rung_state}
+use Rattle.nvme_fleet.proofs.Fetches.{ring-box, ring-running, same-up}
 use Rattle.nvme_fleet.proofs.Registering.{tail-written}
-use Rattle.nvme_fleet.proofs.Fetching.{ring-both, ring-mail}
-
--- a lane whose tail was written
-abbrev rung_one : Lane → Controller → ℕ → Controller
-rung_one lane c v = record c { submission = slice_set c.submission (queue_id lane) (option_map (with_tail v) (submission_at c (queue_id lane))) }
+use Rattle.nvme_fleet.proofs.OneLane.{running, box-is, AtLane, sound-at, mail-at}
+use Rattle.nvme_fleet.proofs.Linking.{counts, submission-is, same-completion, Counted, counted}
 
 pub same-ahead : (v f : ℕ) → (8 + v - f) % 8 ≡ (v + 8 - f) % 8
 same-ahead v f = ap (λ n. (n - f) % 8) (omega arith)
 
-paired-rung : (lane : Lane) (c : Controller) (p : IsPaired c) (v : ℕ) → v < 8 → IsPaired (rung_one lane c v)
-paired-rung Admin c p v h = record {
-  admin = ring_pair p.admin v;
-  io = p.io;
-  submission = rw (p.submission, lt-ltb v 8 h, same-ahead v (p.admin).fetched) refl;
-  completion = p.completion;
-  fetched = p.fetched;
-  ready = p.ready;
-  enabled = p.enabled;
-}
-paired-rung Io c p v h = record {
-  admin = p.admin;
-  io = ring_pair p.io v;
-  submission = rw (p.submission, lt-ltb v 8 h, same-ahead v (p.io).fetched) refl;
-  completion = p.completion;
-  fetched = p.fetched;
-  ready = p.ready;
-  enabled = p.enabled;
-}
+-- a lane whose tail was written
+abbrev rung_one : Lane → Driver → Controller → Controller
+rung_one lane d c = record c { submission = slice_set c.submission (queue_id lane) (option_map (with_tail (tail_of (ends lane d))) (submission_at c (queue_id lane))) }
 
-side-rung : (lane : Lane) (c : Controller) (p : IsPaired c) (v : ℕ) → v < 8 → device_side (rung_one lane c v) ≡ with_pair lane (ring_pair (pair lane (device_side c)) v) (device_side c)
-side-rung Admin c p v h = rw (p.submission, lt-ltb v 8 h, same-ahead v (p.admin).fetched) refl
-side-rung Io c p v h = rw (p.submission, lt-ltb v 8 h, same-ahead v (p.io).fetched) refl
+abbrev rung_counts : Lane → Driver → Controller → DeviceEnds
+rung_counts lane d c = record (counts lane c) { waiting = in_flight (host lane d c.window) (state lane c) }
 
--- both tails
-abbrev rung_both : Driver → Controller → Controller
-rung_both d c = rung_one Io (rung_one Admin c (tail_of d.admin)) (tail_of d.io)
+rung-so : (lane : Lane) (d : Driver) (c : Controller) → Sound d c → is_up d.state ≡ true → Counted lane c (rung_one lane d c) (rung_counts lane d c)
+rung-so lane d c s u =
+    let p = s.up u in
+    let r = running lane d c s u in
+    let t : tail_of (ends lane d) ≡ (ends lane d).tail.put = omega (arith, r.put) in
+    let e : with_tail (ends lane d).tail.put (submission_as lane (counts lane c)) ≡ submission_as lane (rung_counts lane d c) =
+    rw (lt-ltb (ends lane d).tail.put 8 r.put, same-ahead (ends lane d).tail.put (state lane c).fetched) refl in
+    counted lane c (rung_one lane d c) (rung_counts lane d c) p
+    (ap (λ o. slice_set c.submission (queue_id lane) (option_map (with_tail (tail_of (ends lane d))) o)) (submission-is lane c p)
+    ∙ ap (λ q. slice_set c.submission (queue_id lane) (Some q)) (ap (λ v. with_tail v (submission_as lane (counts lane c))) t ∙ e))
+    (same-completion lane c p) p.fetched refl
+
+rung-at : (lane : Lane) (d : Driver) (c : Controller) → Sound d c → is_up d.state ≡ true → AtLane lane d d c (rung_one lane d c) d.next (host lane d c.window) (rung_state (host lane d c.window) (state lane c))
+rung-at lane d c s u =
+    let k = rung-so lane d c s u in
+    record {
+      up = refl;
+      next = refl;
+      later = omega arith;
+      window = refl;
+      slots = refl;
+      host_here = refl;
+      host_there = refl;
+      state_here = k.here;
+      state_there = k.there;
+    }
+
+record IsRung (lane : Lane) (d : Driver) (c c' : Controller) : Type 0 where
+  sound : Sound d c'
+  mail : mailbox d c' ≡ with_box lane (ring_lane (box_at lane (mailbox d c))) (mailbox d c)
+
+is-rung : (lane : Lane) (d : Driver) (c : Controller) → Sound d c → is_up d.state ≡ true → IsRung lane d c (rung_one lane d c)
+is-rung lane d c s u =
+    let b : Both d c = s.both in
+    let r = running lane d c s u in
+    let at = rung-at lane d c s u in
+    record {
+      sound = sound-at lane d d c (rung_one lane d c) d.next _ _ at s u (same-up b.first _ _ _ (b.each lane) u (ring-running _ _ r)) s.fits s.sizes (rung-so lane d c s u).paired;
+      mail = mail-at lane d d c (rung_one lane d c) d.next _ _ at (mailbox d c).fetched refl refl
+          ∙ ap (λ x. with_box lane x (mailbox d c)) (ring-box _ _ r ∙ ap ring_lane (sym (box-is lane d c)));
+    }
 
 tail-small : (n : ℕ) → n % 8 < 2 ^ 16
 tail-small n = omega arith
 
-tails-written : (d : Driver) (c : Controller) (p : IsPaired c) → is_up d.state ≡ true → after_calls (ring_calls d) c ≡ rung_both d c
-tails-written d c p u =
-    let a = tail-written Admin c (tail_of d.admin) p.enabled p.ready (tail-small d.admin.tail.put) in
-    let b = tail-written Io (rung_one Admin c (tail_of d.admin)) (tail_of d.io) p.enabled p.ready (tail-small d.io.tail.put) in
-    ap (λ t. after_calls (if t then Writes (tail_doorbell Admin) (tail_of d.admin) ∷ Writes (tail_doorbell Io) (tail_of d.io) ∷ [] else []) c) u
-    ∙ ap (after_write32 (tail_doorbell Io) (tail_of d.io)) a
-    ∙ b
-
-side-both : (d : Driver) (c : Controller) (p : IsPaired c) → d.admin.tail.put < 8 → d.io.tail.put < 8 → device_side (rung_both d c) ≡ ring (host_side d) (device_side c)
-side-both d c p h g =
-    let a : tail_of d.admin ≡ d.admin.tail.put = omega (arith, h) in
-    let b : tail_of d.io ≡ d.io.tail.put = omega (arith, g) in
-    let v : tail_of d.admin < 8 = omega arith in
-    let w : tail_of d.io < 8 = omega arith in
-    side-rung Io (rung_one Admin c (tail_of d.admin)) (paired-rung Admin c p (tail_of d.admin) v) (tail_of d.io) w
-    ∙ ap (λ k. with_pair Io (ring_pair (pair Io k) (tail_of d.io)) k) (side-rung Admin c p (tail_of d.admin) v)
-    ∙ (λ i. record (device_side c) { admin = ring_pair (device_side c).admin (a i); io = ring_pair (device_side c).io (b i) })
-
-up-step : (d : Driver) (c : Controller) → Sound d c → is_up d.state ≡ true
-    → IsStep (rung (mailbox d c)) d (after_calls (ring_calls d) c) (rung_reply true)
+up-step : (d : Driver) (c : Controller) → Sound d c → is_up d.state ≡ true → IsStep (rung (mailbox d c)) d (after_calls (ring_calls d) c) (rung_reply true)
 up-step d c s u =
+    let m : Mailbox = mailbox d c in
+    let one = is-rung Admin d c s u in
+    let two = is-rung Io d (rung_one Admin d c) one.sound u in
     let p = s.up u in
-    let e = tails-written d c p u in
-    let b : Both (host_side d) (device_side c) = s.both in
-    let ra = (b.each Admin).up u in
-    let ri = (b.each Io).up u in
-    let v = side-both d c p ra.put ri.put in
-    let w : tail_of d.admin < 8 = omega arith in
-    let x : tail_of d.io < 8 = omega arith in
-    let q = paired-rung Io _ (paired-rung Admin c p (tail_of d.admin) w) (tail_of d.io) x in
-    let k : Both (host_side d) (device_side (rung_both d c)) = subst (Both (host_side d)) (sym v) (ring-both (host_side d) (device_side c) b u) in
-    let sound : Sound d (rung_both d c) = record { both = k; fits = s.fits; sizes = s.sizes; up = λ t. q; down = λ t. absurd (no-way (is_up d.state) t u) } in
+    let q = one.sound.up u in
+    let e : after_calls (ring_calls d) c ≡ rung_one Io d (rung_one Admin d c) =
+    ap (λ t. after_calls (if t then Writes (tail_doorbell Admin) (tail_of d.admin) ∷ Writes (tail_doorbell Io) (tail_of d.io) ∷ [] else []) c) u
+    ∙ ap (after_write32 (tail_doorbell Io) (tail_of d.io)) (tail-written Admin c (tail_of d.admin) p.enabled p.ready (tail-small d.admin.tail.put))
+    ∙ tail-written Io (rung_one Admin d c) (tail_of d.io) q.enabled q.ready (tail-small d.io.tail.put) in
     let f : rung (mailbox d c) ≡ mailbox_reaction (record (mailbox d c) { admin = ring_lane (mailbox d c).admin; io = ring_lane (mailbox d c).io }) (Rung (Ok tt)) =
     ap (λ t. if t then mailbox_reaction (record (mailbox d c) { admin = ring_lane (mailbox d c).admin; io = ring_lane (mailbox d c).io }) (Rung (Ok tt)) else mailbox_reaction (mailbox d c) (Rung (Err (record {})))) u in
     record {
-      sound = subst (Sound d) (sym e) sound;
-      mail = ap (λ (r : MailboxReaction). r.mailbox) f ∙ sym (ap (mailbox d) e ∙ ap (mail (host_side d)) v ∙ ring-mail (host_side d) (device_side c) b u);
+      sound = subst (Sound d) (sym e) two.sound;
+      mail = ap (λ (r : MailboxReaction). r.mailbox) f
+          ∙ sym (ap (mailbox d) e ∙ two.mail ∙ ap (λ (x : Mailbox). with_box Io (ring_lane (box_at Io x)) x) one.mail);
       gives = ap (λ (r : MailboxReaction). r.reply) f;
     }
 

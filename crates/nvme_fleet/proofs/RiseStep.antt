@@ -1,20 +1,12 @@
 -- Bringing up is a step of the mailbox: two rounds of a command of the driver's own.
-use Rattle.nvme_fleet.proofs.Words.{◌≡◌, ℕ, ◌<◌, Bool, true, false, List, length, Option, None, Some, Result, Ok, refl, sym, ap, subst, ◌∙◌, arith, SqeFields, Status, submission_entry, cid as command_cid, completion_entry, with_bytes, Device, World, value_at, Lane, Admin, Io, Down, Up, UpFault, Calls, Driver, ends, is_up, Rises, Creates, CreatesBoth, CreatesSubmissions, create_completion_queue, create_submission_queue, csts, is_ready, fault_of, start_calls, started, Concludes, Controller, SubmissionQueue, CompletionQueue, after_queue_change, Setting, setting, OwnCommand, Both, zeroed_all, come_up, brought_up, recounted, Mailbox, Sound, IsOff, is_failed, EndsFit, IsPaired, host_side, device_side, mailbox, LinkStep, BringUpIsAStep, with_controller, window_in, part-there}
-use Rattle.nvme_driver.specs.declared.state.State.{State}
-use Rattle.nvme_fleet.specs.Lanes as lanes
+use Rattle.nvme_fleet.proofs.Words.{◌≡◌, ℕ, ◌<◌, Bool, true, false, List, length, Option, None, Result, Ok, refl, sym, ap, subst, ◌∙◌, arith, SqeFields, Status, submission_entry, cid as command_cid, completion_entry, with_bytes, Device, World, value_at, Admin, Up, UpFault, Calls, Driver, ends, is_up, Rises, Creates, CreatesBoth, CreatesSubmissions, create_completion_queue, create_submission_queue, csts, is_ready, fault_of, start_calls, started, Concludes, Controller, after_queue_change, Setting, setting, brought_up, recounted, Mailbox, Sound, IsOff, EndsFit, mailbox, LinkStep, BringUpIsAStep, with_controller, window_in, part-there}
 use Rattle.nvme_fleet.proofs.Places.{no-way}
 use Rattle.nvme_fleet.proofs.Windows.{stored-length}
-use Rattle.nvme_fleet.proofs.Rising.{IsOwn, up-both, up-mail, zeroed-size}
-use Rattle.nvme_fleet.proofs.StartStep.{running, setting_calls, calls-are, value-is, started-is, ready-value}
+use Rattle.nvme_fleet.proofs.OneLane.{each-lane}
+use Rattle.nvme_fleet.proofs.Rising.{Rises as RisesFrom, IsOwn, OwnCommand, own_window, zeroed-size, made_completions, made_submissions, risen_driver, risen_controller, risen-both, risen-mail}
+use Rattle.nvme_fleet.proofs.StartStep.{running, zeroed_all, setting_calls, calls-are, value-is, started-is, ready-value}
 use Rattle.nvme_fleet.proofs.OwnCommands.{first_change, second_change, completions-made, submissions-made, first-cid, second-cid, first-size, second-size, length-completion}
 use Rattle.nvme_fleet.proofs.TurnStep.{Round, round, own_completion, says-own, with_admin, ends_at, put_window}
-
--- the queues that they create
-abbrev made_completions : Option CompletionQueue
-made_completions = Some (record { base = 0x3000; tail = record { size = 32; posted = 0; unread = 0 } })
-
-abbrev made_submissions : Option SubmissionQueue
-made_submissions = Some (record { base = 0x2000; cqid = 1; head = record { size = 8; fetched = 0; waiting = 0 } })
 
 -- the n-th such command, with its completion
 abbrev own : ℕ → SqeFields → OwnCommand
@@ -29,7 +21,7 @@ is-own n f h size i = record {
 
 -- the window once it was answered
 abbrev answered_window : ℕ → SqeFields → List ℕ → List ℕ
-answered_window n f w = lanes.own_window n w (own n f)
+answered_window n f w = own_window n w (own n f)
 
 first-round : (tells : Bool) (k : ℕ) (w : List ℕ) (world : World) (device : Device) (d d' : Driver) (new : Setting) (result : Option Status) → length w ≡ 4194304
     → Creates (LinkStep tells) window_in create_completion_queue (with_admin (ends_at 0) d) (setting (running k 0 0 None None 0 w) world device) result d' new
@@ -69,17 +61,11 @@ first_window w = answered_window 0 create_completion_queue (zeroed_all w)
 abbrev last_window : List ℕ → List ℕ
 last_window w = answered_window 1 create_submission_queue (first_window w)
 
-abbrev risen_controller : ℕ → List ℕ → Controller
-risen_controller k w = running k 2 0 made_submissions made_completions 0 (last_window w)
-
-abbrev risen_driver : Driver → Driver
-risen_driver d = record (with_admin (ends_at 2) (started d)) { state = Up }
-
 -- both rounds, one behind the other
 record RoundsAre (k : ℕ) (d : Driver) (old : Setting) (result : Result (Unit {0}) UpFault) (d' : Driver) (new : Setting) : Type 0 where
   answered : result ≡ Ok tt
   driver : d' ≡ risen_driver d
-  setting_is : new ≡ setting (risen_controller k old.controller.window) old.world old.device
+  setting_is : new ≡ setting (risen_controller k (last_window old.controller.window)) old.world old.device
 
 first-size-of : (w : List ℕ) → length w ≡ 4194304 → length (first_window w) ≡ 4194304
 first-size-of w l =
@@ -130,63 +116,40 @@ first-own = is-own 0 create_completion_queue (omega arith) first-size first-cid
 second-own : IsOwn (own 1 create_submission_queue)
 second-own = is-own 1 create_submission_queue (omega arith) second-size second-cid
 
-abbrev up_side : Driver → lanes.HostSide
-up_side d = come_up (host_side d)
+abbrev RisesSo : Driver → Controller → Type 0
+RisesSo d c = RisesFrom d c (own 0 create_completion_queue) (own 1 create_submission_queue)
 
-abbrev up_device : Controller → lanes.DeviceSide
-up_device c = lanes.brought_up (device_side c) (own 0 create_completion_queue) (own 1 create_submission_queue)
-
-side-is : (d : Driver) → d.state ≡ Down → host_side (risen_driver d) ≡ up_side d
-side-is d h = ap (λ (s : State). record (up_side d) { failed = is_failed s }) (sym h)
-
-device-is : (k : ℕ) (c : Controller) → device_side (risen_controller k c.window) ≡ up_device c
-device-is k c = refl
-
-risen-fits : (d : Driver) (lane : Lane) → EndsFit (ends lane (risen_driver d))
-risen-fits d Admin = record { tail = refl; head = refl }
-risen-fits d Io = record { tail = refl; head = refl }
-
-risen-paired : (k : ℕ) (w : List ℕ) → IsPaired (risen_controller k w)
-risen-paired k w = record {
-  admin = record { fetched = 2; waiting = 0; posted = 2; unread = 0 };
-  io = lanes.no_pair;
-  submission = refl;
-  completion = refl;
-  fetched = tt;
-  ready = refl;
-  enabled = refl;
-}
-
-risen-both : (d : Driver) (c : Controller) → Sound d c → d.state ≡ Down → Both (up_side d) (up_device c)
-risen-both d c s h = up-both (host_side d) (device_side c) (own 0 create_completion_queue) (own 1 create_submission_queue) s.both (ap is_up h) first-own second-own
-
-risen-sound : (k : ℕ) (d : Driver) (c : Controller) → Sound d c → d.state ≡ Down → Sound (risen_driver d) (risen_controller k c.window)
-risen-sound k d c s h = record {
-  both = rw (side-is d h, device-is k c) (risen-both d c s h);
-  fits = risen-fits d;
-  sizes = s.sizes;
-  up = λ u. risen-paired k c.window;
+risen-sound : (k : ℕ) (d : Driver) (c : Controller) → RisesSo d c → Sound (risen_driver d) (risen_controller k (last_window c.window))
+risen-sound k d c h = record {
+  both = risen-both k d c (own 0 create_completion_queue) (own 1 create_submission_queue) h;
+  fits = each-lane Admin (λ l. EndsFit (ends l (risen_driver d))) (record { tail = refl; head = refl }) (record { tail = refl; head = refl });
+  sizes = h.sound.sizes;
+  up = λ u. record {
+    admin = record { fetched = 2; waiting = 0; posted = 2; unread = 0 };
+    io = record { fetched = 0; waiting = 0; posted = 0; unread = 0 };
+    submission = refl;
+    completion = refl;
+    fetched = tt;
+    ready = refl;
+    enabled = refl;
+  };
   down = λ u. absurd (no-way true u refl);
 }
 
 came-up : (m : Mailbox) → m.up ≡ false → (brought_up m).mailbox ≡ record m { up = true; admin = recounted m.admin; io = recounted m.io }
 came-up m h = rw h refl
 
-risen-mail : (k : ℕ) (d : Driver) (c : Controller) → Sound d c → d.state ≡ Down → (brought_up (mailbox d c)).mailbox ≡ mailbox (risen_driver d) (risen_controller k c.window)
-risen-mail k d c s h =
-    let u : is_up d.state ≡ false = ap is_up h in
-    came-up (mailbox d c) u
-    ∙ sym (up-mail (host_side d) (device_side c) (own 0 create_completion_queue) (own 1 create_submission_queue) s.both u first-own second-own)
-    ∙ sym (ap (λ (x : lanes.HostSide). lanes.mail x (up_device c)) (side-is d h))
-
 pub bring_up_is_a_step : BringUpIsAStep
 bring_up_is_a_step tells d d' old new result s h rises =
     let r = rises-are tells d d' old new result (s.down (ap is_up h)) s.both.window rises in
     let k : ℕ = old.controller.cntlid in
+    let f : RisesSo d old.controller = record { sound = s; down = h; command = first-own; later = second-own } in
     record {
       answered = r.answered;
-      sound = rw (r.driver, r.setting_is) (risen-sound k d old.controller s h);
-      mail = risen-mail k d old.controller s h ∙ sym (ap (mailbox (risen_driver d)) (ap (λ (q : Setting). q.controller) r.setting_is)) ∙ sym (ap (λ z. mailbox z new.controller) r.driver);
+      sound = rw (r.driver, r.setting_is) (risen-sound k d old.controller f);
+      mail = came-up (mailbox d old.controller) (ap is_up h)
+          ∙ sym (ap (λ z. mailbox z new.controller) r.driver ∙ ap (mailbox (risen_driver d)) (ap (λ (q : Setting). q.controller) r.setting_is)
+          ∙ risen-mail k d old.controller (own 0 create_completion_queue) (own 1 create_submission_queue) f);
       cntlid = ap (λ (q : Setting). q.controller.cntlid) r.setting_is;
       world = ap (λ (q : Setting). q.world) r.setting_is;
       device = ap (λ (q : Setting). q.device) r.setting_is;

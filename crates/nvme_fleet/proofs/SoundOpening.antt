@@ -1,9 +1,8 @@
 -- A driver that never came up, at a controller that was never enabled.
-use Rattle.nvme_fleet.proofs.Words.{◌≡◌, ℕ, zero, suc, ◌≤◌, false, List, length, drop, None, refl, sym, ap, subst, arith, length-drop, length-take-le, replicate, window_size, Lane, Admin, Io, new_driver, ends, new_controller, most_bytes, waiting_at, empty, slot_at, live_in, received_in, AgeIn, Resting, Holds, Both, base, pages_of, slots_in, host, state, IsOff, EndsFit, host_side, device_side, OpeningIsSound}
+use Rattle.nvme_fleet.proofs.Words.{◌≡◌, ℕ, zero, suc, ◌≤◌, false, List, [], length, drop, None, refl, sym, ap, subst, arith, length-drop, length-take-le, replicate, window_size, Lane, Admin, Io, new_driver, ends, new_controller, most_bytes, waiting_at, empty, slot_at, live_in, received_in, AgeIn, Resting, Holds, Both, submission_queue, pages_of, slots_in, host, state, IsOff, EndsFit, OpeningIsSound}
 use Rattle.nvme_spec.specs.Memory.{zeros}
 use Rattle.nvme_machine.proofs.Windows.{length-zeros}
 use Rattle.nvme_fleet.proofs.Places.{no-way}
-use Rattle.nvme_fleet.proofs.Polling.{same-mail}
 use Rattle.nvme_fleet.proofs.Ups.{resting-box}
 
 slot-empty : (l : Lane) (w : List ℕ) (j n k : ℕ) → slot_at (slots_in l w j (replicate n None)) k ≡ empty
@@ -11,11 +10,11 @@ slot-empty l w j zero k = refl
 slot-empty l w j (suc n) zero = refl
 slot-empty l w j (suc n) (suc k) = slot-empty l w (suc j) n k
 
-pages-long : (l : Lane) (w : List ℕ) → base l ≤ 8192 → length w ≡ window_size → length (pages_of l w) ≡ 8192
+pages-long : (l : Lane) (w : List ℕ) → submission_queue l ≤ 8192 → length w ≡ window_size → length (pages_of l w) ≡ 8192
 unfolding pages_of
-pages-long l w b h = length-take-le 8192 (drop (base l) w) (omega (arith, b, h, length-drop (base l) w))
+pages-long l w b h = length-take-le 8192 (drop (submission_queue l) w) (omega (arith, b, h, length-drop (submission_queue l) w))
 
-rests : (first k : ℕ) (l : Lane) → Resting (host l (host_side (new_driver first)) zeros) (state l (device_side (new_controller k)))
+rests : (first k : ℕ) (l : Lane) → Resting (host l (new_driver first) zeros) (state l (new_controller k))
 rests first k Admin = record {
   window = pages-long Admin zeros (omega arith) length-zeros;
   slots = refl;
@@ -35,7 +34,7 @@ rests first k Io = record {
   idle = λ slot. ap live_in (slot-empty Io zeros 0 24 slot);
 }
 
-holds : (first k : ℕ) (l : Lane) → Holds first (host l (host_side (new_driver first)) zeros) (state l (device_side (new_controller k)))
+holds : (first k : ℕ) (l : Lane) → Holds first (host l (new_driver first) zeros) (state l (new_controller k))
 holds first k l = record {
   failed = refl;
   begun = omega arith;
@@ -44,7 +43,7 @@ holds first k l = record {
   down = λ u. rests first k l;
 }
 
-both : (first k : ℕ) → Both (host_side (new_driver first)) (device_side (new_controller k))
+both : (first k : ℕ) → Both (new_driver first) (new_controller k)
 both first k = record { first = first; window = length-zeros; slots = refl; each = holds first k }
 
 fits : (first : ℕ) (l : Lane) → EndsFit (ends l (new_driver first))
@@ -60,13 +59,16 @@ none-waits (suc n) zero = refl
 none-waits (suc n) (suc k) = none-waits n k
 
 pub opening_is_sound : OpeningIsSound
-opening_is_sound first k = record {
-  sound = record {
-    both = both first k;
-    fits = fits first;
-    sizes = λ slot. subst (λ w. received_in w ≤ most_bytes) (sym (none-waits 24 slot)) (omega arith);
-    up = λ u. absurd (no-way false refl u);
-    down = λ d. is-off k;
-  };
-  mail = same-mail _ _ _ _ _ _ _ _ _ _ (resting-box _ _ (rests first k Admin)) (resting-box _ _ (rests first k Io)) refl refl;
-}
+opening_is_sound first k =
+    let admin = resting-box _ _ (rests first k Admin) in
+    let io = resting-box _ _ (rests first k Io) in
+    record {
+      sound = record {
+        both = both first k;
+        fits = fits first;
+        sizes = λ slot. subst (λ w. received_in w ≤ most_bytes) (sym (none-waits 24 slot)) (omega arith);
+        up = λ u. absurd (no-way false refl u);
+        down = λ d. is-off k;
+      };
+      mail = λ i. record { up = false; next = first; admin = admin i; io = io i; fetched = []; aborted = [] };
+    }

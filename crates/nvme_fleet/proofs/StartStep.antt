@@ -1,5 +1,5 @@
 -- A controller that is off, once a driver has set its registers and enabled it.
-use Rattle.nvme_fleet.proofs.Words.{◌≡◌, ℕ, ◌+◌, ◌^◌, ◌<◌, ◌≤◌, Bool, false, List, [], ◌∷◌, ◌++◌, length, Option, None, Some, refl, ap, ◌∙◌, arith, le-leb, with_bytes, Off, Ready, is_enabled, after_write, prepared, configured, can_enable, value_at, with_low, with_high, Admin, Io, Call, Stores, Writes, Reads, Turns, Calls, submission_queue, completion_queue, cc, csts, aqa, asq_low, asq_high, acq_low, acq_high, admin_sizes, enabling, zero_page, Controller, SubmissionQueue, CompletionQueue, after_store, after_write32, taking_effect, no_submission_queues, no_completion_queues, Setting, zeros, zeroed_all, IsOff, store-id, write-id, after_call, after_calls, LinkStep, with_controller}
+use Rattle.nvme_fleet.proofs.Words.{◌≡◌, ℕ, ◌+◌, ◌^◌, ◌<◌, ◌≤◌, Bool, false, List, [], ◌∷◌, ◌++◌, length, Option, None, Some, refl, ap, ◌∙◌, arith, le-leb, with_bytes, Off, Ready, is_enabled, after_write, prepared, configured, can_enable, value_at, with_low, with_high, Admin, Io, Call, Stores, Writes, Reads, Turns, Calls, submission_queue, completion_queue, cc, csts, aqa, asq_low, asq_high, acq_low, acq_high, admin_sizes, enabling, zero_page, Controller, SubmissionQueue, CompletionQueue, after_store, after_write32, taking_effect, no_submission_queues, no_completion_queues, Setting, zeros, IsOff, store-id, write-id, after_call, after_calls, LinkStep, with_controller}
 use Rattle.nvme_fleet.proofs.PlainCalls.{IsPlain}
 use Rattle.nvme_fleet.proofs.Ups.{zeros-are}
 
@@ -129,6 +129,9 @@ setting_calls =
 
 abbrev zeroed_by : List ℕ → List ℕ
 zeroed_by w = with_bytes (with_bytes (with_bytes (with_bytes w 0 zero_page) 0x1000 zero_page) 0x2000 zero_page) 0x3000 zero_page
+
+abbrev pub zeroed_all : List ℕ → List ℕ
+zeroed_all w = with_bytes (with_bytes (with_bytes (with_bytes w 0 zeros) 0x1000 zeros) 0x2000 zeros) 0x3000 zeros
 
 zeroed-is : (w : List ℕ) → zeroed_by w ≡ zeroed_all w
 zeroed-is w = ap (λ z. with_bytes (with_bytes (with_bytes (with_bytes w 0 z) 0x1000 z) 0x2000 z) 0x3000 z) page-is

@@ -105,7 +105,7 @@ pub use Rattle.nvme_mailbox.specs.Executions.{admin_served, command_fields, deni
 pub use Rattle.nvme_fleet.specs.FleetStates.{FleetState, IsCalled, IsSoundFleet, Layers, SoundBy, fleet_of, host_by, hosts_of, layers_of, opening_driver, reaction_to, reply_in}
 unfoldable pub use Rattle.nvme_fleet.specs.FleetStates.{fleet_in}
 pub use Rattle.nvme_mailbox.specs.Fleets.{called, raw_fetch, stored_seen}
-pub use Rattle.nvme_fleet.specs.Lanes.{Both, DeviceEnds, DeviceSide, HostSide, OwnCommand, Placement, Taken, aborted_number, base, come_up, commands_in, consume, executed_at, executed_window, fetch, fetched_by, fetched_pair, freed, held_by, host, in_order, mail, new_taken, next_in, next_pair, other, own_window, pair, placed_device, placed_window, ranked_too, ring, ring_pair, same, slot_in, slots_in, state, told_pair, turned_off, up_window, whole, with_pair, zeroed_all}
+pub use Rattle.nvme_fleet.specs.Lanes.{Both, aborted_number, commands_in, fetched_by, held_by, host, in_order, is_failed, lane_of_queue, other, ranked_too, same, slot_in, slots_in, state, waiting_count, whole}
 unfoldable pub use Rattle.nvme_fleet.specs.Lanes.{area, listed, pages_of}
 pub use Rattle.nvme_fleet.specs.LayerCalls.{AppliesCalling, AreCallsOfRun, AreCallsOfStep, HappensCalling, LayerCallsAreOfARun, LayerCallsAreOfAStep}
 pub use Rattle.nvme_fleet.specs.Layers.{Applies, AppliesRaw, CallsAt, Cycles, Happens, driver_at, resets_from, told, with_driver}
@@ -117,7 +117,7 @@ pub use Rattle.nvme_fleet.specs.PowerReset.{AreCycled}
 pub use Rattle.nvme_fleet.specs.RawEvents.{IsOfHost, raw_moment}
 pub use Rattle.nvme_fleet.specs.Running.{RunsBehind, data_behind, room_for}
 pub use Rattle.nvme_fleet.specs.Secrecy.{LayersReadTheSame, layers_over}
-pub use Rattle.nvme_fleet.specs.Sound.{EndsFit, IsOfLane, IsOff, IsPaired, Sound, completion_as, device_side, host_side, is_failed, lane_of_queue, mailbox, submission_as, taken_by, waiting_count}
+pub use Rattle.nvme_fleet.specs.Sound.{DeviceEnds, EndsFit, IsOfLane, IsOff, IsPaired, Sound, completion_as, mailbox, submission_as}
 pub use Rattle.nvme_fleet.specs.Steps.{AdminAnswersItsRequest, AdminExecutionIsAStep, AdminJudgedAsItsRequest, AllowedServesItsRequest, AnswersItsRequest, ExecutionIsAFleetStep, ExecutionIsAStep, FetchIsAStep, IoExecutionIsAStep, IsAnsweredInItsSlot, IsExecuted, IsServedInItsSlot, IsStep, JudgedAsItsRequest, MarksAreSteps, NoExecutionIsAFleetStep, NothingToExecute, OpeningIsSound, PlaceIsAStep, PollIsAStep, PostingHasRoom, PostingIsAStep, RefusalIsAStep, ResetIsAStep, RingIsAStep, after_call, after_calls, request_execution_with, rung_reply}
 pub use Rattle.nvme_fleet.specs.Unique.{HasTicketsOnce, HaveTicketsOnce, LayersRunIsUnique, OpeningHasTicketsOnce, TicketsStayOnce}
 pub use Rattle.nvme_fleet.specs.Views.{AgeIn, Ages, AreOf, Carried, Effect, Heads, Holds, Host, Phases, Resting, Running, Slot, State, Suited, abort_slot, answer, answers, answers_of, asked_in, bears, can_hear, command_at, commands, commands_of, completion_bytes, completions, consumed, empty, executed, executed_state, filled, finished, fresh_host, fresh_state, front, heard, holds, in_flight, is_plain_in, item, lane_in, last_head, left_after, less, live_at, live_in, live_waiting, next_completion, odd, off, own_host, own_state, phase_of, placed_state, received_by, received_in, replies, since, slot_at, steps, ticket_in, unread, zeroed}
