@@ -1,7 +1,7 @@
 -- The slots of the window as each lane sees them: where one changes, all others stay in both lanes.
 use Rattle.nvme_fleet.proofs.Words.{waiting_at, cid, Waiting, ◌≡◌, ℕ, ◌+◌, ◌<◌, ◌≤◌, List, [], ◌∷◌, length, map, refl, ap, sym, ◌∙◌, arith, zero, suc, true, false, cond, eqb, Option, Some, None, slice_set, inl, inr, cases_Bool, ne_eqb, Slot, empty, slot_at, live_in, live_waiting, item, commands_of, Lane, Admin, Io, same, other, FetchedCommand, lane_of_queue, whole, slot_in, slots_in, commands_in, fetched_by}
 use Rattle.nvme_fleet.proofs.Slots.{Apart, cond-zero}
-use Rattle.nvme_fleet.proofs.LaneWindows.{Same}
+use Rattle.nvme_fleet.proofs.LaneWindows.{Same, same-self, same-other}
 use Rattle.nvme_fleet.proofs.Orders.{cond-one}
 
 -- a slot that the windows share
@@ -62,14 +62,6 @@ slots-there l w w' xs n o e b h before then =
     slots-here l w w' xs n o e b h
     ∙ ap (slice_set (slots_in l w 0 xs) n) (then ∙ sym (slot-in l w xs n ∙ before))
     ∙ set-slot (slots_in l w 0 xs) n
-
-pub same-self : (l : Lane) → same l l ≡ true
-same-self Admin = refl
-same-self Io = refl
-
-pub same-other : (l : Lane) → same l (other l) ≡ false
-same-other Admin = refl
-same-other Io = refl
 
 same-is : (x lane : Lane) → same x lane ≡ true → x ≡ lane
 same-is Admin Admin e = refl

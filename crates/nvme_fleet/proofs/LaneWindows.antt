@@ -1,8 +1,27 @@
 -- Windows that differ in one slot or in the queue pages of one lane, and stores that leave such windows.
-use Rattle.nvme_fleet.proofs.Words.{list_page, data_area, ◌≡◌, ℕ, ◌+◌, ◌*◌, ◌<◌, ◌≤◌, List, length, ap, ◌∙◌, arith, false, eqb, take, drop, ◌⊎◌, inl, inr, take-take, cases_lt, eqb-false, most_bytes, with_bytes, Lane, Admin, Io, other, submission_queue, pages_of, area, listed}
+use Rattle.nvme_fleet.proofs.Words.{list_page, data_area, ◌≡◌, ℕ, ◌+◌, ◌*◌, ◌<◌, ◌≤◌, List, length, refl, ap, ◌∙◌, arith, true, false, cond, eqb, take, drop, ◌⊎◌, inl, inr, take-take, cases_lt, eqb-false, most_bytes, with_bytes, Lane, Admin, Io, same, other, submission_queue, pages_of, area, listed}
 use Rattle.std.proofs.lemmas.List.{length-drop}
 use Rattle.nvme_fleet.proofs.Windows.{stored-length, stored-apart, stored-in}
 use Rattle.nvme_fleet.proofs.LanePages.{first-here, second-here}
+
+-- what holds of a lane and of the other holds of each
+pub each-lane : (lane : Lane) (P : Lane → Type 0) → P lane → P (other lane) → (l : Lane) → P l
+each-lane Admin P a b Admin = a
+each-lane Admin P a b Io = b
+each-lane Io P a b Admin = b
+each-lane Io P a b Io = a
+
+pub same-self : (l : Lane) → same l l ≡ true
+same-self Admin = refl
+same-self Io = refl
+
+pub same-other : (l : Lane) → same l (other l) ≡ false
+same-other Admin = refl
+same-other Io = refl
+
+pub other-same : (l : Lane) → same (other l) l ≡ false
+other-same Admin = refl
+other-same Io = refl
 
 -- a slot whose area and list two windows share
 pub record Same (w w' : List ℕ) (k : ℕ) : Type 0 where
@@ -12,20 +31,6 @@ pub record Same (w w' : List ℕ) (k : ℕ) : Type 0 where
 pub same-both : (w v u : List ℕ) (k : ℕ) → Same w v k → Same v u k → Same w u k
 same-both w v u k a b = record { areas = b.areas ∙ a.areas; lists = b.lists ∙ a.lists }
 
--- windows that differ in the s-th slot at most
-pub record Leaves (w w' : List ℕ) (s : ℕ) : Type 0 where
-  pub size : length w' ≡ length w
-  pub slots : (k : ℕ) → k < 24 → eqb k s ≡ false → Same w w' k
-  pub pages : (lane : Lane) → pages_of lane w' ≡ pages_of lane w
-
-pub leaves-both : (w v u : List ℕ) (s : ℕ) → Leaves w v s → Leaves v u s → Leaves w u s
-leaves-both w v u s a b =
-    record {
-      size = b.size ∙ a.size;
-      slots = λ k l q. same-both w v u k (a.slots k l q) (b.slots k l q);
-      pages = λ lane. b.pages lane ∙ a.pages lane;
-    }
-
 area-apart : (w bytes : List ℕ) (at k : ℕ) → at + length bytes ≤ length w → (data_area k + most_bytes ≤ at) ⊎ (at + length bytes ≤ data_area k) → area (with_bytes w at bytes) k ≡ area w k
 unfolding area
 area-apart w bytes at k i h = stored-apart w bytes at (data_area k) most_bytes i h
@@ -34,9 +39,9 @@ list-apart : (w bytes : List ℕ) (at k : ℕ) → at + length bytes ≤ length 
 unfolding listed
 list-apart w bytes at k i h = stored-apart w bytes at (list_page k) 4096 i h
 
-base-small : (lane : Lane) → submission_queue lane ≤ 8192
-base-small Admin = omega arith
-base-small Io = omega arith
+pub queue-low : (lane : Lane) → submission_queue lane ≤ 8192
+queue-low Admin = omega arith
+queue-low Io = omega arith
 
 pages-apart : (lane : Lane) (w bytes : List ℕ) (at : ℕ) → at + length bytes ≤ length w → (submission_queue lane + 8192 ≤ at) ⊎ (at + length bytes ≤ submission_queue lane) → pages_of lane (with_bytes w at bytes) ≡ pages_of lane w
 unfolding pages_of
@@ -56,37 +61,11 @@ apart-list base k s n q h =
       | inr g ↦ inr (let e = eqb-false k s q in omega (arith, g, e, h))
     ]
 
--- a store in a slot's data area, or in its list
-pub leaves-data : (w bytes : List ℕ) (s : ℕ) → length w ≡ 4194304 → s < 24 → length bytes ≤ most_bytes → Leaves w (with_bytes w (data_area s) bytes) s
-leaves-data w bytes s l h b =
-    let i : data_area s + length bytes ≤ length w = omega (arith, l, h, b) in
-    record {
-      size = stored-length w bytes (data_area s) i;
-      slots = λ k g q. record { areas = area-apart w bytes (data_area s) k i (apart-data 1048576 k s (length bytes) q b); lists = list-apart w bytes (data_area s) k i (inl (omega (arith, g))) };
-      pages = λ lane. pages-apart lane w bytes (data_area s) i (inl (omega (arith, base-small lane)));
-    }
-
 pub lists-data : (w bytes : List ℕ) (s : ℕ) → length w ≡ 4194304 → s < 24 → length bytes ≤ most_bytes → listed (with_bytes w (data_area s) bytes) s ≡ listed w s
 lists-data w bytes s l h b = list-apart w bytes (data_area s) s (omega (arith, l, h, b)) (inl (omega (arith, h)))
 
-pub leaves-list : (w bytes : List ℕ) (s : ℕ) → length w ≡ 4194304 → s < 24 → length bytes ≤ 4096 → Leaves w (with_bytes w (list_page s) bytes) s
-leaves-list w bytes s l h b =
-    let i : list_page s + length bytes ≤ length w = omega (arith, l, h, b) in
-    record {
-      size = stored-length w bytes (list_page s) i;
-      slots = λ k g q. record { areas = area-apart w bytes (list_page s) k i (inr (omega (arith, h, b))); lists = list-apart w bytes (list_page s) k i (apart-list 65536 k s (length bytes) q b) };
-      pages = λ lane. pages-apart lane w bytes (list_page s) i (inl (omega (arith, base-small lane)));
-    }
-
 pub areas-list : (w bytes : List ℕ) (s : ℕ) → length w ≡ 4194304 → s < 24 → length bytes ≤ 4096 → area (with_bytes w (list_page s) bytes) s ≡ area w s
 areas-list w bytes s l h b = area-apart w bytes (list_page s) s (omega (arith, l, h, b)) (inr (omega (arith, h, b)))
-
--- a store in a lane's pages
-pub record Pages (lane : Lane) (w w' : List ℕ) (at : ℕ) (bytes : List ℕ) : Type 0 where
-  pub size : length w' ≡ length w
-  pub slots : (k : ℕ) → k < 24 → Same w w' k
-  pub here : pages_of lane w' ≡ with_bytes (pages_of lane w) at bytes
-  pub there : pages_of (other lane) w' ≡ pages_of (other lane) w
 
 page-here : (b : ℕ) (w bytes : List ℕ) (at : ℕ) → at + length bytes ≤ 8192 → b + 8192 ≤ length w → take 8192 (drop b (with_bytes w (b + at) bytes)) ≡ with_bytes (take 8192 (drop b w)) at bytes
 page-here b w bytes at p q =
@@ -101,14 +80,49 @@ there-of : (lane : Lane) (w bytes : List ℕ) (at : ℕ) → at + length bytes �
 there-of Admin w bytes at p q = pages-apart Io w bytes (0 + at) (omega (arith, p, q)) (inr (omega (arith, p)))
 there-of Io w bytes at p q = pages-apart Admin w bytes (8192 + at) (omega (arith, p, q)) (inl (omega arith))
 
-pub pages : (lane : Lane) (w bytes : List ℕ) (at : ℕ) → length w ≡ 4194304 → at + length bytes ≤ 8192 → Pages lane w (with_bytes w (submission_queue lane + at) bytes) at bytes
-pages lane w bytes at l p =
-    let i : submission_queue lane + at + length bytes ≤ length w = omega (arith, base-small lane, l, p) in
+-- a store in a lane's pages leaves each slot
+pub slot-apart : (lane : Lane) (w bytes : List ℕ) (at k : ℕ) → length w ≡ 4194304 → at + length bytes ≤ 8192 → k < 24 → Same w (with_bytes w (submission_queue lane + at) bytes) k
+slot-apart lane w bytes at k l p g =
+    let i : submission_queue lane + at + length bytes ≤ length w = omega (arith, queue-low lane, l, p) in
+    record { areas = area-apart w bytes (submission_queue lane + at) k i (inr (omega (arith, queue-low lane, p))); lists = list-apart w bytes (submission_queue lane + at) k i (inr (omega (arith, queue-low lane, p))) }
+
+-- What stores leave of a window: all slots but one, and each lane's pages as this makes them.
+pub record Stored (w w' : List ℕ) (s : ℕ) (f : Lane → List ℕ → List ℕ) : Type 0 where
+  pub size : length w' ≡ 4194304
+  pub slots : (k : ℕ) → k < 24 → eqb k s ≡ false → Same w w' k
+  pub pages : (lane : Lane) → pages_of lane w' ≡ f lane (pages_of lane w)
+
+pub none-stored : (w : List ℕ) (s : ℕ) → length w ≡ 4194304 → Stored w w s (λ l p. p)
+none-stored w s l = record { size = l; slots = λ k g q. record { areas = refl; lists = refl }; pages = λ lane. refl }
+
+-- a store in the slot's data area, in its list, and in a lane's pages
+pub data-stored : (w v : List ℕ) (s : ℕ) (f : Lane → List ℕ → List ℕ) (bytes : List ℕ) → Stored w v s f → s < 24 → length bytes ≤ most_bytes → Stored w (with_bytes v (data_area s) bytes) s f
+data-stored w v s f bytes m h b =
+    let i : data_area s + length bytes ≤ length v = omega (arith, m.size, h, b) in
     record {
-      size = stored-length w bytes (submission_queue lane + at) i;
-      slots = λ k g. record { areas = area-apart w bytes (submission_queue lane + at) k i (inr (omega (arith, base-small lane, p))); lists = list-apart w bytes (submission_queue lane + at) k i (inr (omega (arith, base-small lane, p))) };
-      here = here-of lane w bytes at p (omega (arith, base-small lane, l));
-      there = there-of lane w bytes at p l;
+      size = stored-length v bytes (data_area s) i ∙ m.size;
+      slots = λ k g q. same-both w v _ k (m.slots k g q) (record { areas = area-apart v bytes (data_area s) k i (apart-data 1048576 k s (length bytes) q b); lists = list-apart v bytes (data_area s) k i (inl (omega (arith, g))) });
+      pages = λ lane. pages-apart lane v bytes (data_area s) i (inl (omega (arith, queue-low lane))) ∙ m.pages lane;
+    }
+
+pub list-stored : (w v : List ℕ) (s : ℕ) (f : Lane → List ℕ → List ℕ) (bytes : List ℕ) → Stored w v s f → s < 24 → length bytes ≤ 4096 → Stored w (with_bytes v (list_page s) bytes) s f
+list-stored w v s f bytes m h b =
+    let i : list_page s + length bytes ≤ length v = omega (arith, m.size, h, b) in
+    record {
+      size = stored-length v bytes (list_page s) i ∙ m.size;
+      slots = λ k g q. same-both w v _ k (m.slots k g q) (record { areas = area-apart v bytes (list_page s) k i (inr (omega (arith, h, b))); lists = list-apart v bytes (list_page s) k i (apart-list 65536 k s (length bytes) q b) });
+      pages = λ lane. pages-apart lane v bytes (list_page s) i (inl (omega (arith, queue-low lane))) ∙ m.pages lane;
+    }
+
+pub page-stored : (lane : Lane) (w v : List ℕ) (s : ℕ) (f : Lane → List ℕ → List ℕ) (bytes : List ℕ) (at : ℕ) → Stored w v s f → at + length bytes ≤ 8192 →
+    Stored w (with_bytes v (submission_queue lane + at) bytes) s (λ l p. cond (same l lane) (with_bytes (f l p) at bytes) (f l p))
+page-stored lane w v s f bytes at m h =
+    record {
+      size = stored-length v bytes (submission_queue lane + at) (omega (arith, queue-low lane, m.size, h)) ∙ m.size;
+      slots = λ k g q. same-both w v _ k (m.slots k g q) (slot-apart lane v bytes at k m.size h g);
+      pages = each-lane lane (λ l. pages_of l (with_bytes v (submission_queue lane + at) bytes) ≡ cond (same l lane) (with_bytes (f l (pages_of l w)) at bytes) (f l (pages_of l w)))
+          (rw (same-self lane) (here-of lane v bytes at h (omega (arith, queue-low lane, m.size)) ∙ ap (λ x. with_bytes x at bytes) (m.pages lane)))
+          (rw (other-same lane) (there-of lane v bytes at h m.size ∙ m.pages (other lane)));
     }
 
 -- what was with_bytes at the front of an area, and in a list

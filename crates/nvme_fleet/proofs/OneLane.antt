@@ -3,14 +3,8 @@ use Rattle.nvme_fleet.proofs.Words.{◌≡◌, ℕ, zero, suc, ◌≤◌, true, 
 use Rattle.nvme_fleet.proofs.Slots.{Apart, apart-set}
 use Rattle.nvme_fleet.proofs.Fetches.{still-running}
 use Rattle.nvme_fleet.proofs.Places.{age-later, no-way}
+use Rattle.nvme_fleet.proofs.LaneWindows.{each-lane}
 use Rattle.nvme_fleet.proofs.LaneSlots.{same-fetched}
-
--- what holds of a lane and of the other holds of each
-pub each-lane : (lane : Lane) (P : Lane → Type 0) → P lane → P (other lane) → (l : Lane) → P l
-each-lane Admin P a b Admin = a
-each-lane Admin P a b Io = b
-each-lane Io P a b Admin = b
-each-lane Io P a b Io = a
 
 pub same-holds : (first : ℕ) (d d' : Host) (c c' : State) → Holds first d c → d' ≡ d → c' ≡ c → Holds first d' c'
 same-holds first d d' c c' s e f = rw (e, f) s

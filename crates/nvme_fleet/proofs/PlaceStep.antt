@@ -1,5 +1,5 @@
 -- A placing is a step of the mailbox: the lane of the request takes it, and the other lane sees the next ticket alone.
-use Rattle.nvme_fleet.proofs.Words.{◌≡◌, ℕ, zero, suc, ◌+◌, ◌-◌, ◌*◌, ◌%◌, ◌<◌, ◌≤◌, ◌==◌, nat_lt, Bool, true, false, not, ◌&&◌, cond, eqb, List, [], ◌∷◌, length, take, Option, None, Some, refl, sym, ap, subst, ◌∙◌, arith, inl, inr, cases_lt, ne_eqb, le-leb, bytes_eq-Decides, bytes_eq, slice_set, length-set, if◌then◌else◌, nat_le, SqeFields, submission_entry, submission_of, cid, with_bytes, most_bytes, Lane, Admin, Io, Waiting, Request, PlaceRefusal, NotReady, BadRequest, NoSlot, RingFull, TicketsExhausted, list_page, data_area, submission_queue, stored_list, Asked, asked_of, is_bad, Driver, is_up, ends, entry_of, entry_fields, entry_length, free_slot, place_refusal, put_ends, ticket_count, stores_of, waiting_of, waiting_at, length-stored_list, entries_move_their_data, Controller, after_store, LaneBox, box_at, with_box, MailboxReaction, refusal, placed_by, new_item, with_placed, Host, State, Slot, empty, box, live_in, live_at, asked_in, is_plain, suits, item_in, received_in, placed_state, Both, other, host, state, slot_in, slots_in, whole, area, listed, pages_of, in_order, aborted_number, ranked_too, Sound, mailbox, PlaceIsAStep, RefusalIsAStep, after_calls}
+use Rattle.nvme_fleet.proofs.Words.{◌≡◌, ℕ, zero, suc, ◌+◌, ◌-◌, ◌*◌, ◌%◌, ◌<◌, ◌≤◌, ◌==◌, nat_lt, Bool, true, false, not, ◌&&◌, cond, List, [], ◌∷◌, length, take, Option, None, Some, refl, sym, ap, subst, ◌∙◌, arith, inl, inr, cases_lt, ne_eqb, le-leb, bytes_eq-Decides, bytes_eq, slice_set, length-set, if◌then◌else◌, nat_le, SqeFields, submission_entry, submission_of, cid, with_bytes, most_bytes, Lane, Waiting, Request, PlaceRefusal, NotReady, BadRequest, NoSlot, RingFull, TicketsExhausted, list_page, data_area, submission_queue, stored_list, Asked, asked_of, is_bad, Driver, is_up, ends, entry_of, entry_fields, entry_length, free_slot, place_refusal, put_ends, ticket_count, stores_of, waiting_of, waiting_at, length-stored_list, entries_move_their_data, Controller, after_store, LaneBox, box_at, with_box, MailboxReaction, refusal, placed_by, new_item, with_placed, Host, State, Slot, empty, box, live_in, live_at, asked_in, is_plain, suits, item_in, received_in, placed_state, Both, same, other, host, state, slot_in, slots_in, whole, area, listed, pages_of, in_order, aborted_number, ranked_too, Sound, mailbox, PlaceIsAStep, RefusalIsAStep, after_calls}
 use Rattle.nvme_driver.specs.Drivers as driver
 use Rattle.nvme_driver.specs.Drivers.{lane_of}
 use Rattle.nvme_driver.proofs.Placing.{length-entry}
@@ -9,8 +9,8 @@ use Rattle.nvme_fleet.proofs.Places.{Places, place-box, place-holds, no-way}
 use Rattle.nvme_fleet.proofs.Empties.{bare-of}
 use Rattle.nvme_fleet.proofs.Sizes.{Sizes, sizes, plain as plain_request}
 use Rattle.nvme_fleet.proofs.StartStep.{stored-at}
-use Rattle.nvme_fleet.proofs.LaneWindows.{Same, same-both, Leaves, leaves-both, leaves-data, leaves-list, areas-list, Pages, pages, area-front, list-front}
-use Rattle.nvme_fleet.proofs.LaneSlots.{slot-in, slots-here, slots-there, same-self, same-other}
+use Rattle.nvme_fleet.proofs.LaneWindows.{same-self, same-other, other-same, queue-low, Stored, none-stored, data-stored, list-stored, page-stored, slot-apart, areas-list, area-front, list-front}
+use Rattle.nvme_fleet.proofs.LaneSlots.{slot-in, slots-here, slots-there}
 use Rattle.nvme_fleet.proofs.OneLane.{Changed, changed, AtLane, running, box-is, size-set, sound-at, fetched-at, mail-at}
 use Rattle.nvme_fleet.proofs.Placing.{free-some, free-same}
 
@@ -85,34 +85,24 @@ suits-by s x a k is named spelled most less there plainly =
     ∙ ap (λ n. bytes_eq x (submission_entry (entry_fields a n)) && (nat_le a.moved most_bytes && (nat_le a.received a.moved && (bytes_eq (take (length (stored_list n a.moved)) s.list) (stored_list n a.moved) && is_plain a)))) named
     ∙ rw (same-bytes x _ spelled, le-leb a.moved most_bytes most, le-leb a.received a.moved less, same-bytes _ _ there, plainly) refl
 
--- what is stored of a request: its data and its list in the slot, the entry at the lane's tail, and no other part
-pub record Fills (lane : Lane) (w w' : List ℕ) (s p : ℕ) (bytes list entry : List ℕ) : Type 0 where
-  pub size : length w' ≡ length w
-  pub slots : (k : ℕ) → k < 24 → eqb k s ≡ false → Same w w' k
-  pub here : pages_of lane w' ≡ with_bytes (pages_of lane w) (64 * p) entry
-  pub there : pages_of (other lane) w' ≡ pages_of (other lane) w
-  pub data_in : take (length bytes) (area w' s) ≡ bytes
-  pub list_in : take (length list) (listed w' s) ≡ list
+-- what is stored of a request: its data and its list in the slot, the entry at the lane's tail
+record Fills (lane : Lane) (w w' : List ℕ) (s p : ℕ) (bytes list entry : List ℕ) : Type 0 where
+  stored : Stored w w' s (λ l q. cond (same l lane) (with_bytes q (64 * p) entry) q)
+  data_in : take (length bytes) (area w' s) ≡ bytes
+  list_in : take (length list) (listed w' s) ≡ list
 
-pub fills : (lane : Lane) (w bytes list entry : List ℕ) (s p : ℕ) → length w ≡ 4194304 → s < 24 → p < 8 → length bytes ≤ most_bytes → length list ≤ 4096 → length entry ≡ 64 →
+fills : (lane : Lane) (w bytes list entry : List ℕ) (s p : ℕ) → length w ≡ 4194304 → s < 24 → p < 8 → length bytes ≤ most_bytes → length list ≤ 4096 → length entry ≡ 64 →
     Fills lane w (with_bytes (with_bytes (with_bytes w (data_area s) bytes) (list_page s) list) (submission_queue lane + 64 * p) entry) s p bytes list entry
 fills lane w bytes list entry s p l a b h g e =
     let u = with_bytes w (data_area s) bytes in
     let v = with_bytes (with_bytes w (data_area s) bytes) (list_page s) list in
-    let one : Leaves w u s = leaves-data w bytes s l a h in
-    let m : length u ≡ 4194304 = one.size ∙ l in
-    let two : Leaves u v s = leaves-list u list s m a (omega (arith, g)) in
-    let n : length v ≡ 4194304 = two.size ∙ m in
-    let three : Pages lane v (with_bytes v (submission_queue lane + 64 * p) entry) (64 * p) entry = pages lane v entry (64 * p) n (omega (arith, b, e)) in
-    let all : Leaves w v s = leaves-both w u v s one two in
-    let own : Same v (with_bytes v (submission_queue lane + 64 * p) entry) s = three.slots s a in
+    let one = data-stored w w s (λ l q. q) bytes (none-stored w s l) a h in
+    let two = list-stored w u s (λ l q. q) list one a g in
+    let own = slot-apart lane v entry (64 * p) s two.size (omega (arith, b, e)) a in
     record {
-      size = three.size ∙ all.size;
-      slots = λ k i q. same-both w v (with_bytes v (submission_queue lane + 64 * p) entry) k (all.slots k i q) (three.slots k i);
-      here = three.here ∙ ap (λ x. with_bytes x (64 * p) entry) (all.pages lane);
-      there = three.there ∙ all.pages (other lane);
-      data_in = ap (take (length bytes)) (own.areas ∙ areas-list u list s m a (omega (arith, g))) ∙ area-front w bytes s (omega (arith, l, a)) h;
-      list_in = ap (take (length list)) own.lists ∙ list-front u list s (omega (arith, m, a)) g;
+      stored = page-stored lane w v s (λ l q. q) entry (64 * p) two (omega (arith, b, e));
+      data_in = ap (take (length bytes)) (own.areas ∙ areas-list u list s one.size a g) ∙ area-front w bytes s (omega (arith, l, a)) h;
+      list_in = ap (take (length list)) own.lists ∙ list-front u list s (omega (arith, one.size, a)) g;
     }
 
 -- What is known of a placing.
@@ -150,10 +140,6 @@ known d c request slot s h f say =
       says = say;
       sized = sizes request p.good;
     }
-
-queue-low : (lane : Lane) → submission_queue lane ≤ 8192
-queue-low Admin = omega arith
-queue-low Io = omega arith
 
 filled-so : (d : Driver) (c : Controller) (request : Request) (slot : ℕ) → Known d c request slot
     → Fills (lane_of request) c.window (window_then d c request slot) slot (ends (lane_of request) d).tail.put (asked_of request).sent (stored_list slot (asked_of request).moved) (entry_of request slot)
@@ -224,16 +210,20 @@ placed-at d c request slot k =
     let x = changed-so d request slot in
     let b : Both d c = k.sound.both in
     let g = k.sound.fits (lane_of request) in
-    let here = slots-here (lane_of request) c.window (window_then d c request slot) d.slots slot (Some (waiting_of d request)) b.slots k.within f.slots
+    let here = slots-here (lane_of request) c.window (window_then d c request slot) d.slots slot (Some (waiting_of d request)) b.slots k.within f.stored.slots
     ∙ ap (λ t. slice_set (slots_in (lane_of request) c.window 0 d.slots) slot (cond t (whole (window_then d c request slot) slot (waiting_of d request)) empty)) (same-self (lane_of request)) in
-    let there = slots-there (other (lane_of request)) c.window (window_then d c request slot) d.slots slot (Some (waiting_of d request)) b.slots k.within f.slots (free-in (other (lane_of request)) d c request slot k)
+    let there = slots-there (other (lane_of request)) c.window (window_then d c request slot) d.slots slot (Some (waiting_of d request)) b.slots k.within f.stored.slots (free-in (other (lane_of request)) d c request slot k)
     (ap (λ t. cond t (whole (window_then d c request slot) slot (waiting_of d request)) empty) (same-other (lane_of request))) in
+    let pages = f.stored.pages (lane_of request)
+    ∙ ap (λ t. cond t (with_bytes (pages_of (lane_of request) c.window) (64 * (ends (lane_of request) d).tail.put) (entry_of request slot)) (pages_of (lane_of request) c.window)) (same-self (lane_of request)) in
+    let others = f.stored.pages (other (lane_of request))
+    ∙ ap (λ t. cond t (with_bytes (pages_of (other (lane_of request)) c.window) (64 * (ends (lane_of request) d).tail.put) (entry_of request slot)) (pages_of (other (lane_of request)) c.window)) (other-same (lane_of request)) in
     let t = g.tail in
     record {
       up = x.state;
       next = x.next;
       later = omega arith;
-      window = f.size;
+      window = f.stored.size ∙ sym b.window;
       slots = ap length x.slots ∙ length-set d.slots slot (Some (waiting_of d request));
       host_here = x.here (window_then d c request slot)
           ∙ (λ i. record (host (lane_of request) d c.window) {
@@ -243,8 +233,8 @@ placed-at d c request slot k =
             unheard = (ends (lane_of request) d).tail.unheard + 1;
           });
       host_there = x.there (window_then d c request slot) ∙ (λ i. record (host (other (lane_of request)) d c.window) { next = d.next + 1; slots = there i });
-      state_here = λ i. record (state (lane_of request) c) { window = f.here i };
-      state_there = λ i. record (state (other (lane_of request)) c) { window = f.there i };
+      state_here = λ i. record (state (lane_of request) c) { window = pages i };
+      state_there = λ i. record (state (other (lane_of request)) c) { window = others i };
     }
 
 -- what the lane's own Place asks for

@@ -1,6 +1,7 @@
 -- That a poll of a driver is a step of its mailbox: the first request that was aborted is handed up, or else the first answer
 -- of a lane.
 use Rattle.nvme_fleet.proofs.Words.{none-some, Done, Aborted, Polled, Reply, Host, Slot, PostedAnswer, empty, ticket_in, can_hear, area, MailboxReaction, mailbox_reaction, plain, answer_reply, handed_up, polled_aborted, polled_admin, polled_io, IsStep, PollIsAStep, after_calls, most_bytes, can_be_heard, waiting_at, ◌≡◌, ℕ, zero, suc, ◌+◌, ◌-◌, ◌*◌, ◌/◌, ◌%◌, ◌⊎◌, ◌<◌, ◌≤◌, ◌==◌, Bool, true, false, not, ◌&&◌, cond, List, [], ◌∷◌, length, take, drop, Option, None, Some, refl, sym, ap, subst, ◌∙◌, arith, inl, inr, length-drop, length-set, take-take, cases_Bool, cases_lt, lt-ltb, le-ltb, length-take-le, slice_set, slice_range, option_map, if◌then◌else◌, Ok, Err, Completion, completion_of, sq_id, sq_head, status, dw0, Status, phase_tag, Lane, Admin, Io, Waiting, Ticket, queue_id, submission_queue, completion_place_in, head_doorbell, data_area, Ends, Driver, is_up, ends, consumed_ends, Controller, DeviceEnds, with_head, completion_at, after_write32, box_at, with_box, LaneBox, box, answer, front, heard, less, consumed as consumed_one, next_completion, completion_bytes, phase_of, received_in, live_in, live_at as live_slot, holds, commands_of, Both, same, other, host, state, slot_in, slots_in, commands_in, pages_of, held_by, in_order, aborted_number, Sound, EndsFit, completion_as, mailbox}
+use Rattle.nvme_fleet.proofs.LaneWindows.{each-lane}
 use Rattle.nvme_driver.specs.declared.faults.PollFault.TheVariants as poll_fault
 use Rattle.nvme_mailbox.specs.Deliveries as step
 use Rattle.nvme_wire.specs.Completion.{cid}
@@ -12,7 +13,7 @@ use Rattle.nvme_fleet.proofs.Places.{Bare}
 use Rattle.nvme_fleet.proofs.Empties.{emptied, emptied-holds, emptied-box, bare-of}
 use Rattle.nvme_fleet.proofs.Orders.{NotBelow, ticket_aborted, oldest-first, empty-order, live-freed}
 use Rattle.nvme_fleet.proofs.LaneSlots.{Own, own-at, slot-in, slots-here, slots-there, same-fetched}
-use Rattle.nvme_fleet.proofs.OneLane.{each-lane, same-holds, running, box-is, Changed, changed, AtLane, size-set, sound-at, fetched-at, mail-at}
+use Rattle.nvme_fleet.proofs.OneLane.{same-holds, running, box-is, Changed, changed, AtLane, size-set, sound-at, fetched-at, mail-at}
 use Rattle.nvme_fleet.proofs.Linking.{counts, completion-is, same-submission, Counted, counted, part-in, range-is}
 use Rattle.nvme_fleet.proofs.Registering.{head-written}
 use Rattle.nvme_fleet.proofs.RingStep.{same-ahead}

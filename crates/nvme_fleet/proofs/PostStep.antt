@@ -1,5 +1,5 @@
 -- An answer that is posted stands at the end of its lane in the mailbox, and the other lane stays.
-use Rattle.nvme_fleet.proofs.Words.{none-some, same_Some, ◌≡◌, ℕ, ◌+◌, ◌-◌, ◌*◌, ◌%◌, ◌<◌, ◌≤◌, nat_lt, true, false, eqb, List, [], ◌∷◌, ◌++◌, length, take, Some, refl, sym, ap, subst, ◌∙◌, arith, inl, inr, slice_get, slice_set, cases_Bool, lt-ltb, slice_get-map, cid, Completion, completion_entry, completion_of, FitsCompletion, completion_is_read_back, Keep, with_bytes, most_bytes, phase_tag, Lane, queue_id, submission_queue, completion_queue, data_area, Driver, is_up, waiting_at, answer_len, FetchedCommand, Controller, QueuePair, pair_with, open_pair, after_posting, after_queue_change, completion_at, CommandExecution, after_completion, FetchedItem, box_at, with_box, lane_of, after_answer, with_posted, Effect, Host, State, Slot, DeviceEnds, slot_at, item_in, finished, finished_bytes, received_in, lane_in, live_in, commands_of, box, executed as executed_one, executed_state, Both, same, other, host, state, pages_of, area, listed, slots_in, commands_in, whole, held_by, fetched_by, lane_of_queue, Sound, IsPaired, IsOfLane, mailbox, submission_as, completion_as, PostingIsAStep, PostingHasRoom, NothingToExecute, request_execution_with}
+use Rattle.nvme_fleet.proofs.Words.{none-some, same_Some, ◌≡◌, ℕ, ◌+◌, ◌-◌, ◌*◌, ◌%◌, ◌<◌, ◌≤◌, nat_lt, true, List, [], ◌∷◌, ◌++◌, cond, length, take, Some, refl, sym, ap, subst, ◌∙◌, arith, inl, inr, slice_get, slice_set, cases_Bool, lt-ltb, slice_get-map, cid, Completion, completion_entry, completion_of, FitsCompletion, completion_is_read_back, Keep, with_bytes, most_bytes, phase_tag, Lane, queue_id, submission_queue, completion_queue, data_area, Driver, is_up, waiting_at, answer_len, FetchedCommand, Controller, QueuePair, pair_with, open_pair, after_posting, after_queue_change, completion_at, CommandExecution, after_completion, FetchedItem, box_at, with_box, lane_of, after_answer, with_posted, Effect, Host, State, Slot, DeviceEnds, slot_at, item_in, finished, finished_bytes, received_in, lane_in, live_in, commands_of, box, executed as executed_one, executed_state, Both, same, other, host, state, pages_of, area, listed, slots_in, commands_in, whole, held_by, fetched_by, lane_of_queue, Sound, IsPaired, IsOfLane, mailbox, submission_as, completion_as, PostingIsAStep, PostingHasRoom, NothingToExecute, request_execution_with}
 use Rattle.std.proofs.Common.{remove}
 use Rattle.nvme_mailbox.proofs.Lists.{all-get, all-removed}
 use Rattle.std.specs.Option.{option_map}
@@ -7,37 +7,29 @@ use Rattle.nvme_fleet.proofs.PollStep.{tag-is}
 use Rattle.nvme_fleet.proofs.Totals.{map-removed}
 use Rattle.nvme_fleet.proofs.Empties.{bare-of}
 use Rattle.nvme_fleet.proofs.Executes.{Fetched as FetchedOne, fetched as fetched_one, Executes, given, execute-box, execute-holds}
-use Rattle.nvme_fleet.proofs.LaneWindows.{Same, same-both, Leaves, leaves-data, lists-data, Pages, pages, area-front}
-use Rattle.nvme_fleet.proofs.LaneSlots.{Own, own-at, slot-in, slots-here, slots-there, set-waiting, same-self, same-other}
+use Rattle.nvme_fleet.proofs.LaneWindows.{same-self, same-other, other-same, each-lane, Stored, none-stored, data-stored, page-stored, slot-apart, lists-data, area-front}
+use Rattle.nvme_fleet.proofs.LaneSlots.{Own, own-at, slot-in, slots-here, slots-there, set-waiting}
 use Rattle.nvme_fleet.proofs.Ranks.{rank, ranked-in, removed-there}
-use Rattle.nvme_fleet.proofs.OneLane.{each-lane, running, box-is, AtLane, sound-at, fetched-at, mail-at}
+use Rattle.nvme_fleet.proofs.OneLane.{running, box-is, AtLane, sound-at, fetched-at, mail-at}
 use Rattle.nvme_fleet.proofs.Linking.{counts, submission-is, completion-is, same-submission, Counted, counted}
 use Rattle.nvme_fleet.proofs.OwnCommands.{length-completion}
 
--- what an execution stores: data in the slot, the completion entry in its lane's pages, and no other part
+-- what an execution stores: data in the slot, the completion entry in its lane's pages
 record Stores (lane : Lane) (w w' : List ℕ) (s at : ℕ) (bytes entry : List ℕ) : Type 0 where
-  size : length w' ≡ length w
-  slots : (k : ℕ) → k < 24 → eqb k s ≡ false → Same w w' k
+  stored : Stored w w' s (λ l q. cond (same l lane) (with_bytes q at entry) q)
   lists : listed w' s ≡ listed w s
   data_in : take (length bytes) (area w' s) ≡ bytes
-  here : pages_of lane w' ≡ with_bytes (pages_of lane w) at entry
-  there : pages_of (other lane) w' ≡ pages_of (other lane) w
 
 stores : (lane : Lane) (w bytes entry : List ℕ) (s at : ℕ) → length w ≡ 4194304 → s < 24 → length bytes ≤ most_bytes → at + length entry ≤ 8192 →
     Stores lane w (with_bytes (with_bytes w (data_area s) bytes) (submission_queue lane + at) entry) s at bytes entry
 stores lane w bytes entry s at l a b h =
     let u = with_bytes w (data_area s) bytes in
-    let one : Leaves w u s = leaves-data w bytes s l a b in
-    let m : length u ≡ 4194304 = one.size ∙ l in
-    let two : Pages lane u (with_bytes u (submission_queue lane + at) entry) at entry = pages lane u entry at m h in
-    let own : Same u (with_bytes u (submission_queue lane + at) entry) s = two.slots s a in
+    let one = data-stored w w s (λ l q. q) bytes (none-stored w s l) a b in
+    let own = slot-apart lane u entry at s one.size h a in
     record {
-      size = two.size ∙ one.size;
-      slots = λ k i q. same-both w u (with_bytes u (submission_queue lane + at) entry) k (one.slots k i q) (two.slots k i);
+      stored = page-stored lane w u s (λ l q. q) entry at one h;
       lists = own.lists ∙ lists-data w bytes s l a b;
       data_in = ap (take (length bytes)) own.areas ∙ area-front w bytes s (omega (arith, l, a)) b;
-      here = two.here ∙ ap (λ x. with_bytes x at entry) (one.pages lane);
-      there = two.there ∙ one.pages (other lane);
     }
 
 queue-is : (t : FetchedCommand) → IsOfLane t → t.queue ≡ queue_id (lane_of_queue t.queue)
@@ -242,22 +234,24 @@ posted-at lane d c i t a bytes h =
     let e = seen-is lane d c i t k in
     let stay = ap (slots_in lane (window_then lane c t a bytes) 0) (sym (set-waiting d.slots (cid t.entry) (omega (arith, n, b.slots)))) in
     let here = ap (slots_in lane (window_then lane c t a bytes) 0) (sym (set-waiting d.slots (cid t.entry) (omega (arith, n, b.slots))))
-    ∙ slots-here lane c.window (window_then lane c t a bytes) d.slots (cid t.entry) (waiting_at d.slots (cid t.entry)) b.slots n w.slots
+    ∙ slots-here lane c.window (window_then lane c t a bytes) d.slots (cid t.entry) (waiting_at d.slots (cid t.entry)) b.slots n w.stored.slots
     ∙ ap (slice_set (slots_in lane c.window 0 d.slots) (cid t.entry))
     (o.slot (window_then lane c t a bytes) (cid t.entry)
     ∙ (λ j. record { waiting = Some o.waiting; bytes = area (window_then lane c t a bytes) (cid t.entry); list = w.lists j })
     ∙ ap (λ (s : Slot). record s { bytes = area (window_then lane c t a bytes) (cid t.entry) }) (sym e)) in
     let there = ap (slots_in (other lane) (window_then lane c t a bytes) 0) (sym (set-waiting d.slots (cid t.entry) (omega (arith, n, b.slots))))
-    ∙ slots-there (other lane) c.window (window_then lane c t a bytes) d.slots (cid t.entry) (waiting_at d.slots (cid t.entry)) b.slots n w.slots (o.absent c.window (cid t.entry)) (o.absent (window_then lane c t a bytes) (cid t.entry)) in
+    ∙ slots-there (other lane) c.window (window_then lane c t a bytes) d.slots (cid t.entry) (waiting_at d.slots (cid t.entry)) b.slots n w.stored.slots (o.absent c.window (cid t.entry)) (o.absent (window_then lane c t a bytes) (cid t.entry)) in
     let taken = removed-here lane d c i t k in
     let left = still-there lane d c i t k in
-    let pages = ap (pages_of lane) v ∙ w.here in
-    let others = ap (pages_of (other lane)) v ∙ w.there in
+    let new = finished_bytes (state lane c) (effect_of a bytes) t.entry in
+    let at = 4096 + 16 * ((state lane c).posted % 32) in
+    let pages = ap (pages_of lane) v ∙ w.stored.pages lane ∙ ap (λ x. cond x (with_bytes (pages_of lane c.window) at new) (pages_of lane c.window)) (same-self lane) in
+    let others = ap (pages_of (other lane)) v ∙ w.stored.pages (other lane) ∙ ap (λ x. cond x (with_bytes (pages_of (other lane) c.window) at new) (pages_of (other lane) c.window)) (other-same lane) in
     record {
       up = refl;
       next = refl;
       later = omega arith;
-      window = ap length v ∙ w.size;
+      window = ap length v ∙ w.stored.size ∙ sym b.window;
       slots = refl;
       host_here = ap (host lane d) v ∙ (λ j. record (host lane d c.window) { slots = here j });
       host_there = ap (host (other lane) d) v ∙ (λ j. record (host (other lane) d c.window) { slots = there j });

@@ -1,12 +1,13 @@
 -- A reset over both lanes: all that is open is aborted, by rising tickets.
 use Rattle.nvme_fleet.proofs.Words.{item_in, rising, PostedAnswer, waiting_at, empty_box, open_tickets, tickets_in, Item, FetchedItem, cid, abort, Waiting, most_bytes, ◌≡◌, ℕ, ◌+◌, ◌≤◌, List, [], ◌∷◌, ◌++◌, length, map, refl, ap, sym, ◌∙◌, arith, zero, suc, false, cond, eqb, Option, Some, None, inl, inr, map-append, length-map, cases_Bool, Completion, Slot, empty, slot_at, box, abort_slot, off, ticket_in, received_in, live_at as live_slot, commands_of, answers_of, unread, AgeIn, Ages as AgesOne, Lane, Admin, Io, same, Driver, ends, after_reset, FetchedCommand, Controller, lane_of_queue, Both, whole, slots_in, commands_in, host, state, fetched_by, held_by, in_order, aborted_number, Host, Sound, EndsFit, IsOff, mailbox}
+use Rattle.nvme_fleet.proofs.LaneWindows.{same-self}
 use Rattle.nvme_mailbox.specs.Deliveries as mail
 use Rattle.nvme_fleet.specs.Views.{reset as reset_one}
 use Rattle.nvme_fleet.proofs.Totals.{live-small}
 use Rattle.nvme_fleet.proofs.Queues.{self-eqb}
 use Rattle.nvme_fleet.proofs.Places.{no-way}
 use Rattle.nvme_fleet.proofs.Resets.{reset-holds, reset-box, Whole, whole-of, placed-part, rung-part, parts, slots_of, cids_of, ticket_slot, placed-tickets, rung-tickets, posted-tickets}
-use Rattle.nvme_fleet.proofs.LaneSlots.{slot-in, own-at, live-of, same-self}
+use Rattle.nvme_fleet.proofs.LaneSlots.{slot-in, own-at, live-of}
 use Rattle.nvme_fleet.proofs.Orders.{live_at, ticket_at, Ages, times, rising-slots, abort-all, pending-abort}
 use Rattle.nvme_fleet.proofs.OneLane.{same-holds}
 

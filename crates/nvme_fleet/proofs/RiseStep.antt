@@ -1,8 +1,8 @@
 -- Bringing up is a step of the mailbox: two rounds of a command of the driver's own.
 use Rattle.nvme_fleet.proofs.Words.{◌≡◌, ℕ, ◌<◌, Bool, true, false, List, length, Option, None, Result, Ok, refl, sym, ap, subst, ◌∙◌, arith, SqeFields, Status, submission_entry, cid as command_cid, completion_entry, with_bytes, Device, World, value_at, Admin, Up, UpFault, Calls, Driver, ends, is_up, Rises, Creates, CreatesBoth, CreatesSubmissions, create_completion_queue, create_submission_queue, csts, is_ready, fault_of, start_calls, started, Concludes, Controller, after_queue_change, Setting, setting, brought_up, recounted, Mailbox, Sound, IsOff, EndsFit, mailbox, LinkStep, BringUpIsAStep, with_controller, window_in, part-there}
+use Rattle.nvme_fleet.proofs.LaneWindows.{each-lane}
 use Rattle.nvme_fleet.proofs.Places.{no-way}
 use Rattle.nvme_fleet.proofs.Windows.{stored-length}
-use Rattle.nvme_fleet.proofs.OneLane.{each-lane}
 use Rattle.nvme_fleet.proofs.Rising.{Rises as RisesFrom, IsOwn, OwnCommand, own_window, zeroed-size, made_completions, made_submissions, risen_driver, risen_controller, risen-both, risen-mail}
 use Rattle.nvme_fleet.proofs.StartStep.{running, zeroed_all, setting_calls, calls-are, value-is, started-is, ready-value}
 use Rattle.nvme_fleet.proofs.OwnCommands.{first_change, second_change, completions-made, submissions-made, first-cid, second-cid, first-size, second-size, length-completion}

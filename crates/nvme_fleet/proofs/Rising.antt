@@ -1,9 +1,8 @@
 -- Bringing up over both lanes: both hold once the driver has come up, and the mailbox is up and counts anew.
-use Rattle.nvme_fleet.proofs.Words.{completion_of, ◌≡◌, ℕ, ◌+◌, ◌*◌, ◌<◌, ◌≤◌, List, length, map, Option, Some, refl, ap, sym, ◌∙◌, arith, true, with_bytes, State, zeros, zeroed, fresh_host, fresh_state, own_host, own_state, Resting, Holds, box, recounted, Lane, Admin, Io, Down, Up, submission_queue, Driver, is_up, started, Controller, SubmissionQueue, CompletionQueue, Both, is_failed, pages_of, slots_in, host, state, fetched_by, held_by, Sound, IsOff, mailbox, Host}
+use Rattle.nvme_fleet.proofs.Words.{completion_of, ◌≡◌, ℕ, ◌+◌, ◌*◌, List, length, map, Option, Some, refl, ap, sym, ◌∙◌, arith, ne_eqb, true, with_bytes, State, zeros, zeroed, fresh_host, fresh_state, own_host, own_state, Resting, Holds, box, recounted, Lane, Admin, Io, Down, Up, submission_queue, Driver, is_up, started, Controller, SubmissionQueue, CompletionQueue, Both, is_failed, pages_of, slots_in, host, state, fetched_by, held_by, Sound, IsOff, mailbox, Host}
 use Rattle.nvme_fleet.proofs.Ups.{Quiet, own-quiet, fresh-quiet, zeros-are, risen-holds, resting-box, quiet-box}
-use Rattle.nvme_fleet.proofs.LaneWindows.{Same, same-both, Pages, pages}
+use Rattle.nvme_fleet.proofs.LaneWindows.{each-lane, Stored, none-stored, page-stored}
 use Rattle.nvme_fleet.proofs.LaneSlots.{slots-apart}
-use Rattle.nvme_fleet.proofs.OneLane.{each-lane}
 use Rattle.nvme_fleet.proofs.StartStep.{running, zeroed_all}
 use Rattle.nvme_fleet.proofs.TurnStep.{with_admin, ends_at}
 
@@ -18,53 +17,21 @@ own_window n w o = with_bytes (with_bytes w (submission_queue Admin + 64 * n) o.
 abbrev own-page : ℕ → List ℕ → OwnCommand → List ℕ
 own-page n p o = with_bytes (with_bytes p (64 * n) o.command) (4096 + 16 * n) o.completion
 
--- stores in the pages of both lanes, as each lane sees them
-record Moves (w w' : List ℕ) (f g : List ℕ → List ℕ) : Type 0 where
-  size : length w' ≡ 4194304
-  slots : (k : ℕ) → k < 24 → Same w w' k
-  admin : pages_of Admin w' ≡ f (pages_of Admin w)
-  io : pages_of Io w' ≡ g (pages_of Io w)
-
-moves-admin : (w v : List ℕ) (f g : List ℕ → List ℕ) (bytes : List ℕ) (at : ℕ) → Moves w v f g → at + length bytes ≤ 8192 → Moves w (with_bytes v (submission_queue Admin + at) bytes) (λ p. with_bytes (f p) at bytes) g
-moves-admin w v f g bytes at m h =
-    let p : Pages Admin v (with_bytes v (submission_queue Admin + at) bytes) at bytes = pages Admin v bytes at m.size h in
-    record {
-      size = p.size ∙ m.size;
-      slots = λ k l. same-both w v (with_bytes v (submission_queue Admin + at) bytes) k (m.slots k l) (p.slots k l);
-      admin = p.here ∙ ap (λ x. with_bytes x at bytes) m.admin;
-      io = p.there ∙ m.io;
-    }
-
-moves-io : (w v : List ℕ) (f g : List ℕ → List ℕ) (bytes : List ℕ) (at : ℕ) → Moves w v f g → at + length bytes ≤ 8192 → Moves w (with_bytes v (submission_queue Io + at) bytes) f (λ p. with_bytes (g p) at bytes)
-moves-io w v f g bytes at m h =
-    let p : Pages Io v (with_bytes v (submission_queue Io + at) bytes) at bytes = pages Io v bytes at m.size h in
-    record {
-      size = p.size ∙ m.size;
-      slots = λ k l. same-both w v (with_bytes v (submission_queue Io + at) bytes) k (m.slots k l) (p.slots k l);
-      admin = p.there ∙ m.admin;
-      io = p.here ∙ ap (λ x. with_bytes x at bytes) m.io;
-    }
-
-moves-none : (w : List ℕ) → length w ≡ 4194304 → Moves w w (λ p. p) (λ p. p)
-moves-none w l = record { size = l; slots = λ k h. record { areas = refl; lists = refl }; admin = refl; io = refl }
-
 -- a command of the driver's own has 64 bytes, and a completion of 16 whose phase tag is set
 pub record IsOwn (o : OwnCommand) : Type 0 where
   pub command : length o.command ≡ 64
   pub completion : length o.completion ≡ 16
   pub phase : (completion_of o.completion).phase ≡ true
 
-moves-zeros : (w : List ℕ) → length w ≡ 4194304 → Moves w (zeroed_all w) zeroed zeroed
-moves-zeros w l =
+-- the queue pages zeroed: of both lanes, and of no slot
+zeros-stored : (w : List ℕ) → length w ≡ 4194304 → Stored w (zeroed_all w) 24 (λ l p. zeroed p)
+zeros-stored w l =
     let z : length zeros ≡ 4096 = zeros-are.long in
-    moves-io w _ _ _ zeros 4096 (moves-io w _ _ _ zeros 0 (moves-admin w _ _ _ zeros 4096 (moves-admin w w (λ p. p) (λ p. p) zeros 0 (moves-none w l) (omega (arith, z))) (omega (arith, z))) (omega (arith, z))) (omega (arith, z))
+    let s = page-stored Io w _ 24 _ zeros 4096 (page-stored Io w _ 24 _ zeros 0 (page-stored Admin w _ 24 _ zeros 4096 (page-stored Admin w w 24 _ zeros 0 (none-stored w 24 l) (omega (arith, z))) (omega (arith, z))) (omega (arith, z))) (omega (arith, z)) in
+    record { size = s.size; slots = s.slots; pages = each-lane Admin (λ l. pages_of l (zeroed_all w) ≡ zeroed (pages_of l w)) (s.pages Admin) (s.pages Io) }
 
 pub zeroed-size : (w : List ℕ) → length w ≡ 4194304 → length (zeroed_all w) ≡ 4194304
-zeroed-size w l = let m : Moves w (zeroed_all w) zeroed zeroed = moves-zeros w l in m.size
-
-moves-own : (n : ℕ) (w v : List ℕ) (o : OwnCommand) (f g : List ℕ → List ℕ) → Moves w v f g → n < 8 → IsOwn o → Moves w (own_window n v o) (λ p. own-page n (f p) o) g
-moves-own n w v o f g m h e =
-    moves-admin w _ _ _ o.completion (4096 + 16 * n) (moves-admin w v f g o.command (64 * n) m (omega (arith, h, e.command))) (omega (arith, h, e.completion))
+zeroed-size w l = (zeros-stored w l).size
 
 -- the window once a driver came up by two of them
 abbrev pub up_window : List ℕ → OwnCommand → OwnCommand → List ℕ
@@ -93,15 +60,24 @@ pub record Rises (d : Driver) (c : Controller) (first second : OwnCommand) : Typ
 resting : (l : Lane) (d : Driver) (c : Controller) (first second : OwnCommand) → Rises d c first second → Resting (host l d c.window) (state l c)
 resting l d c first second h = let b : Both d c = h.sound.both in (b.each l).down (ap is_up h.down)
 
-moves-up : (d : Driver) (c : Controller) (first second : OwnCommand) → Rises d c first second → Moves c.window (up_window c.window first second) (λ p. own-page 1 (own-page 0 (zeroed p) first) second) zeroed
-moves-up d c first second h =
-    moves-own 1 c.window _ second _ _ (moves-own 0 c.window _ first _ _ (moves-zeros c.window h.sound.both.window) (omega arith) h.command) (omega arith) h.later
+abbrev up_page : OwnCommand → OwnCommand → Lane → List ℕ → List ℕ
+up_page first second Admin p = own-page 1 (own-page 0 (zeroed p) first) second
+up_page first second Io p = zeroed p
+
+up-stored : (d : Driver) (c : Controller) (first second : OwnCommand) → Rises d c first second → Stored c.window (up_window c.window first second) 24 (up_page first second)
+up-stored d c first second h =
+    let a = h.command in
+    let b = h.later in
+    let z = zeros-stored c.window h.sound.both.window in
+    let one = page-stored Admin c.window _ 24 _ first.completion 4096 (page-stored Admin c.window (zeroed_all c.window) 24 _ first.command 0 z (omega (arith, a.command))) (omega (arith, a.completion)) in
+    let two = page-stored Admin c.window _ 24 _ second.completion 4112 (page-stored Admin c.window (own_window 0 (zeroed_all c.window) first) 24 _ second.command 64 one (omega (arith, b.command))) (omega (arith, b.completion)) in
+    record { size = two.size; slots = two.slots; pages = each-lane Admin (λ l. pages_of l (up_window c.window first second) ≡ up_page first second l (pages_of l c.window)) (two.pages Admin) (two.pages Io) }
 
 slots-up : (l : Lane) (d : Driver) (c : Controller) (first second : OwnCommand) → Rises d c first second → slots_in l (up_window c.window first second) 0 d.slots ≡ slots_in l c.window 0 d.slots
 slots-up l d c first second h =
-    let m = moves-up d c first second h in
+    let m = up-stored d c first second h in
     let b : Both d c = h.sound.both in
-    slots-apart l c.window (up_window c.window first second) 0 d.slots (λ j x y. m.slots j (omega (arith, y, b.slots)))
+    slots-apart l c.window (up_window c.window first second) 0 d.slots (λ j x y. m.slots j (omega (arith, y, b.slots)) (ne_eqb j 24 (λ e. omega (arith, e, y, b.slots))))
 
 same-quiet : (d d' : Host) (c c' : State) → Quiet d c → d' ≡ d → c' ≡ c → Quiet d' c'
 same-quiet d d' c c' q e f = rw (e, f) q
@@ -110,7 +86,7 @@ same-quiet d d' c c' q e f = rw (e, f) q
 quiet : (k : ℕ) (d : Driver) (c : Controller) (first second : OwnCommand) → Rises d c first second → (l : Lane)
     → Quiet (host l (risen_driver d) (up_window c.window first second)) (state l (risen_controller k (up_window c.window first second)))
 quiet k d c first second h Admin =
-    let m = moves-up d c first second h in
+    let m = up-stored d c first second h in
     let e = slots-up Admin d c first second h in
     let f = ap is_failed (sym h.down) in
     let a = h.command in
@@ -119,20 +95,20 @@ quiet k d c first second h Admin =
     (own-quiet (own_host (fresh_host (host Admin d c.window))) (own_state (fresh_state (state Admin c)) first.command first.completion) second.command second.completion
     (own-quiet (fresh_host (host Admin d c.window)) (fresh_state (state Admin c)) first.command first.completion (fresh-quiet (host Admin d c.window) (state Admin c) (resting Admin d c first second h)) a.command a.completion a.phase) b.command b.completion b.phase)
     (λ i. record (own_host (own_host (fresh_host (host Admin d c.window)))) { failed = f i; slots = e i })
-    (ap (λ p. record (state Admin (risen_controller k c.window)) { window = p }) m.admin)
+    (ap (λ p. record (state Admin (risen_controller k c.window)) { window = p }) (m.pages Admin))
 quiet k d c first second h Io =
-    let m = moves-up d c first second h in
+    let m = up-stored d c first second h in
     let e = slots-up Io d c first second h in
     let f = ap is_failed (sym h.down) in
     same-quiet _ _ _ _ (fresh-quiet (host Io d c.window) (state Io c) (resting Io d c first second h))
     (λ i. record (fresh_host (host Io d c.window)) { failed = f i; slots = e i })
-    (ap (λ p. record (state Io (risen_controller k c.window)) { window = p }) m.io)
+    (ap (λ p. record (state Io (risen_controller k c.window)) { window = p }) (m.pages Io))
 
 -- a driver that has come up holds in both lanes
 pub risen-both : (k : ℕ) (d : Driver) (c : Controller) (first second : OwnCommand) → Rises d c first second → Both (risen_driver d) (risen_controller k (up_window c.window first second))
 risen-both k d c first second h =
     let b : Both d c = h.sound.both in
-    let m = moves-up d c first second h in
+    let m = up-stored d c first second h in
     let q = quiet k d c first second h in
     let f = ap is_failed (sym h.down) in
     record {

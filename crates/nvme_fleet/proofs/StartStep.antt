@@ -84,26 +84,6 @@ page-is = refl
 page-size : length zero_page ≡ 4096
 page-size = ap length page-is ∙ zeros-are.long
 
-set-sizes : (k sizes asq acq v : ℕ) (w : List ℕ) → after_write32 aqa v (off_with k 0 sizes asq acq w) ≡ off_with k 0 v asq acq w
-unfolding after_write32 taking_effect after_write prepared
-set-sizes k sizes asq acq v w = refl
-
-set-asq-low : (k sizes asq acq v : ℕ) (w : List ℕ) → after_write32 asq_low v (off_with k 0 sizes asq acq w) ≡ off_with k 0 sizes (with_low asq v) acq w
-unfolding after_write32 taking_effect after_write prepared
-set-asq-low k sizes asq acq v w = refl
-
-set-asq-high : (k sizes asq acq v : ℕ) (w : List ℕ) → after_write32 asq_high v (off_with k 0 sizes asq acq w) ≡ off_with k 0 sizes (with_high asq v) acq w
-unfolding after_write32 taking_effect after_write prepared
-set-asq-high k sizes asq acq v w = refl
-
-set-acq-low : (k sizes asq acq v : ℕ) (w : List ℕ) → after_write32 acq_low v (off_with k 0 sizes asq acq w) ≡ off_with k 0 sizes asq (with_low acq v) w
-unfolding after_write32 taking_effect after_write prepared
-set-acq-low k sizes asq acq v w = refl
-
-set-acq-high : (k sizes asq acq v : ℕ) (w : List ℕ) → after_write32 acq_high v (off_with k 0 sizes asq acq w) ≡ off_with k 0 sizes asq (with_high acq v) w
-unfolding after_write32 taking_effect after_write prepared
-set-acq-high k sizes asq acq v w = refl
-
 both-halves : (x v : ℕ) → v < 2 ^ 32 → with_high (with_low x v) 0 ≡ v
 both-halves x v h = omega arith
 
@@ -146,14 +126,9 @@ last_calls =
     Writes aqa admin_sizes ∷ Writes asq_low 0 ∷ Writes asq_high 0 ∷ Writes acq_low 0x1000 ∷ Writes acq_high 0 ∷ Writes cc enabling ∷ []
 
 registers-set : (k sizes asq acq : ℕ) (w : List ℕ) → after_calls last_calls (off_with k 0 sizes asq acq w) ≡ running k 0 0 None None 0 w
+unfolding after_write32 taking_effect after_write prepared
 registers-set k sizes asq acq w =
-    let go : List Call → Controller → Controller = after_calls in
-    ap (go (Writes asq_low 0 ∷ Writes asq_high 0 ∷ Writes acq_low 0x1000 ∷ Writes acq_high 0 ∷ Writes cc enabling ∷ [])) (set-sizes k sizes asq acq admin_sizes w)
-    ∙ ap (go (Writes asq_high 0 ∷ Writes acq_low 0x1000 ∷ Writes acq_high 0 ∷ Writes cc enabling ∷ [])) (set-asq-low k admin_sizes asq acq 0 w)
-    ∙ ap (go (Writes acq_low 0x1000 ∷ Writes acq_high 0 ∷ Writes cc enabling ∷ [])) (set-asq-high k admin_sizes (with_low asq 0) acq 0 w)
-    ∙ ap (go (Writes acq_high 0 ∷ Writes cc enabling ∷ [])) (set-acq-low k admin_sizes (with_high (with_low asq 0) 0) acq 0x1000 w)
-    ∙ ap (go (Writes cc enabling ∷ [])) (set-acq-high k admin_sizes (with_high (with_low asq 0) 0) (with_low acq 0x1000) 0 w)
-    ∙ ap (λ n. after_write32 cc enabling (off_with k 0 admin_sizes n (with_high (with_low acq 0x1000) 0) w)) (both-halves asq 0 (omega arith))
+    ap (λ n. after_write32 cc enabling (off_with k 0 admin_sizes n (with_high (with_low acq 0x1000) 0) w)) (both-halves asq 0 (omega arith))
     ∙ ap (λ n. after_write32 cc enabling (off_with k 0 admin_sizes 0 n w)) (both-halves acq 0x1000 (omega arith))
     ∙ enabled k w
 
