@@ -7,9 +7,9 @@ use Rattle.nvme_spec.proofs.AdminDenials.{admin-refuses}
 use Rattle.nvme_fleet.proofs.Windows.{stored-none}
 use Rattle.nvme_fleet.proofs.AdminJudging.{IsAsked, admin-access-same, list-same, dw0-same, data-out-same, world-same}
 use Rattle.nvme_fleet.proofs.AdminKinds.{dw0-small, MovesAs, IsPlainAdmin, asked_by, plain-held, moved-is, length-out, keeps-queues, list-matters, world-matters}
-use Rattle.nvme_fleet.proofs.HeldStep.{IsHeld, held-known, pointer-passes, without-pointer, data-same, item-is, asked-in}
+use Rattle.nvme_fleet.proofs.HeldStep.{IsHeld, held-known, pointer-passes, without-pointer, data-same, asked-at, lane-at}
 use Rattle.nvme_fleet.proofs.AnswerStep.{unsuccessful, denied-with}
-use Rattle.nvme_fleet.proofs.PostStep.{lane-of-item, up-of}
+use Rattle.nvme_fleet.proofs.PostStep.{up-of}
 
 -- What is known of an admin command, its request and its slot.
 record IsAdmin (d : Driver) (c : Controller) (t : FetchedCommand) : Type 0 where
@@ -65,14 +65,9 @@ judged d c t w cntlid h =
     ∙ ap (λ rs. first_failing (rs ++ rules.list_rule (command_of (opcode (command_entry (asked_by d c t)))) w (command_entry (asked_by d c t)) (asked_by d c t).sent ∷ []))
     (sym (admin-access-same w queue_pairs cntlid t.entry (command_entry (asked_by d c t)) p.command p.asked p.named k.same))
 
--- the request that the mailbox has
-asked-is : (d : Driver) (c : Controller) (i : ℕ) (t : FetchedCommand) (x : FetchedItem) → slice_get c.fetched i ≡ Some t → slice_get (mailbox d c).fetched i ≡ Some x → t.queue ≡ 0
-    → x.item.asked ≡ asked_by d c t
-asked-is d c i t x g f q = ap (λ (y : FetchedItem). y.item.asked) (item-is d c i t x g f) ∙ asked-in Admin d c t (ap lane_of_queue q)
-
 pub admin_judged_as_its_request : AdminJudgedAsItsRequest
 admin_judged_as_its_request d c i t x w cntlid s g f q =
-    judged d c t w cntlid (admin-known d c i t s g q) ∙ ap (λ a. admin_judgement w cntlid a) (sym (asked-is d c i t x g f q))
+    judged d c t w cntlid (admin-known d c i t s g q) ∙ ap (λ a. admin_judgement w cntlid a) (sym (asked-at Admin d c i t x g f (ap lane_of_queue q)))
 
 -- The answer.
 
@@ -90,12 +85,6 @@ scattered-taken w [] [] = refl
 scattered-taken w [] (b ∷ bs) = refl
 scattered-taken w (a ∷ places) [] = refl
 scattered-taken w (a ∷ places) (b ∷ bs) = scattered-taken _ places bs
-
-lane-is : (d : Driver) (c : Controller) (i : ℕ) (t : FetchedCommand) (x : FetchedItem) → IsAdmin d c t → slice_get c.fetched i ≡ Some t → slice_get (mailbox d c).fetched i ≡ Some x → t.queue ≡ 0
-    → lane_of x.item ≡ Admin
-lane-is d c i t x h g f q =
-    let k = h.held in
-    ap (λ (y : FetchedItem). lane_of y.item) (item-is d c i t x g f) ∙ lane-of-item Admin d c t (ap lane_of_queue q) (record { received = k.received; of_lane = k.of_lane })
 
 -- an allowed command's answer, as the mailbox has it
 served-with : (d : Driver) (c : Controller) (t : FetchedCommand) (w : World) (device : Device) (cntlid : ℕ) (h : IsAdmin d c t) (command : AdminCommand) → IsAsked command
@@ -143,7 +132,7 @@ said-by tells d c i t x w device cntlid h g f q command named a m (Err e) n judg
         window = sym (stored-none c.window (data_area (cid t.entry)));
         few = omega arith;
         whole = rw r (omega arith);
-        comes_to = as-admin tells cntlid x (asked_by d c t) (record { world = w; device = device }) _ (Err e) command (lane-is d c i t x h g f q) (asked-is d c i t x g f q) judges (ap command_of same.opcode ∙ named)
+        comes_to = as-admin tells cntlid x (asked_by d c t) (record { world = w; device = device }) _ (Err e) command (lane-at Admin d c i t x h.held g f (ap lane_of_queue q)) (asked-at Admin d c i t x g f (ap lane_of_queue q)) judges (ap command_of same.opcode ∙ named)
             (denied-with d t (admin_command_execution (scene w c.window device) (execution_by (Err e) (Some command) w cntlid t.entry c.window)) w c.window device e.rule e.status r refl refl);
       },
     )
@@ -162,7 +151,7 @@ said-by tells d c i t x w device cntlid h g f q command named a m (Ok u) n judge
         window = stands-there d c t h (data_out w cntlid command t.entry) (data_length command t.entry) moved (omega (arith, size, less));
         few = omega (arith, size, less, most);
         whole = omega (arith, size, back);
-        comes_to = as-admin tells cntlid x (asked_by d c t) (record { world = w; device = device }) _ (Ok u) command (lane-is d c i t x h g f q) (asked-is d c i t x g f q) judges (ap command_of same.opcode ∙ named)
+        comes_to = as-admin tells cntlid x (asked_by d c t) (record { world = w; device = device }) _ (Ok u) command (lane-at Admin d c i t x h.held g f (ap lane_of_queue q)) (asked-at Admin d c i t x g f (ap lane_of_queue q)) judges (ap command_of same.opcode ∙ named)
             (served-with d c t w device cntlid h command a m size);
       },
     )

@@ -4,9 +4,8 @@ use Rattle.nvme_spec.specs.IoData as spec
 use Rattle.nvme_fleet.proofs.Windows.{stored-none}
 use Rattle.nvme_fleet.proofs.Commands.{SameFields}
 use Rattle.nvme_fleet.proofs.Judging.{length-same, same-count, same-lba}
-use Rattle.nvme_fleet.proofs.PostStep.{lane-of-item}
-use Rattle.nvme_fleet.proofs.HeldStep.{item-is}
-use Rattle.nvme_fleet.proofs.JudgeStep.{io-known, asked-is, judged_as_its_request}
+use Rattle.nvme_fleet.proofs.HeldStep.{asked-at, lane-at}
+use Rattle.nvme_fleet.proofs.JudgeStep.{io-known, judged_as_its_request}
 use Rattle.nvme_fleet.proofs.ServeStep.{asked_by, allowed_serves_its_request}
 
 plan-same : (command : Command) (x y : List ℕ) → SameFields x y → plan_of command y ≡ plan_of command x
@@ -27,17 +26,11 @@ verdict-is : (d : Driver) (c : Controller) (i : ℕ) (t : FetchedCommand) (x : F
     (f : slice_get (mailbox d c).fetched i ≡ Some x) (q : t.queue ≡ 1) → io_verdict w cntlid x.item.asked x.marked ≡ spec.io_verdict w cntlid t.entry t.marked c.window
 verdict-is d c i t x w cntlid s g f q =
     let k = io-known d c i t s g q in
-    let e : x.item.asked ≡ asked_by d c t = ap (λ (y : FetchedItem). y.item.asked) (item-is d c i t x g f) ∙ asked-is d c t q in
+    let e : x.item.asked ≡ asked_by d c t = asked-at Io d c i t x g f (ap lane_of_queue q) in
     let m : SameFields t.entry (command_entry x.item.asked) = subst (λ a. SameFields t.entry (command_entry a)) (sym e) k.same in
     conclusion-same (io_judgement w cntlid x.item.asked x.marked) (command_of (opcode (command_entry x.item.asked))) t.entry (command_entry x.item.asked) m
     ∙ ap (λ n. conclusion (io_judgement w cntlid x.item.asked x.marked) (command_of n) t.entry) m.opcode
     ∙ ap (λ j. conclusion j (command_of (opcode t.entry)) t.entry) (sym (judged_as_its_request d c i t x w cntlid s g f q))
-
-lane-is : (d : Driver) (c : Controller) (i : ℕ) (t : FetchedCommand) (x : FetchedItem) (s : Sound d c) (g : slice_get c.fetched i ≡ Some t)
-    (f : slice_get (mailbox d c).fetched i ≡ Some x) (q : t.queue ≡ 1) → lane_of x.item ≡ Io
-lane-is d c i t x s g f q =
-    let k = io-known d c i t s g q in
-    ap (λ (y : FetchedItem). lane_of y.item) (item-is d c i t x g f) ∙ lane-of-item Io d c t (ap lane_of_queue q) (record { received = k.received; of_lane = k.of_lane })
 
 as-io : (tells : Bool) (cntlid : ℕ) (x : FetchedItem) (s : Site) (r : RequestExecution) (v : Verdict) → lane_of x.item ≡ Io → io_verdict s.world cntlid x.item.asked x.marked ≡ v
     → IoRequestComesTo v tells cntlid x.item.asked s r → RequestComesTo tells cntlid x s r
@@ -63,7 +56,7 @@ answered-by tells d c i t x w device cntlid a s g f q (Denied number why) e n h 
   window = ap (λ z. z.window) h.0 ∙ sym (stored-none c.window (data_area (cid t.entry)));
   few = omega arith;
   whole = (let o = h.1 in let m = unsuccessful why n in rw (o, m) (omega arith));
-  comes_to = as-io tells cntlid x (record { world = w; device = device }) (request_execution_with d t a []) (Denied number why) (lane-is d c i t x s g f q) (verdict-is d c i t x w cntlid s g f q ∙ e)
+  comes_to = as-io tells cntlid x (record { world = w; device = device }) (request_execution_with d t a []) (Denied number why) (lane-at Io d c i t x (io-known d c i t s g q) g f (ap lane_of_queue q)) (verdict-is d c i t x w cntlid s g f q ∙ e)
       (denied-with d t a w c.window device number why (unsuccessful why n) h.0 h.1);
 }
 answered-by tells d c i t x w device cntlid a s g f q (Allowed plan) e n h =
@@ -73,7 +66,7 @@ answered-by tells d c i t x w device cntlid a s g f q (Allowed plan) e n h =
       window = r.window;
       few = r.few;
       whole = r.whole;
-      comes_to = as-io tells cntlid x (record { world = w; device = device }) (request_execution_with d t a r.bytes) (Allowed plan) (lane-is d c i t x s g f q) (verdict-is d c i t x w cntlid s g f q ∙ e) r.served;
+      comes_to = as-io tells cntlid x (record { world = w; device = device }) (request_execution_with d t a r.bytes) (Allowed plan) (lane-at Io d c i t x (io-known d c i t s g q) g f (ap lane_of_queue q)) (verdict-is d c i t x w cntlid s g f q ∙ e) r.served;
     }
 
 pub answers_its_request : AnswersItsRequest

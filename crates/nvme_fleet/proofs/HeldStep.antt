@@ -1,5 +1,5 @@
 -- A fetched command of a lane, its slot, and the request that the mailbox has in its place.
-use Rattle.nvme_fleet.proofs.Words.{same_Some, ◌≡◌, ℕ, ◌-◌, ◌<◌, List, [], ◌∷◌, ◌++◌, length, take, drop, Some, Ok, refl, sym, ap, subst, ◌∙◌, arith, slice_get, take-take, SqeFields, cid, most_bytes, Rule, judgement_by, else_by, first_failing, pointer_rule, data_in, first_failing-append, Lane, data_area, stored_list, waiting_at, Driver, FetchedCommand, Controller, FetchedItem, command_entry, Slot, asked_in, item_in, lane_in, received_in, area, listed, Sound, mailbox, lane_of_queue}
+use Rattle.nvme_fleet.proofs.Words.{same_Some, ◌≡◌, ℕ, ◌-◌, ◌<◌, List, [], ◌∷◌, ◌++◌, length, take, drop, Some, Ok, refl, sym, ap, subst, ◌∙◌, arith, slice_get, take-take, SqeFields, cid, most_bytes, Rule, judgement_by, else_by, first_failing, pointer_rule, data_in, first_failing-append, Lane, data_area, stored_list, waiting_at, Driver, FetchedCommand, Controller, FetchedItem, command_entry, Slot, Asked, lane_of, asked_in, item_in, lane_in, received_in, area, listed, Sound, mailbox, lane_of_queue}
 use Rattle.nvme_fleet.proofs.Commands.{IsSuited, is-suited, SameFields, same-fields, read-so}
 use Rattle.nvme_fleet.proofs.Transferring.{IsMoved, moved}
 use Rattle.nvme_fleet.proofs.PostStep.{Known, known, slot_seen, seen-is, seen, item_at, found-at}
@@ -65,3 +65,11 @@ item-is d c i t x g f = same_Some x (item_at d c t) (sym f ∙ found-at d c i t 
 pub asked-in : (lane : Lane) (d : Driver) (c : Controller) (t : FetchedCommand) → lane_of_queue t.queue ≡ lane → (item_at d c t).item.asked ≡ asked_in (slot_seen lane d c t) t.entry
 unfolding item_in
 asked-in lane d c t q = ap (λ l. asked_in (slot_seen l d c t) t.entry) q
+
+pub asked-at : (lane : Lane) (d : Driver) (c : Controller) (i : ℕ) (t : FetchedCommand) (x : FetchedItem) → slice_get c.fetched i ≡ Some t → slice_get (mailbox d c).fetched i ≡ Some x → lane_of_queue t.queue ≡ lane
+    → x.item.asked ≡ asked_in (slot_seen lane d c t) t.entry
+asked-at lane d c i t x g f q = ap (λ (y : FetchedItem). y.item.asked) (item-is d c i t x g f) ∙ asked-in lane d c t q
+
+pub lane-at : (lane : Lane) (d : Driver) (c : Controller) (i : ℕ) (t : FetchedCommand) (x : FetchedItem) → IsHeld lane d c t → slice_get c.fetched i ≡ Some t → slice_get (mailbox d c).fetched i ≡ Some x
+    → lane_of_queue t.queue ≡ lane → lane_of x.item ≡ lane
+lane-at lane d c i t x h g f q = ap (λ (a : Asked). a.command.lane) (asked-at lane d c i t x g f q) ∙ h.of_lane

@@ -4,7 +4,7 @@ use Rattle.nvme_spec.specs.declared.command.Command.TheVariants as io
 use Rattle.nvme_spec.specs.Commands as io_commands
 use Rattle.nvme_spec.specs.IoData as spec
 use Rattle.nvme_fleet.proofs.Judging.{access-same, reservation-same}
-use Rattle.nvme_fleet.proofs.PostStep.{slot_seen, item_at}
+use Rattle.nvme_fleet.proofs.PostStep.{slot_seen}
 use Rattle.nvme_fleet.proofs.HeldStep.{IsHeld, held-known, pointer-passes, without-pointer, data-same, item-is, asked-in}
 
 -- What is known of an I/O command and its slot.
@@ -66,9 +66,6 @@ judged d c t w cntlid h =
     ∙ ap (λ o. first_failing (access_rules w cntlid t.entry t.marked ++ action_rule o ∷ [])) (action-is d c t w cntlid h)
     ∙ ap (λ rs. first_failing (rs ++ action_rule (action_of w cntlid (asked_in (slot_seen Io d c t) t.entry)) ∷ [])) (sym (access-same w cntlid t.entry (command_entry (asked_in (slot_seen Io d c t) t.entry)) t.marked h.same))
 
-pub asked-is : (d : Driver) (c : Controller) (t : FetchedCommand) → t.queue ≡ 1 → (item_at d c t).item.asked ≡ asked_in (slot_seen Io d c t) t.entry
-asked-is d c t q = asked-in Io d c t (ap lane_of_queue q)
-
 pub io-known : (d : Driver) (c : Controller) (i : ℕ) (t : FetchedCommand) → Sound d c → slice_get c.fetched i ≡ Some t → t.queue ≡ 1 → IsIo d c t
 io-known d c i t s g q = held-known Io d c i t s g (ap lane_of_queue q)
 
@@ -77,5 +74,5 @@ judged_as_its_request d c i t x w cntlid s g f q =
     let h = io-known d c i t s g q in
     let e = item-is d c i t x g f in
     judged d c t w cntlid h
-    ∙ ap (λ a. io_judgement w cntlid a t.marked) (sym (asked-is d c t q))
+    ∙ ap (λ a. io_judgement w cntlid a t.marked) (sym (asked-in Io d c t (ap lane_of_queue q)))
     ∙ ap (λ (y : FetchedItem). io_judgement w cntlid y.item.asked y.marked) (sym e)

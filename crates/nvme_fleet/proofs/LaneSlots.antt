@@ -112,12 +112,10 @@ own-zero : (l : Lane) (x : List ℕ) (i : ℕ) (us : List (List ℕ)) → comman
 own-zero Admin x i us h = cond-zero (eqb (cid x) i) (commands_of i us) h
 own-zero Io x i us h = cond-zero (eqb (cid x) i) (commands_of i us) h
 
-rest-zero : (lane : Lane) (t : FetchedCommand) (ts : List FetchedCommand) (i : ℕ) → commands_of i (commands_in lane (t ∷ ts)) ≡ 0 → commands_of i (commands_in lane ts) ≡ 0
-rest-zero lane t ts i h = elim (cases_Bool (same (lane_of_queue t.queue) lane)) [
-  | inl e ↦
-      let y : commands_of i (t.entry ∷ commands_in lane ts) ≡ 0 = rw e at h in
-      omega (arith, y)
-  | inr e ↦ rw e at h
+pub rest-fewer : (lane : Lane) (t : FetchedCommand) (ts : List FetchedCommand) (i : ℕ) → commands_of i (commands_in lane ts) ≤ commands_of i (commands_in lane (t ∷ ts))
+rest-fewer lane t ts i = elim (cases_Bool (same (lane_of_queue t.queue) lane)) [
+  | inl e ↦ rw e (omega arith)
+  | inr e ↦ rw e (omega arith)
 ]
 
 same-item : (f g : ℕ → Slot) (x : List ℕ) → g (cid x) ≡ f (cid x) → item g x ≡ item f x
@@ -129,4 +127,4 @@ pub same-fetched : (f g : Lane → ℕ → Slot) (i : ℕ) → ((l : Lane) → A
 same-fetched f g i a [] z = refl
 same-fetched f g i a (t ∷ ts) z =
     let p = own-zero (lane_of_queue t.queue) t.entry i (commands_in (lane_of_queue t.queue) ts) (z (lane_of_queue t.queue)) in
-    rw (same-item (f (lane_of_queue t.queue)) (g (lane_of_queue t.queue)) t.entry (a (lane_of_queue t.queue) (cid t.entry) p), same-fetched f g i a ts (λ l. rest-zero l t ts i (z l))) refl
+    rw (same-item (f (lane_of_queue t.queue)) (g (lane_of_queue t.queue)) t.entry (a (lane_of_queue t.queue) (cid t.entry) p), same-fetched f g i a ts (λ l. omega (arith, z l, rest-fewer l t ts i))) refl

@@ -66,31 +66,16 @@ new-some lane d w x h e = elim (cases_Bool (is_next lane d w)) [
 
 -- Aborted requests.
 
-number-is : (o : Option Waiting) (t : Ticket) → poll.aborted_ticket o ≡ Some t → aborted_number o ≡ Some t.0
-number-is None t e = absurd (cc (e))
-number-is (Some w) t e = elim (cases_Bool w.live) [
-  | inl l ↦ absurd (none-some t (sym (ap (λ b. if b then None else Some w.ticket) l) ∙ e))
-  | inr l ↦
-      let f : Some w.ticket ≡ Some t = sym (ap (λ b. if b then None else Some w.ticket) l) ∙ e in
-      ap (λ b. cond b None (Some w.ticket.0)) l ∙ ap (option_map (λ (x : Ticket). x.0)) f
+number-is : (o : Option Waiting) → aborted_number o ≡ option_map (λ (t : Ticket). t.0) (poll.aborted_ticket o)
+number-is None = refl
+number-is (Some w) = elim (cases_Bool w.live) [
+  | inl l ↦ rw l refl
+  | inr l ↦ rw l refl
 ]
 
-number-none : (o : Option Waiting) → poll.aborted_ticket o ≡ None → aborted_number o ≡ None
-number-none None e = refl
-number-none (Some w) e = elim (cases_Bool w.live) [
-  | inl l ↦ ap (λ b. cond b None (Some w.ticket.0)) l
-  | inr l ↦ absurd (some-none w.ticket (sym (ap (λ b. if b then None else Some w.ticket) l) ∙ e))
-]
-  where
-    some-none : (y : Ticket) → Some y ≡ None → ⊥
-    some-none y h = cc
-
-below-is : (t : Ticket) (o : Option Waiting) → poll.IsNotBelow t (poll.aborted_ticket o) → NotBelow t.0 (aborted_number o)
+below-is : (t : Ticket) (o : Option Ticket) → poll.IsNotBelow t o → NotBelow t.0 (option_map (λ (u : Ticket). u.0) o)
 below-is t None h = tt
-below-is t (Some w) h = elim (cases_Bool w.live) [
-  | inl l ↦ rw l tt
-  | inr l ↦ rw l (rw l at h)
-]
+below-is t (Some u) h = h
 
 waiting-past : (xs : List (Option Waiting)) (i : ℕ) → length xs ≤ i → waiting_at xs i ≡ None
 waiting-past [] i h = refl
@@ -138,13 +123,13 @@ aborts : (d : Driver) (c : Controller) (i : ℕ) (t : Ticket) → Sound d c → 
     → IsStep (step.polled (mailbox d c)) (poll.freed d i) c (plain (Polled (Ok (Some (Aborted t)))))
 aborts d c i t s e low =
     let b : Both d c = s.both in
-    let n = number-is (waiting_at d.slots i) t e in
+    let n = number-is (waiting_at d.slots i) ∙ ap (option_map (λ (u : Ticket). u.0)) e in
     let g = dead d.slots i t.0 n in
     let hosts : (l : Lane) → host l (poll.freed d i) c.window ≡ emptied (host l d c.window) i = λ l. freed-host l d c.window i b.slots (omega (arith, g.within, b.slots)) in
     let bare : (l : Lane) → Bare (host l d c.window) (state l c) i = λ l. bare-of b.first _ _ i (b.each l) (g.idle l c.window) in
     let boxes : (l : Lane) → box (host l (poll.freed d i) c.window) (state l c) ≡ box (host l d c.window) (state l c) =
     λ l. ap (λ (u : Host). box u (state l c)) (hosts l) ∙ emptied-box (host l d c.window) (state l c) i (bare l) in
-    let f = oldest-first d.slots i t.0 n (λ k. below-is t (waiting_at d.slots k) (low k)) in
+    let f = oldest-first d.slots i t.0 n (λ k. subst (NotBelow t.0) (sym (number-is (waiting_at d.slots k))) (below-is t (poll.aborted_at d.slots k) (low k))) in
     let taken = same-fetched (held_by d c.window) (held_by (poll.freed d i) c.window) i
     (λ l k q. ap (λ (u : Host). holds u k) (hosts l) ∙ apart-set (slots_in l c.window 0 d.slots) i empty k q) c.fetched (λ l. (bare l).taken) in
     let admin = boxes Admin in
@@ -431,7 +416,7 @@ pub poll_is_a_step : PollIsAStep
 poll_is_a_step d c (Some i) s h =
     subst (λ o. IsStep (step.polled (mailbox d c)) (poll.freed d i) c (plain (Polled (Ok (Some (Aborted (poll.ticket_of o))))))) (sym h.1) (aborts d c i h.0 s h.1 h.2)
 poll_is_a_step d c None s h =
-    let n = empty-order aborted_number d.slots (λ k. number-none (waiting_at d.slots k) (h k)) in
+    let n = empty-order aborted_number d.slots (λ k. number-is (waiting_at d.slots k) ∙ ap (option_map (λ (u : Ticket). u.0)) (h k)) in
     subst (λ y. IsStep y (poll.polled d None c.window).driver (after_calls (poll.polled d None c.window).calls c) (poll_reply (poll.polled d None c.window))) (sym (ap (λ ts. polled_aborted ts (mailbox d c)) n))
     (elim (cases_Bool (is_up d.state)) [
       | inl u ↦ subst (λ t. Polls t d c) (sym u) (all-found d c s u)

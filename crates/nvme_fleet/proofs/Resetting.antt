@@ -1,5 +1,5 @@
 -- A reset over both lanes: all that is open is aborted, by rising tickets.
-use Rattle.nvme_fleet.proofs.Words.{item_in, rising, PostedAnswer, waiting_at, empty_box, open_tickets, tickets_in, Item, FetchedItem, cid, abort, Waiting, most_bytes, ◌≡◌, ℕ, ◌+◌, ◌≤◌, List, [], ◌∷◌, ◌++◌, length, map, refl, ap, sym, ◌∙◌, arith, zero, suc, false, cond, eqb, Option, Some, None, inl, inr, map-append, length-map, cases_Bool, Completion, Slot, empty, slot_at, box, abort_slot, off, ticket_in, received_in, live_at as live_slot, commands_of, answers_of, unread, AgeIn, Ages as AgesOne, Lane, Admin, Io, same, Driver, ends, after_reset, FetchedCommand, Controller, lane_of_queue, Both, whole, slots_in, commands_in, host, state, fetched_by, held_by, in_order, aborted_number, Host, Sound, EndsFit, IsOff, mailbox}
+use Rattle.nvme_fleet.proofs.Words.{item_in, rising, waiting_at, empty_box, open_tickets, tickets_in, FetchedItem, cid, abort, Waiting, most_bytes, ◌≡◌, ℕ, ◌+◌, ◌≤◌, List, [], ◌∷◌, ◌++◌, length, map, refl, ap, sym, ◌∙◌, arith, zero, suc, false, cond, eqb, Option, Some, None, inl, inr, map-append, length-map, cases_Bool, Completion, Slot, empty, slot_at, box, abort_slot, off, ticket_in, received_in, live_at as live_slot, commands_of, answers_of, unread, AgeIn, Ages as AgesOne, Lane, Admin, Io, same, Driver, ends, after_reset, FetchedCommand, Controller, lane_of_queue, Both, whole, slots_in, commands_in, host, state, fetched_by, held_by, in_order, aborted_number, Sound, EndsFit, IsOff, mailbox}
 use Rattle.nvme_fleet.proofs.LaneWindows.{same-self}
 use Rattle.nvme_mailbox.specs.Deliveries as mail
 use Rattle.nvme_fleet.specs.Views.{reset as reset_one}
@@ -7,7 +7,7 @@ use Rattle.nvme_fleet.proofs.Totals.{live-small}
 use Rattle.nvme_fleet.proofs.Queues.{self-eqb}
 use Rattle.nvme_fleet.proofs.Places.{no-way}
 use Rattle.nvme_fleet.proofs.Resets.{reset-holds, reset-box, Whole, whole-of, placed-part, rung-part, parts, slots_of, cids_of, ticket_slot, placed-tickets, rung-tickets, posted-tickets}
-use Rattle.nvme_fleet.proofs.LaneSlots.{slot-in, own-at, live-of}
+use Rattle.nvme_fleet.proofs.LaneSlots.{rest-fewer, slot-in, own-at, live-of}
 use Rattle.nvme_fleet.proofs.Orders.{live_at, ticket_at, Ages, times, rising-slots, abort-all, pending-abort}
 use Rattle.nvme_fleet.proofs.OneLane.{same-holds}
 
@@ -107,14 +107,6 @@ own-more t ts n e =
     ap (λ b. commands_of n (cond b (t.entry ∷ commands_in (lane_of_queue t.queue) ts) (commands_in (lane_of_queue t.queue) ts))) (same-self (lane_of_queue t.queue)) ∙
     ap (λ b. cond b 1 0 + commands_of n (commands_in (lane_of_queue t.queue) ts)) (ap (λ m. eqb m n) (sym e) ∙ self-eqb n n refl)
 
-fewer-taken : (lane : Lane) (t : FetchedCommand) (ts : List FetchedCommand) (i k : ℕ) → commands_of i (commands_in lane (t ∷ ts)) ≤ k → commands_of i (commands_in lane ts) ≤ k
-fewer-taken lane t ts i k h = elim (cases_Bool (same (lane_of_queue t.queue) lane)) [
-  | inl e ↦
-      let y : commands_of i (t.entry ∷ commands_in lane ts) ≤ k = rw e at h in
-      omega (arith, y)
-  | inr e ↦ rw e at h
-]
-
 -- what was fetched has the tickets of its slots
 taken-tickets : (d : Driver) (w : List ℕ) (ts : List FetchedCommand) → ((lane : Lane) (i : ℕ) → commands_of i (commands_in lane ts) ≤ live_slot (slots_in lane w 0 d.slots) i) →
     map (λ (f : FetchedItem). f.item.ticket) (map (fetched_by (held_by d w)) ts) ≡ map (ticket_at d.slots) (slots_taken ts)
@@ -124,7 +116,7 @@ taken-tickets d w (t ∷ ts) h =
     let n : ℕ = cid t.entry in
     let l : live_slot (slots_in (lane_of_queue t.queue) w 0 d.slots) n ≡ 1 =
     omega (arith, h (lane_of_queue t.queue) n, own-more t ts n refl, live-small (slot_at (slots_in (lane_of_queue t.queue) w 0 d.slots) n)) in
-    rw (ticket-same (lane_of_queue t.queue) w d.slots n l, taken-tickets d w ts (λ lane i. fewer-taken lane t ts i _ (h lane i))) refl
+    rw (ticket-same (lane_of_queue t.queue) w d.slots n l, taken-tickets d w ts (λ lane i. omega (arith, h lane i, rest-fewer lane t ts i))) refl
 
 times-slots : (i : ℕ) (xs : List (List ℕ)) → times i (slots_of xs) ≡ commands_of i xs
 times-slots i [] = refl
@@ -140,24 +132,6 @@ times-append i (x ∷ xs) ys = omega (arith, times-append i xs ys)
 
 abbrev WholeIn : Lane → Driver → Controller → Type 0
 WholeIn lane d c = Whole (host lane d c.window) (state lane c)
-
--- the tickets of a lane of the mailbox, by its slots
-record Lists (lane : Lane) (d : Driver) (c : Controller) : Type 0 where
-  placed : map (λ (i : Item). i.ticket) (box (host lane d c.window) (state lane c)).placed ≡ map (ticket_at d.slots) (slots_of (placed-part (host lane d c.window) (state lane c)))
-  rung : map (λ (i : Item). i.ticket) (box (host lane d c.window) (state lane c)).rung ≡ map (ticket_at d.slots) (slots_of (rung-part (state lane c)))
-  posted : map (λ (p : PostedAnswer). p.ticket) (box (host lane d c.window) (state lane c)).posted ≡ map (ticket_at d.slots) (cids_of (unread (host lane d c.window) (state lane c)))
-
-lists : (lane : Lane) (d : Driver) (c : Controller) → WholeIn lane d c → Lists lane d c
-lists lane d c w =
-    let h : Host = host lane d c.window in
-    let p = placed-part (host lane d c.window) (state lane c) in
-    let r = rung-part (state lane c) in
-    let u = unread (host lane d c.window) (state lane c) in
-    record {
-      placed = placed-tickets (host lane d c.window) (state lane c) ∙ tickets-same lane c.window d.slots (slots_of p) (λ i. omega (arith, w.carried i, parts _ _ i w, times-slots i p));
-      rung = rung-tickets (host lane d c.window) (state lane c) ∙ tickets-same lane c.window d.slots (slots_of r) (λ i. omega (arith, w.carried i, parts _ _ i w, times-slots i r));
-      posted = posted-tickets (host lane d c.window) (state lane c) ∙ tickets-same lane c.window d.slots (cids_of u) (λ i. omega (arith, w.carried i, times-cids i u));
-    }
 
 taken-bound : (d : Driver) (c : Controller) → ((l : Lane) → WholeIn l d c) → (lane : Lane) (i : ℕ) → commands_of i (commands_in lane c.fetched) ≤ live_slot (slots_in lane c.window 0 d.slots) i
 taken-bound d c a lane i = omega (arith, (a lane).carried i)
@@ -177,17 +151,6 @@ map-three f a b c = rw (map-append f (a ++ b) c, map-append f a b) refl
 times-three : (i : ℕ) (a b c : List ℕ) → times i (a ++ b ++ c) ≡ times i a + times i b + times i c
 times-three i a b c = omega (arith, times-append i (a ++ b) c, times-append i a b)
 
-lane-named : (lane : Lane) (d : Driver) (c : Controller) → WholeIn lane d c → tickets_in (box (host lane d c.window) (state lane c)) ≡ map (ticket_at d.slots) (named_in lane d c)
-lane-named lane d c w =
-    let p : Lists lane d c = lists lane d c w in
-    rw (p.placed, p.rung, p.posted) (map-three (ticket_at d.slots) _ _ _)
-
-outstanding-named : (d : Driver) (c : Controller) → ((l : Lane) → WholeIn l d c) → open_tickets (mailbox d c) ≡ rising (map (ticket_at d.slots) (all_named d c))
-unfolding open_tickets
-outstanding-named d c w =
-    ap rising (λ i. lane-named Admin d c (w Admin) i ++ lane-named Io d c (w Io) i ++ taken-tickets d c.window c.fetched (taken-bound d c w) i)
-    ∙ ap rising (map-three (ticket_at d.slots) (named_in Admin d c) (named_in Io d c) (slots_taken c.fetched))
-
 lane-times : (lane : Lane) (d : Driver) (c : Controller) (i : ℕ) → WholeIn lane d c →
     times i (named_in lane d c) + commands_of i (commands_in lane c.fetched) ≡ live_slot (slots_in lane c.window 0 d.slots) i
 lane-times lane d c i w =
@@ -203,6 +166,17 @@ lane-times lane d c i w =
       w.carried i,
       parts (host lane d c.window) (state lane c) i w,
     )
+
+lane-named : (lane : Lane) (d : Driver) (c : Controller) → WholeIn lane d c → tickets_in (box (host lane d c.window) (state lane c)) ≡ map (ticket_at d.slots) (named_in lane d c)
+lane-named lane d c w =
+    rw (placed-tickets (host lane d c.window) (state lane c), rung-tickets (host lane d c.window) (state lane c), posted-tickets (host lane d c.window) (state lane c))
+    (map-three (ticket_slot (slots_in lane c.window 0 d.slots)) _ _ _ ∙ tickets-same lane c.window d.slots (named_in lane d c) (λ i. omega (arith, lane-times lane d c i w)))
+
+outstanding-named : (d : Driver) (c : Controller) → ((l : Lane) → WholeIn l d c) → open_tickets (mailbox d c) ≡ rising (map (ticket_at d.slots) (all_named d c))
+unfolding open_tickets
+outstanding-named d c w =
+    ap rising (λ i. lane-named Admin d c (w Admin) i ++ lane-named Io d c (w Io) i ++ taken-tickets d c.window c.fetched (taken-bound d c w) i)
+    ∙ ap rising (map-three (ticket_at d.slots) (named_in Admin d c) (named_in Io d c) (slots_taken c.fetched))
 
 named-times : (d : Driver) (c : Controller) → ((l : Lane) → WholeIn l d c) → (i : ℕ) → times i (all_named d c) ≡ live_at d.slots i
 named-times d c w i =

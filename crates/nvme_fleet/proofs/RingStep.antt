@@ -1,5 +1,5 @@
 -- A ring is a step of the mailbox: of one lane, and then of the other.
-use Rattle.nvme_fleet.proofs.Words.{◌≡◌, ℕ, ◌+◌, ◌-◌, ◌%◌, ◌^◌, ◌<◌, true, false, [], ◌∷◌, Some, refl, sym, ap, subst, ◌∙◌, arith, inl, inr, cases_Bool, lt-ltb, slice_set, option_map, if◌then◌else◌, Ok, Err, Lane, Admin, Io, queue_id, tail_doorbell, Driver, is_up, ends, tail_of, ring_calls, Writes, Controller, with_tail, submission_at, after_write32, Rung, Mailbox, MailboxReaction, mailbox_reaction, box_at, with_box, rung, ring_lane, in_flight, DeviceEnds, Both, host, state, Sound, submission_as, mailbox, IsStep, RingIsAStep, after_calls, rung_reply}
+use Rattle.nvme_fleet.proofs.Words.{◌≡◌, ℕ, ◌+◌, ◌-◌, ◌%◌, ◌^◌, ◌<◌, true, Bool, [], ◌∷◌, Some, refl, sym, ap, subst, ◌∙◌, arith, inl, inr, cases_Bool, lt-ltb, slice_set, option_map, if◌then◌else◌, Ok, Err, Lane, Admin, Io, queue_id, tail_doorbell, Driver, is_up, ends, tail_of, Writes, Controller, with_tail, submission_at, after_write32, Rung, Mailbox, mailbox_reaction, box_at, with_box, ring_lane, in_flight, DeviceEnds, Both, host, state, Sound, submission_as, mailbox, IsStep, RingIsAStep, after_calls, rung_reply}
 use Rattle.nvme_fleet.specs.Views.{rung as rung_state}
 use Rattle.nvme_fleet.proofs.Fetches.{ring-box, ring-running, same-up}
 use Rattle.nvme_fleet.proofs.Registering.{tail-written}
@@ -61,40 +61,28 @@ is-rung lane d c s u =
 tail-small : (n : ℕ) → n % 8 < 2 ^ 16
 tail-small n = omega arith
 
-up-step : (d : Driver) (c : Controller) → Sound d c → is_up d.state ≡ true → IsStep (rung (mailbox d c)) d (after_calls (ring_calls d) c) (rung_reply true)
+-- the step of a ring, by whether the driver is up
+abbrev Rings : Bool → Driver → Controller → Type 0
+Rings t d c =
+    IsStep (if t then mailbox_reaction (record (mailbox d c) { admin = ring_lane (mailbox d c).admin; io = ring_lane (mailbox d c).io }) (Rung (Ok tt)) else mailbox_reaction (mailbox d c) (Rung (Err (record {})))) d
+    (after_calls (if t then Writes (tail_doorbell Admin) (tail_of d.admin) ∷ Writes (tail_doorbell Io) (tail_of d.io) ∷ [] else []) c) (rung_reply t)
+
+up-step : (d : Driver) (c : Controller) → Sound d c → is_up d.state ≡ true → Rings true d c
 up-step d c s u =
-    let m : Mailbox = mailbox d c in
     let one = is-rung Admin d c s u in
     let two = is-rung Io d (rung_one Admin d c) one.sound u in
     let p = s.up u in
     let q = one.sound.up u in
-    let e : after_calls (ring_calls d) c ≡ rung_one Io d (rung_one Admin d c) =
-    ap (λ t. after_calls (if t then Writes (tail_doorbell Admin) (tail_of d.admin) ∷ Writes (tail_doorbell Io) (tail_of d.io) ∷ [] else []) c) u
-    ∙ ap (after_write32 (tail_doorbell Io) (tail_of d.io)) (tail-written Admin c (tail_of d.admin) p.enabled p.ready (tail-small d.admin.tail.put))
+    let e = ap (after_write32 (tail_doorbell Io) (tail_of d.io)) (tail-written Admin c (tail_of d.admin) p.enabled p.ready (tail-small d.admin.tail.put))
     ∙ tail-written Io (rung_one Admin d c) (tail_of d.io) q.enabled q.ready (tail-small d.io.tail.put) in
-    let f : rung (mailbox d c) ≡ mailbox_reaction (record (mailbox d c) { admin = ring_lane (mailbox d c).admin; io = ring_lane (mailbox d c).io }) (Rung (Ok tt)) =
-    ap (λ t. if t then mailbox_reaction (record (mailbox d c) { admin = ring_lane (mailbox d c).admin; io = ring_lane (mailbox d c).io }) (Rung (Ok tt)) else mailbox_reaction (mailbox d c) (Rung (Err (record {})))) u in
     record {
       sound = subst (Sound d) (sym e) two.sound;
-      mail = ap (λ (r : MailboxReaction). r.mailbox) f
-          ∙ sym (ap (mailbox d) e ∙ two.mail ∙ ap (λ (x : Mailbox). with_box Io (ring_lane (box_at Io x)) x) one.mail);
-      gives = ap (λ (r : MailboxReaction). r.reply) f;
-    }
-
-down-step : (d : Driver) (c : Controller) → Sound d c → is_up d.state ≡ false
-    → IsStep (rung (mailbox d c)) d (after_calls (ring_calls d) c) (rung_reply false)
-down-step d c s u =
-    let e : after_calls (ring_calls d) c ≡ c = ap (λ t. after_calls (if t then Writes (tail_doorbell Admin) (tail_of d.admin) ∷ Writes (tail_doorbell Io) (tail_of d.io) ∷ [] else []) c) u in
-    let f : rung (mailbox d c) ≡ mailbox_reaction (mailbox d c) (Rung (Err (record {}))) =
-    ap (λ t. if t then mailbox_reaction (record (mailbox d c) { admin = ring_lane (mailbox d c).admin; io = ring_lane (mailbox d c).io }) (Rung (Ok tt)) else mailbox_reaction (mailbox d c) (Rung (Err (record {})))) u in
-    record {
-      sound = subst (Sound d) (sym e) s;
-      mail = ap (λ (r : MailboxReaction). r.mailbox) f ∙ ap (mailbox d) (sym e);
-      gives = ap (λ (r : MailboxReaction). r.reply) f;
+      mail = sym (ap (mailbox d) e ∙ two.mail ∙ ap (λ (x : Mailbox). with_box Io (ring_lane (box_at Io x)) x) one.mail);
+      gives = refl;
     }
 
 pub ring_is_a_step : RingIsAStep
 ring_is_a_step d c s = elim (cases_Bool (is_up d.state)) [
-  | inl u ↦ subst (λ t. IsStep (rung (mailbox d c)) d (after_calls (ring_calls d) c) (rung_reply t)) (sym u) (up-step d c s u)
-  | inr u ↦ subst (λ t. IsStep (rung (mailbox d c)) d (after_calls (ring_calls d) c) (rung_reply t)) (sym u) (down-step d c s u)
+  | inl u ↦ subst (λ t. Rings t d c) (sym u) (up-step d c s u)
+  | inr u ↦ subst (λ t. Rings t d c) (sym u) (record { sound = s; mail = refl; gives = refl })
 ]

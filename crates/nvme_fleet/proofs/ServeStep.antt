@@ -1,5 +1,5 @@
 -- What an allowed I/O command does is what its request does.
-use Rattle.nvme_fleet.proofs.Words.{◌≡◌, ℕ, ◌+◌, ◌*◌, ◌≤◌, ◌==◌, ◌&&◌, Bool, true, false, List, [], ◌∷◌, length, take, Option, None, Some, refl, sym, ap, subst, ◌∙◌, arith, inl, inr, slice_get, cases_Bool, take_all, is_some, replicate, if◌then◌else◌, cid, nsid, Status, Command, Device, World, Namespace, namespace_of, data_length, data_length_of, is_one_of, block_count, marks_on, no_marks, Scene, scene, Performs, medium_block, start_of, report_of, world_after, marks_of, removed_by, reservation_outcome, data_of, HasPassed, has-passed, waiting_at, answer_len, is_success, Io, Asked, with_scattered, data_addresses, RequestExecution, mailbox, Driver, FetchedCommand, Controller, FetchedItem, command_entry, action_of, IsServed, bytes_with, asked_in, received_in, AllowedServesItsRequest, request_execution_with}
+use Rattle.nvme_fleet.proofs.Words.{◌≡◌, ℕ, ◌+◌, ◌*◌, ◌≤◌, ◌==◌, ◌&&◌, Bool, true, false, List, [], ◌∷◌, length, take, Option, None, Some, refl, sym, ap, subst, ◌∙◌, arith, inl, inr, slice_get, cases_Bool, take_all, is_some, replicate, if◌then◌else◌, cid, nsid, Status, Command, Device, World, Namespace, namespace_of, data_length, data_length_of, is_one_of, block_count, marks_on, no_marks, Scene, scene, Performs, medium_block, start_of, report_of, world_after, marks_of, removed_by, reservation_outcome, data_of, HasPassed, has-passed, waiting_at, answer_len, is_success, Io, Asked, with_scattered, data_addresses, RequestExecution, mailbox, Driver, FetchedCommand, Controller, FetchedItem, lane_of_queue, command_entry, action_of, IsServed, bytes_with, asked_in, received_in, AllowedServesItsRequest, request_execution_with}
 use Rattle.nvme_spec.specs.declared.command.Command.TheVariants as io
 use Rattle.nvme_spec.specs.Effects.{ReadEffect, WriteEffect, CompareEffect}
 use Rattle.nvme_spec.specs.Report.{ControllerHost}
@@ -10,8 +10,8 @@ use Rattle.nvme_fleet.proofs.Places.{no-way}
 use Rattle.nvme_fleet.proofs.Commands.{SameFields}
 use Rattle.nvme_fleet.proofs.Judging.{length-same, same-count, same-lba, same-action}
 use Rattle.nvme_fleet.proofs.PostStep.{slot_seen}
-use Rattle.nvme_fleet.proofs.HeldStep.{item-is, data-same}
-use Rattle.nvme_fleet.proofs.JudgeStep.{IsIo, io-known, asked-is, action-is, plain-io, length-is, data-is}
+use Rattle.nvme_fleet.proofs.HeldStep.{asked-at, data-same}
+use Rattle.nvme_fleet.proofs.JudgeStep.{IsIo, io-known, action-is, plain-io, length-is, data-is}
 
 same-block : (w : World) (x y : List ℕ) → SameFields x y → medium_block w x ≡ medium_block w y
 same-block w x y h = sym (λ i. start_of (namespace_of w (h.nsid i)) + same-lba x y h i)
@@ -138,7 +138,7 @@ served-by : (tells : Bool) (d : Driver) (c : Controller) (i : ℕ) (t : FetchedC
     → slice_get c.fetched i ≡ Some t → slice_get (mailbox d c).fetched i ≡ Some x → t.queue ≡ 1
     → IsServed tells kind cntlid (asked_by d c t) (record { world = w; device = device }) r → IsServed tells kind cntlid x.item.asked (record { world = w; device = device }) r
 served-by tells d c i t x w device cntlid kind r g f q h =
-    subst (λ a. IsServed tells kind cntlid a (record { world = w; device = device }) r) (sym (ap (λ (y : FetchedItem). y.item.asked) (item-is d c i t x g f) ∙ asked-is d c t q)) h
+    subst (λ a. IsServed tells kind cntlid a (record { world = w; device = device }) r) (sym (asked-at Io d c i t x g f (ap lane_of_queue q))) h
 
 pub allowed_serves_its_request : AllowedServesItsRequest
 allowed_serves_its_request tells d c i t x w device cntlid plan a s g f q is h =
