@@ -1,7 +1,8 @@
 -- That a poll of a driver is a step of its mailbox: the first request that was aborted is handed up, or else the first answer
 -- of a lane.
-use Rattle.nvme_fleet.proofs.Words.{none-some, Done, Aborted, Polled, Reply, Host, Slot, PostedAnswer, empty, ticket_in, can_hear, area, MailboxReaction, mailbox_reaction, plain, answer_reply, handed_up, polled_aborted, polled_admin, polled_io, IsStep, PollIsAStep, after_calls, most_bytes, can_be_heard, waiting_at, ◌≡◌, ℕ, zero, suc, ◌+◌, ◌-◌, ◌*◌, ◌/◌, ◌%◌, ◌⊎◌, ◌<◌, ◌≤◌, ◌==◌, Bool, true, false, not, ◌&&◌, cond, List, [], ◌∷◌, length, take, drop, Option, None, Some, refl, sym, ap, subst, ◌∙◌, arith, inl, inr, length-drop, length-set, take-take, cases_Bool, cases_lt, lt-ltb, le-ltb, length-take-le, slice_set, slice_range, option_map, if◌then◌else◌, Ok, Err, Completion, completion_of, sq_id, sq_head, status, dw0, Status, phase_tag, Lane, Admin, Io, Waiting, Ticket, queue_id, submission_queue, completion_place_in, head_doorbell, data_area, Ends, Driver, is_up, ends, consumed_ends, Controller, DeviceEnds, with_head, completion_at, after_write32, box_at, with_box, LaneBox, box, answer, front, heard, less, consumed as consumed_one, next_completion, completion_bytes, phase_of, received_in, live_in, live_at as live_slot, holds, commands_of, Both, same, other, host, state, slot_in, slots_in, commands_in, pages_of, held_by, in_order, aborted_number, Sound, EndsFit, completion_as, mailbox}
+use Rattle.nvme_fleet.proofs.Words.{none-some, Done, Aborted, Polled, Reply, Host, Slot, PostedAnswer, empty, ticket_in, can_hear, area, MailboxReaction, mailbox_reaction, plain, answer_reply, handed_up, polled_aborted, polled_admin, polled_io, IsStep, PollIsAStep, after_calls, most_bytes, can_be_heard, waiting_at, ◌≡◌, ℕ, zero, suc, ◌+◌, ◌-◌, ◌*◌, ◌/◌, ◌%◌, ◌⊎◌, ◌<◌, ◌≤◌, ◌==◌, Bool, true, false, not, ◌&&◌, cond, List, [], ◌∷◌, length, take, drop, Option, None, Some, refl, sym, ap, subst, ◌∙◌, arith, inl, inr, length-drop, length-set, take-take, cases_Bool, cases_lt, lt-ltb, le-ltb, length-take-le, slice_get, slice_get_within, slice_set, slice_range, option_map, if◌then◌else◌, Ok, Err, Completion, completion_of, sq_id, sq_head, status, dw0, Status, phase_tag, Lane, Admin, Io, Waiting, Ticket, queue_id, submission_queue, completion_place_in, head_doorbell, data_area, Ends, Driver, is_up, ends, consumed_ends, Controller, DeviceEnds, with_head, completion_at, after_write32, box_at, with_box, LaneBox, box, answer, front, heard, less, consumed as consumed_one, next_completion, completion_bytes, phase_of, received_in, live_in, live_at as live_slot, holds, commands_of, Both, same, other, host, state, slot_in, slots_in, commands_in, pages_of, held_by, in_order, aborted_number, Sound, EndsFit, completion_as, mailbox}
 use Rattle.nvme_fleet.proofs.LaneWindows.{each-lane}
+use Rattle.std.specs.Option.{option_flatten}
 use Rattle.nvme_driver.specs.declared.faults.PollFault.TheVariants as poll_fault
 use Rattle.nvme_mailbox.specs.Deliveries as step
 use Rattle.nvme_wire.specs.Completion.{cid}
@@ -77,42 +78,23 @@ below-is : (t : Ticket) (o : Option Ticket) → poll.IsNotBelow t o → NotBelow
 below-is t None h = tt
 below-is t (Some u) h = h
 
-waiting-past : (xs : List (Option Waiting)) (i : ℕ) → length xs ≤ i → waiting_at xs i ≡ None
-waiting-past [] i h = refl
-waiting-past (x ∷ xs) zero h = let z : ⊥ = omega (arith, h) in absurd z
-waiting-past (x ∷ xs) (suc i) h = waiting-past xs i (omega (arith, h))
-
-within-of : (xs : List (Option Waiting)) (i : ℕ) (p : Waiting) → waiting_at xs i ≡ Some p → i < length xs
-within-of xs i p h = elim (cases_lt i (length xs)) [
-  | inl l ↦ l
-  | inr g ↦ absurd (none-some p (sym (waiting-past xs i g) ∙ h))
-]
+within-of : (xs : List (Option Waiting)) (i : ℕ) → (waiting_at xs i ≡ None → ⊥) → i < length xs
+within-of xs i h = by (slice_get xs i) refl
+  where
+    by : (o : Option (Option Waiting)) → slice_get xs i ≡ o → i < length xs
+    by None e = absurd (h (ap option_flatten e))
+    by (Some o) e = slice_get_within xs i o e
 
 -- an aborted request is live in no lane
-record IsDead (slots : List (Option Waiting)) (i : ℕ) : Type 0 where
-  within : i < length slots
-  idle : (l : Lane) (w : List ℕ) → live_slot (slots_in l w 0 slots) i ≡ 0
-
-dead-in : (o : Option Waiting) (t : ℕ) → aborted_number o ≡ Some t → (x : Waiting) × (o ≡ Some x) × (x.live ≡ false)
-dead-in None t e = absurd (none-some t e)
-dead-in (Some x) t e = elim (cases_Bool x.live) [
+idle-in : (l : Lane) (w : List ℕ) (n : ℕ) (o : Option Waiting) (t : ℕ) → aborted_number o ≡ Some t → live_in (slot_in l w n o) ≡ 0
+idle-in l w n None t e = refl
+idle-in l w n (Some x) t e = elim (cases_Bool x.live) [
   | inl h ↦ let z : None ≡ Some t = rw h at e in absurd (none-some t z)
-  | inr h ↦ (x, refl, h)
+  | inr h ↦ elim (cases_Bool (same x.lane l)) [
+    | inl s ↦ rw (s, h) refl
+    | inr s ↦ rw s refl
+  ]
 ]
-
-idle-in : (l : Lane) (w : List ℕ) (n : ℕ) (x : Waiting) → x.live ≡ false → live_in (slot_in l w n (Some x)) ≡ 0
-idle-in l w n x h = elim (cases_Bool (same x.lane l)) [
-  | inl s ↦ rw (s, h) refl
-  | inr s ↦ rw s refl
-]
-
-dead : (slots : List (Option Waiting)) (i t : ℕ) → ticket_aborted slots i ≡ Some t → IsDead slots i
-dead slots i t e =
-    let x = dead-in (waiting_at slots i) t e in
-    record {
-      within = within-of slots i x.0 x.1;
-      idle = λ l w. ap live_in (slot-in l w slots i ∙ ap (slot_in l w i) x.1) ∙ idle-in l w i x.0 x.2;
-    }
 
 freed-host : (l : Lane) (d : Driver) (w : List ℕ) (i : ℕ) → length d.slots ≡ 24 → i < 24 → host l (poll.freed d i) w ≡ emptied (host l d w) i
 freed-host Admin d w i e h = rw (slots-here Admin w w d.slots i None e h (λ k b q. record { areas = refl; lists = refl })) refl
@@ -124,9 +106,10 @@ aborts : (d : Driver) (c : Controller) (i : ℕ) (t : Ticket) → Sound d c → 
 aborts d c i t s e low =
     let b : Both d c = s.both in
     let n = number-is (waiting_at d.slots i) ∙ ap (option_map (λ (u : Ticket). u.0)) e in
-    let g = dead d.slots i t.0 n in
-    let hosts : (l : Lane) → host l (poll.freed d i) c.window ≡ emptied (host l d c.window) i = λ l. freed-host l d c.window i b.slots (omega (arith, g.within, b.slots)) in
-    let bare : (l : Lane) → Bare (host l d c.window) (state l c) i = λ l. bare-of b.first _ _ i (b.each l) (g.idle l c.window) in
+    let within = within-of d.slots i (λ z. none-some t.0 (sym (ap aborted_number z) ∙ n)) in
+    let idle : (l : Lane) → live_slot (slots_in l c.window 0 d.slots) i ≡ 0 = λ l. ap live_in (slot-in l c.window d.slots i) ∙ idle-in l c.window i (waiting_at d.slots i) t.0 n in
+    let hosts : (l : Lane) → host l (poll.freed d i) c.window ≡ emptied (host l d c.window) i = λ l. freed-host l d c.window i b.slots (omega (arith, within, b.slots)) in
+    let bare : (l : Lane) → Bare (host l d c.window) (state l c) i = λ l. bare-of b.first _ _ i (b.each l) (idle l) in
     let boxes : (l : Lane) → box (host l (poll.freed d i) c.window) (state l c) ≡ box (host l d c.window) (state l c) =
     λ l. ap (λ (u : Host). box u (state l c)) (hosts l) ∙ emptied-box (host l d c.window) (state l c) i (bare l) in
     let f = oldest-first d.slots i t.0 n (λ k. subst (NotBelow t.0) (sym (number-is (waiting_at d.slots k))) (below-is t (poll.aborted_at d.slots k) (low k))) in
@@ -141,7 +124,7 @@ aborts d c i t s e low =
           first = b.first;
           window = b.window;
           slots = length-set d.slots i None ∙ b.slots;
-          each = λ l. same-holds b.first _ _ _ _ (emptied-holds b.first _ _ i (g.idle l c.window) (b.each l)) (hosts l) refl;
+          each = λ l. same-holds b.first _ _ _ _ (emptied-holds b.first _ _ i (idle l) (b.each l)) (hosts l) refl;
         };
         fits = each-lane Admin (λ l. EndsFit (ends l (poll.freed d i))) (s.fits Admin) (s.fits Io);
         sizes = λ k. size-set d.slots i k None (omega arith) s.sizes;
@@ -188,7 +171,7 @@ heads lane d c s u p =
       up = u;
       some = p;
       own = o;
-      within = omega (arith, within-of d.slots (cid (entry_at lane d c)) o.waiting o.is, b.slots);
+      within = omega (arith, within-of d.slots (cid (entry_at lane d c)) (λ z. none-some o.waiting (sym z ∙ o.is)), b.slots);
       heard = hear-is lane d c.window (sq_head (entry_at lane d c)) f ∙ hears (host lane d c.window) (state lane c) r p;
     }
   where

@@ -1,9 +1,12 @@
 -- A driver that never came up, at a controller that was never enabled.
-use Rattle.nvme_fleet.proofs.Words.{◌≡◌, ℕ, zero, suc, ◌≤◌, false, List, [], length, drop, None, refl, sym, ap, subst, arith, length-drop, length-take-le, replicate, window_size, Lane, Admin, Io, new_driver, ends, new_controller, most_bytes, waiting_at, empty, slot_at, live_in, received_in, AgeIn, Resting, Holds, Both, submission_queue, pages_of, slots_in, host, state, IsOff, EndsFit, OpeningIsSound}
+use Rattle.nvme_fleet.proofs.Words.{◌≡◌, ℕ, zero, suc, ◌≤◌, false, List, [], length, drop, None, refl, sym, ap, subst, arith, length-drop, length-take-le, replicate, window_size, Lane, Admin, Io, new_driver, Ends, ends, new_controller, most_bytes, waiting_at, empty, slot_at, live_in, received_in, AgeIn, Resting, Holds, Both, submission_queue, pages_of, slots_in, host, state, IsOff, EndsFit, OpeningIsSound}
 use Rattle.nvme_spec.specs.Memory.{zeros}
 use Rattle.nvme_machine.proofs.Windows.{length-zeros}
 use Rattle.nvme_fleet.proofs.Places.{no-way}
 use Rattle.nvme_fleet.proofs.Ups.{resting-box}
+use Rattle.nvme_fleet.proofs.LaneWindows.{queue-low}
+use Rattle.nvme_fleet.proofs.Resetting.{state-off}
+use Rattle.nvme_driver.specs.Drivers.{empty_ends}
 
 slot-empty : (l : Lane) (w : List ℕ) (j n k : ℕ) → slot_at (slots_in l w j (replicate n None)) k ≡ empty
 slot-empty l w j zero k = refl
@@ -14,25 +17,28 @@ pages-long : (l : Lane) (w : List ℕ) → submission_queue l ≤ 8192 → lengt
 unfolding pages_of
 pages-long l w b h = length-take-le 8192 (drop (submission_queue l) w) (omega (arith, b, h, length-drop (submission_queue l) w))
 
+is-off : (k : ℕ) → IsOff (new_controller k)
+is-off k = record { submission = refl; completion = refl; fetched = refl; off = refl; disabled = refl }
+
+no-ends : (first : ℕ) (l : Lane) → ends l (new_driver first) ≡ empty_ends
+no-ends first Admin = refl
+no-ends first Io = refl
+
 rests : (first k : ℕ) (l : Lane) → Resting (host l (new_driver first) zeros) (state l (new_controller k))
-rests first k Admin = record {
-  window = pages-long Admin zeros (omega arith) length-zeros;
-  slots = refl;
-  put = refl;
-  unheard = refl;
-  consumed = refl;
-  off = refl;
-  idle = λ slot. ap live_in (slot-empty Admin zeros 0 24 slot);
-}
-rests first k Io = record {
-  window = pages-long Io zeros (omega arith) length-zeros;
-  slots = refl;
-  put = refl;
-  unheard = refl;
-  consumed = refl;
-  off = refl;
-  idle = λ slot. ap live_in (slot-empty Io zeros 0 24 slot);
-}
+rests first k l =
+    let e = no-ends first l in
+    record {
+      window = pages-long l zeros (omega (arith, queue-low l)) length-zeros;
+      slots = no-slots l;
+      put = ap (λ (x : Ends). x.tail.put) e;
+      unheard = ap (λ (x : Ends). x.tail.unheard) e;
+      consumed = ap (λ (x : Ends). x.head.consumed) e;
+      off = state-off l (new_controller k) (new_controller k) (is-off k) refl;
+      idle = λ slot. ap live_in (slot-empty l zeros 0 24 slot);
+    }
+  where
+    no-slots : (l : Lane) → length (slots_in l zeros 0 (replicate 24 None)) ≡ 24
+    no-slots l = refl
 
 holds : (first k : ℕ) (l : Lane) → Holds first (host l (new_driver first) zeros) (state l (new_controller k))
 holds first k l = record {
@@ -46,13 +52,6 @@ holds first k l = record {
 both : (first k : ℕ) → Both (new_driver first) (new_controller k)
 both first k = record { first = first; window = length-zeros; slots = refl; each = holds first k }
 
-fits : (first : ℕ) (l : Lane) → EndsFit (ends l (new_driver first))
-fits first Admin = record { tail = refl; head = refl }
-fits first Io = record { tail = refl; head = refl }
-
-is-off : (k : ℕ) → IsOff (new_controller k)
-is-off k = record { submission = refl; completion = refl; fetched = refl; off = refl; disabled = refl }
-
 none-waits : (n k : ℕ) → waiting_at (replicate n None) k ≡ None
 none-waits zero k = refl
 none-waits (suc n) zero = refl
@@ -65,7 +64,7 @@ opening_is_sound first k =
     record {
       sound = record {
         both = both first k;
-        fits = fits first;
+        fits = λ l. subst EndsFit (sym (no-ends first l)) (record { tail = refl; head = refl });
         sizes = λ slot. subst (λ w. received_in w ≤ most_bytes) (sym (none-waits 24 slot)) (omega arith);
         up = λ u. absurd (no-way false refl u);
         down = λ d. is-off k;

@@ -1,18 +1,20 @@
 -- A controller that is off, once a driver has set its registers and enabled it.
 use Rattle.nvme_fleet.proofs.Words.{◌≡◌, ℕ, ◌+◌, ◌^◌, ◌<◌, ◌≤◌, Bool, false, List, [], ◌∷◌, ◌++◌, length, Option, None, Some, refl, ap, ◌∙◌, arith, le-leb, with_bytes, Off, Ready, is_enabled, after_write, prepared, configured, can_enable, value_at, with_low, with_high, Admin, Io, Call, Stores, Writes, Reads, Turns, Calls, submission_queue, completion_queue, cc, csts, aqa, asq_low, asq_high, acq_low, acq_high, admin_sizes, enabling, zero_page, Controller, SubmissionQueue, CompletionQueue, after_store, after_write32, taking_effect, no_submission_queues, no_completion_queues, Setting, zeros, IsOff, store-id, write-id, after_call, after_calls, LinkStep, with_controller}
-use Rattle.nvme_fleet.proofs.PlainCalls.{IsPlain}
+use Rattle.nvme_fleet.proofs.PlainCalls.{IsPlain, plain-first}
 use Rattle.nvme_fleet.proofs.Ups.{zeros-are}
+
+call-is : (tells : Bool) (call : Call) (old new : Setting) → IsPlain (call ∷ []) → LinkStep tells old call new → new ≡ with_controller old (after_call call old.controller)
+call-is tells (Stores address bytes) old new p h = h
+call-is tells (Writes offset v) old new p h = h
+call-is tells (Reads offset v) old new p h = h.1
+call-is tells Turns old new p h = absurd p
 
 pub calls-are : (tells : Bool) (calls : List Call) (old new : Setting) → IsPlain calls → Calls (LinkStep tells) old calls new
     → new ≡ with_controller old (after_calls calls old.controller)
 calls-are tells [] old new p h = h
-calls-are tells (Stores address bytes ∷ calls) old new p (mid, step, rest) =
-    calls-are tells calls mid new p rest ∙ ap (λ (s : Setting). with_controller s (after_calls calls s.controller)) step
-calls-are tells (Writes offset v ∷ calls) old new p (mid, step, rest) =
-    calls-are tells calls mid new p rest ∙ ap (λ (s : Setting). with_controller s (after_calls calls s.controller)) step
-calls-are tells (Reads offset v ∷ calls) old new p (mid, step, rest) =
-    calls-are tells calls mid new p rest ∙ ap (λ (s : Setting). with_controller s (after_calls calls s.controller)) step.1
-calls-are tells (Turns ∷ calls) old new p h = absurd p
+calls-are tells (call ∷ calls) old new p (mid, step, rest) =
+    let two = plain-first call calls p in
+    calls-are tells calls mid new two.1 rest ∙ ap (λ (s : Setting). with_controller s (after_calls calls s.controller)) (call-is tells call old mid two.0 step)
 
 -- the controller stays the same one
 call-id : (call : Call) (c : Controller) → (after_call call c).cntlid ≡ c.cntlid
@@ -29,13 +31,9 @@ calls-id (call ∷ calls) c = calls-id calls (after_call call c) ∙ call-id cal
 pub value-is : (tells : Bool) (calls : List Call) (offset v : ℕ) (old new : Setting) → IsPlain calls
     → Calls (LinkStep tells) old (calls ++ Reads offset v ∷ []) new → v ≡ value_at (after_calls calls old.controller).registers offset
 value-is tells [] offset v old new p (mid, step, rest) = step.0
-value-is tells (Stores address bytes ∷ calls) offset v old new p (mid, step, rest) =
-    value-is tells calls offset v mid new p rest ∙ ap (λ (s : Setting). value_at (after_calls calls s.controller).registers offset) step
-value-is tells (Writes o u ∷ calls) offset v old new p (mid, step, rest) =
-    value-is tells calls offset v mid new p rest ∙ ap (λ (s : Setting). value_at (after_calls calls s.controller).registers offset) step
-value-is tells (Reads o u ∷ calls) offset v old new p (mid, step, rest) =
-    value-is tells calls offset v mid new p rest ∙ ap (λ (s : Setting). value_at (after_calls calls s.controller).registers offset) step.1
-value-is tells (Turns ∷ calls) offset v old new p h = absurd p
+value-is tells (call ∷ calls) offset v old new p (mid, step, rest) =
+    let two = plain-first call calls p in
+    value-is tells calls offset v mid new two.1 rest ∙ ap (λ (s : Setting). value_at (after_calls calls s.controller).registers offset) (call-is tells call old mid two.0 step)
 
 -- A controller that is off, by its registers and its window.
 abbrev off_with : ℕ → ℕ → ℕ → ℕ → ℕ → List ℕ → Controller
