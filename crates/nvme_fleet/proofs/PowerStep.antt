@@ -11,7 +11,7 @@ use Rattle.nvme_fleet.proofs.Places.{no-way}
 use Rattle.nvme_fleet.proofs.Registering.{disabled-off}
 use Rattle.nvme_fleet.proofs.ResetStep.{fits, abort-size}
 use Rattle.nvme_fleet.proofs.Resetting.{reset-both, reset-mail}
-use Rattle.nvme_fleet.proofs.HostedExecutions.{AllSound}
+use Rattle.nvme_fleet.proofs.Seats.{AllSound}
 
 -- One host.
 
