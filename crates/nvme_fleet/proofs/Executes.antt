@@ -7,6 +7,7 @@ use Rattle.nvme_fleet.proofs.Slots.{few, Apart, apart-set, same-items, same-odd,
 use Rattle.nvme_fleet.proofs.Keeps.{EntersCompletion, answered, commands-same, completions-kept}
 use Rattle.nvme_fleet.proofs.Queues.{flight-total, completions-append, same-box, self-eqb, same-entry, same-turn, since-zero}
 use Rattle.nvme_fleet.proofs.Places.{no-way}
+use Rattle.nvme_fleet.proofs.Phases.{phases-posted}
 
 last-more : (h : ℕ) (es : List Completion) (e : Completion) → last_head h (es ++ e ∷ []) ≡ e.sq_head
 last-more h [] e = refl
@@ -149,25 +150,6 @@ execute-box d c ans i x bytes h =
     refl
     (since-done d c ans i x bytes h)
 
-phases-done : (d : Host) (c : State) (ans : Effect) (i : ℕ) (x bytes : List ℕ) → Executes d c ans i x bytes → Phases (executed d x bytes) (executed_state c i x ans)
-phases-done d c ans i x bytes h k l =
-    let s : Running d c = (h.fetched).running in
-    let w = written d c ans i x bytes h in
-    elim (cases_eq k c.unread) [
-      | inl e ↦
-          let m : (d.consumed + k) % 32 ≡ c.posted % 32 = omega (arith, s.posted, e) in
-          let n : (d.consumed + k) % 64 ≡ c.posted % 64 = omega (arith, s.posted, e) in
-          let t : nat_lt k (c.unread + 1) ≡ true = lt-ltb k (c.unread + 1) (omega (arith, e)) in
-          let p : completion_of (completion_bytes (executed_state c i x ans).window (d.consumed + k)) ≡ finished c ans x =
-          ap completion_of (same-entry (executed_state c i x ans).window (d.consumed + k) c.posted m ∙ w.last) ∙ h.reads in
-          ap (λ (e : Completion). e.phase) p ∙ sym (same-turn (d.consumed + k) c.posted n) ∙ sym (ap (λ b. cond b (phase_of (d.consumed + k)) (not (phase_of (d.consumed + k)))) t)
-      | inr e ↦
-          let q : eqb ((d.consumed + k) % 32) (c.posted % 32) ≡ false = ne_eqb _ _ (λ m. omega (arith, s.posted, (h.fetched).room, l, e, m)) in
-          let t : nat_lt k (c.unread + 1) ≡ nat_lt k c.unread = grind (arith, common_steps, e) in
-          ap (λ b. (completion_of b).phase) (w.keeps.completions (d.consumed + k) q) ∙ s.phases k l ∙
-          sym (ap (λ b. cond b (phase_of (d.consumed + k)) (not (phase_of (d.consumed + k)))) t)
-    ]
-
 -- a sum over the commands loses what the executed one brought
 execute-total : (f : List ℕ → ℕ) (d : Host) (c : State) (ans : Effect) (i : ℕ) (x bytes : List ℕ) → Executes d c ans i x bytes →
     f x + total f (remove c.taken i) + total f (commands (executed_state c i x ans).window c.fetched (in_flight d c)) ≡
@@ -210,7 +192,7 @@ execute-running d c ans i x bytes h =
       room = s.room;
       heads = rw (unread-more d c ans i x bytes h) (heads-more (unread d c) (finished c ans x) s.heads s.fetched);
       of_lane = rw (unread-more d c ans i x bytes h) (of-more (queue_id c.lane) (unread d c) (finished c ans x) s.of_lane refl);
-      phases = phases-done d c ans i x bytes h;
+      phases = phases-posted c.window _ _ d.consumed c.unread c.posted w s.posted (omega (arith, (h.fetched).room)) (ap (λ (e : Completion). e.phase) h.reads) s.phases;
       carried = carried-done d c ans i x bytes h;
       held = omega (
         arith,

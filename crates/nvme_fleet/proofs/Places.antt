@@ -5,6 +5,7 @@ use Rattle.nvme_fleet.proofs.Totals.{live-set, slot-same, slot-other}
 use Rattle.nvme_mailbox.proofs.Totals.{total-append}
 use Rattle.nvme_fleet.proofs.Slots.{Apart, apart-set, same-items, same-odd, same-answers}
 use Rattle.nvme_fleet.proofs.Keeps.{Enters, enters, commands-kept, completions-same}
+use Rattle.nvme_fleet.proofs.Phases.{phases-kept}
 use Rattle.nvme_fleet.proofs.Queues.{commands-append, flight-total, same-box, eqb-sym}
 
 -- what holds where a request is placed in a slot that is not live, by this command
@@ -179,9 +180,6 @@ new-suits : (d : Host) (c : State) (x : List ℕ) (w : Waiting) (slot : ℕ) (by
 new-suits d c x w slot bytes list h =
     ap (λ s. cond (suits s x) 0 1) (here d c x w slot bytes list h) ∙ ap (λ b. cond b 0 1) h.suits_it
 
-pub never : (n : ℕ) → eqb (n % 32) 32 ≡ false
-never n = ne_eqb (n % 32) 32 (λ e. omega (arith, e))
-
 pub place-running : (d : Host) (c : State) (x : List ℕ) (w : Waiting) (slot : ℕ) (bytes list : List ℕ) → Places d c x w slot bytes list → Running (placed d w slot bytes list) (placed_state d c x)
 place-running d c x w slot bytes list h =
     let s : Running d c = h.running in
@@ -201,7 +199,7 @@ place-running d c x w slot bytes list h =
       room = omega (arith, h.room);
       heads = rw (same-unread d c x w slot bytes list h) s.heads;
       of_lane = rw (same-unread d c x w slot bytes list h) s.of_lane;
-      phases = λ i l. rw (k.keeps.completions (d.consumed + i) (never (d.consumed + i))) (s.phases i l);
+      phases = phases-kept c.window _ d.put d.consumed c.unread k.keeps s.phases;
       carried = carried-place d c x w slot bytes list h;
       held = omega (arith, m, s.held, live-set d.slots slot (filled w bytes list) (omega (arith, h.within, s.slots)), h.free, new-live w bytes list h.live);
       suited = omega (

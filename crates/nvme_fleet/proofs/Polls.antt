@@ -5,30 +5,28 @@ use Rattle.nvme_fleet.proofs.Totals.{live-small, live-within, live-set, slot-sam
 use Rattle.nvme_mailbox.proofs.Totals.{total-append}
 use Rattle.nvme_fleet.proofs.Slots.{few, Apart, apart-set, same-items, same-odd, same-answers}
 use Rattle.nvme_fleet.proofs.Places.{no-way}
+use Rattle.nvme_fleet.proofs.Phases.{first-phase, phases-consumed}
 
 abbrev rest-of : Host → State → List Completion
 rest-of d c = completions c.window ((d.consumed + 1) % 64) (c.unread - 1)
 
-same-phase : (b x : Bool) → x ≡ b → cond x b (not b) ≡ true
-same-phase true x e = rw e refl
-same-phase false x e = rw e refl
+-- what the phase of the first completion tells
+tag-tells : (new b x : Bool) → x ≡ cond new b (not b) → cond x b (not b) ≡ new
+tag-tells true true x e = rw e refl
+tag-tells true false x e = rw e refl
+tag-tells false true x e = rw e refl
+tag-tells false false x e = rw e refl
 
-other-phase : (b x : Bool) → x ≡ not b → cond x b (not b) ≡ false
-other-phase true x e = rw e refl
-other-phase false x e = rw e refl
+next-is : (d : Host) (c : State) (new : Bool) → Running d c → nat_lt 0 c.unread ≡ new → next_completion d c.window ≡ cond new (Some (front d c)) None
+next-is d c new s e =
+    let h = first-phase c.window d.consumed c.unread s.phases ∙ ap (λ b. cond b (phase_of d.consumed) (not (phase_of d.consumed))) e in
+    ap (λ b. cond b (Some (front d c)) None) (tag-tells new (phase_of d.consumed) (front d c).phase h)
 
 pub next-none : (d : Host) (c : State) → Running d c → c.unread ≡ 0 → next_completion d c.window ≡ None
-next-none d c s z =
-    let n : d.consumed + 0 ≡ d.consumed = omega arith in
-    let h : (front d c).phase ≡ not (phase_of d.consumed) = rw (n, z) at (s.phases 0 (omega arith)) in
-    rw (other-phase (phase_of d.consumed) (front d c).phase h) refl
+next-none d c s z = next-is d c false s (le-ltb 0 c.unread (omega (arith, z)))
 
 pub next-some : (d : Host) (c : State) → Running d c → 0 < c.unread → next_completion d c.window ≡ Some (completion_of (completion_bytes c.window d.consumed))
-next-some d c s p =
-    let n : d.consumed + 0 ≡ d.consumed = omega arith in
-    let t : nat_lt 0 c.unread ≡ true = lt-ltb 0 c.unread p in
-    let h : (front d c).phase ≡ phase_of d.consumed = rw (n, t) at (s.phases 0 (omega arith)) in
-    rw (same-phase (phase_of d.consumed) (front d c).phase h) refl
+next-some d c s p = next-is d c true s (lt-ltb 0 c.unread p)
 
 unread-first : (w : List ℕ) (n k : ℕ) → 0 < k → completions w n k ≡ completion_of (completion_bytes w n) ∷ completions w ((n + 1) % 64) (k - 1)
 unread-first w n zero p = let b : ⊥ = omega (arith, p) in absurd b
@@ -157,34 +155,6 @@ unheard-front d c s p =
     let h : steps (heard (consumed d (front d c))) (rest-of d c) ≡ steps (front d c).sq_head (rest-of d c) = ap (λ h. steps h (rest-of d c)) (heard-front d c s p) in
     omega (arith, h, since-front d c s p, left-over d c s p, front-steps d c p, s.unheard)
 
-pub other-turn : (n k : ℕ) → k < 32 → 31 ≤ k → phase_of ((n + 1) % 64 + k) ≡ not (phase_of n)
-other-turn n k h g = grind (arith, common_steps)
-
-pub twice : (b : Bool) → b ≡ not (not b)
-twice true = refl
-twice false = refl
-
-new-front : (d : Host) (c : State) → Running d c → 0 < c.unread → (front d c).phase ≡ phase_of d.consumed
-new-front d c s p =
-    let n : d.consumed + 0 ≡ d.consumed = omega arith in
-    let t : nat_lt 0 c.unread ≡ true = lt-ltb 0 c.unread p in
-    rw (n, t) at (s.phases 0 (omega arith))
-
-phases-front : (d : Host) (c : State) → Running d c → 0 < c.unread → Phases (consumed d (front d c)) (less c)
-phases-front d c s p k h =
-    elim (cases_lt k 31) [
-      | inl lt ↦
-          let e : ((d.consumed + 1) % 64 + k) % 32 ≡ (d.consumed + (k + 1)) % 32 = omega arith in
-          let f : ((d.consumed + 1) % 64 + k) % 64 ≡ (d.consumed + (k + 1)) % 64 = omega arith in
-          let t : nat_lt k (c.unread - 1) ≡ nat_lt (k + 1) c.unread = grind (arith, common_steps) in
-          rw (same-entry c.window _ _ e, same-turn _ _ f, t) (s.phases (k + 1) (omega (arith, lt)))
-      | inr ge ↦
-          let e : ((d.consumed + 1) % 64 + k) % 32 ≡ d.consumed % 32 = omega (arith, h, ge) in
-          let f : nat_lt (((d.consumed + 1) % 64 + k) % 64) 32 ≡ not (phase_of d.consumed) = other-turn d.consumed k h ge in
-          let t : nat_lt k (c.unread - 1) ≡ false = le-ltb k (c.unread - 1) (omega (arith, few d c s, ge)) in
-          rw (same-entry c.window _ _ e, f, t) (new-front d c s p ∙ twice (phase_of d.consumed))
-    ]
-
 carried-front : (d : Host) (c : State) → Running d c → 0 < c.unread → (slot : ℕ) →
     commands_of slot c.taken + commands_of slot (commands c.window c.fetched (in_flight d c)) + answers_of slot (rest-of d c) ≡ live_at (slice_set d.slots (front d c).cid empty) slot
 carried-front d c s p slot =
@@ -232,7 +202,7 @@ poll-running d c s p =
       room = omega arith;
       heads = (let h : Heads (front d c ∷ rest-of d c) = rw (unread-first c.window d.consumed c.unread p) at s.heads in h.1);
       of_lane = (let h : AreOf (queue_id c.lane) (front d c ∷ rest-of d c) = rw (unread-first c.window d.consumed c.unread p) at s.of_lane in h.1);
-      phases = phases-front d c s p;
+      phases = phases-consumed c.window d.consumed c.unread p (omega (arith, few d c s)) s.phases;
       carried = λ slot. carried-front d c s p slot;
       held = held-front d c s p;
       suited = suited-front d c s p;

@@ -241,12 +241,13 @@ live_in s = live_waiting s.waiting
 abbrev pub live_at : List Slot → ℕ → ℕ
 live_at slots k = live_in (slot_at slots k)
 
--- the next 32 completions have the phase of a new one as far as they are unread, and the old one behind that
-abbrev pub Phases : Host → State → Type 0
-Phases d c =
+-- the 32 completions from the n-th on have the phase of a new one as far as so many are unread, and the old one behind
+-- that
+abbrev pub Phases : List ℕ → ℕ → ℕ → Type 0
+Phases window n unread =
     (k : ℕ) → k < 32 →
-    (completion_of (completion_bytes c.window (d.consumed + k))).phase ≡
-    cond (nat_lt k c.unread) (phase_of (d.consumed + k)) (not (phase_of (d.consumed + k)))
+    (completion_of (completion_bytes window (n + k))).phase ≡
+    cond (nat_lt k unread) (phase_of (n + k)) (not (phase_of (n + k)))
 
 -- each waiting request stands in one place: on its way, fetched, or answered
 abbrev pub Carried : Host → State → Type 0
@@ -274,7 +275,7 @@ pub record Running (d : Host) (c : State) : Type 0 where
   pub room : d.unheard < 8
   pub heads : Heads (unread d c)
   pub of_lane : AreOf (queue_id c.lane) (unread d c)
-  pub phases : Phases d c
+  pub phases : Phases c.window d.consumed c.unread
   pub carried : Carried d c
   pub held : length c.taken + in_flight d c + c.unread ≡ total live_in d.slots
   pub suited : Suited d c
