@@ -173,7 +173,7 @@ parts lane d c i x ans h =
     let e = execute-here lane d c i x ans h in
     let f = execute-there lane d c i x ans h in
     let z : commands_of (cid x) (commands_in lane (remove c.taken i)) ≡ 0 =
-    ap (commands_of (cid x)) (remove-here lane c.taken i (taken_of lane x (h.takes).mark) (h.takes).there (same-self lane)) ∙ ((h.takes).one).rest in
+    ap (commands_of (cid x)) (remove-here lane c.taken i (taken_of lane x (h.takes).mark) (h.takes).there (same-self lane)) ∙ ((h.takes).one).bare.taken in
     record {
       here = ap (λ (u : Host). box u (state lane (executed_at lane c i x ans))) e ∙ ap (box _) (state-here lane d c i x ans h) ∙ execute-box _ _ ans (rank lane c.taken i) x _ p;
       there = ap (λ (u : Host). box u (state (other lane) (executed_at lane c i x ans))) f ∙ ap (box _) (state-there lane d c i x ans h);

@@ -2,8 +2,8 @@
 use Rattle.nvme_fleet.proofs.Words.{◌≡◌, ℕ, ◌+◌, ◌-◌, ◌%◌, ◌<◌, ◌≤◌, List, [], ◌∷◌, ◌++◌, map, refl, ap, ◌∙◌, arith, zero, suc, true, length-append, map-append, Completion, Item, command_at, State, box, in_flight, commands, item, Running, Holds, holds, total, odd, bears, Suited, Heads, last_head, heard, unread, since, commands_of, answers_of, live_at, Host}
 use Rattle.nvme_fleet.specs.Views.{after_fetch, rung}
 use Rattle.nvme_mailbox.proofs.Totals.{total-append}
-use Rattle.nvme_fleet.proofs.Queues.{same-box, commands-append}
-use Rattle.nvme_fleet.proofs.Places.{no-way}
+use Rattle.nvme_fleet.proofs.Queues.{same-box, flight-parts, rung-part, placed-part}
+use Rattle.nvme_fleet.proofs.Places.{up-holds}
 
 pub last-small : (h : ℕ) (es : List Completion) → h < 8 → Heads es → last_head h es < 8
 last-small h [] p q = p
@@ -58,14 +58,8 @@ unfolding box
 idle-rung d c z = ap (λ n. map (item (holds d)) (commands c.window c.fetched n)) z
 
 -- Ring moves what was placed behind what was rung
-rung-all : (d : Host) (c : State) (f : List ℕ → Item) → Running d c →
-    map f (commands c.window c.fetched (in_flight d c)) ≡
-    map f (commands c.window c.fetched c.waiting) ++ map f (commands c.window ((c.fetched + c.waiting) % 8) (in_flight d c - c.waiting))
-rung-all d c f s =
-    let e : in_flight d c ≡ c.waiting + (in_flight d c - c.waiting) = omega (arith, s.waiting) in
-    ap (λ n. map f (commands c.window c.fetched n)) e ∙
-    ap (map f) (commands-append c.window c.fetched c.waiting (in_flight d c - c.waiting) s.fetched) ∙
-    map-append f (commands c.window c.fetched c.waiting) _
+rung-all : (d : Host) (c : State) (f : List ℕ → Item) → Running d c → map f (commands c.window c.fetched (in_flight d c)) ≡ map f (rung-part c) ++ map f (placed-part d c)
+rung-all d c f s = ap (map f) (flight-parts d c s.fetched s.waiting) ∙ map-append f (rung-part c) (placed-part d c)
 
 placed-none : (d : Host) (c : State) (f : List ℕ → Item) (n : ℕ) → map f (commands c.window n (in_flight d c - in_flight d c)) ≡ []
 placed-none d c f n =
@@ -103,7 +97,7 @@ ring-running d c s = still-running d c d.next (in_flight d c) (omega arith) s
 
 -- a lane whose driver stays
 pub same-up : (first : ℕ) (d : Host) (c c' : State) → Holds first d c → d.up ≡ true → Running d c' → Holds first d c'
-same-up first d c c' s u r = record { failed = s.failed; begun = s.begun; ages = s.ages; up = λ e. r; down = λ e. absurd (no-way d.up e u) }
+same-up first d c c' s u r = up-holds first d c' u s.failed s.begun s.ages r
 
 -- a sum over the entries in flight, the first of them apart
 first-total : (f : List ℕ → ℕ) (w : List ℕ) (s n : ℕ) → 0 < n →
@@ -119,13 +113,6 @@ moved-fetch f d c s p =
     let q : 0 < in_flight d c = omega (arith, s.waiting, p) in
     rw (fewer d c s p)
     (omega (arith, first-total f c.window c.fetched (in_flight d c) q, total-append f c.taken (command_at c.window c.fetched ∷ [])))
-
-carried-fetch : (d : Host) (c : State) → Running d c → 0 < c.waiting → (slot : ℕ) →
-    commands_of slot (after_fetch c).taken + commands_of slot (commands c.window ((c.fetched + 1) % 8) (in_flight d (after_fetch c))) + answers_of slot (unread d c) ≡ live_at d.slots slot
-carried-fetch d c s p slot = omega (arith, s.carried slot, moved-fetch (bears slot) d c s p)
-
-suited-fetch : (d : Host) (c : State) → Running d c → 0 < c.waiting → Suited d (after_fetch c)
-suited-fetch d c s p = moved-fetch (odd (holds d)) d c s p ∙ s.suited
 
 pub fetch-running : (d : Host) (c : State) → Running d c → 0 < c.waiting → Running d (after_fetch c)
 fetch-running d c s p =
@@ -143,7 +130,7 @@ fetch-running d c s p =
       heads = s.heads;
       of_lane = s.of_lane;
       phases = s.phases;
-      carried = λ slot. carried-fetch d c s p slot;
+      carried = λ slot. omega (arith, s.carried slot, moved-fetch (bears slot) d c s p);
       held = omega (arith, fewer d c s p, s.held, p, s.waiting, length-append c.taken (command_at c.window c.fetched ∷ []));
-      suited = suited-fetch d c s p;
+      suited = moved-fetch (odd (holds d)) d c s p ∙ s.suited;
     }
