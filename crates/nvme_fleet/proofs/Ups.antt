@@ -3,10 +3,10 @@ use Rattle.nvme_fleet.proofs.Words.{◌≡◌, ℕ, ◌+◌, ◌-◌, ◌*◌, �
 use Rattle.nvme_fleet.proofs.Phases.{phases-kept, phases-posted, phases-consumed}
 use Rattle.std.proofs.lemmas.List.{length-append}
 use Rattle.std.proofs.Math.ListN.{get_or-append}
-use Rattle.nvme_fleet.proofs.Windows.{stored-length}
+use Rattle.nvme_fleet.proofs.Windows.{stored-length, stored-part}
 use Rattle.nvme_fleet.proofs.Keeps.{Enters, enters, EntersCompletion, answered}
 use Rattle.nvme_fleet.proofs.Queues.{same-entry, same-turn, since-zero}
-use Rattle.nvme_fleet.proofs.Places.{no-way}
+use Rattle.nvme_fleet.proofs.Places.{up-holds}
 use Rattle.nvme_fleet.proofs.Orders.{idle-age}
 
 -- a lane that is up, where nothing is on its way
@@ -103,15 +103,6 @@ pub zeros-are : Zeros zeros
 unfolding zeros
 zeros-are = record { long = length-replicate {A = ℕ} 4096 0; each = λ i d h. get_or-replicate 4096 i 0 d h }
 
-stored-within : (w z : List ℕ) (at i n : ℕ) → at ≤ length w → i < length z → get_or (with_bytes w at z) (at + i) n ≡ get_or z i n
-stored-within w z at i n p q =
-    let l : length (take at w) ≡ at = length-take-le at w p in
-    let a : at + i ≡ length (take at w) + i = omega (arith, l) in
-    let b : length (take at w) + i < length (take at w ++ z) = omega (arith, q, length-append (take at w) z) in
-    ap (λ k. get_or (with_bytes w at z) k n) a ∙
-    get_or-append (take at w ++ z) (drop (at + length z) w) n (length (take at w) + i) b ∙
-    get_or-append-add (take at w) z i n
-
 byte-of : (w : List ℕ) (at i n d : ℕ) → i < n → get_or (take n (drop at w)) i d ≡ get_or w (at + i) d
 byte-of w at i n d p = get_or-take n (drop at w) i d p ∙ get_or-drop at w i d
 
@@ -124,17 +115,12 @@ no-phase = refl
 zero-entry : (w : List ℕ) (j : ℕ) → length w ≡ 8192 → j + 16 ≤ 4096 → take 16 (drop (4096 + j) (with_bytes w 4096 zeros)) ≡ replicate 16 0
 zero-entry w j l h =
     let z : length zeros ≡ 4096 = zeros-are.long in
-    let size = stored-length w zeros 4096 (omega (arith, l, z)) in
-    let d = length-drop (4096 + j) (with_bytes w 4096 zeros) in
-    let n : length (take 16 (drop (4096 + j) (with_bytes w 4096 zeros))) ≡ 16 = length-take-le 16 _ (omega (arith, d, size, l, h)) in
+    let d = length-drop j zeros in
+    let n : length (take 16 (drop j zeros)) ≡ 16 = length-take-le 16 _ (omega (arith, d, z, h)) in
+    stored-part w zeros 4096 j 16 (omega (arith, l)) (omega (arith, z, h)) ∙
     same_lists _ _ (n ∙ sym (length-replicate {A = ℕ} 16 0)) (λ k x inside.
     let b : k < 16 = omega (arith, inside, n) in
-    let e : (4096 + j) + k ≡ 4096 + (j + k) = omega arith in
-    byte-of (with_bytes w 4096 zeros) (4096 + j) k 16 x b
-    ∙ ap (λ m. get_or (with_bytes w 4096 zeros) m x) e
-    ∙ stored-within w zeros 4096 (j + k) x (omega (arith, l)) (omega (arith, z, h, b))
-    ∙ zeros-are.each (j + k) x (omega (arith, h, b))
-    ∙ sym (get_or-replicate 16 k 0 x b))
+    byte-of zeros j k 16 x b ∙ zeros-are.each (j + k) x (omega (arith, h, b)) ∙ sym (get_or-replicate 16 k 0 x b))
 
 turn-of : (k : ℕ) → k < 32 → phase_of (0 + k) ≡ true
 turn-of k h = grind (arith, common_steps)
@@ -170,13 +156,7 @@ fresh-quiet d c r =
 -- a lane that has come up holds
 pub risen-holds : (first : ℕ) (d d' : Host) (c c' : State) → Holds first d c → Resting d c → d'.up ≡ true → d'.failed ≡ d.failed → d'.next ≡ d.next → d'.slots ≡ d.slots → Quiet d' c' → Holds d.next d' c'
 risen-holds first d d' c c' s r u f n e q =
-    record {
-      failed = f ∙ s.failed;
-      begun = rw n (omega arith);
-      ages = rw (n, e) (λ k. idle-age first d.next (slot_at d.slots k).waiting (r.idle k) (s.ages k));
-      up = λ t. quiet-running d' c' q;
-      down = λ t. absurd (no-way d'.up t u);
-    }
+    up-holds d.next d' c' u (f ∙ s.failed) (rw n (omega arith)) (rw (n, e) (λ k. idle-age first d.next (slot_at d.slots k).waiting (r.idle k) (s.ages k))) (quiet-running d' c' q)
 
 -- the lane of the mailbox is empty before and after
 pub resting-box : (d : Host) (c : State) → Resting d c → box d c ≡ record { placed = []; rung = []; posted = []; unheard = 0; since = 0 }
