@@ -27,7 +27,6 @@ emptied-running d c i l s =
       waiting = s.waiting;
       unheard = s.unheard;
       room = s.room;
-      heads = s.heads;
       of_lane = s.of_lane;
       phases = s.phases;
       carried = λ k. s.carried k ∙ sym (each-all (λ k (o : Slot). live_in o ≡ live_at d.slots k) d.slots i empty (sym l) (λ k. refl) k);

@@ -1,5 +1,5 @@
 -- An execution in one lane: a request goes from those that were fetched to the answers that were posted.
-use Rattle.nvme_fleet.proofs.Words.{◌≡◌, ℕ, ◌+◌, ◌-◌, ◌%◌, ◌<◌, ◌≤◌, List, [], ◌∷◌, ◌++◌, length, map, refl, ap, sym, ◌∙◌, arith, true, false, cond, eqb, Bool, Some, take, slice_get, take-take, length-set, length-remove, slice_get_within, cid, Completion, completion_of, queue_id, answer_len, PostedAnswer, Effect, State, Slot, finished, finished_bytes, executed, executed_state, completion_bytes, phase_of, ticket_in, received_in, AreOf, in_flight, commands, completions, item, answer, box, Running, Holds, Heads, last_head, heard, unread, since, steps, commands_of, answers_of, live_at, slot_at, answers, holds, total, odd, suits, bears, replies, Carried, Host}
+use Rattle.nvme_fleet.proofs.Words.{◌≡◌, ℕ, ◌+◌, ◌-◌, ◌%◌, ◌<◌, ◌≤◌, List, [], ◌∷◌, ◌++◌, length, map, refl, ap, sym, ◌∙◌, arith, true, false, cond, eqb, Bool, Some, take, slice_get, take-take, length-set, length-remove, slice_get_within, cid, Completion, completion_of, queue_id, answer_len, PostedAnswer, Effect, State, Slot, finished, finished_bytes, executed, executed_state, completion_bytes, phase_of, ticket_in, received_in, IsOf, all-joined, in_flight, commands, completions, item, answer, box, Running, Holds, last_head, heard, unread, since, steps, commands_of, answers_of, live_at, slot_at, answers, holds, total, odd, suits, bears, replies, Carried, Host}
 use Rattle.std.proofs.Common.{remove}
 use Rattle.nvme_fleet.proofs.Totals.{live-within, live-small, live-set, slot-same, each-all}
 use Rattle.nvme_mailbox.proofs.Totals.{total-append, total-removed}
@@ -17,17 +17,9 @@ steps-more : (h : ℕ) (es : List Completion) (e : Completion) → steps h (es +
 steps-more h [] e = omega arith
 steps-more h (x ∷ es) e = omega (arith, steps-more x.sq_head es e)
 
-heads-more : (es : List Completion) (e : Completion) → Heads es → e.sq_head < 8 → Heads (es ++ e ∷ [])
-heads-more [] e h l = (l, tt)
-heads-more (x ∷ es) e h l = (h.0, heads-more es e h.1 l)
-
 answers-more : (f : ℕ → Slot) (h : ℕ) (es : List Completion) (e : Completion) → answers f h (es ++ e ∷ []) ≡ answers f h es ++ answer f (last_head h es) e ∷ []
 answers-more f h [] e = refl
 answers-more f h (x ∷ es) e = ap (λ t. answer f h x ∷ t) (answers-more f x.sq_head es e)
-
-of-more : (q : ℕ) (es : List Completion) (e : Completion) → AreOf q es → e.sq_id ≡ q → AreOf q (es ++ e ∷ [])
-of-more q [] e h l = (l, tt)
-of-more q (x ∷ es) e h l = (h.0, of-more q es e h.1 l)
 
 -- what holds of the i-th command that was fetched
 pub record Fetched (d : Host) (c : State) (i : ℕ) (x : List ℕ) : Type 0 where
@@ -172,8 +164,7 @@ execute-running d c ans i x bytes h =
       waiting = s.waiting;
       unheard = omega (arith, u, since-done d c ans i x bytes h, s.unheard);
       room = s.room;
-      heads = rw (unread-more d c ans i x bytes h) (heads-more (unread d c) (finished c ans x) s.heads s.fetched);
-      of_lane = rw (unread-more d c ans i x bytes h) (of-more (queue_id c.lane) (unread d c) (finished c ans x) s.of_lane refl);
+      of_lane = rw (unread-more d c ans i x bytes h) (all-joined (IsOf (queue_id c.lane)) (unread d c) (finished c ans x ∷ []) s.of_lane ((refl, s.fetched), tt));
       phases = phases-posted c.window _ _ d.consumed c.unread c.posted w s.posted (omega (arith, (h.fetched).room)) (ap (λ (e : Completion). e.phase) h.reads) s.phases;
       carried = carried-done d c ans i x bytes h;
       held = omega (

@@ -1,13 +1,13 @@
 -- Ring and Fetch in one lane: what was placed is rung, and the first that is rung is fetched.
-use Rattle.nvme_fleet.proofs.Words.{◌≡◌, ℕ, ◌+◌, ◌-◌, ◌%◌, ◌<◌, ◌≤◌, List, [], ◌∷◌, ◌++◌, map, refl, ap, ◌∙◌, arith, zero, suc, true, length-append, map-append, Completion, Item, command_at, State, box, in_flight, commands, item, Running, Holds, holds, total, odd, bears, Suited, Heads, last_head, heard, unread, since, commands_of, answers_of, live_at, Host}
+use Rattle.nvme_fleet.proofs.Words.{◌≡◌, ℕ, ◌+◌, ◌-◌, ◌%◌, ◌<◌, ◌≤◌, List, [], ◌∷◌, ◌++◌, map, refl, ap, ◌∙◌, arith, zero, suc, true, length-append, map-append, Completion, Item, command_at, State, box, in_flight, commands, item, Running, Holds, holds, total, odd, bears, Suited, AllByRecursion, IsOf, queue_id, last_head, heard, unread, since, commands_of, answers_of, live_at, Host}
 use Rattle.nvme_fleet.specs.Views.{after_fetch, rung}
 use Rattle.nvme_mailbox.proofs.Totals.{total-append}
 use Rattle.nvme_fleet.proofs.Queues.{same-box, flight-parts, rung-part, placed-part}
 use Rattle.nvme_fleet.proofs.Places.{up-holds}
 
-pub last-small : (h : ℕ) (es : List Completion) → h < 8 → Heads es → last_head h es < 8
-last-small h [] p q = p
-last-small h (e ∷ es) p q = last-small e.sq_head es q.0 q.1
+last-small : (q h : ℕ) (es : List Completion) → h < 8 → AllByRecursion (IsOf q) es → last_head h es < 8
+last-small q h [] l a = l
+last-small q h (e ∷ es) l a = last-small q e.sq_head es a.0.1 a.1
 
 -- the first entry of some, and those behind it
 commands-first : (w : List ℕ) (s n : ℕ) → 0 < n → commands w s n ≡ command_at w s ∷ commands w ((s + 1) % 8) (n - 1)
@@ -16,7 +16,7 @@ commands-first w s (suc n) p = let e : suc n - 1 ≡ n = omega arith in rw e ref
 
 more : (d : Host) (c : State) → Running d c → 0 < c.waiting → since d (after_fetch c) ≡ since d c + 1
 more d c s p =
-    let l : last_head (heard d) (unread d c) < 8 = last-small (heard d) (unread d c) (omega arith) s.heads in
+    let l : last_head (heard d) (unread d c) < 8 = last-small (queue_id c.lane) (heard d) (unread d c) (omega arith) s.of_lane in
     omega (arith, s.fetched, l, s.unheard, s.room, s.waiting, p)
 
 fewer : (d : Host) (c : State) → Running d c → 0 < c.waiting → in_flight d (after_fetch c) ≡ in_flight d c - 1
@@ -69,7 +69,6 @@ still-running d c next waiting few s =
       waiting = few;
       unheard = s.unheard;
       room = s.room;
-      heads = s.heads;
       of_lane = s.of_lane;
       phases = s.phases;
       carried = s.carried;
@@ -106,7 +105,6 @@ fetch-running d c s p =
       waiting = omega (arith, fewer d c s p, p, s.waiting);
       unheard = omega (arith, fewer d c s p, more d c s p, s.unheard, p, s.waiting);
       room = s.room;
-      heads = s.heads;
       of_lane = s.of_lane;
       phases = s.phases;
       carried = λ slot. omega (arith, s.carried slot, moved-fetch (bears slot) d c s p);

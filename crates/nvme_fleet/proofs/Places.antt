@@ -148,7 +148,6 @@ place-running d c x w slot bytes list h =
       waiting = omega (arith, m, s.waiting);
       unheard = rw (heard-placed d.put d.unheard s.put h.room, same-unread d c x w slot bytes list h) (omega (arith, m, s.unheard));
       room = omega (arith, h.room);
-      heads = rw (same-unread d c x w slot bytes list h) s.heads;
       of_lane = rw (same-unread d c x w slot bytes list h) s.of_lane;
       phases = phases-kept c.window _ d.put d.consumed c.unread k.keeps s.phases;
       carried = carried-place d c x w slot bytes list h;

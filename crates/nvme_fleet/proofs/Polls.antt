@@ -1,5 +1,5 @@
 -- Poll in one lane: the completion at its head is the first answer that was posted, and its slot is freed.
-use Rattle.nvme_fleet.proofs.Words.{◌≡◌, ℕ, ◌+◌, ◌-◌, ◌%◌, ◌<◌, ◌≤◌, List, [], ◌∷◌, length, refl, ap, sym, subst, ◌∙◌, arith, zero, suc, true, false, not, cond, eqb, Bool, Some, None, slice_set, length-set, lt-ltb, le-ltb, common_steps, nat_lt, Completion, LaneBox, completion_of, queue_id, completion_bytes, phase_of, AreOf, State, Slot, empty, slot_at, box, answer, front, left_after, can_hear, next_completion, consumed, less, in_flight, commands, completions, Running, Heads, last_head, heard, unread, since, steps, commands_of, answers_of, live_at, live_in, answers, holds, total, Carried, AgeIn, Holds, Host}
+use Rattle.nvme_fleet.proofs.Words.{◌≡◌, ℕ, ◌+◌, ◌-◌, ◌%◌, ◌<◌, ◌≤◌, List, [], ◌∷◌, length, refl, ap, sym, subst, ◌∙◌, arith, zero, suc, true, false, not, cond, eqb, Bool, Some, None, slice_set, length-set, lt-ltb, le-ltb, common_steps, nat_lt, Completion, LaneBox, completion_of, queue_id, completion_bytes, phase_of, AllByRecursion, IsOf, State, Slot, empty, slot_at, box, answer, front, left_after, can_hear, next_completion, consumed, less, in_flight, commands, completions, Running, last_head, heard, unread, since, steps, commands_of, answers_of, live_at, live_in, answers, holds, total, Carried, AgeIn, Holds, Host}
 use Rattle.nvme_fleet.proofs.Queues.{same-box, eqb-sym, self-eqb, Bare, bare-all}
 use Rattle.nvme_fleet.proofs.Totals.{live-small, live-within, live-set, each-set, each-all}
 use Rattle.nvme_fleet.proofs.Slots.{few, bare-box, bare-odd}
@@ -45,22 +45,19 @@ heard-is p u h a b e = omega arith
 abbrev step-of : Host → State → ℕ
 step-of d c = ((front d c).sq_head + 8 - heard d) % 8
 
-front-heads : (d : Host) (c : State) → Running d c → 0 < c.unread → Heads (front d c ∷ rest-of d c)
-front-heads d c s p = subst Heads (front-first d c p) s.heads
-
-front-lanes : (d : Host) (c : State) → Running d c → 0 < c.unread → AreOf (queue_id c.lane) (front d c ∷ rest-of d c)
-front-lanes d c s p = subst (AreOf (queue_id c.lane)) (front-first d c p) s.of_lane
+front-of : (d : Host) (c : State) → Running d c → 0 < c.unread → AllByRecursion (IsOf (queue_id c.lane)) (front d c ∷ rest-of d c)
+front-of d c s p = subst (AllByRecursion (IsOf (queue_id c.lane))) (front-first d c p) s.of_lane
 
 pub front-of-lane : (d : Host) (c : State) → Running d c → 0 < c.unread → (front d c).sq_id ≡ queue_id c.lane
-front-of-lane d c s p = (front-lanes d c s p).0
+front-of-lane d c s p = (front-of d c s p).0.0
 
 left-over : (d : Host) (c : State) → Running d c → 0 < c.unread → left_after d (front d c).sq_head ≡ d.unheard - step-of d c
 left-over d c s p =
-    left-is d.put d.unheard (front d c).sq_head s.put s.room (front-heads d c s p).0 (omega (arith, ap (steps (heard d)) (front-first d c p), s.unheard))
+    left-is d.put d.unheard (front d c).sq_head s.put s.room (front-of d c s p).0.1 (omega (arith, ap (steps (heard d)) (front-first d c p), s.unheard))
 
 pub hears : (d : Host) (c : State) → Running d c → 0 < c.unread → can_hear d (front d c).sq_head ≡ true
 hears d c s p =
-    let h : (front d c).sq_head < 8 = (front-heads d c s p).0 in
+    let h : (front d c).sq_head < 8 = (front-of d c s p).0.1 in
     let l : left_after d (front d c).sq_head ≡ d.unheard - step-of d c = left-over d c s p in
     grind (arith, common_steps, h, l)
 
@@ -81,7 +78,7 @@ bare d c s p =
     (omega (arith, s.carried (front d c).cid, front-live d c s p, front-answers d c (front d c).cid true p (self-eqb (front d c).cid (front d c).cid refl)))
 
 heard-front : (d : Host) (c : State) → Running d c → 0 < c.unread → heard (consumed d (front d c)) ≡ (front d c).sq_head
-heard-front d c s p = heard-is d.put d.unheard (front d c).sq_head s.put s.room (front-heads d c s p).0
+heard-front d c s p = heard-is d.put d.unheard (front d c).sq_head s.put s.room (front-of d c s p).0.1
 
 since-front : (d : Host) (c : State) → Running d c → 0 < c.unread → since (consumed d (front d c)) (less c) ≡ since d c
 since-front d c s p =
@@ -145,8 +142,7 @@ poll-running d c s p =
       waiting = s.waiting;
       unheard = unheard-front d c s p;
       room = omega arith;
-      heads = (front-heads d c s p).1;
-      of_lane = (front-lanes d c s p).1;
+      of_lane = (front-of d c s p).1;
       phases = phases-consumed c.window d.consumed c.unread p (omega (arith, few d c s)) s.phases;
       carried = carried-front d c s p;
       held = held-front d c s p;

@@ -1,5 +1,5 @@
 -- Bringing up in one lane: nothing is on its way behind each of the driver's own commands, and it holds at the end.
-use Rattle.nvme_fleet.proofs.Words.{◌≡◌, ℕ, ◌+◌, ◌-◌, ◌*◌, ◌%◌, ◌<◌, ◌≤◌, List, [], ◌∷◌, ◌++◌, length, refl, ap, sym, ◌∙◌, arith, suc, true, false, not, cond, eqb, Bool, inl, inr, take, drop, get_or, subst, length-drop, get_or-take, get_or-drop, get_or-append-add, get_or-replicate, length-replicate, length-take-le, same_lists, cases_lt, le-ltb, ne_eqb, common_steps, nat_lt, replicate, with_bytes, queue_id, completion_of, phase, AreOf, completion_bytes, phase_of, State, Slot, slot_at, zeros, fresh_host, fresh_state, own_host, own_state, in_flight, commands, completions, commands_of, answers_of, unread, heard, steps, since, last_head, total, odd, holds, live_in, live_at, Heads, Phases, Running, Resting, Holds, box, Host}
+use Rattle.nvme_fleet.proofs.Words.{◌≡◌, ℕ, ◌+◌, ◌-◌, ◌*◌, ◌%◌, ◌<◌, ◌≤◌, List, [], ◌∷◌, ◌++◌, length, refl, ap, sym, ◌∙◌, arith, suc, true, false, not, cond, eqb, Bool, inl, inr, take, drop, get_or, subst, length-drop, get_or-take, get_or-drop, get_or-append-add, get_or-replicate, length-replicate, length-take-le, same_lists, cases_lt, le-ltb, ne_eqb, common_steps, nat_lt, replicate, with_bytes, queue_id, completion_of, phase, AllByRecursion, IsOf, completion_bytes, phase_of, State, Slot, slot_at, zeros, fresh_host, fresh_state, own_host, own_state, in_flight, commands, completions, commands_of, answers_of, unread, heard, steps, since, last_head, total, odd, holds, live_in, live_at, Phases, Running, Resting, Holds, box, Host}
 use Rattle.nvme_fleet.proofs.Phases.{phases-kept, phases-posted, phases-consumed}
 use Rattle.std.proofs.lemmas.List.{length-append}
 use Rattle.std.proofs.Math.ListN.{get_or-append}
@@ -49,8 +49,7 @@ quiet-running d c s =
       waiting = omega (arith, s.waiting);
       unheard = omega (arith, z, n, f, s.unheard);
       room = omega (arith, s.unheard);
-      heads = subst Heads (sym u) tt;
-      of_lane = subst (AreOf (queue_id c.lane)) (sym u) tt;
+      of_lane = subst (AllByRecursion (IsOf (queue_id c.lane))) (sym u) tt;
       phases = s.phases;
       carried = λ k. omega (arith, ap (commands_of k) s.taken, ap (commands_of k) e, ap (answers_of k) u, s.idle k);
       held = omega (arith, ap length s.taken, f, s.unread, idle-total d.slots s.idle);

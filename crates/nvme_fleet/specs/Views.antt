@@ -2,6 +2,7 @@
 -- bytes that lie there, the lane's two queue pages, and the counts of its queues. Places count from the start of the
 -- pages: the submission queue lies in the first, the completion queue in the second.
 use Rattle.std.specs.Prelude.{◌≡◌, ℕ, zero, suc, ◌+◌, ◌-◌, ◌*◌, ◌%◌, ◌<◌, ◌≤◌, nat_lt, nat_le, ◌==◌, Bool, true, false, not, ◌&&◌, ◌||◌, is_some, if◌then◌else◌, cond, List, [], ◌∷◌, ◌++◌, length, map, take, drop, remove, replicate, Option, None, Some, slice_get, slice_set}
+use Rattle.std.specs.List.{AllByRecursion}
 use Rattle.std.specs.Str.{bytes_eq}
 use Rattle.nvme_wire.specs.Submission.{submission_entry, opcode, cid, nsid, cdw10, cdw11, cdw12}
 use Rattle.nvme_wire.specs.Completion.{Completion, completion_of, completion_entry}
@@ -206,15 +207,9 @@ abbrev pub steps : ℕ → List Completion → ℕ
 steps heard [] = 0
 steps heard (e ∷ es) = (e.sq_head + 8 - heard) % 8 + steps e.sq_head es
 
--- heads are below the queue's size
-abbrev pub Heads : List Completion → Type 0
-Heads [] = Unit {0}
-Heads (e ∷ es) = (e.sq_head < 8) × Heads es
-
--- completions are of this submission queue
-abbrev pub AreOf : ℕ → List Completion → Type 0
-AreOf q [] = Unit {0}
-AreOf q (e ∷ es) = (e.sq_id ≡ q) × AreOf q es
+-- a completion is of this submission queue, and its head is below that queue's size
+abbrev pub IsOf : ℕ → Completion → Type 0
+IsOf q e = (e.sq_id ≡ q) × (e.sq_head < 8)
 
 -- whether a command, or a completion, bears this slot, 1 or 0
 abbrev pub bears : ℕ → List ℕ → ℕ
@@ -273,8 +268,7 @@ pub record Running (d : Host) (c : State) : Type 0 where
   pub waiting : c.waiting ≤ in_flight d c
   pub unheard : steps (heard d) (unread d c) + since d c + in_flight d c ≡ d.unheard
   pub room : d.unheard < 8
-  pub heads : Heads (unread d c)
-  pub of_lane : AreOf (queue_id c.lane) (unread d c)
+  pub of_lane : AllByRecursion (IsOf (queue_id c.lane)) (unread d c)
   pub phases : Phases c.window d.consumed c.unread
   pub carried : Carried d c
   pub held : length c.taken + in_flight d c + c.unread ≡ total live_in d.slots
