@@ -1,5 +1,5 @@
 -- Ring and Fetch in one lane: what was placed is rung, and the first that is rung is fetched.
-use Rattle.nvme_fleet.proofs.Words.{◌≡◌, ℕ, ◌+◌, ◌-◌, ◌%◌, ◌<◌, ◌≤◌, List, [], ◌∷◌, ◌++◌, map, refl, ap, ◌∙◌, arith, zero, suc, true, length-append, map-append, Completion, Item, command_at, State, box, in_flight, commands, item, Running, Holds, holds, total, odd, bears, Suited, AllByRecursion, IsOf, queue_id, last_head, heard, unread, since, commands_of, answers_of, live_at, Host}
+use Rattle.nvme_fleet.proofs.Words.{◌≡◌, ℕ, ◌+◌, ◌-◌, ◌%◌, ◌<◌, ◌≤◌, List, [], ◌∷◌, ◌++◌, map, refl, ap, ◌∙◌, arith, zero, suc, true, length-append, map-append, Completion, Item, command_at, State, box, in_flight, commands, item, Running, Holds, holds, total, odd, bears, AllByRecursion, IsOf, queue_id, last_head, heard, unread, since, Host}
 use Rattle.nvme_fleet.specs.Views.{after_fetch, rung}
 use Rattle.nvme_mailbox.proofs.Totals.{total-append}
 use Rattle.nvme_fleet.proofs.Queues.{same-box, flight-parts, rung-part, placed-part}

@@ -1,6 +1,6 @@
 -- The phase tags of a completion queue: what a new submission entry, a new completion and a completion that is consumed
 -- make of them.
-use Rattle.nvme_fleet.proofs.Words.{◌≡◌, ℕ, ◌+◌, ◌-◌, ◌%◌, ◌<◌, ◌≤◌, List, length, refl, ap, sym, ◌∙◌, arith, true, false, not, cond, eqb, Bool, inl, inr, lt-ltb, le-ltb, cases_lt, cases_eq, ne_eqb, common_steps, nat_lt, completion_of, completion_bytes, phase_of, Phases}
+use Rattle.nvme_fleet.proofs.Words.{◌≡◌, ℕ, ◌+◌, ◌-◌, ◌%◌, ◌<◌, ◌≤◌, List, refl, ap, sym, ◌∙◌, arith, true, false, not, cond, eqb, Bool, inl, inr, lt-ltb, le-ltb, cases_lt, cases_eq, ne_eqb, common_steps, nat_lt, completion_of, completion_bytes, phase_of, Phases}
 use Rattle.nvme_fleet.proofs.Queues.{same-entry, same-turn}
 use Rattle.nvme_fleet.proofs.Keeps.{Keeps, EntersCompletion}
 

@@ -1,5 +1,5 @@
 -- Placing in one lane: a request in a slot that nobody bears joins those that were placed.
-use Rattle.nvme_fleet.proofs.Words.{◌≡◌, ℕ, ◌+◌, ◌-◌, ◌%◌, ◌<◌, ◌≤◌, List, [], ◌∷◌, ◌++◌, length, map, refl, ap, sym, ◌∙◌, arith, true, false, cond, eqb, Option, Some, None, inl, inr, slice_set, Bool, map-append, length-set, cases_Bool, eqb-true, ne_eqb, common_steps, Waiting, cid, live_in, suits, Slot, item_in, State, filled, placed_state, in_flight, commands, item, box, Running, Holds, Ages, AgeIn, last_head, heard, unread, since, commands_of, answers_of, live_at, slot_at, answers, holds, total, odd, bears, Carried, Host}
+use Rattle.nvme_fleet.proofs.Words.{◌≡◌, ℕ, ◌+◌, ◌-◌, ◌%◌, ◌<◌, ◌≤◌, List, [], ◌∷◌, ◌++◌, length, map, refl, ap, ◌∙◌, arith, true, false, cond, eqb, Option, Some, None, Bool, map-append, length-set, common_steps, Waiting, cid, live_in, suits, Slot, item_in, State, filled, placed_state, in_flight, commands, item, box, Running, Holds, Ages, AgeIn, last_head, heard, unread, commands_of, answers_of, live_at, slot_at, answers, holds, total, odd, bears, Carried, Host}
 use Rattle.nvme_fleet.specs.Views.{placed}
 use Rattle.nvme_fleet.proofs.Totals.{live-set, slot-same, each-set, each-all}
 use Rattle.nvme_mailbox.proofs.Totals.{total-append}
@@ -122,7 +122,7 @@ carried-place d c x w slot bytes list h =
     let u = same-unread d c x w slot bytes list h in
     each-set
     (λ k (o : Slot). commands_of k c.taken + commands_of k (commands (placed_state d c x).window c.fetched (in_flight (placed d w slot bytes list) (placed_state d c x)))
-        + answers_of k (unread (placed d w slot bytes list) (placed_state d c x)) ≡ live_in o)
+    + answers_of k (unread (placed d w slot bytes list) (placed_state d c x)) ≡ live_in o)
     d.slots slot (filled w bytes list) (omega (arith, h.within, s.slots))
     (omega (arith, s.carried slot, h.free, flight-more (bears slot) d c x w slot bytes list h, ap (answers_of slot) u, new-bears x slot slot true h.named (self-eqb slot slot refl), new-live w bytes list h.live))
     (λ k q. omega (arith, s.carried k, flight-more (bears k) d c x w slot bytes list h, ap (answers_of k) u, new-bears x slot k false h.named (eqb-sym k slot q)))
