@@ -1,44 +1,11 @@
 -- Admin commands with the same fields are judged alike and do the same. The creation of queues is left out, since it reads
 -- the data pointer; it is none of a driver's requests.
-use Rattle.nvme_fleet.proofs.Words.{◌≡◌, ℕ, List, Option, Some, refl, opcode, nsid, AdminCommand, Queues, World, Namespace, namespace_of, cns, fid, sv, nsqr, ncqr, wps, exhid, sel, double_word_0, data_out}
+use Rattle.nvme_fleet.proofs.Words.{◌≡◌, ℕ, List, Option, Some, refl, opcode, nsid, AdminCommand, Queues, World, Namespace, namespace_of, form_rule, cns, fid, sv, nsqr, ncqr, wps, exhid, sel, double_word_0, data_out}
 use Rattle.nvme_spec.specs.declared.command.AdminCommand.TheVariants as admin
 use Rattle.nvme_spec.specs.AdminCommands.{command_of}
 use Rattle.nvme_spec.specs.AdminRules as rules
 use Rattle.nvme_spec.specs.AdminEffects.{world_after}
 use Rattle.nvme_fleet.proofs.Commands.{SameFields}
-use Rattle.nvme_fleet.proofs.Judging.{same-form}
-
-same-cns : (x y : List ℕ) → SameFields x y → cns y ≡ cns x
-unfolding cns
-same-cns x y h = rw h.cdw10 refl
-
-same-fid : (x y : List ℕ) → SameFields x y → fid y ≡ fid x
-unfolding fid
-same-fid x y h = rw h.cdw10 refl
-
-same-sv : (x y : List ℕ) → SameFields x y → sv y ≡ sv x
-unfolding sv
-same-sv x y h = rw h.cdw10 refl
-
-same-nsqr : (x y : List ℕ) → SameFields x y → nsqr y ≡ nsqr x
-unfolding nsqr
-same-nsqr x y h = rw h.cdw11 refl
-
-same-ncqr : (x y : List ℕ) → SameFields x y → ncqr y ≡ ncqr x
-unfolding ncqr
-same-ncqr x y h = rw h.cdw11 refl
-
-same-wps : (x y : List ℕ) → SameFields x y → wps y ≡ wps x
-unfolding wps
-same-wps x y h = rw h.cdw11 refl
-
-same-exhid : (x y : List ℕ) → SameFields x y → exhid y ≡ exhid x
-unfolding exhid
-same-exhid x y h = rw h.cdw11 refl
-
-same-sel : (x y : List ℕ) → SameFields x y → sel y ≡ sel x
-unfolding sel
-same-sel x y h = rw h.cdw10 refl
 
 -- The commands that a driver's requests ask for.
 abbrev pub IsAsked : AdminCommand → Type 0
@@ -50,51 +17,44 @@ IsAsked command = ⊥
 
 same-field : (command : AdminCommand) (queues : Queues) (n : Option Namespace) (x y : List ℕ) → IsAsked command → SameFields x y
     → rules.field_rule (Some command) queues n y ≡ rules.field_rule (Some command) queues n x
-unfolding rules.identify_rule rules.set_features_rule rules.get_features_rule rules.selection_rule
-same-field admin.Identify queues n x y k h = rw (same-cns x y h) refl
-same-field admin.SetFeatures queues n x y k h = rw (same-fid x y h, same-sv x y h, same-nsqr x y h, same-ncqr x y h, same-wps x y h) refl
-same-field admin.GetFeatures queues n x y k h = rw (same-fid x y h, same-exhid x y h) refl
-same-field admin.NamespaceAttachment queues n x y k h = rw (same-sel x y h) refl
+unfolding rules.identify_rule rules.set_features_rule rules.get_features_rule rules.selection_rule cns fid sv nsqr ncqr wps exhid sel
+same-field admin.Identify queues n x y k h = rw h.cdw10 refl
+same-field admin.SetFeatures queues n x y k h = rw (h.cdw10, h.cdw11) refl
+same-field admin.GetFeatures queues n x y k h = rw (h.cdw10, h.cdw11) refl
+same-field admin.NamespaceAttachment queues n x y k h = rw h.cdw10 refl
 same-field command queues n x y k h = absurd k
-
-same-nsid : (o : Option AdminCommand) (x y : List ℕ) → SameFields x y → rules.nsid_rule o y ≡ rules.nsid_rule o x
-unfolding rules.nsid_rule
-same-nsid o x y h = rw (h.nsid, same-fid x y h, same-cns x y h) refl
-
-same-attachment : (o : Option AdminCommand) (w : World) (k : ℕ) (x y : List ℕ) → SameFields x y → rules.attachment_rule o w k y ≡ rules.attachment_rule o w k x
-unfolding rules.attachment_rule
-same-attachment o w k x y h = rw (h.nsid, same-fid x y h) refl
 
 -- the rules before those that look at the data
 pub admin-access-same : (w : World) (queues : Queues) (k : ℕ) (x y : List ℕ) (command : AdminCommand) → IsAsked command → command_of (opcode x) ≡ Some command → SameFields x y
     → rules.admin_access_rules w queues k y ≡ rules.admin_access_rules w queues k x
+unfolding form_rule rules.nsid_rule rules.attachment_rule cns fid
 admin-access-same w queues k x y command a o h =
-    rw (h.opcode, o, h.nsid, same-form x y h, same-nsid (Some command) x y h, same-attachment (Some command) w k x y h, same-field command queues (namespace_of w (nsid x)) x y a h) refl
+    rw (h.opcode, o, same-field command queues (namespace_of w (nsid y)) x y a h, h.nsid, h.fuse, h.psdt, h.cdw10) refl
 
 -- the rule that looks at a list of controllers
 pub list-same : (w : World) (x y sent : List ℕ) (command : AdminCommand) → IsAsked command → SameFields x y
     → rules.list_rule (Some command) w y sent ≡ rules.list_rule (Some command) w x sent
-unfolding rules.list_rule
+unfolding rules.list_rule sel
 list-same w x y sent admin.Identify a h = refl
 list-same w x y sent admin.SetFeatures a h = refl
 list-same w x y sent admin.GetFeatures a h = refl
-list-same w x y sent admin.NamespaceAttachment a h = rw (h.nsid, same-sel x y h) refl
+list-same w x y sent admin.NamespaceAttachment a h = rw (h.nsid, h.cdw10) refl
 list-same w x y sent command a h = absurd a
 
 -- double word 0, the data that go to the host, and what becomes of the world
 pub dw0-same : (w : World) (x y : List ℕ) (command : AdminCommand) → IsAsked command → SameFields x y → double_word_0 w command y ≡ double_word_0 w command x
-unfolding double_word_0
+unfolding double_word_0 fid
 dw0-same w x y admin.Identify a h = refl
-dw0-same w x y admin.SetFeatures a h = rw (same-fid x y h) refl
-dw0-same w x y admin.GetFeatures a h = rw (h.nsid, same-fid x y h) refl
+dw0-same w x y admin.SetFeatures a h = rw h.cdw10 refl
+dw0-same w x y admin.GetFeatures a h = rw (h.nsid, h.cdw10) refl
 dw0-same w x y admin.NamespaceAttachment a h = refl
 dw0-same w x y command a h = absurd a
 
 pub data-out-same : (w : World) (k : ℕ) (x y : List ℕ) (command : AdminCommand) → IsAsked command → SameFields x y → data_out w k command y ≡ data_out w k command x
-unfolding data_out
-data-out-same w k x y admin.Identify a h = rw (h.nsid, same-cns x y h) refl
+unfolding data_out cns fid
+data-out-same w k x y admin.Identify a h = rw (h.nsid, h.cdw10) refl
 data-out-same w k x y admin.SetFeatures a h = refl
-data-out-same w k x y admin.GetFeatures a h = rw (same-fid x y h) refl
+data-out-same w k x y admin.GetFeatures a h = rw h.cdw10 refl
 data-out-same w k x y admin.NamespaceAttachment a h = refl
 data-out-same w k x y admin.DeleteSubmissionQueue a h = absurd a
 data-out-same w k x y admin.CreateSubmissionQueue a h = absurd a
@@ -102,9 +62,9 @@ data-out-same w k x y admin.DeleteCompletionQueue a h = absurd a
 data-out-same w k x y admin.CreateCompletionQueue a h = absurd a
 
 pub world-same : (w : World) (x y sent : List ℕ) (command : AdminCommand) → IsAsked command → SameFields x y → world_after w command y sent ≡ world_after w command x sent
-unfolding world_after
+unfolding world_after fid wps sel
 world-same w x y sent admin.Identify a h = refl
-world-same w x y sent admin.SetFeatures a h = rw (h.nsid, same-fid x y h, same-wps x y h) refl
+world-same w x y sent admin.SetFeatures a h = rw (h.nsid, h.cdw10, h.cdw11) refl
 world-same w x y sent admin.GetFeatures a h = refl
-world-same w x y sent admin.NamespaceAttachment a h = rw (h.nsid, same-sel x y h) refl
+world-same w x y sent admin.NamespaceAttachment a h = rw (h.nsid, h.cdw10) refl
 world-same w x y sent command a h = absurd a

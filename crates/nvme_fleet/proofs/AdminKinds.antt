@@ -24,21 +24,10 @@ pub record IsPlainAdmin (received moved : ℕ) (x : List ℕ) : Type 0 where
   pub asked : IsAsked command
   pub moves : MovesAs command received moved x
 
-identify-named : (n : ℕ) → n ≡ opcode_of admin.Identify → command_of n ≡ Some admin.Identify
+opcode-names : (command : AdminCommand) (n : ℕ) → n ≡ opcode_of command → command_of n ≡ Some command
 unfolding command_of
-identify-named n e = rw e refl
-
-set-named : (n : ℕ) → n ≡ opcode_of admin.SetFeatures → command_of n ≡ Some admin.SetFeatures
-unfolding command_of
-set-named n e = rw e refl
-
-get-named : (n : ℕ) → n ≡ opcode_of admin.GetFeatures → command_of n ≡ Some admin.GetFeatures
-unfolding command_of
-get-named n e = rw e refl
-
-attachment-named : (n : ℕ) → n ≡ opcode_of admin.NamespaceAttachment → command_of n ≡ Some admin.NamespaceAttachment
-unfolding command_of
-attachment-named n e = rw e refl
+opcode-names admin.Identify n e = rw e refl
+opcode-names command n e = rw e refl
 
 or-parts : (p q : Bool) → (p || q) ≡ true → (p ≡ true) ⊎ (q ≡ true)
 or-parts true q h = inl refl
@@ -54,23 +43,23 @@ plain-admin s x l h =
     elim (or-parts _ _ (sym (ap (λ lane. is_plain_in lane (asked_in s x)) l) ∙ h)) [
       | inl p ↦ (
           let e = and_parts _ _ p in
-          record { command = admin.Identify; named = identify-named (opcode x) (eqb-true _ _ e.0); asked = tt; moves = eqb-true _ _ e.1 }
+          record { command = admin.Identify; named = opcode-names admin.Identify (opcode x) (eqb-true _ _ e.0); asked = tt; moves = eqb-true _ _ e.1 }
           )
       | inr others ↦ elim (or-parts _ _ others) [
         | inl p ↦ (
             let e = and_parts _ _ p in
             let f = and_parts _ _ e.1 in
-            record { command = admin.SetFeatures; named = set-named (opcode x) (eqb-true _ _ e.0); asked = tt; moves = eqb-true _ _ f.1 }
+            record { command = admin.SetFeatures; named = opcode-names admin.SetFeatures (opcode x) (eqb-true _ _ e.0); asked = tt; moves = eqb-true _ _ f.1 }
             )
         | inr rest ↦ elim (or-parts _ _ rest) [
           | inl p ↦ (
               let e = and_parts _ _ p in
               let f = and_parts _ _ e.1 in
-              record { command = admin.GetFeatures; named = get-named (opcode x) (eqb-true _ _ e.0); asked = tt; moves = (eqb-true _ _ f.1, feature-is x f.0) }
+              record { command = admin.GetFeatures; named = opcode-names admin.GetFeatures (opcode x) (eqb-true _ _ e.0); asked = tt; moves = (eqb-true _ _ f.1, feature-is x f.0) }
               )
           | inr p ↦ (
               let e = and_parts _ _ p in
-              record { command = admin.NamespaceAttachment; named = attachment-named (opcode x) (eqb-true _ _ e.0); asked = tt; moves = eqb-true _ _ e.1 }
+              record { command = admin.NamespaceAttachment; named = opcode-names admin.NamespaceAttachment (opcode x) (eqb-true _ _ e.0); asked = tt; moves = eqb-true _ _ e.1 }
               )
         ]
       ]

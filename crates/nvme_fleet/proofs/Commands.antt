@@ -36,21 +36,15 @@ cid-small : (x : List ℕ) → cid x < 2 ^ 16
 unfolding cid
 cid-small x = omega arith
 
-nsid-small : (f : SqeFields) → nsid (submission_entry f) < 2 ^ 32
-unfolding nsid submission_entry
-nsid-small f = omega arith
+record WordsFit (x : List ℕ) : Type 0 where
+  nsid : nsid x < 2 ^ 32
+  cdw10 : cdw10 x < 2 ^ 32
+  cdw11 : cdw11 x < 2 ^ 32
+  cdw12 : cdw12 x < 2 ^ 32
 
-cdw10-small : (f : SqeFields) → cdw10 (submission_entry f) < 2 ^ 32
-unfolding cdw10 submission_entry
-cdw10-small f = omega arith
-
-cdw11-small : (f : SqeFields) → cdw11 (submission_entry f) < 2 ^ 32
-unfolding cdw11 submission_entry
-cdw11-small f = omega arith
-
-cdw12-small : (f : SqeFields) → cdw12 (submission_entry f) < 2 ^ 32
-unfolding cdw12 submission_entry
-cdw12-small f = omega arith
+words-fit : (f : SqeFields) → WordsFit (submission_entry f)
+unfolding nsid cdw10 cdw11 cdw12 submission_entry
+words-fit f = record { nsid = omega arith; cdw10 = omega arith; cdw11 = omega arith; cdw12 = omega arith }
 
 -- the same fields
 pub record SameFields (x y : List ℕ) : Type 0 where
@@ -80,16 +74,16 @@ second-small slot n h = elim (cases_Bool (nat_le n 4096)) [
 -- the fields of a suited command fit, and so do those of the same command as it is judged
 fits-entry : (s : Slot) (x : List ℕ) → IsSuited s x → cid x < 24 → FitsSqeFields (entry_fields (asked_in s x) (cid x))
 fits-entry s x h k =
-    let f : SqeFields = entry_fields (asked_in s x) (cid x) in
-    let e = h.spelled in record {
+    let w : WordsFit x = subst WordsFit (sym h.spelled) (words-fit (entry_fields (asked_in s x) (cid x))) in
+    record {
       opcode = opcode-small x;
       cid = cid-small x;
-      nsid = subst (λ y. nsid y < 2 ^ 32) (sym e) (nsid-small (entry_fields (asked_in s x) (cid x)));
+      nsid = w.nsid;
       prp1 = first-small (cid x) (asked_in s x).moved k;
       prp2 = second-small (cid x) (asked_in s x).moved k;
-      cdw10 = subst (λ y. cdw10 y < 2 ^ 32) (sym e) (cdw10-small (entry_fields (asked_in s x) (cid x)));
-      cdw11 = subst (λ y. cdw11 y < 2 ^ 32) (sym e) (cdw11-small (entry_fields (asked_in s x) (cid x)));
-      cdw12 = subst (λ y. cdw12 y < 2 ^ 32) (sym e) (cdw12-small (entry_fields (asked_in s x) (cid x)));
+      cdw10 = w.cdw10;
+      cdw11 = w.cdw11;
+      cdw12 = w.cdw12;
       cdw13 = omega arith;
       cdw14 = omega arith;
       cdw15 = omega arith;

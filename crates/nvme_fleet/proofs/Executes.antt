@@ -1,12 +1,13 @@
 -- An execution in one lane: a request goes from those that were fetched to the answers that were posted.
-use Rattle.nvme_fleet.proofs.Words.{◌≡◌, ℕ, ◌+◌, ◌-◌, ◌%◌, ◌<◌, ◌≤◌, List, [], ◌∷◌, ◌++◌, length, map, refl, ap, sym, ◌∙◌, arith, true, false, not, cond, eqb, Bool, Some, inl, inr, take, slice_get, take-take, length-set, length-remove, slice_get_within, cases_Bool, eqb-true, ne_eqb, lt-ltb, cases_eq, common_steps, nat_lt, cid, Completion, completion_of, queue_id, answer_len, PostedAnswer, Effect, State, Slot, finished, finished_bytes, executed, executed_state, completion_bytes, phase_of, ticket_in, received_in, AreOf, in_flight, commands, completions, item, answer, box, Running, Holds, Heads, last_head, heard, unread, since, steps, commands_of, answers_of, live_at, slot_at, answers, holds, total, odd, suits, bears, replies, Carried, Phases, Host}
+use Rattle.nvme_fleet.proofs.Words.{◌≡◌, ℕ, ◌+◌, ◌-◌, ◌%◌, ◌<◌, ◌≤◌, List, [], ◌∷◌, ◌++◌, length, map, refl, ap, sym, ◌∙◌, arith, true, false, cond, Bool, Some, take, slice_get, take-take, length-set, length-remove, slice_get_within, cid, Completion, completion_of, queue_id, answer_len, PostedAnswer, Effect, State, Slot, finished, finished_bytes, executed, executed_state, completion_bytes, ticket_in, received_in, IsOf, all-joined, in_flight, commands, completions, item, answer, box, Running, Holds, last_head, heard, unread, since, steps, commands_of, answers_of, live_at, slot_at, answers, holds, total, odd, suits, bears, replies, Carried, Host}
 use Rattle.std.proofs.Common.{remove}
-use Rattle.nvme_fleet.proofs.Totals.{live-within, live-small, live-set, slot-same}
+use Rattle.nvme_fleet.proofs.Totals.{live-within, live-small, live-set, slot-same, each-all}
 use Rattle.nvme_mailbox.proofs.Totals.{total-append, total-removed}
-use Rattle.nvme_fleet.proofs.Slots.{few, Apart, apart-set, same-items, same-odd, same-answers}
+use Rattle.nvme_fleet.proofs.Slots.{few, bare-box, bare-odd}
 use Rattle.nvme_fleet.proofs.Keeps.{EntersCompletion, answered, commands-same, completions-kept}
-use Rattle.nvme_fleet.proofs.Queues.{flight-total, completions-append, same-box, self-eqb, same-entry, same-turn, since-zero}
-use Rattle.nvme_fleet.proofs.Places.{no-way}
+use Rattle.nvme_fleet.proofs.Queues.{Bare, bare-all, completions-append, same-box, self-eqb, since-zero}
+use Rattle.nvme_fleet.proofs.Places.{up-holds}
+use Rattle.nvme_fleet.proofs.Phases.{phases-posted}
 
 last-more : (h : ℕ) (es : List Completion) (e : Completion) → last_head h (es ++ e ∷ []) ≡ e.sq_head
 last-more h [] e = refl
@@ -16,17 +17,9 @@ steps-more : (h : ℕ) (es : List Completion) (e : Completion) → steps h (es +
 steps-more h [] e = omega arith
 steps-more h (x ∷ es) e = omega (arith, steps-more x.sq_head es e)
 
-heads-more : (es : List Completion) (e : Completion) → Heads es → e.sq_head < 8 → Heads (es ++ e ∷ [])
-heads-more [] e h l = (l, tt)
-heads-more (x ∷ es) e h l = (h.0, heads-more es e h.1 l)
-
 answers-more : (f : ℕ → Slot) (h : ℕ) (es : List Completion) (e : Completion) → answers f h (es ++ e ∷ []) ≡ answers f h es ++ answer f (last_head h es) e ∷ []
 answers-more f h [] e = refl
 answers-more f h (x ∷ es) e = ap (λ t. answer f h x ∷ t) (answers-more f x.sq_head es e)
-
-of-more : (q : ℕ) (es : List Completion) (e : Completion) → AreOf q es → e.sq_id ≡ q → AreOf q (es ++ e ∷ [])
-of-more q [] e h l = (l, tt)
-of-more q (x ∷ es) e h l = (h.0, of-more q es e h.1 l)
 
 -- what holds of the i-th command that was fetched
 pub record Fetched (d : Host) (c : State) (i : ℕ) (x : List ℕ) : Type 0 where
@@ -36,9 +29,7 @@ pub record Fetched (d : Host) (c : State) (i : ℕ) (x : List ℕ) : Type 0 wher
   pub within : cid x < 24
   pub suits_it : suits (slot_at d.slots (cid x)) x ≡ true
   pub room : c.unread < 24
-  pub rest : commands_of (cid x) (remove c.taken i) ≡ 0
-  pub flight : commands_of (cid x) (commands c.window c.fetched (in_flight d c)) ≡ 0
-  pub others : answers_of (cid x) (unread d c) ≡ 0
+  pub bare : Bare d (record c { taken = remove c.taken i }) (cid x)
 
 odd-suits : (b : Bool) (n m : ℕ) → cond b 0 1 + n ≡ m → m ≡ 0 → b ≡ true
 odd-suits true n m h z = refl
@@ -58,9 +49,7 @@ fetched d c i x s g =
       within = omega (arith, live-within d.slots (cid x) l, s.slots);
       suits_it = t;
       room = omega (arith, few d c s, length-remove c.taken i (slice_get_within c.taken i x g));
-      rest = omega (arith, s.carried (cid x), b, r, l);
-      flight = omega (arith, s.carried (cid x), b, r, l);
-      others = omega (arith, s.carried (cid x), b, r, l);
+      bare = bare-all d (record c { taken = remove c.taken i }) (cid x) s.fetched s.waiting (omega (arith, s.carried (cid x), b, r, l));
     }
 
 -- what holds where it is executed with this answer, whose data stand at the front of the slot's data, by a completion of
@@ -75,9 +64,6 @@ pub record Executes (d : Host) (c : State) (ans : Effect) (i : ℕ) (x bytes : L
 written : (d : Host) (c : State) (ans : Effect) (i : ℕ) (x bytes : List ℕ) → Executes d c ans i x bytes →
     EntersCompletion c.window (executed_state c i x ans).window (c.posted % 32) (finished_bytes c ans x)
 written d c ans i x bytes h = answered c.window (finished_bytes c ans x) (c.posted % 32) ((h.fetched).running).window (omega arith) h.size
-
-apart : (d : Host) (x bytes : List ℕ) → Apart (cid x) (holds d) (holds (executed d x bytes))
-apart d x bytes = apart-set d.slots (cid x) (record (slot_at d.slots (cid x)) { bytes = bytes })
 
 -- the slot keeps its request, and gets the data
 here : (d : Host) (x bytes : List ℕ) → cid x < length d.slots → holds (executed d x bytes) (cid x) ≡ record (slot_at d.slots (cid x)) { bytes = bytes }
@@ -120,15 +106,6 @@ given-is d c ans i x bytes h =
     let k = here d x bytes (omega (arith, (h.fetched).within, ((h.fetched).running).slots)) in
     rw (k, front-of (answer_len (received_in (slot_at d.slots (cid x)).waiting) ans.status) (length ans.bytes) bytes ans.bytes h.fits h.gets) refl
 
-posted-item : (d : Host) (c : State) (ans : Effect) (i : ℕ) (x bytes : List ℕ) → Executes d c ans i x bytes →
-    answers (holds (executed d x bytes)) (heard d) (unread (executed d x bytes) (executed_state c i x ans)) ≡
-    answers (holds d) (heard d) (unread d c) ++ given d c ans x ∷ []
-posted-item d c ans i x bytes h =
-    ap (answers (holds (executed d x bytes)) (heard d)) (unread-more d c ans i x bytes h) ∙
-    answers-more (holds (executed d x bytes)) (heard d) (unread d c) (finished c ans x) ∙
-    ap (λ t. t ++ answer (holds (executed d x bytes)) (last_head (heard d) (unread d c)) (finished c ans x) ∷ []) (same-answers (holds d) _ (cid x) (apart d x bytes) (heard d) (unread d c) (h.fetched).others) ∙
-    ap (λ t. answers (holds d) (heard d) (unread d c) ++ t ∷ []) (given-is d c ans i x bytes h)
-
 last-done : (d : Host) (c : State) (ans : Effect) (i : ℕ) (x bytes : List ℕ) → Executes d c ans i x bytes → last_head (heard d) (unread (executed d x bytes) (executed_state c i x ans)) ≡ c.fetched
 last-done d c ans i x bytes h = ap (last_head (heard d)) (unread-more d c ans i x bytes h) ∙ last-more (heard d) (unread d c) (finished c ans x)
 
@@ -140,33 +117,16 @@ pub execute-box : (d : Host) (c : State) (ans : Effect) (i : ℕ) (x bytes : Lis
     box (executed d x bytes) (executed_state c i x ans) ≡ record (box d c) { posted = (box d c).posted ++ given d c ans x ∷ []; since = 0 }
 unfolding box
 execute-box d c ans i x bytes h =
-    let s : Running d c = (h.fetched).running in
-    let f = flight-total (bears (cid x)) d c s in
+    let f : ℕ → Slot = holds (executed d x bytes) in
+    let b = bare-box d (record c { taken = remove c.taken i }) (cid x) (record (slot_at d.slots (cid x)) { bytes = bytes }) (h.fetched).bare in
+    let g = given-is d c ans i x bytes h in
     same-box _ _ _ _ _ _ _ _ _ _
-    (ap (map (item (holds (executed d x bytes)))) (flight-same d c ans i _ _ x bytes h (omega arith)) ∙ same-items (holds d) _ (cid x) (apart d x bytes) _ (omega (arith, f, (h.fetched).flight)))
-    (ap (map (item (holds (executed d x bytes)))) (flight-same d c ans i _ _ x bytes h s.fetched) ∙ same-items (holds d) _ (cid x) (apart d x bytes) _ (omega (arith, f, (h.fetched).flight)))
-    (posted-item d c ans i x bytes h)
+    (ap (map (item f)) (flight-same d c ans i _ _ x bytes h (omega arith)))
+    (ap (map (item f)) (flight-same d c ans i _ _ x bytes h ((h.fetched).running).fetched))
+    (ap (answers f (heard d)) (unread-more d c ans i x bytes h) ∙ answers-more f (heard d) (unread d c) (finished c ans x))
     refl
     (since-done d c ans i x bytes h)
-
-phases-done : (d : Host) (c : State) (ans : Effect) (i : ℕ) (x bytes : List ℕ) → Executes d c ans i x bytes → Phases (executed d x bytes) (executed_state c i x ans)
-phases-done d c ans i x bytes h k l =
-    let s : Running d c = (h.fetched).running in
-    let w = written d c ans i x bytes h in
-    elim (cases_eq k c.unread) [
-      | inl e ↦
-          let m : (d.consumed + k) % 32 ≡ c.posted % 32 = omega (arith, s.posted, e) in
-          let n : (d.consumed + k) % 64 ≡ c.posted % 64 = omega (arith, s.posted, e) in
-          let t : nat_lt k (c.unread + 1) ≡ true = lt-ltb k (c.unread + 1) (omega (arith, e)) in
-          let p : completion_of (completion_bytes (executed_state c i x ans).window (d.consumed + k)) ≡ finished c ans x =
-          ap completion_of (same-entry (executed_state c i x ans).window (d.consumed + k) c.posted m ∙ w.last) ∙ h.reads in
-          ap (λ (e : Completion). e.phase) p ∙ sym (same-turn (d.consumed + k) c.posted n) ∙ sym (ap (λ b. cond b (phase_of (d.consumed + k)) (not (phase_of (d.consumed + k)))) t)
-      | inr e ↦
-          let q : eqb ((d.consumed + k) % 32) (c.posted % 32) ≡ false = ne_eqb _ _ (λ m. omega (arith, s.posted, (h.fetched).room, l, e, m)) in
-          let t : nat_lt k (c.unread + 1) ≡ nat_lt k c.unread = grind (arith, common_steps, e) in
-          ap (λ b. (completion_of b).phase) (w.keeps.completions (d.consumed + k) q) ∙ s.phases k l ∙
-          sym (ap (λ b. cond b (phase_of (d.consumed + k)) (not (phase_of (d.consumed + k)))) t)
-    ]
+    ∙ (λ j. record (b j) { posted = (b j).posted ++ g j ∷ []; since = 0 })
 
 -- a sum over the commands loses what the executed one brought
 execute-total : (f : List ℕ → ℕ) (d : Host) (c : State) (ans : Effect) (i : ℕ) (x bytes : List ℕ) → Executes d c ans i x bytes →
@@ -176,18 +136,14 @@ execute-total f d c ans i x bytes h =
     omega (arith, total-removed f c.taken i x (h.fetched).there, ap (total f) (flight-same d c ans i c.fetched (in_flight d c) x bytes h ((h.fetched).running).fetched))
 
 -- the slots keep their requests
-pending-done : (d : Host) (x bytes : List ℕ) → cid x < length d.slots → (k : ℕ) → (holds (executed d x bytes) k).waiting ≡ (slot_at d.slots k).waiting
-pending-done d x bytes l k =
-    elim (cases_Bool (eqb k (cid x))) [
-      | inl t ↦ rw (eqb-true k (cid x) t, here d x bytes l) refl
-      | inr t ↦ rw (apart d x bytes k t) refl
-    ]
+pending-done : (d : Host) (x bytes : List ℕ) (k : ℕ) → (holds (executed d x bytes) k).waiting ≡ (slot_at d.slots k).waiting
+pending-done d x bytes k = each-all (λ k (o : Slot). o.waiting ≡ (slot_at d.slots k).waiting) d.slots (cid x) (record (slot_at d.slots (cid x)) { bytes = bytes }) refl (λ k. refl) k
 
 carried-done : (d : Host) (c : State) (ans : Effect) (i : ℕ) (x bytes : List ℕ) → Executes d c ans i x bytes → Carried (executed d x bytes) (executed_state c i x ans)
 carried-done d c ans i x bytes h k =
     let u : answers_of k (unread (executed d x bytes) (executed_state c i x ans)) ≡ answers_of k (unread d c) + bears k x =
     ap (answers_of k) (unread-more d c ans i x bytes h) ∙ total-append (replies k) (unread d c) (finished c ans x ∷ []) ∙ ap (λ n. answers_of k (unread d c) + n) (omega arith) in
-    rw (pending-done d x bytes (omega (arith, (h.fetched).within, ((h.fetched).running).slots)) k)
+    rw (pending-done d x bytes k)
     (omega (arith, ((h.fetched).running).carried k, u, execute-total (bears k) d c ans i x bytes h))
 
 pub execute-running : (d : Host) (c : State) (ans : Effect) (i : ℕ) (x bytes : List ℕ) → Executes d c ans i x bytes → Running (executed d x bytes) (executed_state c i x ans)
@@ -208,9 +164,8 @@ execute-running d c ans i x bytes h =
       waiting = s.waiting;
       unheard = omega (arith, u, since-done d c ans i x bytes h, s.unheard);
       room = s.room;
-      heads = rw (unread-more d c ans i x bytes h) (heads-more (unread d c) (finished c ans x) s.heads s.fetched);
-      of_lane = rw (unread-more d c ans i x bytes h) (of-more (queue_id c.lane) (unread d c) (finished c ans x) s.of_lane refl);
-      phases = phases-done d c ans i x bytes h;
+      of_lane = rw (unread-more d c ans i x bytes h) (all-joined (IsOf (queue_id c.lane)) (unread d c) (finished c ans x ∷ []) s.of_lane ((refl, s.fetched), tt));
+      phases = phases-posted c.window _ _ d.consumed c.unread c.posted w s.posted (omega (arith, (h.fetched).room)) (ap (λ (e : Completion). e.phase) h.reads) s.phases;
       carried = carried-done d c ans i x bytes h;
       held = omega (
         arith,
@@ -222,8 +177,7 @@ execute-running d c ans i x bytes h =
         arith,
         s.suited,
         execute-total (odd (holds d)) d c ans i x bytes h,
-        same-odd (holds d) _ (cid x) (apart d x bytes) (remove c.taken i) (h.fetched).rest,
-        same-odd (holds d) _ (cid x) (apart d x bytes) (commands c.window c.fetched (in_flight d c)) (h.fetched).flight,
+        bare-odd d (record c { taken = remove c.taken i }) (cid x) (record (slot_at d.slots (cid x)) { bytes = bytes }) (h.fetched).bare,
         ap (total (odd (holds (executed d x bytes)))) (flight-same d c ans i c.fetched (in_flight d c) x bytes h s.fetched),
       );
     }
@@ -232,10 +186,6 @@ execute-running d c ans i x bytes h =
 pub execute-holds : (first : ℕ) (d : Host) (c : State) (ans : Effect) (i : ℕ) (x bytes : List ℕ) → Holds first d c → d.up ≡ true → Executes d c ans i x bytes →
     Holds first (executed d x bytes) (executed_state c i x ans)
 execute-holds first d c ans i x bytes s u h =
-    record {
-      failed = s.failed;
-      begun = s.begun;
-      ages = λ k. rw (pending-done d x bytes (omega (arith, (h.fetched).within, ((h.fetched).running).slots)) k) (s.ages k);
-      up = λ e. execute-running d c ans i x bytes h;
-      down = λ e. absurd (no-way d.up e u);
-    }
+    up-holds first (executed d x bytes) (executed_state c i x ans) u s.failed s.begun
+    (λ k. rw (pending-done d x bytes k) (s.ages k))
+    (execute-running d c ans i x bytes h)

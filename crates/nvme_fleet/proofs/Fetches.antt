@@ -1,52 +1,40 @@
 -- Ring and Fetch in one lane: what was placed is rung, and the first that is rung is fetched.
-use Rattle.nvme_fleet.proofs.Words.{◌≡◌, ℕ, ◌+◌, ◌-◌, ◌%◌, ◌<◌, ◌≤◌, List, [], ◌∷◌, ◌++◌, map, refl, ap, ◌∙◌, arith, zero, suc, true, length-append, map-append, Completion, Item, command_at, State, box, in_flight, commands, item, Running, Holds, holds, total, odd, bears, Suited, Heads, last_head, heard, unread, since, commands_of, answers_of, live_at, Host}
+use Rattle.nvme_fleet.proofs.Words.{◌≡◌, ℕ, ◌+◌, ◌-◌, ◌%◌, ◌<◌, ◌≤◌, List, [], ◌∷◌, ◌++◌, map, refl, ap, ◌∙◌, arith, zero, suc, true, length-append, map-append, Completion, Item, command_at, State, box, in_flight, commands, item, Running, Holds, holds, total, odd, bears, AllByRecursion, IsOf, queue_id, last_head, heard, unread, since, Host}
 use Rattle.nvme_fleet.specs.Views.{after_fetch, rung}
 use Rattle.nvme_mailbox.proofs.Totals.{total-append}
-use Rattle.nvme_fleet.proofs.Queues.{same-box, commands-append}
-use Rattle.nvme_fleet.proofs.Places.{no-way}
+use Rattle.nvme_fleet.proofs.Queues.{same-box, flight-parts, rung-part, placed-part}
+use Rattle.nvme_fleet.proofs.Places.{up-holds}
 
-pub last-small : (h : ℕ) (es : List Completion) → h < 8 → Heads es → last_head h es < 8
-last-small h [] p q = p
-last-small h (e ∷ es) p q = last-small e.sq_head es q.0 q.1
+last-small : (q h : ℕ) (es : List Completion) → h < 8 → AllByRecursion (IsOf q) es → last_head h es < 8
+last-small q h [] l a = l
+last-small q h (e ∷ es) l a = last-small q e.sq_head es a.0.1 a.1
 
--- one entry fewer is in flight
-flight-fetch : (p f w : ℕ) → p < 8 → f < 8 → 0 < w → w ≤ (p + 8 - f) % 8 → (p + 8 - (f + 1) % 8) % 8 ≡ (p + 8 - f) % 8 - 1
-flight-fetch p f w a b d e = omega arith
-
--- one more was fetched since
-since-fetch : (f l : ℕ) → f < 8 → l < 8 → (f + 8 - l) % 8 < 7 → ((f + 1) % 8 + 8 - l) % 8 ≡ (f + 8 - l) % 8 + 1
-since-fetch f l a b h = omega arith
-
--- what was placed stays where it lay
-start-fetch : (f w : ℕ) → 0 < w → ((f + 1) % 8 + (w - 1)) % 8 ≡ (f + w) % 8
-start-fetch f w h = omega arith
+-- the first entry of some, and those behind it
+commands-first : (w : List ℕ) (s n : ℕ) → 0 < n → commands w s n ≡ command_at w s ∷ commands w ((s + 1) % 8) (n - 1)
+commands-first w s zero p = let b : ⊥ = omega (arith, p) in absurd b
+commands-first w s (suc n) p = let e : suc n - 1 ≡ n = omega arith in rw e refl
 
 more : (d : Host) (c : State) → Running d c → 0 < c.waiting → since d (after_fetch c) ≡ since d c + 1
 more d c s p =
-    let h : heard d < 8 = omega arith in
-    let l : last_head (heard d) (unread d c) < 8 = last-small (heard d) (unread d c) h s.heads in
-    let e : since d c < 7 = omega (arith, s.unheard, s.room, s.waiting, p) in
-    since-fetch c.fetched (last_head (heard d) (unread d c)) s.fetched l e
+    let l : last_head (heard d) (unread d c) < 8 = last-small (queue_id c.lane) (heard d) (unread d c) (omega arith) s.of_lane in
+    omega (arith, s.fetched, l, s.unheard, s.room, s.waiting, p)
 
 fewer : (d : Host) (c : State) → Running d c → 0 < c.waiting → in_flight d (after_fetch c) ≡ in_flight d c - 1
-fewer d c s p = flight-fetch d.put c.fetched c.waiting s.put s.fetched p s.waiting
-
-rung-first : (w : List ℕ) (s n : ℕ) (f : List ℕ → Item) → 0 < n → map f (commands w s n) ≡ f (command_at w s) ∷ map f (commands w ((s + 1) % 8) (n - 1))
-rung-first w s zero f p = let b : ⊥ = omega (arith, p) in absurd b
-rung-first w s (suc n) f p = let e : suc n - 1 ≡ n = omega arith in rw e refl
+fewer d c s p = omega (arith, s.put, s.fetched, p, s.waiting)
 
 placed-same : (d : Host) (c : State) → Running d c → 0 < c.waiting → (f : List ℕ → Item) →
     map f (commands c.window (((c.fetched + 1) % 8 + (c.waiting - 1)) % 8) (in_flight d (after_fetch c) - (c.waiting - 1))) ≡
     map f (commands c.window ((c.fetched + c.waiting) % 8) (in_flight d c - c.waiting))
 placed-same d c s p f =
     let e : in_flight d (after_fetch c) - (c.waiting - 1) ≡ in_flight d c - c.waiting = omega (arith, fewer d c s p, p, s.waiting) in
-    rw (start-fetch c.fetched c.waiting p, e) refl
+    let b : ((c.fetched + 1) % 8 + (c.waiting - 1)) % 8 ≡ (c.fetched + c.waiting) % 8 = omega (arith, p) in
+    rw (b, e) refl
 
 -- Fetch takes the first request that is rung
 pub fetch-rung : (d : Host) (c : State) → 0 < c.waiting →
     (box d c).rung ≡ item (holds d) (command_at c.window c.fetched) ∷ (box d (after_fetch c)).rung
 unfolding box
-fetch-rung d c p = rung-first c.window c.fetched c.waiting (item (holds d)) p
+fetch-rung d c p = ap (map (item (holds d))) (commands-first c.window c.fetched c.waiting p)
 
 pub fetch-box : (d : Host) (c : State) → Running d c → 0 < c.waiting →
     box d (after_fetch c) ≡ record (box d c) { rung = (box d (after_fetch c)).rung; since = (box d c).since + 1 }
@@ -58,23 +46,14 @@ unfolding box
 idle-rung d c z = ap (λ n. map (item (holds d)) (commands c.window c.fetched n)) z
 
 -- Ring moves what was placed behind what was rung
-rung-all : (d : Host) (c : State) (f : List ℕ → Item) → Running d c →
-    map f (commands c.window c.fetched (in_flight d c)) ≡
-    map f (commands c.window c.fetched c.waiting) ++ map f (commands c.window ((c.fetched + c.waiting) % 8) (in_flight d c - c.waiting))
-rung-all d c f s =
-    let e : in_flight d c ≡ c.waiting + (in_flight d c - c.waiting) = omega (arith, s.waiting) in
-    ap (λ n. map f (commands c.window c.fetched n)) e ∙
-    ap (map f) (commands-append c.window c.fetched c.waiting (in_flight d c - c.waiting) s.fetched) ∙
-    map-append f (commands c.window c.fetched c.waiting) _
-
-placed-none : (d : Host) (c : State) (f : List ℕ → Item) (n : ℕ) → map f (commands c.window n (in_flight d c - in_flight d c)) ≡ []
-placed-none d c f n =
-    let e : in_flight d c - in_flight d c ≡ 0 = omega arith in
-    ap (λ k. map f (commands c.window n k)) e
+rung-all : (d : Host) (c : State) (f : List ℕ → Item) → Running d c → map f (commands c.window c.fetched (in_flight d c)) ≡ map f (rung-part c) ++ map f (placed-part d c)
+rung-all d c f s = ap (map f) (flight-parts d c s.fetched s.waiting) ∙ map-append f (rung-part c) (placed-part d c)
 
 pub ring-box : (d : Host) (c : State) → Running d c → box d (rung d c) ≡ record (box d c) { rung = (box d c).rung ++ (box d c).placed; placed = [] }
 unfolding box
-ring-box d c s = rw (rung-all d c (item (holds d)) s, placed-none d c (item (holds d)) ((c.fetched + in_flight d c) % 8)) refl
+ring-box d c s =
+    let n : in_flight d c - in_flight d c ≡ 0 = omega arith in
+    rw (rung-all d c (item (holds d)) s, ap (λ k. map (item (holds d)) (commands c.window ((c.fetched + in_flight d c) % 8) k)) n) refl
 
 -- a lane with another next ticket, and with so many entries waiting
 pub still-running : (d : Host) (c : State) (next waiting : ℕ) → waiting ≤ in_flight d c → Running d c → Running (record d { next = next }) (record c { waiting = waiting })
@@ -90,7 +69,6 @@ still-running d c next waiting few s =
       waiting = few;
       unheard = s.unheard;
       room = s.room;
-      heads = s.heads;
       of_lane = s.of_lane;
       phases = s.phases;
       carried = s.carried;
@@ -103,13 +81,7 @@ ring-running d c s = still-running d c d.next (in_flight d c) (omega arith) s
 
 -- a lane whose driver stays
 pub same-up : (first : ℕ) (d : Host) (c c' : State) → Holds first d c → d.up ≡ true → Running d c' → Holds first d c'
-same-up first d c c' s u r = record { failed = s.failed; begun = s.begun; ages = s.ages; up = λ e. r; down = λ e. absurd (no-way d.up e u) }
-
--- a sum over the entries in flight, the first of them apart
-first-total : (f : List ℕ → ℕ) (w : List ℕ) (s n : ℕ) → 0 < n →
-    total f (commands w s n) ≡ f (command_at w s) + total f (commands w ((s + 1) % 8) (n - 1))
-first-total f w s zero p = let b : ⊥ = omega (arith, p) in absurd b
-first-total f w s (suc n) p = let e : suc n - 1 ≡ n = omega arith in rw e refl
+same-up first d c c' s u r = up-holds first d c' u s.failed s.begun s.ages r
 
 -- what is fetched leaves the entries in flight and joins the list: a sum over both stays
 moved-fetch : (f : List ℕ → ℕ) (d : Host) (c : State) → Running d c → 0 < c.waiting →
@@ -118,14 +90,7 @@ moved-fetch : (f : List ℕ → ℕ) (d : Host) (c : State) → Running d c → 
 moved-fetch f d c s p =
     let q : 0 < in_flight d c = omega (arith, s.waiting, p) in
     rw (fewer d c s p)
-    (omega (arith, first-total f c.window c.fetched (in_flight d c) q, total-append f c.taken (command_at c.window c.fetched ∷ [])))
-
-carried-fetch : (d : Host) (c : State) → Running d c → 0 < c.waiting → (slot : ℕ) →
-    commands_of slot (after_fetch c).taken + commands_of slot (commands c.window ((c.fetched + 1) % 8) (in_flight d (after_fetch c))) + answers_of slot (unread d c) ≡ live_at d.slots slot
-carried-fetch d c s p slot = omega (arith, s.carried slot, moved-fetch (bears slot) d c s p)
-
-suited-fetch : (d : Host) (c : State) → Running d c → 0 < c.waiting → Suited d (after_fetch c)
-suited-fetch d c s p = moved-fetch (odd (holds d)) d c s p ∙ s.suited
+    (omega (arith, ap (total f) (commands-first c.window c.fetched (in_flight d c) q), total-append f c.taken (command_at c.window c.fetched ∷ [])))
 
 pub fetch-running : (d : Host) (c : State) → Running d c → 0 < c.waiting → Running d (after_fetch c)
 fetch-running d c s p =
@@ -140,10 +105,9 @@ fetch-running d c s p =
       waiting = omega (arith, fewer d c s p, p, s.waiting);
       unheard = omega (arith, fewer d c s p, more d c s p, s.unheard, p, s.waiting);
       room = s.room;
-      heads = s.heads;
       of_lane = s.of_lane;
       phases = s.phases;
-      carried = λ slot. carried-fetch d c s p slot;
+      carried = λ slot. omega (arith, s.carried slot, moved-fetch (bears slot) d c s p);
       held = omega (arith, fewer d c s p, s.held, p, s.waiting, length-append c.taken (command_at c.window c.fetched ∷ []));
-      suited = suited-fetch d c s p;
+      suited = moved-fetch (odd (holds d)) d c s p ∙ s.suited;
     }

@@ -18,49 +18,19 @@ pub same-action : (x y : List ℕ) → SameFields x y → action y ≡ action x
 unfolding action
 same-action x y h = rw h.cdw10 refl
 
-same-iekey : (x y : List ℕ) → SameFields x y → iekey y ≡ iekey x
-unfolding iekey
-same-iekey x y h = rw h.cdw10 refl
-
-same-cptpl : (x y : List ℕ) → SameFields x y → cptpl y ≡ cptpl x
-unfolding cptpl
-same-cptpl x y h = rw h.cdw10 refl
-
-same-rtype : (x y : List ℕ) → SameFields x y → rtype y ≡ rtype x
-unfolding rtype
-same-rtype x y h = rw h.cdw10 refl
-
-same-eds : (x y : List ℕ) → SameFields x y → eds y ≡ eds x
-unfolding eds
-same-eds x y h = rw h.cdw11 refl
-
-same-report : (x y : List ℕ) → SameFields x y → report_length y ≡ report_length x
-unfolding report_length
-same-report x y h = rw h.cdw10 refl
-
 pub same-form : (x y : List ℕ) → SameFields x y → form_rule y ≡ form_rule x
 unfolding form_rule
 same-form x y h = rw (h.fuse, h.psdt) refl
 
-same-field : (x y : List ℕ) (command : Option Command) → SameFields x y → rules.field_rule command y ≡ rules.field_rule command x
-unfolding rules.field_rule
-same-field x y command h = rw (same-count x y h, same-action x y h, same-iekey x y h, same-cptpl x y h, same-rtype x y h, same-eds x y h, same-report x y h) refl
-
-same-range : (x y : List ℕ) (command : Option Command) (space : Option Namespace) → SameFields x y → rules.range_rule command space y ≡ rules.range_rule command space x
-unfolding rules.range_rule
-same-range x y command space h = rw (same-lba x y h, same-count x y h) refl
-
 pub access-same : (w : World) (k : ℕ) (x y : List ℕ) (marked : Bool) → SameFields x y → access_rules w k y marked ≡ access_rules w k x marked
-access-same w k x y marked h =
-    let c : Option Command = io_commands.command_of (opcode x) in
-    let n : Option Namespace = namespace_of w (nsid x) in
-    rw (h.opcode, h.nsid, same-form x y h, same-field x y (io_commands.command_of (opcode x)) h, same-range x y (io_commands.command_of (opcode x)) (namespace_of w (nsid x)) h) refl
+unfolding form_rule rules.field_rule rules.range_rule starting_lba block_count action iekey cptpl rtype eds report_length
+access-same w k x y marked h = rw (h.opcode, h.nsid, h.fuse, h.psdt, h.cdw10, h.cdw11, h.cdw12) refl
 
 same-outcome : (x y : List ℕ) (command : Command) (r : resv.Reservation) (host : ℕ) (keys : List ℕ) → SameFields x y → action_outcome command r host y keys ≡ action_outcome command r host x keys
-unfolding action_outcome
-same-outcome x y io.ReservationRegister r host keys h = rw (same-action x y h, same-iekey x y h, same-cptpl x y h) refl
-same-outcome x y io.ReservationAcquire r host keys h = rw (same-action x y h, same-rtype x y h) refl
-same-outcome x y io.ReservationRelease r host keys h = rw (same-action x y h, same-rtype x y h) refl
+unfolding action_outcome action iekey cptpl rtype
+same-outcome x y io.ReservationRegister r host keys h = rw h.cdw10 refl
+same-outcome x y io.ReservationAcquire r host keys h = rw h.cdw10 refl
+same-outcome x y io.ReservationRelease r host keys h = rw h.cdw10 refl
 same-outcome x y command r host keys h = refl
 
 outcome-in-same : (x y : List ℕ) (o : Option Command) (n : Option Namespace) (host : Option ℕ) (keys : List ℕ) → SameFields x y → outcome_in o n host y keys ≡ outcome_in o n host x keys
@@ -75,8 +45,9 @@ reservation-same w k x y keys h =
     rw (h.opcode, h.nsid) (outcome-in-same x y (io_commands.command_of (opcode x)) (namespace_of w (nsid x)) (host_of w k) keys h)
 
 pub length-same : (x y : List ℕ) (command : Command) → SameFields x y → data_length command y ≡ data_length command x
+unfolding report_length
 length-same x y io.Read h = ap (λ n. 512 * n) (same-count x y h)
 length-same x y io.Write h = ap (λ n. 512 * n) (same-count x y h)
 length-same x y io.Compare h = ap (λ n. 512 * n) (same-count x y h)
-length-same x y io.ReservationReport h = same-report x y h
+length-same x y io.ReservationReport h = rw h.cdw10 refl
 length-same x y command h = refl

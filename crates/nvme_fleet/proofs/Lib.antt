@@ -4,6 +4,7 @@ pub mod Windows
 pub mod Slots
 pub mod Keeps
 pub mod Queues
+pub mod Phases
 pub mod Places
 pub mod Fetches
 pub mod Executes

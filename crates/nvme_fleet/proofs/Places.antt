@@ -1,11 +1,12 @@
 -- Placing in one lane: a request in a slot that nobody bears joins those that were placed.
-use Rattle.nvme_fleet.proofs.Words.{◌≡◌, ℕ, ◌+◌, ◌-◌, ◌%◌, ◌<◌, ◌≤◌, List, [], ◌∷◌, ◌++◌, length, map, refl, ap, sym, ◌∙◌, arith, true, false, cond, eqb, Option, Some, None, inl, inr, slice_set, Bool, map-append, length-set, cases_Bool, eqb-true, ne_eqb, common_steps, Waiting, cid, live_in, suits, item_in, State, filled, placed_state, in_flight, commands, item, box, Running, Holds, Ages, AgeIn, last_head, heard, unread, since, commands_of, answers_of, live_at, slot_at, answers, holds, total, odd, bears, Carried, Host}
+use Rattle.nvme_fleet.proofs.Words.{◌≡◌, ℕ, ◌+◌, ◌-◌, ◌%◌, ◌<◌, ◌≤◌, List, [], ◌∷◌, ◌++◌, length, map, refl, ap, ◌∙◌, arith, true, false, cond, eqb, Option, Some, None, Bool, map-append, length-set, common_steps, Waiting, cid, live_in, suits, Slot, item_in, State, filled, placed_state, in_flight, commands, item, box, Running, Holds, Ages, AgeIn, last_head, heard, unread, commands_of, answers_of, live_at, slot_at, answers, holds, total, odd, bears, Carried, Host}
 use Rattle.nvme_fleet.specs.Views.{placed}
-use Rattle.nvme_fleet.proofs.Totals.{live-set, slot-same, slot-other}
+use Rattle.nvme_fleet.proofs.Totals.{live-set, slot-same, each-set, each-all}
 use Rattle.nvme_mailbox.proofs.Totals.{total-append}
-use Rattle.nvme_fleet.proofs.Slots.{Apart, apart-set, same-items, same-odd, same-answers}
+use Rattle.nvme_fleet.proofs.Slots.{bare-box, bare-odd}
 use Rattle.nvme_fleet.proofs.Keeps.{Enters, enters, commands-kept, completions-same}
-use Rattle.nvme_fleet.proofs.Queues.{commands-append, flight-total, same-box, eqb-sym}
+use Rattle.nvme_fleet.proofs.Phases.{phases-kept}
+use Rattle.nvme_fleet.proofs.Queues.{commands-append, Bare, bare-all, placed-part, rung-part, same-box, eqb-sym, self-eqb}
 
 -- what holds where a request is placed in a slot that is not live, by this command
 pub record Places (d : Host) (c : State) (x : List ℕ) (w : Waiting) (slot : ℕ) (bytes list : List ℕ) : Type 0 where
@@ -22,10 +23,6 @@ pub record Places (d : Host) (c : State) (x : List ℕ) (w : Waiting) (slot : �
 entered : (d : Host) (c : State) (x : List ℕ) (w : Waiting) (slot : ℕ) (bytes list : List ℕ) → Places d c x w slot bytes list →
     Enters c.window (placed_state d c x).window d.put x
 entered d c x w slot bytes list h = enters c.window x d.put (h.running).window (h.running).put h.size
-
--- only the slot changes
-apart : (d : Host) (w : Waiting) (slot : ℕ) (bytes list : List ℕ) → Apart slot (holds d) (holds (placed d w slot bytes list))
-apart d w slot bytes list = apart-set d.slots slot (filled w bytes list)
 
 more-flight : (d : Host) (c : State) (x : List ℕ) (w : Waiting) (slot : ℕ) (bytes list : List ℕ) → Places d c x w slot bytes list →
     in_flight (placed d w slot bytes list) (placed_state d c x) ≡ in_flight d c + 1
@@ -54,30 +51,9 @@ same-unread d c x w slot bytes list h = completions-same c.window (placed_state 
 heard-placed : (p u : ℕ) → p < 8 → u < 7 → ((p + 1) % 8 + 8 - (u + 1)) % 8 ≡ (p + 8 - u) % 8
 heard-placed p u a b = omega arith
 
-same-since : (d : Host) (c : State) (x : List ℕ) (w : Waiting) (slot : ℕ) (bytes list : List ℕ) → Places d c x w slot bytes list →
-    since (placed d w slot bytes list) (placed_state d c x) ≡ since d c
-same-since d c x w slot bytes list h =
-    ap (λ n. (c.fetched + 8 - last_head n (unread (placed d w slot bytes list) (placed_state d c x))) % 8) (heard-placed d.put d.unheard (h.running).put h.room) ∙
-    ap (λ es. (c.fetched + 8 - last_head (heard d) es) % 8) (same-unread d c x w slot bytes list h)
-
 -- nobody bears a slot that is not live
-pub record Bare (d : Host) (c : State) (slot : ℕ) : Type 0 where
-  pub taken : commands_of slot c.taken ≡ 0
-  pub flight : commands_of slot (commands c.window c.fetched (in_flight d c)) ≡ 0
-  pub rung : commands_of slot (commands c.window c.fetched c.waiting) ≡ 0
-  pub placed : commands_of slot (commands c.window ((c.fetched + c.waiting) % 8) (in_flight d c - c.waiting)) ≡ 0
-  pub unread : answers_of slot (unread d c) ≡ 0
-
 pub bare : (d : Host) (c : State) (slot : ℕ) → Running d c → live_at d.slots slot ≡ 0 → Bare d c slot
-bare d c slot s z =
-    let f = flight-total (bears slot) d c s in
-    record {
-      taken = omega (arith, s.carried slot, z);
-      flight = omega (arith, s.carried slot, z);
-      rung = omega (arith, s.carried slot, z, f);
-      placed = omega (arith, s.carried slot, z, f);
-      unread = omega (arith, s.carried slot, z);
-    }
+bare d c slot s z = bare-all d c slot s.fetched s.waiting (omega (arith, s.carried slot, z))
 
 -- the slot of the new command
 here : (d : Host) (c : State) (x : List ℕ) (w : Waiting) (slot : ℕ) (bytes list : List ℕ) → Places d c x w slot bytes list →
@@ -85,40 +61,19 @@ here : (d : Host) (c : State) (x : List ℕ) (w : Waiting) (slot : ℕ) (bytes l
 here d c x w slot bytes list h =
     ap (holds (placed d w slot bytes list)) h.named ∙ slot-same d.slots slot (filled w bytes list) (omega (arith, h.within, (h.running).slots))
 
--- its request
-new-item : (d : Host) (c : State) (x : List ℕ) (w : Waiting) (slot : ℕ) (bytes list : List ℕ) → Places d c x w slot bytes list →
-    item (holds (placed d w slot bytes list)) x ≡ item_in (filled w bytes list) x
-new-item d c x w slot bytes list h = ap (λ s. item_in s x) (here d c x w slot bytes list h)
-
 placed-more : (d : Host) (c : State) (x : List ℕ) (w : Waiting) (slot : ℕ) (bytes list : List ℕ) → Places d c x w slot bytes list →
-    map (item (holds (placed d w slot bytes list)))
-    (commands (placed_state d c x).window ((c.fetched + c.waiting) % 8) (in_flight (placed d w slot bytes list) (placed_state d c x) - c.waiting)) ≡
-    map (item (holds d)) (commands c.window ((c.fetched + c.waiting) % 8) (in_flight d c - c.waiting)) ++
-    item_in (filled w bytes list) x ∷ []
+    placed-part (placed d w slot bytes list) (placed_state d c x) ≡ placed-part d c ++ x ∷ []
 placed-more d c x w slot bytes list h =
     let s : Running d c = h.running in
     let n : in_flight (placed d w slot bytes list) (placed_state d c x) - c.waiting ≡ (in_flight d c - c.waiting) + 1 = omega (arith, more-flight d c x w slot bytes list h, s.waiting) in
-    let b : (c.fetched + c.waiting) % 8 < 8 = omega arith in
     let e : in_flight d c - c.waiting ≡ (d.put + 8 - (c.fetched + c.waiting) % 8) % 8 = omega (arith, s.put, s.fetched, s.waiting) in
-    ap (λ k. map (item (holds (placed d w slot bytes list))) (commands (placed_state d c x).window ((c.fetched + c.waiting) % 8) k)) n ∙
-    ap (map (item (holds (placed d w slot bytes list)))) (stretch d c x w slot ((c.fetched + c.waiting) % 8) (in_flight d c - c.waiting) bytes list h b e) ∙
-    map-append (item (holds (placed d w slot bytes list))) (commands c.window ((c.fetched + c.waiting) % 8) (in_flight d c - c.waiting)) (x ∷ []) ∙
-    ap (λ t. t ++ item (holds (placed d w slot bytes list)) x ∷ []) (same-items (holds d) _ slot (apart d w slot bytes list) _ (bare d c slot s h.free).placed) ∙
-    ap (λ x. map (item (holds d)) (commands c.window ((c.fetched + c.waiting) % 8) (in_flight d c - c.waiting)) ++ x ∷ []) (new-item d c x w slot bytes list h)
+    ap (commands (placed_state d c x).window ((c.fetched + c.waiting) % 8)) n ∙
+    stretch d c x w slot ((c.fetched + c.waiting) % 8) (in_flight d c - c.waiting) bytes list h (omega arith) e
 
-rung-same : (d : Host) (c : State) (x : List ℕ) (w : Waiting) (slot : ℕ) (bytes list : List ℕ) → Places d c x w slot bytes list →
-    commands (placed_state d c x).window c.fetched c.waiting ≡ commands c.window c.fetched c.waiting
+rung-same : (d : Host) (c : State) (x : List ℕ) (w : Waiting) (slot : ℕ) (bytes list : List ℕ) → Places d c x w slot bytes list → rung-part (placed_state d c x) ≡ rung-part c
 rung-same d c x w slot bytes list h =
     let s : Running d c = h.running in
     commands-kept c.window (placed_state d c x).window d.put 32 c.fetched c.waiting (entered d c x w slot bytes list h).keeps s.put s.fetched s.waiting
-
-posted-same : (d : Host) (c : State) (x : List ℕ) (w : Waiting) (slot : ℕ) (bytes list : List ℕ) → Places d c x w slot bytes list →
-    answers (holds (placed d w slot bytes list)) (heard (placed d w slot bytes list)) (unread (placed d w slot bytes list) (placed_state d c x)) ≡
-    answers (holds d) (heard d) (unread d c)
-posted-same d c x w slot bytes list h =
-    ap (answers (holds (placed d w slot bytes list)) (heard (placed d w slot bytes list))) (same-unread d c x w slot bytes list h) ∙
-    ap (λ n. answers (holds (placed d w slot bytes list)) n (unread d c)) (heard-placed d.put d.unheard (h.running).put h.room) ∙
-    same-answers (holds d) _ slot (apart d w slot bytes list) (heard d) (unread d c) (bare d c slot h.running h.free).unread
 
 -- Place appends the request to those that are placed
 pub place-box : (d : Host) (c : State) (x : List ℕ) (w : Waiting) (slot : ℕ) (bytes list : List ℕ) → Places d c x w slot bytes list →
@@ -129,12 +84,18 @@ pub place-box : (d : Host) (c : State) (x : List ℕ) (w : Waiting) (slot : ℕ)
     }
 unfolding box
 place-box d c x w slot bytes list h =
+    let f : ℕ → Slot = holds (placed d w slot bytes list) in
+    let n : heard (placed d w slot bytes list) ≡ heard d = heard-placed d.put d.unheard (h.running).put h.room in
+    let u = same-unread d c x w slot bytes list h in
+    let b = bare-box d c slot (filled w bytes list) (bare d c slot h.running h.free) in
+    let y = here d c x w slot bytes list h in
     same-box _ _ _ _ _ _ _ _ _ _
-    (placed-more d c x w slot bytes list h)
-    (ap (map (item (holds (placed d w slot bytes list)))) (rung-same d c x w slot bytes list h) ∙ same-items (holds d) _ slot (apart d w slot bytes list) _ (bare d c slot h.running h.free).rung)
-    (posted-same d c x w slot bytes list h)
+    (ap (map (item f)) (placed-more d c x w slot bytes list h) ∙ map-append (item f) (placed-part d c) (x ∷ []))
+    (ap (map (item f)) (rung-same d c x w slot bytes list h))
+    (λ i. answers f (n i) (u i))
     refl
-    (same-since d c x w slot bytes list h)
+    (λ i. (c.fetched + 8 - last_head (n i) (u i)) % 8)
+    ∙ (λ i. record (b i) { placed = (b i).placed ++ item_in (y i) x ∷ []; unheard = (b i).unheard + 1 })
 
 -- what a sum over the entries in flight gains
 flight-more : (f : List ℕ → ℕ) (d : Host) (c : State) (x : List ℕ) (w : Waiting) (slot : ℕ) (bytes list : List ℕ) → Places d c x w slot bytes list →
@@ -156,31 +117,19 @@ new-bears : (x : List ℕ) (slot k : ℕ) (b : Bool) → cid x ≡ slot → eqb 
 new-bears x slot k b named t = ap (λ n. cond (eqb n k) 1 0) named ∙ ap (λ b. cond b 1 0) t
 
 carried-place : (d : Host) (c : State) (x : List ℕ) (w : Waiting) (slot : ℕ) (bytes list : List ℕ) → Places d c x w slot bytes list → Carried (placed d w slot bytes list) (placed_state d c x)
-carried-place d c x w slot bytes list h k =
+carried-place d c x w slot bytes list h =
     let s : Running d c = h.running in
-    let f = flight-more (bears k) d c x w slot bytes list h in
-    let u : answers_of k (unread (placed d w slot bytes list) (placed_state d c x)) ≡ answers_of k (unread d c) = ap (answers_of k) (same-unread d c x w slot bytes list h) in
-    elim (cases_Bool (eqb slot k)) [
-      | inl t ↦
-          let e : slot ≡ k = eqb-true slot k t in
-          let p : slot_at (slice_set d.slots slot (filled w bytes list)) k ≡ filled w bytes list =
-          ap (slot_at (slice_set d.slots slot (filled w bytes list))) (sym e) ∙ slot-same d.slots slot (filled w bytes list) (omega (arith, h.within, s.slots)) in
-          let v : live_at d.slots k ≡ 0 = ap (live_at d.slots) (sym e) ∙ h.free in
-          let b : bears k x ≡ 1 = new-bears x slot k true h.named t in
-          let q = ap live_in p ∙ new-live w bytes list h.live in
-          omega (arith, s.carried k, v, f, u, b, q)
-      | inr t ↦
-          let q : eqb k slot ≡ false = eqb-sym slot k t in
-          let b : bears k x ≡ 0 = new-bears x slot k false h.named t in
-          rw (slot-other d.slots slot (filled w bytes list) k q) (omega (arith, s.carried k, f, u, b))
-    ]
+    let u = same-unread d c x w slot bytes list h in
+    each-set
+    (λ k (o : Slot). commands_of k c.taken + commands_of k (commands (placed_state d c x).window c.fetched (in_flight (placed d w slot bytes list) (placed_state d c x)))
+    + answers_of k (unread (placed d w slot bytes list) (placed_state d c x)) ≡ live_in o)
+    d.slots slot (filled w bytes list) (omega (arith, h.within, s.slots))
+    (omega (arith, s.carried slot, h.free, flight-more (bears slot) d c x w slot bytes list h, ap (answers_of slot) u, new-bears x slot slot true h.named (self-eqb slot slot refl), new-live w bytes list h.live))
+    (λ k q. omega (arith, s.carried k, flight-more (bears k) d c x w slot bytes list h, ap (answers_of k) u, new-bears x slot k false h.named (eqb-sym k slot q)))
 
 new-suits : (d : Host) (c : State) (x : List ℕ) (w : Waiting) (slot : ℕ) (bytes list : List ℕ) → Places d c x w slot bytes list → odd (holds (placed d w slot bytes list)) x ≡ 0
 new-suits d c x w slot bytes list h =
     ap (λ s. cond (suits s x) 0 1) (here d c x w slot bytes list h) ∙ ap (λ b. cond b 0 1) h.suits_it
-
-pub never : (n : ℕ) → eqb (n % 32) 32 ≡ false
-never n = ne_eqb (n % 32) 32 (λ e. omega (arith, e))
 
 pub place-running : (d : Host) (c : State) (x : List ℕ) (w : Waiting) (slot : ℕ) (bytes list : List ℕ) → Places d c x w slot bytes list → Running (placed d w slot bytes list) (placed_state d c x)
 place-running d c x w slot bytes list h =
@@ -199,17 +148,15 @@ place-running d c x w slot bytes list h =
       waiting = omega (arith, m, s.waiting);
       unheard = rw (heard-placed d.put d.unheard s.put h.room, same-unread d c x w slot bytes list h) (omega (arith, m, s.unheard));
       room = omega (arith, h.room);
-      heads = rw (same-unread d c x w slot bytes list h) s.heads;
       of_lane = rw (same-unread d c x w slot bytes list h) s.of_lane;
-      phases = λ i l. rw (k.keeps.completions (d.consumed + i) (never (d.consumed + i))) (s.phases i l);
+      phases = phases-kept c.window _ d.put d.consumed c.unread k.keeps s.phases;
       carried = carried-place d c x w slot bytes list h;
       held = omega (arith, m, s.held, live-set d.slots slot (filled w bytes list) (omega (arith, h.within, s.slots)), h.free, new-live w bytes list h.live);
       suited = omega (
         arith,
         s.suited,
         flight-more (odd (holds (placed d w slot bytes list))) d c x w slot bytes list h,
-        same-odd (holds d) _ slot (apart d w slot bytes list) c.taken b.taken,
-        same-odd (holds d) _ slot (apart d w slot bytes list) (commands c.window c.fetched (in_flight d c)) b.flight,
+        bare-odd d c slot (filled w bytes list) b,
         new-suits d c x w slot bytes list h,
       );
     }
@@ -219,29 +166,16 @@ pub age-later : (first n m : ℕ) (o : Option Waiting) → n ≤ m → AgeIn fir
 age-later first n m None h a = tt
 age-later first n m (Some p) h a = (a.0, omega (arith, h, a.1))
 
-ages-place : (first : ℕ) (d : Host) (w : Waiting) (slot : ℕ) (bytes list : List ℕ) → slot < length d.slots → w.live ≡ true → w.ticket.0 ≡ d.next → first ≤ d.next → Ages first d.next d.slots →
-    Ages first (d.next + 1) (slice_set d.slots slot (filled w bytes list))
-ages-place first d w slot bytes list h l e' b a k =
-    elim (cases_Bool (eqb k slot)) [
-      | inl t ↦
-          let e : slot ≡ k = sym (eqb-true k slot t) in
-          let p : slot_at (slice_set d.slots slot (filled w bytes list)) k ≡ filled w bytes list =
-          ap (slot_at (slice_set d.slots slot (filled w bytes list))) (sym e) ∙ slot-same d.slots slot (filled w bytes list) h in
-          rw (p, l, e') (b, omega arith)
-      | inr t ↦ rw (slot-other d.slots slot (filled w bytes list) k t) (age-later first d.next (d.next + 1) (slot_at d.slots k).waiting (omega arith) (a k))
-    ]
-
 pub no-way : (b : Bool) → b ≡ false → b ≡ true → ⊥
 no-way b e f = grind (arith, common_steps, e, f)
 
--- the lane where a request is placed holds
+-- a lane whose driver is up holds, where it runs
+pub up-holds : (first : ℕ) (d : Host) (c : State) → d.up ≡ true → d.failed ≡ false → first ≤ d.next → Ages first d.next d.slots → Running d c → Holds first d c
+up-holds first d c u f b a r = record { failed = f; begun = b; ages = a; up = λ e. r; down = λ e. absurd (no-way d.up e u) }
+
 pub place-holds : (first : ℕ) (d : Host) (c : State) (x : List ℕ) (w : Waiting) (slot : ℕ) (bytes list : List ℕ) → Holds first d c → d.up ≡ true → Places d c x w slot bytes list →
     Holds first (placed d w slot bytes list) (placed_state d c x)
 place-holds first d c x w slot bytes list s u h =
-    record {
-      failed = s.failed;
-      begun = omega (arith, s.begun);
-      ages = ages-place first d w slot bytes list (omega (arith, h.within, (h.running).slots)) h.live h.ticket s.begun s.ages;
-      up = λ e. place-running d c x w slot bytes list h;
-      down = λ e. absurd (no-way d.up e u);
-    }
+    up-holds first (placed d w slot bytes list) (placed_state d c x) u s.failed (omega (arith, s.begun))
+    (each-all (λ k (o : Slot). AgeIn first (d.next + 1) o.waiting) d.slots slot (filled w bytes list) (rw (h.live, h.ticket) (s.begun, omega arith)) (λ k. age-later first d.next (d.next + 1) (slot_at d.slots k).waiting (omega arith) (s.ages k)))
+    (place-running d c x w slot bytes list h)

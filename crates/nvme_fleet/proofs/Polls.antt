@@ -1,38 +1,38 @@
 -- Poll in one lane: the completion at its head is the first answer that was posted, and its slot is freed.
-use Rattle.nvme_fleet.proofs.Words.{◌≡◌, ℕ, ◌+◌, ◌-◌, ◌%◌, ◌<◌, ◌≤◌, List, [], ◌∷◌, length, refl, ap, sym, ◌∙◌, arith, zero, suc, true, false, not, cond, eqb, Bool, Some, None, inl, inr, slice_set, length-set, cases_Bool, lt-ltb, le-ltb, cases_lt, eqb-true, common_steps, nat_lt, Completion, completion_of, queue_id, completion_bytes, phase_of, AreOf, State, Slot, empty, slot_at, box, answer, front, left_after, can_hear, next_completion, consumed, less, in_flight, commands, completions, Running, Heads, last_head, heard, unread, since, steps, commands_of, answers_of, live_at, live_in, answers, Phases, holds, total, bears, Suited, Ages, Holds, Host}
-use Rattle.nvme_fleet.proofs.Queues.{commands-append, same-box, eqb-sym, same-entry, same-turn}
-use Rattle.nvme_fleet.proofs.Totals.{live-small, live-within, live-set, slot-same, slot-other}
-use Rattle.nvme_mailbox.proofs.Totals.{total-append}
-use Rattle.nvme_fleet.proofs.Slots.{few, Apart, apart-set, same-items, same-odd, same-answers}
-use Rattle.nvme_fleet.proofs.Places.{no-way}
+use Rattle.nvme_fleet.proofs.Words.{◌≡◌, ℕ, ◌+◌, ◌-◌, ◌%◌, ◌<◌, ◌≤◌, List, [], ◌∷◌, length, refl, ap, sym, subst, ◌∙◌, arith, zero, suc, true, false, not, cond, eqb, Bool, Some, None, slice_set, length-set, lt-ltb, le-ltb, common_steps, nat_lt, Completion, LaneBox, completion_of, queue_id, completion_bytes, phase_of, AllByRecursion, IsOf, State, Slot, empty, slot_at, box, answer, front, left_after, can_hear, next_completion, consumed, less, in_flight, commands, completions, Running, last_head, heard, unread, since, steps, commands_of, answers_of, live_at, live_in, answers, holds, total, Carried, AgeIn, Holds, Host}
+use Rattle.nvme_fleet.proofs.Queues.{same-box, eqb-sym, self-eqb, Bare, bare-all}
+use Rattle.nvme_fleet.proofs.Totals.{live-small, live-within, live-set, each-set, each-all}
+use Rattle.nvme_fleet.proofs.Slots.{few, bare-box, bare-odd}
+use Rattle.nvme_fleet.proofs.Places.{up-holds}
+use Rattle.nvme_fleet.proofs.Phases.{first-phase, phases-consumed}
 
 abbrev rest-of : Host → State → List Completion
 rest-of d c = completions c.window ((d.consumed + 1) % 64) (c.unread - 1)
 
-same-phase : (b x : Bool) → x ≡ b → cond x b (not b) ≡ true
-same-phase true x e = rw e refl
-same-phase false x e = rw e refl
+-- what the phase of the first completion tells
+tag-tells : (new b x : Bool) → x ≡ cond new b (not b) → cond x b (not b) ≡ new
+tag-tells true true x e = rw e refl
+tag-tells true false x e = rw e refl
+tag-tells false true x e = rw e refl
+tag-tells false false x e = rw e refl
 
-other-phase : (b x : Bool) → x ≡ not b → cond x b (not b) ≡ false
-other-phase true x e = rw e refl
-other-phase false x e = rw e refl
+next-is : (d : Host) (c : State) (new : Bool) → Running d c → nat_lt 0 c.unread ≡ new → next_completion d c.window ≡ cond new (Some (front d c)) None
+next-is d c new s e =
+    let h = first-phase c.window d.consumed c.unread s.phases ∙ ap (λ b. cond b (phase_of d.consumed) (not (phase_of d.consumed))) e in
+    ap (λ b. cond b (Some (front d c)) None) (tag-tells new (phase_of d.consumed) (front d c).phase h)
 
 pub next-none : (d : Host) (c : State) → Running d c → c.unread ≡ 0 → next_completion d c.window ≡ None
-next-none d c s z =
-    let n : d.consumed + 0 ≡ d.consumed = omega arith in
-    let h : (front d c).phase ≡ not (phase_of d.consumed) = rw (n, z) at (s.phases 0 (omega arith)) in
-    rw (other-phase (phase_of d.consumed) (front d c).phase h) refl
+next-none d c s z = next-is d c false s (le-ltb 0 c.unread (omega (arith, z)))
 
 pub next-some : (d : Host) (c : State) → Running d c → 0 < c.unread → next_completion d c.window ≡ Some (completion_of (completion_bytes c.window d.consumed))
-next-some d c s p =
-    let n : d.consumed + 0 ≡ d.consumed = omega arith in
-    let t : nat_lt 0 c.unread ≡ true = lt-ltb 0 c.unread p in
-    let h : (front d c).phase ≡ phase_of d.consumed = rw (n, t) at (s.phases 0 (omega arith)) in
-    rw (same-phase (phase_of d.consumed) (front d c).phase h) refl
+next-some d c s p = next-is d c true s (lt-ltb 0 c.unread p)
 
 unread-first : (w : List ℕ) (n k : ℕ) → 0 < k → completions w n k ≡ completion_of (completion_bytes w n) ∷ completions w ((n + 1) % 64) (k - 1)
 unread-first w n zero p = let b : ⊥ = omega (arith, p) in absurd b
 unread-first w n (suc k) p = let e : suc k - 1 ≡ k = omega arith in rw e refl
+
+front-first : (d : Host) (c : State) → 0 < c.unread → unread d c ≡ front d c ∷ rest-of d c
+front-first d c p = unread-first c.window d.consumed c.unread p
 
 -- what a heard head leaves unheard, and that this head is then the last one heard
 left-is : (p u h : ℕ) → p < 8 → u < 8 → h < 8 → (h + 8 - (p + 8 - u) % 8) % 8 ≤ u → (p + 8 - h) % 8 ≡ u - (h + 8 - (p + 8 - u) % 8) % 8
@@ -45,107 +45,64 @@ heard-is p u h a b e = omega arith
 abbrev step-of : Host → State → ℕ
 step-of d c = ((front d c).sq_head + 8 - heard d) % 8
 
-front-steps : (d : Host) (c : State) → 0 < c.unread → steps (heard d) (unread d c) ≡ step-of d c + steps (front d c).sq_head (completions c.window ((d.consumed + 1) % 64) (c.unread - 1))
-front-steps d c p = rw (unread-first c.window d.consumed c.unread p) refl
-
-front-head : (d : Host) (c : State) → Running d c → 0 < c.unread → (front d c).sq_head < 8
-front-head d c s p = let h : Heads (front d c ∷ completions c.window ((d.consumed + 1) % 64) (c.unread - 1)) = rw (unread-first c.window d.consumed c.unread p) at s.heads in h.0
+front-of : (d : Host) (c : State) → Running d c → 0 < c.unread → AllByRecursion (IsOf (queue_id c.lane)) (front d c ∷ rest-of d c)
+front-of d c s p = subst (AllByRecursion (IsOf (queue_id c.lane))) (front-first d c p) s.of_lane
 
 pub front-of-lane : (d : Host) (c : State) → Running d c → 0 < c.unread → (front d c).sq_id ≡ queue_id c.lane
-front-of-lane d c s p = let h : AreOf (queue_id c.lane) (front d c ∷ completions c.window ((d.consumed + 1) % 64) (c.unread - 1)) = rw (unread-first c.window d.consumed c.unread p) at s.of_lane in h.0
+front-of-lane d c s p = (front-of d c s p).0.0
+
+left-over : (d : Host) (c : State) → Running d c → 0 < c.unread → left_after d (front d c).sq_head ≡ d.unheard - step-of d c
+left-over d c s p =
+    left-is d.put d.unheard (front d c).sq_head s.put s.room (front-of d c s p).0.1 (omega (arith, ap (steps (heard d)) (front-first d c p), s.unheard))
 
 pub hears : (d : Host) (c : State) → Running d c → 0 < c.unread → can_hear d (front d c).sq_head ≡ true
 hears d c s p =
-    let h : (front d c).sq_head < 8 = front-head d c s p in
-    let f : step-of d c ≤ d.unheard = omega (arith, front-steps d c p, s.unheard) in
-    let l : left_after d (front d c).sq_head ≡ d.unheard - step-of d c = left-is d.put d.unheard (front d c).sq_head s.put s.room h f in
+    let h : (front d c).sq_head < 8 = (front-of d c s p).0.1 in
+    let l : left_after d (front d c).sq_head ≡ d.unheard - step-of d c = left-over d c s p in
     grind (arith, common_steps, h, l)
+
+front-answers : (d : Host) (c : State) (slot : ℕ) (b : Bool) → 0 < c.unread → eqb (front d c).cid slot ≡ b → answers_of slot (unread d c) ≡ cond b 1 0 + answers_of slot (rest-of d c)
+front-answers d c slot b p e = ap (answers_of slot) (front-first d c p) ∙ ap (λ b. cond b 1 0 + answers_of slot (rest-of d c)) e
 
 pub front-live : (d : Host) (c : State) → Running d c → 0 < c.unread → live_at d.slots (front d c).cid ≡ 1
 front-live d c s p =
-    let u : answers_of (front d c).cid (unread d c) ≡ cond (eqb (front d c).cid (front d c).cid) 1 0 + answers_of (front d c).cid (rest-of d c) =
-    rw (unread-first c.window d.consumed c.unread p) refl in
-    let t : eqb (front d c).cid (front d c).cid ≡ true = grind (arith, common_steps) in
-    let v : answers_of (front d c).cid (unread d c) ≡ 1 + answers_of (front d c).cid (rest-of d c) = u ∙ ap (λ b. cond b 1 0 + answers_of (front d c).cid (rest-of d c)) t in
-    omega (arith, v, s.carried (front d c).cid, live-small (slot_at d.slots (front d c).cid))
+    omega (arith, front-answers d c (front d c).cid true p (self-eqb (front d c).cid (front d c).cid refl), s.carried (front d c).cid, live-small (slot_at d.slots (front d c).cid))
 
--- no other place bears the slot that the front completion answers
-pub record Bare (d : Host) (c : State) : Type 0 where
-  pub taken : commands_of (front d c).cid c.taken ≡ 0
-  flight : commands_of (front d c).cid (commands c.window c.fetched (in_flight d c)) ≡ 0
-  rung : commands_of (front d c).cid (commands c.window c.fetched c.waiting) ≡ 0
-  placed : commands_of (front d c).cid (commands c.window ((c.fetched + c.waiting) % 8) (in_flight d c - c.waiting)) ≡ 0
-  rest : answers_of (front d c).cid (rest-of d c) ≡ 0
+-- the driver once it has heard the front completion, before the slot is freed: no other place bears that
+abbrev popped : Host → Completion → Host
+popped d e = record d { unheard = left_after d e.sq_head; consumed = (d.consumed + 1) % 64 }
 
-front-answers : (d : Host) (c : State) (slot : ℕ) → 0 < c.unread → answers_of slot (unread d c) ≡ cond (eqb (front d c).cid slot) 1 0 + answers_of slot (rest-of d c)
-front-answers d c slot p = rw (unread-first c.window d.consumed c.unread p) refl
-
-self-eqb : (n : ℕ) → eqb n n ≡ true
-self-eqb n = grind (arith, common_steps)
-
-pub bare : (d : Host) (c : State) → Running d c → 0 < c.unread → Bare d c
+pub bare : (d : Host) (c : State) → Running d c → 0 < c.unread → Bare (popped d (front d c)) (less c) (front d c).cid
 bare d c s p =
-    let l : live_at d.slots (front d c).cid ≡ 1 = front-live d c s p in
-    let v : answers_of (front d c).cid (unread d c) ≡ 1 + answers_of (front d c).cid (rest-of d c) =
-    front-answers d c (front d c).cid p ∙ ap (λ b. cond b 1 0 + answers_of (front d c).cid (rest-of d c)) (self-eqb (front d c).cid) in
-    let e : in_flight d c ≡ c.waiting + (in_flight d c - c.waiting) = omega (arith, s.waiting) in
-    let f : commands_of (front d c).cid (commands c.window c.fetched (in_flight d c)) ≡
-    commands_of (front d c).cid (commands c.window c.fetched c.waiting) + commands_of (front d c).cid (commands c.window ((c.fetched + c.waiting) % 8) (in_flight d c - c.waiting)) =
-    ap (λ n. commands_of (front d c).cid (commands c.window c.fetched n)) e ∙
-    ap (commands_of (front d c).cid) (commands-append c.window c.fetched c.waiting (in_flight d c - c.waiting) s.fetched) ∙
-    total-append (bears (front d c).cid) (commands c.window c.fetched c.waiting) _ in
-    record {
-      taken = omega (arith, s.carried (front d c).cid, l, v, f);
-      flight = omega (arith, s.carried (front d c).cid, l, v, f);
-      rung = omega (arith, s.carried (front d c).cid, l, v, f);
-      placed = omega (arith, s.carried (front d c).cid, l, v, f);
-      rest = omega (arith, s.carried (front d c).cid, l, v, f);
-    }
-
-step-small : (d : Host) (c : State) → Running d c → 0 < c.unread → step-of d c ≤ d.unheard
-step-small d c s p = omega (arith, front-steps d c p, s.unheard)
-
-left-over : (d : Host) (c : State) → Running d c → 0 < c.unread → left_after d (front d c).sq_head ≡ d.unheard - step-of d c
-left-over d c s p = left-is d.put d.unheard (front d c).sq_head s.put s.room (front-head d c s p) (step-small d c s p)
+    bare-all (popped d (front d c)) (less c) (front d c).cid s.fetched s.waiting
+    (omega (arith, s.carried (front d c).cid, front-live d c s p, front-answers d c (front d c).cid true p (self-eqb (front d c).cid (front d c).cid refl)))
 
 heard-front : (d : Host) (c : State) → Running d c → 0 < c.unread → heard (consumed d (front d c)) ≡ (front d c).sq_head
-heard-front d c s p = heard-is d.put d.unheard (front d c).sq_head s.put s.room (front-head d c s p)
-
-last-front : (d : Host) (c : State) → 0 < c.unread → last_head (heard d) (unread d c) ≡ last_head (front d c).sq_head (rest-of d c)
-last-front d c p = rw (unread-first c.window d.consumed c.unread p) refl
+heard-front d c s p = heard-is d.put d.unheard (front d c).sq_head s.put s.room (front-of d c s p).0.1
 
 since-front : (d : Host) (c : State) → Running d c → 0 < c.unread → since (consumed d (front d c)) (less c) ≡ since d c
 since-front d c s p =
     ap (λ h. (c.fetched + 8 - last_head h (rest-of d c)) % 8) (heard-front d c s p) ∙
-    sym (ap (λ l. (c.fetched + 8 - l) % 8) (last-front d c p))
+    sym (ap (λ es. (c.fetched + 8 - last_head (heard d) es) % 8) (front-first d c p))
 
--- consuming the front completion changes its slot alone
-freed : (d : Host) (c : State) → Apart (front d c).cid (holds d) (holds (consumed d (front d c)))
-freed d c = apart-set d.slots (front d c).cid empty
-
-posted-front : (d : Host) (c : State) → Running d c → 0 < c.unread →
-    answers (holds (consumed d (front d c))) (heard (consumed d (front d c))) (rest-of d c) ≡ answers (holds d) (front d c).sq_head (rest-of d c)
-posted-front d c s p =
-    same-answers (holds d) _ (front d c).cid (freed d c) (heard (consumed d (front d c))) (rest-of d c) (bare d c s p).rest ∙
-    ap (λ h. answers (holds d) h (rest-of d c)) (heard-front d c s p)
+-- consuming the front completion frees its slot
+freed-box : (d : Host) (c : State) → Running d c → 0 < c.unread → box (consumed d (front d c)) (less c) ≡ box (popped d (front d c)) (less c)
+freed-box d c s p = bare-box (popped d (front d c)) (less c) (front d c).cid empty (bare d c s p)
 
 -- Poll takes the first answer that was posted
 pub poll-posted : (d : Host) (c : State) → Running d c → 0 < c.unread →
     (box d c).posted ≡ answer (holds d) (heard d) (front d c) ∷ (box (consumed d (front d c)) (less c)).posted
 unfolding box
-poll-posted d c s p = rw (unread-first c.window d.consumed c.unread p, posted-front d c s p) refl
+poll-posted d c s p =
+    let later = ap (λ (b : LaneBox). b.posted) (freed-box d c s p) ∙ ap (λ h. answers (holds d) h (rest-of d c)) (heard-front d c s p) in
+    ap (answers (holds d) (heard d)) (front-first d c p) ∙ ap (λ others. answer (holds d) (heard d) (front d c) ∷ others) (sym later)
 
 pub poll-box : (d : Host) (c : State) → Running d c → 0 < c.unread →
     box (consumed d (front d c)) (less c) ≡ record (box d c) { posted = (box (consumed d (front d c)) (less c)).posted; unheard = (box d c).unheard - (answer (holds d) (heard d) (front d c)).step }
 unfolding box
 poll-box d c s p =
-    let b : Bare d c = bare d c s p in
-    same-box _ _ _ _ _ _ _ _ _ _
-    (same-items (holds d) _ (front d c).cid (freed d c) _ b.placed)
-    (same-items (holds d) _ (front d c).cid (freed d c) _ b.rung)
-    refl
-    (left-over d c s p)
-    (since-front d c s p)
+    let f = freed-box d c s p in
+    same-box _ _ _ _ _ _ _ _ _ _ (ap (λ (b : LaneBox). b.placed) f) (ap (λ (b : LaneBox). b.rung) f) refl (left-over d c s p) (since-front d c s p)
 
 pub none-posted : (d : Host) (c : State) → c.unread ≡ 0 → (box d c).posted ≡ []
 unfolding box
@@ -155,50 +112,15 @@ unheard-front : (d : Host) (c : State) → Running d c → 0 < c.unread →
     steps (heard (consumed d (front d c))) (rest-of d c) + since (consumed d (front d c)) (less c) + in_flight d c ≡ left_after d (front d c).sq_head
 unheard-front d c s p =
     let h : steps (heard (consumed d (front d c))) (rest-of d c) ≡ steps (front d c).sq_head (rest-of d c) = ap (λ h. steps h (rest-of d c)) (heard-front d c s p) in
-    omega (arith, h, since-front d c s p, left-over d c s p, front-steps d c p, s.unheard)
+    omega (arith, h, since-front d c s p, left-over d c s p, ap (steps (heard d)) (front-first d c p), s.unheard)
 
-pub other-turn : (n k : ℕ) → k < 32 → 31 ≤ k → phase_of ((n + 1) % 64 + k) ≡ not (phase_of n)
-other-turn n k h g = grind (arith, common_steps)
-
-pub twice : (b : Bool) → b ≡ not (not b)
-twice true = refl
-twice false = refl
-
-new-front : (d : Host) (c : State) → Running d c → 0 < c.unread → (front d c).phase ≡ phase_of d.consumed
-new-front d c s p =
-    let n : d.consumed + 0 ≡ d.consumed = omega arith in
-    let t : nat_lt 0 c.unread ≡ true = lt-ltb 0 c.unread p in
-    rw (n, t) at (s.phases 0 (omega arith))
-
-phases-front : (d : Host) (c : State) → Running d c → 0 < c.unread → Phases (consumed d (front d c)) (less c)
-phases-front d c s p k h =
-    elim (cases_lt k 31) [
-      | inl lt ↦
-          let e : ((d.consumed + 1) % 64 + k) % 32 ≡ (d.consumed + (k + 1)) % 32 = omega arith in
-          let f : ((d.consumed + 1) % 64 + k) % 64 ≡ (d.consumed + (k + 1)) % 64 = omega arith in
-          let t : nat_lt k (c.unread - 1) ≡ nat_lt (k + 1) c.unread = grind (arith, common_steps) in
-          rw (same-entry c.window _ _ e, same-turn _ _ f, t) (s.phases (k + 1) (omega (arith, lt)))
-      | inr ge ↦
-          let e : ((d.consumed + 1) % 64 + k) % 32 ≡ d.consumed % 32 = omega (arith, h, ge) in
-          let f : nat_lt (((d.consumed + 1) % 64 + k) % 64) 32 ≡ not (phase_of d.consumed) = other-turn d.consumed k h ge in
-          let t : nat_lt k (c.unread - 1) ≡ false = le-ltb k (c.unread - 1) (omega (arith, few d c s, ge)) in
-          rw (same-entry c.window _ _ e, f, t) (new-front d c s p ∙ twice (phase_of d.consumed))
-    ]
-
-carried-front : (d : Host) (c : State) → Running d c → 0 < c.unread → (slot : ℕ) →
-    commands_of slot c.taken + commands_of slot (commands c.window c.fetched (in_flight d c)) + answers_of slot (rest-of d c) ≡ live_at (slice_set d.slots (front d c).cid empty) slot
-carried-front d c s p slot =
-    elim (cases_Bool (eqb (front d c).cid slot)) [
-      | inl t ↦
-          let e : (front d c).cid ≡ slot = eqb-true (front d c).cid slot t in
-          let v : answers_of slot (unread d c) ≡ 1 + answers_of slot (rest-of d c) = front-answers d c slot p ∙ ap (λ b. cond b 1 0 + answers_of slot (rest-of d c)) t in
-          let z : slot_at (slice_set d.slots (front d c).cid empty) slot ≡ empty = ap (λ i. slot_at (slice_set d.slots (front d c).cid empty) i) (sym e) ∙ slot-same d.slots (front d c).cid empty (live-within d.slots (front d c).cid (front-live d c s p)) in
-          rw z (omega (arith, s.carried slot, v, live-small (slot_at d.slots slot)))
-      | inr t ↦
-          let v : answers_of slot (unread d c) ≡ 0 + answers_of slot (rest-of d c) = front-answers d c slot p ∙ ap (λ b. cond b 1 0 + answers_of slot (rest-of d c)) t in
-          let q : eqb slot (front d c).cid ≡ false = eqb-sym _ _ t in
-          rw (slot-other d.slots (front d c).cid empty slot q) (omega (arith, s.carried slot, v))
-    ]
+carried-front : (d : Host) (c : State) → Running d c → 0 < c.unread → Carried (consumed d (front d c)) (less c)
+carried-front d c s p =
+    let n : ℕ = (front d c).cid in
+    each-set (λ k (o : Slot). commands_of k c.taken + commands_of k (commands c.window c.fetched (in_flight d c)) + answers_of k (rest-of d c) ≡ live_in o)
+    d.slots n empty (live-within d.slots n (front-live d c s p))
+    (omega (arith, s.carried n, front-answers d c n true p (self-eqb n n refl), live-small (slot_at d.slots n)))
+    (λ k q. omega (arith, s.carried k, front-answers d c k false p (eqb-sym k n q)))
 
 -- one live slot fewer, and one answer
 held-front : (d : Host) (c : State) → Running d c → 0 < c.unread →
@@ -206,16 +128,6 @@ held-front : (d : Host) (c : State) → Running d c → 0 < c.unread →
 held-front d c s p =
     let l : live_at d.slots (front d c).cid ≡ 1 = front-live d c s p in
     omega (arith, s.held, p, l, live-set d.slots (front d c).cid empty (live-within d.slots (front d c).cid l))
-
-suited-front : (d : Host) (c : State) → Running d c → 0 < c.unread → Suited (consumed d (front d c)) (less c)
-suited-front d c s p =
-    let b : Bare d c = bare d c s p in
-    omega (
-      arith,
-      s.suited,
-      same-odd (holds d) _ (front d c).cid (freed d c) c.taken b.taken,
-      same-odd (holds d) _ (front d c).cid (freed d c) (commands c.window c.fetched (in_flight d c)) b.flight,
-    )
 
 pub poll-running : (d : Host) (c : State) → Running d c → 0 < c.unread → Running (consumed d (front d c)) (less c)
 poll-running d c s p =
@@ -230,28 +142,16 @@ poll-running d c s p =
       waiting = s.waiting;
       unheard = unheard-front d c s p;
       room = omega arith;
-      heads = (let h : Heads (front d c ∷ rest-of d c) = rw (unread-first c.window d.consumed c.unread p) at s.heads in h.1);
-      of_lane = (let h : AreOf (queue_id c.lane) (front d c ∷ rest-of d c) = rw (unread-first c.window d.consumed c.unread p) at s.of_lane in h.1);
-      phases = phases-front d c s p;
-      carried = λ slot. carried-front d c s p slot;
+      of_lane = (front-of d c s p).1;
+      phases = phases-consumed c.window d.consumed c.unread p (omega (arith, few d c s)) s.phases;
+      carried = carried-front d c s p;
       held = held-front d c s p;
-      suited = suited-front d c s p;
+      suited = bare-odd (popped d (front d c)) (less c) (front d c).cid empty (bare d c s p) ∙ s.suited;
     }
-
-pub ages-emptied : (first next : ℕ) (slots : List Slot) (i : ℕ) → Ages first next slots → Ages first next (slice_set slots i empty)
-ages-emptied first next [] i a k = a k
-ages-emptied first next (x ∷ xs) zero a zero = tt
-ages-emptied first next (x ∷ xs) zero a (suc k) = a (suc k)
-ages-emptied first next (x ∷ xs) (suc i) a zero = a zero
-ages-emptied first next (x ∷ xs) (suc i) a (suc k) = ages-emptied first next xs i (λ j. a (suc j)) k
 
 -- the lane that was polled holds
 pub poll-holds : (first : ℕ) (d : Host) (c : State) → Holds first d c → d.up ≡ true → 0 < c.unread → Holds first (consumed d (front d c)) (less c)
 poll-holds first d c s u p =
-    record {
-      failed = s.failed;
-      begun = s.begun;
-      ages = ages-emptied first d.next d.slots (front d c).cid s.ages;
-      up = λ e. poll-running d c (s.up u) p;
-      down = λ e. absurd (no-way d.up e u);
-    }
+    up-holds first (consumed d (front d c)) (less c) u s.failed s.begun
+    (each-all (λ k (o : Slot). AgeIn first d.next o.waiting) d.slots (front d c).cid empty tt s.ages)
+    (poll-running d c (s.up u) p)

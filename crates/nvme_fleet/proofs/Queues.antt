@@ -1,5 +1,5 @@
 -- Stretches of entries in the queues of a lane: joined, counted, and with the requests that they bear.
-use Rattle.nvme_fleet.proofs.Words.{◌≡◌, ℕ, ◌+◌, ◌-◌, ◌%◌, ◌<◌, List, [], ◌∷◌, ◌++◌, length, map, refl, ap, ◌∙◌, arith, zero, suc, true, false, eqb, take, drop, ◌*◌, nat_lt, length-map, common_steps, Completion, Item, PostedAnswer, LaneBox, completion_of, command_at, completion_bytes, phase_of, State, Slot, in_flight, commands, completions, item, answers, box, Running, holds, heard, unread, total, live_in, Host}
+use Rattle.nvme_fleet.proofs.Words.{◌≡◌, ℕ, ◌+◌, ◌-◌, ◌%◌, ◌<◌, List, [], ◌∷◌, ◌++◌, length, map, refl, ap, ◌∙◌, arith, zero, suc, true, false, eqb, take, drop, ◌*◌, nat_lt, length-map, common_steps, Completion, Item, PostedAnswer, LaneBox, completion_of, command_at, completion_bytes, phase_of, State, Slot, in_flight, commands, completions, item, answers, box, Running, holds, heard, unread, total, live_in, Host, ◌≤◌, bears, commands_of, answers_of}
 use Rattle.nvme_mailbox.proofs.Totals.{total-append}
 
 -- a step round the ring
@@ -58,15 +58,35 @@ box-live d c s =
       length-completions c.window d.consumed c.unread,
     )
 
--- a sum over the entries in flight, by those that are rung and those that are placed
-pub flight-total : (f : List ℕ → ℕ) (d : Host) (c : State) → Running d c →
-    total f (commands c.window c.fetched (in_flight d c)) ≡
-    total f (commands c.window c.fetched c.waiting) + total f (commands c.window ((c.fetched + c.waiting) % 8) (in_flight d c - c.waiting))
-flight-total f d c s =
-    let e : in_flight d c ≡ c.waiting + (in_flight d c - c.waiting) = omega (arith, s.waiting) in
-    ap (λ n. total f (commands c.window c.fetched n)) e ∙
-    ap (total f) (commands-append c.window c.fetched c.waiting (in_flight d c - c.waiting) s.fetched) ∙
-    total-append f (commands c.window c.fetched c.waiting) _
+-- the commands in flight: those that are rung, and behind them those that are placed
+abbrev pub rung-part : State → List (List ℕ)
+rung-part c = commands c.window c.fetched c.waiting
+
+abbrev pub placed-part : Host → State → List (List ℕ)
+placed-part d c = commands c.window ((c.fetched + c.waiting) % 8) (in_flight d c - c.waiting)
+
+pub flight-parts : (d : Host) (c : State) → c.fetched < 8 → c.waiting ≤ in_flight d c → commands c.window c.fetched (in_flight d c) ≡ rung-part c ++ placed-part d c
+flight-parts d c f w =
+    let e : in_flight d c ≡ c.waiting + (in_flight d c - c.waiting) = omega (arith, w) in
+    ap (commands c.window c.fetched) e ∙ commands-append c.window c.fetched c.waiting (in_flight d c - c.waiting) f
+
+pub flight-total : (f : List ℕ → ℕ) (d : Host) (c : State) → c.fetched < 8 → c.waiting ≤ in_flight d c →
+    total f (commands c.window c.fetched (in_flight d c)) ≡ total f (rung-part c) + total f (placed-part d c)
+flight-total f d c b w = ap (total f) (flight-parts d c b w) ∙ total-append f (rung-part c) (placed-part d c)
+
+-- nobody bears a slot
+pub record Bare (d : Host) (c : State) (slot : ℕ) : Type 0 where
+  pub taken : commands_of slot c.taken ≡ 0
+  pub flight : commands_of slot (commands c.window c.fetched (in_flight d c)) ≡ 0
+  pub rung : commands_of slot (rung-part c) ≡ 0
+  pub placed : commands_of slot (placed-part d c) ≡ 0
+  pub unread : answers_of slot (unread d c) ≡ 0
+
+pub bare-all : (d : Host) (c : State) (slot : ℕ) → c.fetched < 8 → c.waiting ≤ in_flight d c →
+    commands_of slot c.taken + commands_of slot (commands c.window c.fetched (in_flight d c)) + answers_of slot (unread d c) ≡ 0 → Bare d c slot
+bare-all d c slot b w z =
+    let f = flight-total (bears slot) d c b w in
+    record { taken = omega (arith, z); flight = omega (arith, z); rung = omega (arith, z, f); placed = omega (arith, z, f); unread = omega (arith, z) }
 
 pub same-box : (p p' r r' : List Item) (q q' : List PostedAnswer) (u u' s s' : ℕ) → p ≡ p' → r ≡ r' → q ≡ q' → u ≡ u' → s ≡ s' →
     ◌≡◌ {A = LaneBox} (record { placed = p; rung = r; posted = q; unheard = u; since = s }) (record { placed = p'; rung = r'; posted = q'; unheard = u'; since = s' })

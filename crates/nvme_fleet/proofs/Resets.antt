@@ -1,11 +1,11 @@
 -- A reset in one lane: it rests, its mailbox is empty, and the tickets of what was open are those of its slots.
-use Rattle.nvme_fleet.proofs.Words.{◌≡◌, ℕ, ◌+◌, ◌-◌, ◌%◌, ◌<◌, ◌≤◌, List, [], ◌∷◌, length, map, refl, ap, ◌∙◌, arith, zero, suc, false, inl, inr, length-map, cases_Bool, cid, Item, PostedAnswer, Completion, State, Slot, slot_at, abort_slot, off, box, item, item_in, answers, ticket_in, in_flight, commands, commands_of, unread, Carried, Running, Resting, Holds, bears, Host}
+use Rattle.nvme_fleet.proofs.Words.{◌≡◌, ℕ, ◌+◌, List, [], ◌∷◌, length, map, refl, ap, ◌∙◌, arith, zero, suc, false, inl, inr, length-map, cases_Bool, cid, Item, PostedAnswer, Completion, State, Slot, slot_at, abort_slot, off, box, item, item_in, answers, ticket_in, in_flight, commands, commands_of, unread, Holds, bears, Host}
 use Rattle.nvme_fleet.specs.Views.{reset}
-use Rattle.nvme_mailbox.proofs.Totals.{total-append}
-use Rattle.nvme_fleet.proofs.Queues.{commands-append}
-use Rattle.nvme_fleet.proofs.Empties.{bare-off}
+pub use Rattle.nvme_fleet.proofs.Queues.{placed-part, rung-part}
+pub use Rattle.nvme_fleet.proofs.Empties.{Whole, whole-of}
+use Rattle.nvme_fleet.proofs.Queues.{flight-total}
 use Rattle.nvme_fleet.proofs.Orders.{abort-idle, abort-age}
-use Rattle.nvme_fleet.proofs.Places.{no-way, Bare}
+use Rattle.nvme_fleet.proofs.Places.{no-way}
 
 slot-abort : (slots : List Slot) (k : ℕ) → slot_at (map abort_slot slots) k ≡ abort_slot (slot_at slots k)
 slot-abort [] k = refl
@@ -48,42 +48,8 @@ pub reset-box : (d : Host) (c : State) → box (reset d) (off c) ≡ record { pl
 unfolding box
 reset-box d c = refl
 
--- what holds of the queues of a driver, up or down
-pub record Whole (d : Host) (c : State) : Type 0 where
-  pub fetched : c.fetched < 8
-  pub waiting : c.waiting ≤ in_flight d c
-  pub carried : Carried d c
-
-whole-off : (d : Host) (c : State) → Resting d c → Whole d c
-whole-off d c r =
-    let f : c.fetched ≡ 0 = ap (λ (s : State). s.fetched) r.off in
-    let w : c.waiting ≡ 0 = ap (λ (s : State). s.waiting) r.off in
-    record {
-      fetched = omega (arith, f);
-      waiting = omega (arith, w);
-      carried = λ k. let b : Bare d c k = bare-off d c k r in omega (arith, b.taken, b.flight, b.unread, r.idle k);
-    }
-
-pub whole-of : (first : ℕ) (d : Host) (c : State) → Holds first d c → Whole d c
-whole-of first d c s = elim (cases_Bool d.up) [
-  | inl u ↦ let r : Running d c = s.up u in record { fetched = r.fetched; waiting = r.waiting; carried = r.carried }
-  | inr u ↦ whole-off d c (s.down u)
-]
-
--- the commands that wait, those that were placed alone before those that were rung
-abbrev pub placed-part : Host → State → List (List ℕ)
-placed-part d c = commands c.window ((c.fetched + c.waiting) % 8) (in_flight d c - c.waiting)
-
-abbrev pub rung-part : State → List (List ℕ)
-rung-part c = commands c.window c.fetched c.waiting
-
-pub parts : (d : Host) (c : State) (slot : ℕ) → Whole d c →
-    commands_of slot (commands c.window c.fetched (in_flight d c)) ≡ commands_of slot (rung-part c) + commands_of slot (placed-part d c)
-parts d c slot w =
-    let e : in_flight d c ≡ c.waiting + (in_flight d c - c.waiting) = omega (arith, w.waiting) in
-    ap (λ n. commands_of slot (commands c.window c.fetched n)) e ∙
-    ap (commands_of slot) (commands-append c.window c.fetched c.waiting (in_flight d c - c.waiting) w.fetched) ∙
-    total-append (bears slot) (rung-part c) _
+pub parts : (d : Host) (c : State) (slot : ℕ) → Whole d c → commands_of slot (commands c.window c.fetched (in_flight d c)) ≡ commands_of slot (rung-part c) + commands_of slot (placed-part d c)
+parts d c slot w = flight-total (bears slot) d c w.fetched w.waiting
 
 abbrev pub slots_of : List (List ℕ) → List ℕ
 slots_of [] = []

@@ -1,5 +1,5 @@
 -- Sums over the live slots of a lane.
-use Rattle.nvme_fleet.proofs.Words.{◌≡◌, ℕ, ◌+◌, ◌<◌, ◌≤◌, List, [], ◌∷◌, length, map, refl, ap, arith, zero, suc, false, eqb, Option, Some, None, slice_set, common_steps, Waiting, Slot, slot_at, total, live_waiting, live_in, live_at, remove}
+use Rattle.nvme_fleet.proofs.Words.{◌≡◌, ℕ, ◌+◌, ◌<◌, ◌≤◌, List, [], ◌∷◌, length, map, refl, sym, ap, subst, arith, zero, suc, inl, inr, false, cases_Bool, eqb, eqb-true, Option, Some, None, slice_set, common_steps, Waiting, Slot, slot_at, total, live_waiting, live_in, live_at, remove}
 
 pub map-removed : {A B : Type 0} (g : A → B) (xs : List A) (i : ℕ) → map g (remove xs i) ≡ remove (map g xs) i
 map-removed g [] zero = refl
@@ -41,3 +41,17 @@ slot-other (x ∷ xs) zero s zero h = grind (arith, h)
 slot-other (x ∷ xs) zero s (suc j) h = refl
 slot-other (x ∷ xs) (suc i) s zero h = refl
 slot-other (x ∷ xs) (suc i) s (suc j) h = let k : eqb j i ≡ false = grind (arith, common_steps, h) in slot-other xs i s j k
+
+-- what holds of a slot that is put in a place, and of each other slot
+pub each-set : (P : ℕ → Slot → Type 0) (slots : List Slot) (i : ℕ) (s : Slot) → i < length slots → P i s → ((k : ℕ) → eqb k i ≡ false → P k (slot_at slots k)) → (k : ℕ) → P k (slot_at (slice_set slots i s) k)
+each-set P slots i s h here there k = elim (cases_Bool (eqb k i)) [
+  | inl t ↦ subst (λ j. P j (slot_at (slice_set slots i s) j)) (sym (eqb-true k i t)) (subst (P i) (sym (slot-same slots i s h)) here)
+  | inr t ↦ subst (P k) (sym (slot-other slots i s k t)) (there k t)
+]
+
+pub each-all : (P : ℕ → Slot → Type 0) (slots : List Slot) (i : ℕ) (s : Slot) → P i s → ((k : ℕ) → P k (slot_at slots k)) → (k : ℕ) → P k (slot_at (slice_set slots i s) k)
+each-all P [] i s here all k = all k
+each-all P (x ∷ xs) zero s here all zero = here
+each-all P (x ∷ xs) zero s here all (suc k) = all (suc k)
+each-all P (x ∷ xs) (suc i) s here all zero = all zero
+each-all P (x ∷ xs) (suc i) s here all (suc k) = each-all (λ n. P (suc n)) xs i s here (λ n. all (suc n)) k

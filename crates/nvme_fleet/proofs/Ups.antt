@@ -1,12 +1,10 @@
 -- Bringing up in one lane: nothing is on its way behind each of the driver's own commands, and it holds at the end.
-use Rattle.nvme_fleet.proofs.Words.{◌≡◌, ℕ, ◌+◌, ◌-◌, ◌*◌, ◌%◌, ◌<◌, ◌≤◌, List, [], ◌∷◌, ◌++◌, length, refl, ap, sym, ◌∙◌, arith, suc, true, false, not, cond, eqb, Bool, inl, inr, take, drop, get_or, subst, length-drop, get_or-take, get_or-drop, get_or-append-add, get_or-replicate, length-replicate, length-take-le, same_lists, cases_lt, le-ltb, ne_eqb, common_steps, nat_lt, replicate, with_bytes, queue_id, completion_of, phase, AreOf, completion_bytes, phase_of, State, Slot, slot_at, zeros, fresh_host, fresh_state, own_host, own_state, in_flight, commands, completions, commands_of, answers_of, unread, heard, steps, since, last_head, total, odd, holds, live_in, live_at, Heads, Phases, Running, Resting, Holds, box, Host}
-use Rattle.nvme_fleet.proofs.Polls.{other-turn, twice}
-use Rattle.std.proofs.lemmas.List.{length-append}
-use Rattle.std.proofs.Math.ListN.{get_or-append}
-use Rattle.nvme_fleet.proofs.Windows.{stored-length}
-use Rattle.nvme_fleet.proofs.Keeps.{Enters, enters, EntersCompletion, answered}
-use Rattle.nvme_fleet.proofs.Queues.{same-entry, same-turn, since-zero}
-use Rattle.nvme_fleet.proofs.Places.{no-way, never}
+use Rattle.nvme_fleet.proofs.Words.{◌≡◌, ℕ, ◌+◌, ◌-◌, ◌*◌, ◌%◌, ◌<◌, ◌≤◌, List, [], ◌∷◌, length, refl, ap, sym, ◌∙◌, arith, suc, true, false, take, drop, get_or, subst, length-drop, get_or-take, get_or-drop, get_or-replicate, length-replicate, length-take-le, same_lists, le-ltb, common_steps, replicate, with_bytes, queue_id, completion_of, phase, AllByRecursion, IsOf, phase_of, State, Slot, slot_at, zeros, fresh_host, fresh_state, own_host, own_state, in_flight, commands, completions, commands_of, answers_of, unread, heard, steps, since, last_head, total, odd, holds, live_in, live_at, Phases, Running, Resting, Holds, box, Host}
+use Rattle.nvme_fleet.proofs.Phases.{phases-kept, phases-posted, phases-consumed}
+use Rattle.nvme_fleet.proofs.Windows.{stored-length, stored-part}
+use Rattle.nvme_fleet.proofs.Keeps.{enters, answered}
+use Rattle.nvme_fleet.proofs.Queues.{since-zero}
+use Rattle.nvme_fleet.proofs.Places.{up-holds}
 use Rattle.nvme_fleet.proofs.Orders.{idle-age}
 
 -- a lane that is up, where nothing is on its way
@@ -22,7 +20,7 @@ pub record Quiet (d : Host) (c : State) : Type 0 where
   pub unread : c.unread ≡ 0
   pub unheard : d.unheard ≡ 0
   pub taken : c.taken ≡ []
-  pub phases : Phases d c
+  pub phases : Phases c.window d.consumed c.unread
   pub idle : (slot : ℕ) → live_at d.slots slot ≡ 0
 
 idle-total : (slots : List Slot) → ((k : ℕ) → live_at slots k ≡ 0) → total live_in slots ≡ 0
@@ -49,62 +47,34 @@ quiet-running d c s =
       waiting = omega (arith, s.waiting);
       unheard = omega (arith, z, n, f, s.unheard);
       room = omega (arith, s.unheard);
-      heads = subst Heads (sym u) tt;
-      of_lane = subst (AreOf (queue_id c.lane)) (sym u) tt;
+      of_lane = subst (AllByRecursion (IsOf (queue_id c.lane))) (sym u) tt;
       phases = s.phases;
       carried = λ k. omega (arith, ap (commands_of k) s.taken, ap (commands_of k) e, ap (answers_of k) u, s.idle k);
       held = omega (arith, ap length s.taken, f, s.unread, idle-total d.slots s.idle);
       suited = omega (arith, ap (total (odd (holds d))) s.taken, ap (total (odd (holds d))) e);
     }
 
-old-phase : (b : Bool) (k n : ℕ) → n ≡ 0 → cond (nat_lt k n) b (not b) ≡ not b
-old-phase b k n e = ap (λ t. cond t b (not b)) (le-ltb k n (omega (arith, e)))
-
--- what an own command and its completion store
-record Own (w w' : List ℕ) (p m : ℕ) (entry completion : List ℕ) : Type 0 where
+-- what an own command and its completion store, and the phases behind them
+record Own (w w' : List ℕ) (n : ℕ) : Type 0 where
   size : length w' ≡ length w
-  completions : (n : ℕ) → eqb (n % 32) m ≡ false → completion_bytes w' n ≡ completion_bytes w n
-  last : take 16 (drop (4096 + 16 * m) w') ≡ completion
+  phases : Phases w' ((n + 1) % 64) 0
 
-owns : (w entry completion : List ℕ) (p m : ℕ) → length w ≡ 8192 → p < 8 → m < 32 → length entry ≡ 64 → length completion ≡ 16 →
-    Own w (with_bytes (with_bytes w (64 * p) entry) (4096 + 16 * m) completion) p m entry completion
-owns w entry completion p m l a b e f =
-    let one : Enters w (with_bytes w (64 * p) entry) p entry = enters w entry p l a e in
-    let two : EntersCompletion (with_bytes w (64 * p) entry) (with_bytes (with_bytes w (64 * p) entry) (4096 + 16 * m) completion) m completion = answered (with_bytes w (64 * p) entry) completion m (one.keeps.size ∙ l) b f in
+owns : (w entry completion : List ℕ) (p n : ℕ) → length w ≡ 8192 → p < 8 → n < 64 → length entry ≡ 64 → length completion ≡ 16 → (completion_of completion).phase ≡ phase_of n → Phases w n 0 →
+    Own w (with_bytes (with_bytes w (64 * p) entry) (4096 + 16 * (n % 32)) completion) n
+owns w entry completion p n l a b e f tag h =
+    let one = enters w entry p l a e in
+    let two = answered (with_bytes w (64 * p) entry) completion (n % 32) (one.keeps.size ∙ l) (omega arith) f in
     record {
       size = two.keeps.size ∙ one.keeps.size;
-      completions = λ n q. two.keeps.completions n q ∙ one.keeps.completions n (never n);
-      last = two.last;
+      phases = phases-consumed _ n 1 (omega arith) (omega arith) (phases-posted _ _ completion n 0 n two (omega (arith, b)) (omega arith) tag (phases-kept w _ p n 0 one.keeps h));
     }
-
-own-phases : (d : Host) (c : State) (entry completion : List ℕ) → Quiet d c → length entry ≡ 64 → length completion ≡ 16 → (completion_of completion).phase ≡ phase_of c.posted →
-    Phases (own_host d) (own_state c entry completion)
-own-phases d c entry completion s e f p k h =
-    let o : Own c.window (own_state c entry completion).window c.fetched (c.posted % 32) entry completion =
-    owns c.window entry completion c.fetched (c.posted % 32) s.window (omega (arith, s.fetched, s.put)) (omega arith) e f in
-    elim (cases_lt k 31) [
-      | inl lt ↦
-          let q : eqb (((d.consumed + 1) % 64 + k) % 32) (c.posted % 32) ≡ false = ne_eqb _ _ (λ m. omega (arith, s.posted, s.consumed, lt, m)) in
-          let a : ((d.consumed + 1) % 64 + k) % 32 ≡ (d.consumed + (k + 1)) % 32 = omega arith in
-          let b : ((d.consumed + 1) % 64 + k) % 64 ≡ (d.consumed + (k + 1)) % 64 = omega arith in
-          ap (λ x. (completion_of x).phase) (o.completions ((d.consumed + 1) % 64 + k) q ∙ same-entry c.window _ _ a) ∙
-          s.phases (k + 1) (omega (arith, lt)) ∙
-          old-phase (phase_of (d.consumed + (k + 1))) (k + 1) c.unread s.unread ∙
-          ap not (sym (same-turn _ _ b)) ∙
-          sym (old-phase (phase_of ((d.consumed + 1) % 64 + k)) k c.unread s.unread)
-      | inr ge ↦
-          let a : ((d.consumed + 1) % 64 + k) % 32 ≡ c.posted % 32 = omega (arith, h, ge, s.posted, s.consumed) in
-          ap (λ x. (completion_of x).phase) (same-entry (own_state c entry completion).window ((d.consumed + 1) % 64 + k) c.posted a ∙ o.last) ∙
-          p ∙ ap phase_of s.posted ∙ twice (phase_of d.consumed) ∙ ap not (sym (other-turn d.consumed k h ge)) ∙
-          sym (old-phase (phase_of ((d.consumed + 1) % 64 + k)) k c.unread s.unread)
-    ]
 
 -- one more of the driver's own commands leaves the lane quiet
 pub own-quiet : (d : Host) (c : State) (entry completion : List ℕ) → Quiet d c → length entry ≡ 64 → length completion ≡ 16 → (completion_of completion).phase ≡ phase_of c.posted →
     Quiet (own_host d) (own_state c entry completion)
 own-quiet d c entry completion s e f p =
-    let o : Own c.window (own_state c entry completion).window c.fetched (c.posted % 32) entry completion =
-    owns c.window entry completion c.fetched (c.posted % 32) s.window (omega (arith, s.fetched, s.put)) (omega arith) e f in
+    let h : Phases c.window c.posted 0 = subst (λ n. Phases c.window n 0) (sym s.posted) (subst (Phases c.window d.consumed) s.unread s.phases) in
+    let o = owns c.window entry completion c.fetched c.posted s.window (omega (arith, s.fetched, s.put)) (omega (arith, s.posted, s.consumed)) e f p h in
     record {
       ready = s.ready;
       window = o.size ∙ s.window;
@@ -117,7 +87,7 @@ own-quiet d c entry completion s e f p =
       unread = s.unread;
       unheard = s.unheard;
       taken = s.taken;
-      phases = own-phases d c entry completion s e f p;
+      phases = subst (λ n. Phases (own_state c entry completion).window ((n + 1) % 64) c.unread) s.posted (subst (Phases (own_state c entry completion).window ((c.posted + 1) % 64)) (sym s.unread) o.phases);
       idle = s.idle;
     }
 
@@ -129,15 +99,6 @@ pub record Zeros (z : List ℕ) : Type 0 where
 pub zeros-are : Zeros zeros
 unfolding zeros
 zeros-are = record { long = length-replicate {A = ℕ} 4096 0; each = λ i d h. get_or-replicate 4096 i 0 d h }
-
-stored-within : (w z : List ℕ) (at i n : ℕ) → at ≤ length w → i < length z → get_or (with_bytes w at z) (at + i) n ≡ get_or z i n
-stored-within w z at i n p q =
-    let l : length (take at w) ≡ at = length-take-le at w p in
-    let a : at + i ≡ length (take at w) + i = omega (arith, l) in
-    let b : length (take at w) + i < length (take at w ++ z) = omega (arith, q, length-append (take at w) z) in
-    ap (λ k. get_or (with_bytes w at z) k n) a ∙
-    get_or-append (take at w ++ z) (drop (at + length z) w) n (length (take at w) + i) b ∙
-    get_or-append-add (take at w) z i n
 
 byte-of : (w : List ℕ) (at i n d : ℕ) → i < n → get_or (take n (drop at w)) i d ≡ get_or w (at + i) d
 byte-of w at i n d p = get_or-take n (drop at w) i d p ∙ get_or-drop at w i d
@@ -151,22 +112,17 @@ no-phase = refl
 zero-entry : (w : List ℕ) (j : ℕ) → length w ≡ 8192 → j + 16 ≤ 4096 → take 16 (drop (4096 + j) (with_bytes w 4096 zeros)) ≡ replicate 16 0
 zero-entry w j l h =
     let z : length zeros ≡ 4096 = zeros-are.long in
-    let size = stored-length w zeros 4096 (omega (arith, l, z)) in
-    let d = length-drop (4096 + j) (with_bytes w 4096 zeros) in
-    let n : length (take 16 (drop (4096 + j) (with_bytes w 4096 zeros))) ≡ 16 = length-take-le 16 _ (omega (arith, d, size, l, h)) in
+    let d = length-drop j zeros in
+    let n : length (take 16 (drop j zeros)) ≡ 16 = length-take-le 16 _ (omega (arith, d, z, h)) in
+    stored-part w zeros 4096 j 16 (omega (arith, l)) (omega (arith, z, h)) ∙
     same_lists _ _ (n ∙ sym (length-replicate {A = ℕ} 16 0)) (λ k x inside.
     let b : k < 16 = omega (arith, inside, n) in
-    let e : (4096 + j) + k ≡ 4096 + (j + k) = omega arith in
-    byte-of (with_bytes w 4096 zeros) (4096 + j) k 16 x b
-    ∙ ap (λ m. get_or (with_bytes w 4096 zeros) m x) e
-    ∙ stored-within w zeros 4096 (j + k) x (omega (arith, l)) (omega (arith, z, h, b))
-    ∙ zeros-are.each (j + k) x (omega (arith, h, b))
-    ∙ sym (get_or-replicate 16 k 0 x b))
+    byte-of zeros j k 16 x b ∙ zeros-are.each (j + k) x (omega (arith, h, b)) ∙ sym (get_or-replicate 16 k 0 x b))
 
 turn-of : (k : ℕ) → k < 32 → phase_of (0 + k) ≡ true
 turn-of k h = grind (arith, common_steps)
 
-fresh-phases : (d : Host) (c : State) → length c.window ≡ 8192 → Phases (fresh_host d) (fresh_state c)
+fresh-phases : (d : Host) (c : State) → length c.window ≡ 8192 → Phases (fresh_state c).window 0 0
 fresh-phases d c w k q =
     let z : length zeros ≡ 4096 = zeros-are.long in
     let a : length (with_bytes c.window 0 zeros) ≡ 8192 = stored-length c.window zeros 0 (omega (arith, w, z)) ∙ w in
@@ -197,13 +153,7 @@ fresh-quiet d c r =
 -- a lane that has come up holds
 pub risen-holds : (first : ℕ) (d d' : Host) (c c' : State) → Holds first d c → Resting d c → d'.up ≡ true → d'.failed ≡ d.failed → d'.next ≡ d.next → d'.slots ≡ d.slots → Quiet d' c' → Holds d.next d' c'
 risen-holds first d d' c c' s r u f n e q =
-    record {
-      failed = f ∙ s.failed;
-      begun = rw n (omega arith);
-      ages = rw (n, e) (λ k. idle-age first d.next (slot_at d.slots k).waiting (r.idle k) (s.ages k));
-      up = λ t. quiet-running d' c' q;
-      down = λ t. absurd (no-way d'.up t u);
-    }
+    up-holds d.next d' c' u (f ∙ s.failed) (rw n (omega arith)) (rw (n, e) (λ k. idle-age first d.next (slot_at d.slots k).waiting (r.idle k) (s.ages k))) (quiet-running d' c' q)
 
 -- the lane of the mailbox is empty before and after
 pub resting-box : (d : Host) (c : State) → Resting d c → box d c ≡ record { placed = []; rung = []; posted = []; unheard = 0; since = 0 }

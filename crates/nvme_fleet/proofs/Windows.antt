@@ -9,6 +9,13 @@ stored-in w bytes at h =
     ap (take (length bytes)) (drop_at (take at w) (bytes ++ drop (at + length bytes) w) at (length-take-le at w h)) ∙
     take_at bytes (drop (at + length bytes) w) (length bytes) refl
 
+-- a part of it
+pub stored-part : (w bytes : List ℕ) (at j n : ℕ) → at ≤ length w → j + n ≤ length bytes → take n (drop (at + j) (with_bytes w at bytes)) ≡ take n (drop j bytes)
+stored-part w bytes at j n h g =
+    let v = drop at (with_bytes w at bytes) in
+    ap (take n) (sym (drop-drop j at (with_bytes w at bytes))) ∙ sym (drop-take j n v) ∙
+    ap (drop j) (sym (take-take (j + n) (length bytes) v g) ∙ ap (take (j + n)) (stored-in w bytes at h)) ∙ drop-take j n bytes
+
 front-length : (w bytes : List ℕ) (at : ℕ) → at ≤ length w → length (take at w ++ bytes) ≡ at + length bytes
 front-length w bytes at h = omega (arith, length-append (take at w) bytes, length-take-le at w h)
 

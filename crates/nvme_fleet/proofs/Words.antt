@@ -120,6 +120,6 @@ pub use Rattle.nvme_fleet.specs.Secrecy.{LayersReadTheSame, layers_over}
 pub use Rattle.nvme_fleet.specs.Sound.{DeviceEnds, EndsFit, IsOfLane, IsOff, IsPaired, Sound, completion_as, mailbox, submission_as}
 pub use Rattle.nvme_fleet.specs.Steps.{AdminAnswersItsRequest, AdminExecutionIsAStep, AdminJudgedAsItsRequest, AllowedServesItsRequest, AnswersItsRequest, ExecutionIsAFleetStep, ExecutionIsAStep, FetchIsAStep, IoExecutionIsAStep, IsAnsweredInItsSlot, IsExecuted, IsServedInItsSlot, IsStep, JudgedAsItsRequest, MarksAreSteps, NoExecutionIsAFleetStep, NothingToExecute, OpeningIsSound, PlaceIsAStep, PollIsAStep, PostingHasRoom, PostingIsAStep, RefusalIsAStep, ResetIsAStep, RingIsAStep, after_call, after_calls, request_execution_with, rung_reply}
 pub use Rattle.nvme_fleet.specs.Unique.{HasTicketsOnce, HaveTicketsOnce, LayersRunIsUnique, OpeningHasTicketsOnce, TicketsStayOnce}
-pub use Rattle.nvme_fleet.specs.Views.{AgeIn, Ages, AreOf, Carried, Effect, Heads, Holds, Host, Phases, Resting, Running, Slot, State, Suited, abort_slot, answer, answers, answers_of, asked_in, bears, can_hear, command_at, commands, commands_of, completion_bytes, completions, consumed, empty, executed, executed_state, filled, finished, fresh_host, fresh_state, front, heard, holds, in_flight, is_plain_in, item, lane_in, last_head, left_after, less, live_at, live_in, live_waiting, next_completion, odd, off, own_host, own_state, phase_of, placed_state, received_by, received_in, replies, since, slot_at, steps, ticket_in, unread, zeroed}
+pub use Rattle.nvme_fleet.specs.Views.{AgeIn, Ages, Carried, Effect, Holds, Host, IsOf, Phases, Resting, Running, Slot, State, Suited, abort_slot, answer, answers, answers_of, asked_in, bears, can_hear, command_at, commands, commands_of, completion_bytes, completions, consumed, empty, executed, executed_state, filled, finished, fresh_host, fresh_state, front, heard, holds, in_flight, is_plain_in, item, lane_in, last_head, left_after, less, live_at, live_in, live_waiting, next_completion, odd, off, own_host, own_state, phase_of, placed_state, received_by, received_in, replies, since, slot_at, steps, ticket_in, unread, zeroed}
 unfoldable pub use Rattle.nvme_fleet.specs.Views.{box, finished_bytes, is_plain, item_in, suits, zeros}
 pub use Rattle.nvme_fleet.specs.declared.delivery.DriverCall.{DriverCall}

@@ -2,6 +2,7 @@
 -- bytes that lie there, the lane's two queue pages, and the counts of its queues. Places count from the start of the
 -- pages: the submission queue lies in the first, the completion queue in the second.
 use Rattle.std.specs.Prelude.{◌≡◌, ℕ, zero, suc, ◌+◌, ◌-◌, ◌*◌, ◌%◌, ◌<◌, ◌≤◌, nat_lt, nat_le, ◌==◌, Bool, true, false, not, ◌&&◌, ◌||◌, is_some, if◌then◌else◌, cond, List, [], ◌∷◌, ◌++◌, length, map, take, drop, remove, replicate, Option, None, Some, slice_get, slice_set}
+use Rattle.std.specs.List.{AllByRecursion}
 use Rattle.std.specs.Str.{bytes_eq}
 use Rattle.nvme_wire.specs.Submission.{submission_entry, opcode, cid, nsid, cdw10, cdw11, cdw12}
 use Rattle.nvme_wire.specs.Completion.{Completion, completion_of, completion_entry}
@@ -206,15 +207,9 @@ abbrev pub steps : ℕ → List Completion → ℕ
 steps heard [] = 0
 steps heard (e ∷ es) = (e.sq_head + 8 - heard) % 8 + steps e.sq_head es
 
--- heads are below the queue's size
-abbrev pub Heads : List Completion → Type 0
-Heads [] = Unit {0}
-Heads (e ∷ es) = (e.sq_head < 8) × Heads es
-
--- completions are of this submission queue
-abbrev pub AreOf : ℕ → List Completion → Type 0
-AreOf q [] = Unit {0}
-AreOf q (e ∷ es) = (e.sq_id ≡ q) × AreOf q es
+-- a completion is of this submission queue, and its head is below that queue's size
+abbrev pub IsOf : ℕ → Completion → Type 0
+IsOf q e = (e.sq_id ≡ q) × (e.sq_head < 8)
 
 -- whether a command, or a completion, bears this slot, 1 or 0
 abbrev pub bears : ℕ → List ℕ → ℕ
@@ -241,12 +236,13 @@ live_in s = live_waiting s.waiting
 abbrev pub live_at : List Slot → ℕ → ℕ
 live_at slots k = live_in (slot_at slots k)
 
--- the next 32 completions have the phase of a new one as far as they are unread, and the old one behind that
-abbrev pub Phases : Host → State → Type 0
-Phases d c =
+-- the 32 completions from the n-th on have the phase of a new one as far as so many are unread, and the old one behind
+-- that
+abbrev pub Phases : List ℕ → ℕ → ℕ → Type 0
+Phases window n unread =
     (k : ℕ) → k < 32 →
-    (completion_of (completion_bytes c.window (d.consumed + k))).phase ≡
-    cond (nat_lt k c.unread) (phase_of (d.consumed + k)) (not (phase_of (d.consumed + k)))
+    (completion_of (completion_bytes window (n + k))).phase ≡
+    cond (nat_lt k unread) (phase_of (n + k)) (not (phase_of (n + k)))
 
 -- each waiting request stands in one place: on its way, fetched, or answered
 abbrev pub Carried : Host → State → Type 0
@@ -272,9 +268,8 @@ pub record Running (d : Host) (c : State) : Type 0 where
   pub waiting : c.waiting ≤ in_flight d c
   pub unheard : steps (heard d) (unread d c) + since d c + in_flight d c ≡ d.unheard
   pub room : d.unheard < 8
-  pub heads : Heads (unread d c)
-  pub of_lane : AreOf (queue_id c.lane) (unread d c)
-  pub phases : Phases d c
+  pub of_lane : AllByRecursion (IsOf (queue_id c.lane)) (unread d c)
+  pub phases : Phases c.window d.consumed c.unread
   pub carried : Carried d c
   pub held : length c.taken + in_flight d c + c.unread ≡ total live_in d.slots
   pub suited : Suited d c

@@ -2,6 +2,7 @@
 use Rattle.nvme_mailbox.proofs.Words.{all-joined, ◌≡◌, ◌⊎◌, inl, inr, ℕ, ◌+◌, Bool, true, false, List, [], ◌∷◌, ◌++◌, length, map, Some, Ok, refl, sym, ap, subst, ◌∙◌, if◌then◌else◌, AllByRecursion, Status, Lane, Admin, Io, Done, asked_of, FleetEvent, Poll, FleetSeen, Reply, concerns, Item, FetchedItem, PostedAnswer, LaneBox, Mailbox, box_at, with_box, lane_of, names, with_mark, ring_lane, new_item, with_placed, answer_reply, WithDriver, Fleet, Run, Is, called_at, host_at, after_answer, with_posted, answer_for, HasMailbox, OwnStep, MailboxStep, waiting, posted_answers, requests_in, Conclusion, Executes, HappensThen, IsClear, ResetClears, NewIsClear, WasPlacedAndExecuted, DoneIsItsExecution, done_in, remove, all-map}
 use Rattle.nvme_mailbox.proofs.Lists.{all-left, all-right, all-over, all-get, all-removed}
 use Rattle.nvme_mailbox.specs.Deliveries.{polled}
+use Rattle.nvme_driver.specs.declared.ticket.Ticket.{Ticket}
 use Rattle.nvme_event.specs.declared.seen.FleetSeen.TheVariants as seen
 use Rattle.nvme_mailbox.proofs.MailboxMarks.{DiffersInMarks, others-differ}
 use Rattle.nvme_mailbox.specs.Answered.{Places, Happens}
@@ -252,24 +253,6 @@ hands Q (Stay what) m q k d = absurd (not-done what q.done d)
 hands Q (Clear what) m q k d = absurd (not-done what q.done d)
 hands Q other m may k d = absurd d
 
--- what is read off it
-
-ticket_in : FleetSeen → ℕ
-ticket_in (seen.Polled (Ok (Some (Done ticket status dw0 len)))) = ticket.0
-ticket_in other = 0
-
-dw0_in : FleetSeen → ℕ
-dw0_in (seen.Polled (Ok (Some (Done ticket status dw0 len)))) = dw0
-dw0_in other = 0
-
-len_in : FleetSeen → ℕ
-len_in (seen.Polled (Ok (Some (Done ticket status dw0 len)))) = len
-len_in other = 0
-
-status_in : Status → FleetSeen → Status
-status_in default (seen.Polled (Ok (Some (Done ticket status dw0 len)))) = status
-status_in default other = default
-
 abbrev done_with : ℕ → Status → ℕ → ℕ → FleetSeen
 done_with ticket status dw0 len = seen.Polled (Ok (Some (Done (record { 0 = ticket }) status dw0 len)))
 
@@ -280,13 +263,9 @@ record Same (a : PostedAnswer) (ticket : ℕ) (status : Status) (dw0 len : ℕ) 
   len_is : length a.bytes ≡ len
 
 same-done : (a : PostedAnswer) (ticket : ℕ) (status : Status) (dw0 len : ℕ) → done_with a.ticket a.status a.dw0 (length a.bytes) ≡ done_with ticket status dw0 len → Same a ticket status dw0 len
-unfolding ticket_in dw0_in len_in status_in
-same-done a ticket status dw0 len h = record {
-  ticket_is = ap ticket_in h;
-  status_is = ap (status_in a.status) h;
-  dw0_is = ap dw0_in h;
-  len_is = ap len_in h;
-}
+same-done a ticket status dw0 len h =
+    let t : ◌≡◌ {A = Ticket} (record { 0 = a.ticket }) (record { 0 = ticket }) = cc in
+    record { ticket_is = ap (λ (t : Ticket). t.0) t; status_is = cc; dw0_is = cc; len_is = cc }
 
 abbrev Nothing : Item → Type 0
 Nothing i = ⊥

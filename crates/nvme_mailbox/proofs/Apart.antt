@@ -1,5 +1,5 @@
 -- A host's mailbox goes by its own events, but for the marks of others' executions.
-use Rattle.nvme_mailbox.proofs.Words.{◌≡◌, ◌≢◌, ℕ, ◌==◌, Bool, true, false, Option, None, Some, refl, sym, ap, subst, ◌∙◌, arith, slice_get, common_steps, Marks, Executed, Posted, NoSuch, Controller, FleetEvent, BringUp, Place, Ring, Fetch, Execute, Poll, Reset, RawStore, RawWrite32, PowerCycle, FleetSeen, NotRaw, Reply, concerns, FetchedItem, Mailbox, MailboxReaction, plain, fetched, reset, Site, RequestComesTo, WithDriver, Raw, Fleet, Is, Completes, ExecutesItem, ExecutesAt, host_at, with_host, power_cycled, called_at, raw_at, fetched_at, settled, after_answer, site_of, marks_in, replaced, numbered, HasMailbox, Becomes, Posts, ExecutesOwn, OwnStep, OthersStep, MailboxStep, MovesOn, HostsAreApart, marks_seen, marked_by}
+use Rattle.nvme_mailbox.proofs.Words.{◌≡◌, ◌≢◌, ℕ, ◌==◌, Bool, true, false, Option, None, Some, refl, sym, ap, subst, ◌∙◌, arith, slice_get, common_steps, Marks, Executed, Posted, NoSuch, Controller, FleetEvent, BringUp, Place, Ring, Fetch, Execute, Poll, Reset, RawStore, RawWrite32, PowerCycle, FleetSeen, NotRaw, Reply, concerns, FetchedItem, Mailbox, MailboxReaction, plain, fetched, reset, Site, RequestComesTo, WithDriver, Raw, Fleet, Moment, Is, Completes, ExecutesItem, ExecutesAt, host_at, with_host, power_cycled, called_at, raw_at, fetched_at, settled, after_answer, site_of, marks_in, replaced, numbered, HasMailbox, Becomes, Posts, ExecutesOwn, OwnStep, OthersStep, MailboxStep, MovesOn, HostsAreApart, marks_seen, marked_by}
 use Rattle.nvme_mailbox.specs.Fleets.{Host}
 use Rattle.nvme_event.specs.declared.seen.FleetSeen.TheVariants.{Executed as ExecutedSeen, NoController, Cycled}
 use Rattle.nvme_mailbox.proofs.MailboxMarks.{spared}
@@ -32,46 +32,33 @@ own tells old new event reply k m n here at h = record {
   moves = subst (λ b. MailboxStep b event tells k old.site m reply new.site n) (sym here) h;
 }
 
--- what a call leaves there
-calls : (old new : Fleet) (j k : ℕ) (m : Mailbox) (call : Mailbox → MailboxReaction) (reply : Reply) → j ≡ k → HasMailbox old k m → Is (called_at (host_at old j) old j call) reply new
-    → Becomes (call m) reply (call m).mailbox × HasMailbox new k (call m).mailbox
-calls old new j k m call reply same at h =
-    let here : host_at old j ≡ Some (WithDriver m) = ap (host_at old) same ∙ at in
-    let so : Is (called_at (Some (WithDriver m)) old j call) reply new = subst (λ o. Is (called_at o old j call) reply new) here h in
-    ((so.0, refl), ap (λ f. host_at f k) so.1 ∙ ap (λ x. host_at (with_host old x (WithDriver (call m).mailbox)) k) same ∙ own-set old k (WithDriver m) (WithDriver (call m).mailbox) at)
+-- an event of host j that executes nothing: what it comes to, by what that host is
+by-event : (tells : Bool) (old new : Fleet) (event : FleetEvent) (j k : ℕ) (m n : Mailbox) (comes : Option Host → Moment) (reply : Reply) (b : Bool) → (j == k) ≡ b → concerns event k ≡ b
+    → OthersStep event k m reply new.site m → (j ≢ k → host_at (comes (host_at old j)).fleet k ≡ host_at old k)
+    → (j ≡ k → HasMailbox (comes (Some (WithDriver m))).fleet k n) → (reply ≡ (comes (Some (WithDriver m))).reply → OwnStep event tells k old.site m reply new.site n)
+    → HasMailbox old k m → Is (comes (host_at old j)) reply new → MovesOn tells old event reply new k m
+by-event tells old new event j k m n comes reply true e here stays others leaves becomes at h =
+    let same = is-same j k e in
+    let so : Is (comes (Some (WithDriver m))) reply new = subst (λ o. Is (comes o) reply new) (ap (host_at old) same ∙ at) h in
+    own tells old new event reply k m n here (ap (λ f. host_at f k) so.1 ∙ leaves same) (becomes so.0)
+by-event tells old new event j k m n comes reply false e here stays others leaves becomes at h =
+    keeps tells old new event reply k m here stays (ap (λ f. host_at f k) h.1 ∙ others (is-other j k e)) at
 
-by-call : (tells : Bool) (old new : Fleet) (event : FleetEvent) (j k : ℕ) (m : Mailbox) (call : Mailbox → MailboxReaction) (reply : Reply) (b : Bool) → (j == k) ≡ b → concerns event k ≡ b
+left : (old : Fleet) (j k : ℕ) (m n : Mailbox) → HasMailbox old k m → j ≡ k → HasMailbox (with_host old j (WithDriver n)) k n
+left old j k m n at same = ap (λ x. host_at (with_host old x (WithDriver n)) k) same ∙ own-set old k (WithDriver m) (WithDriver n) at
+
+by-call : (tells : Bool) (old new : Fleet) (event : FleetEvent) (j k : ℕ) (m : Mailbox) (call : Mailbox → MailboxReaction) (reply : Reply) → concerns event k ≡ (j == k)
     → OthersStep event k m reply new.site m → (Becomes (call m) reply (call m).mailbox → OwnStep event tells k old.site m reply new.site (call m).mailbox)
     → HasMailbox old k m → Is (called_at (host_at old j) old j call) reply new → MovesOn tells old event reply new k m
-by-call tells old new event j k m call reply true e here stays becomes at h =
-    let so = calls old new j k m call reply (is-same j k e) at h in
-    own tells old new event reply k m (call m).mailbox here so.1 (becomes so.0)
-by-call tells old new event j k m call reply false e here stays becomes at h =
-    keeps tells old new event reply k m here stays (ap (λ f. host_at f k) h.1 ∙ called-other (host_at old j) old j k call (is-other j k e)) at
-
-by-fetch : (tells : Bool) (old new : Fleet) (j q k : ℕ) (m : Mailbox) (reply : Reply) (b : Bool) → (j == k) ≡ b
-    → HasMailbox old k m → Is (fetched_at (host_at old j) old j q) reply new → MovesOn tells old (Fetch j q) reply new k m
-by-fetch tells old new j q k m reply true e at h =
-    let same = is-same j k e in
-    let here : host_at old j ≡ Some (WithDriver m) = ap (host_at old) same ∙ at in
-    let so : Is (fetched_at (Some (WithDriver m)) old j q) reply new = subst (λ o. Is (fetched_at o old j q) reply new) here h in
-    let n : Mailbox = (fetched q m).mailbox in
-    own tells old new (Fetch j q) reply k m n e
-    (ap (λ f. host_at f k) so.1 ∙ ap (λ x. host_at (with_host old x (WithDriver n)) k) same ∙ own-set old k (WithDriver m) (WithDriver n) at)
-    (so.0, refl)
-by-fetch tells old new j q k m reply false e at h =
-    keeps tells old new (Fetch j q) reply k m e refl (ap (λ f. host_at f k) h.1 ∙ fetched-other (host_at old j) old j k q (is-other j k e)) at
+by-call tells old new event j k m call reply here stays becomes at h =
+    by-event tells old new event j k m (call m).mailbox (λ o. called_at o old j call) reply (j == k) refl here stays (called-other (host_at old j) old j k call) (left old j k m (call m).mailbox at) (λ g. becomes (g, refl)) at h
 
 -- a raw host's event does not reach a host with a driver
-by-raw : (tells : Bool) (old new : Fleet) (event : FleetEvent) (j k : ℕ) (m : Mailbox) (change : Controller → Controller) (what : FleetSeen) (reply : Reply) (b : Bool) → (j == k) ≡ b → concerns event k ≡ b
+by-raw : (tells : Bool) (old new : Fleet) (event : FleetEvent) (j k : ℕ) (m : Mailbox) (change : Controller → Controller) (what : FleetSeen) (reply : Reply) → concerns event k ≡ (j == k)
     → OthersStep event k m reply new.site m → ((reply ≡ plain NotRaw) × (m ≡ m) → OwnStep event tells k old.site m reply new.site m)
     → HasMailbox old k m → Is (raw_at (host_at old j) old j change what) reply new → MovesOn tells old event reply new k m
-by-raw tells old new event j k m change what reply true e here stays becomes at h =
-    let host : host_at old j ≡ Some (WithDriver m) = ap (host_at old) (is-same j k e) ∙ at in
-    let so : Is (raw_at (Some (WithDriver m)) old j change what) reply new = subst (λ o. Is (raw_at o old j change what) reply new) host h in
-    own tells old new event reply k m m here (ap (λ f. host_at f k) so.1 ∙ at) (becomes (so.0, refl))
-by-raw tells old new event j k m change what reply false e here stays becomes at h =
-    keeps tells old new event reply k m here stays (ap (λ f. host_at f k) h.1 ∙ raw-other (host_at old j) old j k change what (is-other j k e)) at
+by-raw tells old new event j k m change what reply here stays becomes at h =
+    by-event tells old new event j k m m (λ o. raw_at o old j change what) reply (j == k) refl here stays (raw-other (host_at old j) old j k change what) (λ same. at) (λ g. becomes (g, refl)) at h
 
 -- Executions.
 
@@ -152,13 +139,14 @@ by-cycle tells old new k m reply at h = record {
 }
 
 pub hosts_are_apart : HostsAreApart
-hosts_are_apart tells old new (BringUp j) reply h k m at = by-call tells old new (BringUp j) j k m _ reply (j == k) refl refl refl (λ x. x) at h
-hosts_are_apart tells old new (Place j request) reply h k m at = by-call tells old new (Place j request) j k m _ reply (j == k) refl refl refl (λ x. x) at h
-hosts_are_apart tells old new (Ring j) reply h k m at = by-call tells old new (Ring j) j k m _ reply (j == k) refl refl refl (λ x. x) at h
-hosts_are_apart tells old new (Fetch j q) reply h k m at = by-fetch tells old new j q k m reply (j == k) refl at h
+hosts_are_apart tells old new (BringUp j) reply h k m at = by-call tells old new (BringUp j) j k m _ reply refl refl (λ x. x) at h
+hosts_are_apart tells old new (Place j request) reply h k m at = by-call tells old new (Place j request) j k m _ reply refl refl (λ x. x) at h
+hosts_are_apart tells old new (Ring j) reply h k m at = by-call tells old new (Ring j) j k m _ reply refl refl (λ x. x) at h
+hosts_are_apart tells old new (Fetch j q) reply h k m at =
+    by-event tells old new (Fetch j q) j k m (fetched q m).mailbox (λ o. fetched_at o old j q) reply (j == k) refl refl refl (fetched-other (host_at old j) old j k q) (left old j k m (fetched q m).mailbox at) (λ g. (g, refl)) at h
 hosts_are_apart tells old new (Execute j i) reply h k m at = by-execution tells old new j i k m reply (j == k) refl at h
-hosts_are_apart tells old new (Poll j) reply h k m at = by-call tells old new (Poll j) j k m _ reply (j == k) refl refl refl (λ x. x) at h
-hosts_are_apart tells old new (Reset j) reply h k m at = by-call tells old new (Reset j) j k m _ reply (j == k) refl refl refl (λ x. x) at h
-hosts_are_apart tells old new (RawStore j address bytes) reply h k m at = by-raw tells old new (RawStore j address bytes) j k m _ _ reply (j == k) refl refl refl (λ x. x) at h
-hosts_are_apart tells old new (RawWrite32 j offset v) reply h k m at = by-raw tells old new (RawWrite32 j offset v) j k m _ _ reply (j == k) refl refl refl (λ x. x) at h
+hosts_are_apart tells old new (Poll j) reply h k m at = by-call tells old new (Poll j) j k m _ reply refl refl (λ x. x) at h
+hosts_are_apart tells old new (Reset j) reply h k m at = by-call tells old new (Reset j) j k m _ reply refl refl (λ x. x) at h
+hosts_are_apart tells old new (RawStore j address bytes) reply h k m at = by-raw tells old new (RawStore j address bytes) j k m _ _ reply refl refl (λ x. x) at h
+hosts_are_apart tells old new (RawWrite32 j offset v) reply h k m at = by-raw tells old new (RawWrite32 j offset v) j k m _ _ reply refl refl (λ x. x) at h
 hosts_are_apart tells old new PowerCycle reply h k m at = by-cycle tells old new k m reply at h

@@ -1,5 +1,5 @@
 -- Without a fault there is a run over each list of events, from each fleet whose namespaces lie on its medium.
-use Rattle.nvme_mailbox.proofs.Words.{◌≡◌, ℕ, ◌+◌, ◌*◌, ◌≤◌, ◌==◌, Bool, true, List, [], ◌∷◌, ◌++◌, length, take, drop, Option, None, Some, Ok, Err, refl, sym, ap, ◌∙◌, arith, length-append, length-drop, slice_get, replicate, length-take-le, opcode, Command, WriteZeroes, AdminCommand, Verdict, Allowed, Denied, with_bytes, Judgement, action_rule, medium_block, IsLaidOut, extent_of, HasPassed, planned, passes, cycle_keeps_places, Lane, Admin, Io, Asked, FetchedCommand, Controller, QueuePair, queues_of, open_pair, Setting, FinishesOne, FinishesOver, scene_in, CommandComesTo, command-becomes, still, answer-extents, answer-size, FleetEvent, BringUp, Place, Ring, Fetch, Execute, Poll, Reset, RawStore, RawWrite32, PowerCycle, FleetSeen, FetchedItem, Mailbox, lane_of, MailboxReaction, Site, RequestExecution, scene_at, IsServed, IoRequestComesTo, RequestComesToAs, RequestComesTo, action_of, io_judgement, io_verdict, admin_judgement, admin_request_execution_by, admin_request_execution, command_entry, WithDriver, Raw, Fleet, Step, host_at, with_host, power_cycled, settled, called_at, raw_at, fetched_at, ExecutesItem, ExecutesAt, setting_of, served, performance_of, io_request_execution, request_execution_as, request_execution, executing_item, raw_over, raw_one, raw_execution, executing, fault_free_step, failures_in, RunExists}
+use Rattle.nvme_mailbox.proofs.Words.{◌≡◌, ℕ, ◌+◌, ◌*◌, ◌≤◌, ◌==◌, Bool, true, List, [], ◌∷◌, ◌++◌, length, take, drop, Option, None, Some, Ok, Err, refl, sym, ap, ◌∙◌, arith, length-append, length-drop, slice_get, replicate, length-take-le, opcode, Command, WriteZeroes, AdminCommand, Verdict, Allowed, Denied, with_bytes, Judgement, action_rule, medium_block, IsLaidOut, extent_of, HasPassed, planned, passes, cycle_keeps_places, Lane, Admin, Io, Asked, FetchedCommand, Controller, QueuePair, queues_of, open_pair, Setting, FinishesOne, FinishesOver, scene_in, CommandComesTo, command-becomes, still, answer-extents, answer-size, FleetEvent, BringUp, Place, Ring, Fetch, Execute, Poll, Reset, RawStore, RawWrite32, PowerCycle, FleetSeen, FetchedItem, Mailbox, lane_of, MailboxReaction, Site, RequestExecution, scene_at, IsServed, IoRequestComesTo, RequestComesToAs, RequestComesTo, action_of, io_judgement, io_verdict, admin_judgement, admin_request_execution_by, admin_request_execution, command_entry, WithDriver, Raw, Fleet, Moment, Step, host_at, with_host, power_cycled, settled, called_at, raw_at, fetched_at, ExecutesItem, ExecutesAt, setting_of, served, performance_of, io_request_execution, request_execution_as, request_execution, executing_item, raw_over, raw_one, raw_execution, executing, fault_free_step, failures_in, RunExists}
 use Rattle.nvme_spec.specs.declared.command.Command.TheVariants.{Write}
 use Rattle.nvme_spec.specs.declared.verdict.Plan.{Plan}
 use Rattle.nvme_spec.specs.Commands as io_commands
@@ -113,26 +113,26 @@ responds Io k a marked s laid =
     let r = io-responds (io_verdict s.world k a marked) k a marked s laid refl in
     record { comes_to = r.0; lies = r.1; calm = r.2 }
 
--- what a step is to be: there, and with this left
-record Steps (f : Fleet) (event : FleetEvent) : Type 0 where
-  step : Step true f event (fault_free_step f event).reply (fault_free_step f event).fleet
-  lies : StillLies f.site (fault_free_step f event).fleet.site
-  calm : failures_in (fault_free_step f event).fleet ≡ failures_in f
+-- what an event is to come to: it is there, the namespaces lie as before, and no call has failed
+record Comes (Is : Type 0) (f : Fleet) (m : Moment) : Type 0 where
+  step : Is
+  lies : StillLies f.site m.fleet.site
+  calm : failures_in m.fleet ≡ failures_in f
 
--- the same of an execution
-record Executes (o : Option Host) (f : Fleet) (k i : ℕ) : Type 0 where
-  step : ExecutesAt o true f k i (executing o f k i).reply (executing o f k i).fleet
-  lies : StillLies f.site (executing o f k i).fleet.site
-  calm : failures_in (executing o f k i).fleet ≡ failures_in f
+abbrev Steps : Fleet → FleetEvent → Type 0
+Steps f event = Comes (Step true f event (fault_free_step f event).reply (fault_free_step f event).fleet) f (fault_free_step f event)
 
 item-executes : (o : Option FetchedItem) (f : Fleet) (k : ℕ) (m : Mailbox) (i : ℕ) → IsLaidOut f.site.world f.site.device.content
-    → ExecutesItem o true f k m i (executing_item o f k m i).reply (executing_item o f k m i).fleet
-    × StillLies f.site (executing_item o f k m i).fleet.site × (failures_in (executing_item o f k m i).fleet ≡ failures_in f)
+    → Comes (ExecutesItem o true f k m i (executing_item o f k m i).reply (executing_item o f k m i).fleet) f (executing_item o f k m i)
 unfolding RequestComesTo request_execution settled
-item-executes None f k m i laid = ((refl, refl), lies-same f.site f.site refl, refl)
+item-executes None f k m i laid = record { step = (refl, refl); lies = lies-same f.site f.site refl; calm = refl }
 item-executes (Some x) f k m i laid =
     let r = responds (lane_of x.item) k x.item.asked x.marked f.site laid in
-    (record { execution = request_execution_as (lane_of x.item) k x.item.asked x.marked f.site; comes_to = r.comes_to; gives = refl; leaves = refl }, r.lies, r.calm)
+    record {
+      step = record { execution = request_execution_as (lane_of x.item) k x.item.asked x.marked f.site; comes_to = r.comes_to; gives = refl; leaves = refl };
+      lies = r.lies;
+      calm = r.calm;
+    }
 
 raw-over : (o : Option QueuePair) (i : ℕ) (t : FetchedCommand) (s : Setting) → IsLaidOut s.world s.device.content
     → FinishesOver o true i t s (raw_over o i t s).executed (raw_over o i t s).left
@@ -157,12 +157,10 @@ raw-one : (o : Option FetchedCommand) (i : ℕ) (s : Setting) → IsLaidOut s.wo
 raw-one None i s laid = ((refl, refl), lies-same _ _ refl, refl)
 raw-one (Some t) i s laid = raw-over (open_pair s.controller t) i t s laid
 
-executes : (o : Option Host) (f : Fleet) (k i : ℕ) → IsLaidOut f.site.world f.site.device.content → Executes o f k i
+executes : (o : Option Host) (f : Fleet) (k i : ℕ) → IsLaidOut f.site.world f.site.device.content → Comes (ExecutesAt o true f k i (executing o f k i).reply (executing o f k i).fleet) f (executing o f k i)
 unfolding settled
 executes None f k i laid = record { step = (refl, refl); lies = lies-same f.site f.site refl; calm = refl }
-executes (Some (WithDriver m)) f k i laid =
-    let r = item-executes (slice_get m.fetched i) f k m i laid in
-    record { step = r.0; lies = r.1; calm = r.2 }
+executes (Some (WithDriver m)) f k i laid = item-executes (slice_get m.fetched i) f k m i laid
 executes (Some (Raw c)) f k i laid =
     let r = raw-one (slice_get c.fetched i) i (setting_of f c) laid in
     record {
@@ -171,24 +169,27 @@ executes (Some (Raw c)) f k i laid =
       calm = r.2;
     }
 
--- every other event leaves the medium and the world
-called-site : (o : Option Host) (f : Fleet) (k : ℕ) (call : Mailbox → MailboxReaction) → (called_at o f k call).fleet.site ≡ f.site
-unfolding with_host
-called-site None f k call = refl
-called-site (Some (WithDriver m)) f k call = refl
-called-site (Some (Raw c)) f k call = refl
+-- every other event goes by the hosts alone, wherever they are
+abbrev pub elsewhere : Site → Moment → Moment
+elsewhere s m = record { fleet = record { site = s; hosts = m.fleet.hosts }; reply = m.reply }
 
-raw-site : (o : Option Host) (f : Fleet) (k : ℕ) (change : Controller → Controller) (what : FleetSeen) → (raw_at o f k change what).fleet.site ≡ f.site
+called-elsewhere : (o : Option Host) (f : Fleet) (s : Site) (k : ℕ) (call : Mailbox → MailboxReaction) → called_at o (record f { site = s }) k call ≡ elsewhere s (called_at o f k call)
 unfolding with_host
-raw-site None f k change what = refl
-raw-site (Some (WithDriver m)) f k change what = refl
-raw-site (Some (Raw c)) f k change what = refl
+called-elsewhere None f s k call = refl
+called-elsewhere (Some (WithDriver m)) f s k call = refl
+called-elsewhere (Some (Raw c)) f s k call = refl
 
-fetched-site : (o : Option Host) (f : Fleet) (k q : ℕ) → (fetched_at o f k q).fleet.site ≡ f.site
+raw-elsewhere : (o : Option Host) (f : Fleet) (s : Site) (k : ℕ) (change : Controller → Controller) (what : FleetSeen) → raw_at o (record f { site = s }) k change what ≡ elsewhere s (raw_at o f k change what)
 unfolding with_host
-fetched-site None f k q = refl
-fetched-site (Some (WithDriver m)) f k q = refl
-fetched-site (Some (Raw c)) f k q = refl
+raw-elsewhere None f s k change what = refl
+raw-elsewhere (Some (WithDriver m)) f s k change what = refl
+raw-elsewhere (Some (Raw c)) f s k change what = refl
+
+fetched-elsewhere : (o : Option Host) (f : Fleet) (s : Site) (k q : ℕ) → fetched_at o (record f { site = s }) k q ≡ elsewhere s (fetched_at o f k q)
+unfolding with_host
+fetched-elsewhere None f s k q = refl
+fetched-elsewhere (Some (WithDriver m)) f s k q = refl
+fetched-elsewhere (Some (Raw c)) f s k q = refl
 
 -- neither an execution nor a power cycle
 abbrev pub IsOther : FleetEvent → Type 0
@@ -196,17 +197,22 @@ IsOther (Execute k i) = ⊥
 IsOther PowerCycle = ⊥
 IsOther event = Unit {0}
 
+pub other-elsewhere : (f : Fleet) (event : FleetEvent) (s : Site) → IsOther event → fault_free_step (record f { site = s }) event ≡ elsewhere s (fault_free_step f event)
+unfolding host_at
+other-elsewhere f (BringUp k) s h = called-elsewhere (host_at f k) f s k _
+other-elsewhere f (Place k request) s h = called-elsewhere (host_at f k) f s k _
+other-elsewhere f (Ring k) s h = called-elsewhere (host_at f k) f s k _
+other-elsewhere f (Fetch k q) s h = fetched-elsewhere (host_at f k) f s k q
+other-elsewhere f (Execute k i) s h = absurd h
+other-elsewhere f (Poll k) s h = called-elsewhere (host_at f k) f s k _
+other-elsewhere f (Reset k) s h = called-elsewhere (host_at f k) f s k _
+other-elsewhere f (RawStore k address bytes) s h = raw-elsewhere (host_at f k) f s k _ _
+other-elsewhere f (RawWrite32 k offset v) s h = raw-elsewhere (host_at f k) f s k _ _
+other-elsewhere f PowerCycle s h = absurd h
+
+-- so it leaves the medium and the world
 pub other-site : (f : Fleet) (event : FleetEvent) → IsOther event → (fault_free_step f event).fleet.site ≡ f.site
-other-site f (BringUp k) h = called-site (host_at f k) f k _
-other-site f (Place k request) h = called-site (host_at f k) f k _
-other-site f (Ring k) h = called-site (host_at f k) f k _
-other-site f (Fetch k q) h = fetched-site (host_at f k) f k q
-other-site f (Execute k i) h = absurd h
-other-site f (Poll k) h = called-site (host_at f k) f k _
-other-site f (Reset k) h = called-site (host_at f k) f k _
-other-site f (RawStore k address bytes) h = raw-site (host_at f k) f k _ _
-other-site f (RawWrite32 k offset v) h = raw-site (host_at f k) f k _ _
-other-site f PowerCycle h = absurd h
+other-site f event h = ap (λ (m : Moment). m.fleet.site) (other-elsewhere f event f.site h)
 
 other-steps : (f : Fleet) (event : FleetEvent) → IsOther event → Step true f event (fault_free_step f event).reply (fault_free_step f event).fleet → Steps f event
 other-steps f event other step =
@@ -222,7 +228,7 @@ unfolding power_cycled
 cycled-steps f = record { step = (refl, refl); lies = cycled-lies f; calm = refl }
 
 steps : (f : Fleet) (event : FleetEvent) → IsLaidOut f.site.world f.site.device.content → Steps f event
-steps f (Execute k i) laid = let r = executes (host_at f k) f k i laid in record { step = r.step; lies = r.lies; calm = r.calm }
+steps f (Execute k i) laid = executes (host_at f k) f k i laid
 steps f PowerCycle laid = cycled-steps f
 steps f event laid = other-steps f event tt (refl, refl)
 

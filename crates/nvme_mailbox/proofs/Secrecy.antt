@@ -1,11 +1,11 @@
 -- Hosts of a fleet that may not read a namespace learn nothing of its bytes.
-use Rattle.nvme_mailbox.proofs.Words.{AllByRecursion, fault_free_step, ◌≡◌, ◌<◌, ◌-◌, ◌^◌, ℕ, Bool, true, false, List, [], ◌∷◌, Option, None, Some, Ok, Err, refl, sym, ap, subst, ◌∙◌, slice_get, opcode, AdminCommand, Verdict, Allowed, Denied, Device, reserving, IsLaidOut, may_read, Judgement, World, Lane, Admin, Io, Asked, FetchedCommand, Executed, CommandExecution, Controller, QueuePair, open_pair, queues_of, FinishesOne, FinishesOver, Setting, scene_in, DifferIn, after_completion, Mirrors, command_execution_over, answers-over, performs, differ-still, FleetEvent, BringUp, Place, Ring, Fetch, Execute, Poll, Reset, RawStore, RawWrite32, PowerCycle, FleetSeen, OfItsHost, Reply, FetchedItem, Mailbox, lane_of, MailboxReaction, RequestComesTo, RequestComesToAs, IoRequestComesTo, RequestExecution, Site, admin_judgement, admin_request_execution, admin_request_execution_by, command_entry, io_verdict, scene_at, Allows, Forgets, LeavesReservation, ExecutesAt, ExecutesItem, ExecutesRaw, Fleet, Is, Raw, Step, WithDriver, after_answer, after_execution, after_raw, called_at, fetched_at, host_at, power_cycled, raw_at, setting_of, settled, with_host, IsRegular, WasTaken, FencedReading, FencedReadingIsSame, MayNotRead, site_over}
+use Rattle.nvme_mailbox.proofs.Words.{AllByRecursion, fault_free_step, ◌≡◌, ◌<◌, ◌-◌, ◌^◌, ℕ, Bool, true, false, List, [], ◌∷◌, Option, None, Some, Ok, Err, refl, sym, ap, subst, ◌∙◌, slice_get, opcode, AdminCommand, Verdict, Allowed, Denied, Device, reserving, IsLaidOut, may_read, Judgement, World, Lane, Admin, Io, Asked, FetchedCommand, Executed, CommandExecution, Controller, QueuePair, open_pair, queues_of, FinishesOne, FinishesOver, Setting, scene_in, DifferIn, after_completion, Mirrors, command_execution_over, answers-over, performs, differ-still, FleetEvent, BringUp, Place, Ring, Fetch, Execute, Poll, Reset, RawStore, RawWrite32, PowerCycle, OfItsHost, Reply, FetchedItem, Mailbox, lane_of, RequestComesTo, RequestComesToAs, IoRequestComesTo, RequestExecution, Site, admin_judgement, admin_request_execution, admin_request_execution_by, command_entry, io_verdict, scene_at, Allows, Forgets, LeavesReservation, Moment, ExecutesAt, ExecutesItem, ExecutesRaw, Fleet, Is, Raw, Step, WithDriver, after_answer, after_execution, after_raw, host_at, power_cycled, setting_of, settled, IsRegular, WasTaken, FencedReading, FencedReadingIsSame, MayNotRead, site_over}
 use Rattle.nvme_mailbox.specs.Fleets.{Host}
 use Rattle.nvme_spec.specs.AdminCommands as admin_commands
 use Rattle.nvme_mailbox.specs.IoCommands.{command_at}
 use Rattle.nvme_mailbox.specs.Secrecy.{over}
 use Rattle.nvme_mailbox.proofs.Determined.{run_is_unique}
-use Rattle.nvme_mailbox.proofs.Existing.{IsOther, allowed-passes, other-site}
+use Rattle.nvme_mailbox.proofs.Existing.{IsOther, allowed-passes, other-elsewhere, other-site}
 use Rattle.nvme_mailbox.proofs.Fenced.{extents-stay, plainly, reading-stays, step-acts}
 use Rattle.nvme_mailbox.proofs.Regular.{BringsItsOwn, admin-device, step-regular, taken-brings}
 use Rattle.nvme_mailbox.proofs.Taken.{at-place}
@@ -71,25 +71,6 @@ stays n old new d differ is = same-device n old.site.world old.site.device new.s
 
 whole : (n : ℕ) (old new : Fleet) (d : Device) → DifferIn n old.site.world old.site.device d → new ≡ old → DifferIn n old.site.world new.site.device d
 whole n old new d differ is = stays n old new d differ (ap (λ (f : Fleet). f.site) is)
-
-called-over : (o : Option Host) (f : Fleet) (k : ℕ) (call : Mailbox → MailboxReaction) (d : Device) (reply : Reply) (new : Fleet) → Is (called_at o f k call) reply new → Is (called_at o (over d f) k call) reply (over d new)
-unfolding with_host
-called-over None f k call d reply new h = (h.0, ap (over d) h.1)
-called-over (Some (WithDriver m)) f k call d reply new h = (h.0, ap (over d) h.1)
-called-over (Some (Raw c)) f k call d reply new h = (h.0, ap (over d) h.1)
-
-raw-over : (o : Option Host) (f : Fleet) (k : ℕ) (change : Controller → Controller) (what : FleetSeen) (d : Device) (reply : Reply) (new : Fleet) → Is (raw_at o f k change what) reply new
-    → Is (raw_at o (over d f) k change what) reply (over d new)
-unfolding with_host
-raw-over None f k change what d reply new h = (h.0, ap (over d) h.1)
-raw-over (Some (WithDriver m)) f k change what d reply new h = (h.0, ap (over d) h.1)
-raw-over (Some (Raw c)) f k change what d reply new h = (h.0, ap (over d) h.1)
-
-fetched-over : (o : Option Host) (f : Fleet) (k q : ℕ) (d : Device) (reply : Reply) (new : Fleet) → Is (fetched_at o f k q) reply new → Is (fetched_at o (over d f) k q) reply (over d new)
-unfolding with_host
-fetched-over None f k q d reply new h = (h.0, ap (over d) h.1)
-fetched-over (Some (WithDriver m)) f k q d reply new h = (h.0, ap (over d) h.1)
-fetched-over (Some (Raw c)) f k q d reply new h = (h.0, ap (over d) h.1)
 
 -- Executions.
 
@@ -164,17 +145,10 @@ unfolding power_cycled
 cycles n old new reply d differ h = (d, (h.0, ap (over d) h.1), same-device n old.site.world old.site.device new.site.device d differ (ap (λ (f : Fleet). f.site.device) h.1))
 
 other-over : (f : Fleet) (event : FleetEvent) → IsOther event → (d : Device) (reply : Reply) (new : Fleet) → Is (fault_free_step f event) reply new → Is (fault_free_step (over d f) event) reply (over d new)
-unfolding host_at
-other-over f (BringUp k) other d reply new h = called-over (host_at f k) f k _ d reply new h
-other-over f (Place k request) other d reply new h = called-over (host_at f k) f k _ d reply new h
-other-over f (Ring k) other d reply new h = called-over (host_at f k) f k _ d reply new h
-other-over f (Fetch k q) other d reply new h = fetched-over (host_at f k) f k q d reply new h
-other-over f (Execute k i) other d reply new h = absurd other
-other-over f (Poll k) other d reply new h = called-over (host_at f k) f k _ d reply new h
-other-over f (Reset k) other d reply new h = called-over (host_at f k) f k _ d reply new h
-other-over f (RawStore k address bytes) other d reply new h = raw-over (host_at f k) f k _ _ d reply new h
-other-over f (RawWrite32 k offset v) other d reply new h = raw-over (host_at f k) f k _ _ d reply new h
-other-over f PowerCycle other d reply new h = absurd other
+other-over f event other d reply new h =
+    let e = sym (other-elsewhere f event (site_over d f.site) other) in
+    let s = other-site f event other in
+    (h.0 ∙ ap (λ (m : Moment). m.reply) e, ap (over d) h.1 ∙ (λ i. record { site = site_over d (s i); hosts = (fault_free_step f event).fleet.hosts }) ∙ ap (λ (m : Moment). m.fleet) e)
 
 pub step-over : (n : ℕ) (old new : Fleet) (event : FleetEvent) (reply : Reply) (d : Device) → IsRegular old → DifferIn n old.site.world old.site.device d
     → OfItsHost (λ k. may_read old.site.world k n ≡ false) event → Step true old event reply new

@@ -1,5 +1,5 @@
 -- A driver that is down waits for nothing, from an opening on.
-use Rattle.nvme_mailbox.proofs.Words.{true≢false, ◌≡◌, ℕ, ◌+◌, true, false, List, [], ◌∷◌, map, refl, sym, ap, subst, ◌∙◌, slice_get, none-some, Lane, Admin, Io, LaneBox, Mailbox, box_at, lane_of, new_mailbox, with_box, with_mark, WithDriver, after_answer, opening, IsClear, posted_answers, waiting, Device, Configuration, Raw, marked}
+use Rattle.nvme_mailbox.proofs.Words.{true≢false, ◌≡◌, ℕ, ◌+◌, true, false, List, [], ◌∷◌, map, refl, sym, ap, subst, ◌∙◌, slice_get, none-some, Lane, Admin, Io, LaneBox, empty_box, Mailbox, box_at, lane_of, new_mailbox, with_box, with_mark, WithDriver, after_answer, opening, IsClear, posted_answers, waiting, Device, Configuration, Raw, marked}
 use Rattle.nvme_mailbox.specs.SinceUp.{DoneSinceItCameUp, DownIsClear}
 use Rattle.nvme_mailbox.proofs.Answered.{done_is_its_execution}
 use Rattle.nvme_mailbox.proofs.TicketCounts.{opening_is_new}
@@ -11,6 +11,9 @@ record IsEmpty (b : LaneBox) : Type 0 where
   placed : b.placed ≡ []
   rung : b.rung ≡ []
   posted : b.posted ≡ []
+
+none : IsEmpty empty_box
+none = record { placed = refl; rung = refl; posted = refl }
 
 record IsIdle (m : Mailbox) : Type 0 where
   admin : IsEmpty m.admin
@@ -57,11 +60,7 @@ rests (HandUp lane x rest) m is h = λ down.
     let e = lane-empty lane m (h (sym (box-up lane _ m) ∙ down)) in
     absurd (filled x rest (sym is ∙ e.posted))
 rests (Free t ts) m is h = λ down. let i = h down in record { admin = i.admin; io = i.io; fetched = i.fetched }
-rests (Clear what) m q h = λ down. record {
-  admin = record { placed = refl; rung = refl; posted = refl };
-  io = record { placed = refl; rung = refl; posted = refl };
-  fetched = refl;
-}
+rests (Clear what) m q h = λ down. record { admin = none; io = none; fetched = refl }
 rests (Answer i x r) m at h = λ down.
     let idle = h (sym (box-up (lane_of x.item) _ _) ∙ down) in
     absurd (none-some _ (sym (ap (λ xs. slice_get xs i) idle.fetched) ∙ at))
@@ -81,11 +80,7 @@ keeps = record { move = λ k v m may h. rests v m may h; marks = marked-rests; r
 
 -- as it opens
 new-rests : Rests (new_mailbox 1)
-new-rests = λ down. record {
-  admin = record { placed = refl; rung = refl; posted = refl };
-  io = record { placed = refl; rung = refl; posted = refl };
-  fetched = refl;
-}
+new-rests = λ down. record { admin = none; io = none; fetched = refl }
 
 opening-rests : (c : Configuration) (d : Device) → Each RestsAt (opening c d)
 opening-rests c d k (WithDriver m) at = subst Rests (sym (opening_is_new c d k m at)) new-rests

@@ -1,5 +1,5 @@
 -- Tickets are given in order, and go once.
-use Rattle.nvme_mailbox.proofs.Words.{◌≡◌, inl, inr, ℕ, zero, suc, ◌+◌, ◌≤◌, nat_lt, Bool, true, false, List, [], ◌∷◌, ◌++◌, map, Some, refl, sym, ap, subst, ◌∙◌, arith, if◌then◌else◌, slice_get, common_steps, length-map, same_Some, ControllerConfig, new_controller, Lane, Admin, Io, FleetEvent, Reply, concerns, Item, FetchedItem, PostedAnswer, LaneBox, Mailbox, with_box, lane_of, new_mailbox, Site, WithDriver, Raw, Fleet, Run, host_at, after_answer, new_host, numbered, opening, HasMailbox, MailboxStep, given_in, given, done, aborted, along, held_tickets, waiting_tickets, answered_tickets, Balance, counting, TicketsAreConsecutive, is_ticket, times, below, GoesOnce, EachTicketGoesOnce, EachIsHeldOnce, NewHoldsEachOnce, OpeningHasDrivers, OpeningIsNew, TicketsOfAnOpeningGoOnce, HeldAreCounted, waiting, posted_answers, requests_in}
+use Rattle.nvme_mailbox.proofs.Words.{◌≡◌, inl, inr, ℕ, zero, suc, ◌+◌, ◌≤◌, nat_lt, Bool, true, false, List, [], ◌∷◌, ◌++◌, map, Some, refl, sym, ap, subst, ◌∙◌, arith, if◌then◌else◌, slice_get, slice_get-map, option_map, common_steps, length-map, ControllerConfig, new_controller, Lane, Admin, Io, FleetEvent, Reply, concerns, Item, FetchedItem, PostedAnswer, LaneBox, Mailbox, with_box, lane_of, new_mailbox, Site, WithDriver, Raw, Fleet, Run, host_at, after_answer, new_host, numbered, opening, HasMailbox, MailboxStep, given_in, given, done, aborted, along, held_tickets, waiting_tickets, answered_tickets, Balance, counting, TicketsAreConsecutive, is_ticket, times, below, GoesOnce, EachTicketGoesOnce, EachIsHeldOnce, NewHoldsEachOnce, OpeningHasDrivers, OpeningIsNew, TicketsOfAnOpeningGoOnce, HeldAreCounted, waiting, posted_answers, requests_in}
 use Rattle.std.proofs.lemmas.List.{length-append}
 use Rattle.nvme_mailbox.proofs.MailboxMarks.{DiffersInMarks, others-differ}
 use Rattle.nvme_mailbox.proofs.Moves.{Move, Stay, Rise, Take, RingBoth, FetchFirst, HandUp, Free, Clear, Answer, May, moved, reply_of, own-moved}
@@ -183,11 +183,7 @@ new-driver k true h = absurd (cc)
 new-driver k false h = refl
 
 has-driver : (xs : List ControllerConfig) (i : ℕ) (k : ControllerConfig) → slice_get xs i ≡ Some k → k.raw ≡ false → slice_get (map new_host xs) i ≡ Some (WithDriver (new_mailbox 1))
-has-driver [] i k at h = absurd (cc)
-has-driver (x ∷ xs) zero k at h =
-    let e : x ≡ k = same_Some x k at in
-    ap Some (new-driver x x.raw (ap (λ (y : ControllerConfig). y.raw) e ∙ h))
-has-driver (x ∷ xs) (suc i) k at h = has-driver xs i k at h
+has-driver xs i k at h = slice_get-map new_host xs i ∙ ap (option_map new_host) at ∙ ap Some (new-driver k k.raw h)
 
 pub opening_has_drivers : OpeningHasDrivers
 unfolding host_at opening

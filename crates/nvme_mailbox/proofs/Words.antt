@@ -90,7 +90,7 @@ pub use Rattle.nvme_mailbox.specs.Fencing.{Allows, FencedWritesAreDenied, Fencin
 pub use Rattle.nvme_mailbox.specs.Fleets.{Completes, ExecutesAt, ExecutesItem, ExecutesRaw, Fleet, Is, Moment, Raw, Run, Step, WithDriver, after_execution, after_raw, answer_for, called_at, fetched_at, host_cycled, marked, marked_from, marks_in, new_host, numbered, raw_at, replaced, setting_of, site_of, with_posted}
 unfoldable pub use Rattle.nvme_mailbox.specs.Fleets.{after_answer, host_at, opening, power_cycled, settled, with_host}
 pub use Rattle.nvme_mailbox.specs.IoCommands.{AreNumbered, BearsItsNumber, ExecutedAsThePolicyAllows, HasItsEffect, IoCommand, IsExecutedBy, NumbersStay, OpeningIsNumbered, asked_by, asked_command, command_in, raw_command, sent_by, verdict_on}
-pub use Rattle.nvme_mailbox.specs.Mailboxes.{FetchedItem, Item, LaneBox, Mailbox, PostedAnswer, box_at, lane_of, names, new_mailbox, ranked, rising, tickets_in, with_box, with_mark}
+pub use Rattle.nvme_mailbox.specs.Mailboxes.{FetchedItem, Item, LaneBox, Mailbox, PostedAnswer, box_at, empty_box, lane_of, names, new_mailbox, ranked, rising, tickets_in, with_box, with_mark}
 unfoldable pub use Rattle.nvme_mailbox.specs.Mailboxes.{open_tickets}
 pub use Rattle.nvme_mailbox.specs.Preempting.{IsOutside, LeavesOutside, OutsidersMayNotWrite, OutsidersStayOutside, PreemptedIsOutside, PreemptedStaysOut}
 pub use Rattle.nvme_mailbox.specs.Regular.{HoldsTaken, IsRegular, OpeningIsRegular, RegularityStays, WasTaken}
