@@ -281,7 +281,7 @@ bare-then lane d c i t k =
     let b : Both d c = k.sound.both in
     let o = k.own in
     each-lane lane (λ l. commands_of (cid t.entry) (commands_in l (remove c.fetched i)) ≡ 0)
-    (ap (commands_of (cid t.entry)) (removed-here lane d c i t k) ∙ (k.one).rest)
+    (ap (commands_of (cid t.entry)) (removed-here lane d c i t k) ∙ ((k.one).bare).taken)
     (ap (commands_of (cid t.entry)) (still-there lane d c i t k)
     ∙ (bare-of b.first _ _ (cid t.entry) (b.each (other lane)) (ap live_in (slot-in (other lane) c.window d.slots (cid t.entry) ∙ o.absent c.window (cid t.entry)))).taken)
 
