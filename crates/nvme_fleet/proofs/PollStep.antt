@@ -10,7 +10,7 @@ use Rattle.nvme_driver.specs.Polls as poll
 use Rattle.nvme_fleet.proofs.Slots.{few, apart-set}
 use Rattle.nvme_fleet.proofs.Queues.{self-eqb}
 use Rattle.nvme_fleet.proofs.Polls.{poll-posted, poll-box, poll-holds, none-posted, next-none, next-some, hears, front-of-lane, front-live, bare as bare_front}
-use Rattle.nvme_fleet.proofs.Places.{Bare}
+use Rattle.nvme_fleet.proofs.Queues.{Bare}
 use Rattle.nvme_fleet.proofs.Empties.{emptied, emptied-holds, emptied-box, bare-of}
 use Rattle.nvme_fleet.proofs.Orders.{NotBelow, ticket_aborted, oldest-first, empty-order, live-freed}
 use Rattle.nvme_fleet.proofs.LaneSlots.{Own, own-at, slot-in, slots-here, slots-there, same-fetched}
