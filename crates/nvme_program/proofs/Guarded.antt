@@ -1,13 +1,12 @@
 -- What the end of a program that judges its image says of its status, and its steps, each as an end.
 use Rattle.std.proofs.Common.{◌≡◌, ◌≢◌, ℕ, Bool, true, false, List, Option, Some, None, refl, ap, sym, ◌∙◌, inl, inr}
-use Rattle.std.specs.Prelude.{Result, Ok, Err, if◌then◌else◌}
-use Rattle.nvme_grammar.specs.Beginnings.{begins_script}
+use Rattle.std.specs.Prelude.{Result, Ok, Err}
 use Rattle.nvme_program.specs.CommandLines.{behind_option, image_in, means_image, script_in, word_fault}
 use Rattle.nvme_program.specs.Programs.{Opening, AsText, EndsBehindText, EndsFromImage, EndsGuarded, EndsGuardedByWord, GuardedEnds, IsJudgement, IsOfFile, judged}
 use Rattle.nvme_program.specs.Statuses.{end_status}
 use Rattle.nvme_program.specs.declared.command_line.WordFault.{WordFault}
 use Rattle.nvme_program.specs.declared.failure.Failure.{Failure}
-use Rattle.nvme_program.specs.declared.failure.Failure.TheVariants.{File, CommandLine, Memory}
+use Rattle.nvme_program.specs.declared.failure.Failure.TheVariants.{CommandLine, Memory}
 use Rattle.nvme_program.specs.declared.system.Unopened.{Unopened}
 use Rattle.nvme_program.proofs.ProgramEnds.{from-image, memory-status, of-file}
 
@@ -70,18 +69,15 @@ pub judged_image : {S : Type 0} (step : S → Opening → S → Type 0) (old : S
     → EndsGuarded step false old (Some image) path end new
 judged_image step old image path outcome mid end new reads is ends = (outcome, mid, reads, rw (passes outcome is) ends)
 
-pub words_are_refused : {S : Type 0} (step : S → Opening → S → Type 0) (old : S) (words : List (List ℕ))
-    → word_fault (behind_option words) ≢ None → GuardedEnds step old words (Some CommandLine) old
-words_are_refused step old words refused = by (word_fault (behind_option words)) refused
+pub words_fail : {S : Type 0} (step : S → Opening → S → Type 0) (old : S) (words behind : List (List ℕ)) (failure : Failure)
+    → behind ≡ behind_option words → (word_fault behind ≢ None → failure ≡ CommandLine) → (word_fault behind ≡ None → failure ≡ Memory)
+    → GuardedEnds step old words (Some failure) old
+words_fail step old words behind failure is refused taken = rw (sym is) (by (word_fault behind) refused taken)
   where
-    by : (word : Option WordFault) → word ≢ None
-        → EndsGuardedByWord step word (means_image words) old (behind_option words) (Some CommandLine) old
-    by (Some fault) refused = (refl, refl)
-    by None refused = absurd (refused refl)
-
-pub words_get_no_memory : {S : Type 0} (step : S → Opening → S → Type 0) (old : S) (words : List (List ℕ))
-    → word_fault (behind_option words) ≡ None → GuardedEnds step old words (Some Memory) old
-words_get_no_memory step old words taken = rw taken (inl (refl, refl))
+    by : (word : Option WordFault) → (word ≢ None → failure ≡ CommandLine) → (word ≡ None → failure ≡ Memory)
+        → EndsGuardedByWord step word (means_image words) old behind (Some failure) old
+    by (Some fault) refused taken = (ap Some (refused (λ none. let bad = none in cc)), refl)
+    by None refused taken = inl (ap Some (taken refl), refl)
 
 pub words_are_taken : {S : Type 0} (step : S → Opening → S → Type 0) (old : S) (words : List (List ℕ)) (end : Option Failure) (new : S)
     → word_fault (behind_option words) ≡ None

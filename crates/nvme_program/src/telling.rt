@@ -9,18 +9,22 @@ ghost use Rattle.nvme_program.specs.declared.system.Cause.TheVariants.{IsScript}
 use crate::command_line::{WordFault, refused_word};
 use crate::failure::Failure;
 use crate::reason::Reason;
-use crate::system::{Cause, Unopened};
+use crate::system::Cause;
 use std::io;
 use std::io::Write;
 
 /// What an image is opened for.
-const AS_IMAGE: &str = "as the image, for reading and writing";
+pub(crate) const AS_IMAGE: &str = "as the image, for reading and writing";
 
 /// What a script is opened for.
-const AS_SCRIPT: &str = "as the script, for reading";
+pub(crate) const AS_SCRIPT: &str = "as the script, for reading";
 
 /// The reason of a file that can't be opened for this purpose.
-fn reason_of<'a>(cause: &'a Cause, path: &'a str, purpose: &'static str) -> Option<Reason<'a, 'a>>
+pub(crate) fn reason_of<'a>(
+    cause: &'a Cause,
+    path: &'a str,
+    purpose: &'static str,
+) -> Option<Reason<'a, 'a>>
     ensures script { cause.entry.now ≡ IsScript → result ≡ Some (SaysScript path.entry) }
 {
     match cause {
@@ -85,53 +89,8 @@ impl Program {
         failure
     }
 
-    /// Tells why a file can't be opened for this purpose.
-    fn tell_file<E: Write>(
-        self,
-        errors: &mut E,
-        unopened: &Unopened,
-        path: &str,
-        purpose: &'static str,
-    ) -> Failure
-        ensures { result ≡ unopened.now.failure }
-    {
-        self.tell(
-            errors,
-            unopened.failure,
-            reason_of(&unopened.cause, path, purpose),
-        )
-    }
-
-    /// Tells why an image can't be opened.
-    pub fn tell_image<E: Write>(self, errors: &mut E, unopened: &Unopened, path: &str) -> Failure
-        ensures { result ≡ unopened.now.failure }
-    {
-        self.tell_file(errors, unopened, path, AS_IMAGE)
-    }
-
-    /// Tells why a script can't be opened.
-    pub fn tell_script<E: Write>(self, errors: &mut E, unopened: &Unopened, path: &str) -> Failure
-        ensures { result ≡ unopened.now.failure }
-    {
-        self.tell_file(errors, unopened, path, AS_SCRIPT)
-    }
-
-    /// Tells why a command line ends the program; where a word is refused, which. So many options stand before these
-    /// words.
-    pub fn tell_words<E: Write>(
-        self,
-        errors: &mut E,
-        failure: Failure,
-        words: &[String],
-        options: usize,
-    ) -> Failure
-        ensures { result ≡ failure }
-    {
-        self.tell(errors, failure, self.word_reason(words, options))
-    }
-
-    /// Which word of a command line is refused, and why.
-    fn word_reason(self, words: &[String], options: usize) -> Option<Reason<'_, '_>> {
+    /// Which word of a command line is refused, and why. So many options stand before these words.
+    pub(crate) fn word_reason(self, words: &[String], options: usize) -> Option<Reason<'_, '_>> {
         let usage = self.usage;
         match refused_word(words)? {
             WordFault::NoOption(number) => Some(Reason::NoOption {

@@ -1,18 +1,18 @@
 //! The program: `nvmesim [IMAGE [SCRIPT]]` over streams that are handed in.
 
-ghost use Rattle.std.specs.Prelude.{◌≡◌, ◌≢◌, ◌≤◌, None, Some, map, option_map};
+ghost use Rattle.std.specs.Prelude.{◌≡◌, ◌≢◌, ◌≤◌, None, map};
 ghost use Rattle.std.specs.String.{string_bytes};
 ghost use Rattle.std.specs.Result.{result_err};
 ghost use Rattle.nvme_program.specs.CommandLines.{word_fault};
-ghost use Rattle.nvme_program.specs.Programs.{EndsFromImage, EndsFromScript, IsOfRun, ProgramEnds};
+ghost use Rattle.nvme_program.specs.Programs.{IsOfRun, ProgramEnds};
 ghost use Rattle.nvme_program.specs.declared.failure.Failure.TheVariants as failed;
 
 use crate::run::run_text;
 use nvme_grammar::{Buffers, fault_at, parse};
 use nvme_medium::Medium;
 use nvme_program::{
-    ConfigReason, Failure, HostFiles, Paths, PlacedFault, PlacedRule, Program, Reason, ScriptFault,
-    System, USAGE, behind_cache, paths_of, scratch, status_of,
+    ConfigReason, Failure, HostFiles, Paths, PlacedFault, PlacedRule, Program, Reason, Runner,
+    ScriptFault, System, USAGE, launch, status_of,
 };
 use nvme_spec::ConfigFault;
 use script_text::read_text;
@@ -129,73 +129,47 @@ fn run_over<I: Read, O: Write, E: Write, M: Medium + Drop>(
     }
 }
 
-/// Opens the script that the command line names, and runs it, or else the input, over a medium.
-#[tactic(auto, using(nvme_program::proofs::ProgramEnds::script_is_none, nvme_program::proofs::ProgramEnds::script_fails, nvme_program::proofs::ProgramEnds::script_runs))]
-fn run_named<S: System, I: Read, O: Write, E: Write, M: Medium + Drop>(
-    alloc: Global,
-    system: &mut S,
-    paths: Paths<'_>,
-    input: &mut I,
-    output: &mut O,
-    errors: &mut E,
-    medium: M,
-) -> Result<(), Failure>
-    ensures { EndsFromScript S.step system.old (option_map (λ path. path.now) paths.entry.script) (result_err result) system.new }
-{
-    let Some(path) = paths.script else {
-        return run_over(alloc, paths, input, output, errors, medium);
-    };
-    match system.open_script(path) {
-        Ok(mut script) => run_over(alloc, paths, &mut script, output, errors, medium),
-        Err(unopened) => Err(NVMESIM.tell_script(errors, &unopened, path)),
-    }
+/// The streams of the program.
+#[derive(Drop)]
+struct Streams<'i, 'o, 'e, I, O, E> {
+    input: &'i mut I,
+    output: &'o mut O,
+    errors: &'e mut E,
 }
 
-/// Opens an image, and runs a script over it: its blocks are read and written in place.
-#[tactic(auto, using(nvme_program::proofs::ProgramEnds::image_fails, nvme_program::proofs::ProgramEnds::image_has_no_room, nvme_program::proofs::ProgramEnds::image_opens))]
-fn run_image<S: System, I: Read, O: Write, E: Write>(
-    alloc: Global,
-    system: &mut S,
-    image: &str,
-    paths: Paths<'_>,
-    input: &mut I,
-    output: &mut O,
-    errors: &mut E,
-) -> Result<(), Failure>
-    ensures { EndsFromImage S.step system.old (Some image.now) (option_map (λ path. path.now) paths.entry.script) (result_err result) system.new }
-{
-    let file = match system.open_image(image) {
-        Ok(file) => file,
-        Err(unopened) => return Err(NVMESIM.tell_image(errors, &unopened, image)),
-    };
-    match behind_cache(alloc, file) {
-        Ok(medium) => run_named(alloc, system, paths, input, output, errors, medium),
-        Err(failure) => Err(NVMESIM.tell(errors, failure, None)),
+/// Without a named script it is the input.
+impl<I: Read, O: Write, E: Write> Runner for Streams<'_, '_, '_, I, O, E> {
+    fn program(&self) -> Program {
+        NVMESIM
     }
-}
 
-/// Runs a script over zeros in memory.
-#[tactic(auto, using(nvme_program::proofs::ProgramEnds::image_is_none, nvme_program::proofs::ProgramEnds::memory_is_none))]
-fn run_scratch<S: System, I: Read, O: Write, E: Write>(
-    alloc: Global,
-    system: &mut S,
-    paths: Paths<'_>,
-    input: &mut I,
-    output: &mut O,
-    errors: &mut E,
-) -> Result<(), Failure>
-    ensures { EndsFromImage S.step system.old None (option_map (λ path. path.now) paths.entry.script) (result_err result) system.new }
-{
-    match scratch(alloc) {
-        Ok(medium) => run_named(alloc, system, paths, input, output, errors, medium),
-        Err(failure) => Err(NVMESIM.tell(errors, failure, None)),
+    fn run<T: Read, M: Medium + Drop>(
+        &mut self,
+        alloc: Global,
+        paths: Paths<'_>,
+        script: &mut T,
+        medium: M,
+    ) -> Result<(), Failure> {
+        run_over(alloc, paths, script, self.output, self.errors, medium)
+    }
+
+    fn run_unnamed<M: Medium + Drop>(
+        &mut self,
+        alloc: Global,
+        paths: Paths<'_>,
+        medium: M,
+    ) -> Result<(), Failure> {
+        run_over(alloc, paths, self.input, self.output, self.errors, medium)
+    }
+
+    fn tell(&mut self, failure: Failure, reason: Option<Reason<'_, '_>>) -> Failure {
+        NVMESIM.tell(self.errors, failure, reason)
     }
 }
 
 /// The program in any system: which files it opens, in which order, and what ends it. Its words are those of
 /// `run_program`. For a failure one line goes to `errors`, and behind it a second, which gives the reason, for all but
 /// want of memory.
-#[tactic(auto, using(nvme_program::proofs::ProgramEnds::words_are_refused, nvme_program::proofs::ProgramEnds::words_get_no_memory, nvme_program::proofs::ProgramEnds::words_are_taken))]
 pub fn run_in<S: System, I: Read, O: Write, E: Write>(
     alloc: Global,
     system: &mut S,
@@ -206,14 +180,12 @@ pub fn run_in<S: System, I: Read, O: Write, E: Write>(
 ) -> Result<(), Failure>
     ensures { ProgramEnds S.step system.old (map string_bytes words.now) (result_err result) system.new }
 {
-    let paths = match paths_of(alloc, "nvmesim", words) {
-        Ok(paths) => paths,
-        Err(failure) => return Err(NVMESIM.tell_words(errors, failure, words, 0)),
+    let mut streams = Streams {
+        input,
+        output,
+        errors,
     };
-    match paths.image {
-        Some(image) => run_image(alloc, system, image, paths, input, output, errors),
-        None => run_scratch(alloc, system, paths, input, output, errors),
-    }
+    launch(alloc, system, &mut streams, words)
 }
 
 /// The program over the streams that it is handed: its words, the first of which is its name, its standard input,

@@ -32,16 +32,10 @@ MANY_PARAMETERS: Dict[Tuple[str, str], Tuple[int, str]] = {
     ("crates/nvme_library/src/opening.rt", "opening::nvmesim_open"): (7, "what C hands over: lists and their lengths"),
     ("crates/nvme_library/src/opening.rt", "opening::nvmesim_open_lent"):
         (7, "what C hands over: lists and their lengths"),
-    ("crates/nvme_script/src/program.rt", "program::run_named"): (7, LENT),
-    ("crates/nvme_script/src/program.rt", "program::run_image"): (7, LENT),
     ("crates/nvme_script/src/run.rt", "run::run_event"): (8, LENT),
     ("crates/nvme_script/src/run.rt", "run::run_events"): (7, LENT),
     ("crates/nvme_live/src/conversation.rt", "conversation::set_up"): (9, LENT),
     ("crates/nvme_live/src/conversation.rt", "conversation::converse"): (9, LENT),
-    ("crates/nvme_live/src/program.rt", "program::run_over"): (7, LENT),
-    ("crates/nvme_live/src/program.rt", "program::run_named"): (7, LENT),
-    ("crates/nvme_live/src/program.rt", "program::run_image"): (7, LENT),
-    ("crates/nvme_live/src/program.rt", "program::run_guarded"): (7, LENT),
     ("crates/nvme_live/src/session.rt", "session::start"): (7, LENT),
     ("crates/nvme_live/src/session.rt", "session::run_from_start"): (8, LENT),
 }
