@@ -52,10 +52,26 @@ impl Medium for OwnOrLent {
     }
 
     #[inline(always)]
+    fn read_blocks(&mut self, first: u64, target: &mut [u8]) -> Result<(), MediumFault> {
+        match self {
+            OwnOrLent::Own(medium) => medium.read_blocks(first, target),
+            OwnOrLent::Lent(medium) => medium.read_blocks(first, target),
+        }
+    }
+
+    #[inline(always)]
     fn write(&mut self, i: u64, block: &[u8; 512]) -> Result<(), MediumFault> {
         match self {
             OwnOrLent::Own(medium) => medium.write(i, block),
             OwnOrLent::Lent(medium) => medium.write(i, block),
+        }
+    }
+
+    #[inline(always)]
+    fn write_blocks(&mut self, first: u64, bytes: &[u8]) -> Result<(), MediumFault> {
+        match self {
+            OwnOrLent::Own(medium) => medium.write_blocks(first, bytes),
+            OwnOrLent::Lent(medium) => medium.write_blocks(first, bytes),
         }
     }
 

@@ -1,7 +1,7 @@
 //! A medium over bytes that are lent.
 
-ghost use Rattle.std.specs.Prelude.{◌≡◌, ◌*◌, ◌<◌, ◌^◌, true, length};
-ghost use Rattle.nvme_spec.specs.Blocks.{block_at};
+ghost use Rattle.std.specs.Prelude.{◌≡◌, ◌+◌, ◌*◌, ◌<◌, ◌≤◌, ◌^◌, true, length};
+ghost use Rattle.nvme_spec.specs.Blocks.{block_at, blocks_from};
 ghost use Rattle.nvme_medium.specs.Memory.{whole_blocks};
 
 use nvme_medium::{Medium, MediumFault};
@@ -39,6 +39,16 @@ impl<'a> LentMedium<'a> {
         let at = 512 * i as usize;
         &self.bytes[at..at + 512]
     }
+
+    /// So many bytes from a block on.
+    fn bytes_from(&self, first: u64, len: usize) -> &[u8]
+        requires { 512 * first + len ≤ 512 * self.now.blocks }
+        ensures bytes { result.now ≡ blocks_from (lent_bytes self.now) first len }
+        ensures len { length result.now ≡ len }
+    {
+        let at = 512 * first as usize;
+        &self.bytes[at..at + len]
+    }
 }
 
 impl Medium for LentMedium<'_> {
@@ -70,9 +80,20 @@ impl Medium for LentMedium<'_> {
         Ok(())
     }
 
+    fn read_blocks(&mut self, first: u64, target: &mut [u8]) -> Result<(), MediumFault> {
+        target.copy_from_slice(self.bytes_from(first, target.len()));
+        Ok(())
+    }
+
     fn write(&mut self, i: u64, block: &[u8; 512]) -> Result<(), MediumFault> {
         let at = 512 * i as usize;
         self.bytes[at..at + 512].copy_from_slice(block);
+        Ok(())
+    }
+
+    fn write_blocks(&mut self, first: u64, bytes: &[u8]) -> Result<(), MediumFault> {
+        let at = 512 * first as usize;
+        self.bytes[at..at + bytes.len()].copy_from_slice(bytes);
         Ok(())
     }
 

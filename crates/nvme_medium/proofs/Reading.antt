@@ -1,8 +1,9 @@
 -- Blocks that have been read onto a buffer, up to the first that could not be read.
-use Rattle.std.proofs.Common.{◌≡◌, ◌⊎◌, inl, inr, ℕ, Bool, IsTrue, List, [], ◌∷◌, ◌++◌, ◌+◌, ◌-◌, ◌*◌, ◌/◌, ◌≤◌, ◌<◌, length, take, drop, get_or, Ok, Err, sym, ap, subst, ◌∙◌, arith, length-append}
-use Rattle.std.specs.Prelude.{IsErr}
+use Rattle.std.proofs.Common.{◌≡◌, ◌⊎◌, inl, inr, ℕ, zero, suc, Bool, true, IsTrue, List, [], ◌∷◌, ◌++◌, ◌+◌, ◌-◌, ◌*◌, ◌/◌, ◌%◌, ◌≤◌, ◌<◌, length, take, drop, get_or, rules, Ok, Err, refl, sym, ap, subst, ◌∙◌, arith, length-append}
+use Rattle.std.specs.Prelude.{IsErr, OnOk}
 use Rattle.std.proofs.Math.Seq.{take-append_seam, drop-append_seam}
-use Rattle.std.proofs.lemmas.List.{length-drop, length-take, length-take-le, get_or-take, get_or-drop, same_lists, take-append-drop}
+use Rattle.std.proofs.lemmas.List.{length-drop, length-take, length-take-le, get_or-take, get_or-drop, same_lists, places, take-append-drop, take_all, drop_all}
+use Rattle.nvme_spec.proofs.Splices.{length-blocks_from}
 use Rattle.nvme_spec.specs.Blocks.{block_at, blocks_from}
 use Rattle.nvme_spec.specs.MediumCalls.{MediumAnswer, MediumCall, Reads, Calls, EndsAt, course, passing, reads_from}
 use Rattle.nvme_medium.specs.Reading.{ReadsBlocks, GiveTheSame, ReadingIsUnique, ReadingExists}
@@ -91,7 +92,7 @@ few count passed (Ok done) h = omega (arith, h)
 few count passed (Err fault) h = omega (arith, h)
 
 -- the same calls, where the buffer has what they gave
-same-course : (first n : ℕ) (given left : List ℕ) (answer : MediumAnswer) → ((k : ℕ) → k < n → block_at given k ≡ block_at left k)
+pub same-course : (first n : ℕ) (given left : List ℕ) (answer : MediumAnswer) → ((k : ℕ) → k < n → block_at given k ≡ block_at left k)
     → course (reads_from first given) n answer ≡ course (reads_from first left) n answer
 same-course first n given left (Ok done) same = passing-same (reads_from first given) (reads_from first left) n (λ k h. ap (λ b. Reads (first + k) (Ok b)) (same k h))
 same-course first n given left (Err fault) same =
@@ -113,3 +114,41 @@ reading_exists step tells content first count passed buffer given old new answer
         long = omega (arith, length-append (take n given) (drop n buffer), length-drop n buffer, front, long, same, fits);
       },
     )
+
+-- reads that leave the medium as it is, one after the other
+reads-stay : {M : Type 0} (step : M → MediumCall → M → Type 0) (first n : ℕ) (given : List ℕ) (m : M) → ((k : ℕ) → k < n → step m (Reads (first + k) (Ok (block_at given k))) m)
+    → Calls step m (passing (reads_from first given) n) m
+reads-stay step first zero given m each = refl
+reads-stay step first (suc n) given m each =
+    calls-append step (passing (reads_from first given) n) (Reads (first + n) (Ok (block_at given n))) m m m
+    (reads-stay step first n given m (λ k h. each k (omega (arith, h)))) (each n (omega arith))
+
+block_at-blocks_from : (content : List ℕ) (first n k : ℕ) → 512 * first + n ≤ length content → 512 * k + 512 ≤ n → block_at content (first + k) ≡ block_at (blocks_from content first n) k
+block_at-blocks_from content first n k fits within = same_lists _ _ (search (rules, places)) (λ i d h. grind (arith, places))
+
+-- blocks that are copied at once have been read one after the other
+pub read-at-once : {M : Type 0} (step : M → MediumCall → M → Type 0) (first size : ℕ) (content buffer left : List ℕ) (m : M) → left ≡ blocks_from content first (length buffer)
+    → length buffer % 512 ≡ 0 → 512 * first + length buffer ≤ 512 * size → length content ≡ 512 * size
+    → ((i : ℕ) → step m (Reads i (Ok (block_at content i))) m) → ReadsBlocks step true content first (length buffer / 512) buffer left m (Ok tt) m
+read-at-once step first size content buffer left m is even within whole each =
+    let count : ℕ = length buffer / 512 in
+    let all : length buffer ≡ 512 * count = omega arith in
+    let fits : 512 * first + length buffer ≤ length content = omega arith in
+    let long : length left ≡ length buffer = ap length is ∙ length-blocks_from content first (length buffer) fits in
+    record {
+      passed = count;
+      ends = refl;
+      made = reads-stay step first count left m (λ k h. subst (λ b. step m (Reads (first + k) (Ok b)) m)
+          (block_at-blocks_from content first (length buffer) k fits (omega (arith, h, all)) ∙ ap (λ xs. block_at xs k) (sym is)) (each (first + k)));
+      read = λ tells. take_all (512 * count) left (omega arith) ∙ is ∙ ap (blocks_from content first) all;
+      behind = drop_all (512 * count) left (omega arith) ∙ sym (drop_all (512 * count) buffer (omega arith));
+      long = long;
+    }
+
+-- where no read failed, the buffer has what the medium has
+pub all-of-it : {M : Type 0} (step : M → MediumCall → M → Type 0) (tells : Bool) (content : List ℕ) (first : ℕ) (buffer left : List ℕ) (old new : M) (answer : MediumAnswer) → length buffer % 512 ≡ 0
+    → ReadsBlocks step tells content first (length buffer / 512) buffer left old answer new → OnOk answer (IsTrue tells → left ≡ blocks_from content first (length buffer))
+all-of-it step tells content first buffer left old new (Ok done) even h = λ told.
+    let all : 512 * h.passed ≡ length buffer = omega (arith, h.ends, even) in
+    sym (take_all (512 * h.passed) left (omega (arith, all, h.long))) ∙ h.read told ∙ ap (blocks_from content first) all
+all-of-it step tells content first buffer left old new (Err fault) even h = tt

@@ -1,7 +1,7 @@
 //! The data of a write, a block at a time.
 
-ghost use Rattle.std.specs.Prelude.{◌≡◌, ◌+◌, ◌*◌, ◌≤◌, List, ℕ, length, replicate};
-ghost use Rattle.nvme_spec.specs.Blocks.{block_at};
+ghost use Rattle.std.specs.Prelude.{◌≡◌, ◌+◌, ◌*◌, ◌%◌, ◌≤◌, List, ℕ, length, replicate};
+ghost use Rattle.nvme_spec.specs.Blocks.{block_at, blocks_from};
 
 /// The data that a command brings, a block at a time.
 pub trait Source {
@@ -12,6 +12,19 @@ pub trait Source {
     fn block<'a>(&'a self, j: u64, buffer: &'a mut [u8; 512]) -> &'a [u8; 512]
         requires { 512 * j + 512 ≤ length (bytes self.now) }
         ensures { result.now ≡ block_at (bytes self.now) j };
+
+    /// Blocks from block `j` of the data on, which there have to be, and of so many at most: those that lie in one place,
+    /// lent there; or the first alone, as `block` has it.
+    fn blocks<'a>(&'a self, j: u64, most: u64, buffer: &'a mut [u8; 512]) -> &'a [u8]
+        requires some { 1 ≤ most }
+        requires inside { 512 * (j + most) ≤ length (bytes self.now) }
+        ensures some { 512 ≤ length result.now }
+        ensures whole { length result.now % 512 ≡ 0 }
+        ensures few { length result.now ≤ 512 * most }
+        ensures bytes { result.now ≡ blocks_from (bytes self.now) j (length result.now) }
+    {
+        self.block(j, buffer)
+    }
 }
 
 /// Data that lie in one slice.
@@ -26,6 +39,11 @@ impl Source for Lent<'_> {
     fn block<'a>(&'a self, j: u64, _: &'a mut [u8; 512]) -> &'a [u8; 512] {
         let at = 512 * j as usize;
         self.bytes[at..at + 512].as_array::<512>().unwrap()
+    }
+
+    fn blocks<'a>(&'a self, j: u64, most: u64, _: &'a mut [u8; 512]) -> &'a [u8] {
+        let at = 512 * j as usize;
+        &self.bytes[at..at + 512 * most as usize]
     }
 }
 
