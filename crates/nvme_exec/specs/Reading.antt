@@ -1,7 +1,8 @@
 -- How far blocks have been read into host memory.
-use Rattle.std.specs.Prelude.{◌≡◌, ◌<◌, ℕ, ◌*◌, Bool, List, length, take, Ok}
+use Rattle.std.specs.Prelude.{◌≡◌, ◌<◌, ◌≤◌, ℕ, ◌+◌, ◌*◌, Bool, List, length, take, slice_range, Result, Ok, Err}
+use Rattle.nvme_spec.specs.declared.medium.MediumFault.{MediumFault as Fault}
 use Rattle.nvme_spec.specs.Blocks.{Told, block_at, blocks_from}
-use Rattle.nvme_spec.specs.MediumCalls.{MediumCall, Reads}
+use Rattle.nvme_spec.specs.MediumCalls.{MediumAnswer, MediumCall, Calls, EndsAt, Reads, course, reads_from}
 use Rattle.nvme_spec.specs.Transfers.{with_scattered}
 
 -- block i was read, whose bytes the call answered and now stand at these addresses, and nothing else has changed
@@ -12,6 +13,27 @@ pub record HasReadBlock {M : Type 0} (step : M → MediumCall → M → Type 0) 
   pub call : step old (Reads i (Ok block)) new
   pub told : Told tells (block ≡ block_at content i)
   pub window : after ≡ with_scattered before addresses block
+
+-- So many blocks of a transfer, from its block j on, are read from block i on, up to the first that can't be read. What
+-- was read stands at their addresses, and nothing else has changed.
+pub record ReadsSome {M : Type 0} (step : M → MediumCall → M → Type 0) (tells : Bool) (i j count : ℕ)
+    (content addresses : List ℕ) (old : M) (answer : MediumAnswer) (new : M) (before after : List ℕ) : Type 0 where
+  pub passed : ℕ
+  pub read : List ℕ
+  pub ends : EndsAt count passed answer
+  pub size : length read ≡ 512 * passed
+  pub made : Calls step old (course (reads_from i read) passed answer) new
+  pub told : Told tells (read ≡ blocks_from content i (512 * passed))
+  pub window : after ≡ with_scattered before (slice_range addresses (512 * j) (512 * j + 512 * passed)) read
+
+-- the same of as many blocks as a call tells, one at least
+abbrev pub ReadsAsMany : {M : Type 0} → (M → MediumCall → M → Type 0) → Bool → ℕ → ℕ → ℕ → List ℕ → List ℕ
+    → M → Result ℕ Fault → M → List ℕ → List ℕ → Type 0
+ReadsAsMany step tells i j most content addresses old (Ok count) new before after =
+    (1 ≤ count) × (count ≤ most)
+    × ReadsSome step tells i j count content addresses old (Ok tt) new before after
+ReadsAsMany step tells i j most content addresses old (Err fault) new before after =
+    ReadsSome step tells i j most content addresses old (Err fault) new before after
 
 -- so many blocks of the content, from block `first` on, stand at the first of the addresses, and nothing else has
 -- changed

@@ -11,6 +11,7 @@ mod lanes;
 mod on_blocks;
 mod on_reservation;
 mod report;
+mod runs;
 mod transfer;
 
 pub use execution::{Completed, execute, execute_marking};
