@@ -48,10 +48,8 @@ pub mod OwnCommands
 pub mod TurnStep
 pub mod RiseStep
 pub mod FleetStep
-pub mod RiseLink
 pub mod Seating
 pub mod SoundOpening
-pub mod LinkedStep
 pub mod Hosting
 pub mod Hosted
 pub mod HostedExecutions
@@ -64,7 +62,6 @@ pub mod Reaching
 pub mod LinkDeeds
 pub mod LinkCalls
 pub mod LayerCalls
-pub mod Members
 pub mod Happening
 pub mod Storing
 pub mod Links

@@ -1,20 +1,19 @@
--- Calls over a link make none of the medium: those that grant no turn, and the turns of a driver that comes up, since
--- admin commands make none.
-use Rattle.nvme_fleet.proofs.Words.{◌≡◌, ◌<◌, ℕ, ◌+◌, ◌++◌, Bool, true, false, List, [], ◌∷◌, length, Option, Some, None, Result, Ok, Err, refl, sym, ap, subst, ◌∙◌, arith, slice_get, OnOk, OnErr, length-set, MediumCall, Answer, PlaceRefusal, PollFault, UpFault, AlreadyUp, Admin, Request, Down, Up, Failed, Ticket, Call, Calls, Turns, Driver, IsPlaced, is_down, stores_of, IsPolled, Rises, IsMapped, rises-mapped, FetchedCommand, Seen, Controller, QueuePair, after_fetch, open_pair, CallingAt, CallingOne, CallingOver, Subsystem, controller_at, scene_of, OverMedium, CallOver, CallOverMedium, ReachesMedium, Linked, Reaches, controller_in, linked_controller, Sound, is_failed, polled}
+-- What calls over a link come to: those that grant no turn, and those of a driver that comes up. They make none of the
+-- medium, since admin commands make none.
+use Rattle.nvme_fleet.proofs.Words.{Bool, Call, CallOverMedium, CallStep, CallingAt, CallingOne, CallingOver, Calls, Controller, Driver, Event, FetchedCommand, IsStep, KeepsOthers, KeepsSite, LinkStep, Linked, List, MailboxReaction, MediumCall, None, Option, OverMedium, QueuePair, Ran, Reaches, ReachesMedium, Reply, Seen, Setting, Some, Subsystem, Turns, [], after_call, after_calls, after_fetch, ap, arith, controller_at, controller_in, events_of, events_of_calls, length, length-set, linked_controller, linked_setting, new_controller, open_pair, refl, scene_of, set-get_or, set-set, setting_in, slice_get, subst, sym, with_controller, with_controller_at, with_setting, ℕ, ◌++◌, ◌+◌, ◌<◌, ◌∙◌, ◌∷◌, ◌≡◌}
 use Rattle.nvme_mailbox.proofs.Lists.{all-get}
+use Rattle.std.specs.Borrow.{GName}
 use Rattle.nvme_spec.specs.MediumCalls.{Calls as CallsMade}
-use Rattle.nvme_driver.specs.declared.state.State.{State}
 use Rattle.nvme_machine.specs.declared.event.Event.TheVariants.{Fetch, Execute}
 use Rattle.nvme_machine.specs.Calling.{AreCallsAs, AreCallsOfExecution}
 use Rattle.nvme_machine.specs.EventCalls.{AreCallsOfRun}
+use Rattle.nvme_machine.specs.Subsystems.{Run}
 use Rattle.nvme_subsys.proofs.Numbers as numbers
-use Rattle.nvme_fleet.proofs.AdminTurns.{AreAdmin, IsAdmin, fetch-admin, fetched_by}
-use Rattle.nvme_fleet.proofs.Members.{fresh-down}
-use Rattle.nvme_fleet.proofs.Places.{no-way}
-use Rattle.nvme_fleet.proofs.Reaching.{IsFresh, fresh-call, put, reacted-as}
-use Rattle.nvme_fleet.proofs.RiseLink.{bytes_of}
+use Rattle.nvme_fleet.proofs.AdminTurns.{AreAdmin, IsAdmin, call-admin, call-named, fetch-admin, fetched_by}
+use Rattle.nvme_fleet.proofs.Reaching.{IsStepThere, is-put, plain-there, reacted-as, turns-there}
 use Rattle.nvme_fleet.proofs.Seating.{controller-there, get-set}
-use Rattle.nvme_fleet.proofs.PlainCalls.{IsPlain, plain-first, plain-polled}
+use Rattle.nvme_fleet.proofs.PlainCalls.{IsPlain, plain-first}
+use Rattle.nvme_fleet.proofs.StartStep.{calls-are, calls-id}
 
 -- An admin command makes no call.
 
@@ -42,7 +41,7 @@ turn-none tells a b i (x ∷ []) calls admin there (mid, here, behind, step, res
 turn-none tells a b i (x ∷ y ∷ z ∷ given) calls admin there (mid, here, behind, step, (last, now, later, executes, ended, after), joined) = absurd ended
 turn-none tells a b i (x ∷ y ∷ []) calls admin there (mid, here, behind, step, (last, now, later, executes, ended, after), joined) =
     let d : Controller = fetched_by (controller_in a i) in
-    let m : Subsystem = put a i d in
+    let m : Subsystem = with_controller_at a i d in
     let p = reacted-as a mid (i + 1) i (after_fetch 0) x refl there step.0 in
     let long : i < length m.controllers = let e = length-set a.controllers i d in omega (arith, e, there) in
     let found : slice_get m.controllers i ≡ Some d = controller-there m i long ∙ ap Some (get-set a.controllers i d _ there) in
@@ -57,93 +56,152 @@ kept-plain : {M : Type 0} (step : M → MediumCall → M → Type 0) (tells : Bo
 kept-plain step tells Turns k a b before after plain h = absurd plain
 kept-plain step tells call k a b before after plain h = h
 
-kept-fresh : {M : Type 0} (step : M → MediumCall → M → Type 0) (tells : Bool) (call : Call) (i : ℕ) (p : Linked) (b : Subsystem) (before after : M) → IsFresh i p → ReachesMedium step tells (p.place + 1) p.subsystem b call before after
+kept-admin : {M : Type 0} (step : M → MediumCall → M → Type 0) (tells : Bool) (call : Call) (i : ℕ) (a b : Subsystem) (before after : M) → AreAdmin (controller_in a i) → i < length a.controllers → ReachesMedium step tells (i + 1) a b call before after
     → after ≡ before
-kept-fresh step tells Turns i p b before after fresh h =
-    let at = fresh.reaches in
-    subst (λ cs. CallsMade step before cs after) (turn-none tells p.subsystem b p.place h.are.0 h.calls fresh.admin at.0 h.are.1) h.made
-kept-fresh step tells call i p b before after fresh h = h
+kept-admin step tells Turns i a b before after admin there h = subst (λ cs. CallsMade step before cs after) (turn-none tells a b i h.are.0 h.calls admin there h.are.1) h.made
+kept-admin step tells call i a b before after admin there h = h
 
--- Several calls, without a turn.
+-- Runs, one after the other.
+runs-both : (tells : Bool) (a b c : Subsystem) (es fs : List Event) (xs ys : List Seen) → Run tells a es xs b → Run tells b fs ys c → Run tells a (es ++ fs) (xs ++ ys) c
+runs-both tells a b c [] fs [] ys r s = subst (λ m. Run tells m fs ys c) r s
+runs-both tells a b c [] fs (x ∷ xs) ys r s = absurd r
+runs-both tells a b c (e ∷ es) fs [] ys r s = absurd r
+runs-both tells a b c (e ∷ es) fs (x ∷ xs) ys r s = (r.0, r.1, runs-both tells r.0 b c es fs xs ys r.2 s)
 
-pub over-links : {M : Type 0} (step : M → MediumCall → M → Type 0) (tells : Bool) (calls : List Call) (p q : OverMedium Linked M) → Calls (CallOverMedium step tells) p calls q → Calls (CallOver tells) p.state calls q.state
-over-links {M} step tells [] p q h = ap (λ (x : OverMedium Linked M). x.state) h
-over-links step tells (call ∷ calls) p q (mid, one, rest) = (mid.state, one.over, over-links step tells calls mid q rest)
+-- Calls that grant no turn are a run over exactly their events, in which the controller becomes what they make of it, and
+-- nothing else changes.
+pub record AreMade {M : Type 0} (tells : Bool) (calls : List Call) (p q : OverMedium Linked M) : Type 0 where
+  pub ran : Ran tells p.state.subsystem (events_of_calls (p.state.place + 1) calls) q.state.subsystem
+  pub leaves : q.state.subsystem ≡ with_controller_at p.state.subsystem p.state.place (after_calls calls (linked_controller p.state))
+  pub place : q.state.place ≡ p.state.place
+  pub medium : q.medium ≡ p.medium
 
-pub kept-over : {M : Type 0} (step : M → MediumCall → M → Type 0) (tells : Bool) (calls : List Call) (p q : OverMedium Linked M) → IsPlain calls → Calls (CallOverMedium step tells) p calls q → q.medium ≡ p.medium
-kept-over {M} step tells [] p q plain h = ap (λ (x : OverMedium Linked M). x.medium) h
-kept-over step tells (call ∷ calls) p q plain (mid, one, rest) =
+same-put : (a : Subsystem) (i : ℕ) → a ≡ with_controller_at a i (controller_in a i)
+same-put a i = ap (λ cs. (let s : Subsystem = record a { controllers = cs } in s)) (sym (set-get_or a.controllers i (new_controller 0)))
+
+put-twice : (a : Subsystem) (i : ℕ) (c : Controller) (f : Controller → Controller) → i < length a.controllers → with_controller_at (with_controller_at a i c) i (f (controller_in (with_controller_at a i c) i)) ≡ with_controller_at a i (f c)
+put-twice a i c f there =
+    ap (λ x. with_controller_at (with_controller_at a i c) i (f x)) (get-set a.controllers i c (new_controller 0) there)
+    ∙ ap (λ cs. (let s : Subsystem = record a { controllers = cs } in s)) (set-set a.controllers i c (f c))
+
+plain-leaves : (tells : Bool) (call : Call) (a b : Subsystem) (i : ℕ) → IsPlain (call ∷ []) → i < length a.controllers → CallStep tells (i + 1) a call b → b ≡ with_controller_at a i (after_call call (controller_in a i))
+plain-leaves tells call a b i plain there s =
+    let h = plain-there tells call a b i plain there s in
+    h.others ∙ ap (with_setting a i) (calls-are tells (call ∷ []) (setting_in a i) (setting_in b i) plain (setting_in b i, h.step, refl))
+
+pub calls-made : {M : Type 0} (step : M → MediumCall → M → Type 0) (tells : Bool) (calls : List Call) (p q : OverMedium Linked M) → IsPlain calls → p.state.place < length p.state.subsystem.controllers
+    → Calls (CallOverMedium step tells) p calls q → AreMade tells calls p q
+calls-made {M} step tells [] p q plain there h = record {
+  ran = ([], ap (λ (x : OverMedium Linked M). x.state.subsystem) h);
+  leaves = ap (λ (x : OverMedium Linked M). x.state.subsystem) h ∙ same-put p.state.subsystem p.state.place;
+  place = ap (λ (x : OverMedium Linked M). x.state.place) h;
+  medium = ap (λ (x : OverMedium Linked M). x.medium) h;
+}
+calls-made step tells (call ∷ calls) p q plain there (mid, one, rest) =
     let two = plain-first call calls plain in
-    kept-over step tells calls mid q two.1 rest
-    ∙ kept-plain step tells call (p.state.place + 1) p.state.subsystem mid.state.subsystem p.medium mid.medium two.0 one.medium
+    let a : Subsystem = p.state.subsystem in
+    let i : ℕ = p.state.place in
+    let c : Controller = after_call call (controller_in a i) in
+    let over = one.over in
+    let own = over.step in
+    let at = over.place in
+    let here = plain-leaves tells call a mid.state.subsystem i two.0 there own in
+    let long : length mid.state.subsystem.controllers ≡ length a.controllers = ap (λ (s : Subsystem). length s.controllers) here ∙ length-set a.controllers i c in
+    let later = calls-made step tells calls mid q two.1 (omega (arith, long, at, there)) rest in
+    let ran = subst (λ n. Ran tells mid.state.subsystem (events_of_calls (n + 1) calls) q.state.subsystem) at later.ran in
+    record {
+      ran = (own.given ++ ran.0, runs-both tells a mid.state.subsystem q.state.subsystem (events_of (i + 1) call) (events_of_calls (i + 1) calls) own.given ran.0 own.run ran.1);
+      leaves = later.leaves ∙ (λ j. with_controller_at (here j) (at j) (after_calls calls (controller_in (here j) (at j)))) ∙ put-twice a i c (after_calls calls) there;
+      place = later.place ∙ at;
+      medium = later.medium ∙ kept-plain step tells call (i + 1) a mid.state.subsystem p.medium mid.medium two.0 one.medium;
+    }
 
--- A placing.
+-- what a driver's call over a link has come to
+pub record HasDone {M : Type 0} (r : MailboxReaction) (d : Driver) (p q : OverMedium Linked M) (reply : Reply) (Below : Type 0) : Type 0 where
+  pub step : IsStep r d (linked_controller q.state) reply
+  pub site : KeepsSite p.state q.state
+  pub below : Below
+  pub medium : q.medium ≡ p.medium
 
-pub placed-links : {M : Type 0} (step : M → MediumCall → M → Type 0) (tells : Bool) (result : Result Ticket PlaceRefusal) (request : Request) (d d' : Driver) (p q : OverMedium Linked M)
-    → OnOk result (IsPlaced (CallOverMedium step tells) d request p d' q) → OnOk result (IsPlaced (CallOver tells) d request p.state d' q.state)
-placed-links step tells (Err e) request d d' p q h = tt
-placed-links step tells (Ok x) request d d' p q (slot, free, is, calls) = (slot, free, is, over-links step tells (stores_of d request slot) p q calls)
+-- a controller of its subsystem goes on being reached in the same way
+abbrev pub IsSameName : {M : Type 0} → OverMedium Linked M → OverMedium Linked M → Type 0
+IsSameName p q = q.state.name ∷ [] ≡ p.state.name ∷ []
 
-pub unplaced-links : {M : Type 0} (result : Result Ticket PlaceRefusal) (d d' : Driver) (p q : OverMedium Linked M) → OnErr result ((d' ≡ d) × (q ≡ p)) → OnErr result ((d' ≡ d) × (q.state ≡ p.state))
-unplaced-links {M} (Err e) d d' p q h = (h.0, ap (λ (x : OverMedium Linked M). x.state) h.1)
-unplaced-links (Ok x) d d' p q h = tt
+pub same-name : (a b : GName) → a ∷ [] ≡ b ∷ [] → a ≡ b
+same-name a b h = ap (first a) h
+  where
+    first : GName → List GName → GName
+    first x [] = x
+    first x (y ∷ ys) = y
 
-pub kept-placed : {M : Type 0} (step : M → MediumCall → M → Type 0) (tells : Bool) (result : Result Ticket PlaceRefusal) (request : Request) (d d' : Driver) (p q : OverMedium Linked M)
-    → OnErr result ((d' ≡ d) × (q ≡ p)) → OnOk result (IsPlaced (CallOverMedium step tells) d request p d' q) → q.medium ≡ p.medium
-kept-placed {M} step tells (Err e) request d d' p q same h = ap (λ (x : OverMedium Linked M). x.medium) same.1
-kept-placed step tells (Ok x) request d d' p q same (slot, free, is, calls) = kept-over step tells (stores_of d request slot) p q tt calls
+pub done : {M : Type 0} (tells : Bool) (calls : List Call) (r : MailboxReaction) (d e : Driver) (p q : OverMedium Linked M) (gives reply : Reply) (Below : Type 0) → p.state.place < length p.state.subsystem.controllers → IsSameName p q
+    → AreMade tells calls p q → IsStep r d (after_calls calls (linked_controller p.state)) gives → e ≡ d → reply ≡ gives → Below → HasDone r e p q reply Below
+done tells calls r d e p q gives reply Below there name made step same is below =
+    let a : Subsystem = p.state.subsystem in
+    let i : ℕ = p.state.place in
+    let c : Controller = after_calls calls (controller_in a i) in
+    let at = made.place in
+    let put = is-put a q.state.subsystem i (with_controller (setting_in a i) c) there made.leaves in
+    let found : linked_controller q.state ≡ c = ap (controller_in q.state.subsystem) at ∙ ap (λ (s : Setting). s.controller) put.setting_is in
+    record {
+      step = subst (λ x. IsStep r e x reply) (sym found) (subst (λ x. IsStep r e c x) (sym is) (subst (λ x. IsStep r x c gives) (sym same) step));
+      site = record {
+        cntlid = ap (λ (x : Controller). x.cntlid) found ∙ calls-id calls (controller_in a i);
+        world = ap (λ (s : Setting). s.world) put.setting_is;
+        device = ap (λ (s : Setting). s.device) put.setting_is;
+        others = put.others;
+        place = at;
+        name = same-name q.state.name p.state.name name;
+      };
+      below = below;
+      medium = made.medium;
+    }
 
--- A poll.
+-- Calls of a driver that comes up: its controller has fetched admin commands alone, and all else is as it was.
 
-pub polled-links : {M : Type 0} (step : M → MediumCall → M → Type 0) (tells : Bool) (d d' : Driver) (window : List ℕ) (p q : OverMedium Linked M) (result : Result (Option Answer) PollFault) (buffer : List ℕ)
-    → IsPolled (CallOverMedium step tells) d window p result d' q buffer → IsPolled (CallOver tells) d window p.state result d' q.state buffer
-polled-links step tells d d' window p q result buffer (oldest, is, gives, after, calls, front) =
-    (oldest, is, gives, after, over-links step tells (polled d oldest window).calls p q calls, front)
+pub record IsFresh {M : Type 0} (p x : OverMedium Linked M) : Type 0 where
+  pub reaches : Reaches x.state
+  pub admin : AreAdmin (linked_controller x.state)
+  pub others : KeepsOthers p.state.place p.state.subsystem x.state.subsystem
+  pub place : x.state.place ≡ p.state.place
+  pub medium : x.medium ≡ p.medium
 
-pub kept-polled : {M : Type 0} (step : M → MediumCall → M → Type 0) (tells : Bool) (d d' : Driver) (window : List ℕ) (p q : OverMedium Linked M) (result : Result (Option Answer) PollFault) (buffer : List ℕ)
-    → IsPolled (CallOverMedium step tells) d window p result d' q buffer → q.medium ≡ p.medium
-kept-polled step tells d d' window p q result buffer (oldest, is, gives, after, calls, front) =
-    kept-over step tells (polled d oldest window).calls p q (plain-polled d oldest window) calls
+others-both : (i : ℕ) (a b c : Subsystem) → KeepsOthers i a b → KeepsOthers i b c → KeepsOthers i a c
+others-both i a b c h g =
+    g ∙ ap (λ (s : Subsystem). with_setting s i (setting_in c i)) h
+    ∙ ap (λ cs. (let s : Subsystem = record { world = c.world; device = c.device; controllers = cs } in s)) (set-set a.controllers i (controller_in b i) (controller_in c i))
 
--- Bringing up.
+call-there : (tells : Bool) (call : Call) (a b : Subsystem) (i : ℕ) → AreAdmin (controller_in a i) → i < length a.controllers → (controller_in a i).cntlid ≡ i + 1 → CallStep tells (i + 1) a call b → IsStepThere tells call a b i
+call-there tells Turns a b i admin there named h = turns-there tells a b i admin there named h
+call-there tells call a b i admin there named h = plain-there tells call a b i tt there h
 
-pub risen-links : {M : Type 0} (step : M → MediumCall → M → Type 0) (tells : Bool) (d d' : Driver) (p q : OverMedium Linked M) (result : Result (Unit {0}) UpFault)
-    → Rises (CallOverMedium step tells) (λ (x : OverMedium Linked M). (linked_controller x.state).window) d p result d' q → Rises (CallOver tells) bytes_of d p.state result d' q.state
-risen-links {M} step tells d d' p q result h =
-    let m : IsMapped (λ (x : OverMedium Linked M). x.state) (CallOverMedium step tells) (CallOver tells) (λ (x : OverMedium Linked M). (linked_controller x.state).window) bytes_of (λ x. Unit {0}) = record {
-      call = λ call x y fact one. (one.over, tt);
-      same = λ x fact. refl;
-    } in
-    let r = rises-mapped (λ (x : OverMedium Linked M). x.state) (CallOverMedium step tells) (CallOver tells) (λ (x : OverMedium Linked M). (linked_controller x.state).window) bytes_of (λ x. Unit {0}) m d d' p q result tt h in
-    r.0
+pub fresh-call : {M : Type 0} (step : M → MediumCall → M → Type 0) (tells : Bool) (p : OverMedium Linked M) (call : Call) (x y : OverMedium Linked M) → IsFresh p x → CallOverMedium step tells x call y
+    → LinkStep tells (linked_setting x.state) call (linked_setting y.state) × IsFresh p y
+fresh-call step tells p call x y f h =
+    let a : Subsystem = x.state.subsystem in
+    let b : Subsystem = y.state.subsystem in
+    let i : ℕ = x.state.place in
+    let over = h.over in
+    let place = over.place in
+    let at = f.reaches in
+    let there = call-there tells call a b i f.admin at.0 at.1 over.step in
+    let one : LinkStep tells (setting_in a i) call (linked_setting y.state) = subst (λ n. LinkStep tells (setting_in a i) call (setting_in b n)) (sym place) there.step in
+    let long : length b.controllers ≡ length a.controllers = ap (λ (s : Subsystem). length s.controllers) there.others ∙ length-set a.controllers i (controller_in b i) in (
+      one,
+      record {
+        reaches = (omega (arith, long, at.0, place), call-named tells call (setting_in a i) (linked_setting y.state) one ∙ at.1 ∙ ap (λ n. n + 1) (sym place));
+        admin = call-admin tells call (setting_in a i) (linked_setting y.state) one f.admin;
+        others = others-both p.state.place p.state.subsystem a b f.others (subst (λ n. KeepsOthers n a b) f.place there.others);
+        place = place ∙ f.place;
+        medium = kept-admin step tells call i a b x.medium y.medium f.admin at.0 h.medium ∙ f.medium;
+      },
+    )
 
--- a fact that goes on over its calls
-abbrev IsFreshOver : {M : Type 0} → ℕ → M → OverMedium Linked M → Type 0
-IsFreshOver i before x = IsFresh i x.state × (x.medium ≡ before)
-
-risen-keeps : {M : Type 0} (step : M → MediumCall → M → Type 0) (tells : Bool) (i : ℕ) (d d' : Driver) (p q : OverMedium Linked M) (result : Result (Unit {0}) UpFault) → IsFresh i p.state
-    → Rises (CallOverMedium step tells) (λ (x : OverMedium Linked M). (linked_controller x.state).window) d p result d' q → q.medium ≡ p.medium
-risen-keeps {M} step tells i d d' p q result fresh h =
-    let m : IsMapped (λ (x : OverMedium Linked M). x.state) (CallOverMedium step tells) (CallOver tells) (λ (x : OverMedium Linked M). (linked_controller x.state).window) bytes_of (IsFreshOver i p.medium) = record {
-      call = λ call x y fact one.
-          (let r = fresh-call tells i call x.state y.state fact.0 one.over in
-          (one.over, (r.fresh, kept-fresh step tells call i x.state y.state.subsystem x.medium y.medium fact.0 one.medium ∙ fact.1)));
-      same = λ x fact. refl;
-    } in
-    let r = rises-mapped (λ (x : OverMedium Linked M). x.state) (CallOverMedium step tells) (CallOver tells) (λ (x : OverMedium Linked M). (linked_controller x.state).window) bytes_of (IsFreshOver i p.medium) m d d' p q result (fresh, refl) h in
-    r.1.1
-
-pub already-links : {M : Type 0} (b : Bool) (d d' : Driver) (p q : OverMedium Linked M) (result : Result (Unit {0}) UpFault) → (b ≡ false → (result ≡ Err AlreadyUp) × (d' ≡ d) × (q ≡ p))
-    → b ≡ false → (result ≡ Err AlreadyUp) × (d' ≡ d) × (q.state ≡ p.state)
-already-links {M} b d d' p q result already is = let a = already is in (a.0, a.1, ap (λ (x : OverMedium Linked M). x.state) a.2)
-
-kept-by : {M : Type 0} (step : M → MediumCall → M → Type 0) (tells : Bool) (d d' : Driver) (p q : OverMedium Linked M) (result : Result (Unit {0}) UpFault) (s : State) → d.state ≡ s → Sound d (linked_controller p.state) → Reaches p.state
-    → (is_down s ≡ false → (result ≡ Err AlreadyUp) × (d' ≡ d) × (q ≡ p)) → (is_down s ≡ true → Rises (CallOverMedium step tells) (λ (x : OverMedium Linked M). (linked_controller x.state).window) d p result d' q) → q.medium ≡ p.medium
-kept-by step tells d d' p q result Down e s at already rises = risen-keeps step tells p.state.place d d' p q result (fresh-down d p.state s e at) (rises refl)
-kept-by {M} step tells d d' p q result Up e s at already rises = let a = already refl in ap (λ (x : OverMedium Linked M). x.medium) a.2
-kept-by step tells d d' p q result Failed e s at already rises = absurd (no-way true (ap is_failed (sym e) ∙ (s.both.each Admin).failed) refl)
-
-pub kept-risen : {M : Type 0} (step : M → MediumCall → M → Type 0) (tells : Bool) (d d' : Driver) (p q : OverMedium Linked M) (result : Result (Unit {0}) UpFault) → Sound d (linked_controller p.state) → Reaches p.state
-    → (is_down d.state ≡ false → (result ≡ Err AlreadyUp) × (d' ≡ d) × (q ≡ p)) → (is_down d.state ≡ true → Rises (CallOverMedium step tells) (λ (x : OverMedium Linked M). (linked_controller x.state).window) d p result d' q)
-    → q.medium ≡ p.medium
-kept-risen step tells d d' p q result s at already rises = kept-by step tells d d' p q result d.state refl s at already rises
+pub fresh-start : {M : Type 0} (p : OverMedium Linked M) → Reaches p.state → AreAdmin (linked_controller p.state) → IsFresh p p
+fresh-start p at admin = record {
+  reaches = at;
+  admin = admin;
+  others = same-put p.state.subsystem p.state.place;
+  place = refl;
+  medium = refl;
+}

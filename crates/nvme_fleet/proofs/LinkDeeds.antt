@@ -1,61 +1,72 @@
--- What a driver does over a link is exactly these events of its controller.
-use Rattle.nvme_fleet.proofs.Words.{◌≡◌, ◌+◌, ℕ, Bool, true, false, List, [], ◌∷◌, ◌++◌, Option, Some, Result, Ok, Err, refl, sym, ap, subst, OnOk, OnErr, is_ok, if◌then◌else◌, sq_head, Answer, NotUp, PlaceRefusal, PollFault, UpFault, AlreadyUp, Admin, Io, Request, Ticket, Call, Calls, Writes, Driver, IsPlaced, after_reset, ends, is_up, reset_calls, ring_calls, stores_of, tail_of, tail_doorbell, IsPolled, consumed_ends, head_of, Rises, Event, Seen, Subsystem, CallOver, CallStep, ComesUp, Consumes, Places, Polls, Ran, Resets, Rings, events_of, events_of_calls, window_at, Linked, Reaches, linked_controller, polled}
+-- What a driver's call over a link comes to: the step of its mailbox, exactly its events of the controller, all else as it
+-- was, and no call of the medium.
+use Rattle.nvme_fleet.proofs.Words.{Admin, AllByRecursion, AlreadyUp, Answer, Bool, CallOverMedium, CallStep, Calls, ComesUp, Consumes, Down, Driver, Err, Failed, IfErr, IfOk, Io, IsMapped, LinkStep, Linked, List, Mailbox, MediumCall, None, NotUp, Ok, OnErr, OnOk, Option, OverMedium, PlaceRefusal, Places, PollFault, Polls, Ran, Reaches, Request, Resets, Result, Rings, Rises, Setting, Some, Sound, Subsystem, Ticket, Up, UpFault, Writes, [], after_reset, ap, asked_of, consumed_ends, ends, events_of_calls, head_of, if◌then◌else◌, is_down, is_failed, is_ok, is_up, length, linked_setting, polled, refl, reset_calls, ring_calls, rises-mapped, rung_reply, sq_head, stores_of, submission_of, subst, sym, tail_doorbell, tail_of, take, window_at, window_in, ℕ, ◌+◌, ◌∙◌, ◌∷◌, ◌≡◌, linked_controller, mailbox, MailboxReaction, Reply, false, true}
 use Rattle.nvme_driver.specs.declared.answer.Answer.TheVariants.{Done}
-use Rattle.nvme_driver.specs.Polls.{Poll}
-use Rattle.nvme_machine.specs.Subsystems.{Run}
-use Rattle.nvme_fleet.proofs.PlainCalls.{IsUndone, by-poll, plain-polled}
-use Rattle.nvme_fleet.proofs.Reaching.{IsFresh, calls-over, rises-below, window-there}
-use Rattle.nvme_fleet.proofs.RiseLink.{bytes_of, step_of}
+use Rattle.nvme_driver.specs.declared.state.State.{State}
+use Rattle.nvme_driver.specs.Drivers as driver
+use Rattle.nvme_driver.specs.Polls as poll
+use Rattle.nvme_event.specs.declared.seen.FleetSeen.TheVariants as seen
+use Rattle.nvme_mailbox.specs.Deliveries as mail
+use Rattle.nvme_fleet.proofs.AdminTurns.{IsAdmin}
+use Rattle.nvme_fleet.proofs.LinkCalls.{HasDone, IsFresh, IsSameName, calls-made, done, fresh-call, fresh-start, same-name}
+use Rattle.nvme_fleet.proofs.PlaceStep.{place_is_a_step, refusal_is_a_step}
+use Rattle.nvme_fleet.proofs.Places.{no-way}
+use Rattle.nvme_fleet.proofs.PlainCalls.{IsUndone, by-poll, plain-polled, plain-ring}
+use Rattle.nvme_fleet.proofs.PollStep.{poll_is_a_step}
+use Rattle.nvme_fleet.proofs.Reaching.{window-there}
+use Rattle.nvme_fleet.proofs.ResetStep.{reset_is_a_step}
+use Rattle.nvme_fleet.proofs.RingStep.{ring_is_a_step}
+use Rattle.nvme_fleet.proofs.RiseStep.{bring_up_is_a_step}
 
--- Runs, one after the other.
-pub runs-both : (tells : Bool) (a b c : Subsystem) (es fs : List Event) (xs ys : List Seen) → Run tells a es xs b → Run tells b fs ys c → Run tells a (es ++ fs) (xs ++ ys) c
-runs-both tells a b c [] fs [] ys r s = subst (λ m. Run tells m fs ys c) r s
-runs-both tells a b c [] fs (x ∷ xs) ys r s = absurd r
-runs-both tells a b c (e ∷ es) fs [] ys r s = absurd r
-runs-both tells a b c (e ∷ es) fs (x ∷ xs) ys r s = (r.0, r.1, runs-both tells r.0 b c es fs xs ys r.2 s)
-
--- calls over a link are a run over exactly their events
-pub calls-ran : (tells : Bool) (calls : List Call) (p q : Linked) → Calls (CallOver tells) p calls q → Ran tells p.subsystem (events_of_calls (p.place + 1) calls) q.subsystem
-calls-ran tells [] p q h = ([], ap (λ (x : Linked). x.subsystem) h)
-calls-ran tells (call ∷ calls) p q (mid, over, rest) =
-    let one = over.step in
-    let later = subst (λ n. Ran tells mid.subsystem (events_of_calls (n + 1) calls) q.subsystem) over.place (calls-ran tells calls mid q rest) in
-    (one.given ++ later.0, runs-both tells p.subsystem mid.subsystem q.subsystem (events_of (p.place + 1) call) (events_of_calls (p.place + 1) calls) one.given later.0 one.run later.1)
-
-same-subsystem : (p q : Linked) → q ≡ p → q.subsystem ≡ p.subsystem
-same-subsystem p q h = ap (λ (x : Linked). x.subsystem) h
-
--- Placing.
-pub places-below : (tells : Bool) (result : Result Ticket PlaceRefusal) (request : Request) (d d' : Driver) (p q : Linked) → OnErr result ((d' ≡ d) × (q ≡ p))
-    → OnOk result (IsPlaced (CallOver tells) d request p d' q) → Places tells (p.place + 1) request d p.subsystem result d' q.subsystem
-places-below tells (Err e) request d d' p q same h = (same.0, same-subsystem p q same.1)
-places-below tells (Ok x) request d d' p q same (slot, free, is, calls) = (slot, free, is, calls-ran tells (stores_of d request slot) p q calls)
-
-pub places-over : (tells : Bool) (result : Result Ticket PlaceRefusal) (request : Request) (d d' : Driver) (p q : Linked) → Reaches p → OnOk result (IsPlaced (CallOver tells) d request p d' q)
-    → OnOk result (IsPlaced (step_of tells) d request p d' q)
-places-over tells (Err e) request d d' p q at h = tt
-places-over tells (Ok x) request d d' p q at (slot, free, is, calls) = (slot, free, is, calls-over tells (stores_of d request slot) p q tt at calls)
-
--- Ringing.
-rings-if : (tells up : Bool) (result : Result (Unit {0}) NotUp) (d d' : Driver) (p q : Linked) → is_ok result ≡ up → d' ≡ d
-    → Calls (CallOver tells) p (if up then Writes (tail_doorbell Admin) (tail_of d.admin) ∷ Writes (tail_doorbell Io) (tail_of d.io) ∷ [] else []) q
-    → Rings tells (p.place + 1) d p.subsystem result d' q.subsystem
-rings-if tells true (Ok x) d d' p q is same h = (same, calls-ran tells (Writes (tail_doorbell Admin) (tail_of d.admin) ∷ Writes (tail_doorbell Io) (tail_of d.io) ∷ []) p q h)
-rings-if tells false (Ok x) d d' p q is same h = absurd (cc)
-rings-if tells true (Err e) d d' p q is same h = absurd (cc)
-rings-if tells false (Err e) d d' p q is same h = (same, same-subsystem p q h)
-
-pub rings-below : (tells : Bool) (result : Result (Unit {0}) NotUp) (d d' : Driver) (p q : Linked) → is_ok result ≡ is_up d.state → d' ≡ d → Calls (CallOver tells) p (ring_calls d) q
-    → Rings tells (p.place + 1) d p.subsystem result d' q.subsystem
-rings-below tells result d d' p q is same h = rings-if tells (is_up d.state) result d d' p q is same h
-
--- Polling.
 nothing-ran : (tells : Bool) (old new : Subsystem) → Ran tells old [] new → new ≡ old
 nothing-ran tells old new ([], h) = h
 nothing-ran tells old new (s ∷ given, h) = absurd h
 
--- what a poll consumes
-abbrev Consumed : Bool → ℕ → Poll → Subsystem → Subsystem → Type 0
+-- Placing makes three stores, in the slot that was free, or none where it is refused.
+abbrev slot_in : Option ℕ → ℕ
+slot_in None = 0
+slot_in (Some slot) = slot
+
+pub places : {M : Type 0} (step : M → MediumCall → M → Type 0) (tells : Bool) (d e : Driver) (p q : OverMedium Linked M) (request : Request) (result : Result Ticket PlaceRefusal) → Sound d (linked_controller p.state) → Reaches p.state → IsSameName p q
+    → IfErr result (λ why. driver.place_refusal d request ≡ Some why) → OnErr result ((e ≡ d) × (q ≡ p))
+    → IfOk result (λ ticket. (driver.place_refusal d request ≡ None) × (ticket ≡ record { 0 = d.next }))
+    → OnOk result (driver.IsPlaced (CallOverMedium step tells) d request p e q)
+    → OnOk result (driver.HoldsItsRequest d (linked_controller p.state).window (linked_controller q.state).window request)
+    → HasDone (mail.placed (mailbox d (linked_controller p.state)) request) e p q (mail.plain (seen.Placed result)) (Places tells (p.state.place + 1) request d p.state.subsystem result e q.state.subsystem)
+places {M} step tells d e p q request (Err why) s at name refused unchanged taken put holds =
+    let made = calls-made step tells [] p q tt at.0 unchanged.1 in
+    done tells [] _ d e p q _ _ _ at.0 name made (refusal_is_a_step d (linked_controller p.state) request why s refused) unchanged.0 refl
+    (unchanged.0, nothing-ran tells p.state.subsystem q.state.subsystem made.ran)
+places step tells d e p q request (Ok ticket) s at name refused unchanged taken (slot, free, is, calls) (other, same, held) =
+    let one : other ≡ slot = ap slot_in (sym same ∙ free) in
+    let says : submission_of (driver.entry_of request slot) ≡ driver.entry_fields (asked_of request) slot =
+    subst (λ k. submission_of (driver.entry_of request k) ≡ driver.entry_fields (asked_of request) k) one held.says in
+    let made = calls-made step tells (stores_of d request slot) p q tt at.0 calls in
+    done tells (stores_of d request slot) _ (driver.placed d request slot) e p q _ _ _ at.0 name made (place_is_a_step d (linked_controller p.state) request slot s taken.0 free says) is
+    (ap (λ t. mail.plain (seen.Placed (Ok t))) taken.1) (slot, free, is, made.ran)
+
+-- Ringing writes both tail doorbells, where the driver is up.
+rung-as : (result : Result (Unit {0}) NotUp) (b : Bool) → is_ok result ≡ b → mail.plain (seen.Rung result) ≡ rung_reply b
+rung-as (Ok u) b h = ap rung_reply h
+rung-as (Err e) b h = ap rung_reply h
+
+rings-if : (tells up : Bool) (k : ℕ) (result : Result (Unit {0}) NotUp) (d e : Driver) (old new : Subsystem) → is_ok result ≡ up → e ≡ d
+    → Ran tells old (events_of_calls k (if up then Writes (tail_doorbell Admin) (tail_of d.admin) ∷ Writes (tail_doorbell Io) (tail_of d.io) ∷ [] else [])) new → Rings tells k d old result e new
+rings-if tells true k (Ok x) d e old new is same h = (same, h)
+rings-if tells false k (Ok x) d e old new is same h = absurd (cc)
+rings-if tells true k (Err x) d e old new is same h = absurd (cc)
+rings-if tells false k (Err x) d e old new is same h = (same, nothing-ran tells old new h)
+
+pub rings : {M : Type 0} (step : M → MediumCall → M → Type 0) (tells : Bool) (d e : Driver) (p q : OverMedium Linked M) (result : Result (Unit {0}) NotUp) → Sound d (linked_controller p.state) → Reaches p.state → IsSameName p q → e ≡ d
+    → is_ok result ≡ is_up d.state → Calls (CallOverMedium step tells) p (ring_calls d) q
+    → HasDone (mail.rung (mailbox d (linked_controller p.state))) e p q (mail.plain (seen.Rung result)) (Rings tells (p.state.place + 1) d p.state.subsystem result e q.state.subsystem)
+rings step tells d e p q result s at name same is calls =
+    let made = calls-made step tells (ring_calls d) p q (plain-ring (is_up d.state) _ _ _ _) at.0 calls in
+    done tells (ring_calls d) _ d e p q _ _ _ at.0 name made (ring_is_a_step d (linked_controller p.state) s) same (rung-as result (is_up d.state) is)
+    (rings-if tells (is_up d.state) (p.state.place + 1) result d e p.state.subsystem q.state.subsystem is same made.ran)
+
+-- Polling writes a head doorbell exactly where it hands up a completion's answer.
+abbrev Consumed : Bool → ℕ → poll.Poll → Subsystem → Subsystem → Type 0
 Consumed tells k x old new = Ran tells old (events_of_calls k x.calls) new → Consumes tells k old x.answer new
 
 undone-consumes : (tells : Bool) (k : ℕ) (answer : Result (Option Answer) PollFault) (old new : Subsystem) → IsUndone answer → new ≡ old → Consumes tells k old answer new
@@ -67,37 +78,99 @@ for-polled tells k d window oldest old new =
     by-poll (λ x. Consumed tells k x old new) (λ answer u e h. undone-consumes tells k answer old new u (nothing-ran tells old new h))
     (λ v e lane entry w h. (lane, head_of (consumed_ends (ends lane e) (sq_head entry)), h)) d oldest window
 
-pub polls-below : (tells : Bool) (d d' : Driver) (p q : Linked) (result : Result (Option Answer) PollFault) (buffer : List ℕ) → Reaches p → IsPolled (CallOver tells) d (linked_controller p).window p result d' q buffer
-    → Polls tells (p.place + 1) d p.subsystem result d' q.subsystem
-polls-below tells d d' p q result buffer at (oldest, is, gives, after, calls, front) =
-    let w : List ℕ = (linked_controller p).window in
-    let same : w ≡ window_at p.subsystem (p.place + 1) = sym (window-there p.subsystem (p.place + 1) p.place refl at.0) in
-    let ran = calls-ran tells (polled d oldest w).calls p q calls in
-    record {
-      oldest = oldest;
-      is_oldest = is;
-      gives = subst (λ v. result ≡ (polled d oldest v).answer) same gives;
-      driver = subst (λ v. d' ≡ (polled d oldest v).driver) same after;
-      ran = subst (λ v. Ran tells p.subsystem (events_of_calls (p.place + 1) (polled d oldest v).calls) q.subsystem) same ran;
-      consumes = subst (λ a. Consumes tells (p.place + 1) p.subsystem a q.subsystem) (sym gives) (for-polled tells (p.place + 1) d w oldest p.subsystem q.subsystem ran);
-    }
+-- with the bytes of the mailbox's reply at the front of the buffer
+pub polls : {M : Type 0} (step : M → MediumCall → M → Type 0) (tells : Bool) (d e : Driver) (p q : OverMedium Linked M) (result : Result (Option Answer) PollFault) (buffer : List ℕ) → Sound d (linked_controller p.state) → Reaches p.state
+    → IsSameName p q → poll.IsPolled (CallOverMedium step tells) d (linked_controller p.state).window p result e q buffer
+    → HasDone (mail.polled (mailbox d (linked_controller p.state))) e p q (record { seen = seen.Polled result; bytes = (mail.polled (mailbox d (linked_controller p.state))).reply.bytes })
+    (Polls tells (p.state.place + 1) d p.state.subsystem result e q.state.subsystem)
+    × (take (length (mail.polled (mailbox d (linked_controller p.state))).reply.bytes) buffer ≡ (mail.polled (mailbox d (linked_controller p.state))).reply.bytes)
+polls step tells d e p q result buffer s at name (oldest, is, gives, after, calls, front) =
+    let a : Subsystem = p.state.subsystem in
+    let k : ℕ = p.state.place + 1 in
+    let w : List ℕ = (linked_controller p.state).window in
+    let x : poll.Poll = polled d oldest w in
+    let step_is = poll_is_a_step d (linked_controller p.state) oldest s is in
+    let bytes : (mail.polled (mailbox d (linked_controller p.state))).reply.bytes ≡ x.bytes = ap (λ (r : Reply). r.bytes) step_is.gives in
+    let made = calls-made step tells x.calls p q (plain-polled d oldest w) at.0 calls in
+    let same : w ≡ window_at a k = sym (window-there a k p.state.place refl at.0) in (
+      done tells x.calls _ x.driver e p q _ _ _ at.0 name made step_is after (λ i. record { seen = seen.Polled (gives i); bytes = bytes i }) (record {
+        oldest = oldest;
+        is_oldest = is;
+        gives = subst (λ v. result ≡ (polled d oldest v).answer) same gives;
+        driver = subst (λ v. e ≡ (polled d oldest v).driver) same after;
+        ran = subst (λ v. Ran tells a (events_of_calls k (polled d oldest v).calls) q.state.subsystem) same made.ran;
+        consumes = subst (λ r. Consumes tells k a r q.state.subsystem) (sym gives) (for-polled tells k d w oldest a q.state.subsystem made.ran);
+      }),
+      subst (λ xs. take (length xs) buffer ≡ xs) (sym bytes) front,
+    )
 
-pub polls-over : (tells : Bool) (d d' : Driver) (p q : Linked) (result : Result (Option Answer) PollFault) (buffer : List ℕ) → Reaches p → IsPolled (CallOver tells) d (linked_controller p).window p result d' q buffer
-    → IsPolled (step_of tells) d (linked_controller p).window p result d' q buffer
-polls-over tells d d' p q result buffer at (oldest, is, gives, after, calls, front) =
-    let w : List ℕ = (linked_controller p).window in
-    (oldest, is, gives, after, calls-over tells (polled d oldest w).calls p q (plain-polled d oldest w) at calls, front)
-
--- Resetting.
-pub resets-below : (tells : Bool) (d d' : Driver) (p q : Linked) → d' ≡ after_reset d → Calls (CallOver tells) p reset_calls q → Resets tells (p.place + 1) d p.subsystem d' q.subsystem
-resets-below tells d d' p q is h = (is, calls-ran tells reset_calls p q h)
+-- Resetting writes 0 to Controller Configuration.
+pub resets : {M : Type 0} (step : M → MediumCall → M → Type 0) (tells : Bool) (d e : Driver) (p q : OverMedium Linked M) → Sound d (linked_controller p.state) → Reaches p.state → IsSameName p q → e ≡ after_reset d
+    → Calls (CallOverMedium step tells) p reset_calls q
+    → HasDone (mail.reset (mailbox d (linked_controller p.state))) e p q (mail.plain seen.Reset) (Resets tells (p.state.place + 1) d p.state.subsystem e q.state.subsystem)
+resets step tells d e p q s at name is calls =
+    let made = calls-made step tells reset_calls p q tt at.0 calls in
+    done tells reset_calls _ (after_reset d) e p q _ _ _ at.0 name made (reset_is_a_step d (linked_controller p.state) s) is refl (is, made.ran)
 
 -- Bringing up.
-pub comes-up-below : (tells : Bool) (d d' : Driver) (p q : Linked) (result : Result (Unit {0}) UpFault) → IsFresh p.place p → result ≡ Ok tt → Rises (CallOver tells) bytes_of d p result d' q
-    → ComesUp tells (p.place + 1) d p.subsystem result d' q.subsystem
-comes-up-below tells d d' p q result fresh is h =
-    let r = rises-below tells p.place d d' p q result fresh h in
-    subst (λ x. ComesUp tells (p.place + 1) d p.subsystem x d' q.subsystem) (sym is) (subst (λ x. Rises (CallStep tells (p.place + 1)) (λ s. window_at s (p.place + 1)) d p.subsystem x d' q.subsystem) is r)
 
-pub stays-below : (tells : Bool) (d d' : Driver) (p q : Linked) (result : Result (Unit {0}) UpFault) → result ≡ Err AlreadyUp → d' ≡ d → q ≡ p → ComesUp tells (p.place + 1) d p.subsystem result d' q.subsystem
-stays-below tells d d' p q result is same h = subst (λ x. ComesUp tells (p.place + 1) d p.subsystem x d' q.subsystem) (sym is) (same, same-subsystem p q h)
+already-up : (m : Mailbox) → m.up ≡ true → mail.brought_up m ≡ record { mailbox = m; reply = mail.plain (seen.Up (Err AlreadyUp)) }
+already-up m h = rw h refl
+
+reply-up : (m : Mailbox) → m.up ≡ false → (mail.brought_up m).reply ≡ mail.plain (seen.Up (Ok tt))
+reply-up m h = rw h refl
+
+-- what it has come to
+abbrev HasRisen : {M : Type 0} → Bool → Driver → Driver → OverMedium Linked M → OverMedium Linked M → Result (Unit {0}) UpFault → Type 0
+HasRisen tells d e p q result =
+    HasDone (mail.brought_up (mailbox d (linked_controller p.state))) e p q (mail.plain (seen.Up result)) (ComesUp tells (p.state.place + 1) d p.state.subsystem result e q.state.subsystem)
+
+stays-up : {M : Type 0} (step : M → MediumCall → M → Type 0) (tells : Bool) (d e : Driver) (p q : OverMedium Linked M) (result : Result (Unit {0}) UpFault) → Sound d (linked_controller p.state) → Reaches p.state → IsSameName p q
+    → is_up d.state ≡ true → result ≡ Err AlreadyUp → e ≡ d → q ≡ p → HasRisen tells d e p q result
+stays-up step tells d e p q result s at name up is same h =
+    let still = already-up (mailbox d (linked_controller p.state)) up in
+    let made = calls-made step tells [] p q tt at.0 h in
+    done tells [] _ d e p q (mail.plain (seen.Up (Err AlreadyUp))) _ _ at.0 name made
+    (record { sound = s; mail = ap (λ (x : MailboxReaction). x.mailbox) still; gives = ap (λ (x : MailboxReaction). x.reply) still }) same (ap (λ r. mail.plain (seen.Up r)) is)
+    (subst (λ r. ComesUp tells (p.state.place + 1) d p.state.subsystem r e q.state.subsystem) (sym is) (same, nothing-ran tells p.state.subsystem q.state.subsystem made.ran))
+
+abbrev window_over : {M : Type 0} → OverMedium Linked M → List ℕ
+window_over p = (linked_controller p.state).window
+
+comes-up : {M : Type 0} (step : M → MediumCall → M → Type 0) (tells : Bool) (d e : Driver) (p q : OverMedium Linked M) (result : Result (Unit {0}) UpFault) → Sound d (linked_controller p.state) → Reaches p.state → IsSameName p q
+    → d.state ≡ Down → Rises (CallOverMedium step tells) window_over d p result e q → HasRisen tells d e p q result
+comes-up {M} step tells d e p q result s at name down h =
+    let k : ℕ = p.state.place + 1 in
+    let off = s.down (ap is_up down) in
+    let fresh : IsFresh p p = fresh-start p at (subst (AllByRecursion IsAdmin) (sym off.fetched) tt) in
+    let setting : OverMedium Linked M → Setting = λ x. linked_setting x.state in
+    let subsystem : OverMedium Linked M → Subsystem = λ x. x.state.subsystem in
+    let there : IsMapped setting (CallOverMedium step tells) (LinkStep tells) window_over window_in (IsFresh p) = record {
+      call = λ call x y f one. fresh-call step tells p call x y f one;
+      same = λ x f. refl;
+    } in
+    let below : IsMapped subsystem (CallOverMedium step tells) (CallStep tells k) window_over (λ z. window_at z k) (IsFresh p) = record {
+      call = λ call x y f one. (subst (λ n. CallStep tells (n + 1) x.state.subsystem call y.state.subsystem) f.place one.over.step, (fresh-call step tells p call x y f one).1);
+      same = λ x f. window-there x.state.subsystem k x.state.place (ap (λ n. n + 1) (sym f.place)) f.reaches.0;
+    } in
+    let one = rises-mapped setting (CallOverMedium step tells) (LinkStep tells) window_over window_in (IsFresh p) there d e p q result fresh h in
+    let two = rises-mapped subsystem (CallOverMedium step tells) (CallStep tells k) window_over (λ z. window_at z k) (IsFresh p) below d e p q result fresh h in
+    let r = bring_up_is_a_step tells d e (linked_setting p.state) (linked_setting q.state) result s down one.0 in
+    let left = one.1 in
+    record {
+      step = record { sound = r.sound; mail = r.mail; gives = reply-up (mailbox d (linked_controller p.state)) (ap is_up down) ∙ ap (λ x. mail.plain (seen.Up x)) (sym r.answered) };
+      site = record { cntlid = r.cntlid; world = r.world; device = r.device; others = left.others; place = left.place; name = same-name q.state.name p.state.name name };
+      below = subst (λ x. ComesUp tells k d p.state.subsystem x e q.state.subsystem) (sym r.answered)
+          (subst (λ x. Rises (CallStep tells k) (λ z. window_at z k) d p.state.subsystem x e q.state.subsystem) r.answered two.0);
+      medium = left.medium;
+    }
+
+rises-by : {M : Type 0} (step : M → MediumCall → M → Type 0) (tells : Bool) (d e : Driver) (p q : OverMedium Linked M) (result : Result (Unit {0}) UpFault) (state : State) → d.state ≡ state → Sound d (linked_controller p.state) → Reaches p.state
+    → IsSameName p q → (is_down state ≡ false → (result ≡ Err AlreadyUp) × (e ≡ d) × (q ≡ p)) → (is_down state ≡ true → Rises (CallOverMedium step tells) window_over d p result e q) → HasRisen tells d e p q result
+rises-by step tells d e p q result Down is s at name already rises = comes-up step tells d e p q result s at name is (rises refl)
+rises-by step tells d e p q result Up is s at name already rises = let a = already refl in stays-up step tells d e p q result s at name (ap is_up is) a.0 a.1 a.2
+rises-by step tells d e p q result Failed is s at name already rises = absurd (no-way true (ap is_failed (sym is) ∙ (s.both.each Admin).failed) refl)
+
+pub rises : {M : Type 0} (step : M → MediumCall → M → Type 0) (tells : Bool) (d e : Driver) (p q : OverMedium Linked M) (result : Result (Unit {0}) UpFault) → Sound d (linked_controller p.state) → Reaches p.state → IsSameName p q
+    → (is_down d.state ≡ false → (result ≡ Err AlreadyUp) × (e ≡ d) × (q ≡ p)) → (is_down d.state ≡ true → Rises (CallOverMedium step tells) window_over d p result e q) → HasRisen tells d e p q result
+rises step tells d e p q result s at name already up = rises-by step tells d e p q result d.state refl s at name already up

@@ -1,13 +1,12 @@
 -- A call over a link is exactly its events of the subsystem, and so a step of the controller that it reaches: all other
 -- controllers stay, also over the turns of a driver that comes up, since admin commands mark nobody.
-use Rattle.nvme_fleet.proofs.Words.{set-set, ◌≡◌, ◌<◌, ℕ, ◌+◌, Bool, List, [], ◌∷◌, length, Some, Result, refl, sym, ap, subst, ◌∙◌, arith, slice_get, slice_set, length-set, UpFault, Call, Stores, Writes, Reads, Turns, Calls, Driver, Rises, IsMapped, rises-mapped, Event, Seen, Value, Controller, Reaction, new_controller, after_store, wrote, has_read, after_fetch, Setting, setting, ExecutesNth, Subsystem, Reacts, ReactsAs, controller_at, fetch-id, Linked, KeepsOthers, Reaches, controller_in, linked_controller, linked_setting, setting_in, with_setting, LinkStep, with_controller, CallOver, CallStep, window_at, window_of}
+use Rattle.nvme_fleet.proofs.Words.{set-set, ◌≡◌, ◌<◌, ℕ, ◌+◌, Bool, List, [], ◌∷◌, length, Some, refl, sym, ap, subst, ◌∙◌, arith, slice_get, slice_set, length-set, Call, Stores, Writes, Reads, Turns, Event, Seen, Value, Controller, Reaction, new_controller, after_store, wrote, has_read, after_fetch, Setting, setting, ExecutesNth, Subsystem, Reacts, ReactsAs, controller_at, fetch-id, KeepsOthers, controller_in, setting_in, with_setting, LinkStep, with_controller, CallStep, window_at, window_of, with_controller_at}
 use Rattle.nvme_machine.specs.declared.event.Event.TheVariants as event
 use Rattle.nvme_machine.specs.Subsystems.{Step, Run, ExecutesAt, with_controller as with_controller_of}
 use Rattle.nvme_subsys.proofs.Numbers as numbers
-use Rattle.nvme_fleet.proofs.AdminTurns.{AreAdmin, call-admin, call-named, fetch-admin, fetched_by, one-quiet}
-use Rattle.nvme_fleet.proofs.RiseLink.{step_of, bytes_of}
+use Rattle.nvme_fleet.proofs.AdminTurns.{AreAdmin, fetch-admin, fetched_by, one-quiet}
 use Rattle.nvme_fleet.proofs.Seating.{controller-there, get-set, others-set}
-use Rattle.nvme_fleet.proofs.PlainCalls.{IsPlain, plain-first}
+use Rattle.nvme_fleet.proofs.PlainCalls.{IsPlain}
 
 -- Runs of one event, and of two.
 
@@ -36,13 +35,9 @@ two-ran tells a b e f (x ∷ xs) (mid, step, rest) =
 
 -- A controller that reacts.
 
--- the subsystem where a controller has become so
-abbrev pub put : Subsystem → ℕ → Controller → Subsystem
-put s i c = record s { controllers = slice_set s.controllers i c }
-
 pub record HasReacted (a b : Subsystem) (i : ℕ) (r : Reaction) (given : Seen) : Type 0 where
   pub gives : given ≡ r.seen
-  pub leaves : b ≡ put a i r.controller
+  pub leaves : b ≡ with_controller_at a i r.controller
 
 pub reacted-as : (a b : Subsystem) (k i : ℕ) (f : Controller → Reaction) (given : Seen) → k ≡ i + 1 → i < length a.controllers → Reacts a k f given b → HasReacted a b i (f (controller_in a i)) given
 unfolding with_controller_of
@@ -53,11 +48,11 @@ reacted-as a b k i f given at there h =
     record { gives = r.0; leaves = r.1 ∙ ap (λ cs. (let s : Subsystem = record a { controllers = cs } in s)) (numbers.replaced-at a.controllers k i d.controller at) }
 
 -- what a call leaves where it reaches a controller
-record IsPut (a b : Subsystem) (i : ℕ) (s : Setting) : Type 0 where
-  setting_is : setting_in b i ≡ s
-  others : KeepsOthers i a b
+pub record IsPut (a b : Subsystem) (i : ℕ) (s : Setting) : Type 0 where
+  pub setting_is : setting_in b i ≡ s
+  pub others : KeepsOthers i a b
 
-is-put : (a b : Subsystem) (i : ℕ) (s : Setting) → i < length a.controllers → b ≡ with_setting a i s → IsPut a b i s
+pub is-put : (a b : Subsystem) (i : ℕ) (s : Setting) → i < length a.controllers → b ≡ with_setting a i s → IsPut a b i s
 is-put a b i s there h =
     subst (λ x. IsPut a x i s) (sym h) (record {
       setting_is = ap (λ c. setting c s.world s.device) (get-set a.controllers i s.controller (new_controller 0) there);
@@ -103,12 +98,12 @@ plain-there tells (Reads offset v) a b i plain there s =
     record { step = (same-value v _ (same-first (Value v) r.gives (sym s.answers ∙ r.alone) ∙ p.gives), q.setting_is); others = q.others }
 plain-there tells Turns a b i plain there s = absurd plain
 
-turns-there : (tells : Bool) (a b : Subsystem) (i : ℕ) → AreAdmin (controller_in a i) → i < length a.controllers → (controller_in a i).cntlid ≡ i + 1 → CallStep tells (i + 1) a Turns b
+pub turns-there : (tells : Bool) (a b : Subsystem) (i : ℕ) → AreAdmin (controller_in a i) → i < length a.controllers → (controller_in a i).cntlid ≡ i + 1 → CallStep tells (i + 1) a Turns b
     → IsStepThere tells Turns a b i
 turns-there tells a b i admin there named s =
     let c : Controller = controller_in a i in
     let d : Controller = fetched_by c in
-    let mid : Subsystem = put a i d in
+    let mid : Subsystem = with_controller_at a i d in
     let r = two-ran tells a b (event.Fetch (i + 1) 0) (event.Execute (i + 1) 0) s.given s.run in
     let p = reacted-as a r.mid (i + 1) i (after_fetch 0) r.first refl there r.starts in
     let long : i < length mid.controllers = let e = length-set a.controllers i d in omega (arith, e, there) in
@@ -122,86 +117,6 @@ turns-there tells a b i admin there named s =
     let q = is-put a b i left there is in
     record { step = (e.executed, subst (ExecutesNth tells 0 (setting d a.world a.device) e.executed) (sym q.setting_is) e.executes); others = q.others }
 
--- A link goes on reaching its controller.
-
-same-length : (a b : Subsystem) (i : ℕ) → KeepsOthers i a b → length b.controllers ≡ length a.controllers
-same-length a b i others = ap (λ (s : Subsystem). length s.controllers) others ∙ length-set a.controllers i (controller_in b i)
-
-reaches-on : (p q : Linked) → KeepsOthers p.place p.subsystem q.subsystem → q.place ≡ p.place → (linked_controller q).cntlid ≡ (linked_controller p).cntlid → Reaches p → Reaches q
-reaches-on p q others place named h =
-    let e = same-length p.subsystem q.subsystem p.place others in
-    (omega (arith, e, h.0, place), named ∙ h.1 ∙ ap (λ n. n + 1) (sym place))
-
--- the step of a link that its calls are
-over-there : (tells : Bool) (call : Call) (p q : Linked) → q.place ≡ p.place → IsStepThere tells call p.subsystem q.subsystem p.place → step_of tells p call q
-over-there tells call p q place h =
-    (subst (λ n. LinkStep tells (linked_setting p) call (setting_in q.subsystem n)) (sym place) h.step, h.others, place)
-
--- Calls that grant no turn.
-
-pub calls-over : (tells : Bool) (calls : List Call) (p q : Linked) → IsPlain calls → Reaches p → Calls (CallOver tells) p calls q → Calls (step_of tells) p calls q
-calls-over tells [] p q plain at h = h
-calls-over tells (call ∷ calls) p q plain at (mid, over, rest) =
-    let two = plain-first call calls plain in
-    let step = over-there tells call p mid over.place (plain-there tells call p.subsystem mid.subsystem p.place two.0 at.0 over.step) in
-    let named = call-named tells call (linked_setting p) (linked_setting mid) step.0 in
-    (mid, step, calls-over tells calls mid q two.1 (reaches-on p mid step.1 step.2 named at) rest)
-
--- A driver that comes up.
-
-pub record IsFresh (i : ℕ) (p : Linked) : Type 0 where
-  pub reaches : Reaches p
-  pub admin : AreAdmin (linked_controller p)
-  pub place : p.place ≡ i
-
-call-there : (tells : Bool) (call : Call) (p q : Linked) → Reaches p → AreAdmin (linked_controller p) → CallOver tells p call q → IsStepThere tells call p.subsystem q.subsystem p.place
-call-there tells Turns p q at admin h = turns-there tells p.subsystem q.subsystem p.place admin at.0 at.1 h.step
-call-there tells call p q at admin h = plain-there tells call p.subsystem q.subsystem p.place tt at.0 h.step
-
-pub record IsFreshStep (tells : Bool) (i : ℕ) (call : Call) (p q : Linked) : Type 0 where
-  pub step : step_of tells p call q
-  pub fresh : IsFresh i q
-
-pub fresh-call : (tells : Bool) (i : ℕ) (call : Call) (p q : Linked) → IsFresh i p → CallOver tells p call q → IsFreshStep tells i call p q
-fresh-call tells i call p q f h =
-    let step = over-there tells call p q h.place (call-there tells call p q f.reaches f.admin h) in
-    record {
-      step = step;
-      fresh = record {
-        reaches = reaches-on p q step.1 step.2 (call-named tells call (linked_setting p) (linked_setting q) step.0) f.reaches;
-        admin = call-admin tells call (linked_setting p) (linked_setting q) step.0 f.admin;
-        place = step.2 ∙ f.place;
-      };
-    }
-
--- over the setting of its link
-pub rises-there : (tells : Bool) (i : ℕ) (d d' : Driver) (old new : Linked) (result : Result (Unit {0}) UpFault) → IsFresh i old → Rises (CallOver tells) bytes_of d old result d' new
-    → Rises (step_of tells) bytes_of d old result d' new
-rises-there tells i d d' old new result f h =
-    let m : IsMapped (λ (p : Linked). p) (CallOver tells) (step_of tells) bytes_of bytes_of (IsFresh i) = record {
-      call = λ call p q fresh over. let r = fresh-call tells i call p q fresh over in (r.step, r.fresh);
-      same = λ p fresh. refl;
-    } in
-    let r = rises-mapped (λ (p : Linked). p) (CallOver tells) (step_of tells) bytes_of bytes_of (IsFresh i) m d d' old new result f h in
-    r.0
-
 -- the window of a controller
 pub window-there : (s : Subsystem) (k i : ℕ) → k ≡ i + 1 → i < length s.controllers → window_at s k ≡ (controller_in s i).window
 window-there s k i at there = ap window_of (numbers.at-place s k i (controller_in s i) at (controller-there s i there))
-
--- over the subsystem
-pub rises-below : (tells : Bool) (i : ℕ) (d d' : Driver) (old new : Linked) (result : Result (Unit {0}) UpFault) → IsFresh i old → Rises (CallOver tells) bytes_of d old result d' new
-    → Rises (CallStep tells (i + 1)) (λ s. window_at s (i + 1)) d old.subsystem result d' new.subsystem
-rises-below tells i d d' old new result f h =
-    let m : IsMapped (λ (p : Linked). p.subsystem) (CallOver tells) (CallStep tells (i + 1)) bytes_of (λ s. window_at s (i + 1)) (IsFresh i) = record {
-      call = λ call p q fresh over. (
-        subst (λ n. CallStep tells (n + 1) p.subsystem call q.subsystem) fresh.place over.step,
-        (let r = fresh-call tells i call p q fresh over in r.fresh),
-      );
-      same = λ p fresh.
-          (let at = fresh.reaches in
-          let is = fresh.place in
-          window-there p.subsystem (i + 1) i refl (omega (arith, at.0, is)) ∙ ap (λ n. (controller_in p.subsystem n).window) (sym is));
-    } in
-    let r = rises-mapped (λ (p : Linked). p.subsystem) (CallOver tells) (CallStep tells (i + 1)) bytes_of (λ s. window_at s (i + 1)) (IsFresh i) m d d' old new result f h in
-    r.0
