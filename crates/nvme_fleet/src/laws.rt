@@ -98,6 +98,7 @@ pub fn events_are_steps()
 /// A driver that is down, at its controller that is off, always comes up: each call of its port being an event of the
 /// controller, and each turn a fetch from the admin queue and an execution, both queues are created, and this is the
 /// step of the mailbox. Access state and medium stay.
+#[tactic(auto, using(crate::proofs::RiseStep::bring_up_is_a_step))]
 pub fn bringing_up_is_a_step()
     ensures up { BringUpIsAStep }
 {}
@@ -134,6 +135,7 @@ pub fn executions_are_steps()
 /// changes none of its bytes, until a reservation command on it is executed that all rules let pass, or power is lost
 /// that its reservation does not outlast; and no event changes a byte of the memory that another host shares with its
 /// controller, nor does a power cycle of any.
+#[tactic(auto, using(crate::proofs::Bytes::runs_of_mailboxes, crate::proofs::Bytes::layout_stays, crate::proofs::Bytes::fenced_events_write_nothing, crate::proofs::Bytes::permissions_stay, crate::proofs::Bytes::fencing_holds, crate::proofs::Bytes::others_windows_stay))]
 pub fn bytes_are_kept()
     ensures mailboxes { RunsOfMailboxes }
     ensures layout { LayoutStays }
