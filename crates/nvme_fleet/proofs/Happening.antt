@@ -1,12 +1,17 @@
 -- What each event leaves of both layers of a fleet.
-use Rattle.nvme_fleet.proofs.Words.{slice_get_within, same_Some, ◌≡◌, ℕ, zero, suc, ◌+◌, ◌-◌, ◌<◌, ◌≤◌, get_or, Bool, true, false, List, [], ◌∷◌, length, Option, None, Some, refl, sym, ap, subst, ◌∙◌, arith, slice_get, slice_set, is_some, nat_le, IfNone, IfSome, IsSome, if◌then◌else◌, none-some, slice_get_read, with_bytes, window_size, Driver, Event, Store, Write32, Fetched, Took, Idle, Seen, Controller, Reaction, SubmissionQueue, after_store, after_write32, wrote, after_fetch, fetched_from, fetchable, reaction, Subsystem, ReactsAs, controller_at, controller_of, at-place, executed-back, FleetSeen, Reply, data_len, DriverCall, DoesIfAny, plain, Fleet, Is, called, fetched_at, host_at, stored_seen, FleetState, IsCalled, IsSoundFleet, fleet_in, fleet_of, hosts_of, layers_of, reaction_to, reply_in, AppliesRaw, CallsAt, driver_at, told, with_driver, IsThere, KeepsOthers, controller_in, IsOfHost, raw_moment}
+use Rattle.nvme_fleet.proofs.Words.{AppliesRaw, Bool, CallsAt, Controller, DoesIfAny, Driver, DriverCall, Event, Executed, ExecutesItem, ExecutesOne, FetchedCommand, Fleet, FleetSeen, FleetState, Idle, IfNone, IfSome, Is, IsCalled, IsOfHost, IsSome, IsSoundFleet, IsThere, KeepsOthers, List, NoSuch, None, Option, Raw, Reaction, ReactsAs, Reply, Seen, Setting, Some, SoundBy, Store, SubmissionQueue, Subsystem, Took, WithDriver, Write32, [], after_fetch, after_store, after_write32, ap, arith, at-place, called, controller_at, controller_in, controller_of, data_len, driver_at, executed-back, false, fetchable, fetched_at, fetched_from, fleet_in, fleet_of, get_or, host_at, host_by, hosts_of, if◌then◌else◌, is_some, layers_of, length, mailbox, marks_after, marks_in, nat_le, none-some, plain, raw_fetch, raw_moment, reaction, reaction_to, refl, reply_in, same_Some, setting_of, settled, site_of, slice_get, slice_get_read, slice_get_within, slice_set, stored_seen, subst, suc, sym, told, true, window_size, with_bytes, with_driver, with_host, wrote, zero, ℕ, ◌+◌, ◌-◌, ◌<◌, ◌∙◌, ◌∷◌, ◌≡◌, ◌≤◌}
 use Rattle.nvme_machine.specs.declared.seen.Seen.TheVariants as given
-use Rattle.nvme_machine.specs.Subsystems.{Step, ExecutesAt}
+use Rattle.nvme_machine.specs.Subsystems.{Step, ExecutesAt, with_controller}
+use Rattle.nvme_subsys.proofs.Numbers as numbers
 use Rattle.nvme_event.specs.declared.seen.FleetSeen.TheVariants as seen
 use Rattle.nvme_mailbox.specs.Fleets as mailboxes
-use Rattle.nvme_fleet.proofs.FleetCalls.{changes, delivers, executes, fetches, is-not-raw, with-subsystem}
-use Rattle.nvme_fleet.proofs.Reaching.{reacted-as}
+use Rattle.nvme_mailbox.specs.Fleets.{Host}
+use Rattle.nvme_fleet.proofs.ExecuteStep.{execution_is_a_step}
+use Rattle.nvme_fleet.proofs.FetchStep.{fetch_is_a_step}
+use Rattle.nvme_fleet.proofs.FleetStep.{execution_is_a_fleet_step}
+use Rattle.nvme_fleet.proofs.PostStep.{nothing_to_execute}
 use Rattle.nvme_fleet.proofs.Seating.{controller-there}
+use Rattle.nvme_fleet.proofs.Seats.{IsSeat, has-driver, has-settled, host-same, reseated, seat}
 
 -- What an event of the subsystem gives brings no data.
 told-plain : (x : Seen) (buffer : List ℕ) → reply_in (told x) buffer ≡ plain (told x)
@@ -54,18 +59,16 @@ place-is k h = omega (arith, h)
 pub place-below : (s : Subsystem) (k : ℕ) → IsThere s k → k - 1 < length s.controllers
 place-below s k h = omega (arith, h.0, h.1)
 
+found-there : (s : Subsystem) (k : ℕ) → IsThere s k → controller_at s k ≡ Some (controller_in s (k - 1))
+found-there s k there = at-place s k (k - 1) (controller_in s (k - 1)) (place-is k there.0) (controller-there s (k - 1) (place-below s k there))
+
 pub controller-is-in : (s : Subsystem) (k : ℕ) (c : Controller) → controller_at s k ≡ Some c → controller_in s (k - 1) ≡ c
-unfolding controller_at
-controller-is-in s zero c h = absurd (cc)
-controller-is-in s (suc n) c h =
-    let lt = slice_get_within s.controllers n c h in
-    let e : suc n - 1 ≡ n = omega arith in
-    ap (controller_in s) e ∙ same_Some (controller_in s n) c (sym (controller-there s n lt) ∙ h)
+controller-is-in s k c h = same_Some (controller_in s (k - 1)) c (sym (found-there s k (is-there s k c h)) ∙ h)
 
 -- what is lent of it
 pub is-some-there : {A : Type 0} (o : Option A) (s : Subsystem) (k : ℕ) → IsThere s k → IfNone o (controller_at s k ≡ None) → IsSome o
 is-some-there (Some x) s k there h = refl
-is-some-there None s k there h = absurd (none-some _ (sym h ∙ at-place s k (k - 1) (controller_in s (k - 1)) (place-is k there.0) (controller-there s (k - 1) (place-below s k there))))
+is-some-there None s k there h = absurd (none-some _ (sym h ∙ found-there s k there))
 
 pub lent-there : {A : Type 0} (f : A → Controller) (o : Option A) (x : A) (s : Subsystem) (k : ℕ) → o ≡ Some x → IfSome o (λ y. controller_at s k ≡ Some (f y)) → controller_in s (k - 1) ≡ f x
 lent-there f o x s k is h = controller-is-in s k (f x) (subst (λ p. IfSome p (λ y. controller_at s k ≡ Some (f y))) is h)
@@ -83,15 +86,17 @@ driver-there a k d s there is =
     let pairs = s.pairs in
     driver-is a.drivers k (k - 1) (place-is k there.0) ∙ slice_get_read a.drivers (length a.drivers) (k - 1) d refl (omega (arith, pairs, there.0, there.1)) is
 
--- A driver's call.
-pub delivered-below : (tells : Bool) (a : FleetState) (new : Subsystem) (k : ℕ) (d e : Option Driver) (call : DriverCall) (what : FleetSeen) → IsSoundFleet a → IsThere a.subsystem k → d ≡ get_or a.drivers (k - 1) d
-    → DoesIfAny tells k call d a.subsystem what e new
-    → CallsAt (driver_at a.drivers k) tells (layers_of a) k call what (record { subsystem = new; drivers = slice_set a.drivers (k - 1) e })
-delivered-below tells a new k d e call what s there is does =
-    subst (λ o. CallsAt o tells (layers_of a) k call what (record { subsystem = new; drivers = slice_set a.drivers (k - 1) e })) (sym (driver-there a k d s there is))
-    (e, put-is a.drivers k (k - 1) e (place-is k there.0), does)
+seat-there : (a : FleetState) (k : ℕ) (d : Option Driver) → IsSoundFleet a → IsThere a.subsystem k → d ≡ get_or a.drivers (k - 1) d → IsSeat a k d (controller_in a.subsystem (k - 1))
+seat-there a k d s there is = seat a k d (controller_in a.subsystem (k - 1)) s (driver-there a k d s there is) (found-there a.subsystem k there)
+
+pub sound-at : (a : FleetState) (k : ℕ) (d : Option Driver) → IsSoundFleet a → IsThere a.subsystem k → d ≡ get_or a.drivers (k - 1) d → SoundBy d (controller_in a.subsystem (k - 1))
+sound-at a k d s there is = let t = seat-there a k d s there is in t.sound
 
 -- What one event of the subsystem leaves of the fleet.
+
+abbrev pub with-subsystem : FleetState → Subsystem → FleetState
+with-subsystem a s = record a { subsystem = s }
+
 pub record HasApplied (P : Reply → Fleet → Type 0) (a : FleetState) (new : Subsystem) (what : FleetSeen) : Type 0 where
   pub step : P (reply_in what a.buffer) (fleet_of (with-subsystem a new))
   pub sound : IsSoundFleet (with-subsystem a new)
@@ -107,47 +112,96 @@ has-applied P a new x step sound = record {
 same-given : (P : Reply → Fleet → Type 0) (a : FleetState) (new : Subsystem) (x y : Seen) → x ≡ y → HasApplied P a new (told y) → HasApplied P a new (told x)
 same-given P a new x y e h = subst (λ z. HasApplied P a new (told z)) (sym e) h
 
-still : (P : Reply → Fleet → Type 0) (a : FleetState) (new : Subsystem) (x : Seen) → new ≡ a.subsystem → IsSoundFleet a → P (plain (told x)) (fleet_of a) → HasApplied P a new (told x)
-still P a new x e s step = subst (λ n. HasApplied P a n (told x)) (sym e) (has-applied P a a.subsystem x step s)
+still : (P : Reply → Fleet → Type 0) (a : FleetState) (new : Subsystem) (x y : Seen) → x ≡ y → new ≡ a.subsystem → IsSoundFleet a → P (plain (told y)) (fleet_of a) → HasApplied P a new (told x)
+still P a new x y e same s step = same-given P a new x y e (subst (λ n. HasApplied P a n (told y)) (sym same) (has-applied P a a.subsystem y step s))
 
 -- A fetch.
-from-gives : (q : ℕ) (c : Controller) (o : Option SubmissionQueue) → (what : Fetched) × (given.Fetched what ≡ (let r : Reaction = fetched_from q c o in r.seen))
-from-gives q c None = (Idle, refl)
-from-gives q c (Some s) = (Took, refl)
 
-fetch-gives : (q : ℕ) (c : Controller) → (what : Fetched) × (given.Fetched what ≡ (let r : Reaction = after_fetch q c in r.seen))
+seen-from : (q : ℕ) (c : Controller) (o : Option SubmissionQueue) → (fetched_from q c o).seen ≡ given.Fetched (if is_some o then Took else Idle)
+seen-from q c None = refl
+seen-from q c (Some s) = refl
+
+fetch-gives : (q : ℕ) (c : Controller) → (after_fetch q c).seen ≡ given.Fetched (raw_fetch c q)
 unfolding after_fetch
-fetch-gives q c = from-gives q c (fetchable c q)
+fetch-gives q c = seen-from q c (fetchable c q)
+
+-- it is the step of the host, and leaves its driver sound
+record HasFetched (f g : Fleet) (k q : ℕ) (d : Option Driver) (c : Controller) : Type 0 where
+  step : g ≡ with_host f k (host_by d (after_fetch q c).controller) → Is (fetched_at (Some (host_by d c)) f k q) (plain (seen.Fetched (raw_fetch c q))) g
+  sound : SoundBy d (after_fetch q c).controller
+
+has-fetched : (f g : Fleet) (k q : ℕ) (d : Option Driver) (c : Controller) → SoundBy d c → HasFetched f g k q d c
+has-fetched f g k q None c s = record { step = λ h. (refl, h); sound = tt }
+has-fetched f g k q (Some d) c s =
+    let r = fetch_is_a_step d c q s in
+    record { step = λ h. (sym r.gives, h ∙ ap (λ m. with_host f k (WithDriver m)) (sym r.mail)); sound = r.sound }
 
 fetched-if : (o : Option Controller) (a : FleetState) (new : Subsystem) (k q : ℕ) (x : Seen) → controller_at a.subsystem k ≡ o → IsSoundFleet a → ReactsAs o a.subsystem k (after_fetch q) x new
     → HasApplied (λ r f. Is (fetched_at (host_at (fleet_of a) k) (fleet_of a) k q) r f) a new (told x)
 fetched-if None a new k q x at s h =
-    same-given _ a new x given.NoController h.0 (still _ a new given.NoController h.1 s
-    (subst (λ o. Is (fetched_at o (fleet_of a) k q) (plain seen.NoController) (fleet_of a)) (sym (host-none a k at)) (refl, refl)))
+    still _ a new x given.NoController h.0 h.1 s (subst (λ o. Is (fetched_at o (fleet_of a) k q) (plain seen.NoController) (fleet_of a)) (sym (host-none a k at)) (refl, refl))
 fetched-if (Some c) a new k q x at s h =
-    let there = is-there a.subsystem k c at in
-    let i : ℕ = k - 1 in
-    let lt = place-below a.subsystem k there in
-    let r = reacted-as a.subsystem new k i (after_fetch q) x (place-is k there.0) lt (subst (λ o. ReactsAs o a.subsystem k (after_fetch q) x new) (sym at) h) in
-    let w = fetch-gives q (controller_in a.subsystem i) in
-    let f = fetches a new k i q w.0 (place-is k there.0) lt s w.1 r.leaves in
-    same-given _ a new x (given.Fetched w.0) (r.gives ∙ sym w.1) (has-applied _ a new (given.Fetched w.0) f.step f.sound)
+    let d = has-driver a k c s at in
+    let t = seat a k d.0 c s d.1 at in
+    let b : FleetState = with-subsystem a new in
+    let f = has-fetched (fleet_of a) (fleet_of b) k q d.0 c t.sound in
+    let r = reseated a b k d.0 (after_fetch q c).controller s f.sound (sym t.kept) h.1 refl refl in
+    same-given _ a new x (given.Fetched (raw_fetch c q)) (h.0 ∙ fetch-gives q c) (has-applied _ a new (given.Fetched (raw_fetch c q))
+    (subst (λ o. Is (fetched_at o (fleet_of a) k q) (plain (seen.Fetched (raw_fetch c q))) (fleet_of b)) (sym t.host) (f.step r.fleet)) r.sound)
 
 pub fetched-there : (a : FleetState) (new : Subsystem) (k q : ℕ) (x : Seen) → IsSoundFleet a → ReactsAs (controller_at a.subsystem k) a.subsystem k (after_fetch q) x new
     → HasApplied (λ r f. Is (fetched_at (host_at (fleet_of a) k) (fleet_of a) k q) r f) a new (told x)
 fetched-there a new k q x s h = fetched-if (controller_at a.subsystem k) a new k q x refl s h
 
 -- An execution.
+
+-- the driver stays, the controller has become so, and the hosts that this removes are marked
+settles : (tells : Bool) (a : FleetState) (new : Subsystem) (k n : ℕ) (d : Option Driver) (c : Controller) (x : Seen) (executed : Executed) (left : Setting) → IsSoundFleet a → IsThere a.subsystem k → IsSeat a k d c → SoundBy d left.controller
+    → x ≡ given.Executed executed → new ≡ numbers.with_outcome executed (numbers.after-set a.subsystem (k - 1) left)
+    → mailboxes.ExecutesAt (host_at (fleet_of a) k) tells (fleet_of a) k n (plain (seen.Executed executed)) (settled (fleet_of a) k (site_of left) (host_by d left.controller) (marks_in executed))
+    → HasApplied (λ r f. mailboxes.ExecutesAt (host_at (fleet_of a) k) tells (fleet_of a) k n r f) a new (told x)
+settles tells a new k n d c x executed left s there t sound gives leaves step =
+    let at = ap (λ cs. (let b : Subsystem = record { world = left.world; device = left.device; controllers = marks_after left.world executed cs } in b)) (sym (numbers.replaced-at a.subsystem.controllers k (k - 1) left.controller (place-is k there.0))) in
+    let r = has-settled a (with-subsystem a new) k d executed left s sound t.kept refl (leaves ∙ at) in
+    same-given _ a new x (given.Executed executed) gives (has-applied _ a new (given.Executed executed)
+    (subst (mailboxes.ExecutesAt (host_at (fleet_of a) k) tells (fleet_of a) k n (plain (seen.Executed executed))) (sym r.fleet) step) r.sound)
+
+-- of a host with this driver, if it has one, whose controller has fetched this command, if it is there
+executed-by : (d : Option Driver) (o : Option FetchedCommand) (tells : Bool) (a : FleetState) (new : Subsystem) (k n : ℕ) (x : Seen) → slice_get (controller_in a.subsystem (k - 1)).fetched n ≡ o → IsSoundFleet a → IsThere a.subsystem k
+    → IsSeat a k d (controller_in a.subsystem (k - 1)) → (controller_in a.subsystem (k - 1)).cntlid ≡ k → ExecutesAt (controller_at a.subsystem k) tells a.subsystem k n x new
+    → HasApplied (λ r f. mailboxes.ExecutesAt (host_at (fleet_of a) k) tells (fleet_of a) k n r f) a new (told x)
+unfolding fleet_in
+executed-by None o tells a new k n x at s there t named h =
+    let c : Controller = controller_in a.subsystem (k - 1) in
+    let f : Fleet = fleet_of a in
+    let e = executed-back tells a.subsystem k (k - 1) c n x new (place-is k there.0) (controller-there a.subsystem (k - 1) (place-below a.subsystem k there)) named h in
+    settles tells a new k n None c x e.executed e.left s there t tt e.gives e.leaves
+    (subst (λ y. mailboxes.ExecutesAt y tells f k n (plain (seen.Executed e.executed)) (settled f k (site_of e.left) (host_by None e.left.controller) (marks_in e.executed))) (sym t.host)
+    (record { executed = e.executed; left = e.left; executes = e.executes; gives = refl; leaves = refl }))
+executed-by (Some d) (Some command) tells a new k n x at s there t named h =
+    let c : Controller = controller_in a.subsystem (k - 1) in
+    let f : Fleet = fleet_of a in
+    let e = executed-back tells a.subsystem k (k - 1) c n x new (place-is k there.0) (controller-there a.subsystem (k - 1) (place-below a.subsystem k there)) named h in
+    let r = execution_is_a_step tells d n command (setting_of f c) e.executed e.left t.sound at e.executes in
+    settles tells a new k n (Some d) c x e.executed e.left s there t r.sound e.gives e.leaves
+    (execution_is_a_fleet_step tells f k d c n command e.executed e.left t.sound named t.host at e.executes)
+executed-by (Some d) None tells a new k n x at s there t named h =
+    let c : Controller = controller_in a.subsystem (k - 1) in
+    let f : Fleet = fleet_of a in
+    let one : ExecutesOne (slice_get c.fetched n) tells a.subsystem k c n x new = subst (λ o. ExecutesAt o tells a.subsystem k n x new) (found-there a.subsystem k there) h in
+    let none : ExecutesOne None tells a.subsystem k c n x new = subst (λ o. ExecutesOne o tells a.subsystem k c n x new) at one in
+    still _ a new x (given.Executed NoSuch) none.0 none.1 s (subst (λ y. mailboxes.ExecutesAt y tells f k n (plain (seen.Executed NoSuch)) f) (sym t.host)
+    (subst (λ y. ExecutesItem y tells f k (mailbox d c) n (plain (seen.Executed NoSuch)) f) (sym (nothing_to_execute d c n at)) (refl, refl)))
+
 pub executed-there : (tells : Bool) (a : FleetState) (new : Subsystem) (k n : ℕ) (x : Seen) → IsSoundFleet a → IsThere a.subsystem k → (controller_in a.subsystem (k - 1)).cntlid ≡ k
     → ExecutesAt (controller_at a.subsystem k) tells a.subsystem k n x new → HasApplied (λ r f. mailboxes.ExecutesAt (host_at (fleet_of a) k) tells (fleet_of a) k n r f) a new (told x)
 executed-there tells a new k n x s there named h =
-    let i : ℕ = k - 1 in
-    let lt = place-below a.subsystem k there in
-    let e = executed-back tells a.subsystem k i (controller_in a.subsystem i) n x new (place-is k there.0) (controller-there a.subsystem i lt) named h in
-    let r = executes tells a new k i n e.executed (place-is k there.0) lt (named ∙ place-is k there.0) s (record { left = e.left; executes = e.executes; leaves = e.leaves }) in
-    same-given _ a new x (given.Executed e.executed) e.gives (has-applied _ a new (given.Executed e.executed) r.step r.sound)
+    let c : Controller = controller_in a.subsystem (k - 1) in
+    let d = has-driver a k c s (found-there a.subsystem k there) in
+    executed-by d.0 (slice_get c.fetched n) tells a new k n x refl s there (seat a k d.0 c s d.1 (found-there a.subsystem k there)) named h
 
 -- An event of a raw host.
+
 stored-if : (b : Bool) (address : ℕ) (bytes : List ℕ) (c : Controller)
     → told (let r : Reaction = (if b then reaction (record c { window = with_bytes c.window address bytes }) given.Stored else reaction c given.Outside) in r.seen) ≡ (if b then seen.Stored else seen.Outside)
 stored-if true address bytes c = refl
@@ -157,38 +211,47 @@ stored-gives : (address : ℕ) (bytes : List ℕ) (c : Controller) → told (let
 unfolding after_store
 stored-gives address bytes c = stored-if (nat_le (address + length bytes) window_size) address bytes c
 
+none-is : (d : Option Driver) → is_some d ≡ false → d ≡ None
+none-is None h = refl
+none-is (Some d) h = absurd (cc)
+
+changes : (a : FleetState) (new : Subsystem) (k : ℕ) (d : Option Driver) (f : Controller → Reaction) (what : FleetSeen) (x : Seen) → IsSoundFleet a → IsThere a.subsystem k → d ≡ get_or a.drivers (k - 1) d → is_some d ≡ false
+    → ((c : Controller) → told (f c).seen ≡ what) → ReactsAs (controller_at a.subsystem k) a.subsystem k f x new
+    → HasApplied (λ r g. Is (mailboxes.raw_at (host_at (fleet_of a) k) (fleet_of a) k (λ c. (f c).controller) what) r g) a new (told x)
+changes a new k d f what x s there is none gives h =
+    let c : Controller = controller_in a.subsystem (k - 1) in
+    let b : FleetState = with-subsystem a new in
+    let t : IsSeat a k None c = subst (λ e. IsSeat a k e c) (none-is d none) (seat-there a k d s there is) in
+    let r = subst (λ o. ReactsAs o a.subsystem k f x new) (found-there a.subsystem k there) h in
+    let p = reseated a b k None (f c).controller s tt (sym t.kept) r.1 refl refl in
+    has-applied _ a new x (subst (λ o. Is (mailboxes.raw_at o (fleet_of a) k (λ y. (f y).controller) what) (plain (told x)) (fleet_of b)) (sym t.host) (ap plain (ap told r.0 ∙ gives c), p.fleet)) p.sound
+
 pub applied-raw : (tells : Bool) (a : FleetState) (new : Subsystem) (k : ℕ) (d : Option Driver) (event : Event) (x : Seen) → IsSoundFleet a → IsThere a.subsystem k → d ≡ get_or a.drivers (k - 1) d → is_some d ≡ false
     → controller_of event ≡ k → IsOfHost event → Step tells a.subsystem event x new → HasApplied (λ r f. Is (raw_moment (fleet_of a) event) r f) a new (told x)
-applied-raw tells a new k d (Store j address bytes) x s there is none own host h =
-    let i : ℕ = k - 1 in
-    let pairs = s.pairs in
-    let lt = place-below a.subsystem k there in
-    let at : j ≡ i + 1 = own ∙ place-is k there.0 in
-    let r = reacted-as a.subsystem new j i (after_store address bytes.now) x at lt h in
-    let ch = changes a new j i d (λ (y : Controller). (after_store address bytes.now y).controller) (stored_seen address bytes.now) at lt (omega (arith, pairs, lt)) is none s r.leaves in
-    let same : told x ≡ stored_seen address bytes.now = ap told r.gives ∙ stored-gives address bytes.now (controller_in a.subsystem i) in
-    has-applied _ a new x (subst (λ w. Is (mailboxes.raw_stored (fleet_of a) j address bytes.now) (plain w) (fleet_of (with-subsystem a new))) (sym same) ch.step) ch.sound
-applied-raw tells a new k d (Write32 j offset v) x s there is none own host h =
-    let i : ℕ = k - 1 in
-    let pairs = s.pairs in
-    let lt = place-below a.subsystem k there in
-    let at : j ≡ i + 1 = own ∙ place-is k there.0 in
-    let r = reacted-as a.subsystem new j i (wrote offset v) x at lt h in
-    let ch = changes a new j i d (after_write32 offset v) seen.Wrote at lt (omega (arith, pairs, lt)) is none s r.leaves in
-    has-applied _ a new x (subst (λ w. Is (mailboxes.raw_wrote (fleet_of a) j offset v) (plain w) (fleet_of (with-subsystem a new))) (sym (ap told r.gives)) ch.step) ch.sound
-applied-raw tells a new k d event x s there is none own host h = absurd host
+applied-raw tells a new k d event x s there is none own host h = by event own host h
+  where
+    by : (e : Event) → controller_of e ≡ k → IsOfHost e → Step tells a.subsystem e x new → HasApplied (λ r f. Is (raw_moment (fleet_of a) e) r f) a new (told x)
+    by (Store j address bytes) same h step = changes a new j d (after_store address bytes.now) (stored_seen address bytes.now) x s (subst (IsThere a.subsystem) (sym same) there) (subst (λ n. d ≡ get_or a.drivers (n - 1) d) (sym same) is) none (stored-gives address bytes.now) step
+    by (Write32 j offset v) same h step = changes a new j d (wrote offset v) seen.Wrote x s (subst (IsThere a.subsystem) (sym same) there) (subst (λ n. d ≡ get_or a.drivers (n - 1) d) (sym same) is) none (λ c. refl) step
+    by e same h step = absurd h
+
+-- one that has a driver is refused
+refuses : (d : Option Driver) (a : FleetState) (k : ℕ) (c : Controller) (change : Controller → Controller) (what : FleetSeen) → IsSeat a k d c → is_some d ≡ true
+    → Is (mailboxes.raw_at (host_at (fleet_of a) k) (fleet_of a) k change what) (plain seen.NotRaw) (fleet_of a)
+refuses None a k c change what t some = absurd (cc)
+refuses (Some d) a k c change what t some = subst (λ o. Is (mailboxes.raw_at o (fleet_of a) k change what) (plain seen.NotRaw) (fleet_of a)) (sym t.host) (refl, refl)
 
 pub refused-raw : (a : FleetState) (k : ℕ) (d : Option Driver) (event : Event) → IsSoundFleet a → IsThere a.subsystem k → d ≡ get_or a.drivers (k - 1) d → is_some d ≡ true → controller_of event ≡ k → IsOfHost event
     → Is (raw_moment (fleet_of a) event) (plain seen.NotRaw) (fleet_of a)
-refused-raw a k d (Store j address bytes) s there is some own host =
-    let pairs = s.pairs in
-    let lt = place-below a.subsystem k there in
-    is-not-raw a j (k - 1) d (λ (y : Controller). (after_store address bytes.now y).controller) (stored_seen address bytes.now) (own ∙ place-is k there.0) lt (omega (arith, pairs, lt)) is some
-refused-raw a k d (Write32 j offset v) s there is some own host =
-    let pairs = s.pairs in
-    let lt = place-below a.subsystem k there in
-    is-not-raw a j (k - 1) d (after_write32 offset v) seen.Wrote (own ∙ place-is k there.0) lt (omega (arith, pairs, lt)) is some
-refused-raw a k d event s there is some own host = absurd host
+refused-raw a k d event s there is some own host = by event own host
+  where
+    c : Controller
+    c = controller_in a.subsystem (k - 1)
+
+    by : (e : Event) → controller_of e ≡ k → IsOfHost e → Is (raw_moment (fleet_of a) e) (plain seen.NotRaw) (fleet_of a)
+    by (Store j address bytes) same h = refuses d a j c (λ (y : Controller). (after_store address bytes.now y).controller) (stored_seen address bytes.now) (subst (λ n. IsSeat a n d c) (sym same) (seat-there a k d s there is)) some
+    by (Write32 j offset v) same h = refuses d a j c (after_write32 offset v) seen.Wrote (subst (λ n. IsSeat a n d c) (sym same) (seat-there a k d s there is)) some
+    by e same h = absurd h
 
 -- the same below
 pub refused-below : (tells : Bool) (a : FleetState) (k : ℕ) (d : Option Driver) (event : Event) → driver_at a.drivers k ≡ Some d → is_some d ≡ true → AppliesRaw (driver_at a.drivers k) tells (layers_of a) event seen.NotRaw (layers_of a)
@@ -204,22 +267,55 @@ applied-below tells a new k None event x what at none step is =
     subst (λ o. AppliesRaw o tells (layers_of a) event what (record { subsystem = new; drivers = a.drivers })) (sym at) (record { given = x; step = step; gives = is; drivers = refl })
 applied-below tells a new k (Some d) event x what at none step is = absurd (cc)
 
--- What a driver's call leaves of the fleet.
+-- A driver's call.
+
+-- the host's step, and the driver is sound behind it
+record HasCalled (f g : Fleet) (k : ℕ) (h : Host) (call : DriverCall) (reply : Reply) (e : Option Driver) (x : Controller) : Type 0 where
+  step : host_at f k ≡ Some h → g ≡ with_host f k (host_by e x) → Is (mailboxes.called_at (Some h) f k (reaction_to call)) reply g
+  sound : SoundBy e x
+
+has-called : (f g : Fleet) (k : ℕ) (d e : Option Driver) (c x : Controller) (call : DriverCall) (reply : Reply) → SoundBy d c → IsCalled d c call e x reply → HasCalled f g k (host_by d c) call reply e x
+has-called f g k None e c x call reply s is = record {
+  step = λ at h. (is.2, h ∙ (λ j. with_host f k (host_by (is.0 j) (is.1 j))) ∙ host-same f k (Raw c) at);
+  sound = subst (λ p. SoundBy p x) (sym is.0) tt;
+}
+has-called f g k (Some d) e c x call reply s (y, same, step) = record {
+  step = λ at h. (sym step.gives, h ∙ ap (λ z. with_host f k (host_by z x)) same ∙ ap (λ m. with_host f k (WithDriver m)) (sym step.mail));
+  sound = subst (λ p. SoundBy p x) (sym same) step.sound;
+}
+
 pub record HasDelivered (tells : Bool) (a : FleetState) (new : Subsystem) (buffer : List ℕ) (k n : ℕ) (e : Option Driver) (call : DriverCall) (what : FleetSeen) : Type 0 where
   pub step : Is (called (fleet_of a) k (reaction_to call)) (reply_in what buffer) (fleet_of (record { subsystem = new; drivers = slice_set a.drivers n e; buffer = buffer; filled = a.filled }))
   pub sound : IsSoundFleet (record { subsystem = new; drivers = slice_set a.drivers n e; buffer = buffer; filled = a.filled })
   pub below : CallsAt (driver_at a.drivers k) tells (layers_of a) k call what (record { subsystem = new; drivers = slice_set a.drivers n e })
 
+delivered : (tells : Bool) (a : FleetState) (new : Subsystem) (buffer : List ℕ) (k : ℕ) (d e : Option Driver) (call : DriverCall) (what : FleetSeen) → IsSoundFleet a → IsThere a.subsystem k → d ≡ get_or a.drivers (k - 1) d
+    → IsCalled d (controller_in a.subsystem (k - 1)) call e (controller_in new (k - 1)) (reply_in what buffer) → new.world ≡ a.subsystem.world → new.device ≡ a.subsystem.device → KeepsOthers (k - 1) a.subsystem new → length buffer ≡ length a.buffer
+    → DoesIfAny tells k call d a.subsystem what e new → HasDelivered tells a new buffer k (k - 1) e call what
+unfolding with_controller
+delivered tells a new buffer k d e call what s there is calls world device others long does =
+    let i : ℕ = k - 1 in
+    let at = place-is k there.0 in
+    let x : Controller = controller_in new i in
+    let b : FleetState = record { subsystem = new; drivers = slice_set a.drivers i e; buffer = buffer; filled = a.filled } in
+    let t = seat-there a k d s there is in
+    let h = has-called (fleet_of a) (fleet_of b) k d e (controller_in a.subsystem i) x call (reply_in what buffer) t.sound calls in
+    let set = numbers.replaced-at a.subsystem.controllers k i x at in
+    let left : new ≡ with_controller a.subsystem k x = others ∙ (λ j. record { world = world j; device = device j; controllers = sym set j }) in
+    let r = reseated a b k e x s h.sound (put-is a.drivers k i e at) left long refl in
+    record {
+      step = subst (λ o. Is (mailboxes.called_at o (fleet_of a) k (reaction_to call)) (reply_in what buffer) (fleet_of b)) (sym t.host) (h.step t.host r.fleet);
+      sound = r.sound;
+      below = subst (λ o. CallsAt o tells (layers_of a) k call what (record { subsystem = new; drivers = slice_set a.drivers i e })) (sym (driver-there a k d s there is))
+          (e, put-is a.drivers k i e at, does);
+    }
+
 pub delivered-at : (tells : Bool) (a : FleetState) (new : Subsystem) (buffer : List ℕ) (k n : ℕ) (d e : Option Driver) (call : DriverCall) (what : FleetSeen) → IsSoundFleet a → IsThere a.subsystem k → n ≡ k - 1 → d ≡ get_or a.drivers n d
     → IsCalled d (controller_in a.subsystem (k - 1)) call e (controller_in new (k - 1)) (reply_in what buffer) → new.world ≡ a.subsystem.world → new.device ≡ a.subsystem.device → KeepsOthers (k - 1) a.subsystem new → length buffer ≡ length a.buffer
     → DoesIfAny tells k call d a.subsystem what e new → HasDelivered tells a new buffer k n e call what
 delivered-at tells a new buffer k n d e call what s there at is calls world device others long does =
-    let pairs = s.pairs in
-    let lt = place-below a.subsystem k there in
-    let is' : d ≡ get_or a.drivers (k - 1) d = subst (λ m. d ≡ get_or a.drivers m d) at is in
-    let r = delivers a new buffer k (k - 1) d e call (reply_in what buffer) (place-is k there.0) lt (omega (arith, pairs, lt)) is' s calls world device others long in
-    let b = delivered-below tells a new k d e call what s there is' does in
-    subst (λ m. HasDelivered tells a new buffer k m e call what) (sym at) (record { step = r.step; sound = r.sound; below = b })
+    subst (λ m. HasDelivered tells a new buffer k m e call what) (sym at)
+    (delivered tells a new buffer k d e call what s there (subst (λ m. d ≡ get_or a.drivers m d) at is) calls world device others long does)
 
 pub missed-call : (tells : Bool) (a : FleetState) (k : ℕ) (call : DriverCall) → driver_at a.drivers k ≡ None → CallsAt (driver_at a.drivers k) tells (layers_of a) k call seen.NoController (layers_of a)
 missed-call tells a k call at = subst (λ o. CallsAt o tells (layers_of a) k call seen.NoController (layers_of a)) (sym at) (refl, refl)

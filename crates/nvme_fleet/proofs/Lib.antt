@@ -51,10 +51,7 @@ pub mod FleetStep
 pub mod Seating
 pub mod SoundOpening
 pub mod Hosting
-pub mod Hosted
-pub mod HostedExecutions
-pub mod FleetSound
-pub mod FleetCalls
+pub mod Seats
 pub mod FleetOpening
 pub mod FleetRuns
 pub mod AdminTurns

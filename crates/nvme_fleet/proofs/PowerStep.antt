@@ -8,7 +8,7 @@ use Rattle.nvme_mailbox.specs.Fleets as mailboxes
 use Rattle.nvme_event.specs.declared.seen.FleetSeen.TheVariants as seen
 use Rattle.nvme_fleet.proofs.Registering.{disabled-off}
 use Rattle.nvme_fleet.proofs.Resetting.{reset-sound, reset-mail}
-use Rattle.nvme_fleet.proofs.HostedExecutions.{AllSound}
+use Rattle.nvme_fleet.proofs.Seats.{AllSound}
 
 -- One host.
 

@@ -1,8 +1,7 @@
 use Rattle.nvme_fleet.proofs.Words.{◌≡◌, ◌-◌, ◌++◌, None, get_or, length, take, drop, sym, ap, subst, arith, slice_set, controller_at, refill-all, Is, called, FleetState, IsSoundFleet, fleet_of, layers_of, reaction_to, reply_in, CallsAt, driver_at, IsThere, state-is}
 use Rattle.nvme_event.specs.Bare.{seen_of}
 use Rattle.nvme_event.specs.declared.seen.FleetSeen.TheVariants as seen
-use Rattle.nvme_fleet.proofs.FleetCalls.{sound-at}
-use Rattle.nvme_fleet.proofs.Happening.{delivered-at, driver-none, missed-call, place-below}
+use Rattle.nvme_fleet.proofs.Happening.{delivered-at, driver-none, missed-call, sound-at}
 use Rattle.nvme_fleet.proofs.fleet.Fleet.deliver.Goals as goal
 
 pub returns-in_default-clause-below : goal.returns-in_default-clause-below
@@ -15,13 +14,10 @@ returns-in_default-clause-below g c =
 pub deliver-requires-clause-sound : goal.deliver-requires-clause-sound
 deliver-requires-clause-sound g c =
     let a : FleetState = record { subsystem = c.self.inside.subsystem.state; drivers = c.self.inside.drivers.items; buffer = c.self.inside.buffer.items; filled = c.self.inside.filled } in
-    let s = c.self.invariant in
-    let pairs = s.pairs in
     let there = subst (λ (t : FleetState). IsThere t.subsystem c.args.cntlid) (sym (state-is c.self.view_is)) c.in-Some.ensures.some.1 in
-    let lt = place-below c.self.inside.subsystem.state c.args.cntlid there in
     let is : c.index_mut.result.now ≡ get_or c.self.inside.drivers.items (c.args.cntlid - 1) c.index_mut.result.now =
     subst (λ n. c.index_mut.result.now ≡ get_or c.self.inside.drivers.items n c.index_mut.result.now) c.in-Some.ensures.some.0 c.index_mut.ensures.value in
-    sound-at a (c.args.cntlid - 1) c.index_mut.result.now lt (omega (arith, lt, pairs)) is s
+    sound-at a c.args.cntlid c.index_mut.result.now c.self.invariant there is
 
 pub invariant_of-self : goal.invariant_of-self
 invariant_of-self g c =
