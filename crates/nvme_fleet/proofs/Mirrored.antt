@@ -1,6 +1,6 @@
 -- What calls of a driver make of a subsystem, they make of it over another medium: events that execute nothing do not
 -- look at it, and a driver that comes up has admin commands alone executed.
-use Rattle.nvme_fleet.proofs.Words.{◌≡◌, ◌⊎◌, inl, inr, ℕ, ◌+◌, ◌==◌, length, Bool, true, false, List, [], ◌∷◌, Option, None, Some, Result, refl, sym, ap, subst, ◌∙◌, slice_get, if◌then◌else◌, nat_le, none-some, same_Some, RegEffect, Nothing, Enable, Disable, Off, AdminQueues, Queues, Scene, Registers, Written, Device, with_bytes, no_marks, window_size, UpFault, Call, Stores, Writes, Reads, Turns, Calls, Driver, CreatesBoth, Rises, acq_high, acq_low, admin_sizes, aqa, asq_high, asq_low, csts, enabling, is_ready, start_calls, started, IsMapped, both-mapped, Event, FetchedCommand, Seen, CommandComesTo, CommandComesToAs, CommandExecution, Controller, QueuePair, Reaction, after_posting, after_store, after_write32, has_read, open_pair, queues_of, reaction, taking_effect, with_admin_queues, over, ExecutesOne, ExecutesOver, ReactsAs, Subsystem, after_completion, after_power_cycle, controller_at, scene_of, unmarked, command_execution_over, scene_over, CallStep, events_of, window_at}
+use Rattle.nvme_fleet.proofs.Words.{◌≡◌, ◌⊎◌, inl, inr, ℕ, ◌+◌, ◌==◌, length, Bool, true, false, List, [], ◌∷◌, Option, None, Some, Result, refl, sym, ap, subst, ◌∙◌, slice_get, if◌then◌else◌, nat_le, none-some, same_Some, RegEffect, Nothing, Enable, Disable, Off, AdminQueues, Queues, Scene, Registers, Written, Device, with_bytes, no_marks, window_size, UpFault, Call, Stores, Writes, Reads, Turns, Calls, Driver, CreatesBoth, Rises, acq_high, acq_low, aqa, asq_high, asq_low, csts, enabling, is_ready, start_calls, started, IsMapped, both-mapped, Event, FetchedCommand, Seen, CommandComesTo, CommandComesToAs, CommandExecution, Controller, QueuePair, Reaction, after_posting, after_store, after_write32, has_read, open_pair, queues_of, reaction, taking_effect, with_admin_queues, over, ExecutesOne, ExecutesOver, ReactsAs, Subsystem, after_completion, after_power_cycle, controller_at, scene_of, unmarked, command_execution_over, scene_over, CallStep, events_of, window_at, after_call}
 use Rattle.nvme_mailbox.proofs.Lists.{all-get, all-removed}
 use Rattle.nvme_spec.specs.declared.registers.ControllerState.TheVariants.{Failed}
 use Rattle.nvme_spec.specs.Registers as register
@@ -10,6 +10,7 @@ use Rattle.nvme_machine.specs.declared.seen.Seen.TheVariants as given
 use Rattle.nvme_machine.specs.Subsystems.{Completes, ExecutesAt, Run, Step, after_execution, marked_from, numbered, replaced, with_controller}
 use Rattle.nvme_machine.proofs.Staying.{replaced-same}
 use Rattle.nvme_fleet.proofs.PlainCalls.{IsPlain}
+use Rattle.nvme_fleet.proofs.Reaching.{one-ran}
 use Rattle.nvme_fleet.proofs.AdminTurns.{AreAdmin, IsAdmin, change-admin, enabled-admin, fetch-admin, store-admin, write-admin}
 
 -- Events that execute nothing.
@@ -50,11 +51,6 @@ quiet-run tells es xs p q m quiet run = absurd run
 abbrev At : (Controller → Type 0) → ℕ → Subsystem → Type 0
 At P k s = (c : Controller) → controller_at s k ≡ Some c → P c
 
-one-event : (tells : Bool) (e : Event) (given : List Seen) (p q : Subsystem) → Run tells p (e ∷ []) given q → (x : Seen) × (given ≡ x ∷ []) × Step tells p e x q
-one-event tells e [] p q run = absurd run
-one-event tells e (x ∷ []) p q (mid, step, last) = (x, refl, subst (λ s. Step tells p e x s) (sym last) step)
-one-event tells e (x ∷ y ∷ given) p q (mid, step, last) = absurd last
-
 react-at : (P Q : Controller → Type 0) (o : Option Controller) (p q : Subsystem) (k : ℕ) (f : Controller → Reaction) (x : Seen) → ((c : Controller) → P c → Q (f c).controller) → controller_at p k ≡ o → ReactsAs o p k f x q
     → At P k p → At Q k q
 unfolding controller_at with_controller
@@ -62,20 +58,12 @@ react-at P Q None p q k f x moves at h known c there = absurd (none-some _ (sym 
 react-at P Q (Some b) p q k f x moves at h known c there =
     subst Q (same_Some _ _ (sym (replaced-same p.controllers k b (f b).controller at) ∙ ap (λ s. controller_at s k) (sym h.1) ∙ there)) (moves b (known b at))
 
-store-at : (P Q : Controller → Type 0) (tells : Bool) (k address : ℕ) (bytes : List ℕ) (p q : Subsystem) → ((c : Controller) → P c → Q (after_store address bytes c).controller) → CallStep tells k p (Stores address bytes) q → At P k p → At Q k q
-store-at P Q tells k address bytes p q moves h known =
-    let one = one-event tells (event.Store k address (record { ref_ptr = (0, 0); now = bytes })) h.given p q h.run in
-    react-at P Q (controller_at p k) p q k _ one.0 moves refl one.2 known
-
-write-at : (P Q : Controller → Type 0) (tells : Bool) (k offset v : ℕ) (p q : Subsystem) → ((c : Controller) → P c → Q (after_write32 offset v c)) → CallStep tells k p (Writes offset v) q → At P k p → At Q k q
-write-at P Q tells k offset v p q moves h known =
-    let one = one-event tells (event.Write32 k offset v) h.given p q h.run in
-    react-at P Q (controller_at p k) p q k _ one.0 moves refl one.2 known
-
-read-at : (P : Controller → Type 0) (tells : Bool) (k offset v : ℕ) (p q : Subsystem) → CallStep tells k p (Reads offset v) q → At P k p → At P k q
-read-at P tells k offset v p q h known =
-    let one = one-event tells (event.Read32 k offset) h.given p q h.run in
-    react-at P P (controller_at p k) p q k _ one.0 (λ c is. is) refl one.2 known
+call-at : (P Q : Controller → Type 0) (tells : Bool) (one : Call) (k : ℕ) (p q : Subsystem) → IsPlain (one ∷ []) → ((c : Controller) → P c → Q (after_call one c)) → CallStep tells k p one q → At P k p → At Q k q
+call-at P Q tells (Stores address bytes) k p q plain moves h known =
+    let one = one-ran tells p q (event.Store k address (record { ref_ptr = (0, 0); now = bytes })) h.given h.run in react-at P Q (controller_at p k) p q k _ one.gives moves refl one.step known
+call-at P Q tells (Writes offset v) k p q plain moves h known = let one = one-ran tells p q (event.Write32 k offset v) h.given h.run in react-at P Q (controller_at p k) p q k _ one.gives moves refl one.step known
+call-at P Q tells (Reads offset v) k p q plain moves h known = let one = one-ran tells p q (event.Read32 k offset) h.given h.run in react-at P Q (controller_at p k) p q k _ one.gives moves refl one.step known
+call-at P Q tells Turns k p q plain moves h known = absurd plain
 
 -- A start leaves no I/O command fetched, or a controller that is not ready.
 
@@ -162,22 +150,20 @@ read-on (Some c) k v p q x got at a b h known = by (known c at)
 abbrev Any : Controller → Type 0
 Any c = Unit {0}
 
+-- a call between disabling and enabling
+kept-off : (tells : Bool) (one : Call) (k : ℕ) (p q : Subsystem) → IsPlain (one ∷ []) → ((c : Controller) → IsOff c → IsOff (after_call one c)) → CallStep tells k p one q → At IsOff k p → At IsOff k q
+kept-off tells one k p q plain moves h known = call-at IsOff IsOff tells one k p q plain moves h known
+
 pub start-leaves : (tells : Bool) (k value : ℕ) (p on : Subsystem) → Calls (CallStep tells k) p (start_calls value) on → At AreAdmin k on ⊎ (is_ready value ≡ false)
 start-leaves tells k value p on (s1, h1, (s2, h2, (s3, h3, (s4, h4, (s5, h5, (s6, h6, (s7, h7, (s8, h8, (s9, h9, (s10, h10, (s11, h11, (s12, h12, last)))))))))))) =
-    let a1 = write-at Any IsOff tells k _ _ p s1 (λ c t. switched-off c) h1 (λ c at. tt) in
-    let a2 = store-at IsOff IsOff tells k _ _ s1 s2 (λ c t. store-off _ _ c t) h2 a1 in
-    let a3 = store-at IsOff IsOff tells k _ _ s2 s3 (λ c t. store-off _ _ c t) h3 a2 in
-    let a4 = store-at IsOff IsOff tells k _ _ s3 s4 (λ c t. store-off _ _ c t) h4 a3 in
-    let a5 = store-at IsOff IsOff tells k _ _ s4 s5 (λ c t. store-off _ _ c t) h5 a4 in
-    let a6 = write-at IsOff IsOff tells k aqa admin_sizes s5 s6 (λ c t. write-off aqa admin_sizes c refl t) h6 a5 in
-    let a7 = write-at IsOff IsOff tells k asq_low _ s6 s7 (λ c t. write-off asq_low _ c refl t) h7 a6 in
-    let a8 = write-at IsOff IsOff tells k asq_high 0 s7 s8 (λ c t. write-off asq_high 0 c refl t) h8 a7 in
-    let a9 = write-at IsOff IsOff tells k acq_low _ s8 s9 (λ c t. write-off acq_low _ c refl t) h9 a8 in
-    let a10 = write-at IsOff IsOff tells k acq_high 0 s9 s10 (λ c t. write-off acq_high 0 c refl t) h10 a9 in
-    let a11 = write-at IsOff IsOn tells k 0x14 enabling s10 s11 (λ c t. switched-on c t) h11 a10 in
-    let one = one-event tells (event.Read32 k csts) h12.given s11 s12 h12.run in
-    elim (read-on (controller_at s11 k) k value s11 s12 one.0 h12.given refl one.1 h12.answers one.2 a11) [
-      | inl admin ↦ inl (λ c there. read-at AreAdmin tells k csts value s11 s12 h12 admin c (ap (λ s. controller_at s k) (sym last) ∙ there))
+    let a1 = call-at Any IsOff tells _ k p s1 tt (λ c t. switched-off c) h1 (λ c at. tt) in
+    let a5 = kept-off tells _ k s4 s5 tt (store-off _ _) h5 (kept-off tells _ k s3 s4 tt (store-off _ _) h4 (kept-off tells _ k s2 s3 tt (store-off _ _) h3 (kept-off tells _ k s1 s2 tt (store-off _ _) h2 a1))) in
+    let a7 = kept-off tells _ k s6 s7 tt (λ c t. write-off asq_low _ c refl t) h7 (kept-off tells _ k s5 s6 tt (λ c t. write-off aqa _ c refl t) h6 a5) in
+    let a9 = kept-off tells _ k s8 s9 tt (λ c t. write-off acq_low _ c refl t) h9 (kept-off tells _ k s7 s8 tt (λ c t. write-off asq_high _ c refl t) h8 a7) in
+    let a11 = call-at IsOff IsOn tells _ k s10 s11 tt switched-on h11 (kept-off tells _ k s9 s10 tt (λ c t. write-off acq_high _ c refl t) h10 a9) in
+    let one = one-ran tells s11 s12 (event.Read32 k csts) h12.given h12.run in
+    elim (read-on (controller_at s11 k) k value s11 s12 one.gives h12.given refl one.alone h12.answers one.step a11) [
+      | inl admin ↦ inl (λ c there. call-at AreAdmin AreAdmin tells (Reads csts value) k s11 s12 tt (λ d is. is) h12 admin c (ap (λ s. controller_at s k) (sym last) ∙ there))
       | inr not ↦ inr not
     ]
 
@@ -256,22 +242,19 @@ record IsCallOver (k : ℕ) (call : Call) (p q : Subsystem) (m : Device) : Type 
   step : CallStep true k (over m p) call (over m q)
   admin : At AreAdmin k q
 
+kept-admin : (one : Call) (c : Controller) → AreAdmin c → AreAdmin (after_call one c)
+kept-admin (Stores address bytes) c is = store-admin address bytes c is
+kept-admin (Writes offset v) c is = write-admin offset v c is
+kept-admin one c is = is
+
 call-over : (k : ℕ) (m : Device) (call : Call) (p q : Subsystem) → At AreAdmin k p → CallStep true k p call q → IsCallOver k call p q m
-call-over k m (Stores address bytes) p q all h = record {
-  step = record { given = h.given; run = quiet-run true (events_of k (Stores address bytes)) h.given p q m (tt, tt) h.run; answers = h.answers };
-  admin = store-at AreAdmin AreAdmin true k address bytes p q (λ c is. store-admin address bytes c is) h all;
-}
-call-over k m (Writes offset v) p q all h = record {
-  step = record { given = h.given; run = quiet-run true (events_of k (Writes offset v)) h.given p q m (tt, tt) h.run; answers = h.answers };
-  admin = write-at AreAdmin AreAdmin true k offset v p q (λ c is. write-admin offset v c is) h all;
-}
-call-over k m (Reads offset v) p q all h = record {
-  step = record { given = h.given; run = quiet-run true (events_of k (Reads offset v)) h.given p q m (tt, tt) h.run; answers = h.answers };
-  admin = read-at AreAdmin true k offset v p q h all;
-}
 call-over k m Turns p q all h =
     let r = turn-run k h.given p q m all h.run in
     record { step = record { given = h.given; run = r.0; answers = h.answers }; admin = r.1 }
+call-over k m one p q all h = record {
+  step = record { given = h.given; run = quiet-run true (events_of k one) h.given p q m (tt, tt) h.run; answers = h.answers };
+  admin = call-at AreAdmin AreAdmin true one k p q tt (kept-admin one) h all;
+}
 
 plain-calls : (k : ℕ) (m : Device) (calls : List Call) (p q : Subsystem) → IsPlain calls → Calls (CallStep true k) p calls q → Calls (CallStep true k) (over m p) calls (over m q)
 plain-calls k m [] p q plain h = ap (over m) h
