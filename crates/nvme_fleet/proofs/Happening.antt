@@ -1,5 +1,5 @@
 -- What each event leaves of both layers of a fleet.
-use Rattle.nvme_fleet.proofs.Words.{AppliesRaw, Bool, CallsAt, Controller, DoesIfAny, Driver, DriverCall, Event, Executed, ExecutesItem, ExecutesOne, FetchedCommand, Fleet, FleetSeen, FleetState, Idle, IfNone, IfSome, Is, IsCalled, IsOfHost, IsSome, IsSoundFleet, IsThere, KeepsOthers, List, NoSuch, None, Option, Raw, Reaction, ReactsAs, Reply, Seen, Setting, Some, SoundBy, Store, SubmissionQueue, Subsystem, Took, WithDriver, Write32, [], after_fetch, after_store, after_write32, ap, arith, at-place, called, controller_at, controller_in, controller_of, data_len, driver_at, executed-back, false, fetchable, fetched_at, fetched_from, fleet_in, fleet_of, get_or, host_at, host_by, hosts_of, if◌then◌else◌, is_some, layers_of, length, mailbox, marks_after, marks_in, nat_le, none-some, plain, raw_fetch, raw_moment, reaction, reaction_to, refl, reply_in, same_Some, setting_of, settled, site_of, slice_get, slice_get_read, slice_get_within, slice_set, stored_seen, subst, suc, sym, told, true, window_size, with_bytes, with_driver, with_host, wrote, zero, ℕ, ◌+◌, ◌-◌, ◌<◌, ◌∙◌, ◌∷◌, ◌≡◌, ◌≤◌}
+use Rattle.nvme_fleet.proofs.Words.{AppliesRaw, Bool, CallsAt, Controller, DoesIfAny, Driver, DriverCall, Event, Executed, ExecutesItem, ExecutesOne, FetchedCommand, Fleet, FleetSeen, FleetState, Idle, IfNone, IfSome, Is, IsCalled, IsOfHost, IsSome, IsSoundFleet, IsThere, KeepsOthers, List, NoSuch, None, Option, Raw, Reaction, ReactsAs, Reply, Seen, Setting, Some, SoundBy, Store, SubmissionQueue, Subsystem, Took, WithDriver, Write32, [], after_fetch, after_store, after_write32, ap, arith, at-place, called, controller_at, controller_in, controller_of, data_len, driver_at, executed-back, false, fetchable, fetched_at, fetched_from, fleet_in, fleet_of, get_or, host_at, host_by, hosts_of, if◌then◌else◌, is_some, layers_of, length, mailbox, marks_after, marks_in, nat_le, none-some, plain, raw_fetch, raw_moment, reaction, reaction_to, refl, reply_in, same_Some, setting_of, settled, site_of, slice_get, slice_get_read, slice_get_within, slice_set, stored_seen, subst, suc, sym, told, true, window_size, with_bytes, with_driver, with_host, wrote, zero, ℕ, ◌+◌, ◌-◌, ◌<◌, ◌∙◌, ◌∷◌, ◌≡◌, ◌≤◌, drop, refill-all, take, ◌++◌}
 use Rattle.nvme_machine.specs.declared.seen.Seen.TheVariants as given
 use Rattle.nvme_machine.specs.Subsystems.{Step, ExecutesAt, with_controller}
 use Rattle.nvme_subsys.proofs.Numbers as numbers
@@ -81,16 +81,22 @@ put-is : (ds : List (Option Driver)) (k i : ℕ) (d : Option Driver) → k ≡ i
 put-is ds zero i d h = absurd (omega (arith, h))
 put-is ds (suc n) i d h = let same : i ≡ n = omega (arith, h) in ap (λ m. slice_set ds m d) same
 
-pub driver-there : (a : FleetState) (k : ℕ) (d : Option Driver) → IsSoundFleet a → IsThere a.subsystem k → d ≡ get_or a.drivers (k - 1) d → driver_at a.drivers k ≡ Some d
+driver-there : (a : FleetState) (k : ℕ) (d : Option Driver) → IsSoundFleet a → IsThere a.subsystem k → d ≡ get_or a.drivers (k - 1) d → driver_at a.drivers k ≡ Some d
 driver-there a k d s there is =
     let pairs = s.pairs in
     driver-is a.drivers k (k - 1) (place-is k there.0) ∙ slice_get_read a.drivers (length a.drivers) (k - 1) d refl (omega (arith, pairs, there.0, there.1)) is
 
-seat-there : (a : FleetState) (k : ℕ) (d : Option Driver) → IsSoundFleet a → IsThere a.subsystem k → d ≡ get_or a.drivers (k - 1) d → IsSeat a k d (controller_in a.subsystem (k - 1))
-seat-there a k d s there is = seat a k d (controller_in a.subsystem (k - 1)) s (driver-there a k d s there is) (found-there a.subsystem k there)
+-- the driver that is lent from the place of a controller
+pub record IsFound (a : FleetState) (k : ℕ) (d : Option Driver) : Type 0 where
+  pub there : IsThere a.subsystem k
+  pub driver : driver_at a.drivers k ≡ Some d
+  pub seat : IsSeat a k d (controller_in a.subsystem (k - 1))
 
-pub sound-at : (a : FleetState) (k : ℕ) (d : Option Driver) → IsSoundFleet a → IsThere a.subsystem k → d ≡ get_or a.drivers (k - 1) d → SoundBy d (controller_in a.subsystem (k - 1))
-sound-at a k d s there is = let t = seat-there a k d s there is in t.sound
+pub found-at : (a old : FleetState) (k n : ℕ) (d : Option Driver) → a ≡ old → IsSoundFleet a → (n ≡ k - 1) × IsThere old.subsystem k → d ≡ get_or a.drivers n d → IsFound a k d
+found-at a old k n d same s some is =
+    let there : IsThere a.subsystem k = subst (λ (t : FleetState). IsThere t.subsystem k) (sym same) some.1 in
+    let at = driver-there a k d s there (subst (λ m. d ≡ get_or a.drivers m d) some.0 is) in
+    record { there = there; driver = at; seat = seat a k d (controller_in a.subsystem (k - 1)) s at (found-there a.subsystem k there) }
 
 -- What one event of the subsystem leaves of the fleet.
 
@@ -215,24 +221,25 @@ none-is : (d : Option Driver) → is_some d ≡ false → d ≡ None
 none-is None h = refl
 none-is (Some d) h = absurd (cc)
 
-changes : (a : FleetState) (new : Subsystem) (k : ℕ) (d : Option Driver) (f : Controller → Reaction) (what : FleetSeen) (x : Seen) → IsSoundFleet a → IsThere a.subsystem k → d ≡ get_or a.drivers (k - 1) d → is_some d ≡ false
+changes : (a : FleetState) (new : Subsystem) (k : ℕ) (d : Option Driver) (f : Controller → Reaction) (what : FleetSeen) (x : Seen) → IsSoundFleet a → IsThere a.subsystem k → IsSeat a k d (controller_in a.subsystem (k - 1)) → is_some d ≡ false
     → ((c : Controller) → told (f c).seen ≡ what) → ReactsAs (controller_at a.subsystem k) a.subsystem k f x new
     → HasApplied (λ r g. Is (mailboxes.raw_at (host_at (fleet_of a) k) (fleet_of a) k (λ c. (f c).controller) what) r g) a new (told x)
-changes a new k d f what x s there is none gives h =
+changes a new k d f what x s there held none gives h =
     let c : Controller = controller_in a.subsystem (k - 1) in
     let b : FleetState = with-subsystem a new in
-    let t : IsSeat a k None c = subst (λ e. IsSeat a k e c) (none-is d none) (seat-there a k d s there is) in
+    let t : IsSeat a k None c = subst (λ e. IsSeat a k e c) (none-is d none) held in
     let r = subst (λ o. ReactsAs o a.subsystem k f x new) (found-there a.subsystem k there) h in
     let p = reseated a b k None (f c).controller s tt (sym t.kept) r.1 refl refl in
     has-applied _ a new x (subst (λ o. Is (mailboxes.raw_at o (fleet_of a) k (λ y. (f y).controller) what) (plain (told x)) (fleet_of b)) (sym t.host) (ap plain (ap told r.0 ∙ gives c), p.fleet)) p.sound
 
-pub applied-raw : (tells : Bool) (a : FleetState) (new : Subsystem) (k : ℕ) (d : Option Driver) (event : Event) (x : Seen) → IsSoundFleet a → IsThere a.subsystem k → d ≡ get_or a.drivers (k - 1) d → is_some d ≡ false
-    → controller_of event ≡ k → IsOfHost event → Step tells a.subsystem event x new → HasApplied (λ r f. Is (raw_moment (fleet_of a) event) r f) a new (told x)
-applied-raw tells a new k d event x s there is none own host h = by event own host h
+pub applied-raw : (tells : Bool) (a : FleetState) (new : Subsystem) (k : ℕ) (d : Option Driver) (event : Event) (x : Seen) → IsSoundFleet a → IsFound a k d → is_some d ≡ false → controller_of event ≡ k → IsOfHost event
+    → Step tells a.subsystem event x new → HasApplied (λ r f. Is (raw_moment (fleet_of a) event) r f) a new (told x)
+applied-raw tells a new k d event x s at none own host h = by event own host h
   where
     by : (e : Event) → controller_of e ≡ k → IsOfHost e → Step tells a.subsystem e x new → HasApplied (λ r f. Is (raw_moment (fleet_of a) e) r f) a new (told x)
-    by (Store j address bytes) same h step = changes a new j d (after_store address bytes.now) (stored_seen address bytes.now) x s (subst (IsThere a.subsystem) (sym same) there) (subst (λ n. d ≡ get_or a.drivers (n - 1) d) (sym same) is) none (stored-gives address bytes.now) step
-    by (Write32 j offset v) same h step = changes a new j d (wrote offset v) seen.Wrote x s (subst (IsThere a.subsystem) (sym same) there) (subst (λ n. d ≡ get_or a.drivers (n - 1) d) (sym same) is) none (λ c. refl) step
+    by (Store j address bytes) same h step =
+        let t = subst (λ n. IsFound a n d) (sym same) at in changes a new j d (after_store address bytes.now) (stored_seen address bytes.now) x s t.there t.seat none (stored-gives address bytes.now) step
+    by (Write32 j offset v) same h step = let t = subst (λ n. IsFound a n d) (sym same) at in changes a new j d (wrote offset v) seen.Wrote x s t.there t.seat none (λ c. refl) step
     by e same h step = absurd h
 
 -- one that has a driver is refused
@@ -241,16 +248,12 @@ refuses : (d : Option Driver) (a : FleetState) (k : ℕ) (c : Controller) (chang
 refuses None a k c change what t some = absurd (cc)
 refuses (Some d) a k c change what t some = subst (λ o. Is (mailboxes.raw_at o (fleet_of a) k change what) (plain seen.NotRaw) (fleet_of a)) (sym t.host) (refl, refl)
 
-pub refused-raw : (a : FleetState) (k : ℕ) (d : Option Driver) (event : Event) → IsSoundFleet a → IsThere a.subsystem k → d ≡ get_or a.drivers (k - 1) d → is_some d ≡ true → controller_of event ≡ k → IsOfHost event
-    → Is (raw_moment (fleet_of a) event) (plain seen.NotRaw) (fleet_of a)
-refused-raw a k d event s there is some own host = by event own host
+pub refused-raw : (a : FleetState) (k : ℕ) (d : Option Driver) (event : Event) → IsFound a k d → is_some d ≡ true → controller_of event ≡ k → IsOfHost event → Is (raw_moment (fleet_of a) event) (plain seen.NotRaw) (fleet_of a)
+refused-raw a k d event at some own host = by event own host
   where
-    c : Controller
-    c = controller_in a.subsystem (k - 1)
-
     by : (e : Event) → controller_of e ≡ k → IsOfHost e → Is (raw_moment (fleet_of a) e) (plain seen.NotRaw) (fleet_of a)
-    by (Store j address bytes) same h = refuses d a j c (λ (y : Controller). (after_store address bytes.now y).controller) (stored_seen address bytes.now) (subst (λ n. IsSeat a n d c) (sym same) (seat-there a k d s there is)) some
-    by (Write32 j offset v) same h = refuses d a j c (after_write32 offset v) seen.Wrote (subst (λ n. IsSeat a n d c) (sym same) (seat-there a k d s there is)) some
+    by (Store j address bytes) same h = let t = subst (λ n. IsFound a n d) (sym same) at in refuses d a j _ (λ (y : Controller). (after_store address bytes.now y).controller) (stored_seen address bytes.now) t.seat some
+    by (Write32 j offset v) same h = let t = subst (λ n. IsFound a n d) (sym same) at in refuses d a j _ (after_write32 offset v) seen.Wrote t.seat some
     by e same h = absurd h
 
 -- the same below
@@ -284,38 +287,41 @@ has-called f g k (Some d) e c x call reply s (y, same, step) = record {
   sound = subst (λ p. SoundBy p x) (sym same) step.sound;
 }
 
-pub record HasDelivered (tells : Bool) (a : FleetState) (new : Subsystem) (buffer : List ℕ) (k n : ℕ) (e : Option Driver) (call : DriverCall) (what : FleetSeen) : Type 0 where
-  pub step : Is (called (fleet_of a) k (reaction_to call)) (reply_in what buffer) (fleet_of (record { subsystem = new; drivers = slice_set a.drivers n e; buffer = buffer; filled = a.filled }))
-  pub sound : IsSoundFleet (record { subsystem = new; drivers = slice_set a.drivers n e; buffer = buffer; filled = a.filled })
-  pub below : CallsAt (driver_at a.drivers k) tells (layers_of a) k call what (record { subsystem = new; drivers = slice_set a.drivers n e })
+pub record HasDelivered (tells : Bool) (old new : FleetState) (k : ℕ) (call : DriverCall) (what : FleetSeen) : Type 0 where
+  pub step : Is (called (fleet_of old) k (reaction_to call)) (reply_in what new.buffer) (fleet_of new)
+  pub sound : IsSoundFleet new
+  pub below : CallsAt (driver_at old.drivers k) tells (layers_of old) k call what (layers_of new)
 
-delivered : (tells : Bool) (a : FleetState) (new : Subsystem) (buffer : List ℕ) (k : ℕ) (d e : Option Driver) (call : DriverCall) (what : FleetSeen) → IsSoundFleet a → IsThere a.subsystem k → d ≡ get_or a.drivers (k - 1) d
-    → IsCalled d (controller_in a.subsystem (k - 1)) call e (controller_in new (k - 1)) (reply_in what buffer) → new.world ≡ a.subsystem.world → new.device ≡ a.subsystem.device → KeepsOthers (k - 1) a.subsystem new → length buffer ≡ length a.buffer
-    → DoesIfAny tells k call d a.subsystem what e new → HasDelivered tells a new buffer k (k - 1) e call what
+delivered : (tells : Bool) (a b : FleetState) (k : ℕ) (d e : Option Driver) (call : DriverCall) (what : FleetSeen) → IsSoundFleet a → IsFound a k d → b.drivers ≡ slice_set a.drivers (k - 1) e
+    → IsCalled d (controller_in a.subsystem (k - 1)) call e (controller_in b.subsystem (k - 1)) (reply_in what b.buffer) → b.subsystem.world ≡ a.subsystem.world → b.subsystem.device ≡ a.subsystem.device
+    → KeepsOthers (k - 1) a.subsystem b.subsystem → length b.buffer ≡ length a.buffer → b.filled ≡ a.filled → DoesIfAny tells k call d a.subsystem what e b.subsystem → HasDelivered tells a b k call what
 unfolding with_controller
-delivered tells a new buffer k d e call what s there is calls world device others long does =
+delivered tells a b k d e call what s at drivers calls world device others long filled does =
     let i : ℕ = k - 1 in
-    let at = place-is k there.0 in
-    let x : Controller = controller_in new i in
-    let b : FleetState = record { subsystem = new; drivers = slice_set a.drivers i e; buffer = buffer; filled = a.filled } in
-    let t = seat-there a k d s there is in
-    let h = has-called (fleet_of a) (fleet_of b) k d e (controller_in a.subsystem i) x call (reply_in what buffer) t.sound calls in
-    let set = numbers.replaced-at a.subsystem.controllers k i x at in
-    let left : new ≡ with_controller a.subsystem k x = others ∙ (λ j. record { world = world j; device = device j; controllers = sym set j }) in
-    let r = reseated a b k e x s h.sound (put-is a.drivers k i e at) left long refl in
+    let is = place-is k at.there.0 in
+    let x : Controller = controller_in b.subsystem i in
+    let t = at.seat in
+    let h = has-called (fleet_of a) (fleet_of b) k d e (controller_in a.subsystem i) x call (reply_in what b.buffer) t.sound calls in
+    let set = numbers.replaced-at a.subsystem.controllers k i x is in
+    let put = drivers ∙ put-is a.drivers k i e is in
+    let left : b.subsystem ≡ with_controller a.subsystem k x = others ∙ (λ j. record { world = world j; device = device j; controllers = sym set j }) in
+    let r = reseated a b k e x s h.sound put left long filled in
     record {
-      step = subst (λ o. Is (mailboxes.called_at o (fleet_of a) k (reaction_to call)) (reply_in what buffer) (fleet_of b)) (sym t.host) (h.step t.host r.fleet);
+      step = subst (λ o. Is (mailboxes.called_at o (fleet_of a) k (reaction_to call)) (reply_in what b.buffer) (fleet_of b)) (sym t.host) (h.step t.host r.fleet);
       sound = r.sound;
-      below = subst (λ o. CallsAt o tells (layers_of a) k call what (record { subsystem = new; drivers = slice_set a.drivers i e })) (sym (driver-there a k d s there is))
-          (e, put-is a.drivers k i e at, does);
+      below = subst (λ o. CallsAt o tells (layers_of a) k call what (layers_of b)) (sym at.driver) (e, put, does);
     }
 
-pub delivered-at : (tells : Bool) (a : FleetState) (new : Subsystem) (buffer : List ℕ) (k n : ℕ) (d e : Option Driver) (call : DriverCall) (what : FleetSeen) → IsSoundFleet a → IsThere a.subsystem k → n ≡ k - 1 → d ≡ get_or a.drivers n d
-    → IsCalled d (controller_in a.subsystem (k - 1)) call e (controller_in new (k - 1)) (reply_in what buffer) → new.world ≡ a.subsystem.world → new.device ≡ a.subsystem.device → KeepsOthers (k - 1) a.subsystem new → length buffer ≡ length a.buffer
-    → DoesIfAny tells k call d a.subsystem what e new → HasDelivered tells a new buffer k n e call what
-delivered-at tells a new buffer k n d e call what s there at is calls world device others long does =
-    subst (λ m. HasDelivered tells a new buffer k m e call what) (sym at)
-    (delivered tells a new buffer k d e call what s there (subst (λ m. d ≡ get_or a.drivers m d) at is) calls world device others long does)
+-- with the driver and the buffer put back that were lent
+pub delivered-at : (tells : Bool) (a old : FleetState) (new : Subsystem) (buffer : List ℕ) (len k n : ℕ) (d e : Option Driver) (call : DriverCall) (what : FleetSeen) → a ≡ old → IsSoundFleet a → (n ≡ k - 1) × IsThere old.subsystem k
+    → d ≡ get_or a.drivers n d → IsCalled d (controller_in a.subsystem (k - 1)) call e (controller_in new (k - 1)) (reply_in what buffer) → new.world ≡ a.subsystem.world → new.device ≡ a.subsystem.device → KeepsOthers (k - 1) a.subsystem new
+    → length buffer ≡ length a.buffer → len ≡ length buffer → DoesIfAny tells k call d a.subsystem what e new
+    → HasDelivered tells old (record { subsystem = new; drivers = slice_set a.drivers n e; buffer = take len (buffer ++ drop (length buffer) a.buffer); filled = a.filled }) k call what
+delivered-at tells a old new buffer len k n d e call what same s some is calls world device others long whole does =
+    let b : FleetState = record { subsystem = new; drivers = slice_set a.drivers n e; buffer = buffer; filled = a.filled } in
+    subst (λ xs. HasDelivered tells old (record b { buffer = xs }) k call what) (sym (refill-all len a.buffer buffer whole))
+    (subst (λ o. HasDelivered tells o b k call what) same
+    (delivered tells a b k d e call what s (found-at a old k n d same s some is) (ap (λ m. slice_set a.drivers m e) some.0) calls world device others long refl does))
 
 pub missed-call : (tells : Bool) (a : FleetState) (k : ℕ) (call : DriverCall) → driver_at a.drivers k ≡ None → CallsAt (driver_at a.drivers k) tells (layers_of a) k call seen.NoController (layers_of a)
 missed-call tells a k call at = subst (λ o. CallsAt o tells (layers_of a) k call seen.NoController (layers_of a)) (sym at) (refl, refl)
