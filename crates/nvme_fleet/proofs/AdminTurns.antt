@@ -1,9 +1,11 @@
 -- A controller that fetches from its admin queue alone executes admin commands alone, and these mark nothing.
-use Rattle.nvme_fleet.proofs.Words.{all-filter, all-joined, ◌≡◌, ℕ, ◌+◌, ◌==◌, Bool, true, false, List, length, Option, None, Some, refl, sym, ap, subst, ◌∙◌, slice_get, nat_le, if◌then◌else◌, AllByRecursion, QueueChange, DropSq, AdminQueues, RegEffect, Enable, Disable, with_bytes, no_marks, window_size, World, FetchedCommand, Executed, NoSuch, CqFull, Stored, Outside, CommandComesTo, CommandComesToAs, CommandExecution, Controller, SubmissionQueue, QueuePair, reaction, queues_of, open_pair, after_store, after_write32, after_fetch, fetched_from, fetchable, taking_effect, with_admin_queues, after_posting, after_queue_change, Setting, FinishesOne, FinishesOver, scene_in, after_completion, unmarked, Call, Stores, Writes, Reads, Turns, marks_after, fetch-id, store-id, write-id, LinkStep, with_controller}
+use Rattle.nvme_fleet.proofs.Words.{all-filter, all-joined, ◌≡◌, ℕ, ◌+◌, ◌==◌, Bool, true, false, List, length, Option, None, Some, refl, sym, ap, subst, ◌∙◌, slice_get, nat_le, if◌then◌else◌, AllByRecursion, QueueChange, DropSq, AdminQueues, RegEffect, Enable, Disable, with_bytes, no_marks, window_size, World, FetchedCommand, Executed, NoSuch, CqFull, Stored, Outside, CommandComesTo, CommandComesToAs, CommandExecution, Controller, SubmissionQueue, QueuePair, reaction, queues_of, open_pair, after_store, after_write32, after_fetch, fetched_from, fetchable, taking_effect, with_admin_queues, after_posting, after_queue_change, Setting, FinishesOne, FinishesOver, scene_in, after_completion, unmarked, Call, Stores, Writes, Turns, marks_after, fetch-id, LinkStep, with_controller, [], after_call, ◌∷◌}
 use Rattle.nvme_mailbox.proofs.Lists.{all-get, all-removed}
 use Rattle.nvme_spec.specs.Registers as register
 use Rattle.nvme_machine.specs.Subsystems.{marked_from}
 use Rattle.nvme_mailbox.proofs.Comings.{one-id}
+use Rattle.nvme_fleet.proofs.PlainCalls.{IsPlain}
+use Rattle.nvme_fleet.proofs.StartStep.{calls-are, calls-id}
 
 -- Only admin commands were fetched.
 
@@ -82,19 +84,24 @@ one-quiet (Some t) tells old x left at h f = over-quiet (open_pair old.controlle
 abbrev pub fetched_by : Controller → Controller
 fetched_by c = (after_fetch 0 c).controller
 
+pub kept-admin : (one : Call) (c : Controller) → AreAdmin c → AreAdmin (after_call one c)
+kept-admin (Stores address bytes) c is = store-admin address bytes c is
+kept-admin (Writes offset v) c is = write-admin offset v c is
+kept-admin one c is = is
+
+-- a call that grants no turn
+plain-is : (tells : Bool) (call : Call) (old new : Setting) → IsPlain (call ∷ []) → LinkStep tells old call new → new.controller ≡ after_call call old.controller
+plain-is tells call old new plain h = ap (λ (s : Setting). s.controller) (calls-are tells (call ∷ []) old new plain (new, h, refl))
+
 pub call-admin : (tells : Bool) (call : Call) (old new : Setting) → LinkStep tells old call new → AreAdmin old.controller → AreAdmin new.controller
-call-admin tells (Stores address bytes) old new h f = subst (λ (s : Setting). AreAdmin s.controller) (sym h) (store-admin address bytes old.controller f)
-call-admin tells (Writes offset v) old new h f = subst (λ (s : Setting). AreAdmin s.controller) (sym h) (write-admin offset v old.controller f)
-call-admin tells (Reads offset v) old new h f = subst (λ (s : Setting). AreAdmin s.controller) (sym h.1) f
 call-admin tells Turns old new (x, h) f =
     let d : Controller = fetched_by old.controller in
     let quiet = one-quiet (slice_get d.fetched 0) tells (with_controller old d) x new refl (fetch-admin old.controller f) h in
     quiet.admin
+call-admin tells call old new h f = subst AreAdmin (sym (plain-is tells call old new tt h)) (kept-admin call old.controller f)
 
 pub call-named : (tells : Bool) (call : Call) (old new : Setting) → LinkStep tells old call new → new.controller.cntlid ≡ old.controller.cntlid
-call-named tells (Stores address bytes) old new h = ap (λ (s : Setting). s.controller.cntlid) h ∙ store-id address bytes old.controller
-call-named tells (Writes offset v) old new h = ap (λ (s : Setting). s.controller.cntlid) h ∙ write-id offset v old.controller
-call-named tells (Reads offset v) old new h = ap (λ (s : Setting). s.controller.cntlid) h.1
 call-named tells Turns old new (x, h) =
     let d : Controller = fetched_by old.controller in
     one-id (slice_get d.fetched 0) tells 0 (with_controller old d) x new h ∙ fetch-id 0 old.controller
+call-named tells call old new h = ap (λ (c : Controller). c.cntlid) (plain-is tells call old new tt h) ∙ calls-id (call ∷ []) old.controller

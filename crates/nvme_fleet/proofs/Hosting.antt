@@ -1,6 +1,5 @@
 -- Hosts by their places: those of a list of drivers beside a list of controllers.
-use Rattle.nvme_fleet.proofs.Words.{◌≡◌, ℕ, zero, suc, ◌+◌, Bool, true, false, List, [], ◌∷◌, Option, None, Some, refl, sym, ap, ◌∙◌, arith, slice_get, slice_set, if◌then◌else◌, same_Some, Marks, World, host_of, Controller, with_marks, is_host_among, Driver, WithDriver, marked, marked_from, numbered, replaced, host_by, hosts_of, SoundBy}
-use Rattle.nvme_mailbox.specs.Fleets.{Host}
+use Rattle.nvme_fleet.proofs.Words.{◌≡◌, ℕ, zero, suc, ◌+◌, Bool, true, false, List, [], ◌∷◌, Option, None, Some, refl, sym, ap, slice_get, slice_set, if◌then◌else◌, same_Some, Marks, World, host_of, Controller, with_marks, is_host_among, Driver, WithDriver, marked, marked_from, host_by, hosts_of, SoundBy}
 use Rattle.nvme_machine.specs.Subsystems as machine
 use Rattle.nvme_fleet.proofs.MarkStep.{marks_are_steps}
 
@@ -28,20 +27,6 @@ pub driver-same : (ds : List (Option Driver)) (i : ℕ) (d : Option Driver) → 
 driver-same [] i d h = absurd (cc)
 driver-same (x ∷ ds) zero d h = let same : x ≡ d = same_Some _ _ h in ap (λ y. y ∷ ds) (sym same)
 driver-same (x ∷ ds) (suc i) d h = ap (λ ys. x ∷ ys) (driver-same ds i d h)
-
--- a controller alone is set
-pub controller-set : (ds : List (Option Driver)) (cs : List Controller) (i : ℕ) (d : Option Driver) (c : Controller) → slice_get ds i ≡ Some d
-    → hosts_of ds (slice_set cs i c) ≡ slice_set (hosts_of ds cs) i (host_by d c)
-controller-set ds cs i d c h = ap (λ xs. hosts_of xs (slice_set cs i c)) (sym (driver-same ds i d h)) ∙ hosts-set ds cs i d c
-
--- Numbers, from 1.
-pub numbered-at : (hs : List Host) (k i : ℕ) → k ≡ i + 1 → numbered hs k ≡ slice_get hs i
-numbered-at hs zero i h = absurd (omega (arith, h))
-numbered-at hs (suc n) i h = let same : n ≡ i = omega (arith, h) in ap (slice_get hs) same
-
-pub replaced-at : (hs : List Host) (k i : ℕ) (x : Host) → k ≡ i + 1 → replaced hs k x ≡ slice_set hs i x
-replaced-at hs zero i x h = absurd (omega (arith, h))
-replaced-at hs (suc n) i x h = let same : n ≡ i = omega (arith, h) in ap (λ m. slice_set hs m x) same
 
 -- A controller's marks reach its host, and keep it sound.
 pub mark-host : (d : Option Driver) (c : Controller) (n : ℕ) → SoundBy d c → host_by d (with_marks n c) ≡ marked n (host_by d c)

@@ -1,5 +1,5 @@
 -- Which events of a fleet make which calls of the medium.
-use Rattle.nvme_fleet.proofs.Words.{◌≡◌, ◌∙◌, ℕ, ◌+◌, ◌-◌, ◌≤◌, Bool, Err, Ok, Result, Some, None, Option, true, List, [], ◌∷◌, ◌++◌, refl, sym, ap, subst, arith, slice_set, append-nil, append_assoc, MediumCall, MakesCalls, Event, Seen, Subsystem, submission_entry, PlaceRefusal, Lane, Request, Waiting, Ticket, Call, Stores, Driver, ends, entry_fields, free_slot, put_ends, with_ends, command_place, data_area, list_page, stored_list, Asked, asked_of, ExecutesNothing, FleetEvent, FleetSeen, Reply, Layers, fleet_in, AppliesCalling, AreCallsOfRun, AreCallsOfStep, HappensCalling, LayerCallsAreOfARun, LayerCallsAreOfAStep, DoesIfAny, Places, Ran, events_of_calls, CallsAt, Happens, driver_at, told, AreCallsOfTurn, IsOfHost}
+use Rattle.nvme_fleet.proofs.Words.{◌≡◌, ◌∙◌, ℕ, ◌+◌, ◌-◌, ◌≤◌, Bool, Err, Ok, Result, Some, None, Option, true, List, [], ◌∷◌, ◌++◌, refl, sym, ap, subst, arith, slice_set, append-nil, append_assoc, MediumCall, MakesCalls, Event, Seen, Subsystem, submission_entry, PlaceRefusal, Request, Waiting, Ticket, Call, Stores, Driver, ends, entry_fields, put_ends, with_ends, command_place, data_area, list_page, stored_list, Asked, asked_of, ExecutesNothing, FleetEvent, FleetSeen, Reply, Layers, fleet_in, AppliesCalling, AreCallsOfRun, AreCallsOfStep, HappensCalling, LayerCallsAreOfARun, LayerCallsAreOfAStep, DoesIfAny, Places, Ran, events_of_calls, CallsAt, Happens, driver_at, told, AreCallsOfTurn, IsOfHost}
 use Rattle.nvme_spec.proofs.MediumCalls.{calls-joined}
 use Rattle.nvme_machine.specs.declared.event.Event.TheVariants.{Fetch, Execute, PowerCycle}
 use Rattle.nvme_machine.specs.EventCalls as machine
@@ -97,51 +97,33 @@ calls-more step tells events replies old mid new event last before between after
 
 -- What a placing is rests on what its request asks.
 
-abbrev placed_as : Lane → Asked → Driver → ℕ → Driver
-placed_as lane asked d slot =
-    with_ends lane (put_ends (ends lane d))
-    (record d { next = d.next + 1; slots = slice_set d.slots slot (Some (let w : Waiting = record { ticket = record { 0 = d.next }; lane = lane; received = asked.received; live = true } in w)) })
+abbrev placed_as : Asked → Driver → ℕ → Driver
+placed_as asked d slot =
+    with_ends asked.command.lane (put_ends (ends asked.command.lane d))
+    (record d { next = d.next + 1; slots = slice_set d.slots slot (Some (let w : Waiting = record { ticket = record { 0 = d.next }; lane = asked.command.lane; received = asked.received; live = true } in w)) })
 
-abbrev stores_as : Lane → Asked → Driver → ℕ → List Call
-stores_as lane asked d slot =
+abbrev stores_as : Asked → Driver → ℕ → List Call
+stores_as asked d slot =
     Stores (data_area slot) asked.sent
     ∷ Stores (list_page slot) (stored_list slot asked.moved)
-    ∷ Stores (command_place lane (ends lane d).tail.put) (submission_entry (entry_fields asked slot))
+    ∷ Stores (command_place asked.command.lane (ends asked.command.lane d).tail.put) (submission_entry (entry_fields asked slot))
     ∷ []
 
-abbrev PlacesAs : Lane → Asked → Bool → ℕ → Driver → Subsystem → Result Ticket PlaceRefusal → Driver → Subsystem → Type 0
-PlacesAs lane asked tells k d old (Ok ticket) d' new =
-    (slot : ℕ) × (free_slot d ≡ Some slot) × (d' ≡ placed_as lane asked d slot) × Ran tells old (events_of_calls k (stores_as lane asked d slot)) new
-PlacesAs lane asked tells k d old (Err why) d' new = (d' ≡ d) × (new ≡ old)
+places-alike : (tells : Bool) (k : ℕ) (r q : Request) (d : Driver) (old : Subsystem) (result : Result Ticket PlaceRefusal) (d' : Driver) (new : Subsystem) → asked_of r ≡ asked_of q → Places tells k r d old result d' new → Places tells k q d old result d' new
+places-alike tells k r q d old (Ok ticket) d' new same (slot, free, is, ran) =
+    (slot, free, is ∙ ap (λ a. placed_as a d slot) same, subst (λ a. Ran tells old (events_of_calls k (stores_as a d slot)) new) same ran)
+places-alike tells k r q d old (Err why) d' new same h = h
 
-places-as : (tells : Bool) (k : ℕ) (r : Request) (d : Driver) (old : Subsystem) (result : Result Ticket PlaceRefusal) (d' : Driver) (new : Subsystem)
-    → Places tells k r d old result d' new → PlacesAs (lane_of r) (asked_of r) tells k d old result d' new
-places-as tells k r d old (Ok t) d' new h = h
-places-as tells k r d old (Err why) d' new h = h
-
-as-places : (tells : Bool) (k : ℕ) (r : Request) (d : Driver) (old : Subsystem) (result : Result Ticket PlaceRefusal) (d' : Driver) (new : Subsystem)
-    → PlacesAs (lane_of r) (asked_of r) tells k d old result d' new → Places tells k r d old result d' new
-as-places tells k r d old (Ok t) d' new h = h
-as-places tells k r d old (Err why) d' new h = h
-
-places-alike : (tells : Bool) (k : ℕ) (r q : Request) (d : Driver) (old : Subsystem) (result : Result Ticket PlaceRefusal) (d' : Driver) (new : Subsystem) → lane_of q ≡ lane_of r → asked_of q ≡ asked_of r
-    → Places tells k r d old result d' new → Places tells k q d old result d' new
-places-alike tells k r q d old result d' new lane asked h =
-    as-places tells k q d old result d' new
-    (subst (λ l. PlacesAs l (asked_of q) tells k d old result d' new) (sym lane)
-    (subst (λ a. PlacesAs (lane_of r) a tells k d old result d' new) (sym asked) (places-as tells k r d old result d' new h)))
-
-does-alike : (o : Option Driver) (tells : Bool) (k : ℕ) (r q : Request) (old : Subsystem) (what : FleetSeen) (e : Option Driver) (new : Subsystem) → lane_of q ≡ lane_of r → asked_of q ≡ asked_of r
+does-alike : (o : Option Driver) (tells : Bool) (k : ℕ) (r q : Request) (old : Subsystem) (what : FleetSeen) (e : Option Driver) (new : Subsystem) → asked_of r ≡ asked_of q
     → DoesIfAny tells k (call.Place r) o old what e new → DoesIfAny tells k (call.Place q) o old what e new
-does-alike None tells k r q old what e new lane asked h = h
-does-alike (Some d) tells k r q old what e new lane asked (d', is, (result, gives, places)) =
-    (d', is, (result, gives, places-alike tells k r q d old result d' new lane asked places))
+does-alike None tells k r q old what e new same h = h
+does-alike (Some d) tells k r q old what e new same (d', is, (result, gives, places)) = (d', is, (result, gives, places-alike tells k r q d old result d' new same places))
 
-called-alike : (o : Option (Option Driver)) (tells : Bool) (old : Layers) (k : ℕ) (r q : Request) (what : FleetSeen) (new : Layers) → lane_of q ≡ lane_of r → asked_of q ≡ asked_of r
+called-alike : (o : Option (Option Driver)) (tells : Bool) (old : Layers) (k : ℕ) (r q : Request) (what : FleetSeen) (new : Layers) → asked_of r ≡ asked_of q
     → CallsAt o tells old k (call.Place r) what new → CallsAt o tells old k (call.Place q) what new
-called-alike None tells old k r q what new lane asked h = h
-called-alike (Some d) tells old k r q what new lane asked (e, is, does) = (e, is, does-alike d tells k r q old.subsystem what e new.subsystem lane asked does)
+called-alike None tells old k r q what new same h = h
+called-alike (Some d) tells old k r q what new same (e, is, does) = (e, is, does-alike d tells k r q old.subsystem what e new.subsystem same does)
 
 pub placed-alike : (tells : Bool) (old new : Layers) (k : ℕ) (r q : Request) (what : FleetSeen) → lane_of q ≡ lane_of r → asked_of q ≡ asked_of r
     → Happens tells old (fleet.Place k r) what new → Happens tells old (fleet.Place k q) what new
-placed-alike tells old new k r q what lane asked h = called-alike (driver_at old.drivers k) tells old k r q what new lane asked h
+placed-alike tells old new k r q what lane asked h = called-alike (driver_at old.drivers k) tells old k r q what new (sym asked) h

@@ -11,7 +11,7 @@ use Rattle.nvme_machine.specs.Subsystems.{Completes, ExecutesAt, Run, Step, afte
 use Rattle.nvme_machine.proofs.Staying.{replaced-same}
 use Rattle.nvme_fleet.proofs.PlainCalls.{IsPlain}
 use Rattle.nvme_fleet.proofs.Reaching.{one-ran}
-use Rattle.nvme_fleet.proofs.AdminTurns.{AreAdmin, IsAdmin, change-admin, enabled-admin, fetch-admin, store-admin, write-admin}
+use Rattle.nvme_fleet.proofs.AdminTurns.{AreAdmin, IsAdmin, change-admin, enabled-admin, fetch-admin, store-admin, write-admin, kept-admin}
 
 -- Events that execute nothing.
 
@@ -241,11 +241,6 @@ turn-run k (x ∷ y ∷ z ∷ given) p q m all (mid, fetch, (left, step, last)) 
 record IsCallOver (k : ℕ) (call : Call) (p q : Subsystem) (m : Device) : Type 0 where
   step : CallStep true k (over m p) call (over m q)
   admin : At AreAdmin k q
-
-kept-admin : (one : Call) (c : Controller) → AreAdmin c → AreAdmin (after_call one c)
-kept-admin (Stores address bytes) c is = store-admin address bytes c is
-kept-admin (Writes offset v) c is = write-admin offset v c is
-kept-admin one c is = is
 
 call-over : (k : ℕ) (m : Device) (call : Call) (p q : Subsystem) → At AreAdmin k p → CallStep true k p call q → IsCallOver k call p q m
 call-over k m Turns p q all h =

@@ -3,6 +3,7 @@ use Rattle.nvme_fleet.proofs.Words.{◌≡◌, ◌+◌, ℕ, zero, suc, Bool, Li
 use Rattle.nvme_driver.specs.Drivers as driver
 use Rattle.nvme_machine.specs.Controllers.{power_cycled}
 use Rattle.nvme_machine.specs.Subsystems.{numbered, replaced, with_controller}
+use Rattle.nvme_subsys.proofs.Numbers as numbers
 use Rattle.nvme_mailbox.specs.Deliveries as mail
 use Rattle.nvme_mailbox.specs.Fleets as mailboxes
 use Rattle.nvme_event.specs.declared.seen.FleetSeen.TheVariants as seen
@@ -45,22 +46,15 @@ hosts-so (d ∷ ds) (c ∷ cs) s =
     λ i. (host-so d c (s 0 d c refl refl) i) ∷ (hosts-so ds cs (λ j e k at there. s (suc j) e k at there) i)
 
 -- who stands at a place behind the power cycle stood there before
-driver-before : (ds : List (Option Driver)) (i : ℕ) (e : Option Driver) → slice_get (map (option_map after_reset) ds) i ≡ Some e
-    → (d : Option Driver) × (slice_get ds i ≡ Some d) × (e ≡ option_map after_reset d)
-driver-before [] i e h = absurd (cc)
-driver-before (d ∷ ds) zero e h = (d, refl, sym (same_Some _ _ h))
-driver-before (d ∷ ds) (suc i) e h = driver-before ds i e h
-
-controller-before : (cs : List Controller) (i : ℕ) (x : Controller) → slice_get (map power_cycled cs) i ≡ Some x
-    → (c : Controller) × (slice_get cs i ≡ Some c) × (x ≡ power_cycled c)
-controller-before [] i x h = absurd (cc)
-controller-before (c ∷ cs) zero x h = (c, refl, sym (same_Some _ _ h))
-controller-before (c ∷ cs) (suc i) x h = controller-before cs i x h
+before : {A : Type 0} (f : A → A) (xs : List A) (i : ℕ) (y : A) → slice_get (map f xs) i ≡ Some y → (x : A) × (slice_get xs i ≡ Some x) × (y ≡ f x)
+before f [] i y h = absurd (cc)
+before f (x ∷ xs) zero y h = (x, refl, sym (same_Some _ _ h))
+before f (x ∷ xs) (suc i) y h = before f xs i y h
 
 all-sound : (ds : List (Option Driver)) (cs : List Controller) → AllSound ds cs → AllSound (map (option_map after_reset) ds) (map power_cycled cs)
 all-sound ds cs s i e x at there =
-    let d = driver-before ds i e at in
-    let c = controller-before cs i x there in
+    let d = before (option_map after_reset) ds i e at in
+    let c = before power_cycled cs i x there in
     subst (λ f. SoundBy f x) (sym d.2) (subst (λ y. SoundBy (option_map after_reset d.0) y) (sym c.2) (sound-by d.0 c.0 (s i d.0 c.0 d.1 c.1)))
 
 -- The subsystem.
@@ -71,7 +65,7 @@ are-cycled s k c at = by k at
   where
     by : (k : ℕ) → numbered (map power_cycled s.controllers) k ≡ Some c → c ≡ power_cycled c
     by zero at = absurd (cc)
-    by (suc i) at = let b = controller-before s.controllers i c at in b.2 ∙ ap power_cycled (sym b.2)
+    by (suc i) at = let b = before power_cycled s.controllers i c at in b.2 ∙ ap power_cycled (sym b.2)
 
 -- a reset changes nothing at a controller that was not enabled since
 written : (c : Controller) → after_write32 driver.cc 0 (power_cycled c) ≡ power_cycled c
@@ -82,9 +76,7 @@ written-still c same = subst (λ x. after_write32 driver.cc 0 x ≡ x) (sym same
 
 set-same : (cs : List Controller) (k : ℕ) (c : Controller) → numbered cs k ≡ Some c → replaced cs k c ≡ cs
 set-same cs zero c at = refl
-set-same [] (suc i) c at = refl
-set-same (x ∷ cs) (suc zero) c at = ap (λ y. y ∷ cs) (sym (same_Some _ _ at))
-set-same (x ∷ cs) (suc (suc i)) c at = ap (λ ys. x ∷ ys) (set-same cs (suc i) c at)
+set-same cs (suc i) c at = numbers.set-same cs i c at
 
 -- what a reset gives at a controller, if it is there
 abbrev reset_seen : Option Controller → Seen

@@ -5,7 +5,7 @@ use Rattle.nvme_machine.specs.declared.event.Event.TheVariants as event
 use Rattle.nvme_machine.specs.Subsystems.{Step, Run, ExecutesAt, with_controller as with_controller_of}
 use Rattle.nvme_subsys.proofs.Numbers as numbers
 use Rattle.nvme_fleet.proofs.AdminTurns.{AreAdmin, fetch-admin, fetched_by, one-quiet}
-use Rattle.nvme_fleet.proofs.Seating.{controller-there, get-set, others-set}
+use Rattle.nvme_fleet.proofs.Seating.{controller-there, get-set}
 use Rattle.nvme_fleet.proofs.PlainCalls.{IsPlain}
 
 -- Runs of one event, and of two.
@@ -54,10 +54,8 @@ pub record IsPut (a b : Subsystem) (i : ℕ) (s : Setting) : Type 0 where
 
 pub is-put : (a b : Subsystem) (i : ℕ) (s : Setting) → i < length a.controllers → b ≡ with_setting a i s → IsPut a b i s
 is-put a b i s there h =
-    subst (λ x. IsPut a x i s) (sym h) (record {
-      setting_is = ap (λ c. setting c s.world s.device) (get-set a.controllers i s.controller (new_controller 0) there);
-      others = others-set a.world s.world a.device s.device a.controllers a i s.controller refl there;
-    })
+    let same : setting_in (with_setting a i s) i ≡ s = ap (λ c. setting c s.world s.device) (get-set a.controllers i s.controller (new_controller 0) there) in
+    subst (λ x. IsPut a x i s) (sym h) (record { setting_is = same; others = ap (with_setting a i) (sym same) })
 
 -- A call is a step of the setting, and the others stay.
 pub record IsStepThere (tells : Bool) (call : Call) (a b : Subsystem) (i : ℕ) : Type 0 where

@@ -8,7 +8,6 @@ use Rattle.nvme_driver.proofs.Rising.{IsSure, rises-alone, rises-keeps}
 use Rattle.nvme_machine.specs.declared.event.Event.TheVariants as event
 use Rattle.nvme_machine.specs.declared.seen.Seen.TheVariants as given
 use Rattle.nvme_machine.proofs.Determined as machine
-use Rattle.nvme_event.specs.declared.seen.FleetSeen.TheVariants as seen
 use Rattle.nvme_fleet.specs.declared.delivery.DriverCall.TheVariants as call
 use Rattle.nvme_fleet.specs.Layers.{Run, Step}
 use Rattle.nvme_fleet.proofs.Bytes.{runs_of_mailboxes}
@@ -239,28 +238,16 @@ poll-alone k d d' d'' old new other result calm one h g =
       ran-alone old new other (events_of_calls k (polled d h.oldest w).calls) calm h.ran (subst (λ o. Ran true old (events_of_calls k (polled d o w).calls) other) same g.ran),
     )
 
-up-is : (a b : Result (Unit {0}) UpFault) → seen.Up a ≡ seen.Up b → b ≡ a
-up-is a b h = cc
-
-placed-is : (a b : Result Ticket PlaceRefusal) → seen.Placed a ≡ seen.Placed b → b ≡ a
-placed-is a b h = cc
-
-rung-is : (a b : Result (Unit {0}) NotUp) → seen.Rung a ≡ seen.Rung b → b ≡ a
-rung-is a b h = cc
-
-polled-is : (a b : Result (Option Answer) PollFault) → seen.Polled a ≡ seen.Polled b → b ≡ a
-polled-is a b h = cc
-
 does-alone : (k : ℕ) (what : DriverCall) (d d' d'' : Driver) (old new other : Subsystem) (x : FleetSeen) → AreCalm old new other → HasTicketsOnce d → Does true k what d old x d' new → Does true k what d old x d'' other
     → Same d' d'' new other
 does-alone k call.BringUp d d' d'' old new other x calm one (result, is, h) (result', is', g) =
-    up-alone k d d' d'' old new other result calm h (subst (λ r. ComesUp true k d old r d'' other) (up-is result result' (sym is ∙ is')) g)
+    up-alone k d d' d'' old new other result calm h (subst (λ r. ComesUp true k d old r d'' other) (let same : result' ≡ result = cc in same) g)
 does-alone k (call.Place request) d d' d'' old new other x calm one (result, is, h) (result', is', g) =
-    place-alone k request d d' d'' old new other result calm h (subst (λ r. Places true k request d old r d'' other) (placed-is result result' (sym is ∙ is')) g)
+    place-alone k request d d' d'' old new other result calm h (subst (λ r. Places true k request d old r d'' other) (let same : result' ≡ result = cc in same) g)
 does-alone k call.Ring d d' d'' old new other x calm one (result, is, h) (result', is', g) =
-    ring-alone k d d' d'' old new other result calm h (subst (λ r. Rings true k d old r d'' other) (rung-is result result' (sym is ∙ is')) g)
+    ring-alone k d d' d'' old new other result calm h (subst (λ r. Rings true k d old r d'' other) (let same : result' ≡ result = cc in same) g)
 does-alone k call.Poll d d' d'' old new other x calm one (result, is, h) (result', is', g) =
-    poll-alone k d d' d'' old new other result calm one h (subst (λ r. Polls true k d old r d'' other) (polled-is result result' (sym is ∙ is')) g)
+    poll-alone k d d' d'' old new other result calm one h (subst (λ r. Polls true k d old r d'' other) (let same : result' ≡ result = cc in same) g)
 does-alone k call.Reset d d' d'' old new other x calm one (is, h) (is', g) =
     (g.0 ∙ sym h.0, ran-alone old new other (reset_events k) calm h.1 g.1)
 
@@ -326,9 +313,7 @@ layers-alone old new other e reply reply' calm all h g =
 
 pub layers_run_is_unique : LayersRunIsUnique
 layers_run_is_unique old new other [] [] [] all h g a b below = (refl, g ∙ sym h)
-layers_run_is_unique old new other [] (x ∷ later) others all h g a b below = absurd h
 layers_run_is_unique old new other [] [] (y ∷ others) all h g a b below = absurd g
-layers_run_is_unique old new other (e ∷ events) [] others all h g a b below = absurd h
 layers_run_is_unique old new other (e ∷ events) (x ∷ later) [] all h g a b below = absurd g
 layers_run_is_unique old new other (e ∷ events) (x ∷ later) (y ∷ others) all (mid, step, rest) (mid', step', rest') a b below =
     let p = step-counted old mid e x step in
@@ -341,3 +326,4 @@ layers_run_is_unique old new other (e ∷ events) (x ∷ later) (y ∷ others) a
     let r = layers_run_is_unique mid new other events later others (happens-once true old mid e x.seen step.below all) rest (subst (λ l. Run true l events others other) one.1 rest')
     (a ∙ sym still) (b ∙ sym still) (low mid.subsystem (count old.subsystem) still below) in
     ((λ i. one.0 i ∷ r.0 i), r.1)
+layers_run_is_unique old new other events replies others all h g a b below = absurd h
