@@ -1,5 +1,5 @@
 -- Without a fault of the medium there is one run of both layers over each list of events.
-use Rattle.nvme_fleet.proofs.Words.{◌≡◌, ◌≢◌, ◌⊎◌, inl, inr, ◌<◌, ◌≤◌, ℕ, zero, suc, ◌-◌, ◌^◌, ◌==◌, nat_lt, Bool, true, false, List, [], ◌∷◌, map, Option, None, Some, Result, Ok, Err, refl, sym, ap, subst, ◌∙◌, arith, option_map, slice_get, slice_set, if◌then◌else◌, replicate, cases_Bool, eqb-true, eqb-false, eq-eqb, none-some, same_Some, ControllerConfig, Answer, NotUp, PlaceRefusal, PollFault, UpFault, Request, Waiting, Ticket, Driver, after_reset, new_driver, stores_of, IsNotBelow, IsOldest, aborted_at, waiting_at, Event, Subsystem, FleetEvent, BringUp, Place, Ring, Fetch, Execute, Poll, Reset, RawStore, RawWrite32, PowerCycle, FleetSeen, Reply, DriverCall, CallStep, ComesUp, Does, DoesIfAny, Places, Polls, Ran, Rings, events_of, events_of_calls, reset_events, ring_events, window_at, Layers, fleet_in, opening_driver, Applies, AppliesRaw, CallsAt, Cycles, Happens, driver_at, with_driver, HasTicketsOnce, HaveTicketsOnce, LayersRunIsUnique, OpeningHasTicketsOnce, TicketsStayOnce, polled}
+use Rattle.nvme_fleet.proofs.Words.{◌≡◌, ◌≢◌, ◌⊎◌, inl, inr, ◌<◌, ◌≤◌, ℕ, zero, suc, ◌-◌, ◌^◌, ◌==◌, nat_lt, Bool, true, false, List, [], ◌∷◌, map, Option, None, Some, Result, Ok, Err, refl, sym, ap, subst, ◌∙◌, arith, option_map, slice_get, slice_set, if◌then◌else◌, replicate, cases_Bool, eqb-true, eqb-false, eq-eqb, none-some, same_Some, ControllerConfig, Answer, NotUp, PlaceRefusal, PollFault, UpFault, Request, Waiting, Ticket, Driver, after_reset, new_driver, stores_of, IsNotBelow, IsOldest, aborted_at, waiting_at, Event, Subsystem, FleetEvent, BringUp, Place, Ring, Fetch, Execute, Poll, Reset, RawStore, RawWrite32, PowerCycle, FleetSeen, Reply, DriverCall, CallStep, ComesUp, Does, DoesIfAny, Places, Polls, Ran, Rings, events_of, events_of_calls, reset_events, ring_events, window_at, Layers, fleet_in, opening_driver, Applies, AppliesRaw, CallsAt, Cycles, Happens, driver_at, with_driver, HasTicketsOnce, HaveTicketsOnce, LayersRunIsUnique, OpeningHasTicketsOnce, TicketsStayOnce, polled, Call, Rises, Seen, Turns}
 use Rattle.nvme_driver.specs.Drivers.{placed}
 use Rattle.nvme_driver.specs.Once as once
 use Rattle.nvme_driver.specs.Once.{bears, borne}
@@ -8,9 +8,13 @@ use Rattle.nvme_driver.proofs.Rising.{IsSure, rises-alone, rises-keeps}
 use Rattle.nvme_machine.specs.declared.event.Event.TheVariants as event
 use Rattle.nvme_machine.specs.declared.seen.Seen.TheVariants as given
 use Rattle.nvme_machine.proofs.Determined as machine
+use Rattle.nvme_machine.specs.Subsystems as machine_specs
 use Rattle.nvme_fleet.specs.declared.delivery.DriverCall.TheVariants as call
 use Rattle.nvme_fleet.specs.Layers.{Run, Step}
+use Rattle.nvme_driver.specs.Polls.{Poll as PollOf}
 use Rattle.nvme_fleet.proofs.Bytes.{runs_of_mailboxes}
+use Rattle.nvme_fleet.proofs.Mirrored.{AreQuiet, IsQuiet}
+use Rattle.nvme_fleet.proofs.PlainCalls.{IsPlain, plain-polled}
 use Rattle.nvme_mailbox.proofs.Determined.{failures_never_fall, step-alone, step-counts}
 
 -- Tickets stand in one slot at most.
@@ -205,92 +209,126 @@ sure k base below = record {
       ∙ h.answers);
 }
 
-ran-alone : (old new other : Subsystem) (events : List Event) → AreCalm old new other → Ran true old events new → Ran true old events other → other ≡ new
-ran-alone old new other events calm h g =
-    (machine.run_is_unique old other events g.0 g.1 calm.two calm.below).1 ∙ sym (machine.run_is_unique old new events h.0 h.1 calm.one calm.below).1
+-- A subsystem seen as another one, where all that executes nothing happens as well, and each bringing up.
+pub record IsCarried (g : Subsystem → Subsystem) : Type 0 where
+  pub window : (s : Subsystem) (k : ℕ) → window_at (g s) k ≡ window_at s k
+  pub step : (e : Event) (p q : Subsystem) (x : Seen) → IsQuiet e → machine_specs.Step true p e x q → machine_specs.Step true (g p) e x (g q)
+  pub run : (events : List Event) (given : List Seen) (p q : Subsystem) → AreQuiet events → machine_specs.Run true p events given q → machine_specs.Run true (g p) events given (g q)
+  pub rises : (k : ℕ) (d d' : Driver) (p q : Subsystem) (result : Result (Unit {0}) UpFault) → Rises (CallStep true k) (λ s. window_at s k) d p result d' q → Rises (CallStep true k) (λ s. window_at s k) d (g p) result d' (g q)
 
-abbrev Same : Driver → Driver → Subsystem → Subsystem → Type 0
-Same d d' new other = (d' ≡ d) × (other ≡ new)
+itself : IsCarried (λ s. s)
+itself = record { window = λ s k. refl; step = λ e p q x quiet h. h; run = λ events given p q quiet h. h; rises = λ k d d' p q result h. h }
 
-up-alone : (k : ℕ) (d d' d'' : Driver) (old new other : Subsystem) (result : Result (Unit {0}) UpFault) → AreCalm old new other → ComesUp true k d old result d' new → ComesUp true k d old result d'' other → Same d' d'' new other
-up-alone k d d' d'' old new other (Ok u) calm h g =
-    let r = rises-alone (CallStep true k) count (count old) (sure k (count old) calm.below) (λ s. window_at s k) d d' d'' old new other (Ok u) (Ok u) refl calm.one calm.two h g in
+quiet-calls : (k : ℕ) (calls : List Call) → IsPlain calls → AreQuiet (events_of_calls k calls)
+quiet-calls k [] plain = tt
+quiet-calls k (Turns ∷ calls) plain = absurd plain
+quiet-calls k (one ∷ calls) plain = (tt, quiet-calls k calls plain)
+
+-- What happens there has the same outcome, seen so.
+
+ran-alone : (g : Subsystem → Subsystem) → IsCarried g → (old new other : Subsystem) (events : List Event) → AreQuiet events → AreCalm (g old) (g new) other → Ran true old events new → Ran true (g old) events other → other ≡ g new
+ran-alone g c old new other events quiet calm h k =
+    (machine.run_is_unique (g old) other events k.0 k.1 calm.two calm.below).1 ∙ sym (machine.run_is_unique (g old) (g new) events h.0 (c.run events h.0 old new quiet h.1) calm.one calm.below).1
+
+abbrev Same : (Subsystem → Subsystem) → Driver → Driver → Subsystem → Subsystem → Type 0
+Same g d d' new other = (d' ≡ d) × (other ≡ g new)
+
+up-alone : (g : Subsystem → Subsystem) → IsCarried g → (k : ℕ) (d d' d'' : Driver) (old new other : Subsystem) (result : Result (Unit {0}) UpFault) → AreCalm (g old) (g new) other → ComesUp true k d old result d' new → ComesUp true k d (g old) result d'' other
+    → Same g d' d'' new other
+up-alone g c k d d' d'' old new other (Ok u) calm h also =
+    let r = rises-alone (CallStep true k) count (count (g old)) (sure k (count (g old)) calm.below) (λ s. window_at s k) d d' d'' (g old) (g new) other (Ok u) (Ok u) refl calm.one calm.two (c.rises k d d' old new (Ok u) h) also in
     (r.1, r.2)
-up-alone k d d' d'' old new other (Err fault) calm h g = (g.0 ∙ sym h.0, g.1 ∙ sym h.1)
+up-alone g c k d d' d'' old new other (Err fault) calm h also = (also.0 ∙ sym h.0, also.1 ∙ sym (ap g h.1))
 
-place-alone : (k : ℕ) (request : Request) (d d' d'' : Driver) (old new other : Subsystem) (result : Result Ticket PlaceRefusal) → AreCalm old new other → Places true k request d old result d' new → Places true k request d old result d'' other
-    → Same d' d'' new other
-place-alone k request d d' d'' old new other (Ok ticket) calm (slot, free, is, ran) (slot', free', is', ran') =
-    let same : slot' ≡ slot = same_Some _ _ (sym free' ∙ free) in
-    (is' ∙ ap (placed d request) same ∙ sym is, ran-alone old new other (events_of_calls k (stores_of d request slot)) calm ran (subst (λ n. Ran true old (events_of_calls k (stores_of d request n)) other) same ran'))
-place-alone k request d d' d'' old new other (Err why) calm h g = (g.0 ∙ sym h.0, g.1 ∙ sym h.1)
+place-alone : (g : Subsystem → Subsystem) → IsCarried g → (k : ℕ) (request : Request) (d d' d'' : Driver) (old new other : Subsystem) (result : Result Ticket PlaceRefusal) → AreCalm (g old) (g new) other
+    → Places true k request d old result d' new → Places true k request d (g old) result d'' other → Same g d' d'' new other
+place-alone g c k request d d' d'' old new other (Ok ticket) calm (slot, free, is, ran) (slot', free', is', ran') =
+    let same : slot' ≡ slot = same_Some _ _ (sym free' ∙ free) in (
+      is' ∙ ap (placed d request) same ∙ sym is,
+      ran-alone g c old new other (events_of_calls k (stores_of d request slot)) (quiet-calls k (stores_of d request slot) tt) calm ran (subst (λ n. Ran true (g old) (events_of_calls k (stores_of d request n)) other) same ran'),
+    )
+place-alone g c k request d d' d'' old new other (Err why) calm h also = (also.0 ∙ sym h.0, also.1 ∙ sym (ap g h.1))
 
-ring-alone : (k : ℕ) (d d' d'' : Driver) (old new other : Subsystem) (result : Result (Unit {0}) NotUp) → AreCalm old new other → Rings true k d old result d' new → Rings true k d old result d'' other → Same d' d'' new other
-ring-alone k d d' d'' old new other (Ok u) calm h g = (g.0 ∙ sym h.0, ran-alone old new other (ring_events k d) calm h.1 g.1)
-ring-alone k d d' d'' old new other (Err e) calm h g = (g.0 ∙ sym h.0, g.1 ∙ sym h.1)
+ring-alone : (g : Subsystem → Subsystem) → IsCarried g → (k : ℕ) (d d' d'' : Driver) (old new other : Subsystem) (result : Result (Unit {0}) NotUp) → AreCalm (g old) (g new) other → Rings true k d old result d' new → Rings true k d (g old) result d'' other
+    → Same g d' d'' new other
+ring-alone g c k d d' d'' old new other (Ok u) calm h also = (also.0 ∙ sym h.0, ran-alone g c old new other (ring_events k d) (tt, (tt, tt)) calm h.1 also.1)
+ring-alone g c k d d' d'' old new other (Err e) calm h also = (also.0 ∙ sym h.0, also.1 ∙ sym (ap g h.1))
 
-poll-alone : (k : ℕ) (d d' d'' : Driver) (old new other : Subsystem) (result : Result (Option Answer) PollFault) → AreCalm old new other → HasTicketsOnce d → Polls true k d old result d' new → Polls true k d old result d'' other
-    → Same d' d'' new other
-poll-alone k d d' d'' old new other result calm one h g =
-    let w : List ℕ = window_at old k in
-    let same : g.oldest ≡ h.oldest = oldest-alone d h.oldest g.oldest one h.is_oldest g.is_oldest in (
-      g.driver ∙ ap (λ o. (polled d o w).driver) same ∙ sym h.driver,
-      ran-alone old new other (events_of_calls k (polled d h.oldest w).calls) calm h.ran (subst (λ o. Ran true old (events_of_calls k (polled d o w).calls) other) same g.ran),
+poll-alone : (g : Subsystem → Subsystem) → IsCarried g → (k : ℕ) (d d' d'' : Driver) (old new other : Subsystem) (result : Result (Option Answer) PollFault) → AreCalm (g old) (g new) other → HasTicketsOnce d
+    → Polls true k d old result d' new → Polls true k d (g old) result d'' other → Same g d' d'' new other
+poll-alone g c k d d' d'' old new other result calm one h also =
+    let x : PollOf = polled d h.oldest (window_at old k) in
+    let oldest : also.oldest ≡ h.oldest = oldest-alone d h.oldest also.oldest one h.is_oldest also.is_oldest in
+    let same : polled d also.oldest (window_at (g old) k) ≡ x = λ j. polled d (oldest j) (c.window old k j) in (
+      also.driver ∙ ap (λ (y : PollOf). y.driver) same ∙ sym h.driver,
+      ran-alone g c old new other (events_of_calls k x.calls) (quiet-calls k x.calls (plain-polled d h.oldest (window_at old k))) calm h.ran (subst (λ (y : PollOf). Ran true (g old) (events_of_calls k y.calls) other) same also.ran),
     )
 
-does-alone : (k : ℕ) (what : DriverCall) (d d' d'' : Driver) (old new other : Subsystem) (x : FleetSeen) → AreCalm old new other → HasTicketsOnce d → Does true k what d old x d' new → Does true k what d old x d'' other
-    → Same d' d'' new other
-does-alone k call.BringUp d d' d'' old new other x calm one (result, is, h) (result', is', g) =
-    up-alone k d d' d'' old new other result calm h (subst (λ r. ComesUp true k d old r d'' other) (let same : result' ≡ result = cc in same) g)
-does-alone k (call.Place request) d d' d'' old new other x calm one (result, is, h) (result', is', g) =
-    place-alone k request d d' d'' old new other result calm h (subst (λ r. Places true k request d old r d'' other) (let same : result' ≡ result = cc in same) g)
-does-alone k call.Ring d d' d'' old new other x calm one (result, is, h) (result', is', g) =
-    ring-alone k d d' d'' old new other result calm h (subst (λ r. Rings true k d old r d'' other) (let same : result' ≡ result = cc in same) g)
-does-alone k call.Poll d d' d'' old new other x calm one (result, is, h) (result', is', g) =
-    poll-alone k d d' d'' old new other result calm one h (subst (λ r. Polls true k d old r d'' other) (let same : result' ≡ result = cc in same) g)
-does-alone k call.Reset d d' d'' old new other x calm one (is, h) (is', g) =
-    (g.0 ∙ sym h.0, ran-alone old new other (reset_events k) calm h.1 g.1)
+does-alone : (g : Subsystem → Subsystem) → IsCarried g → (k : ℕ) (what : DriverCall) (d d' d'' : Driver) (old new other : Subsystem) (x : FleetSeen) → AreCalm (g old) (g new) other → HasTicketsOnce d → Does true k what d old x d' new
+    → Does true k what d (g old) x d'' other → Same g d' d'' new other
+does-alone g c k call.BringUp d d' d'' old new other x calm one (result, is, h) (result', is', also) =
+    up-alone g c k d d' d'' old new other result calm h (subst (λ r. ComesUp true k d (g old) r d'' other) (let same : result' ≡ result = cc in same) also)
+does-alone g c k (call.Place request) d d' d'' old new other x calm one (result, is, h) (result', is', also) =
+    place-alone g c k request d d' d'' old new other result calm h (subst (λ r. Places true k request d (g old) r d'' other) (let same : result' ≡ result = cc in same) also)
+does-alone g c k call.Ring d d' d'' old new other x calm one (result, is, h) (result', is', also) =
+    ring-alone g c k d d' d'' old new other result calm h (subst (λ r. Rings true k d (g old) r d'' other) (let same : result' ≡ result = cc in same) also)
+does-alone g c k call.Poll d d' d'' old new other x calm one (result, is, h) (result', is', also) =
+    poll-alone g c k d d' d'' old new other result calm one h (subst (λ r. Polls true k d (g old) r d'' other) (let same : result' ≡ result = cc in same) also)
+does-alone g c k call.Reset d d' d'' old new other x calm one (is, h) (is', also) =
+    (also.0 ∙ sym h.0, ran-alone g c old new other (reset_events k) (tt, tt) calm h.1 also.1)
 
-any-alone : (k : ℕ) (what : DriverCall) (o e f : Option Driver) (old new other : Subsystem) (x : FleetSeen) → AreCalm old new other → ((d : Driver) → o ≡ Some d → HasTicketsOnce d) → DoesIfAny true k what o old x e new
-    → DoesIfAny true k what o old x f other → (f ≡ e) × (other ≡ new)
-any-alone k what None e f old new other x calm one h g = (g.1 ∙ sym h.1, g.2 ∙ sym h.2)
-any-alone k what (Some d) e f old new other x calm one (d', made, h) (d'', made', g) =
-    let r = does-alone k what d d' d'' old new other x calm (one d refl) h g in
+any-alone : (g : Subsystem → Subsystem) → IsCarried g → (k : ℕ) (what : DriverCall) (o e f : Option Driver) (old new other : Subsystem) (x : FleetSeen) → AreCalm (g old) (g new) other → ((d : Driver) → o ≡ Some d → HasTicketsOnce d)
+    → DoesIfAny true k what o old x e new → DoesIfAny true k what o (g old) x f other → (f ≡ e) × (other ≡ g new)
+any-alone g c k what None e f old new other x calm one h also = (also.1 ∙ sym h.1, also.2 ∙ sym (ap g h.2))
+any-alone g c k what (Some d) e f old new other x calm one (d', made, h) (d'', made', also) =
+    let r = does-alone g c k what d d' d'' old new other x calm (one d refl) h also in
     (made' ∙ ap Some r.0 ∙ sym made, r.1)
 
--- both layers
-together : (new other : Layers) → other.subsystem ≡ new.subsystem → other.drivers ≡ new.drivers → other ≡ new
-together new other s d = λ i. record { subsystem = s i; drivers = d i }
+-- both layers, seen so
+abbrev pub carried : (Subsystem → Subsystem) → Layers → Layers
+carried g l = record l { subsystem = g l.subsystem }
 
-calls-alone : (o : Option (Option Driver)) (old new other : Layers) (k : ℕ) (what : DriverCall) (x : FleetSeen) → AreCalm old.subsystem new.subsystem other.subsystem → driver_at old.drivers k ≡ o → HaveTicketsOnce old
-    → CallsAt o true old k what x new → CallsAt o true old k what x other → other ≡ new
-calls-alone None old new other k what x calm at all h g = g.1 ∙ sym h.1
-calls-alone (Some o) old new other k what x calm at all (e, drivers, h) (f, drivers', g) =
-    let r = any-alone k what o e f old.subsystem new.subsystem other.subsystem x calm (λ d is. at-once old k d all (at ∙ ap Some is)) h g in
-    together new other r.1 (drivers' ∙ ap (with_driver old.drivers k) r.0 ∙ sym drivers)
+together : (g : Subsystem → Subsystem) (new other : Layers) → other.subsystem ≡ g new.subsystem → other.drivers ≡ new.drivers → other ≡ carried g new
+together g new other s d = λ i. record { subsystem = s i; drivers = d i }
 
-applies-alone : (old new other : Layers) (e : Event) (x : FleetSeen) → AreCalm old.subsystem new.subsystem other.subsystem → Applies true old e x new → Applies true old e x other → other ≡ new
-applies-alone old new other e x calm h g =
-    together new other
-    ((machine.step-alone old.subsystem other.subsystem e g.given g.step calm.two calm.below).1 ∙ sym (machine.step-alone old.subsystem new.subsystem e h.given h.step calm.one calm.below).1)
-    (g.drivers ∙ sym h.drivers)
+calls-alone : (g : Subsystem → Subsystem) → IsCarried g → (o : Option (Option Driver)) (old new other : Layers) (k : ℕ) (what : DriverCall) (x : FleetSeen) → AreCalm (g old.subsystem) (g new.subsystem) other.subsystem → driver_at old.drivers k ≡ o
+    → HaveTicketsOnce old → CallsAt o true old k what x new → CallsAt o true (carried g old) k what x other → other ≡ carried g new
+calls-alone g c None old new other k what x calm at all h also = also.1 ∙ ap (carried g) (sym h.1)
+calls-alone g c (Some o) old new other k what x calm at all (e, drivers, h) (f, drivers', also) =
+    let r = any-alone g c k what o e f old.subsystem new.subsystem other.subsystem x calm (λ d is. at-once old k d all (at ∙ ap Some is)) h also in
+    together g new other r.1 (drivers' ∙ ap (with_driver old.drivers k) r.0 ∙ sym drivers)
 
-raw-alone : (o : Option (Option Driver)) (old new other : Layers) (e : Event) (x : FleetSeen) → AreCalm old.subsystem new.subsystem other.subsystem → AppliesRaw o true old e x new → AppliesRaw o true old e x other → other ≡ new
-raw-alone None old new other e x calm h g = g.1 ∙ sym h.1
-raw-alone (Some None) old new other e x calm h g = applies-alone old new other e x calm h g
-raw-alone (Some (Some d)) old new other e x calm h g = g.1 ∙ sym h.1
+applies-alone : (g : Subsystem → Subsystem) (old new other : Layers) (e : Event) (x : FleetSeen) → ((y : Seen) → machine_specs.Step true old.subsystem e y new.subsystem → machine_specs.Step true (g old.subsystem) e y (g new.subsystem))
+    → AreCalm (g old.subsystem) (g new.subsystem) other.subsystem → Applies true old e x new → Applies true (carried g old) e x other → other ≡ carried g new
+applies-alone g old new other e x seen calm h also =
+    together g new other
+    ((machine.step-alone (g old.subsystem) other.subsystem e also.given also.step calm.two calm.below).1 ∙ sym (machine.step-alone (g old.subsystem) (g new.subsystem) e h.given (seen h.given h.step) calm.one calm.below).1)
+    (also.drivers ∙ sym h.drivers)
+
+raw-alone : (g : Subsystem → Subsystem) → IsCarried g → (o : Option (Option Driver)) (old new other : Layers) (e : Event) (x : FleetSeen) → IsQuiet e → AreCalm (g old.subsystem) (g new.subsystem) other.subsystem → AppliesRaw o true old e x new
+    → AppliesRaw o true (carried g old) e x other → other ≡ carried g new
+raw-alone g c None old new other e x quiet calm h also = also.1 ∙ ap (carried g) (sym h.1)
+raw-alone g c (Some None) old new other e x quiet calm h also = applies-alone g old new other e x (λ y s. c.step e old.subsystem new.subsystem y quiet s) calm h also
+raw-alone g c (Some (Some d)) old new other e x quiet calm h also = also.1 ∙ ap (carried g) (sym h.1)
+
+-- an execution is seen so where its step is
+pub happens-alike : (g : Subsystem → Subsystem) → IsCarried g → (old new other : Layers) (e : FleetEvent) (x : FleetSeen)
+    → ((k i : ℕ) → e ≡ Execute k i → (y : Seen) → machine_specs.Step true old.subsystem (event.Execute k i) y new.subsystem → machine_specs.Step true (g old.subsystem) (event.Execute k i) y (g new.subsystem))
+    → AreCalm (g old.subsystem) (g new.subsystem) other.subsystem → HaveTicketsOnce old → Happens true old e x new → Happens true (carried g old) e x other → other ≡ carried g new
+happens-alike g c old new other (BringUp k) x seen calm all h also = calls-alone g c (driver_at old.drivers k) old new other k call.BringUp x calm refl all h also
+happens-alike g c old new other (Place k request) x seen calm all h also = calls-alone g c (driver_at old.drivers k) old new other k (call.Place request) x calm refl all h also
+happens-alike g c old new other (Ring k) x seen calm all h also = calls-alone g c (driver_at old.drivers k) old new other k call.Ring x calm refl all h also
+happens-alike g c old new other (Fetch k q) x seen calm all h also = applies-alone g old new other (event.Fetch k q) x (λ y s. c.step (event.Fetch k q) old.subsystem new.subsystem y tt s) calm h also
+happens-alike g c old new other (Execute k i) x seen calm all h also = applies-alone g old new other (event.Execute k i) x (seen k i refl) calm h also
+happens-alike g c old new other (Poll k) x seen calm all h also = calls-alone g c (driver_at old.drivers k) old new other k call.Poll x calm refl all h also
+happens-alike g c old new other (Reset k) x seen calm all h also = calls-alone g c (driver_at old.drivers k) old new other k call.Reset x calm refl all h also
+happens-alike g c old new other (RawStore k address bytes) x seen calm all h also = raw-alone g c (driver_at old.drivers k) old new other (event.Store k address bytes) x tt calm h also
+happens-alike g c old new other (RawWrite32 k offset v) x seen calm all h also = raw-alone g c (driver_at old.drivers k) old new other (event.Write32 k offset v) x tt calm h also
+happens-alike g c old new other PowerCycle x seen calm all h also =
+    together g new other (also.cycled ∙ sym (c.step event.PowerCycle old.subsystem new.subsystem given.Cycled tt (refl, h.cycled)).1) (also.drivers ∙ sym h.drivers)
 
 pub happens-alone : (old new other : Layers) (e : FleetEvent) (x : FleetSeen) → AreCalm old.subsystem new.subsystem other.subsystem → HaveTicketsOnce old → Happens true old e x new → Happens true old e x other → other ≡ new
-happens-alone old new other (BringUp k) x calm all h g = calls-alone (driver_at old.drivers k) old new other k call.BringUp x calm refl all h g
-happens-alone old new other (Place k request) x calm all h g = calls-alone (driver_at old.drivers k) old new other k (call.Place request) x calm refl all h g
-happens-alone old new other (Ring k) x calm all h g = calls-alone (driver_at old.drivers k) old new other k call.Ring x calm refl all h g
-happens-alone old new other (Fetch k q) x calm all h g = applies-alone old new other (event.Fetch k q) x calm h g
-happens-alone old new other (Execute k i) x calm all h g = applies-alone old new other (event.Execute k i) x calm h g
-happens-alone old new other (Poll k) x calm all h g = calls-alone (driver_at old.drivers k) old new other k call.Poll x calm refl all h g
-happens-alone old new other (Reset k) x calm all h g = calls-alone (driver_at old.drivers k) old new other k call.Reset x calm refl all h g
-happens-alone old new other (RawStore k address bytes) x calm all h g = raw-alone (driver_at old.drivers k) old new other (event.Store k address bytes) x calm h g
-happens-alone old new other (RawWrite32 k offset v) x calm all h g = raw-alone (driver_at old.drivers k) old new other (event.Write32 k offset v) x calm h g
-happens-alone old new other PowerCycle x calm all h g = together new other (g.cycled ∙ sym h.cycled) (g.drivers ∙ sym h.drivers)
+happens-alone old new other e x calm all h also = happens-alike (λ s. s) itself old new other e x (λ k i is y s. s) calm all h also
 
 -- One event.
 
