@@ -1,6 +1,6 @@
 -- Bytes of namespaces change only by executions, which are one event of the subsystem each; and windows of other hosts
 -- stay over every event.
-use Rattle.nvme_fleet.proofs.Words.{fault_free_step, ◌≡◌, ◌≢◌, ◌⊎◌, inl, inr, ℕ, Bool, true, false, List, [], ◌∷◌, ◌++◌, Option, None, Some, Result, Ok, Err, refl, sym, ap, subst, ◌∙◌, option_map, AllByRecursion, Device, IsLaidOut, bytes_of, may_write, World, NotUp, PlaceRefusal, UpFault, Request, Ticket, Call, Turns, Driver, stores_of, Rises, IsMapped, rises-mapped, Event, Seen, Cycled, Controller, with_marks, Subsystem, controller_at, FleetEvent, BringUp, Place, Ring, Fetch, Execute, Poll, Reset, RawStore, RawWrite32, PowerCycle, FleetSeen, OfItsHost, Reply, DriverCall, FencedEventsWriteNothing, LayoutStays, OthersWindowsStay, RunsOfMailboxes, is_laid_out, namespace_bytes, CallStep, ComesUp, Does, DoesIfAny, Places, Rings, events_of, events_of_calls, reset_events, ring_events, window_at, window_of, Site, Fleet, Is, Moment, Layers, fleet_in, Applies, AppliesRaw, CallsAt, Cycles, driver_at, polled}
+use Rattle.nvme_fleet.proofs.Words.{fault_free_step, ◌≡◌, ◌≢◌, ◌⊎◌, inl, inr, ℕ, Bool, true, false, List, [], ◌∷◌, ◌++◌, Option, None, Some, Result, Ok, Err, refl, sym, ap, subst, ◌∙◌, option_map, AllByRecursion, Device, IsLaidOut, bytes_of, may_write, World, UpFault, Call, Turns, Driver, stores_of, Rises, IsMapped, rises-mapped, Event, Seen, Cycled, Controller, with_marks, Subsystem, controller_at, FleetEvent, BringUp, Place, Ring, Fetch, Execute, Poll, Reset, RawStore, RawWrite32, PowerCycle, FleetSeen, OfItsHost, Reply, DriverCall, FencedEventsWriteNothing, LayoutStays, OthersWindowsStay, RunsOfMailboxes, is_laid_out, namespace_bytes, CallStep, Does, DoesIfAny, events_of, events_of_calls, reset_events, ring_events, window_at, window_of, Site, Fleet, Is, Moment, Layers, fleet_in, Applies, AppliesRaw, CallsAt, Cycles, driver_at, polled}
 use Rattle.nvme_machine.specs.declared.event.Event.TheVariants as event
 use Rattle.nvme_machine.specs.Controllers.{power_cycled}
 use Rattle.nvme_machine.specs.Runs.{IsMarkedBy}
@@ -132,22 +132,13 @@ rises-window tells k j d d' old new result other h =
 same-window : (j : ℕ) (old new : Subsystem) → new ≡ old → window_at new j ≡ window_at old j
 same-window j old new e = ap (λ s. window_at s j) e
 
-up-window : (tells : Bool) (k j : ℕ) (d d' : Driver) (old new : Subsystem) (result : Result (Unit {0}) UpFault) → j ≢ k → ComesUp tells k d old result d' new → window_at new j ≡ window_at old j
-up-window tells k j d d' old new (Ok u) other h = rises-window tells k j d d' old new (Ok u) other h
-up-window tells k j d d' old new (Err fault) other h = same-window j old new h.1
-
-place-window : (tells : Bool) (k j : ℕ) (request : Request) (d d' : Driver) (old new : Subsystem) (result : Result Ticket PlaceRefusal) → j ≢ k → Places tells k request d old result d' new → window_at new j ≡ window_at old j
-place-window tells k j request d d' old new (Ok t) other (slot, free, is, ran) = ran-window tells k j (events_of_calls k (stores_of d request slot)) ran.0 old new other (of-calls k (stores_of d request slot)) ran.1
-place-window tells k j request d d' old new (Err why) other h = same-window j old new h.1
-
-ring-window : (tells : Bool) (k j : ℕ) (d d' : Driver) (old new : Subsystem) (result : Result (Unit {0}) NotUp) → j ≢ k → Rings tells k d old result d' new → window_at new j ≡ window_at old j
-ring-window tells k j d d' old new (Ok u) other (same, ran) = ran-window tells k j (ring_events k d) ran.0 old new other (refl, (refl, tt)) ran.1
-ring-window tells k j d d' old new (Err e) other h = same-window j old new h.1
-
 does-window : (tells : Bool) (k j : ℕ) (what : DriverCall) (d d' : Driver) (old new : Subsystem) (x : FleetSeen) → j ≢ k → Does tells k what d old x d' new → window_at new j ≡ window_at old j
-does-window tells k j call.BringUp d d' old new x other (result, is, h) = up-window tells k j d d' old new result other h
-does-window tells k j (call.Place request) d d' old new x other (result, is, h) = place-window tells k j request d d' old new result other h
-does-window tells k j call.Ring d d' old new x other (result, is, h) = ring-window tells k j d d' old new result other h
+does-window tells k j call.BringUp d d' old new x other (Ok u, is, h) = rises-window tells k j d d' old new (Ok u) other h
+does-window tells k j call.BringUp d d' old new x other (Err fault, is, h) = same-window j old new h.1
+does-window tells k j (call.Place request) d d' old new x other (Ok ticket, is, (slot, free, made, ran)) = ran-window tells k j (events_of_calls k (stores_of d request slot)) ran.0 old new other (of-calls k (stores_of d request slot)) ran.1
+does-window tells k j (call.Place request) d d' old new x other (Err why, is, h) = same-window j old new h.1
+does-window tells k j call.Ring d d' old new x other (Ok u, is, (same, ran)) = ran-window tells k j (ring_events k d) ran.0 old new other (refl, (refl, tt)) ran.1
+does-window tells k j call.Ring d d' old new x other (Err why, is, h) = same-window j old new h.1
 does-window tells k j call.Poll d d' old new x other (result, is, h) =
     (let r = h.ran in ran-window tells k j (events_of_calls k (polled d h.oldest (window_at old k)).calls) r.0 old new other (of-calls k (polled d h.oldest (window_at old k)).calls) r.1)
 does-window tells k j call.Reset d d' old new x other (is, h) = (let r = h.1 in ran-window tells k j (reset_events k) r.0 old new other (refl, tt) r.1)

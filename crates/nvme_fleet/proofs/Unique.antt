@@ -1,5 +1,5 @@
 -- Without a fault of the medium there is one run of both layers over each list of events.
-use Rattle.nvme_fleet.proofs.Words.{◌≡◌, ◌≢◌, ◌⊎◌, inl, inr, ◌<◌, ◌≤◌, ℕ, zero, suc, ◌-◌, ◌^◌, ◌==◌, nat_lt, Bool, true, false, List, [], ◌∷◌, map, Option, None, Some, Result, Ok, Err, refl, sym, ap, subst, ◌∙◌, arith, option_map, slice_get, slice_set, if◌then◌else◌, replicate, cases_Bool, eqb-true, eqb-false, eq-eqb, none-some, same_Some, ControllerConfig, Answer, NotUp, PlaceRefusal, PollFault, UpFault, Request, Waiting, Ticket, Driver, after_reset, new_driver, stores_of, IsNotBelow, IsOldest, aborted_at, waiting_at, Event, Subsystem, FleetEvent, BringUp, Place, Ring, Fetch, Execute, Poll, Reset, RawStore, RawWrite32, PowerCycle, FleetSeen, Reply, DriverCall, CallStep, ComesUp, Does, DoesIfAny, Places, Polls, Ran, Rings, events_of, events_of_calls, reset_events, ring_events, window_at, Layers, fleet_in, opening_driver, Applies, AppliesRaw, CallsAt, Cycles, Happens, driver_at, with_driver, HasTicketsOnce, HaveTicketsOnce, LayersRunIsUnique, OpeningHasTicketsOnce, TicketsStayOnce, polled, Call, Rises, Seen, Turns}
+use Rattle.nvme_fleet.proofs.Words.{◌≡◌, ◌⊎◌, inl, inr, ◌<◌, ◌≤◌, ℕ, zero, suc, ◌-◌, ◌^◌, nat_lt, Bool, true, false, List, [], ◌∷◌, map, Option, None, Some, Result, Ok, Err, refl, sym, ap, subst, ◌∙◌, arith, option_map, slice_get, slice_set, if◌then◌else◌, replicate, cases_Bool, eqb-true, eq-eqb, none-some, same_Some, ControllerConfig, Answer, NotUp, PlaceRefusal, PollFault, UpFault, Request, Waiting, Ticket, Driver, after_reset, new_driver, stores_of, IsNotBelow, IsOldest, aborted_at, waiting_at, Event, Subsystem, FleetEvent, BringUp, Place, Ring, Fetch, Execute, Poll, Reset, RawStore, RawWrite32, PowerCycle, FleetSeen, Reply, DriverCall, CallStep, ComesUp, Does, DoesIfAny, Places, Polls, Ran, Rings, events_of, events_of_calls, reset_events, ring_events, window_at, Layers, fleet_in, opening_driver, Applies, AppliesRaw, CallsAt, Cycles, Happens, driver_at, with_driver, HasTicketsOnce, HaveTicketsOnce, LayersRunIsUnique, OpeningHasTicketsOnce, TicketsStayOnce, polled, Call, Rises, Seen, Turns, eqb}
 use Rattle.nvme_driver.specs.Drivers.{placed}
 use Rattle.nvme_driver.specs.Once as once
 use Rattle.nvme_driver.specs.Once.{bears, borne}
@@ -14,6 +14,7 @@ use Rattle.nvme_fleet.specs.Layers.{Run, Step}
 use Rattle.nvme_driver.specs.Polls.{Poll as PollOf}
 use Rattle.nvme_fleet.proofs.Bytes.{runs_of_mailboxes}
 use Rattle.nvme_fleet.proofs.Mirrored.{AreQuiet, IsQuiet}
+use Rattle.nvme_fleet.proofs.Orders.{pending-other}
 use Rattle.nvme_fleet.proofs.PlainCalls.{IsPlain, plain-polled}
 use Rattle.nvme_mailbox.proofs.Determined.{failures_never_fall, step-alone, step-counts}
 
@@ -22,30 +23,20 @@ use Rattle.nvme_mailbox.proofs.Determined.{failures_never_fall, step-alone, step
 keeps-once : (what : once.Event) (d d' : Driver) → once.Happens what d d' → HasTicketsOnce d → HasTicketsOnce d'
 keeps-once what d d' h one t = let k = once_proofs.step t what d d' h in let few = one t in omega (arith, k, few)
 
-stays-once : (d d' : Driver) → (d'.slots ≡ d.slots) × (d'.next ≡ d.next) → HasTicketsOnce d → HasTicketsOnce d'
-stays-once d d' h one = keeps-once once.Stays d d' h one
+-- a driver whose slots and next ticket stay
+same-slots : (d d' : Driver) → d' ≡ d → once.Happens once.Stays d d'
+same-slots d d' e = (ap (λ (x : Driver). x.slots) e, ap (λ (x : Driver). x.next) e)
 
-same-once : (d d' : Driver) → d' ≡ d → HasTicketsOnce d → HasTicketsOnce d'
-same-once d d' e one = subst HasTicketsOnce (sym e) one
-
-up-once : (tells : Bool) (k : ℕ) (d d' : Driver) (old new : Subsystem) (result : Result (Unit {0}) UpFault) → ComesUp tells k d old result d' new → HasTicketsOnce d → HasTicketsOnce d'
-up-once tells k d d' old new (Ok u) h one = stays-once d d' (rises-keeps (CallStep tells k) (λ s. window_at s k) d d' old new (Ok u) h) one
-up-once tells k d d' old new (Err fault) h one = same-once d d' h.0 one
-
-place-once : (tells : Bool) (k : ℕ) (request : Request) (d d' : Driver) (old new : Subsystem) (result : Result Ticket PlaceRefusal) → Places tells k request d old result d' new → HasTicketsOnce d → HasTicketsOnce d'
-place-once tells k request d d' old new (Ok ticket) (slot, free, is, ran) one = keeps-once (once.Places request slot) d d' (free, is) one
-place-once tells k request d d' old new (Err why) h one = same-once d d' h.0 one
-
-ring-once : (tells : Bool) (k : ℕ) (d d' : Driver) (old new : Subsystem) (result : Result (Unit {0}) NotUp) → Rings tells k d old result d' new → HasTicketsOnce d → HasTicketsOnce d'
-ring-once tells k d d' old new (Ok u) h one = same-once d d' h.0 one
-ring-once tells k d d' old new (Err e) h one = same-once d d' h.0 one
-
-does-once : (tells : Bool) (k : ℕ) (what : DriverCall) (d d' : Driver) (old new : Subsystem) (x : FleetSeen) → Does tells k what d old x d' new → HasTicketsOnce d → HasTicketsOnce d'
-does-once tells k call.BringUp d d' old new x (result, is, h) one = up-once tells k d d' old new result h one
-does-once tells k (call.Place request) d d' old new x (result, is, h) one = place-once tells k request d d' old new result h one
-does-once tells k call.Ring d d' old new x (result, is, h) one = ring-once tells k d d' old new result h one
-does-once tells k call.Poll d d' old new x (result, is, h) one = keeps-once (once.Polls h.oldest (window_at old k)) d d' (h.is_oldest, h.driver) one
-does-once tells k call.Reset d d' old new x (is, h) one = keeps-once once.Resets d d' h.0 one
+-- what a call of a driver does to its requests
+does-once : (tells : Bool) (k : ℕ) (what : DriverCall) (d d' : Driver) (old new : Subsystem) (x : FleetSeen) → Does tells k what d old x d' new → (e : once.Event) × once.Happens e d d'
+does-once tells k call.BringUp d d' old new x (Ok u, is, h) = (once.Stays, rises-keeps (CallStep tells k) (λ s. window_at s k) d d' old new (Ok u) h)
+does-once tells k call.BringUp d d' old new x (Err fault, is, h) = (once.Stays, same-slots d d' h.0)
+does-once tells k (call.Place request) d d' old new x (Ok ticket, is, (slot, free, made, ran)) = (once.Places request slot, (free, made))
+does-once tells k (call.Place request) d d' old new x (Err why, is, h) = (once.Stays, same-slots d d' h.0)
+does-once tells k call.Ring d d' old new x (Ok u, is, h) = (once.Stays, same-slots d d' h.0)
+does-once tells k call.Ring d d' old new x (Err why, is, h) = (once.Stays, same-slots d d' h.0)
+does-once tells k call.Poll d d' old new x (result, is, h) = (once.Polls h.oldest (window_at old k), (h.is_oldest, h.driver))
+does-once tells k call.Reset d d' old new x (is, h) = (once.Resets, h.0)
 
 -- what stands in a list where one place became this
 set-get : (xs : List (Option Driver)) (n : ℕ) (e : Option Driver) (i : ℕ) (y : Option Driver) → slice_get (slice_set xs n e) i ≡ Some y → (e ≡ y) ⊎ (slice_get xs i ≡ Some y)
@@ -67,7 +58,8 @@ any-once : (tells : Bool) (k : ℕ) (what : DriverCall) (o e : Option Driver) (o
     → (d : Driver) → e ≡ Some d → HasTicketsOnce d
 any-once tells k what None e old new x one h d is = absurd (none-some _ (sym h.1 ∙ is))
 any-once tells k what (Some f) e old new x one (d', made, h) d is =
-    subst HasTicketsOnce (same_Some _ _ (sym made ∙ is)) (does-once tells k what f d' old new x h (one f refl))
+    let e = does-once tells k what f d' old new x h in
+    subst HasTicketsOnce (same_Some _ _ (sym made ∙ is)) (keeps-once e.0 f d' e.1 (one f refl))
 
 driver-once : (o e : Option Driver) (tells : Bool) (old new : Layers) (k : ℕ) (what : DriverCall) (x : FleetSeen) → driver_at old.drivers k ≡ Some o → new.drivers ≡ with_driver old.drivers k e
     → DoesIfAny tells k what o old.subsystem x e new.subsystem → HaveTicketsOnce old → HaveTicketsOnce new
@@ -145,31 +137,24 @@ opening_has_tickets_once c v i d found = opened-each c.controllers i d found
 
 -- The oldest aborted request is one.
 
-borne-twice : (d : Driver) (i j : ℕ) (v w : Waiting) → HasTicketsOnce d → i ≢ j → waiting_at d.slots i ≡ Some v → waiting_at d.slots j ≡ Some w → v.ticket.0 ≡ w.ticket.0 → ⊥
+borne-twice : (d : Driver) (i j : ℕ) (v w : Waiting) → HasTicketsOnce d → eqb j i ≡ false → waiting_at d.slots i ≡ Some v → waiting_at d.slots j ≡ Some w → v.ticket.0 ≡ w.ticket.0 → ⊥
 borne-twice d i j v w one apart here there same =
     let t : ℕ = v.ticket.0 in
     let a = once_proofs.taken t d.slots i v here in
-    let b = once_proofs.taken t (slice_set d.slots i None) j w (other d.slots i j apart ∙ there) in
+    let b = once_proofs.taken t (slice_set d.slots i None) j w (pending-other d.slots i j apart ∙ there) in
     let p : bears t (Some v) ≡ 1 = ap (λ (x : Bool). if x then 1 else 0) (eq-eqb v.ticket.0 t refl) in
     let q : bears t (Some w) ≡ 1 = ap (λ (x : Bool). if x then 1 else 0) (eq-eqb w.ticket.0 t (sym same)) in
     let few = one t in
     omega (arith, a, b, p, q, few)
-  where
-    other : (xs : List (Option Waiting)) (i j : ℕ) → i ≢ j → waiting_at (slice_set xs i None) j ≡ waiting_at xs j
-    other [] i j apart = refl
-    other (x ∷ xs) zero zero apart = absurd (apart refl)
-    other (x ∷ xs) zero (suc j) apart = refl
-    other (x ∷ xs) (suc i) zero apart = refl
-    other (x ∷ xs) (suc i) (suc j) apart = other xs i j (λ e. apart (ap suc e))
 
 oldest-slot : (d : Driver) (i j : ℕ) (t u : Ticket) → HasTicketsOnce d → aborted_at d.slots i ≡ Some t → aborted_at d.slots j ≡ Some u → t.0 ≤ u.0 → u.0 ≤ t.0 → j ≡ i
 oldest-slot d i j t u one here there low high =
     let a = once_proofs.aborted-is (waiting_at d.slots i) t here in
     let b = once_proofs.aborted-is (waiting_at d.slots j) u there in
     let same : a.0.ticket.0 ≡ b.0.ticket.0 = ap (λ (x : Ticket). x.0) a.2 ∙ omega (arith, low, high) ∙ sym (ap (λ (x : Ticket). x.0) b.2) in
-    elim (cases_Bool (i == j)) [
-      | inl is ↦ sym (eqb-true i j is)
-      | inr apart ↦ absurd (borne-twice d i j a.0 b.0 one (eqb-false i j apart) a.1 b.1 same)
+    elim (cases_Bool (eqb j i)) [
+      | inl is ↦ eqb-true j i is
+      | inr apart ↦ absurd (borne-twice d i j a.0 b.0 one apart a.1 b.1 same)
     ]
 
 oldest-alone : (d : Driver) (o p : Option ℕ) → HasTicketsOnce d → IsOldest d.slots o → IsOldest d.slots p → p ≡ o
