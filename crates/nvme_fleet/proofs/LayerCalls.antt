@@ -1,5 +1,5 @@
 -- Which events of a fleet make which calls of the medium.
-use Rattle.nvme_fleet.proofs.Words.{◌≡◌, ◌∙◌, ℕ, ◌+◌, ◌-◌, ◌≤◌, Bool, Err, Ok, Result, Some, None, Option, true, List, [], ◌∷◌, ◌++◌, refl, sym, ap, subst, arith, slice_set, append-nil, append_assoc, MediumCall, MakesCalls, Event, Seen, Subsystem, submission_entry, PlaceRefusal, Request, Waiting, Ticket, Call, Stores, Driver, ends, entry_fields, put_ends, with_ends, command_place, data_area, list_page, stored_list, Asked, asked_of, ExecutesNothing, FleetEvent, FleetSeen, Reply, Layers, fleet_in, AppliesCalling, AreCallsOfRun, AreCallsOfStep, HappensCalling, LayerCallsAreOfARun, LayerCallsAreOfAStep, DoesIfAny, Places, Ran, events_of_calls, CallsAt, Happens, driver_at, told, AreCallsOfTurn, IsOfHost}
+use Rattle.nvme_fleet.proofs.Words.{◌≡◌, ◌∙◌, ℕ, ◌+◌, Bool, Err, Ok, Result, Some, None, Option, true, List, [], ◌∷◌, ◌++◌, refl, sym, ap, subst, slice_set, append-nil, append_assoc, MediumCall, MakesCalls, Event, Seen, Subsystem, submission_entry, PlaceRefusal, Request, Waiting, Ticket, Call, Stores, Driver, ends, entry_fields, put_ends, with_ends, command_place, data_area, list_page, stored_list, Asked, asked_of, ExecutesNothing, FleetEvent, FleetSeen, Reply, Layers, fleet_in, AppliesCalling, AreCallsOfRun, AreCallsOfStep, HappensCalling, LayerCallsAreOfARun, LayerCallsAreOfAStep, DoesIfAny, Places, Ran, events_of_calls, CallsAt, Happens, driver_at, told, AreCallsOfTurn, IsOfHost}
 use Rattle.nvme_spec.proofs.MediumCalls.{calls-joined}
 use Rattle.nvme_machine.specs.declared.event.Event.TheVariants.{Fetch, Execute, PowerCycle}
 use Rattle.nvme_machine.specs.EventCalls as machine
@@ -24,7 +24,7 @@ applies-calling step tells old new event given what before after drivers gives h
 }
 
 -- the calls of a turn are those of its two events
-turn-joined : {M : Type 0} (step : M → MediumCall → M → Type 0) (tells : Bool) (k : ℕ) (a b c : Subsystem) (x y : Seen) (m n o : M)
+pub turn-joined : {M : Type 0} (step : M → MediumCall → M → Type 0) (tells : Bool) (k : ℕ) (a b c : Subsystem) (x y : Seen) (m n o : M)
     → MakesCalls step (machine.AreCallsOfStep tells a (Fetch k 0) x b) m n → MakesCalls step (machine.AreCallsOfStep tells b (Execute k 0) y c) n o
     → MakesCalls step (AreCallsOfTurn tells k a c) m o
 turn-joined step tells k a b c x y m n o first last = record {
@@ -32,12 +32,6 @@ turn-joined step tells k a b c x y m n o first last = record {
   are = (x ∷ y ∷ [], (b, first.calls, last.calls, first.are, (c, last.calls, [], last.are, (refl, refl), sym (append-nil last.calls)), refl));
   made = calls-joined step first.calls last.calls m n o first.made last.made;
 }
-
-pub turn-makes : {M : Type 0} (step : M → MediumCall → M → Type 0) (tells : Bool) (k : ℕ) (a b c : Subsystem) (x y : Seen) (m n o : M) → 1 ≤ k
-    → MakesCalls step (machine.AreCallsOfStep tells a (Fetch k 0) x b) m n → MakesCalls step (machine.AreCallsOfStep tells b (Execute k 0) y c) n o
-    → MakesCalls step (AreCallsOfTurn tells (k - 1 + 1) a c) m o
-turn-makes step tells k a b c x y m n o h first last =
-    let e : k ≡ k - 1 + 1 = omega (arith, h) in subst (λ i. MakesCalls step (AreCallsOfTurn tells i a c) m o) e (turn-joined step tells k a b c x y m n o first last)
 
 -- the reply of an event
 pub replied : {M : Type 0} (step : M → MediumCall → M → Type 0) (tells : Bool) (old new : Layers) (event : FleetEvent) (what : FleetSeen) (bytes : List ℕ) (before after : M)

@@ -1,5 +1,5 @@
 use Rattle.nvme_fleet.proofs.Words.{[], ◌∷◌, refl, Stores, seen_of, Store}
-use Rattle.nvme_fleet.proofs.Links.{at-number, there-after}
+use Rattle.nvme_fleet.proofs.Links.{called-over, there-after}
 use Rattle.nvme_fleet.proofs.Storing.{stored-there}
 use Rattle.nvme_fleet.proofs.link.LinkPort.store.Goals as goal
 
@@ -8,15 +8,8 @@ invariant_of-self g c = there-after g.M.Medium.tells _ _ (Store c.self.inside.cn
 
 pub returns-clause-step : goal.returns-clause-step
 returns-clause-step g c =
-    rw (← c.self.view_is) (record {
-      over = record {
-        step = at-number g.M.Medium.tells c.self.inside.cntlid (Stores c.args.addr c.args.part.now) _ c.react.new.self.state c.self.invariant.0
-            (record { given = (seen_of c.react.result) ∷ []; run = (c.react.new.self.state, c.react.ensures.step, refl); answers = tt });
-        place = refl;
-        name = refl;
-      };
-      medium = c.react.ensures.medium;
-    })
+    rw (← c.self.view_is)
+    (called-over g.M.Medium.step g.M.Medium.tells c.self.inside.cntlid (Stores c.args.addr c.args.part.now) (seen_of c.react.result ∷ []) _ c.react.new.self.state _ _ _ c.self.invariant.0 (c.react.new.self.state, c.react.ensures.step, refl) tt c.react.ensures.medium)
 
 pub returns-clause-bytes : goal.returns-clause-bytes
 returns-clause-bytes g c =

@@ -1,7 +1,7 @@
 use Rattle.nvme_fleet.proofs.Words.{[], ◌∷◌, refl, Turns}
 use Rattle.nvme_machine.specs.declared.event.Event.TheVariants.{Fetch, Execute}
-use Rattle.nvme_fleet.proofs.Links.{at-number, there-after}
-use Rattle.nvme_fleet.proofs.LayerCalls.{turn-makes}
+use Rattle.nvme_fleet.proofs.Links.{called-over, there-after}
+use Rattle.nvme_fleet.proofs.LayerCalls.{turn-joined}
 use Rattle.nvme_fleet.proofs.link.LinkPort.turn.Goals as goal
 
 pub invariant_of-self : goal.invariant_of-self
@@ -11,15 +11,7 @@ invariant_of-self g c =
 
 pub returns-clause-step : goal.returns-clause-step
 returns-clause-step g c =
-    rw (← c.self.view_is) (record {
-      over = record {
-        step = at-number g.M.Medium.tells c.self.inside.cntlid Turns _ c.apply-2.new.self.state c.self.invariant.0 (record {
-          given = c.apply.result ∷ c.apply-2.result ∷ [];
-          run = (c.apply.new.self.state, c.apply.ensures.step, (c.apply-2.new.self.state, c.apply-2.ensures.step, refl));
-          answers = tt;
-        });
-        place = refl;
-        name = refl;
-      };
-      medium = turn-makes g.M.Medium.step g.M.Medium.tells c.self.inside.cntlid _ c.apply.new.self.state c.apply-2.new.self.state c.apply.result c.apply-2.result _ c.apply.new.self.medium c.apply-2.new.self.medium c.self.invariant.0 c.apply.ensures.calls c.apply-2.ensures.calls;
-    })
+    rw (← c.self.view_is)
+    (called-over g.M.Medium.step g.M.Medium.tells c.self.inside.cntlid Turns (c.apply.result ∷ c.apply-2.result ∷ []) _ c.apply-2.new.self.state _ _ _ c.self.invariant.0
+    (c.apply.new.self.state, c.apply.ensures.step, (c.apply-2.new.self.state, c.apply-2.ensures.step, refl)) tt
+    (turn-joined g.M.Medium.step g.M.Medium.tells c.self.inside.cntlid _ c.apply.new.self.state c.apply-2.new.self.state c.apply.result c.apply-2.result _ c.apply.new.self.medium c.apply-2.new.self.medium c.apply.ensures.calls c.apply-2.ensures.calls))
