@@ -128,11 +128,7 @@ abbrev pub IsSameName : {M : Type 0} → OverMedium Linked M → OverMedium Link
 IsSameName p q = q.state.name ∷ [] ≡ p.state.name ∷ []
 
 pub same-name : (a b : GName) → a ∷ [] ≡ b ∷ [] → a ≡ b
-same-name a b h = ap (first a) h
-  where
-    first : GName → List GName → GName
-    first x [] = x
-    first x (y ∷ ys) = y
+same-name a b h = cc
 
 pub done : {M : Type 0} (tells : Bool) (calls : List Call) (r : MailboxReaction) (d e : Driver) (p q : OverMedium Linked M) (gives reply : Reply) (Below : Type 0) → p.state.place < length p.state.subsystem.controllers → IsSameName p q
     → AreMade tells calls p q → IsStep r d (after_calls calls (linked_controller p.state)) gives → e ≡ d → reply ≡ gives → Below → HasDone r e p q reply Below

@@ -10,7 +10,7 @@ use Rattle.nvme_machine.specs.declared.seen.Seen.TheVariants as given
 use Rattle.nvme_machine.specs.Subsystems.{Completes, ExecutesAt, Run, Step, after_execution, marked_from, numbered, replaced, with_controller}
 use Rattle.nvme_machine.proofs.Staying.{replaced-same}
 use Rattle.nvme_fleet.proofs.PlainCalls.{IsPlain}
-use Rattle.nvme_fleet.proofs.Reaching.{one-ran}
+use Rattle.nvme_fleet.proofs.Reaching.{one-ran, value-is}
 use Rattle.nvme_fleet.proofs.AdminTurns.{AreAdmin, IsAdmin, change-admin, enabled-admin, fetch-admin, store-admin, write-admin, kept-admin}
 
 -- Events that execute nothing.
@@ -131,9 +131,6 @@ switched-on c (inr off) = by (register.is_enabled c.registers.cc) (register.can_
 value-status : (r : Registers) → register.value_at r 0x1c ≡ register.status_of r.state
 unfolding register.value_at
 value-status r = refl
-
-value-is : (x : Seen) (v u : ℕ) (got : List Seen) → got ≡ x ∷ [] → got ≡ given.Value v ∷ [] → x ≡ given.Value u → v ≡ u
-value-is x v u got a b e = cc
 
 value-none : (x : Seen) (v : ℕ) (got : List Seen) → got ≡ x ∷ [] → got ≡ given.Value v ∷ [] → x ≡ given.NoController → ⊥
 value-none x v got a b e = absurd (cc)

@@ -62,21 +62,9 @@ pub record IsStepThere (tells : Bool) (call : Call) (a b : Subsystem) (i : ℕ) 
   pub step : LinkStep tells (setting_in a i) call (setting_in b i)
   pub others : KeepsOthers i a b
 
-value_in : Seen → ℕ → ℕ
-value_in (Value v) n = v
-value_in other n = n
-
-same-value : (v w : ℕ) → Value v ≡ Value w → v ≡ w
-unfolding value_in
-same-value v w h = ap (λ s. value_in s v) h
-
-first-in : Seen → List Seen → Seen
-first-in x [] = x
-first-in x (y ∷ ys) = y
-
-same-first : (x y : Seen) → x ∷ [] ≡ y ∷ [] → x ≡ y
-unfolding first-in
-same-first x y h = ap (first-in x) h
+-- the value that a read returned, by what it was given
+pub value-is : (x : Seen) (v u : ℕ) (got : List Seen) → got ≡ x ∷ [] → got ≡ Value v ∷ [] → x ≡ Value u → v ≡ u
+value-is x v u got a b e = cc
 
 pub plain-there : (tells : Bool) (call : Call) (a b : Subsystem) (i : ℕ) → IsPlain (call ∷ []) → i < length a.controllers → CallStep tells (i + 1) a call b → IsStepThere tells call a b i
 plain-there tells (Stores address bytes) a b i plain there s =
@@ -93,7 +81,7 @@ plain-there tells (Reads offset v) a b i plain there s =
     let r = one-ran tells a b (event.Read32 (i + 1) offset) s.given s.run in
     let p = reacted-as a b (i + 1) i (has_read offset) r.gives refl there r.step in
     let q = is-put a b i (with_controller (setting_in a i) (controller_in a i)) there p.leaves in
-    record { step = (same-value v _ (same-first (Value v) r.gives (sym s.answers ∙ r.alone) ∙ p.gives), q.setting_is); others = q.others }
+    record { step = (value-is r.gives v _ s.given r.alone s.answers p.gives, q.setting_is); others = q.others }
 plain-there tells Turns a b i plain there s = absurd plain
 
 pub turns-there : (tells : Bool) (a b : Subsystem) (i : ℕ) → AreAdmin (controller_in a i) → i < length a.controllers → (controller_in a i).cntlid ≡ i + 1 → CallStep tells (i + 1) a Turns b

@@ -1,6 +1,6 @@
 -- The words that most proofs of this crate speak in: those that the proofs of mailboxes speak in too, and others, each
 -- from where it is defined.
-pub use Rattle.nvme_mailbox.proofs.Words.{Aborted, Admin, AdminCommand, AllByRecursion, Allowed, AlreadyUp, Asked, BadRequest, Bool, BringUp, Command, CommandComesToAs, CommandExecution, Completes, Configuration, Controller, ControllerConfig, Cycled, Denied, Device, DifferIn, Done, Err, Execute, Executed, ExecutesAt, ExecutesBy, ExecutesItem, Fetch, FetchedCommand, FetchedItem, FinishesOne, FinishesOver, Fleet, FleetEvent, FleetSeen, HasPassed, HasSameExtents, Idle, Io, IoRequestComesTo, Is, IsLaidOut, IsRegular, IsServed, Item, Judgement, Keep, Lane, LaneBox, LeavesReservation, List, Mailbox, MailboxReaction, Marks, MayNotRead, Moment, Namespace, NoSuch, None, NotReady, OfItsHost, Ok, Option, Outcome, Performs, Place, PlaceRefusal, Poll, Posted, PostedAnswer, PowerCycle, QueueChange, QueuePair, Raw, RawStore, RawWrite32, Reply, Request, RequestComesToAs, RequestExecution, ReservesNothing, Reset, Ring, Rule, RunWhere, Scene, Setting, Site, Some, Status, Step, Subsystem, Took, Verdict, WithDriver, World, [], access_rules, action_of, action_rule, admin_request_execution_by, all-joined, answer_reply, ap, arith, asked_of, box_at, brought_up, bytes_with, called_at, cases_Bool, command_execution_over, common_steps, conclusion, cond, data_len, data_length_of, denial_outcome, differ-still, drop, else_by, eqb-false, eqb-true, extent_of, false, fault_free_step, fetch-id, fetched, fetched_at, fetched_first, fetched_of, filter, first_failing, first_failing-append, handed_up, host_cycled, host_of, if◌then◌else◌, inl, inr, io_verdict, is_bad, is_host_among, is_one_of, lane_at, lane_of, length, length-append, length-drop, length-map, length-take-le, mailbox_reaction, map, marked, marked_from, marks_in, may_read, medium_block, most_bytes, nat_le, nat_lt, ne_eqb, new_controller, new_host, new_item, new_mailbox, no_marks, none-some, not, numbered, option_map, outcome_in, placed_by, plain, plan_of, polled_aborted, polled_admin, polled_io, queues_of, ranked, raw_at, recounted, refl, refusal, remove, removed_by, replaced, replicate, reset, ring_lane, rising, rung, same_Some, scene_in, setting_of, site_of, slice_get, slice_get-map, slice_set, store-id, subst, suc, sym, take, tickets_in, total, true, true≢false, with_box, with_bytes, with_placed, with_posted, world_after, write-id, zero, ℕ, ◌%◌, ◌&&◌, ◌*◌, ◌++◌, ◌+◌, ◌-◌, ◌/◌, ◌<◌, ◌==◌, ◌^◌, ◌||◌, ◌∙◌, ◌∷◌, ◌≡◌, ◌≢◌, ◌≤◌, ◌⊎◌}
+pub use Rattle.nvme_mailbox.proofs.Words.{Aborted, Admin, AdminCommand, AllByRecursion, Allowed, AlreadyUp, Asked, BadRequest, Bool, BringUp, Command, CommandComesToAs, CommandExecution, Completes, Configuration, Controller, ControllerConfig, Cycled, Denied, Device, DifferIn, Done, Err, Execute, Executed, ExecutesAt, ExecutesBy, ExecutesItem, Fetch, FetchedCommand, FetchedItem, FinishesOne, FinishesOver, Fleet, FleetEvent, FleetSeen, HasPassed, HasSameExtents, Idle, Io, IoRequestComesTo, Is, IsLaidOut, IsRegular, IsServed, Item, Judgement, Keep, Lane, LaneBox, LeavesReservation, List, Mailbox, MailboxReaction, Marks, MayNotRead, Moment, Namespace, NoSuch, None, NotReady, OfItsHost, Ok, Option, Outcome, Performs, Place, PlaceRefusal, Poll, Posted, PostedAnswer, PowerCycle, QueueChange, QueuePair, Raw, RawStore, RawWrite32, Reply, Request, RequestComesToAs, RequestExecution, ReservesNothing, Reset, Ring, Rule, RunWhere, Scene, Setting, Site, Some, Status, Step, Subsystem, Took, Verdict, WithDriver, World, [], access_rules, action_of, action_rule, admin_request_execution_by, all-joined, answer_reply, ap, arith, asked_of, box_at, brought_up, bytes_with, cases_Bool, command_execution_over, common_steps, conclusion, cond, data_len, data_length_of, denial_outcome, differ-still, drop, else_by, eqb-false, eqb-true, extent_of, false, fault_free_step, fetch-id, fetched, fetched_at, fetched_first, fetched_of, filter, first_failing, first_failing-append, handed_up, host_cycled, host_of, if◌then◌else◌, inl, inr, io_verdict, is_bad, is_host_among, is_one_of, lane_at, lane_of, length, length-append, length-drop, length-map, length-take-le, mailbox_reaction, map, marked, marked_from, marks_in, may_read, medium_block, most_bytes, nat_le, nat_lt, ne_eqb, new_controller, new_host, new_item, new_mailbox, no_marks, none-some, not, option_map, outcome_in, placed_by, plain, plan_of, polled_aborted, polled_admin, polled_io, queues_of, ranked, recounted, refl, refusal, remove, removed_by, replicate, ring_lane, rising, rung, same_Some, scene_in, setting_of, site_of, slice_get, slice_get-map, slice_set, store-id, subst, suc, sym, take, tickets_in, total, true, with_box, with_bytes, with_placed, with_posted, world_after, write-id, zero, ℕ, ◌%◌, ◌&&◌, ◌*◌, ◌++◌, ◌+◌, ◌-◌, ◌/◌, ◌<◌, ◌==◌, ◌^◌, ◌||◌, ◌∙◌, ◌∷◌, ◌≡◌, ◌≢◌, ◌≤◌, ◌⊎◌}
 unfoldable pub use Rattle.nvme_mailbox.proofs.Words.{CommandComesTo, RequestComesTo, action, action_outcome, admin_judgement, admin_request_execution, after_answer, after_completion, after_posting, after_power_cycle, after_queue_change, block_count, cdw12, command_entry, command_of, cptpl, host_at, iekey, io_judgement, judgement_by, may_write, namespace_of, nsid, opcode, open_pair, open_tickets, opening, pointer_rule, reservation_of, reservation_outcome, rtype, settled, submission_entry, with_host}
 pub use Rattle.std.proofs.Common.{IfErr, IfNone, IfOk, IfSome, IsOk, IsSome, IsTrue, MatchOption, OnErr, OnOk, Result, eqb, flat_map, get_or, is_none, is_ok, is_some, slice_index_or, slice_range, vec_capacity, vec_len}
 pub use Rattle.std.proofs.lemmas.Bool.{and_parts, cases_eq, cases_lt, eq-eqb, le-leb, le-ltb, leb-true, lt-ltb, not-true}
@@ -66,24 +66,23 @@ unfoldable pub use Rattle.nvme_machine.specs.Subsystems.{controller_at}
 pub use Rattle.nvme_machine.specs.declared.event.Event.{Event}
 pub use Rattle.nvme_machine.specs.declared.event.Event.TheVariants.{Read32, Store, Write32}
 pub use Rattle.nvme_machine.specs.declared.seen.Executed.TheVariants.{CqFull}
-pub use Rattle.nvme_machine.specs.declared.seen.Fetched.{Fetched}
 pub use Rattle.nvme_machine.specs.declared.seen.Seen.{Seen}
 pub use Rattle.nvme_machine.specs.declared.seen.Seen.TheVariants.{NoController, Outside, Stored, Value, Wrote}
 pub use Rattle.nvme_subsys.proofs.Counts.{step-count}
-pub use Rattle.nvme_subsys.proofs.Numbers.{at-place, executed-back, misses, none-calling, none-executes, refill-all, set-same}
+pub use Rattle.nvme_subsys.proofs.Numbers.{at-place, executed-back, misses, none-calling, none-executes, refill-all}
 pub use Rattle.nvme_subsys.proofs.OverMedium.{medium-is, state-is}
 pub use Rattle.nvme_subsys.proofs.Sound.{length-after}
 pub use Rattle.nvme_subsys.specs.Marked.{marks_after}
 pub use Rattle.nvme_subsys.specs.OverMedium.{OverMedium}
-pub use Rattle.nvme_driver.proofs.Mapped.{IsMapped, both-mapped, calls-mapped, rises-mapped}
+pub use Rattle.nvme_driver.proofs.Mapped.{IsMapped, both-mapped, rises-mapped}
 pub use Rattle.nvme_driver.proofs.Moving.{entries_move_their_data, within}
 pub use Rattle.nvme_driver.proofs.PageLists.{length-stored_list, part-there}
 pub use Rattle.nvme_driver.specs.Calls.{Call, Calls, Reads, Stores, Turns, Writes}
 unfoldable pub use Rattle.nvme_driver.specs.Calls.{Awaits}
-pub use Rattle.nvme_driver.specs.Drivers.{Driver, Ends, IsPlaced, abort, after_reset, cc, ends, entry_fields, entry_length, entry_of, free_slot, is_down, is_up, new_driver, place_refusal, put_ends, reset_calls, ring_calls, stores_of, tail_of, ticket_count, waiting_of, with_ends}
+pub use Rattle.nvme_driver.specs.Drivers.{Driver, Ends, abort, after_reset, cc, ends, entry_fields, entry_length, entry_of, free_slot, is_down, is_up, new_driver, place_refusal, put_ends, reset_calls, ring_calls, stores_of, tail_of, ticket_count, waiting_of, with_ends}
 pub use Rattle.nvme_driver.specs.Layout.{command_place, completion_place_in, completion_queue, data_area, head_doorbell, list_page, queue_id, submission_queue, tail_doorbell}
 pub use Rattle.nvme_driver.specs.Pointers.{HasList, IsRequest, first_entry, list_of_slot, listed_pages, page_entries, pages_behind, second_entry, slot_transfer, stored_list}
-pub use Rattle.nvme_driver.specs.Polls.{IsNotBelow, IsOldest, IsPolled, aborted_at, answer_len, answered, answered_poll, consumed_ends, found, found_poll, head_of, is_new, is_success, next_entry, polled, waiting_at, without_calls}
+pub use Rattle.nvme_driver.specs.Polls.{IsNotBelow, IsOldest, aborted_at, answer_len, answered, answered_poll, consumed_ends, found, found_poll, head_of, is_new, is_success, next_entry, polled, waiting_at, without_calls}
 pub use Rattle.nvme_driver.specs.Requests.{controller_list, key}
 pub use Rattle.nvme_driver.specs.Rises.{Concludes, CreatesBoth, CreatesSubmissions, Hears, acq_high, acq_low, admin_sizes, answers_own, aqa, asq_high, asq_low, create_completion_queue, create_submission_queue, csts, enabling, fault_of, heard_calls, is_ready, own_answer, own_of, send_calls, sent, start_calls, started}
 unfoldable pub use Rattle.nvme_driver.specs.Rises.{Creates, Rises, zero_page}
@@ -97,10 +96,10 @@ pub use Rattle.nvme_driver.specs.declared.slots.Waiting.{Waiting}
 pub use Rattle.nvme_driver.specs.declared.state.State.TheVariants.{Down, Failed, Up}
 pub use Rattle.nvme_driver.specs.declared.ticket.Ticket.{Ticket}
 pub use Rattle.nvme_event.specs.Bare.{seen_with}
-pub use Rattle.nvme_event.specs.declared.seen.FleetSeen.TheVariants.{Placed, Polled, Rung}
+pub use Rattle.nvme_event.specs.declared.seen.FleetSeen.TheVariants.{Polled, Rung}
 pub use Rattle.nvme_fleet.specs.AllowedCalls.{CallsAreAllowed, CallsOfRunsAreAllowed, ComesFrom, FencedCommandsCallNothing, FencedHostsWriteNoBlock, MayCall}
 pub use Rattle.nvme_fleet.specs.Bytes.{FencedEventsWriteNothing, LayoutStays, OthersWindowsStay, RunsOfMailboxes, is_laid_out, namespace_bytes}
-pub use Rattle.nvme_fleet.specs.Deeds.{CallOver, CallStep, ComesUp, Consumes, Does, DoesIfAny, Places, Polls, Ran, Resets, Rings, events_of, events_of_calls, reset_events, ring_events, window_at, window_of}
+pub use Rattle.nvme_fleet.specs.Deeds.{CallStep, ComesUp, Consumes, Does, DoesIfAny, Places, Polls, Ran, Resets, Rings, events_of, events_of_calls, reset_events, ring_events, window_at, window_of}
 pub use Rattle.nvme_mailbox.specs.Executions.{admin_served, command_fields, denied_request_execution, queue_pairs}
 pub use Rattle.nvme_fleet.specs.FleetStates.{FleetState, IsCalled, IsSoundFleet, Layers, SoundBy, fleet_of, host_by, hosts_of, layers_of, opening_driver, reaction_to, reply_in}
 unfoldable pub use Rattle.nvme_fleet.specs.FleetStates.{fleet_in}
@@ -110,7 +109,7 @@ unfoldable pub use Rattle.nvme_fleet.specs.Lanes.{area, listed, pages_of}
 pub use Rattle.nvme_fleet.specs.LayerCalls.{AppliesCalling, AreCallsOfRun, AreCallsOfStep, HappensCalling, LayerCallsAreOfARun, LayerCallsAreOfAStep}
 pub use Rattle.nvme_fleet.specs.Layers.{Applies, AppliesRaw, CallsAt, Cycles, Happens, driver_at, resets_from, told, with_driver}
 pub use Rattle.nvme_fleet.specs.LinkCalls.{AreCallsOfTurn, CallOverMedium, ReachesMedium}
-pub use Rattle.nvme_fleet.specs.Linked.{ExecutesSeat, IsThere, KeepsOthers, KeepsSite, Linked, Reaches, controller_in, linked_controller, linked_setting, setting_in, with_controller_at, with_setting}
+pub use Rattle.nvme_fleet.specs.Linked.{IsThere, KeepsOthers, KeepsSite, Linked, Reaches, controller_in, linked_controller, linked_setting, setting_in, with_controller_at, with_setting}
 pub use Rattle.nvme_fleet.specs.Links.{BringUpIsAStep, LinkStep, window_in, with_controller}
 pub use Rattle.nvme_mailbox.specs.Mailboxes.{empty_box, held, is_io}
 pub use Rattle.nvme_fleet.specs.PowerReset.{AreCycled}

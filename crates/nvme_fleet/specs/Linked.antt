@@ -1,12 +1,10 @@
 -- What contracts see of a host's way to its controller: the subsystem, the place of the controller that is reached, and
 -- the reference through which it is.
-use Rattle.std.specs.Prelude.{◌≡◌, ◌<◌, ◌≤◌, ℕ, ◌+◌, Bool, get_or, length, slice_set}
+use Rattle.std.specs.Prelude.{◌≡◌, ◌<◌, ◌≤◌, ℕ, ◌+◌, get_or, length, slice_set}
 use Rattle.std.specs.Borrow.{GName}
 use Rattle.nvme_machine.specs.Controllers.{Controller, new_controller}
 use Rattle.nvme_machine.specs.Subsystems.{Subsystem}
-use Rattle.nvme_machine.specs.declared.seen.Executed.{Executed}
-use Rattle.nvme_machine.specs.Executing.{Setting, setting, ExecutesNth}
-use Rattle.nvme_subsys.specs.Marked.{marks_after}
+use Rattle.nvme_machine.specs.Executing.{Setting, setting}
 
 -- the controller at a place, with the access state and the medium
 abbrev pub controller_in : Subsystem → ℕ → Controller
@@ -25,18 +23,6 @@ KeepsOthers i old new = new ≡ with_setting old i (setting_in new i)
 
 abbrev pub with_controller_at : Subsystem → ℕ → Controller → Subsystem
 with_controller_at s i c = record s { controllers = slice_set s.controllers i c }
-
--- the controller at a place has executed its n-th command, and the controllers of the hosts that this removes are
--- marked
-pub record ExecutesSeat (tells : Bool) (n i : ℕ) (old : Subsystem) (executed : Executed)
-    (new : Subsystem) : Type 0 where
-  pub left : Setting
-  pub executes : ExecutesNth tells n (setting_in old i) executed left
-  pub leaves : new ≡ record {
-    world = left.world;
-    device = left.device;
-    controllers = marks_after left.world executed (slice_set old.controllers i left.controller);
-  }
 
 pub record Linked : Type 0 where
   pub subsystem : Subsystem
