@@ -12,18 +12,6 @@ slot-abort [] k = refl
 slot-abort (x ∷ xs) zero = refl
 slot-abort (x ∷ xs) (suc k) = slot-abort xs k
 
-window-of : (first : ℕ) (d : Host) (c : State) → Holds first d c → length c.window ≡ 8192
-window-of first d c s = elim (cases_Bool d.up) [
-  | inl u ↦ (s.up u).window
-  | inr u ↦ (s.down u).window
-]
-
-slots-of : (first : ℕ) (d : Host) (c : State) → Holds first d c → length d.slots ≡ 24
-slots-of first d c s = elim (cases_Bool d.up) [
-  | inl u ↦ (s.up u).slots
-  | inr u ↦ (s.down u).slots
-]
-
 -- a lane that was reset rests
 pub reset-holds : (first : ℕ) (d : Host) (c : State) → Holds first d c → Holds d.next (reset d) (off c)
 reset-holds first d c s =
@@ -34,8 +22,8 @@ reset-holds first d c s =
       up = λ u. absurd (no-way false refl u);
       down =
           λ u. record {
-            window = window-of first d c s;
-            slots = length-map d.slots abort_slot ∙ slots-of first d c s;
+            window = (whole-of first d c s).window;
+            slots = length-map d.slots abort_slot ∙ (whole-of first d c s).slots;
             put = refl;
             unheard = refl;
             consumed = refl;

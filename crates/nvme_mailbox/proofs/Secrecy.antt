@@ -12,16 +12,8 @@ use Rattle.nvme_mailbox.proofs.Taken.{at-place}
 
 -- what holds of the hosts of events in one world holds of them in the next
 of-one : (P Q : ℕ → Type 0) → ((k : ℕ) → P k → Q k) → (e : FleetEvent) → OfItsHost P e → OfItsHost Q e
-of-one P Q f (BringUp k) h = f k h
-of-one P Q f (Place k request) h = f k h
-of-one P Q f (Ring k) h = f k h
-of-one P Q f (Fetch k q) h = f k h
-of-one P Q f (Execute k i) h = f k h
-of-one P Q f (Poll k) h = f k h
-of-one P Q f (Reset k) h = f k h
-of-one P Q f (RawStore k address bytes) h = f k h
-of-one P Q f (RawWrite32 k offset v) h = f k h
 of-one P Q f PowerCycle h = tt
+of-one P Q f e h = f _ h
 
 pub of-each : (P Q : ℕ → Type 0) → ((k : ℕ) → P k → Q k) → (events : List FleetEvent) → AllByRecursion (OfItsHost P) events → AllByRecursion (OfItsHost Q) events
 of-each P Q f [] h = tt

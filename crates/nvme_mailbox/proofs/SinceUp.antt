@@ -78,12 +78,8 @@ marked-rests k n (Raw c) h = tt
 keeps : Keeps RestsAt
 keeps = record { move = λ k v m may h. rests v m may h; marks = marked-rests; raw = λ k c d same h. tt }
 
--- as it opens
-new-rests : Rests (new_mailbox 1)
-new-rests = λ down. record { admin = none; io = none; fetched = refl }
-
 opening-rests : (c : Configuration) (d : Device) → Each RestsAt (opening c d)
-opening-rests c d k (WithDriver m) at = subst Rests (sym (opening_is_new c d k m at)) new-rests
+opening-rests c d k (WithDriver m) at = subst Rests (sym (opening_is_new c d k m at)) (λ down. record { admin = none; io = none; fetched = refl })
 opening-rests c d k (Raw x) at = tt
 
 pub down_is_clear : DownIsClear
