@@ -1,5 +1,5 @@
 -- A reset in one lane: it rests, its mailbox is empty, and the tickets of what was open are those of its slots.
-use Rattle.nvme_fleet.proofs.Words.{◌≡◌, ℕ, ◌+◌, List, [], ◌∷◌, length, map, refl, ap, ◌∙◌, arith, zero, suc, false, inl, inr, length-map, cases_Bool, cid, Item, PostedAnswer, Completion, State, Slot, slot_at, abort_slot, off, box, item, item_in, answers, ticket_in, in_flight, commands, commands_of, unread, Holds, bears, Host}
+use Rattle.nvme_fleet.proofs.Words.{◌≡◌, ℕ, ◌+◌, List, [], ◌∷◌, map, refl, ap, ◌∙◌, arith, zero, suc, false, length-map, cid, Item, PostedAnswer, Completion, State, Slot, slot_at, abort_slot, off, box, item, item_in, answers, ticket_in, in_flight, commands, commands_of, unread, Holds, bears, Host}
 use Rattle.nvme_fleet.specs.Views.{reset}
 pub use Rattle.nvme_fleet.proofs.Queues.{placed-part, rung-part}
 pub use Rattle.nvme_fleet.proofs.Empties.{Whole, whole-of}

@@ -1,5 +1,5 @@
 -- Each answer that a mailbox holds is of an execution in the run, of a request that was placed in the run.
-use Rattle.nvme_mailbox.proofs.Words.{all-joined, ◌≡◌, ◌⊎◌, inl, inr, ℕ, ◌+◌, Bool, true, false, List, [], ◌∷◌, ◌++◌, length, map, Some, Ok, refl, sym, ap, subst, ◌∙◌, if◌then◌else◌, AllByRecursion, Status, Lane, Admin, Io, Done, asked_of, FleetEvent, Poll, FleetSeen, Reply, concerns, Item, FetchedItem, PostedAnswer, LaneBox, Mailbox, box_at, with_box, lane_of, names, with_mark, ring_lane, new_item, with_placed, answer_reply, WithDriver, Fleet, Run, Is, called_at, host_at, after_answer, with_posted, answer_for, HasMailbox, OwnStep, MailboxStep, waiting, posted_answers, requests_in, Conclusion, Executes, HappensThen, IsClear, ResetClears, NewIsClear, WasPlacedAndExecuted, DoneIsItsExecution, done_in, remove, all-map}
+use Rattle.nvme_mailbox.proofs.Words.{all-joined, ◌≡◌, ◌⊎◌, inl, inr, ℕ, ◌+◌, Bool, true, false, List, [], ◌∷◌, ◌++◌, length, map, Some, Ok, refl, sym, ap, subst, ◌∙◌, if◌then◌else◌, AllByRecursion, Status, Lane, Admin, Io, Done, asked_of, FleetEvent, Poll, FleetSeen, Reply, concerns, Item, FetchedItem, PostedAnswer, LaneBox, Mailbox, box_at, with_box, lane_of, names, with_mark, ring_lane, new_item, with_placed, answer_reply, WithDriver, Fleet, Run, Is, called_at, host_at, after_answer, with_posted, answer_for, HasMailbox, OwnStep, MailboxStep, waiting, posted_answers, requests_in, Conclusion, Executes, HappensThen, ResetClears, NewIsClear, WasPlacedAndExecuted, DoneIsItsExecution, done_in, remove, all-map}
 use Rattle.nvme_mailbox.proofs.Lists.{all-left, all-right, all-over, all-get, all-removed}
 use Rattle.nvme_mailbox.specs.Deliveries.{polled}
 use Rattle.nvme_driver.specs.declared.ticket.Ticket.{Ticket}

@@ -1,5 +1,5 @@
 -- Who may write over runs of a fleet.
-use Rattle.nvme_mailbox.proofs.Words.{◌≡◌, ◌⊎◌, inl, inr, ℕ, ◌==◌, Bool, true, List, [], ◌∷◌, refl, sym, ap, subst, ◌∙◌, cases_Bool, eqb-true, eqb-false, nsid, reserving, reservation_outcome, Device, reservation_of, may_write, may_read, cycled_world, World, host_of, IsReserved, is-reserved, cycle_keeps_places, HasSameExtents, Cycled, IsFleeting, Subsystem, after_power_cycle, FleetEvent, PowerCycle, Reply, Fleet, Step, Run, IoCommand, Allows, Forgets, OnlyAllowedActionsReserve, LeavesReservation, PermissionsStay, RunWhere}
+use Rattle.nvme_mailbox.proofs.Words.{◌≡◌, ◌⊎◌, inl, inr, ℕ, ◌==◌, Bool, true, List, [], ◌∷◌, refl, sym, ap, subst, ◌∙◌, cases_Bool, eqb-true, eqb-false, nsid, reserving, reservation_outcome, Device, reservation_of, may_write, may_read, cycled_world, World, host_of, IsReserved, is-reserved, cycle_keeps_places, HasSameExtents, Cycled, IsFleeting, Subsystem, after_power_cycle, FleetEvent, Reply, Fleet, Step, Run, IoCommand, Allows, Forgets, OnlyAllowedActionsReserve, LeavesReservation, PermissionsStay, RunWhere}
 use Rattle.nvme_machine.specs.declared.event.Event.TheVariants as machine_event
 use Rattle.nvme_machine.proofs.Fencing.{may-still, read-still}
 use Rattle.nvme_machine.proofs.Layouts as machine

@@ -1,5 +1,5 @@
 -- What each event of a fleet leaves of access state and medium.
-use Rattle.nvme_mailbox.proofs.Words.{fault_free_step, ◌≡◌, ℕ, Bool, Option, None, Some, refl, ap, ◌∙◌, slice_get, cycled_world, FetchedCommand, Executed, Controller, QueuePair, queues_of, open_pair, CommandComesTo, CommandExecution, Setting, FinishesOne, FinishesOver, scene_in, FleetEvent, Execute, PowerCycle, Reply, FetchedItem, Mailbox, RequestExecution, RequestComesTo, WithDriver, Raw, Fleet, Moment, Is, Step, host_at, power_cycled, settled, site_of, setting_of, ExecutesItem, ExecutesRaw, ExecutesAt}
+use Rattle.nvme_mailbox.proofs.Words.{◌≡◌, ℕ, Bool, Option, None, Some, refl, ap, ◌∙◌, slice_get, cycled_world, FetchedCommand, Executed, Controller, QueuePair, queues_of, open_pair, CommandComesTo, CommandExecution, Setting, FinishesOne, FinishesOver, scene_in, FleetEvent, Execute, PowerCycle, Reply, FetchedItem, Mailbox, RequestExecution, RequestComesTo, WithDriver, Raw, Fleet, Step, host_at, power_cycled, settled, site_of, setting_of, ExecutesItem, ExecutesRaw, ExecutesAt}
 use Rattle.nvme_mailbox.specs.Fleets.{Host}
 use Rattle.nvme_mailbox.proofs.Existing.{other-site}
 

@@ -3,7 +3,7 @@ use Rattle.nvme_mailbox.proofs.Words.{all-joined, ◌≡◌, ℕ, ◌++◌, Bool
 use Rattle.nvme_mailbox.proofs.Lists.{all-get}
 use Rattle.nvme_mailbox.specs.Fleets.{Host}
 use Rattle.nvme_mailbox.proofs.Answered.{Brings, Known, KnownIn, OfItem, all-marked, known-of, moves-known}
-use Rattle.nvme_mailbox.proofs.EachHost.{Each, Keeps, step-keeps}
+use Rattle.nvme_mailbox.proofs.EachHost.{Each, step-keeps}
 use Rattle.nvme_mailbox.proofs.Moves.{Move, Take, Answer, May}
 use Rattle.nvme_mailbox.proofs.TicketCounts.{opening_is_new}
 
