@@ -35,36 +35,24 @@ admin-access-same w queues k x y command a o h =
 pub list-same : (w : World) (x y sent : List ℕ) (command : AdminCommand) → IsAsked command → SameFields x y
     → rules.list_rule (Some command) w y sent ≡ rules.list_rule (Some command) w x sent
 unfolding rules.list_rule sel
-list-same w x y sent admin.Identify a h = refl
-list-same w x y sent admin.SetFeatures a h = refl
-list-same w x y sent admin.GetFeatures a h = refl
 list-same w x y sent admin.NamespaceAttachment a h = rw (h.nsid, h.cdw10) refl
-list-same w x y sent command a h = absurd a
+list-same w x y sent command a h = refl
 
 -- double word 0, the data that go to the host, and what becomes of the world
 pub dw0-same : (w : World) (x y : List ℕ) (command : AdminCommand) → IsAsked command → SameFields x y → double_word_0 w command y ≡ double_word_0 w command x
 unfolding double_word_0 fid
-dw0-same w x y admin.Identify a h = refl
 dw0-same w x y admin.SetFeatures a h = rw h.cdw10 refl
 dw0-same w x y admin.GetFeatures a h = rw (h.nsid, h.cdw10) refl
-dw0-same w x y admin.NamespaceAttachment a h = refl
-dw0-same w x y command a h = absurd a
+dw0-same w x y command a h = refl
 
 pub data-out-same : (w : World) (k : ℕ) (x y : List ℕ) (command : AdminCommand) → IsAsked command → SameFields x y → data_out w k command y ≡ data_out w k command x
 unfolding data_out cns fid
 data-out-same w k x y admin.Identify a h = rw (h.nsid, h.cdw10) refl
-data-out-same w k x y admin.SetFeatures a h = refl
 data-out-same w k x y admin.GetFeatures a h = rw h.cdw10 refl
-data-out-same w k x y admin.NamespaceAttachment a h = refl
-data-out-same w k x y admin.DeleteSubmissionQueue a h = absurd a
-data-out-same w k x y admin.CreateSubmissionQueue a h = absurd a
-data-out-same w k x y admin.DeleteCompletionQueue a h = absurd a
-data-out-same w k x y admin.CreateCompletionQueue a h = absurd a
+data-out-same w k x y command a h = refl
 
 pub world-same : (w : World) (x y sent : List ℕ) (command : AdminCommand) → IsAsked command → SameFields x y → world_after w command y sent ≡ world_after w command x sent
 unfolding world_after fid wps sel
-world-same w x y sent admin.Identify a h = refl
 world-same w x y sent admin.SetFeatures a h = rw (h.nsid, h.cdw10, h.cdw11) refl
-world-same w x y sent admin.GetFeatures a h = refl
 world-same w x y sent admin.NamespaceAttachment a h = rw (h.nsid, h.cdw10) refl
-world-same w x y sent command a h = absurd a
+world-same w x y sent command a h = refl

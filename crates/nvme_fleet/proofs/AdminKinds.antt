@@ -72,10 +72,8 @@ pub length-out : (w : World) (k : ℕ) (x : List ℕ) (command : AdminCommand) (
     → length (data_out w k command x) ≡ received
 unfolding data_out
 length-out w k x admin.Identify received moved a e m = length-identify_data w k x ∙ sym e ∙ sym m
-length-out w k x admin.SetFeatures received moved a e m = sym m
 length-out w k x admin.GetFeatures received moved a e m = rw m.1 (sym m.0)
-length-out w k x admin.NamespaceAttachment received moved a e m = sym m
-length-out w k x command received moved a e m = absurd a
+length-out w k x command received moved a e m = sym m
 
 -- the queues stay
 pub keeps-queues : (x : List ℕ) (command : AdminCommand) → IsAsked command → queue_change command x ≡ Keep

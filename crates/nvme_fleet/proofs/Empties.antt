@@ -1,5 +1,5 @@
 -- A slot that no live request holds may be emptied: the lane holds as before, and its mailbox is the same.
-use Rattle.nvme_fleet.proofs.Words.{◌≡◌, ℕ, ◌<◌, ◌≤◌, List, [], ◌∷◌, refl, ap, sym, subst, ◌∙◌, arith, zero, suc, inl, inr, slice_set, length-set, cases_Bool, State, Slot, empty, box, off, in_flight, commands, commands_of, live_at, live_in, total, AgeIn, Carried, Running, Resting, Holds, Host}
+use Rattle.nvme_fleet.proofs.Words.{◌≡◌, ℕ, ◌<◌, ◌≤◌, List, [], ◌∷◌, length, refl, ap, sym, subst, ◌∙◌, arith, zero, suc, inl, inr, slice_set, length-set, cases_Bool, State, Slot, empty, box, off, in_flight, commands, commands_of, live_at, live_in, total, AgeIn, Carried, Running, Resting, Holds, Host}
 use Rattle.nvme_fleet.proofs.Totals.{each-all}
 use Rattle.nvme_fleet.proofs.Slots.{bare-box, bare-odd}
 use Rattle.nvme_fleet.proofs.Queues.{Bare, bare-all}
@@ -58,6 +58,8 @@ emptied-holds first d c i l s =
 
 -- what holds of the queues of a driver, up or down
 pub record Whole (d : Host) (c : State) : Type 0 where
+  pub window : length c.window ≡ 8192
+  pub slots : length d.slots ≡ 24
   pub fetched : c.fetched < 8
   pub waiting : c.waiting ≤ in_flight d c
   pub carried : Carried d c
@@ -66,6 +68,8 @@ whole-off : (d : Host) (c : State) → Resting d c → Whole d c
 whole-off d c r =
     let n : in_flight d (off c) ≡ 0 = omega (arith, r.put) in
     subst (Whole d) (sym r.off) (record {
+      window = r.window;
+      slots = r.slots;
       fetched = omega arith;
       waiting = omega arith;
       carried = λ k. omega (arith, ap (λ n. commands_of k (commands c.window 0 n)) n, r.idle k);
@@ -73,7 +77,7 @@ whole-off d c r =
 
 pub whole-of : (first : ℕ) (d : Host) (c : State) → Holds first d c → Whole d c
 whole-of first d c s = elim (cases_Bool d.up) [
-  | inl u ↦ let r : Running d c = s.up u in record { fetched = r.fetched; waiting = r.waiting; carried = r.carried }
+  | inl u ↦ let r : Running d c = s.up u in record { window = r.window; slots = r.slots; fetched = r.fetched; waiting = r.waiting; carried = r.carried }
   | inr u ↦ whole-off d c (s.down u)
 ]
 

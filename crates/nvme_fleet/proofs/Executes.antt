@@ -106,11 +106,9 @@ given-is d c ans i x bytes h =
     let k = here d x bytes (omega (arith, (h.fetched).within, ((h.fetched).running).slots)) in
     rw (k, front-of (answer_len (received_in (slot_at d.slots (cid x)).waiting) ans.status) (length ans.bytes) bytes ans.bytes h.fits h.gets) refl
 
-last-done : (d : Host) (c : State) (ans : Effect) (i : ℕ) (x bytes : List ℕ) → Executes d c ans i x bytes → last_head (heard d) (unread (executed d x bytes) (executed_state c i x ans)) ≡ c.fetched
-last-done d c ans i x bytes h = ap (last_head (heard d)) (unread-more d c ans i x bytes h) ∙ last-more (heard d) (unread d c) (finished c ans x)
-
 since-done : (d : Host) (c : State) (ans : Effect) (i : ℕ) (x bytes : List ℕ) → Executes d c ans i x bytes → since (executed d x bytes) (executed_state c i x ans) ≡ 0
-since-done d c ans i x bytes h = ap (λ l. (c.fetched + 8 - l) % 8) (last-done d c ans i x bytes h) ∙ since-zero c.fetched ((h.fetched).running).fetched
+since-done d c ans i x bytes h =
+    ap (λ l. (c.fetched + 8 - l) % 8) (ap (last_head (heard d)) (unread-more d c ans i x bytes h) ∙ last-more (heard d) (unread d c) (finished c ans x)) ∙ since-zero c.fetched ((h.fetched).running).fetched
 
 -- Execute puts the answer behind those that are posted
 pub execute-box : (d : Host) (c : State) (ans : Effect) (i : ℕ) (x bytes : List ℕ) → Executes d c ans i x bytes →

@@ -46,14 +46,12 @@ unfolding box
 idle-rung d c z = ap (λ n. map (item (holds d)) (commands c.window c.fetched n)) z
 
 -- Ring moves what was placed behind what was rung
-rung-all : (d : Host) (c : State) (f : List ℕ → Item) → Running d c → map f (commands c.window c.fetched (in_flight d c)) ≡ map f (rung-part c) ++ map f (placed-part d c)
-rung-all d c f s = ap (map f) (flight-parts d c s.fetched s.waiting) ∙ map-append f (rung-part c) (placed-part d c)
-
 pub ring-box : (d : Host) (c : State) → Running d c → box d (rung d c) ≡ record (box d c) { rung = (box d c).rung ++ (box d c).placed; placed = [] }
 unfolding box
 ring-box d c s =
     let n : in_flight d c - in_flight d c ≡ 0 = omega arith in
-    rw (rung-all d c (item (holds d)) s, ap (λ k. map (item (holds d)) (commands c.window ((c.fetched + in_flight d c) % 8) k)) n) refl
+    let f = item (holds d) in
+    rw (ap (map f) (flight-parts d c s.fetched s.waiting) ∙ map-append f (rung-part c) (placed-part d c), ap (λ k. map (item (holds d)) (commands c.window ((c.fetched + in_flight d c) % 8) k)) n) refl
 
 -- a lane with another next ticket, and with so many entries waiting
 pub still-running : (d : Host) (c : State) (next waiting : ℕ) → waiting ≤ in_flight d c → Running d c → Running (record d { next = next }) (record c { waiting = waiting })

@@ -18,10 +18,6 @@ pub same-action : (x y : List ℕ) → SameFields x y → action y ≡ action x
 unfolding action
 same-action x y h = rw h.cdw10 refl
 
-pub same-form : (x y : List ℕ) → SameFields x y → form_rule y ≡ form_rule x
-unfolding form_rule
-same-form x y h = rw (h.fuse, h.psdt) refl
-
 pub access-same : (w : World) (k : ℕ) (x y : List ℕ) (marked : Bool) → SameFields x y → access_rules w k y marked ≡ access_rules w k x marked
 unfolding form_rule rules.field_rule rules.range_rule starting_lba block_count action iekey cptpl rtype eds report_length
 access-same w k x y marked h = rw (h.opcode, h.nsid, h.fuse, h.psdt, h.cdw10, h.cdw11, h.cdw12) refl

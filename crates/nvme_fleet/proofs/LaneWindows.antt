@@ -1,8 +1,8 @@
 -- Windows that differ in one slot or in the queue pages of one lane, and stores that leave such windows.
 use Rattle.nvme_fleet.proofs.Words.{list_page, data_area, ◌≡◌, ℕ, ◌+◌, ◌*◌, ◌<◌, ◌≤◌, List, length, refl, ap, ◌∙◌, arith, true, false, cond, eqb, take, drop, ◌⊎◌, inl, inr, take-take, cases_lt, eqb-false, most_bytes, with_bytes, Lane, Admin, Io, same, other, submission_queue, pages_of, area, listed}
-use Rattle.std.proofs.lemmas.List.{length-drop}
 use Rattle.nvme_fleet.proofs.Windows.{stored-length, stored-apart, stored-in}
-use Rattle.nvme_fleet.proofs.LanePages.{first-here, second-here}
+use Rattle.std.proofs.Common.{rules}
+use Rattle.std.proofs.lemmas.List.{places, same_lists}
 
 -- what holds of a lane and of the other holds of each
 pub each-lane : (lane : Lane) (P : Lane → Type 0) → P lane → P (other lane) → (l : Lane) → P l
@@ -67,14 +67,12 @@ lists-data w bytes s l h b = list-apart w bytes (data_area s) s (omega (arith, l
 pub areas-list : (w bytes : List ℕ) (s : ℕ) → length w ≡ 4194304 → s < 24 → length bytes ≤ 4096 → area (with_bytes w (list_page s) bytes) s ≡ area w s
 areas-list w bytes s l h b = area-apart w bytes (list_page s) s (omega (arith, l, h, b)) (inr (omega (arith, h, b)))
 
-page-here : (b : ℕ) (w bytes : List ℕ) (at : ℕ) → at + length bytes ≤ 8192 → b + 8192 ≤ length w → take 8192 (drop b (with_bytes w (b + at) bytes)) ≡ with_bytes (take 8192 (drop b w)) at bytes
-page-here b w bytes at p q =
-    ap (take 8192) (second-here w bytes at b (omega (arith, p, q))) ∙
-    first-here (drop b w) bytes at 8192 p (omega (arith, length-drop b w, q))
+page-here : (b n : ℕ) (w bytes : List ℕ) (at : ℕ) → at + length bytes ≤ n → b + n ≤ length w → take n (drop b (with_bytes w (b + at) bytes)) ≡ with_bytes (take n (drop b w)) at bytes
+page-here b n w bytes at within fits = same_lists _ _ (search (rules, places)) (λ k d h. grind (arith, places))
 
 here-of : (lane : Lane) (w bytes : List ℕ) (at : ℕ) → at + length bytes ≤ 8192 → submission_queue lane + 8192 ≤ length w → pages_of lane (with_bytes w (submission_queue lane + at) bytes) ≡ with_bytes (pages_of lane w) at bytes
 unfolding pages_of
-here-of lane w bytes at p q = page-here (submission_queue lane) w bytes at p q
+here-of lane w bytes at p q = page-here (submission_queue lane) 8192 w bytes at p q
 
 there-of : (lane : Lane) (w bytes : List ℕ) (at : ℕ) → at + length bytes ≤ 8192 → length w ≡ 4194304 → pages_of (other lane) (with_bytes w (submission_queue lane + at) bytes) ≡ pages_of (other lane) w
 there-of Admin w bytes at p q = pages-apart Io w bytes (0 + at) (omega (arith, p, q)) (inr (omega (arith, p)))

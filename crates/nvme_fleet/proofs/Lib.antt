@@ -12,7 +12,6 @@ pub mod Polls
 pub mod Empties
 pub mod Resets
 pub mod Ups
-pub mod LanePages
 pub mod LaneWindows
 pub mod LaneSlots
 pub mod OneLane

@@ -1,5 +1,5 @@
 -- A reset in one lane: it rests, its mailbox is empty, and the tickets of what was open are those of its slots.
-use Rattle.nvme_fleet.proofs.Words.{◌≡◌, ℕ, ◌+◌, List, [], ◌∷◌, length, map, refl, ap, ◌∙◌, arith, zero, suc, false, inl, inr, length-map, cases_Bool, cid, Item, PostedAnswer, Completion, State, Slot, slot_at, abort_slot, off, box, item, item_in, answers, ticket_in, in_flight, commands, commands_of, unread, Holds, bears, Host}
+use Rattle.nvme_fleet.proofs.Words.{◌≡◌, ℕ, ◌+◌, List, [], ◌∷◌, map, refl, ap, ◌∙◌, arith, zero, suc, false, length-map, cid, Item, PostedAnswer, Completion, State, Slot, slot_at, abort_slot, off, box, item, item_in, answers, ticket_in, in_flight, commands, commands_of, unread, Holds, bears, Host}
 use Rattle.nvme_fleet.specs.Views.{reset}
 pub use Rattle.nvme_fleet.proofs.Queues.{placed-part, rung-part}
 pub use Rattle.nvme_fleet.proofs.Empties.{Whole, whole-of}
@@ -12,18 +12,6 @@ slot-abort [] k = refl
 slot-abort (x ∷ xs) zero = refl
 slot-abort (x ∷ xs) (suc k) = slot-abort xs k
 
-window-of : (first : ℕ) (d : Host) (c : State) → Holds first d c → length c.window ≡ 8192
-window-of first d c s = elim (cases_Bool d.up) [
-  | inl u ↦ (s.up u).window
-  | inr u ↦ (s.down u).window
-]
-
-slots-of : (first : ℕ) (d : Host) (c : State) → Holds first d c → length d.slots ≡ 24
-slots-of first d c s = elim (cases_Bool d.up) [
-  | inl u ↦ (s.up u).slots
-  | inr u ↦ (s.down u).slots
-]
-
 -- a lane that was reset rests
 pub reset-holds : (first : ℕ) (d : Host) (c : State) → Holds first d c → Holds d.next (reset d) (off c)
 reset-holds first d c s =
@@ -34,8 +22,8 @@ reset-holds first d c s =
       up = λ u. absurd (no-way false refl u);
       down =
           λ u. record {
-            window = window-of first d c s;
-            slots = length-map d.slots abort_slot ∙ slots-of first d c s;
+            window = (whole-of first d c s).window;
+            slots = length-map d.slots abort_slot ∙ (whole-of first d c s).slots;
             put = refl;
             unheard = refl;
             consumed = refl;

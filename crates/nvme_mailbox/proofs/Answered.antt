@@ -1,5 +1,5 @@
 -- Each answer that a mailbox holds is of an execution in the run, of a request that was placed in the run.
-use Rattle.nvme_mailbox.proofs.Words.{all-joined, ◌≡◌, ◌⊎◌, inl, inr, ℕ, ◌+◌, Bool, true, false, List, [], ◌∷◌, ◌++◌, length, map, Some, Ok, refl, sym, ap, subst, ◌∙◌, if◌then◌else◌, AllByRecursion, Status, Lane, Admin, Io, Done, asked_of, FleetEvent, Poll, FleetSeen, Reply, concerns, Item, FetchedItem, PostedAnswer, LaneBox, Mailbox, box_at, with_box, lane_of, names, with_mark, ring_lane, new_item, with_placed, answer_reply, WithDriver, Fleet, Run, Is, called_at, host_at, after_answer, with_posted, answer_for, HasMailbox, OwnStep, MailboxStep, waiting, posted_answers, requests_in, Conclusion, Executes, HappensThen, IsClear, ResetClears, NewIsClear, WasPlacedAndExecuted, DoneIsItsExecution, done_in, remove, all-map}
+use Rattle.nvme_mailbox.proofs.Words.{all-joined, ◌≡◌, ◌⊎◌, inl, inr, ℕ, ◌+◌, Bool, true, false, List, [], ◌∷◌, ◌++◌, length, map, Some, Ok, refl, sym, ap, subst, ◌∙◌, if◌then◌else◌, AllByRecursion, Status, Lane, Admin, Io, Done, asked_of, FleetEvent, Poll, FleetSeen, Reply, concerns, Item, FetchedItem, PostedAnswer, LaneBox, Mailbox, box_at, with_box, lane_of, names, with_mark, ring_lane, new_item, with_placed, answer_reply, WithDriver, Fleet, Run, Is, called_at, host_at, after_answer, with_posted, answer_for, HasMailbox, OwnStep, MailboxStep, waiting, posted_answers, requests_in, Conclusion, Executes, HappensThen, ResetClears, NewIsClear, WasPlacedAndExecuted, DoneIsItsExecution, done_in, remove, all-map}
 use Rattle.nvme_mailbox.proofs.Lists.{all-left, all-right, all-over, all-get, all-removed}
 use Rattle.nvme_mailbox.specs.Deliveries.{polled}
 use Rattle.nvme_driver.specs.declared.ticket.Ticket.{Ticket}
@@ -219,10 +219,6 @@ known-of P Q m w a =
       all-over P (λ (f : FetchedItem). f.item) m.fetched (all-right P (requests_in m.admin ++ requests_in m.io) (map (λ (f : FetchedItem). f.item) m.fetched) w),
     )
 
--- A clear mailbox knows of nothing.
-known-clear : (P : Item → Type 0) (Q : PostedAnswer → Type 0) (m : Mailbox) → IsClear m → Known P Q m
-known-clear P Q m h = known-of P Q m (subst (AllByRecursion P) (sym h.requests) tt) (subst (AllByRecursion Q) (sym h.posted) tt)
-
 pub reset_clears : ResetClears
 unfolding waiting posted_answers
 reset_clears m = record { requests = refl; posted = refl }
@@ -286,7 +282,8 @@ was k tells old events replies new run a ticket conclusion t r (inr x) = record 
 
 pub done_is_its_execution : DoneIsItsExecution
 done_is_its_execution tells old mid new events replies run k m at clear reply step ticket dw0 len status h =
-    let x = walk Nothing NoAnswer k m tells old events replies mid run at (known-clear Nothing NoAnswer m clear) in
+    let none : Known Nothing NoAnswer m = known-of Nothing NoAnswer m (subst (AllByRecursion Nothing) (sym clear.requests) tt) (subst (AllByRecursion NoAnswer) (sym clear.posted) tt) in
+    let x = walk Nothing NoAnswer k m tells old events replies mid run at none in
     let so : Is (called_at (Some (WithDriver x.mailbox)) mid k polled) reply new = subst (λ o. Is (called_at o mid k polled) reply new) x.host step in
     let v = own-moved (Poll k) tells k mid.site new.site x.mailbox (polled x.mailbox).mailbox reply (same-is k k refl) (so.0, refl) in
     let done : IsDone (reply_of v.move x.mailbox).seen = subst IsDone (sym h ∙ ap (λ (r : Reply). r.seen) v.gives) tt in

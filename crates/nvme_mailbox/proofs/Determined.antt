@@ -20,9 +20,6 @@ execution-counts : (lane : Lane) (tells : Bool) (k : ℕ) (a : Asked) (marked : 
 execution-counts Admin tells k a marked s r h = let e = ap (λ (x : RequestExecution). x.left.device.failures) h ∙ admin-calm s k a in omega (arith, e)
 execution-counts Io tells k a marked s r h = io-counts (io_verdict s.world k a marked) tells k a s r h
 
-whole-counts : (old new : Fleet) → new ≡ old → failures_in old ≤ failures_in new
-whole-counts old new e = let f = ap failures_in e in omega (arith, f)
-
 site-counts : (tells : Bool) (old new : Fleet) (event : FleetEvent) → Leaves tells old new event → failures_in old ≤ failures_in new
 unfolding RequestComesTo CommandComesTo
 site-counts tells old new event (AsItWas e) = let same = ap (λ (s : Site). s.device.failures) e in omega (arith, same)
@@ -40,7 +37,7 @@ pub step-counts : (tells : Bool) (old new : Fleet) (event : FleetEvent) (reply :
 step-counts tells old new event reply h = site-counts tells old new event (leaves tells old new event reply h)
 
 pub failures_never_fall : FailuresNeverFall
-failures_never_fall tells old new [] [] run = whole-counts old new run
+failures_never_fall tells old new [] [] run = let e = ap failures_in run in omega (arith, e)
 failures_never_fall tells old new (event ∷ events) (x ∷ later) run =
     let one = step-counts tells old run.0 event x run.1 in
     let rest = failures_never_fall tells run.0 new events later run.2 in

@@ -20,11 +20,11 @@ unfolding admin_request_execution
 admin-calm s k a = admin-by-calm (admin_judgement s.world k a) (admin_commands.command_of (opcode (command_entry a))) s k a
 
 -- The namespaces lie on the medium as before, which is at least as long.
-record StillLies (old new : Site) : Type 0 where
-  extents : (n : ℕ) → extent_of new.world n ≡ extent_of old.world n
-  size : length old.device.content ≤ length new.device.content
+pub record StillLies (old new : Site) : Type 0 where
+  pub extents : (n : ℕ) → extent_of new.world n ≡ extent_of old.world n
+  pub size : length old.device.content ≤ length new.device.content
 
-lies-still : (old new : Site) → StillLies old new → IsLaidOut old.world old.device.content → IsLaidOut new.world new.device.content
+pub lies-still : (old new : Site) → StillLies old new → IsLaidOut old.world old.device.content → IsLaidOut new.world new.device.content
 lies-still old new same laid = record {
   within = λ n x is. let fits = laid.within n x (sym (same.extents n) ∙ is) in let size = same.size in omega (arith, fits, size);
   apart = λ n m x y other p q. laid.apart n m x y other (sym (same.extents n) ∙ p) (sym (same.extents m) ∙ q);

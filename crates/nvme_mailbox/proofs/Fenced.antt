@@ -1,5 +1,5 @@
 -- Who may write over runs of a fleet.
-use Rattle.nvme_mailbox.proofs.Words.{◌≡◌, ◌⊎◌, inl, inr, ℕ, ◌==◌, Bool, true, List, [], ◌∷◌, refl, sym, ap, subst, ◌∙◌, cases_Bool, eqb-true, eqb-false, nsid, reserving, reservation_outcome, Device, reservation_of, may_write, may_read, cycled_world, World, host_of, IsReserved, is-reserved, cycle_keeps_places, HasSameExtents, Cycled, IsFleeting, Subsystem, after_power_cycle, FleetEvent, PowerCycle, Reply, Fleet, Step, Run, IoCommand, Allows, Forgets, OnlyAllowedActionsReserve, LeavesReservation, PermissionsStay, RunWhere}
+use Rattle.nvme_mailbox.proofs.Words.{◌≡◌, ◌⊎◌, inl, inr, ℕ, ◌==◌, Bool, true, List, [], ◌∷◌, refl, sym, ap, subst, ◌∙◌, cases_Bool, eqb-true, eqb-false, nsid, reserving, reservation_outcome, Device, reservation_of, may_write, may_read, cycled_world, World, host_of, IsReserved, is-reserved, cycle_keeps_places, HasSameExtents, Cycled, IsFleeting, Subsystem, after_power_cycle, FleetEvent, Reply, Fleet, Step, Run, IoCommand, Allows, Forgets, OnlyAllowedActionsReserve, LeavesReservation, PermissionsStay, RunWhere}
 use Rattle.nvme_machine.specs.declared.event.Event.TheVariants as machine_event
 use Rattle.nvme_machine.proofs.Fencing.{may-still, read-still}
 use Rattle.nvme_machine.proofs.Layouts as machine
@@ -40,9 +40,6 @@ cycled-or w d n =
       | inr (inr fleeting) ↦ inr fleeting
     ]
 
-forgets : (old : Fleet) (event : FleetEvent) (n : ℕ) → event ≡ PowerCycle → IsFleeting (reservation_of old.site.world n) → Forgets old event n
-forgets old event n is h = subst (λ e. Forgets old e n) (sym is) h
-
 action : (old new : Fleet) (event : FleetEvent) (n : ℕ) → Acts old new event
     → (reservation_of new.site.world n ≡ reservation_of old.site.world n) ⊎ Allows reserving old event n ⊎ Forgets old event n
 action old new event n (Rests h) = inl (h.reservations n)
@@ -54,7 +51,7 @@ action old new event n (Reserves k i number is x found numbered h) =
     ]
 action old new event n (Loses is world) = elim (cycled-or old.site.world old.site.device n) [
   | inl same ↦ inl (ap (λ w. reservation_of w n) world ∙ same)
-  | inr fleeting ↦ inr (inr (forgets old event n is fleeting))
+  | inr fleeting ↦ inr (inr (subst (λ e. Forgets old e n) (sym is) fleeting))
 ]
 
 pub step-acts : (tells : Bool) (old new : Fleet) (event : FleetEvent) (reply : Reply) → Step tells old event reply new → Acts old new event
@@ -74,10 +71,6 @@ permission-stays may still tells old new event reply n step quiet k =
       | inr (inr forgotten) ↦ absurd (quiet.1 forgotten)
     ]
 
-stays-one : (tells : Bool) (old new : Fleet) (event : FleetEvent) (reply : Reply) (n : ℕ) → Step tells old event reply new → LeavesReservation n old event
-    → (k : ℕ) → may_write new.site.world k n ≡ may_write old.site.world k n
-stays-one tells old new event reply n step quiet k = permission-stays may_write may-still tells old new event reply n step quiet k
-
 pub reading-stays : (tells : Bool) (old new : Fleet) (event : FleetEvent) (reply : Reply) (n : ℕ) → Step tells old event reply new → LeavesReservation n old event
     → (k : ℕ) → may_read new.site.world k n ≡ may_read old.site.world k n
 reading-stays tells old new event reply n step quiet k = permission-stays may_read read-still tells old new event reply n step quiet k
@@ -85,7 +78,7 @@ reading-stays tells old new event reply n step quiet k = permission-stays may_re
 pub permissions_stay : PermissionsStay
 permissions_stay tells old new [] [] n run k = ap (λ (f : Fleet). may_write f.site.world k n) run
 permissions_stay tells old new (event ∷ events) (x ∷ later) n run k =
-    permissions_stay tells run.0 new events later n run.3 k ∙ stays-one tells old run.0 event x n run.2 run.1 k
+    permissions_stay tells run.0 new events later n run.3 k ∙ permission-stays may_write may-still tells old run.0 event x n run.2 run.1 k
 permissions_stay tells old new events later n run k = absurd run
 
 -- a run where each event is so, is a run

@@ -22,13 +22,10 @@ exactly m t =
     let r = f.aborts in
     omega (arith, a, p, q, r)
 
-is-aborted : (m : Mailbox) → IsAborted m (reset m).mailbox
-is-aborted m = record { down = refl; clear = reset_clears m; aborted = refl; exactly = exactly m; next = refl }
-
 pub power_aborts : PowerAborts
 power_aborts tells old new reply step k m at =
     let one = hosts_are_apart tells old new PowerCycle reply step k m at in
-    (one.mailbox, one.host, subst (IsAborted m) (sym one.moves.1) (is-aborted m))
+    (one.mailbox, one.host, subst (IsAborted m) (sym one.moves.1) (record { down = refl; clear = reset_clears m; aborted = refl; exactly = exactly m; next = refl }))
 
 pub done_since_power : DoneSincePower
 done_since_power tells before old mid new cycle first events replies run k m at reply step ticket dw0 len status says =

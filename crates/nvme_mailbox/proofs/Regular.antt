@@ -6,7 +6,7 @@ use Rattle.nvme_spec.specs.AdminCommands as admin_commands
 use Rattle.nvme_spec.proofs.Openings.{opening_is_laid_out}
 use Rattle.nvme_driver.specs.declared.request.Request.TheVariants as request
 use Rattle.nvme_driver.proofs.Moving.{whole}
-use Rattle.nvme_mailbox.proofs.Existing.{allowed-passes}
+use Rattle.nvme_mailbox.proofs.Existing.{allowed-passes, lies-still}
 use Rattle.nvme_mailbox.proofs.Fenced.{extents-stay, step-acts}
 use Rattle.nvme_mailbox.proofs.Numbered as numbered
 use Rattle.nvme_mailbox.proofs.Sites.{AsItWas, ByCommand, ByRequest, Leaves, PowerLost, leaves}
@@ -92,12 +92,8 @@ pub step-regular : (old new : Fleet) (event : FleetEvent) (reply : Reply) → St
 step-regular old new event reply step regular =
     let same = extents-stay old new event (step-acts true old new event reply step) in
     let size = size-left old new event regular (leaves true old new event reply step) in
-    let laid = regular.laid in
     record {
-      laid = record {
-        within = λ n x is. let fits = laid.within n x (sym (same.extents n) ∙ is) in omega (arith, fits, size);
-        apart = λ n m x y other p q. laid.apart n m x y other (sym (same.extents n) ∙ p) (sym (same.extents m) ∙ q);
-      };
+      laid = lies-still old.site new.site (record { extents = same.extents; size = omega (arith, size) }) regular.laid;
       numbers = numbered.step true old new event reply step regular.numbers;
       taken = taken.holds-taken new (taken.step true old new event reply step (taken.listed old regular.taken));
     }

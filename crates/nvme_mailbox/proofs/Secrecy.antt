@@ -1,5 +1,5 @@
 -- Hosts of a fleet that may not read a namespace learn nothing of its bytes.
-use Rattle.nvme_mailbox.proofs.Words.{AllByRecursion, fault_free_step, ◌≡◌, ◌<◌, ◌-◌, ◌^◌, ℕ, Bool, true, false, List, [], ◌∷◌, Option, None, Some, Ok, Err, refl, sym, ap, subst, ◌∙◌, slice_get, opcode, AdminCommand, Verdict, Allowed, Denied, Device, reserving, IsLaidOut, may_read, Judgement, World, Lane, Admin, Io, Asked, FetchedCommand, Executed, CommandExecution, Controller, QueuePair, open_pair, queues_of, FinishesOne, FinishesOver, Setting, scene_in, DifferIn, after_completion, Mirrors, command_execution_over, answers-over, performs, differ-still, FleetEvent, BringUp, Place, Ring, Fetch, Execute, Poll, Reset, RawStore, RawWrite32, PowerCycle, OfItsHost, Reply, FetchedItem, Mailbox, lane_of, RequestComesTo, RequestComesToAs, IoRequestComesTo, RequestExecution, Site, admin_judgement, admin_request_execution, admin_request_execution_by, command_entry, io_verdict, scene_at, Allows, Forgets, LeavesReservation, Moment, ExecutesAt, ExecutesItem, ExecutesRaw, Fleet, Is, Raw, Step, WithDriver, after_answer, after_execution, after_raw, host_at, power_cycled, setting_of, settled, IsRegular, WasTaken, FencedReading, FencedReadingIsSame, MayNotRead, site_over}
+use Rattle.nvme_mailbox.proofs.Words.{AllByRecursion, fault_free_step, ◌≡◌, ◌<◌, ◌-◌, ◌^◌, ℕ, Bool, true, false, List, [], ◌∷◌, Option, None, Some, Ok, Err, refl, sym, ap, subst, ◌∙◌, slice_get, opcode, AdminCommand, Verdict, Allowed, Denied, Device, reserving, IsLaidOut, may_read, Judgement, World, Lane, Admin, Io, Asked, FetchedCommand, Executed, CommandExecution, Controller, QueuePair, open_pair, queues_of, FinishesOne, FinishesOver, Setting, scene_in, DifferIn, after_completion, Mirrors, command_execution_over, answers-over, performs, differ-still, FleetEvent, Execute, PowerCycle, OfItsHost, Reply, FetchedItem, Mailbox, lane_of, RequestComesTo, RequestComesToAs, IoRequestComesTo, RequestExecution, Site, admin_judgement, admin_request_execution, admin_request_execution_by, command_entry, io_verdict, scene_at, Allows, Forgets, LeavesReservation, Moment, ExecutesAt, ExecutesItem, ExecutesRaw, Fleet, Is, Raw, Step, WithDriver, after_answer, after_execution, after_raw, host_at, power_cycled, setting_of, settled, IsRegular, WasTaken, FencedReading, FencedReadingIsSame, MayNotRead, site_over}
 use Rattle.nvme_mailbox.specs.Fleets.{Host}
 use Rattle.nvme_spec.specs.AdminCommands as admin_commands
 use Rattle.nvme_mailbox.specs.IoCommands.{command_at}
@@ -12,16 +12,8 @@ use Rattle.nvme_mailbox.proofs.Taken.{at-place}
 
 -- what holds of the hosts of events in one world holds of them in the next
 of-one : (P Q : ℕ → Type 0) → ((k : ℕ) → P k → Q k) → (e : FleetEvent) → OfItsHost P e → OfItsHost Q e
-of-one P Q f (BringUp k) h = f k h
-of-one P Q f (Place k request) h = f k h
-of-one P Q f (Ring k) h = f k h
-of-one P Q f (Fetch k q) h = f k h
-of-one P Q f (Execute k i) h = f k h
-of-one P Q f (Poll k) h = f k h
-of-one P Q f (Reset k) h = f k h
-of-one P Q f (RawStore k address bytes) h = f k h
-of-one P Q f (RawWrite32 k offset v) h = f k h
 of-one P Q f PowerCycle h = tt
+of-one P Q f e h = f _ h
 
 pub of-each : (P Q : ℕ → Type 0) → ((k : ℕ) → P k → Q k) → (events : List FleetEvent) → AllByRecursion (OfItsHost P) events → AllByRecursion (OfItsHost Q) events
 of-each P Q f [] h = tt

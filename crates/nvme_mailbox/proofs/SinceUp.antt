@@ -1,5 +1,5 @@
 -- A driver that is down waits for nothing, from an opening on.
-use Rattle.nvme_mailbox.proofs.Words.{true≢false, ◌≡◌, ℕ, ◌+◌, true, false, List, [], ◌∷◌, map, refl, sym, ap, subst, ◌∙◌, slice_get, none-some, Lane, Admin, Io, LaneBox, empty_box, Mailbox, box_at, lane_of, new_mailbox, with_box, with_mark, WithDriver, after_answer, opening, IsClear, posted_answers, waiting, Device, Configuration, Raw, marked}
+use Rattle.nvme_mailbox.proofs.Words.{true≢false, ◌≡◌, ℕ, ◌+◌, true, false, List, [], ◌∷◌, map, refl, sym, ap, subst, ◌∙◌, slice_get, none-some, Lane, Admin, Io, LaneBox, empty_box, Mailbox, box_at, lane_of, with_box, with_mark, WithDriver, after_answer, opening, IsClear, posted_answers, waiting, Device, Configuration, Raw, marked}
 use Rattle.nvme_mailbox.specs.SinceUp.{DoneSinceItCameUp, DownIsClear}
 use Rattle.nvme_mailbox.proofs.Answered.{done_is_its_execution}
 use Rattle.nvme_mailbox.proofs.TicketCounts.{opening_is_new}
@@ -78,12 +78,8 @@ marked-rests k n (Raw c) h = tt
 keeps : Keeps RestsAt
 keeps = record { move = λ k v m may h. rests v m may h; marks = marked-rests; raw = λ k c d same h. tt }
 
--- as it opens
-new-rests : Rests (new_mailbox 1)
-new-rests = λ down. record { admin = none; io = none; fetched = refl }
-
 opening-rests : (c : Configuration) (d : Device) → Each RestsAt (opening c d)
-opening-rests c d k (WithDriver m) at = subst Rests (sym (opening_is_new c d k m at)) new-rests
+opening-rests c d k (WithDriver m) at = subst Rests (sym (opening_is_new c d k m at)) (λ down. record { admin = none; io = none; fetched = refl })
 opening-rests c d k (Raw x) at = tt
 
 pub down_is_clear : DownIsClear

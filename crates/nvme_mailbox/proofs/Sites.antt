@@ -1,5 +1,5 @@
 -- What each event of a fleet leaves of access state and medium.
-use Rattle.nvme_mailbox.proofs.Words.{fault_free_step, ◌≡◌, ℕ, Bool, Option, None, Some, refl, ap, ◌∙◌, slice_get, cycled_world, FetchedCommand, Executed, Controller, QueuePair, queues_of, open_pair, CommandComesTo, CommandExecution, Setting, FinishesOne, FinishesOver, scene_in, FleetEvent, Execute, PowerCycle, Reply, FetchedItem, Mailbox, RequestExecution, RequestComesTo, WithDriver, Raw, Fleet, Moment, Is, Step, host_at, power_cycled, settled, site_of, setting_of, ExecutesItem, ExecutesRaw, ExecutesAt}
+use Rattle.nvme_mailbox.proofs.Words.{◌≡◌, ℕ, Bool, Option, None, Some, refl, ap, ◌∙◌, slice_get, cycled_world, FetchedCommand, Executed, Controller, QueuePair, queues_of, open_pair, CommandComesTo, CommandExecution, Setting, FinishesOne, FinishesOver, scene_in, FleetEvent, Execute, PowerCycle, Reply, FetchedItem, Mailbox, RequestExecution, RequestComesTo, WithDriver, Raw, Fleet, Step, host_at, power_cycled, settled, site_of, setting_of, ExecutesItem, ExecutesRaw, ExecutesAt}
 use Rattle.nvme_mailbox.specs.Fleets.{Host}
 use Rattle.nvme_mailbox.proofs.Existing.{other-site}
 
@@ -14,9 +14,6 @@ pub data Leaves (tells : Bool) (old new : Fleet) (event : FleetEvent) : Type 0 w
 
 whole : (tells : Bool) (old new : Fleet) (event : FleetEvent) → new ≡ old → Leaves tells old new event
 whole tells old new event e = AsItWas (ap (λ (f : Fleet). f.site) e)
-
-moves : (tells : Bool) (old new : Fleet) (event : FleetEvent) (m : Moment) (reply : Reply) → m.fleet.site ≡ old.site → Is m reply new → Leaves tells old new event
-moves tells old new event m reply same h = AsItWas (ap (λ (f : Fleet). f.site) h.1 ∙ same)
 
 item : (o : Option FetchedItem) (tells : Bool) (old new : Fleet) (k : ℕ) (m : Mailbox) (i : ℕ) (reply : Reply) → host_at old k ≡ Some (WithDriver m) → slice_get m.fetched i ≡ o
     → ExecutesItem o tells old k m i reply new → Leaves tells old new (Execute k i)
@@ -53,4 +50,4 @@ cycles tells old new h = PowerLost refl (ap (λ (f : Fleet). f.site) h)
 pub leaves : (tells : Bool) (old new : Fleet) (event : FleetEvent) (reply : Reply) → Step tells old event reply new → Leaves tells old new event
 leaves tells old new (Execute k i) reply h = executes (host_at old k) tells old new k i reply refl h
 leaves tells old new PowerCycle reply h = cycles tells old new h.1
-leaves tells old new event reply h = moves tells old new event (fault_free_step old event) reply (other-site old event tt) h
+leaves tells old new event reply h = AsItWas (ap (λ (f : Fleet). f.site) h.1 ∙ other-site old event tt)

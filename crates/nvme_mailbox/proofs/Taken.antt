@@ -3,7 +3,7 @@ use Rattle.nvme_mailbox.proofs.Words.{all-joined, ◌≡◌, ℕ, ◌++◌, Bool
 use Rattle.nvme_mailbox.proofs.Lists.{all-get}
 use Rattle.nvme_mailbox.specs.Fleets.{Host}
 use Rattle.nvme_mailbox.proofs.Answered.{Brings, Known, KnownIn, OfItem, all-marked, known-of, moves-known}
-use Rattle.nvme_mailbox.proofs.EachHost.{Each, Keeps, step-keeps}
+use Rattle.nvme_mailbox.proofs.EachHost.{Each, step-keeps}
 use Rattle.nvme_mailbox.proofs.Moves.{Move, Take, Answer, May}
 use Rattle.nvme_mailbox.proofs.TicketCounts.{opening_is_new}
 
@@ -60,9 +60,6 @@ marked-holds : (k n : ℕ) (h : Host) → Holds k h → Holds k (marked n h)
 marked-holds k n (WithDriver m) is = (is.0, is.1, all-marked WasTaken n m.fetched is.2)
 marked-holds k n (Raw c) is = tt
 
-keeps : Keeps Holds
-keeps = record { move = λ k v m may h. moves-known WasTaken Any v m may (brings v m may) h; marks = marked-holds; raw = λ k c d same h. h }
-
 pub listed : (f : Fleet) → HoldsTaken f → Each Holds f
 listed f all k (WithDriver m) at = takes m (all k m at)
 listed f all k (Raw c) at = tt
@@ -71,7 +68,7 @@ pub holds-taken : (f : Fleet) → Each Holds f → HoldsTaken f
 holds-taken f all k m at = waits m (all k (WithDriver m) at)
 
 pub step : (tells : Bool) (old new : Fleet) (event : FleetEvent) (reply : Reply) → Step tells old event reply new → Each Holds old → Each Holds new
-step tells old new event reply h all = step-keeps Holds keeps tells old new event reply h all
+step = step-keeps Holds (record { move = λ k v m may h. moves-known WasTaken Any v m may (brings v m may) h; marks = marked-holds; raw = λ k c d same h. h })
 
 -- the request at a place of what was fetched
 pub at-place : (f : Fleet) (k i : ℕ) (m : Mailbox) (x : FetchedItem) → HoldsTaken f → host_at f k ≡ Some (WithDriver m) → slice_get m.fetched i ≡ Some x → WasTaken x.item

@@ -50,13 +50,10 @@ unfolding asked_in
 same-asked k x y old event reply new p q =
     p.asked ∙ ap (asked_in x.asked) (sym p.event_is ∙ q.event_is) ∙ sym q.asked
 
-same-item : (x y : Item) → x.ticket ≡ y.ticket → x.asked ≡ y.asked → x ≡ y
-same-item x y t a = λ i. record { ticket = t i; asked = a i }
-
 pub ticket_names_its_request : TicketNamesItsRequest
 ticket_names_its_request tells old new [] [] run k m at x y h g t = absurd h
 ticket_names_its_request tells old new (event ∷ events) (r ∷ later) run k m at x y (inl p) (inl q) t =
-    same-item x y t (same-asked k x y old event r run.0 p q)
+    λ i. record { ticket = t i; asked = same-asked k x y old event r run.0 p q i }
 ticket_names_its_request tells old new (event ∷ events) (r ∷ later) run k m at x y (inl p) (inr g) t =
     let one = hosts_are_apart tells old run.0 event r run.1 k m at in
     let a = takes-next tells old run.0 event r k m one.mailbox x one.moves p in
