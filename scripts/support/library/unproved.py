@@ -119,7 +119,7 @@ def compiled(kit: unproved.Kit, room: Path, top: Path) -> Path:
     module = (room / "module.ll").read_text(encoding="utf-8")
     (room / "library.ll").write_text(exported(module, answering(declared)), encoding="utf-8")
     (room / "shims.c").write_text(shims(declared), encoding="utf-8")
-    call([*clang, *["library.ll" if it == unproved.MODULE else it for it in words], "-O1", "-o", "library.o"], room)
+    call([*clang, *["library.ll" if it == unproved.MODULE else it for it in words], "-O2", "-o", "library.o"], room)
     call(["cc", "-O1", "-fPIC", "-I", str(top / "clients/c"), "-c", "shims.c", "-o", "shims.o"], room)
     call(["ar", "rcs", "unproved.a", "library.o", "shims.o"], room)
     return room / "unproved.a"
