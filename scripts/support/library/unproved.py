@@ -9,7 +9,7 @@ import re
 import shutil
 import tempfile
 from pathlib import Path
-from typing import Dict, List, Tuple
+from typing import Dict, List, Set, Tuple
 
 from support.building import unproved
 from support.library import header
@@ -46,6 +46,9 @@ fn main(rt: HostRuntime) -> io::Result<ExitCode> {{
 # How an export is named in the module, and what its definition begins with.
 NAMED = re.compile(r'@"nvme_library::\w+::(nvmesim_\w+)"')
 DEFINED = re.compile(r'^define internal (.*@"nvme_library::\w+::(nvmesim_\w+)".*)$', re.M)
+# A function that its source has inlined everywhere, and the definition of a function in the module, with its name.
+INLINED = re.compile(r"#\[inline\(always\)\]\s*(?:#\[[^\]]*\]\s*)*(?:pub(?:\([^)]*\))?\s+)?fn (\w+)")
+INTERNAL = re.compile(r'^(define internal [^\n]*?@"([^"]+)"\([^\n]*\)) (#\d+ \{)$', re.M)
 # What stands before the name of an export that C calls by another function.
 BEHIND = "rattle_"
 
@@ -94,6 +97,27 @@ def shims(declared: Dict[str, Declared]) -> str:
     return "\n".join(text) + "\n"
 
 
+def inlined(crates: Path) -> Set[Tuple[str, str]]:
+    """The functions that are inlined everywhere: the path of the module, and the name."""
+    found = set()
+    for path in crates.glob("*/src/**/*.rt"):
+        crate, _, *parts = path.relative_to(crates).with_suffix("").parts
+        module = "::".join([crate, *(it for it in parts if it != "lib")])
+        found |= {(module, name) for name in INLINED.findall(path.read_text(encoding="utf-8"))}
+    return found
+
+
+def with_inlining(module: str, wanted: Set[Tuple[str, str]]) -> str:
+    """The module with these functions inlined, which it does not say by itself: each call would be one."""
+
+    def definition(found: "re.Match[str]") -> str:
+        *path, name = re.sub("::<[^>]*>", "", found.group(2)).split("::")
+        is_wanted = any(("::".join(path[:count]), name) in wanted for count in range(1, len(path) + 1))
+        return f"{found.group(1)} alwaysinline {found.group(3)}" if is_wanted else found.group()
+
+    return INTERNAL.sub(definition, module)
+
+
 def exported(module: str, behind: List[str]) -> str:
     """The module with names for others: those of the header, or such as only the functions of C know."""
 
@@ -117,7 +141,8 @@ def compiled(kit: unproved.Kit, room: Path, top: Path) -> Path:
     text = ["-S", "-emit-llvm", "-O0", "-Xclang", "-disable-llvm-passes", "-o", "module.ll"]
     call([*clang, *[it for it in words if it != "-c"], *text], room)
     module = (room / "module.ll").read_text(encoding="utf-8")
-    (room / "library.ll").write_text(exported(module, answering(declared)), encoding="utf-8")
+    module = with_inlining(exported(module, answering(declared)), inlined(top / "crates"))
+    (room / "library.ll").write_text(module, encoding="utf-8")
     (room / "shims.c").write_text(shims(declared), encoding="utf-8")
     call([*clang, *["library.ll" if it == unproved.MODULE else it for it in words], "-O2", "-o", "library.o"], room)
     call(["cc", "-O1", "-fPIC", "-I", str(top / "clients/c"), "-c", "shims.c", "-o", "shims.o"], room)
