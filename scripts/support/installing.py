@@ -7,7 +7,7 @@ import subprocess
 import sys
 import tempfile
 from pathlib import Path
-from typing import Dict, Iterator, List
+from typing import Dict, Iterator, List, Tuple
 
 from support.building.sources import PROGRAMS
 from support.building.store import Store, record_of, sum_of
@@ -26,8 +26,11 @@ set -euo pipefail
 library=$(dirname "$(dirname "$(realpath "${BASH_SOURCE[0]}")")")/lib/nvmesim
 NVMELIVE=${NVMELIVE:-$library/nvmelive} exec "$library/lab/lab" "$@"
 """
-# Others that put files of their own under the prefix, each with its words before it.
-OTHERS = (("scripts/library", "--install"), ("clients/nvme-tcp/install",))
+# Others that put files of their own under the prefix, each with its words before it; and those of a release, in which
+# the library is a proved one, or none.
+Others = Tuple[Tuple[str, ...], ...]
+OTHERS: Others = (("scripts/library", "--install"), ("clients/nvme-tcp/install",))
+RELEASED: Others = (("scripts/library", "--install-proved"), ("clients/nvme-tcp/install",))
 
 
 class NotInstalled(Exception):
@@ -117,7 +120,7 @@ def put_package(top: Path, stage: Path) -> None:
     copy_tree(top / "clients/python/examples", stage / SHARE / "examples")
 
 
-def put_others(top: Path, stage: Path) -> None:
+def put_others(top: Path, stage: Path, others: Others) -> None:
     """Examples, documents, and what others put there."""
     for path in sorted((top / "crates/nvme_examples/data").iterdir()):
         if path.name == "examples" or path.suffix in (".nvme", ".out"):
@@ -125,7 +128,7 @@ def put_others(top: Path, stage: Path) -> None:
     for name in ("README.md", "CHANGELOG.md"):
         copy(top / name, stage / "share/doc/nvmesim" / name)
     copy_tree(top / "docs", stage / "share/doc/nvmesim/docs")
-    for words in OTHERS:
+    for words in others:
         if os.access(top / words[0], os.X_OK):
             if subprocess.run([str(top / words[0]), *words[1:], str(stage)]).returncode != 0:
                 raise NotInstalled(f"{words[0]} has failed")
@@ -152,11 +155,11 @@ def manifest(top: Path, stage: Path) -> str:
     return head + "\n" + "".join(f"{sum_of(stage / it)}  {it}\n" for it in files_of(stage))
 
 
-def fill(top: Path, stage: Path) -> None:
+def fill(top: Path, stage: Path, others: Others = OTHERS) -> None:
     """Puts all there is into an empty folder."""
     put_programs(top, stage)
     put_package(top, stage)
-    put_others(top, stage)
+    put_others(top, stage, others)
     put(manifest(top, stage), stage / MANIFEST)
 
 
