@@ -16,16 +16,3 @@ LINES_A_SECOND = 25
 def seconds_of(crate):
     """The seconds of a crate, measured or estimated."""
     return SECONDS.get(crate.name) or 1 + crate.count(b"\n") // LINES_A_SECOND
-
-
-def longest_chains(crates):
-    """For each crate of a list, lowest first, the seconds of the longest chain of crates that it is a part of."""
-    names = {it.name for it in crates}
-    upto, behind = {}, {}
-    for it in crates:
-        below = [upto[low.name] for low in it.below() if low.name in names]
-        upto[it.name] = seconds_of(it) + max(below, default=0)
-    for it in reversed(crates):
-        above = [behind[high.name] for high in crates if it.name in {low.name for low in high.below()}]
-        behind[it.name] = seconds_of(it) + max(above, default=0)
-    return {it.name: upto[it.name] + behind[it.name] - seconds_of(it) for it in crates}

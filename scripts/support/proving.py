@@ -1,16 +1,21 @@
 """Proves crates side by side, over what earlier runs kept, and keeps what it proves."""
+import os
 import shutil
 import subprocess
 import tempfile
 import threading
 import time
+from concurrent.futures import ThreadPoolExecutor
 from pathlib import Path
 
-from support.proof_seconds import longest_chains, seconds_of
+from support.proof_seconds import seconds_of
 
-# A crate whose chain is as long as this part of the longest one gets two jobs, also where other crates take the other
-# processors: all wait for it.
-LONG = 0.85
+# What a job of the prover takes of memory, in bytes.
+JOB_MEMORY = 1_200_000_000
+# What the first program waits for comes before the rest: it begins first, as if its proof took so many times as long,
+# and the rest has a lower priority by so much.
+FIRST = 4
+LOWER = 5
 
 
 def cone_of(wanted):
@@ -37,9 +42,10 @@ def is_left_by_ci(crate):
     return all(newest_source(it) < library.stat().st_mtime for it in [*crate.below(), crate])
 
 
-def side_by_side(rt, work, jobs):
-    """Runs `work(crate)` for each crate of a list, lowest first, side by side where they don't wait for one another;
-    it gives whether all was well, and is not run for what stands on a crate where it was not."""
+def side_by_side(rt, work, first, jobs):
+    """Runs `work(crate)` for each crate of a list, lowest first, side by side where they don't wait for one another, and
+    those of the names in `first` before the others; it gives whether all was well, and is not run for what stands on a
+    crate where it was not."""
     crates, call = work
     if jobs:
         rt.processors = lambda: jobs
@@ -48,7 +54,8 @@ def side_by_side(rt, work, jobs):
 
     def task(crate):
         waits = [keys[it.name] for it in crate.below() if it.name in keys]
-        return (waits, seconds_of(crate), rt.need(crate),
+        seconds = seconds_of(crate) * (FIRST if crate.name in first else 1)
+        return (waits, seconds, rt.need(crate),
                 lambda given, jobs: all(given[it] for it in waits) and call(crate, jobs))
 
     return all(rt.in_lanes({keys[it.name]: task(it) for it in crates}).values())
@@ -87,18 +94,34 @@ def build_program(rt, crate, flags):
     return not crate.run(flags, [], input=crate.stream("stdin") or b"", stdout=subprocess.PIPE, timeout=rt.rtlib.LIMIT)
 
 
+def jobs_of(rt, jobs):
+    """How many jobs a crate gets that may have so many: one for each processor where memory is free for them, though
+    other crates are proved beside it, since most of a crate's proof is often one function's, for which its other jobs
+    would wait."""
+    return max(jobs, min(rt.processors(), rt.free() // JOB_MEMORY))
+
+
+def lowly(call):
+    """The same call, in a thread of lower priority, which the programs have too that it starts."""
+    def run(*given):
+        with ThreadPoolExecutor(1, initializer=os.nice, initargs=(LOWER,)) as alone:
+            return alone.submit(call, *given).result()
+
+    return run
+
+
 def prove(rt, wanted, jobs, tell, log):
     """Proves the crates and all that they stand on, side by side, and keeps the work of each in its out/. What is a
-    program is built there."""
+    program is built there; what the first one waits for comes before the rest."""
     crates = cone_of(wanted)
     lacking = [it for it in crates if it.is_program or not it.is_built()]
-    progress, chains = Progress(len(lacking), tell), longest_chains(lacking)
-    long = {it for it, chain in chains.items() if chain >= LONG * max(chains.values())}
+    progress = Progress(len(lacking), tell)
+    first = {it.name for it in cone_of([it for it in wanted if it.is_program][:1] or wanted)}
 
     def build(crate, jobs):
         progress.begin(crate.name)
         with tempfile.TemporaryFile("w+", errors="replace") as crate.out:
-            flags = ["--jobs", str(max(jobs, 2) if crate.name in long else jobs)]
+            flags = ["--jobs", str(jobs_of(rt, jobs))]
             is_well = build_program(rt, crate, flags) if crate.is_program else not crate.build_rlib(flags, anew=False)
             crate.out.seek(0)
             with WRITING:
@@ -109,8 +132,11 @@ def prove(rt, wanted, jobs, tell, log):
         progress.end(crate.name, "NOT PROVED" if not is_well else "proved and built" if crate.is_program else "")
         return is_well
 
+    def build_in_turn(crate, jobs):
+        return (build if crate.name in first else lowly(build))(crate, jobs)
+
     held = rt.rtlib.lock(lacking)
-    is_well = side_by_side(rt, (lacking, build), jobs)
+    is_well = side_by_side(rt, (lacking, build_in_turn), first, jobs)
     for it in held:
         rt.rtlib.os.close(it)
     return is_well
