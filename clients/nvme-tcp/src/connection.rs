@@ -6,6 +6,7 @@ use crate::bytes::{put, u16_at};
 use crate::controller::{Data, ENTRY};
 use crate::fabrics;
 use crate::fault::{Fault, Outcome};
+use crate::input::{Input, Rooms};
 use crate::output::Output;
 use crate::pdu::{self, Agreed, Fatal, Layout, COMMON};
 use crate::pointer::Pointer;
@@ -24,7 +25,7 @@ const DISCOVERY_IDLE: Duration = Duration::from_secs(120);
 /// How long a connection that has ended waits for its host to close it.
 const BEFORE_CLOSE: Duration = Duration::from_secs(1);
 /// The room for what is received and not taken yet: the longest PDU, and short ones beside it.
-const INPUT: usize = pdu::MOST + (64 << 10);
+pub const ROOM: usize = pdu::MOST + (64 << 10);
 /// A PDU that is longer than this is long, and behind the rest of one no more than so much is received with it.
 const LONG: usize = 32 << 10;
 const BEHIND_LONG: usize = 4 << 10;
@@ -68,10 +69,8 @@ pub struct Connection {
     phase: Phase,
     agreed: Agreed,
     transfers: Transfers,
-    /// What was received, and which part of it was not taken yet.
-    input: Vec<u8>,
-    begin: usize,
-    end: usize,
+    /// What was received and not taken yet.
+    input: Input,
     /// What is to be sent.
     output: Output,
     /// Whether PDUs wait until the host has taken answers.
@@ -90,9 +89,7 @@ impl Connection {
             phase: Phase::Begun,
             agreed: Agreed::default(),
             transfers: Transfers::default(),
-            input: vec![0; INPUT],
-            begin: 0,
-            end: 0,
+            input: Input::default(),
             output: Output::default(),
             waits: false,
             deadline: Some(Instant::now() + BEFORE_CONNECT),
@@ -124,49 +121,47 @@ impl Connection {
     }
 
     /// Receives what has come, and takes all PDUs that are whole.
-    pub fn receive(&mut self, target: &mut Target<'_>) -> Outcome<()> {
-        self.input.copy_within(self.begin..self.end, 0);
-        self.end -= self.begin;
-        self.begin = 0;
-        let last = self.last_wanted();
-        match self.socket.read(&mut self.input[self.end..last]) {
+    pub fn receive(&mut self, target: &mut Target<'_>, rooms: &mut Rooms) -> Outcome<()> {
+        let most = self.most_wanted();
+        match self.input.fill(rooms, most, |room| self.socket.read(room)) {
             Ok(0) => self.is_closed = true,
-            Ok(count) => self.end += count,
+            Ok(_) => (),
             Err(error) if is_passing(&error) => (),
             Err(_) => self.is_closed = true,
         }
-        self.take_all(target)
+        self.take_all(target)?;
+        self.input.leave(rooms);
+        Ok(())
     }
 
-    /// Where what is received next ends at most: not far behind a long PDU that is there in part, so that not much of the
-    /// one behind it has to be moved to the front.
-    fn last_wanted(&self) -> usize {
-        let head = &self.input[..self.end.min(COMMON)];
-        let layout = if head.len() == COMMON { Layout::of(head, self.agreed).ok() } else { None };
+    /// How many bytes wait at most when more were received: not many behind a long PDU that is there in part, so that not
+    /// much of the one behind it has to be moved to the front.
+    fn most_wanted(&self) -> usize {
+        let head = self.input.waiting();
+        let layout = if head.len() < COMMON { None } else { Layout::of(head, self.agreed).ok() };
         match layout {
-            Some(layout) if layout.length > self.end.max(LONG) => INPUT.min(layout.length + BEHIND_LONG),
-            _ => INPUT,
+            Some(layout) if layout.length > head.len().max(LONG) => ROOM.min(layout.length + BEHIND_LONG),
+            _ => ROOM,
         }
     }
 
     /// Takes the PDUs that are whole, as long as there is room for their answers.
     pub fn take_all(&mut self, target: &mut Target<'_>) -> Outcome<()> {
-        let input = mem::take(&mut self.input);
+        let mut input = mem::take(&mut self.input);
         let mut result = Ok(());
         while result.is_ok() && self.phase != Phase::Ending && !self.is_full() {
-            let bytes = &input[self.begin..self.end];
-            match self.take_one(target, bytes) {
+            match self.take_one(target, input.waiting()) {
                 Ok(0) => break,
-                Ok(length) => self.begin += length,
-                Err(Stop::Fatal(fatal)) => self.terminate(target, fatal, bytes),
+                Ok(length) => input.taken(length),
+                Err(Stop::Fatal(fatal)) => self.terminate(target, fatal, input.waiting()),
                 Err(Stop::Fault(fault)) => result = Err(fault),
             }
         }
-        self.input = input;
         self.waits = self.is_full();
         if self.phase == Phase::Ending {
-            (self.begin, self.end) = (0, 0);
+            input.clear();
         }
+        self.input = input;
         result
     }
 

@@ -21,6 +21,7 @@ mod fault;
 mod holding;
 mod identify;
 mod image;
+mod input;
 mod journal;
 mod looking;
 mod machine;

@@ -1,9 +1,10 @@
 //! The loop of the one thread: it waits until a connection can be served, and serves it.
 
 use crate::association::{HostQueue, Session};
-use crate::connection::Connection;
+use crate::connection::{Connection, ROOM};
 use crate::control::Console;
 use crate::fault::{Fault, Outcome};
+use crate::input::Rooms;
 use crate::poll::{end_when_lost, Interest, Poll, Ready};
 use crate::target::{Effect, Target};
 use std::collections::{HashMap, VecDeque};
@@ -53,6 +54,8 @@ pub struct Server<'a> {
     hosts: TcpListener,
     control: Option<UnixListener>,
     connections: HashMap<u64, Served>,
+    /// Where they receive.
+    rooms: Rooms,
     /// The connections that wait for the script, in the order in which they have begun to.
     waiting: VecDeque<u64>,
     consoles: HashMap<u64, Console>,
@@ -69,7 +72,8 @@ impl<'a> Server<'a> {
             poll.add(control, CONTROL, TO_READ)?;
         }
         let (connections, waiting, consoles) = (HashMap::new(), VecDeque::new(), HashMap::new());
-        Ok(Server { target, poll, hosts, control, connections, waiting, consoles, next: FIRST })
+        let rooms = Rooms::new(ROOM);
+        Ok(Server { target, poll, hosts, control, connections, rooms, waiting, consoles, next: FIRST })
     }
 
     /// Serves until the target ends.
@@ -143,7 +147,7 @@ impl<'a> Server<'a> {
             _ => return Ok(false),
         };
         if ready.read || ready.is_over {
-            served.connection.receive(&mut self.target)?;
+            served.connection.receive(&mut self.target, &mut self.rooms)?;
         }
         self.finish(name, false)?;
         Ok(true)

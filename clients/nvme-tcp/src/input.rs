@@ -1,0 +1,131 @@
+//! Bytes that were received and not taken yet. A connection has memory of its own for few of them alone: what is received
+//! next goes into a room that all share, which the processor has in its cache. A connection keeps a room as long as
+//! much waits there, such as the part of a long PDU.
+
+use std::mem;
+
+/// With more bytes than these a connection keeps its room.
+const FEW: usize = 16 << 10;
+
+/// Rooms of one size that no connection keeps.
+pub struct Rooms {
+    size: usize,
+    free: Vec<Vec<u8>>,
+}
+
+impl Rooms {
+    /// Rooms of so many bytes.
+    pub fn new(size: usize) -> Rooms {
+        Rooms { size, free: Vec::new() }
+    }
+
+    fn next(&mut self) -> Vec<u8> {
+        self.free.pop().unwrap_or_else(|| vec![0; self.size])
+    }
+}
+
+/// The bytes of a connection.
+#[derive(Default)]
+pub struct Input {
+    /// A room, or few bytes.
+    bytes: Vec<u8>,
+    begin: usize,
+    end: usize,
+    has_room: bool,
+}
+
+impl Input {
+    /// The bytes.
+    pub fn waiting(&self) -> &[u8] {
+        &self.bytes[self.begin..self.end]
+    }
+
+    /// So many of them were taken.
+    pub fn taken(&mut self, count: usize) {
+        self.begin += count;
+    }
+
+    /// All of them were taken.
+    pub fn clear(&mut self) {
+        self.begin = self.end;
+    }
+
+    /// Puts what `receive` gives behind the bytes, of which there are at most `most` then. It tells how many it has
+    /// written to the front of what it is given.
+    pub fn fill<E>(
+        &mut self,
+        rooms: &mut Rooms,
+        most: usize,
+        receive: impl FnOnce(&mut [u8]) -> Result<usize, E>,
+    ) -> Result<usize, E> {
+        if self.has_room {
+            self.bytes.copy_within(self.begin..self.end, 0);
+        } else {
+            let few = mem::replace(&mut self.bytes, rooms.next());
+            self.bytes[..self.end - self.begin].copy_from_slice(&few[self.begin..self.end]);
+            self.has_room = true;
+        }
+        (self.begin, self.end) = (0, self.end - self.begin);
+        let last = most.min(self.bytes.len());
+        let count = receive(&mut self.bytes[self.end..last])?;
+        self.end += count;
+        Ok(count)
+    }
+
+    /// Gives the room back, unless much waits there.
+    pub fn leave(&mut self, rooms: &mut Rooms) {
+        if self.has_room && self.end - self.begin <= FEW {
+            let few = self.waiting().to_vec();
+            rooms.free.push(mem::replace(&mut self.bytes, few));
+            (self.begin, self.end) = (0, self.bytes.len());
+            self.has_room = false;
+        }
+    }
+}
+
+#[cfg(test)]
+mod tests {
+    use super::*;
+
+    fn receive(input: &mut Input, rooms: &mut Rooms, bytes: &[u8]) {
+        let put = |room: &mut [u8]| {
+            room[..bytes.len()].copy_from_slice(bytes);
+            Ok::<usize, ()>(bytes.len())
+        };
+        assert_eq!(input.fill(rooms, usize::MAX, put), Ok(bytes.len()));
+    }
+
+    #[test]
+    fn bytes_stay_in_their_order() {
+        let (mut rooms, mut inputs) = (Rooms::new(3 * FEW), [Input::default(), Input::default()]);
+        let (mut waits, mut next) = ([vec![], vec![]], 0_u8);
+        for turn in 1..60 {
+            for (input, waits) in inputs.iter_mut().zip(&mut waits) {
+                next = next.wrapping_add(1);
+                let bytes = vec![next; turn * 97 % FEW];
+                receive(input, &mut rooms, &bytes);
+                waits.extend(bytes);
+                assert!(input.waiting() == waits);
+                let count = if turn % 3 == 0 { waits.len() / 2 } else { waits.len() };
+                input.taken(count);
+                waits.drain(..count);
+                input.leave(&mut rooms);
+                assert!(input.waiting() == waits);
+            }
+        }
+        assert!(rooms.free.len() <= 2);
+    }
+
+    #[test]
+    fn a_room_is_kept_for_much() {
+        let (mut rooms, mut input) = (Rooms::new(3 * FEW), Input::default());
+        receive(&mut input, &mut rooms, &[7; FEW + 1]);
+        input.leave(&mut rooms);
+        assert!(input.has_room && rooms.free.is_empty());
+        input.taken(1);
+        input.leave(&mut rooms);
+        assert!(!input.has_room && rooms.free.len() == 1 && input.waiting() == [7; FEW]);
+        let count = input.fill(&mut rooms, FEW + 5, |room| Ok::<usize, ()>(room.len()));
+        assert_eq!((count, input.waiting().len()), (Ok(5), FEW + 5));
+    }
+}
