@@ -1,13 +1,11 @@
-//! Two files that are written by a thread of their own, of which the second never has more than the first: pieces go to
-//! them in their order, while the thread of the target does what is next. Whoever has begun a piece learns when the
-//! system has it. That thread turns bytes into digits too.
+//! Files that are written by threads of their own, while that of the target does what is next. Pieces go to them in their
+//! order: what a thread can do before, it does while another writes. Whoever has begun a piece learns when the system
+//! has it.
 
-use crate::bytes::push_hex;
-use std::fs::File;
-use std::io::{self, Write};
+use std::io;
 use std::mem;
-use std::sync::mpsc::{self, Receiver, SyncSender};
-use std::sync::Arc;
+use std::sync::mpsc::{self, Receiver, Sender, SyncSender};
+use std::sync::{Arc, Condvar, Mutex, PoisonError};
 use std::thread;
 
 /// How many pieces are under way at most.
@@ -15,99 +13,110 @@ const MOST: u64 = 4;
 /// A piece of fewer bytes is written at once, where no other is under way: that is quicker than to wake a thread.
 const SMALL: usize = 16 << 10;
 
-/// So many bytes of text are handed to the system by one call.
-const AT_ONCE: usize = 64 << 10;
+/// Bytes, and where they go.
+pub trait Piece: Default + Send + 'static {
+    /// The files that they go to.
+    type Files: Send + Sync + 'static;
+    /// What is made of them before they are written. It is kept, and what was made before is written over.
+    type Made: Default + Send;
 
-/// A text of which some parts are bytes that it has as digits.
-#[derive(Default)]
-pub struct Text {
-    bytes: Vec<u8>,
-    /// Where such parts begin, and where they end.
-    digits: Vec<(usize, usize)>,
+    /// How many bytes there are.
+    fn size(&self) -> usize;
+
+    /// Makes of them what is written, while others are written.
+    fn make(&self, made: &mut Self::Made);
+
+    /// Hands all of them to the system, and leaves none.
+    fn write(&mut self, made: &Self::Made, files: &Self::Files) -> io::Result<()>;
 }
 
-impl Text {
-    /// How many bytes it has, as it lies here.
-    pub fn len(&self) -> usize {
-        self.bytes.len()
+/// The pieces that are on their way, and the files.
+struct Way<P: Piece> {
+    files: P::Files,
+    given: Mutex<Receiver<(u64, P)>>,
+    /// How many pieces were written, unless one could not be.
+    turn: Mutex<Option<u64>>,
+    has_turned: Condvar,
+}
+
+impl<P: Piece> Way<P> {
+    /// The next piece, and how many there were before. There is none when the target ends.
+    fn next(&self) -> Option<(u64, P)> {
+        self.given.lock().ok()?.recv().ok()
     }
 
-    /// The text, to put more behind it.
-    pub fn text(&mut self) -> &mut Vec<u8> {
-        &mut self.bytes
+    /// Makes a piece and has it written behind the others. None is written behind one that could not be.
+    fn write(&self, number: u64, piece: &mut P, made: &mut P::Made) -> io::Result<()> {
+        piece.make(made);
+        let turn = self.turn.lock().unwrap_or_else(PoisonError::into_inner);
+        let waited = self.has_turned.wait_while(turn, |turn| turn.map_or(false, |turn| turn != number));
+        let mut turn = waited.unwrap_or_else(PoisonError::into_inner);
+        let result = match *turn {
+            Some(_) => piece.write(made, &self.files),
+            None => Err(io::ErrorKind::BrokenPipe.into()),
+        };
+        *turn = if result.is_ok() { Some(number + 1) } else { None };
+        drop(turn);
+        self.has_turned.notify_all();
+        result
     }
 
-    /// The digits of bytes stand behind the others.
-    pub fn push_digits(&mut self, bytes: &[u8]) {
-        let begin = self.bytes.len();
-        self.bytes.extend_from_slice(bytes);
-        self.digits.push((begin, self.bytes.len()));
-    }
-
-    /// Writes the text to a file, and empties it. It is put together in `room`.
-    pub fn write(&mut self, mut file: &File, room: &mut Vec<u8>) -> io::Result<()> {
-        let mut at = 0;
-        room.clear();
-        for (begin, end) in self.digits.drain(..) {
-            room.extend_from_slice(&self.bytes[at..begin]);
-            push_hex(room, &self.bytes[begin..end]);
-            at = end;
-            if room.len() >= AT_ONCE {
-                file.write_all(room)?;
-                room.clear();
+    /// Writes pieces until the target ends.
+    fn serve(&self, told: &Sender<io::Result<P>>) {
+        let mut made = P::Made::default();
+        while let Some((number, mut piece)) = self.next() {
+            let result = self.write(number, &mut piece, &mut made);
+            if told.send(result.map(|()| piece)).is_err() {
+                break;
             }
         }
-        room.extend_from_slice(&self.bytes[at..]);
-        self.bytes.clear();
-        file.write_all(room)
     }
 }
 
-/// What goes to the two files.
-pub type Piece = [Text; 2];
-
-/// Two files, and the pieces that are on their way to them.
-pub struct Behind {
-    files: Arc<[File; 2]>,
-    room: Vec<u8>,
-    pieces: SyncSender<Piece>,
-    written: Receiver<io::Result<Piece>>,
+/// Files, and the pieces that are on their way to them.
+pub struct Behind<P: Piece> {
+    way: Arc<Way<P>>,
+    made: P::Made,
+    pieces: SyncSender<(u64, P)>,
+    written: Receiver<io::Result<P>>,
     /// How many pieces were begun, and how many of them the system has.
     begun: u64,
     done: u64,
     /// Memory of pieces that were written.
-    spare: Vec<Piece>,
+    spare: Vec<P>,
 }
 
-impl Behind {
-    pub fn new(files: [File; 2]) -> io::Result<Behind> {
-        let (files, (pieces, given), (told, written)) =
-            (Arc::new(files), mpsc::sync_channel::<Piece>(MOST as usize), mpsc::channel());
-        let own = Arc::clone(&files);
-        thread::Builder::new().name("script".to_owned()).spawn(move || {
-            let mut room = Vec::new();
-            for mut piece in given {
-                let result = write(&mut piece, &own, &mut room);
-                if told.send(result.map(|()| piece)).is_err() {
-                    break;
-                }
-            }
-        })?;
-        Ok(Behind { files, room: Vec::new(), pieces, written, begun: 0, done: 0, spare: Vec::new() })
+impl<P: Piece> Behind<P> {
+    /// Files that are written by so many threads with this name.
+    pub fn new(name: &str, threads: usize, files: P::Files) -> io::Result<Self> {
+        let ((pieces, given), (told, written)) = (mpsc::sync_channel(MOST as usize), mpsc::channel());
+        let (given, turn, has_turned) = (Mutex::new(given), Mutex::new(Some(0)), Condvar::new());
+        let way = Arc::new(Way { files, given, turn, has_turned });
+        for _ in 0..threads {
+            let (way, told) = (Arc::clone(&way), told.clone());
+            thread::Builder::new().name(name.to_owned()).spawn(move || way.serve(&told))?;
+        }
+        let (made, spare) = (P::Made::default(), Vec::new());
+        Ok(Behind { way, made, pieces, written, begun: 0, done: 0, spare })
+    }
+
+    pub fn files(&self) -> &P::Files {
+        &self.way.files
     }
 
     /// Has a piece written behind all others, and empties it: now, or a little later. It was written once so many pieces
-    /// are done as were begun by then.
-    pub fn begin(&mut self, piece: &mut Piece) -> io::Result<()> {
-        if piece[0].len() < SMALL && self.begun == self.done {
-            return write(piece, &self.files, &mut self.room);
+    /// are done as were begun by then. `is_awaited` says that nothing is done before it was written.
+    pub fn begin(&mut self, piece: &mut P, is_awaited: bool) -> io::Result<()> {
+        if (is_awaited || piece.size() < SMALL) && self.done()? == self.begun {
+            piece.make(&mut self.made);
+            return piece.write(&self.made, &self.way.files);
         }
         if self.begun - self.done == MOST {
             self.wait()?;
         }
-        let next = self.spare.pop().unwrap_or_default();
+        let piece = mem::replace(piece, self.spare.pop().unwrap_or_default());
         self.begun += 1;
-        self.pieces.send(mem::replace(piece, next)).map_err(|_| io::ErrorKind::BrokenPipe.into())
+        self.pieces.send((self.begun - 1, piece)).map_err(|_| io::ErrorKind::BrokenPipe.into())
     }
 
     /// How many pieces were begun.
@@ -126,68 +135,75 @@ impl Behind {
         Ok(self.done)
     }
 
-    /// Waits until the system has another piece, where one is under way.
-    pub fn wait(&mut self) -> io::Result<()> {
+    /// Waits until the system has another piece; whether one was under way.
+    pub fn wait(&mut self) -> io::Result<bool> {
         if self.begun == self.done {
-            return Ok(());
+            return Ok(false);
         }
         let result = self.written.recv().map_err(|_| io::Error::from(io::ErrorKind::BrokenPipe))?;
-        self.count(result)
+        self.count(result)?;
+        Ok(true)
     }
 
-    fn count(&mut self, result: io::Result<Piece>) -> io::Result<()> {
+    /// A piece was written. Pieces are told out of their order, but all before one that is told were written too.
+    fn count(&mut self, result: io::Result<P>) -> io::Result<()> {
         self.spare.push(result?);
         self.done += 1;
         Ok(())
     }
 }
 
-/// Writes a piece, and empties it.
-fn write(piece: &mut Piece, files: &[File; 2], room: &mut Vec<u8>) -> io::Result<()> {
-    piece.iter_mut().zip(files).try_for_each(|(text, file)| text.write(file, room))
-}
-
 #[cfg(test)]
 mod tests {
     use super::*;
-    use std::fs;
+    use std::fs::{self, File};
+    use std::io::Write;
 
-    #[test]
-    fn pieces_are_written_in_their_order() {
-        let paths = ["first", "second"]
-            .map(|name| std::env::temp_dir().join(format!("nvmetcp-behind-{}-{name}", std::process::id())));
-        let files = [File::create(&paths[0]).unwrap(), File::create(&paths[1]).unwrap()];
-        let mut behind = Behind::new(files).unwrap();
-        let (mut wanted, mut piece) = ([Vec::new(), Vec::new()], Piece::default());
-        for number in 0..60_u8 {
-            for part in [3, if number % 3 == 0 { 10 } else { SMALL + usize::from(number) }] {
-                let bytes = vec![number; part];
-                piece[0].text().extend_from_slice(b"hex:");
-                piece[0].push_digits(&bytes);
-                wanted[0].extend_from_slice(b"hex:");
-                push_hex(&mut wanted[0], &bytes);
-            }
-            piece[1].text().push(number);
-            wanted[1].push(number);
-            behind.begin(&mut piece).unwrap();
-            assert!(piece[0].len() == 0 && behind.begun() - behind.done().unwrap() <= MOST);
+    impl Piece for Vec<u8> {
+        type Files = File;
+        type Made = Vec<u8>;
+
+        fn size(&self) -> usize {
+            self.len()
         }
-        while behind.done().unwrap() < behind.begun() {
-            behind.wait().unwrap();
+
+        fn make(&self, made: &mut Vec<u8>) {
+            made.clear();
+            made.extend(self.iter().map(|byte| !byte));
         }
-        for (path, wanted) in paths.iter().zip(wanted) {
-            assert!(fs::read(path).unwrap() == wanted);
-            fs::remove_file(path).unwrap();
+
+        fn write(&mut self, made: &Vec<u8>, mut file: &File) -> io::Result<()> {
+            file.write_all(made)?;
+            self.clear();
+            Ok(())
         }
     }
 
     #[test]
+    fn pieces_are_written_in_their_order() {
+        let path = std::env::temp_dir().join(format!("nvmetcp-behind-{}", std::process::id()));
+        for threads in 1..4 {
+            let mut behind = Behind::<Vec<u8>>::new("test", threads, File::create(&path).unwrap()).unwrap();
+            let (mut wanted, mut piece) = (Vec::new(), Vec::new());
+            for number in 0..200_u8 {
+                let size = if number % 3 == 0 { 10 } else { SMALL << (number % 4) };
+                piece.resize(size, number);
+                wanted.resize(wanted.len() + size, !number);
+                behind.begin(&mut piece, number % 7 == 0).unwrap();
+                assert!(piece.is_empty() && behind.begun() - behind.done().unwrap() <= MOST);
+            }
+            while behind.wait().unwrap() {}
+            assert_eq!(behind.done().unwrap(), behind.begun());
+            assert!(fs::read(&path).unwrap() == wanted);
+        }
+        fs::remove_file(path).unwrap();
+    }
+
+    #[test]
     fn what_fails_is_told() {
-        let mut behind = Behind::new(["/dev/null", "/dev/null"].map(|path| File::open(path).unwrap())).unwrap();
+        let mut behind = Behind::<Vec<u8>>::new("test", 2, File::open("/dev/null").unwrap()).unwrap();
         for size in [SMALL, 1] {
-            let mut piece = Piece::default();
-            piece[0].push_digits(&vec![1; size]);
-            assert!(behind.begin(&mut piece).is_err() || behind.wait().is_err());
+            assert!(behind.begin(&mut vec![1; size], false).is_err() || behind.wait().is_err());
         }
     }
 }

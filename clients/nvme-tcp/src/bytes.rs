@@ -35,11 +35,9 @@ fn digits(byte: u8) -> u16 {
     values.wrapping_add(0x3030).wrapping_add(letters.wrapping_mul(u16::from(b'a' - b'0' - 10)))
 }
 
-/// Puts the digits of bytes behind what stands in a text.
-pub fn push_hex(text: &mut Vec<u8>, bytes: &[u8]) {
-    let begin = text.len();
-    text.resize(begin + 2 * bytes.len(), 0);
-    for (pair, byte) in text[begin..].chunks_exact_mut(2).zip(bytes) {
+/// Puts the digits of bytes into twice as many.
+pub fn put_hex(room: &mut [u8], bytes: &[u8]) {
+    for (pair, byte) in room.chunks_exact_mut(2).zip(bytes) {
         pair.copy_from_slice(&digits(*byte).to_le_bytes());
     }
 }
@@ -66,10 +64,10 @@ mod tests {
     fn each_byte_has_its_digits() {
         let all: Vec<u8> = (0..=255).collect();
         for count in [0, 1, 63, 64, 65, 256] {
-            let mut text = b"hex:".to_vec();
-            push_hex(&mut text, &all[..count]);
+            let mut text = vec![0; 2 * count];
+            put_hex(&mut text, &all[..count]);
             let wanted: String = all[..count].iter().map(|byte| format!("{byte:02x}")).collect();
-            assert_eq!(String::from_utf8(text).unwrap(), format!("hex:{wanted}"));
+            assert_eq!(String::from_utf8(text).unwrap(), wanted);
         }
     }
 

@@ -1,10 +1,12 @@
 //! The image: the file that follows the blocks in memory.
 //!
 //! The library works on bytes of this process alone, and a command's blocks are written to the file by one call before
-//! its completion goes out, those of commands that are neighbours by one call together. A mapping that is shared with
-//! the file would need no such call, but when the target is killed in the middle of a block it would leave half of it.
-//! `pwrite` puts whole pages of the page cache in place, and a block lies in one.
+//! its completion goes out, those of commands that are neighbours by one call together. Where several hosts are served a
+//! thread of its own makes these calls, while the next commands are carried out. A mapping that is shared with the file
+//! would need no such call, but when the target is killed in the middle of a block it would leave half of it. `pwrite`
+//! puts whole pages of the page cache in place, and a block lies in one.
 
+use crate::behind::{Behind, Piece};
 use crate::bytes::{u16_at, u32_at, u64_at};
 use crate::configuration::{Configuration, BLOCK};
 use crate::controller::{Data, ENTRY};
@@ -23,17 +25,61 @@ const WRITE_ZEROES: u8 = 0x08;
 /// Force Unit Access, in double word 12.
 const FORCE_UNIT_ACCESS: u32 = 1 << 30;
 
-/// With so many bytes that wait they are written.
+/// No more bytes than these are handed to the system together, unless one command has them.
 const MOST_WAITING: usize = 128 << 10;
+
+/// Blocks that go to the file.
+#[derive(Default)]
+struct Blocks {
+    bytes: Vec<u8>,
+    /// Where those go that are neighbours, and where they end here.
+    runs: Vec<(u64, usize)>,
+    /// Where the next ones would go as neighbours of the last.
+    next: u64,
+}
+
+impl Blocks {
+    /// Puts bytes behind the others, which go to a place of the file.
+    fn put(&mut self, place: u64, bytes: &[u8]) {
+        if self.runs.is_empty() || place != self.next {
+            self.runs.push((place, 0));
+        }
+        self.bytes.extend_from_slice(bytes);
+        self.next = place + bytes.len() as u64;
+        if let Some((_, end)) = self.runs.last_mut() {
+            *end = self.bytes.len();
+        }
+    }
+}
+
+impl Piece for Blocks {
+    type Files = File;
+    type Made = ();
+
+    fn size(&self) -> usize {
+        self.bytes.len()
+    }
+
+    fn make(&self, (): &mut ()) {}
+
+    fn write(&mut self, (): &(), file: &File) -> io::Result<()> {
+        let mut begin = 0;
+        for (place, end) in self.runs.drain(..) {
+            file.write_all_at(&self.bytes[begin..end], place)?;
+            begin = end;
+        }
+        self.bytes.clear();
+        Ok(())
+    }
+}
 
 /// A file whose blocks are those of the namespaces.
 pub struct Image {
-    file: File,
-    /// Blocks that were read from the medium.
-    blocks: Vec<u8>,
-    /// Bytes that are not written yet, and where they go.
-    waiting: Vec<u8>,
-    place: u64,
+    file: Behind<Blocks>,
+    /// Blocks that are not handed to the system yet.
+    waiting: Blocks,
+    /// Room for blocks that are read from the medium.
+    room: Vec<u8>,
 }
 
 /// A command that was carried out, and its data; of one that has not succeeded there are none.
@@ -54,7 +100,7 @@ pub fn open(path: &Path, configuration: &Configuration) -> io::Result<(Image, Ve
         io::ErrorKind::UnexpectedEof => io::Error::new(error.kind(), "the namespaces have more blocks than it"),
         _ => error,
     })?;
-    Ok((Image { file, blocks: Vec::new(), waiting: Vec::new(), place: 0 }, bytes))
+    Ok((Image { file: Behind::new("image", 1, file)?, waiting: Blocks::default(), room: Vec::new() }, bytes))
 }
 
 impl Image {
@@ -88,12 +134,12 @@ impl Image {
                 self.put((first + slba) * BLOCK, &bytes[..length])
             }
             _ => {
-                let mut blocks = mem::take(&mut self.blocks);
-                blocks.resize(length, 0);
-                if machine.read_blocks(nsid, slba, &mut blocks) {
-                    self.put((first + slba) * BLOCK, &blocks)?;
+                let mut room = mem::take(&mut self.room);
+                room.resize(length, 0);
+                if machine.read_blocks(nsid, slba, &mut room) {
+                    self.put((first + slba) * BLOCK, &room)?;
                 }
-                self.blocks = blocks;
+                self.room = room;
                 Ok(())
             }
         }
@@ -101,32 +147,36 @@ impl Image {
 
     /// Bytes are to be written at a place. They wait as long as they may be neighbours of the next ones.
     fn put(&mut self, place: u64, bytes: &[u8]) -> Outcome<()> {
-        let is_behind = place == self.place + self.waiting.len() as u64;
-        if !is_behind || self.waiting.len() + bytes.len() > MOST_WAITING {
-            self.flush()?;
+        if self.waiting.size() + bytes.len() > MOST_WAITING {
+            self.begin(false)?;
         }
-        if bytes.len() >= MOST_WAITING {
-            return self.file.write_all_at(bytes, place).map_err(Fault::Image);
-        }
-        if self.waiting.is_empty() {
-            self.place = place;
-        }
-        self.waiting.extend_from_slice(bytes);
+        self.waiting.put(place, bytes);
         Ok(())
     }
 
-    /// Hands all blocks to the system. No host hears of a command before its blocks were.
-    pub fn flush(&mut self) -> Outcome<()> {
-        if !self.waiting.is_empty() {
-            self.file.write_all_at(&self.waiting, self.place).map_err(Fault::Image)?;
-            self.waiting.clear();
+    /// Hands all blocks to the system, or has that begun: so many pieces are done when it has them. `is_awaited` says
+    /// that nothing is done before. No host hears of a command before its blocks were handed over.
+    pub fn begin(&mut self, is_awaited: bool) -> Outcome<u64> {
+        if self.waiting.size() != 0 {
+            self.file.begin(&mut self.waiting, is_awaited).map_err(Fault::Image)?;
         }
-        Ok(())
+        Ok(self.file.begun())
+    }
+
+    /// How many pieces are done.
+    pub fn done(&mut self) -> Outcome<u64> {
+        self.file.done().map_err(Fault::Image)
+    }
+
+    /// Waits until another piece is done; whether one was under way.
+    pub fn wait(&mut self) -> Outcome<bool> {
+        self.file.wait().map_err(Fault::Image)
     }
 
     /// Has the disk hold all blocks.
     fn sync(&mut self) -> Outcome<()> {
-        self.flush()?;
-        self.file.sync_data().map_err(Fault::Image)
+        self.begin(true)?;
+        while self.wait()? {}
+        self.file.files().sync_data().map_err(Fault::Image)
     }
 }

@@ -1,6 +1,6 @@
 //! Lines that look at the subsystem and change nothing. Each is answered by the very text of `nvmelive`.
 
-use crate::bytes::{push_hex, u16_at, u32_at};
+use crate::bytes::{put_hex, u16_at, u32_at};
 use crate::configuration::{number, BLOCK};
 use crate::target::Target;
 use crate::window::{MOST_DATA, MOST_QUEUE};
@@ -207,8 +207,8 @@ impl Target<'_> {
 /// Bytes in hexadecimal without the zeros at their end.
 fn digits(bytes: &[u8]) -> String {
     let count = bytes.iter().rposition(|byte| *byte != 0).map_or(0, |last| last + 1);
-    let mut text = Vec::new();
-    push_hex(&mut text, &bytes[..count]);
+    let mut text = vec![0; 2 * count];
+    put_hex(&mut text, &bytes[..count]);
     if count == 0 {
         return "-".to_owned();
     }

@@ -89,8 +89,9 @@ impl<'a> Machine<'a> {
     }
 
     /// Hands the lines that are kept to the system, or has that begun: it has them when so many pieces are done.
-    pub fn begin_script(&mut self) -> Outcome<u64> {
-        self.script.as_mut().map_or(Ok(0), Script::begin)
+    /// `is_awaited` says that nothing is done before.
+    pub fn begin_script(&mut self, is_awaited: bool) -> Outcome<u64> {
+        self.script.as_mut().map_or(Ok(0), |it| it.begin(is_awaited))
     }
 
     /// How many pieces of the script are done.
@@ -98,8 +99,8 @@ impl<'a> Machine<'a> {
         self.script.as_mut().map_or(Ok(0), Script::done)
     }
 
-    /// Waits until another piece of the script is done.
-    pub fn wait_for_script(&mut self) -> Outcome<()> {
-        self.script.as_mut().map_or(Ok(()), Script::wait)
+    /// Waits until another piece of the script is done; whether one was under way.
+    pub fn wait_for_script(&mut self) -> Outcome<bool> {
+        self.script.as_mut().map_or(Ok(false), Script::wait)
     }
 }

@@ -1,16 +1,17 @@
 //! The run as a script: each event as a line of a script, and what it gave as a line of its transcript.
 
-use crate::behind::{Behind, Piece, Text};
-use crate::bytes::push_number;
+use crate::behind::{Behind, Piece};
+use crate::bytes::{push_number, put_hex};
 use crate::configuration::Configuration;
 use crate::fault::{Fault, Outcome};
+use crate::output::Output;
 use nvmesim::{Executed, Fetched};
 use std::fs::File;
-use std::io;
+use std::io::{self, Write};
 use std::path::Path;
 
 /// Lines of so many bytes are a piece, which goes to the file before the next are there.
-const PIECE: usize = 64 << 10;
+const PIECE: usize = 128 << 10;
 
 /// A part of a line.
 #[derive(Clone, Copy)]
@@ -25,23 +26,75 @@ enum Word<'w> {
 
 use Word::{Hex, Is, Number};
 
-/// Puts a line behind others.
-fn push(lines: &mut Text, words: &[Word<'_>]) {
-    for word in words {
-        match *word {
-            Is(text) => lines.text().extend_from_slice(text.as_bytes()),
-            Number(number) => push_number(lines.text(), number),
-            Hex(bytes) => lines.push_digits(bytes),
+/// A text of which some parts are bytes that it has as digits.
+#[derive(Default)]
+struct Text {
+    bytes: Vec<u8>,
+    /// Where such parts begin, and where they end.
+    digits: Vec<(usize, usize)>,
+}
+
+impl Text {
+    /// Puts a line behind others.
+    fn push(&mut self, words: &[Word<'_>]) {
+        for word in words {
+            match *word {
+                Is(text) => self.bytes.extend_from_slice(text.as_bytes()),
+                Number(number) => push_number(&mut self.bytes, number),
+                Hex(bytes) => {
+                    let begin = self.bytes.len();
+                    self.bytes.extend_from_slice(bytes);
+                    self.digits.push((begin, self.bytes.len()));
+                }
+            }
         }
+        self.bytes.push(b'\n');
     }
-    lines.text().push(b'\n');
+
+    /// Puts the text in the place of another.
+    fn spell(&self, out: &mut Output) {
+        out.sent(out.len());
+        let mut at = 0;
+        for (begin, end) in self.digits.iter().copied() {
+            out.put(&self.bytes[at..begin]);
+            put_hex(out.room(2 * (end - begin)), &self.bytes[begin..end]);
+            at = end;
+        }
+        out.put(&self.bytes[at..]);
+    }
+}
+
+/// Lines of a script, and what they have given. The transcript never has more than the script.
+#[derive(Default)]
+struct Lines([Text; 2]);
+
+impl Piece for Lines {
+    type Files = [File; 2];
+    type Made = [Output; 2];
+
+    fn size(&self) -> usize {
+        self.0[0].bytes.len()
+    }
+
+    fn make(&self, made: &mut [Output; 2]) {
+        self.0.iter().zip(made).for_each(|(text, out)| text.spell(out));
+    }
+
+    fn write(&mut self, made: &[Output; 2], files: &[File; 2]) -> io::Result<()> {
+        for (text, (out, mut file)) in self.0.iter_mut().zip(made.iter().zip(files)) {
+            file.write_all(out.waiting())?;
+            text.bytes.clear();
+            text.digits.clear();
+        }
+        Ok(())
+    }
 }
 
 /// A script that is being kept, and its transcript.
 pub struct Script {
-    /// The lines that go to the files next, and what they have given.
-    piece: Piece,
-    files: Behind,
+    /// The lines that go to the files next.
+    lines: Lines,
+    files: Behind<Lines>,
 }
 
 impl Script {
@@ -49,38 +102,38 @@ impl Script {
     pub fn new(path: &Path, configuration: &Configuration) -> io::Result<Script> {
         let mut beside = path.as_os_str().to_owned();
         beside.push(".out");
-        let files = Behind::new([File::create(path)?, File::create(&beside)?])?;
-        let mut script = Script { piece: Piece::default(), files };
-        push(&mut script.piece[0], &[Is(&configuration.lines()), Is("start")]);
+        let files = Behind::new("script", 2, [File::create(path)?, File::create(&beside)?])?;
+        let mut script = Script { lines: Lines::default(), files };
+        script.lines.0[0].push(&[Is(&configuration.lines()), Is("start")]);
         Ok(script)
     }
 
     pub fn stored(&mut self, cntlid: u16, address: u64, bytes: &[u8]) -> Outcome<()> {
         let c = Number(cntlid.into());
-        push(&mut self.piece[0], &[Is("store "), c, Is(" "), Number(address), Is(" hex:"), Hex(bytes)]);
-        push(&mut self.piece[1], &[Is("stored "), c]);
-        if self.piece[0].len() >= PIECE {
-            self.begin()?;
+        self.lines.0[0].push(&[Is("store "), c, Is(" "), Number(address), Is(" hex:"), Hex(bytes)]);
+        self.lines.0[1].push(&[Is("stored "), c]);
+        if self.lines.size() >= PIECE {
+            self.begin(false)?;
         }
         Ok(())
     }
 
     pub fn wrote(&mut self, cntlid: u16, offset: u64, value: u32) {
         let c = Number(cntlid.into());
-        push(&mut self.piece[0], &[Is("write32 "), c, Is(" "), Number(offset), Is(" "), Number(value.into())]);
-        push(&mut self.piece[1], &[Is("wrote32 "), c]);
+        self.lines.0[0].push(&[Is("write32 "), c, Is(" "), Number(offset), Is(" "), Number(value.into())]);
+        self.lines.0[1].push(&[Is("wrote32 "), c]);
     }
 
     pub fn fetched(&mut self, cntlid: u16, qid: u16, fetched: Fetched) {
         let line = [Is("fetch "), Number(cntlid.into()), Is(" "), Number(qid.into())];
-        push(&mut self.piece[0], &line);
+        self.lines.0[0].push(&line);
         let [verb, c, blank, q] = line;
-        push(&mut self.piece[1], &[verb, c, blank, q, Is(if fetched == Fetched::Took { " took" } else { " idle" })]);
+        self.lines.0[1].push(&[verb, c, blank, q, Is(if fetched == Fetched::Took { " took" } else { " idle" })]);
     }
 
     pub fn executed(&mut self, cntlid: u16, i: usize, executed: Executed) {
         let line = [Is("execute "), Number(cntlid.into()), Is(" "), Number(i as u64)];
-        push(&mut self.piece[0], &line);
+        self.lines.0[0].push(&line);
         let [verb, c, blank, i] = line;
         match executed {
             Executed::Posted(it) => {
@@ -88,22 +141,23 @@ impl Script {
                 let (sct, rule) = (Number(it.sct.into()), Number(it.denied_by.unwrap_or(0).into()));
                 let sc = [it.sc];
                 let [posted, colon, behind] = [" posted ", ":", " "].map(Is);
-                push(&mut self.piece[1], &[verb, c, blank, i, posted, sct, colon, Hex(&sc), behind, rule]);
+                self.lines.0[1].push(&[verb, c, blank, i, posted, sct, colon, Hex(&sc), behind, rule]);
             }
-            Executed::CqFull => push(&mut self.piece[1], &[verb, c, blank, i, Is(" full")]),
-            Executed::NoSuch => push(&mut self.piece[1], &[verb, c, blank, i, Is(" none")]),
+            Executed::CqFull => self.lines.0[1].push(&[verb, c, blank, i, Is(" full")]),
+            Executed::NoSuch => self.lines.0[1].push(&[verb, c, blank, i, Is(" none")]),
         }
     }
 
     pub fn cycled(&mut self) {
-        push(&mut self.piece[0], &[Is("powercycle")]);
-        push(&mut self.piece[1], &[Is("powercycle")]);
+        self.lines.0[0].push(&[Is("powercycle")]);
+        self.lines.0[1].push(&[Is("powercycle")]);
     }
 
-    /// Hands all lines to the system, or has that begun: so many pieces are done when it has them.
-    pub fn begin(&mut self) -> Outcome<u64> {
-        if self.piece[0].len() != 0 {
-            self.files.begin(&mut self.piece).map_err(Fault::Script)?;
+    /// Hands all lines to the system, or has that begun: so many pieces are done when it has them. `is_awaited` says that
+    /// nothing is done before.
+    pub fn begin(&mut self, is_awaited: bool) -> Outcome<u64> {
+        if self.lines.size() != 0 {
+            self.files.begin(&mut self.lines, is_awaited).map_err(Fault::Script)?;
         }
         Ok(self.files.begun())
     }
@@ -113,8 +167,8 @@ impl Script {
         self.files.done().map_err(Fault::Script)
     }
 
-    /// Waits until another piece is done.
-    pub fn wait(&mut self) -> Outcome<()> {
+    /// Waits until another piece is done; whether one was under way.
+    pub fn wait(&mut self) -> Outcome<bool> {
         self.files.wait().map_err(Fault::Script)
     }
 }

@@ -6,7 +6,7 @@ use crate::control::Console;
 use crate::fault::{Fault, Outcome};
 use crate::input::Rooms;
 use crate::poll::{end_when_lost, Interest, Poll, Ready};
-use crate::target::{Effect, Target};
+use crate::target::{Effect, Handed, Target};
 use std::collections::{HashMap, VecDeque};
 use std::io;
 use std::net::TcpListener;
@@ -30,8 +30,8 @@ const TO_READ: Interest = Interest { read: true, write: false };
 struct Served {
     connection: Connection,
     interest: Interest,
-    /// So many pieces of the script are done before it says what it has to say, and is heard again.
-    waits_for: Option<u64>,
+    /// The system has what was handed over so far before it says what it has to say, and is heard again.
+    waits_for: Option<Handed>,
 }
 
 impl Served {
@@ -56,8 +56,10 @@ pub struct Server<'a> {
     connections: HashMap<u64, Served>,
     /// Where they receive.
     rooms: Rooms,
-    /// The connections that wait for the script, in the order in which they have begun to.
+    /// The connections that wait for script or image, in the order in which they have begun to.
     waiting: VecDeque<u64>,
+    /// Whether there is only one connection that can be served, and none that waits.
+    is_alone: bool,
     consoles: HashMap<u64, Console>,
     next: u64,
 }
@@ -71,9 +73,18 @@ impl<'a> Server<'a> {
         if let Some(control) = &control {
             poll.add(control, CONTROL, TO_READ)?;
         }
-        let (connections, waiting, consoles) = (HashMap::new(), VecDeque::new(), HashMap::new());
-        let rooms = Rooms::new(ROOM);
-        Ok(Server { target, poll, hosts, control, connections, rooms, waiting, consoles, next: FIRST })
+        Ok(Server {
+            target,
+            poll,
+            hosts,
+            control,
+            connections: HashMap::new(),
+            rooms: Rooms::new(ROOM),
+            waiting: VecDeque::new(),
+            is_alone: true,
+            consoles: HashMap::new(),
+            next: FIRST,
+        })
     }
 
     /// Serves until the target ends.
@@ -87,10 +98,11 @@ impl<'a> Server<'a> {
         }
     }
 
-    /// Serves all that can be served. Where that is nothing, and connections wait for the script, it waits for that too.
+    /// Serves all that can be served. Where that is nothing, and connections wait for script or image, it waits for these.
     fn turn(&mut self, ready: &mut Vec<Ready>, look: &mut Instant) -> Outcome<()> {
         let patience = if self.waiting.is_empty() { LOOK } else { Duration::ZERO };
         self.poll.wait(patience.as_millis() as i32, ready).map_err(Fault::System)?;
+        self.is_alone = ready.len() == 1 && self.waiting.is_empty();
         let mut is_idle = true;
         for it in ready.iter() {
             match it.name {
@@ -100,8 +112,8 @@ impl<'a> Server<'a> {
                 name => is_idle &= !self.serve(name, *it)?,
             }
         }
-        if is_idle {
-            self.target.machine.wait_for_script()?;
+        if is_idle && !self.waiting.is_empty() {
+            self.target.wait()?;
         }
         self.resume()?;
         let now = Instant::now();
@@ -140,7 +152,7 @@ impl<'a> Server<'a> {
         Ok(())
     }
 
-    /// Serves a connection, unless it waits for the script; whether it did.
+    /// Serves a connection, unless it waits for script or image; whether it did.
     fn serve(&mut self, name: u64, ready: Ready) -> Outcome<bool> {
         let served = match self.connections.get_mut(&name) {
             Some(served) if served.waits_for.is_none() => served,
@@ -153,18 +165,20 @@ impl<'a> Server<'a> {
         Ok(true)
     }
 
-    /// Has connections say what they have to say whose lines the script has now.
+    /// Has connections say what they have to say for which the system has all that was to be handed over.
     fn resume(&mut self) -> Outcome<()> {
         for _ in 0..self.waiting.len() {
-            let done = self.target.machine.script_done()?;
             let name = self.waiting.pop_front().unwrap_or_default();
-            match self.connections.get_mut(&name) {
-                Some(served) if served.waits_for > Some(done) => self.waiting.push_back(name),
-                Some(served) => {
+            let served = match self.connections.get_mut(&name) {
+                Some(served) => served,
+                None => continue,
+            };
+            match served.waits_for {
+                Some(handed) if !self.target.has(handed)? => self.waiting.push_back(name),
+                _ => {
                     served.waits_for = None;
                     self.finish(name, true)?;
                 }
-                None => (),
             }
         }
         Ok(())
@@ -180,19 +194,19 @@ impl<'a> Server<'a> {
     }
 
     /// Sends what a connection has to say, and takes PDUs that had to wait for that. Script and image go first, unless
-    /// they are handed over, so that they have all that a host was told. Where the script takes a while, the connection
-    /// waits for it.
+    /// they are handed over, so that they have all that a host was told. Where they take a while, the connection waits for
+    /// them.
     fn send(&mut self, name: u64, is_handed: bool) -> Outcome<()> {
-        let Server { target, connections, waiting, .. } = self;
+        let Server { target, connections, waiting, is_alone, .. } = self;
         let served = match connections.get_mut(&name) {
             Some(served) => served,
             None => return Ok(()),
         };
         let mut is_handed = is_handed;
         loop {
-            let pieces = if is_handed { 0 } else { target.hand_over()? };
-            if pieces > target.machine.script_done()? {
-                if served.waits_for.replace(pieces).is_none() {
+            let handed = if is_handed { Handed::default() } else { target.hand_over(*is_alone)? };
+            if !target.has(handed)? {
+                if served.waits_for.replace(handed).is_none() {
                     waiting.push_back(name);
                 }
                 return Ok(());
@@ -228,7 +242,7 @@ impl<'a> Server<'a> {
                 }
             }
         }
-        self.target.hand_over().map(|_| ())
+        self.target.hand_over(self.is_alone).map(|_| ())
     }
 
     fn close_late(&mut self, now: Instant) -> Outcome<()> {

@@ -52,6 +52,13 @@ pub enum Effect {
     Answer(ConnectionId, u16, Answer),
 }
 
+/// What was handed over so far: so many pieces of the script, and so many of the image.
+#[derive(Clone, Copy, Debug, Default, PartialEq, Eq)]
+pub struct Handed {
+    script: u64,
+    image: u64,
+}
+
 /// Tells something on standard error. Where that is closed, nobody hears it.
 pub fn tell(text: fmt::Arguments<'_>) {
     let _ = writeln!(io::stderr(), "nvmetcp: {text}");
@@ -164,12 +171,27 @@ impl<'a> Target<'a> {
         }
     }
 
-    /// Hands to the system what it has to have before a host hears of its commands: the blocks of the image, and the
-    /// lines of the script, which it may not have yet. It has them when so many pieces of the script are done.
-    pub fn hand_over(&mut self) -> Outcome<u64> {
-        let pieces = self.machine.begin_script()?;
-        self.image.as_mut().map_or(Ok(()), Image::flush)?;
-        Ok(pieces)
+    /// Hands to the system what it has to have before a host hears of its commands, the blocks of the image and the lines
+    /// of the script, or has that begun. `is_awaited` says that nothing else can be done before it has them.
+    pub fn hand_over(&mut self, is_awaited: bool) -> Outcome<Handed> {
+        let script = self.machine.begin_script(is_awaited)?;
+        let image = self.image.as_mut().map_or(Ok(0), |it| it.begin(is_awaited))?;
+        Ok(Handed { script, image })
+    }
+
+    /// Whether the system has what was handed over so far.
+    pub fn has(&mut self, handed: Handed) -> Outcome<bool> {
+        let image = self.image.as_mut().map_or(Ok(0), Image::done)?;
+        Ok(handed.image <= image && handed.script <= self.machine.script_done()?)
+    }
+
+    /// Waits until the system has more of what was handed over, unless it has all of it.
+    pub fn wait(&mut self) -> Outcome<()> {
+        let was_under_way = self.image.as_mut().map_or(Ok(false), Image::wait)?;
+        if !was_under_way {
+            self.machine.wait_for_script()?;
+        }
+        Ok(())
     }
 
     /// Has the list of attachments follow a command that has attached a namespace to controllers, or detached it: the
