@@ -9,7 +9,7 @@ import time
 import unittest
 from pathlib import Path
 
-from tests.host import BLOCK, Ended, Host, Queue
+from tests.host import BLOCK, CAPSULE, IN_CAPSULE, Ended, Host, Queue, entry_of
 from tests.targets import BLOCKS, LIVE, SIM, TWO_HOSTS, Target, TargetTest
 
 FORCE_UNIT_ACCESS = 1 << 30
@@ -29,6 +29,23 @@ class Images(TargetTest):
                 host.write(slba, rng.randbytes(BLOCK * blocks))
             self.assertEqual(self.target.image.read_bytes()[BLOCK * slba:BLOCK * (slba + blocks)],
                              host.read(slba, blocks).data)
+
+    def test_many_at_once(self) -> None:
+        """Two hosts send many commands together, whose blocks are neighbours, overlap, or lie apart."""
+        rng, queues = random.Random(9), [self.host().queues[0], self.host(0xb2).queues[0]]
+        wanted = bytearray(BLOCK * BLOCKS)
+        for _ in range(20):
+            units = [b"", b""]
+            for cid, which in ((cid, which) for cid in range(20) for which in range(2)):
+                slba, data = 1024 * which + rng.randrange(40), rng.randbytes(BLOCK * rng.randint(1, 4))
+                words = struct.pack("<QI", slba, len(data) // BLOCK - 1)
+                units[which] += queues[which].pdu(CAPSULE, entry_of(0x01, cid, 1, words, len(data), IN_CAPSULE), data)
+                wanted[BLOCK * slba:BLOCK * slba + len(data)] = data
+            for queue, sent in zip(queues, units):
+                queue.socket.sendall(sent)
+            for queue in queues:
+                self.assertEqual([queue.completion().status for _ in range(20)], [0] * 20)
+            self.assertEqual(self.target.image.read_bytes(), wanted)
 
     def test_what_is_denied_writes_nothing(self) -> None:
         a, b = self.host(), self.host(0xb2)
