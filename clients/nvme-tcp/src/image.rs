@@ -20,7 +20,7 @@ use std::path::Path;
 
 /// Opcodes of I/O commands.
 const FLUSH: u8 = 0x00;
-const WRITE: u8 = 0x01;
+pub const WRITE: u8 = 0x01;
 const WRITE_ZEROES: u8 = 0x08;
 /// Force Unit Access, in double word 12.
 const FORCE_UNIT_ACCESS: u32 = 1 << 30;

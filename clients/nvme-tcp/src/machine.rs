@@ -54,6 +54,11 @@ impl<'a> Machine<'a> {
         }
     }
 
+    /// Has the processor fetch bytes of the blocks, which a command writes soon.
+    pub fn prefetch(&self, place: usize, count: usize) {
+        self.subsystem.prefetch(place, count);
+    }
+
     /// Reads a register. That changes nothing, so no script has it.
     pub fn read32(&mut self, cntlid: u16, offset: u64) -> Outcome<u32> {
         Ok(self.subsystem.read32(cntlid, offset)?)

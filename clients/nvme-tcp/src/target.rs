@@ -2,15 +2,17 @@
 
 use crate::answer::{Answer, Payload};
 use crate::association::{Association, ConnectData, ConnectionId, HostQueue, Session};
-use crate::configuration::Configuration;
+use crate::bytes::{u16_at, u32_at, u64_at};
+use crate::configuration::{Configuration, BLOCK};
 use crate::controller::{Controller, Data, ENTRY};
 use crate::fabrics;
 use crate::fault::Outcome;
 use crate::holding::Held;
-use crate::image::{Done, Image};
+use crate::image::{Done, Image, WRITE};
 use crate::journal::Journal;
 use crate::machine::Machine;
 use crate::status::{COMMAND_SEQUENCE, SUCCESS};
+use crate::window::PAGE;
 use nvmesim::Attachment;
 use std::collections::VecDeque;
 use std::fmt;
@@ -138,12 +140,23 @@ impl<'a> Target<'a> {
         if self.holds[index] && self.hold(connection, index, qid, entry, data)? {
             return Ok(None);
         }
+        self.prefetch(entry);
         let completed = self.controllers[index].run(&mut self.machine, qid, entry, data)?;
         if !completed.is_denied {
             self.follow(index, qid, entry, data, completed.status == SUCCESS)?;
         }
         let length = if let Data::FromController(length) = data { length } else { 0 };
         Ok(Some(Answer::completed(completed, self.controllers[index].cntlid, length)))
+    }
+
+    /// Has the processor fetch the first page of the blocks that a Write writes, while the command is on its way to them.
+    /// Elsewhere it does so by itself.
+    fn prefetch(&self, entry: &[u8; ENTRY]) {
+        if let (WRITE, Some(first)) = (entry[0], self.configuration.first_block(u32_at(entry, 4))) {
+            let (slba, blocks) = (u64_at(entry, 40), u64::from(u16_at(entry, 48)) + 1);
+            let place = first.saturating_add(slba).saturating_mul(BLOCK);
+            self.machine.prefetch(place as usize, PAGE.min(blocks * BLOCK) as usize);
+        }
     }
 
     /// Has the image and the journal follow a command that was allowed.

@@ -228,6 +228,12 @@ impl<'a> Subsystem<'a> {
         opened(config, Blocks::Lent(bytes))
     }
 
+    /// A hint, which changes nothing: a command will soon write so many of the lent bytes, from a place on. The processor
+    /// fetches them while it does other work. Where no bytes are lent, or not so many, there are none to fetch.
+    pub fn prefetch(&self, place: usize, count: usize) {
+        self.handle.prefetch(place, count);
+    }
+
     /// The host of a controller stores bytes in its memory.
     pub fn store(&mut self, cntlid: u16, address: u64, bytes: &[u8]) -> Result<(), Refusal> {
         done(self.handle.store(cntlid, address, bytes))

@@ -5,6 +5,8 @@
 
 use crate::layout::{Answer, Bytes, Command, Hold, Queue, Registered, Sim};
 use crate::{Attachment, Controller, Namespace};
+#[cfg(target_arch = "x86_64")]
+use std::arch::x86_64::{_mm_prefetch, _MM_HINT_T0};
 use std::marker::PhantomData;
 use std::ptr;
 
@@ -67,7 +69,9 @@ plain_calls! {
 /// A subsystem that is open.
 pub struct Handle<'a> {
     sim: Sim,
-    lent: PhantomData<&'a mut [u8]>,
+    /// Where its lent bytes are, and how many.
+    lent: (*const u8, usize),
+    life: PhantomData<&'a mut [u8]>,
 }
 
 /// A configuration, as the calls take it.
@@ -83,7 +87,7 @@ impl<'a> Handle<'a> {
     /// Opens a subsystem: what the call answered, and the handle.
     pub fn open(version: u32, (cs, ns, at): Parts<'_>, blocks: Blocks<'_, 'a>) -> (u32, Self) {
         let sim = Sim { subsystem: ptr::null_mut(), is_open: false };
-        let mut handle = Handle { sim, lent: PhantomData };
+        let mut handle = Handle { sim, lent: (ptr::null(), 0), life: PhantomData };
         let it = &mut handle.sim;
         let (c, n, a) = ((cs.as_ptr(), cs.len()), (ns.as_ptr(), ns.len()), (at.as_ptr(), at.len()));
         let answer = match blocks {
@@ -92,6 +96,7 @@ impl<'a> Handle<'a> {
             },
             Blocks::Lent(bytes) => {
                 let bytes = Bytes { at: bytes.as_mut_ptr(), count: bytes.len() };
+                handle.lent = (bytes.at, bytes.count);
                 unsafe { nvmesim_open_lent(it, version, c.0, c.1, n.0, n.1, a.0, a.1, bytes) }
             }
         };
@@ -112,6 +117,16 @@ impl<'a> Handle<'a> {
 
     pub fn read_blocks(&mut self, nsid: u32, slba: u64, bytes: &mut [u8]) -> u32 {
         unsafe { nvmesim_read_blocks(&mut self.sim, nsid, slba, bytes.as_mut_ptr(), bytes.len()) }
+    }
+
+    /// Has the processor fetch lent bytes, where it can. That is no access, and may be done at any address.
+    #[cfg_attr(not(target_arch = "x86_64"), allow(unused_variables))]
+    pub fn prefetch(&self, place: usize, count: usize) {
+        let (at, end) = (self.lent.0, place.saturating_add(count).min(self.lent.1));
+        #[cfg(target_arch = "x86_64")]
+        for line in (place..end).step_by(64) {
+            unsafe { _mm_prefetch::<_MM_HINT_T0>(at.wrapping_add(line).cast()) };
+        }
     }
 }
 

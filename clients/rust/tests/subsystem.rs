@@ -145,3 +145,15 @@ fn a_reservation_is_seen() {
     assert_eq!((seen.generation, seen.ptpl), (1, false));
     assert_eq!(status_name(7, 7), "Unlisted");
 }
+
+#[test]
+fn a_hint_changes_nothing() {
+    let mut bytes = vec![7; 4 * 512];
+    let subsystem = Subsystem::open_lent(&config(), &mut bytes).unwrap();
+    for (place, count) in [(0, 2048), (2047, 4096), (2048, 1), (usize::MAX, usize::MAX), (0, 0)] {
+        subsystem.prefetch(place, count);
+    }
+    drop(subsystem);
+    assert_eq!(bytes, [7; 4 * 512]);
+    Subsystem::open(&config(), &bytes).unwrap().prefetch(0, 512);
+}
