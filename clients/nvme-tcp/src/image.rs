@@ -89,18 +89,17 @@ pub struct Done<'d> {
     pub data: Data<'d>,
 }
 
-/// Opens an image, and reads it.
-pub fn open(path: &Path, configuration: &Configuration) -> io::Result<(Image, Vec<u8>)> {
+/// Opens an image, and reads its blocks.
+pub fn open(path: &Path, blocks: &mut [u8]) -> io::Result<Image> {
     let mut file = OpenOptions::new().read(true).write(true).open(path)?;
     if !file.metadata()?.is_file() {
         return Err(io::Error::new(io::ErrorKind::InvalidInput, "it is no regular file"));
     }
-    let mut bytes = vec![0; configuration.bytes() as usize];
-    file.read_exact(&mut bytes).map_err(|error| match error.kind() {
+    file.read_exact(blocks).map_err(|error| match error.kind() {
         io::ErrorKind::UnexpectedEof => io::Error::new(error.kind(), "the namespaces have more blocks than it"),
         _ => error,
     })?;
-    Ok((Image { file: Behind::new("image", 1, file)?, waiting: Blocks::default(), room: Vec::new() }, bytes))
+    Ok(Image { file: Behind::new("image", 1, file)?, waiting: Blocks::default(), room: Vec::new() })
 }
 
 impl Image {

@@ -59,6 +59,10 @@ const REFUSED: u8 = 1;
 const FAILED: u8 = 2;
 const BAD_COMMAND_LINE: u8 = 3;
 
+/// Where the blocks begin in their memory. They don't lie in pages as the memory of hosts does: where both do alike, the
+/// C library copies from the end, which is slower.
+const BLOCKS_AT: usize = 2048;
+
 /// Why it ends: the exit status, and what it says.
 struct End {
     status: u8,
@@ -112,14 +116,13 @@ fn serve(words: Vec<OsString>) -> Result<(), End> {
     let config = options.config.display();
     let text = fs::read_to_string(&options.config).map_err(end(FAILED, &config))?;
     let configuration = Configuration::read(&text).map_err(end(REFUSED, &config))?;
-    let (image, mut blocks) = match &options.image {
-        None => (None, vec![0; configuration.bytes() as usize]),
-        Some(path) => {
-            let (image, blocks) = image::open(path, &configuration).map_err(end(FAILED, path.display()))?;
-            (Some(image), blocks)
-        }
+    let mut bytes = vec![0; BLOCKS_AT + configuration.bytes() as usize];
+    let blocks = &mut bytes[BLOCKS_AT..];
+    let image = match &options.image {
+        None => None,
+        Some(path) => Some(image::open(path, blocks).map_err(end(FAILED, path.display()))?),
     };
-    let subsystem = Subsystem::open_lent(&configuration.config, &mut blocks).map_err(end(REFUSED, &config))?;
+    let subsystem = Subsystem::open_lent(&configuration.config, blocks).map_err(end(REFUSED, &config))?;
     let script = match &options.script {
         None => None,
         Some(path) => Some(Script::new(path, &configuration).map_err(end(FAILED, path.display()))?),
