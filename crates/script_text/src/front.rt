@@ -1,9 +1,9 @@
 //! Numbers at the front of a line, which are read while it is split: most have a few decimal digits.
 
-ghost use Rattle.std.specs.Prelude.{◌≡◌, ◌<◌, ◌^◌, ◌≤◌, true, length, take, IfSome};
+ghost use Rattle.std.specs.Prelude.{◌≡◌, ◌<◌, ◌^◌, ◌≤◌, true, false, length, take, IfSome, IsNone};
 ghost use Rattle.std.specs.List.{list_all};
 ghost use Rattle.std.specs.Str.Parse.{digits_value};
-ghost use Rattle.script_text.specs.Front.{BeginsWith};
+ghost use Rattle.script_text.specs.Front.{BeginsWith, begins_number};
 ghost use Rattle.script_text.specs.Numbers.{is_digit};
 ghost use Rattle.script_text.specs.Words.{line_words, is_line_text, starts_apart};
 
@@ -38,28 +38,10 @@ fn front_digits(line: &[u8]) -> Option<(usize, u64)>
     Some((len, value))
 }
 
-/// The same for a number of any form.
-#[inline(never)]
-fn spelled_number(line: &[u8]) -> Option<FrontNumber<'_>>
-    requires apart { starts_apart line.now ≡ true }
-    requires some { 0 < length line.now }
-    ensures text { IfSome result (λ front. is_line_text front.behind.now ≡ is_line_text line.now) }
-    ensures words { IfSome result (λ front. is_line_text line.now ≡ true
-        → BeginsWith front.number (line_words line.now) (line_words front.behind.now)) }
-    ensures apart { IfSome result (λ front. starts_apart front.behind.now ≡ true) }
-    ensures shorter { IfSome result (λ front. length front.behind.now < length line.now) }
-{
-    let first = first_word(line)?;
-    Some(FrontNumber {
-        number: number_u64(first.word)?,
-        behind: first.behind,
-    })
-}
-
-/// The number of 64 bits that the first word of a line spells, where the line begins with no separator. `None` where it
-/// spells none, or one that does not fit.
+/// The decimal number of 64 bits at the front of a line that begins with no separator. `None` for a number of another
+/// form, and where there is none, or one that does not fit.
 #[inline(always)]
-pub fn front_number(line: &[u8]) -> Option<FrontNumber<'_>>
+fn decimal_number(line: &[u8]) -> Option<FrontNumber<'_>>
     requires apart { starts_apart line.now ≡ true }
     requires some { 0 < length line.now }
     ensures text { IfSome result (λ front. is_line_text front.behind.now ≡ is_line_text line.now) }
@@ -79,6 +61,44 @@ pub fn front_number(line: &[u8]) -> Option<FrontNumber<'_>>
             number,
             behind: behind_separators(rest),
         }),
-        Some(_) => spelled_number(line),
+        Some(_) => None,
+    }
+}
+
+/// The same for a number of any form. `None` where the first word spells none, or one that does not fit.
+#[inline(never)]
+fn spelled_number(line: &[u8]) -> Option<FrontNumber<'_>>
+    requires apart { starts_apart line.now ≡ true }
+    requires some { 0 < length line.now }
+    ensures text { IfSome result (λ front. is_line_text front.behind.now ≡ is_line_text line.now) }
+    ensures words { IfSome result (λ front. is_line_text line.now ≡ true
+        → BeginsWith front.number (line_words line.now) (line_words front.behind.now)) }
+    ensures apart { IfSome result (λ front. starts_apart front.behind.now ≡ true) }
+    ensures shorter { IfSome result (λ front. length front.behind.now < length line.now) }
+    ensures none { IsNone result → is_line_text line.now ≡ true → begins_number (line_words line.now) ≡ false }
+{
+    let first = first_word(line)?;
+    Some(FrontNumber {
+        number: number_u64(first.word)?,
+        behind: first.behind,
+    })
+}
+
+/// The number of 64 bits that the first word of a line spells, where the line begins with no separator. `None` where it
+/// spells none, or one that does not fit.
+#[inline(always)]
+pub fn front_number(line: &[u8]) -> Option<FrontNumber<'_>>
+    requires apart { starts_apart line.now ≡ true }
+    requires some { 0 < length line.now }
+    ensures text { IfSome result (λ front. is_line_text front.behind.now ≡ is_line_text line.now) }
+    ensures words { IfSome result (λ front. is_line_text line.now ≡ true
+        → BeginsWith front.number (line_words line.now) (line_words front.behind.now)) }
+    ensures apart { IfSome result (λ front. starts_apart front.behind.now ≡ true) }
+    ensures shorter { IfSome result (λ front. length front.behind.now < length line.now) }
+    ensures none { IsNone result → is_line_text line.now ≡ true → begins_number (line_words line.now) ≡ false }
+{
+    match decimal_number(line) {
+        Some(front) => Some(front),
+        None => spelled_number(line),
     }
 }

@@ -2,7 +2,7 @@ use Rattle.std.proofs.Common.{◌≡◌, ◌∷◌, length, drop, true, sym, ap,
 use Rattle.script_text.specs.Words.{line_words, is_line_text, is_separator}
 use Rattle.script_text.proofs.WordLemmas.{separator-words, separator-text}
 use Rattle.script_text.proofs.FrontLemmas.{stops-end, stops-separator, front-text, front-number}
-use Rattle.script_text.proofs.front.front_number.Goals as goal
+use Rattle.script_text.proofs.front.decimal_number.Goals as goal
 
 pub returns-in-None-clause-text : goal.returns-in-None-clause-text
 returns-in-None-clause-text c =
