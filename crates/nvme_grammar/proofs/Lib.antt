@@ -3,7 +3,6 @@ mod IdentifierLemmas
 mod JudgedLemmas
 mod KeptLemmas
 pub mod LawLemmas
-mod LongLines
 pub mod OnLiterals
 pub mod ReadingLemmas
 mod ScriptLemmas
@@ -11,3 +10,5 @@ mod BriefLemmas
 mod FaultLemmas
 mod TieLemmas
 mod TieKeywords
+mod NumericLemmas
+mod SaidLemmas

@@ -138,7 +138,7 @@ start-fine started before [] = refl
 start-fine started before (w ∷ ws) = refl
 
 -- every keyword
-keyword-fine : (started : Bool) (before : List ℕ) (k : Keyword) (ws : List (List ℕ))
+pub keyword-fine : (started : Bool) (before : List ℕ) (k : Keyword) (ws : List (List ℕ))
     → fine (stands started k) before (places_of k) (behind_of k) ws ≡ is_allowed_line started (sentence_by k ws)
 keyword-fine started before Controller ws = controller-fine started before ws
 keyword-fine started before Namespace ws = namespace-fine started before ws

@@ -1,5 +1,5 @@
 -- Whether a text begins as a script does: what is meant as an image is hardly one that does.
-use Rattle.std.specs.Prelude.{ℕ, ◌==◌, ◌&&◌, Bool, true, false, not, List, [], ◌∷◌, take, Option, Some, None, is_some, unwrap_or, if◌then◌else◌}
+use Rattle.std.specs.Prelude.{ℕ, ◌==◌, ◌&&◌, Bool, false, not, List, [], ◌∷◌, take, Option, Some, None, is_some, unwrap_or, if◌then◌else◌}
 use Rattle.std.specs.List.{list_all, prefix_len}
 use Rattle.script_text.specs.Lines.{text_lines}
 use Rattle.script_text.specs.Words.{is_visible, behind_separators}

@@ -1,41 +1,26 @@
-//! Lines of a keyword and numbers, and of Writes, Compares and stores, as most lines of a script are: they need no table
-//! of words.
+//! What a line says behind its keyword: numbers first, and behind them data or a list where the keyword has one.
 
-ghost use Rattle.std.specs.Prelude.{◌≡◌, ◌≤◌, ◌*◌, ◌<◌, ◌∷◌, [], List, ℕ, true, length, option_map, is_some, IfSome, Some};
+ghost use Rattle.std.specs.Prelude.{◌≡◌, ◌<◌, ◌≤◌, ◌*◌, ◌∷◌, [], true, false, None, length, option_map, IfSome, IsNone};
 ghost use Rattle.nvme_spec.specs.Limits.{most_bytes};
-ghost use Rattle.nvme_driver.specs.declared.request.Request.TheVariants.{Write as WriteOf, Compare as CompareOf};
-ghost use Rattle.script_text.specs.Words.{is_line_text, line_words, starts_apart};
-ghost use Rattle.nvme_grammar.specs.Brief.{Numbers, IsStoreLine, IsTransfer, IsWithin, brief_line, stored_line, transfer_line};
-ghost use Rattle.nvme_grammar.specs.Keywords.{keyword_text};
+ghost use Rattle.script_text.specs.Words.{is_line_text, line_words, most_words, starts_apart};
+ghost use Rattle.nvme_grammar.specs.Brief.{IsStoreLine, IsTransfer, is_numeric, is_one, is_other, said, said_by};
 ghost use Rattle.nvme_grammar.specs.Lent.{line_by_value};
-ghost use Rattle.nvme_grammar.specs.Line.{sentence};
 ghost use Rattle.nvme_grammar.specs.Reading.{line_aside};
-ghost use Rattle.nvme_grammar.specs.declared.line.Line.TheVariants.{Event as LineEvent};
+ghost use Rattle.nvme_grammar.specs.declared.keyword.Keyword.TheVariants.{Write as WriteWord, Compare as CompareWord, Store as StoreWord};
 
+use super::configuration::{attached_in, setup_of};
+use super::identifiers::list_line;
 use super::keyword::Keyword;
 use super::line::Line;
-use super::numbers::event_in;
+use super::numbers::{MOST_NUMBERS, address_in, event_in, numbers_in, range_in};
 use arrayvec::ArrayVec;
 use nvme_driver::Request;
 use nvme_event::FleetEvent;
-use script_text::{behind_separators, bytes_in, data_in, first_word, front_number, is_data};
-
-/// The most numbers that stand behind a keyword.
-const MOST_NUMBERS: usize = 7;
-
-/// What a line says, as far as it is known before its data are read.
-#[derive(Clone, Copy)]
-pub enum Brief<'a> {
-    /// An event without data.
-    Event(FleetEvent<'static>),
-    Write(Transfer<'a>),
-    Compare(Transfer<'a>),
-    Store(StoreLine<'a>),
-}
+use script_text::{bytes_in, data_in, first_word, is_data};
 
 /// A Write or a Compare, with the word that spells its data.
 #[derive(Clone, Copy)]
-pub struct Transfer<'a> {
+struct Transfer<'a> {
     cntlid: u16,
     nsid: u32,
     slba: u64,
@@ -45,18 +30,81 @@ pub struct Transfer<'a> {
 
 /// A store of a raw host, with the word that spells its bytes.
 #[derive(Clone, Copy)]
-pub struct StoreLine<'a> {
+struct StoreLine<'a> {
     cntlid: u16,
     address: u64,
     word: &'a [u8],
 }
 
-/// A Write, whose data are put into a buffer.
-fn write_line<'a>(transfer: Transfer<'_>, bytes: &'a mut [u8]) -> Option<Line<'a>>
-    requires data_room { most_bytes ≤ length bytes.old }
-    requires digits_room { length transfer.word.now ≤ 2 * length bytes.old }
-    ensures { option_map line_by_value result ≡ transfer_line WriteOf transfer.entry }
+/// The only word of a line that begins with no separator.
+#[inline(always)]
+fn last_word(line: &[u8]) -> Option<&[u8]>
+    requires apart { starts_apart line.now ≡ true }
+    ensures text { IfSome result (λ _. is_line_text line.now ≡ true) }
+    ensures words { IfSome result (λ word. line_words line.now ≡ word.now ∷ []) }
+    ensures within { IfSome result (λ word. length word.now ≤ length line.now) }
+    ensures none { IsNone result → is_line_text line.now ≡ true → is_one (line_words line.now) ≡ false }
 {
+    if line.is_empty() {
+        return None;
+    }
+    let last = first_word(line)?;
+    if last.behind.is_empty() {
+        Some(last.word)
+    } else {
+        None
+    }
+}
+
+/// `C N SLBA BLOCKS DATA`
+#[inline(always)]
+fn transfer_in(line: &[u8]) -> Option<Transfer<'_>>
+    requires apart { starts_apart line.now ≡ true }
+    ensures text { IfSome result (λ _. is_line_text line.now ≡ true) }
+    ensures words { IfSome result (IsTransfer (line_words line.now)) }
+    ensures within { IfSome result (λ transfer. length transfer.word.now ≤ length line.now) }
+    ensures write { IsNone result → said_by WriteWord line.now ≡ None }
+    ensures compare { IsNone result → said_by CompareWord line.now ≡ None }
+{
+    let mut numbers = ArrayVec::new();
+    let rest = numbers_in(line, 4, &mut numbers);
+    let (cntlid, nsid, slba, blocks) = range_in(numbers.as_slice())?;
+    Some(Transfer {
+        cntlid,
+        nsid,
+        slba,
+        blocks,
+        word: last_word(rest)?,
+    })
+}
+
+/// `C ADDR hex:DIGITS`
+#[inline(always)]
+fn stored_in(line: &[u8]) -> Option<StoreLine<'_>>
+    requires apart { starts_apart line.now ≡ true }
+    ensures text { IfSome result (λ _. is_line_text line.now ≡ true) }
+    ensures words { IfSome result (IsStoreLine (line_words line.now)) }
+    ensures within { IfSome result (λ stored. length stored.word.now ≤ length line.now) }
+    ensures none { IsNone result → said_by StoreWord line.now ≡ None }
+{
+    let mut numbers = ArrayVec::new();
+    let rest = numbers_in(line, 2, &mut numbers);
+    let (cntlid, address) = address_in(numbers.as_slice())?;
+    Some(StoreLine {
+        cntlid,
+        address,
+        word: last_word(rest)?,
+    })
+}
+
+/// A Write, whose data are put into a buffer.
+fn write_line<'a>(line: &[u8], bytes: &'a mut [u8]) -> Option<Line<'a>>
+    requires apart { starts_apart line.now ≡ true }
+    requires data_room { most_bytes ≤ length bytes.old }
+    requires digits_room { length line.now ≤ 2 * length bytes.old }
+    ensures { option_map line_by_value result ≡ said_by WriteWord line.now }
+{
+    let transfer = transfer_in(line)?;
     let bytes = data_in(transfer.word, transfer.blocks, bytes)?;
     let (nsid, slba) = (transfer.nsid, transfer.slba);
     let request = Request::Write { nsid, slba, bytes };
@@ -64,11 +112,13 @@ fn write_line<'a>(transfer: Transfer<'_>, bytes: &'a mut [u8]) -> Option<Line<'a
 }
 
 /// A Compare, whose data are put into a buffer.
-fn compare_line<'a>(transfer: Transfer<'_>, bytes: &'a mut [u8]) -> Option<Line<'a>>
+fn compare_line<'a>(line: &[u8], bytes: &'a mut [u8]) -> Option<Line<'a>>
+    requires apart { starts_apart line.now ≡ true }
     requires data_room { most_bytes ≤ length bytes.old }
-    requires digits_room { length transfer.word.now ≤ 2 * length bytes.old }
-    ensures { option_map line_by_value result ≡ transfer_line CompareOf transfer.entry }
+    requires digits_room { length line.now ≤ 2 * length bytes.old }
+    ensures { option_map line_by_value result ≡ said_by CompareWord line.now }
 {
+    let transfer = transfer_in(line)?;
     let bytes = data_in(transfer.word, transfer.blocks, bytes)?;
     let (nsid, slba) = (transfer.nsid, transfer.slba);
     let request = Request::Compare { nsid, slba, bytes };
@@ -76,171 +126,137 @@ fn compare_line<'a>(transfer: Transfer<'_>, bytes: &'a mut [u8]) -> Option<Line<
 }
 
 /// A store, whose bytes are put into a buffer.
-fn store_line<'a>(stored: StoreLine<'_>, bytes: &'a mut [u8]) -> Option<Line<'a>>
-    requires digits_room { length stored.word.now ≤ 2 * length bytes.old }
-    ensures { option_map line_by_value result ≡ stored_line stored.entry }
+fn store_line<'a>(line: &[u8], bytes: &'a mut [u8]) -> Option<Line<'a>>
+    requires apart { starts_apart line.now ≡ true }
+    requires digits_room { length line.now ≤ 2 * length bytes.old }
+    ensures { option_map line_by_value result ≡ said_by StoreWord line.now }
 {
+    let stored = stored_in(line)?;
     let bytes = bytes_in(stored.word, bytes)?;
     let event = FleetEvent::RawStore(stored.cntlid, stored.address, bytes);
     Some(Line::Event(event))
 }
 
-/// What a line says, whose data are put into a buffer. `None` where their word spells none, or more than the blocks have
-/// room for.
+/// A Write or a Compare that is judged and parsed again, for which any such event stands. The bytes are overwritten, but
+/// not filled.
 #[inline(always)]
-pub fn line_of<'a>(brief: Brief<'_>, bytes: &'a mut [u8]) -> Option<Line<'a>>
-    requires data_room { most_bytes ≤ length bytes.old }
-    requires digits_room { IsWithin brief (2 * length bytes.old) }
-    ensures { option_map line_by_value result ≡ brief_line brief.entry }
-{
-    match brief {
-        Brief::Event(event) => Some(Line::Event(event)),
-        Brief::Write(transfer) => write_line(transfer, bytes),
-        Brief::Compare(transfer) => compare_line(transfer, bytes),
-        Brief::Store(stored) => store_line(stored, bytes),
-    }
-}
-
-/// Whether there is a line of these data: whether their word spells some, and no more than the blocks have room for. The
-/// buffer is overwritten, but not filled.
-#[inline(always)]
-fn has_data(brief: Brief<'_>, bytes: &mut [u8]) -> bool
-    requires digits_room { IsWithin brief (2 * length bytes.old) }
-    ensures { result ≡ is_some (brief_line brief.entry) }
-{
-    match brief {
-        Brief::Event(_) => true,
-        Brief::Write(transfer) => is_data(transfer.word, transfer.blocks, bytes),
-        Brief::Compare(transfer) => is_data(transfer.word, transfer.blocks, bytes),
-        Brief::Store(stored) => bytes_in(stored.word, bytes).is_some(),
-    }
-}
-
-/// The event that a line says, where there is one and it has no data; any that is parsed again stands for one with data.
-#[inline(always)]
-fn event_aside(brief: Brief<'_>) -> FleetEvent<'static>
-    ensures { is_some (brief_line brief.entry) ≡ true
-        → Some (line_aside (LineEvent result)) ≡ option_map line_aside (brief_line brief.entry) }
-{
-    match brief {
-        Brief::Event(event) => event,
-        Brief::Write(_) | Brief::Compare(_) | Brief::Store(_) => FleetEvent::PowerCycle,
-    }
-}
-
-/// What a line says, but for its event where that is parsed again. `None` where there is no line of its data. The buffer
-/// is overwritten, but not filled.
-#[inline(always)]
-pub fn judged<'a>(brief: Brief<'_>, bytes: &mut [u8]) -> Option<Line<'a>>
-    requires digits_room { IsWithin brief (2 * length bytes.old) }
-    ensures { option_map line_aside result ≡ option_map line_aside (brief_line brief.entry) }
-{
-    if !has_data(brief, bytes) {
-        return None;
-    }
-    Some(Line::Event(event_aside(brief)))
-}
-
-/// Puts the numbers at the front of a line into a table, and gives the line behind them: from the first word on that is
-/// none, or that the table has no room for.
-#[inline(always)]
-fn numbers_in<'a>(line: &'a [u8], numbers: &mut ArrayVec<u64, MOST_NUMBERS>) -> &'a [u8]
+fn judged_transfer<'a>(line: &[u8], bytes: &mut [u8]) -> Option<Line<'a>>
     requires apart { starts_apart line.now ≡ true }
-    requires empty { numbers.old.items ≡ [] }
-    ensures text { is_line_text result.now ≡ is_line_text line.now }
-    ensures words { is_line_text line.now ≡ true
-        → Numbers numbers.new.items (line_words line.now) (line_words result.now) }
-    ensures apart { starts_apart result.now ≡ true }
-    ensures within { length result.now ≤ length line.now }
+    requires digits_room { length line.now ≤ 2 * length bytes.old }
+    ensures write { option_map line_aside result ≡ option_map line_aside (said_by WriteWord line.now) }
+    ensures compare { option_map line_aside result ≡ option_map line_aside (said_by CompareWord line.now) }
 {
-    let mut rest = line;
-    while !rest.is_empty() && !numbers.is_full() {
-        let Some(front) = front_number(rest) else {
-            return rest;
-        };
-        numbers.push(front.number);
-        rest = front.behind;
+    let transfer = transfer_in(line)?;
+    if is_data(transfer.word, transfer.blocks, bytes) {
+        Some(Line::Event(FleetEvent::PowerCycle))
+    } else {
+        None
     }
-    rest
 }
 
-/// `C N SLBA BLOCKS DATA`
+/// The same of a store.
 #[inline(always)]
-fn transfer_of<'a>(numbers: &[u64], word: &'a [u8]) -> Option<Transfer<'a>>
-    ensures { IfSome result (IsTransfer numbers.now word.now) }
+fn judged_store<'a>(line: &[u8], bytes: &mut [u8]) -> Option<Line<'a>>
+    requires apart { starts_apart line.now ≡ true }
+    requires digits_room { length line.now ≤ 2 * length bytes.old }
+    ensures { option_map line_aside result ≡ option_map line_aside (said_by StoreWord line.now) }
 {
-    let [cntlid, nsid, slba, blocks] = numbers.as_array::<4>()?;
-    Some(Transfer {
-        cntlid: u16::try_from(*cntlid).ok()?,
-        nsid: u32::try_from(*nsid).ok()?,
-        slba: *slba,
-        blocks: u32::try_from(*blocks).ok()?,
-        word,
-    })
+    let stored = stored_in(line)?;
+    bytes_in(stored.word, bytes)?;
+    Some(Line::Event(FleetEvent::PowerCycle))
 }
 
-/// `C ADDR hex:DIGITS`
-#[inline(always)]
-fn stored_of<'a>(numbers: &[u64], word: &'a [u8]) -> Option<StoreLine<'a>>
-    ensures { IfSome result (IsStoreLine numbers.now word.now) }
+/// A line of a list, or one before `start`, which are few.
+#[inline(never)]
+fn other_line<'a>(keyword: Keyword, line: &[u8], identifiers: &'a mut [u16]) -> Option<Line<'a>>
+    requires other { is_other keyword ≡ true }
+    requires apart { starts_apart line.now ≡ true }
+    requires room { most_words line.now ≤ length identifiers.old }
+    ensures { option_map line_by_value result ≡ said_by keyword line.now }
 {
-    let [cntlid, address] = numbers.as_array::<2>()?;
-    Some(StoreLine {
-        cntlid: u16::try_from(*cntlid).ok()?,
-        address: *address,
-        word,
-    })
-}
-
-/// A line whose last word is no number. `None` where it is no Write, no Compare and no store.
-#[inline(always)]
-fn spelled_in<'a>(keyword: Keyword, numbers: &[u64], rest: &'a [u8]) -> Option<Brief<'a>>
-    requires apart { starts_apart rest.now ≡ true }
-    requires some { 0 < length rest.now }
-    ensures text { IfSome result (λ brief. is_line_text rest.now ≡ true) }
-    ensures words { IfSome result (λ brief. (words : List (List ℕ))
-        → Numbers numbers.now words (line_words rest.now) → sentence (keyword_text keyword ∷ words) ≡ brief_line brief) }
-    ensures within { IfSome result (λ brief. IsWithin brief (length rest.now)) }
-{
-    let last = first_word(rest)?;
-    if !last.behind.is_empty() {
-        return None;
-    }
     match keyword {
-        Keyword::Write => {
-            let transfer = transfer_of(numbers, last.word)?;
-            Some(Brief::Write(transfer))
-        }
-        Keyword::Compare => {
-            let transfer = transfer_of(numbers, last.word)?;
-            Some(Brief::Compare(transfer))
-        }
-        Keyword::Store => {
-            let stored = stored_of(numbers, last.word)?;
-            Some(Brief::Store(stored))
-        }
-        _ => None,
+        Keyword::Attach | Keyword::Detach => list_line(keyword, line, identifiers),
+        Keyword::Attached => attached_in(line),
+        _ => setup_of(keyword, line),
     }
 }
 
-/// What a line says. `None` for other lines than those of a keyword and numbers, Writes, Compares and stores, which may
-/// say something all the same.
+/// The event of a keyword and the numbers behind it, which are all that its lines have.
 #[inline(always)]
-pub fn brief_of(line: &[u8]) -> Option<Brief<'_>>
-    ensures text { IfSome result (λ brief. is_line_text line.now ≡ true) }
-    ensures words { IfSome result (λ brief. sentence (line_words line.now) ≡ brief_line brief) }
-    ensures within { IfSome result (λ brief. IsWithin brief (length line.now)) }
+fn event_of(keyword: Keyword, line: &[u8]) -> Option<Line<'static>>
+    requires apart { starts_apart line.now ≡ true }
+    requires numeric { is_numeric keyword ≡ true }
+    ensures { option_map line_by_value result ≡ said_by keyword line.now }
 {
-    let start = behind_separators(line);
-    if start.is_empty() {
+    let mut numbers = ArrayVec::new();
+    let rest = numbers_in(line, MOST_NUMBERS, &mut numbers);
+    if !rest.is_empty() {
         return None;
     }
-    let first = first_word(start)?;
-    let keyword = Keyword::told(first.word)?;
-    let mut numbers = ArrayVec::new();
-    let rest = numbers_in(first.behind, &mut numbers);
-    if !rest.is_empty() {
-        return spelled_in(keyword, numbers.as_slice(), rest);
+    Some(Line::Event(event_in(keyword, numbers.as_slice())?))
+}
+
+/// What a line says behind its keyword, whose data or list are put into a buffer. `None` where it says nothing.
+#[inline(always)]
+pub fn line_by<'a>(
+    keyword: Keyword,
+    line: &[u8],
+    bytes: &'a mut [u8],
+    identifiers: &'a mut [u16],
+) -> Option<Line<'a>>
+    requires apart { starts_apart line.now ≡ true }
+    requires data_room { most_bytes ≤ length bytes.old }
+    requires digits_room { length line.now ≤ 2 * length bytes.old }
+    requires list_room { most_words line.now ≤ length identifiers.old }
+    ensures { option_map line_by_value result ≡ said_by keyword line.now }
+{
+    match keyword {
+        Keyword::Write => write_line(line, bytes),
+        Keyword::Compare => compare_line(line, bytes),
+        Keyword::Store => store_line(line, bytes),
+        Keyword::Attach | Keyword::Detach => other_line(keyword, line, identifiers),
+        Keyword::Controller | Keyword::Namespace | Keyword::Attached | Keyword::Start => {
+            other_line(keyword, line, identifiers)
+        }
+        _ => event_of(keyword, line),
     }
-    Some(Brief::Event(event_in(keyword, numbers.as_slice())?))
+}
+
+/// The same, but for its event where that is parsed again. The bytes are overwritten, but not filled.
+#[inline(always)]
+pub fn judged_by<'a>(
+    keyword: Keyword,
+    line: &[u8],
+    bytes: &mut [u8],
+    identifiers: &'a mut [u16],
+) -> Option<Line<'a>>
+    requires apart { starts_apart line.now ≡ true }
+    requires digits_room { length line.now ≤ 2 * length bytes.old }
+    requires list_room { most_words line.now ≤ length identifiers.old }
+    ensures { option_map line_aside result ≡ option_map line_aside (said_by keyword line.now) }
+{
+    match keyword {
+        Keyword::Write | Keyword::Compare => judged_transfer(line, bytes),
+        Keyword::Store => judged_store(line, bytes),
+        Keyword::Attach | Keyword::Detach => other_line(keyword, line, identifiers),
+        Keyword::Controller | Keyword::Namespace | Keyword::Attached | Keyword::Start => {
+            other_line(keyword, line, identifiers)
+        }
+        _ => event_of(keyword, line),
+    }
+}
+
+/// The keyword of a line that begins with no separator, and what stands behind it.
+#[inline(always)]
+pub fn keyword_in(line: &[u8]) -> Option<(Keyword, &[u8])>
+    requires apart { starts_apart line.now ≡ true }
+    requires some { 0 < length line.now }
+    ensures said { IfSome result (λ front. said_by front.0 front.1.now ≡ said line.now) }
+    ensures apart { IfSome result (λ front. starts_apart front.1.now ≡ true) }
+    ensures within { IfSome result (λ front. length front.1.now ≤ length line.now) }
+    ensures room { IfSome result (λ front. most_words front.1.now ≤ most_words line.now) }
+    ensures none { IsNone result → said line.now ≡ None }
+{
+    let first = first_word(line)?;
+    Some((Keyword::first_of(first.word)?, first.behind))
 }

@@ -1,12 +1,18 @@
 //! The lines before `start`, and `start`: how a subsystem is set up.
 
-ghost use Rattle.std.specs.Prelude.{◌≡◌, map, option_map};
+ghost use Rattle.std.specs.Prelude.{◌≡◌, map, option_map, true};
+ghost use Rattle.nvme_grammar.specs.Brief.{said_by, sets_up_by_words};
 ghost use Rattle.nvme_grammar.specs.Lent.{line_by_value};
-ghost use Rattle.nvme_grammar.specs.Line.{rawness, controller, namespace, attached, start, sharing};
+ghost use Rattle.nvme_grammar.specs.Line.{rawness, controller, namespace, start, sharing};
+ghost use Rattle.nvme_grammar.specs.declared.keyword.Keyword.TheVariants.{Attached};
+ghost use Rattle.script_text.specs.Words.{starts_apart};
 
+use super::keyword::Keyword;
 use super::line::Line;
+use super::numbers::{named_in, numbers_in};
+use arrayvec::ArrayVec;
 use nvme_spec::{ControllerConfig, NsConfig};
-use script_text::{number_u16, number_u32, number_u64, number_u128};
+use script_text::{number_u16, number_u32, number_u64, number_u128, words_of};
 
 /// Whether a controller's host is raw: what follows `controller C host H`, nothing or `raw`, says it.
 fn is_raw(words: &[&[u8]]) -> Option<bool>
@@ -23,7 +29,7 @@ fn is_raw(words: &[&[u8]]) -> Option<bool>
 }
 
 /// `controller C host H`, or `controller C host H raw`, without its first word.
-pub fn controller_of<'a>(words: &[&[u8]]) -> Option<Line<'a>>
+fn controller_of(words: &[&[u8]]) -> Option<Line<'static>>
     ensures { option_map line_by_value result ≡ controller (map (λ word. word.now) words.now) }
 {
     let [cntlid, keyword, host, behind @ ..] = words else {
@@ -54,7 +60,7 @@ pub fn is_shared(word: &[u8]) -> Option<bool>
 
 /// `namespace N blocks B shared`, or `private`, without its first word.
 #[tactic(auto, using(crate::proofs::ArityLemmas::four_other))]
-pub fn namespace_of<'a>(words: &[&[u8]]) -> Option<Line<'a>>
+fn namespace_of(words: &[&[u8]]) -> Option<Line<'static>>
     ensures { option_map line_by_value result ≡ namespace (map (λ word. word.now) words.now) }
 {
     let [nsid, keyword, blocks, sharing] = words.as_array::<4>()?;
@@ -69,24 +75,44 @@ pub fn namespace_of<'a>(words: &[&[u8]]) -> Option<Line<'a>>
 }
 
 /// `attached C N`, without its first word.
-#[tactic(auto, using(crate::proofs::ArityLemmas::two_other))]
-pub fn attached_of<'a>(words: &[&[u8]]) -> Option<Line<'a>>
-    ensures { option_map line_by_value result ≡ attached (map (λ word. word.now) words.now) }
+pub fn attached_in(line: &[u8]) -> Option<Line<'static>>
+    requires apart { starts_apart line.now ≡ true }
+    ensures { option_map line_by_value result ≡ said_by Attached line.now }
 {
-    let [cntlid, nsid] = words.as_array::<2>()?;
-    Some(Line::Attached {
-        cntlid: number_u16(cntlid)?,
-        nsid: number_u32(nsid)?,
-    })
+    let mut numbers = ArrayVec::new();
+    let rest = numbers_in(line, 2, &mut numbers);
+    let (cntlid, nsid) = named_in(numbers.as_slice())?;
+    if rest.is_empty() {
+        Some(Line::Attached { cntlid, nsid })
+    } else {
+        None
+    }
 }
 
 /// `start`, which no word follows.
-pub fn start_of<'a>(words: &[&[u8]]) -> Option<Line<'a>>
+fn start_of(words: &[&[u8]]) -> Option<Line<'static>>
     ensures { option_map line_by_value result ≡ start (map (λ word. word.now) words.now) }
 {
     if words.is_empty() {
         Some(Line::Start)
     } else {
         None
+    }
+}
+
+/// What a line says behind one of the other keywords of lines before `start`, or behind `start`.
+pub fn setup_of(keyword: Keyword, line: &[u8]) -> Option<Line<'static>>
+    requires { sets_up_by_words keyword ≡ true }
+    ensures { option_map line_by_value result ≡ said_by keyword line.now }
+{
+    let front = words_of(line)?;
+    if !front.rest.is_empty() {
+        return None;
+    }
+    let words = front.words.as_slice();
+    match keyword {
+        Keyword::Controller => controller_of(words),
+        Keyword::Namespace => namespace_of(words),
+        _ => start_of(words),
     }
 }

@@ -1,25 +1,19 @@
-//! Lists of controller identifiers, put into a buffer. A list may go on behind the words that a line was split into.
+//! Lines with a list of controllers, of any length, whose identifiers are put into a buffer.
 
-ghost use Rattle.std.specs.Prelude.{◌≡◌, ◌+◌, ◌≤◌, ◌++◌, length, take, map, true, None, option_map, IfSome, if◌then◌else◌};
-ghost use Rattle.script_text.specs.Words.{starts_apart, most_words, is_line_text, line_words};
-ghost use Rattle.nvme_grammar.specs.Requests.{numbers_at};
+ghost use Rattle.std.specs.Prelude.{◌≡◌, ◌≤◌, length, take, true, option_map, IfSome};
+ghost use Rattle.script_text.specs.Words.{starts_apart, most_words};
+ghost use Rattle.nvme_grammar.specs.Brief.{lists, said_by};
+ghost use Rattle.nvme_grammar.specs.Lent.{line_by_value, request_by_value};
 ghost use Rattle.nvme_grammar.specs.Lists.{line_numbers};
+ghost use Rattle.nvme_grammar.specs.Requests.{list_request};
 
+use super::keyword::Keyword;
+use super::line::Line;
+use super::numbers::{named_in, numbers_in};
+use arrayvec::ArrayVec;
+use nvme_driver::Request;
+use nvme_event::FleetEvent;
 use script_text::{first_word, number_u16};
-
-/// Puts the identifiers that words spell at the front of a buffer, and tells how many they are. `None` where a word
-/// spells none.
-fn identifiers_in(words: &[&[u8]], buffer: &mut [u16]) -> Option<usize>
-    requires room { length words.now ≤ length buffer.old }
-    ensures list { option_map (λ count. take count buffer.new) result ≡ numbers_at 16
-        (map (λ word. word.now) words.now) }
-    ensures count { IfSome result (λ count. count ≡ length words.now) }
-{
-    for i in 0..words.len() {
-        buffer[i] = number_u16(words[i])?;
-    }
-    Some(words.len())
-}
 
 /// Puts the identifiers that the words of a line spell at the front of a buffer, and tells how many they are. `None`
 /// where a word spells none, or the line is no text.
@@ -40,24 +34,28 @@ fn identifiers_behind(line: &[u8], buffer: &mut [u16]) -> Option<usize>
     Some(count)
 }
 
-/// The identifiers that words spell.
-pub fn list_of<'a>(words: &[&[u8]], buffer: &'a mut [u16]) -> Option<&'a [u16]>
-    requires room { length words.now ≤ length buffer.old }
-    ensures { option_map (λ list. list.now) result ≡ numbers_at 16 (map (λ word. word.now) words.now) }
+/// The request with a list that a keyword asks for.
+fn list_request_of<'a>(keyword: Keyword, nsid: u32, list: &'a [u16]) -> Option<Request<'a>>
+    ensures { option_map request_by_value result ≡ list_request keyword nsid list.now }
 {
-    let count = identifiers_in(words, buffer)?;
-    Some(&buffer[..count])
+    match keyword {
+        Keyword::Attach => Some(Request::Attach { nsid, list }),
+        Keyword::Detach => Some(Request::Detach { nsid, list }),
+        _ => None,
+    }
 }
 
-/// The identifiers that words spell, and behind them those of the rest of their line.
-pub fn long_list_of<'a>(words: &[&[u8]], rest: &[u8], buffer: &'a mut [u16]) -> Option<&'a [u16]>
-    requires apart { starts_apart rest.now ≡ true }
-    requires room { length words.now + most_words rest.now ≤ length buffer.old }
-    ensures { option_map (λ list. list.now) result
-        ≡ (if is_line_text rest.now then numbers_at 16 (map (λ word. word.now) words.now ++ line_words rest.now)
-        else None) }
+/// `attach C N C1 C2 ..`, or `detach`, whose list is put into a buffer.
+pub fn list_line<'a>(keyword: Keyword, line: &[u8], identifiers: &'a mut [u16]) -> Option<Line<'a>>
+    requires list { lists keyword ≡ true }
+    requires apart { starts_apart line.now ≡ true }
+    requires room { most_words line.now ≤ length identifiers.old }
+    ensures { option_map line_by_value result ≡ said_by keyword line.now }
 {
-    let count = identifiers_in(words, buffer)?;
-    let more = identifiers_behind(rest, &mut buffer[count..])?;
-    Some(&buffer[..count + more])
+    let mut numbers = ArrayVec::new();
+    let rest = numbers_in(line, 2, &mut numbers);
+    let (cntlid, nsid) = named_in(numbers.as_slice())?;
+    let count = identifiers_behind(rest, identifiers)?;
+    let request = list_request_of(keyword, nsid, &identifiers[..count])?;
+    Some(Line::Event(FleetEvent::Place(cntlid, request)))
 }

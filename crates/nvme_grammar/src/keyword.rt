@@ -301,6 +301,7 @@ impl Keyword {
     }
 
     /// The keyword that a word is, if it is one.
+    #[inline(never)]
     #[tactic(auto, unfolding(crate::specs::Keywords::keyword_of))]
     pub fn of(word: &[u8]) -> Option<Keyword>
         ensures { result ≡ keyword_of word.now }
@@ -313,6 +314,17 @@ impl Keyword {
             keywords = behind;
         }
         None
+    }
+
+    /// The keyword that a word is, if it is one: those that stand behind `start` most are looked for first.
+    #[inline(always)]
+    pub(crate) fn first_of(word: &[u8]) -> Option<Keyword>
+        ensures { result ≡ keyword_of word.now }
+    {
+        match Keyword::told(word) {
+            Some(keyword) => Some(keyword),
+            None => Keyword::of(word),
+        }
     }
 
     /// The first keyword that a word is near to: one letter is wrong, missing or too many, two are exchanged, or some are

@@ -6,7 +6,6 @@ mod beginning;
 mod brief;
 mod buffers;
 mod configuration;
-mod event;
 mod examples;
 mod fault;
 mod fault_examples;
@@ -19,7 +18,6 @@ mod line;
 mod near;
 mod numbers;
 mod place;
-mod request;
 mod script;
 
 pub use beginning::begins_script;

@@ -1,22 +1,58 @@
-//! Events of a keyword and the numbers behind it.
+//! Numbers behind a keyword, and the events that they say.
 
-ghost use Rattle.std.specs.Prelude.{◌≡◌, ◌<◌, ◌^◌, ◌∷◌, [], List, ℕ, IfSome, Some};
-ghost use Rattle.nvme_grammar.specs.Brief.{Numbers};
-ghost use Rattle.nvme_grammar.specs.Keywords.{keyword_text};
-ghost use Rattle.nvme_grammar.specs.Lent.{event_by_value, request_by_value};
-ghost use Rattle.nvme_grammar.specs.Line.{sentence};
+ghost use Rattle.std.specs.Prelude.{◌≡◌, ◌<◌, ◌≤◌, ◌^◌, ◌&&◌, ◌∷◌, [], List, ℕ, true, false, drop, length, IfSome, IsNone, Some};
+ghost use Rattle.script_text.specs.Front.{begins_number};
+ghost use Rattle.script_text.specs.Words.{is_line_text, line_words, starts_apart};
+ghost use Rattle.nvme_grammar.specs.Brief.{Numbers, SaysEvent, have_bits, bits_of, is_numeric, asks, has_operands, reserves};
+ghost use Rattle.nvme_grammar.specs.Lent.{request_by_value};
 ghost use Rattle.nvme_grammar.specs.Requests.{request_by};
-ghost use Rattle.nvme_grammar.specs.declared.line.Line.TheVariants.{Event};
 
 use super::keyword::Keyword;
-use super::request::bit_of;
+use super::place::bit_of;
+use arrayvec::ArrayVec;
 use nvme_driver::Request;
 use nvme_event::FleetEvent;
+use script_text::front_number;
+
+/// The most numbers that stand behind a keyword, but for those of a list.
+pub const MOST_NUMBERS: usize = 7;
+
+/// Puts the numbers at the front of a line into a table, so many at most, and gives the line behind them.
+#[inline(always)]
+pub fn numbers_in<'a>(
+    line: &'a [u8],
+    most: usize,
+    numbers: &mut ArrayVec<u64, MOST_NUMBERS>,
+) -> &'a [u8]
+    requires apart { starts_apart line.now ≡ true }
+    requires empty { numbers.old.items ≡ [] }
+    requires room { most ≤ 7 }
+    ensures text { is_line_text result.now ≡ is_line_text line.now }
+    ensures words { is_line_text line.now ≡ true
+        → Numbers numbers.new.items (line_words line.now) (line_words result.now) }
+    ensures apart { starts_apart result.now ≡ true }
+    ensures within { length result.now ≤ length line.now }
+    ensures most { length numbers.new.items ≤ most }
+    ensures all { is_line_text line.now ≡ true → length numbers.new.items < most
+        → begins_number (line_words result.now) ≡ false }
+{
+    let mut rest = line;
+    while !rest.is_empty() && numbers.len() < most {
+        let Some(front) = front_number(rest) else {
+            return rest;
+        };
+        numbers.push(front.number);
+        rest = front.behind;
+    }
+    rest
+}
 
 /// `C`
 #[inline(always)]
+#[tactic(auto, using(crate::proofs::NumericLemmas::have_bits_other))]
 fn alone_in(numbers: &[u64]) -> Option<u16>
-    ensures { IfSome result (λ cntlid. (numbers.now ≡ cntlid ∷ []) × (cntlid < 2 ^ 16)) }
+    ensures some { IfSome result (λ cntlid. (numbers.now ≡ cntlid ∷ []) × (cntlid < 2 ^ 16)) }
+    ensures none { IsNone result → have_bits (16 ∷ []) numbers.now ≡ false }
 {
     let [cntlid] = numbers.as_array::<1>()?;
     u16::try_from(*cntlid).ok()
@@ -24,54 +60,86 @@ fn alone_in(numbers: &[u64]) -> Option<u16>
 
 /// `C Q`, or `C I`
 #[inline(always)]
+#[tactic(auto, using(crate::proofs::NumericLemmas::have_bits_other))]
 fn pair_in(numbers: &[u64]) -> Option<(u16, u16)>
-    ensures { IfSome result (λ pair. (numbers.now ≡ pair.0 ∷ pair.1 ∷ []) × (pair.0 < 2 ^ 16) × (pair.1 < 2 ^ 16)) }
+    ensures some { IfSome result (λ pair.
+        (numbers.now ≡ pair.0 ∷ pair.1 ∷ []) × (pair.0 < 2 ^ 16) × (pair.1 < 2 ^ 16)) }
+    ensures none { IsNone result → have_bits (16 ∷ 16 ∷ []) numbers.now ≡ false }
 {
     let [cntlid, number] = numbers.as_array::<2>()?;
     Some((u16::try_from(*cntlid).ok()?, u16::try_from(*number).ok()?))
 }
 
+/// `C N`
+#[inline(always)]
+#[tactic(auto, using(crate::proofs::NumericLemmas::have_bits_other))]
+pub fn named_in(numbers: &[u64]) -> Option<(u16, u32)>
+    ensures some { IfSome result (λ named.
+        (numbers.now ≡ named.0 ∷ named.1 ∷ []) × (named.0 < 2 ^ 16) × (named.1 < 2 ^ 32)) }
+    ensures none { IsNone result → have_bits (16 ∷ 32 ∷ []) numbers.now ≡ false }
+{
+    let [cntlid, nsid] = numbers.as_array::<2>()?;
+    Some((u16::try_from(*cntlid).ok()?, u32::try_from(*nsid).ok()?))
+}
+
+/// `C ADDR`
+#[inline(always)]
+#[tactic(auto, using(crate::proofs::NumericLemmas::have_bits_other))]
+pub fn address_in(numbers: &[u64]) -> Option<(u16, u64)>
+    ensures some { IfSome result (λ at. (numbers.now ≡ at.0 ∷ at.1 ∷ []) × (at.0 < 2 ^ 16)) }
+    ensures none { IsNone result → have_bits (16 ∷ 64 ∷ []) numbers.now ≡ false }
+{
+    let [cntlid, address] = numbers.as_array::<2>()?;
+    Some((u16::try_from(*cntlid).ok()?, *address))
+}
+
+/// `C N SLBA BLOCKS`
+#[inline(always)]
+#[tactic(auto, using(crate::proofs::NumericLemmas::have_bits_other))]
+pub fn range_in(numbers: &[u64]) -> Option<(u16, u32, u64, u32)>
+    ensures some { IfSome result (λ range. (numbers.now ≡ range.0 ∷ range.1 ∷ range.2 ∷ range.3 ∷ [])
+        × (range.0 < 2 ^ 16) × (range.1 < 2 ^ 32) × (range.3 < 2 ^ 32)) }
+    ensures none { IsNone result → have_bits (16 ∷ 32 ∷ 64 ∷ 32 ∷ []) numbers.now ≡ false }
+{
+    let [cntlid, nsid, slba, blocks] = numbers.as_array::<4>()?;
+    let cntlid = u16::try_from(*cntlid).ok()?;
+    let nsid = u32::try_from(*nsid).ok()?;
+    Some((cntlid, nsid, *slba, u32::try_from(*blocks).ok()?))
+}
+
 /// `C CNS NSID`
 #[inline(always)]
+#[tactic(auto, using(crate::proofs::NumericLemmas::have_bits_other))]
 fn identify_in(numbers: &[u64]) -> Option<(u16, u8, u32)>
-    ensures { IfSome result (λ asked. (numbers.now ≡ asked.0 ∷ asked.1 ∷ asked.2 ∷ [])
+    ensures some { IfSome result (λ asked. (numbers.now ≡ asked.0 ∷ asked.1 ∷ asked.2 ∷ [])
         × (asked.0 < 2 ^ 16) × (asked.1 < 2 ^ 8) × (asked.2 < 2 ^ 32)) }
+    ensures none { IsNone result → have_bits (16 ∷ 8 ∷ 32 ∷ []) numbers.now ≡ false }
 {
     let [cntlid, cns, nsid] = numbers.as_array::<3>()?;
-    Some((
-        u16::try_from(*cntlid).ok()?,
-        u8::try_from(*cns).ok()?,
-        u32::try_from(*nsid).ok()?,
-    ))
+    let cntlid = u16::try_from(*cntlid).ok()?;
+    let cns = u8::try_from(*cns).ok()?;
+    Some((cntlid, cns, u32::try_from(*nsid).ok()?))
 }
 
 /// `C OFF V`
 #[inline(always)]
+#[tactic(auto, using(crate::proofs::NumericLemmas::have_bits_other))]
 fn write32_in(numbers: &[u64]) -> Option<(u16, u64, u32)>
-    ensures { IfSome result (λ asked. (numbers.now ≡ asked.0 ∷ asked.1 ∷ asked.2 ∷ [])
+    ensures some { IfSome result (λ asked. (numbers.now ≡ asked.0 ∷ asked.1 ∷ asked.2 ∷ [])
         × (asked.0 < 2 ^ 16) × (asked.2 < 2 ^ 32)) }
+    ensures none { IsNone result → have_bits (16 ∷ 64 ∷ 32 ∷ []) numbers.now ≡ false }
 {
     let [cntlid, offset, value] = numbers.as_array::<3>()?;
-    Some((
-        u16::try_from(*cntlid).ok()?,
-        *offset,
-        u32::try_from(*value).ok()?,
-    ))
-}
-
-/// `SLBA BLOCKS`
-#[inline(always)]
-fn range_in(operands: &[u64]) -> Option<(u64, u32)>
-    ensures { IfSome result (λ range. (operands.now ≡ range.0 ∷ range.1 ∷ []) × (range.1 < 2 ^ 32)) }
-{
-    let [slba, blocks] = operands.as_array::<2>()?;
-    Some((*slba, u32::try_from(*blocks).ok()?))
+    let cntlid = u16::try_from(*cntlid).ok()?;
+    Some((cntlid, *offset, u32::try_from(*value).ok()?))
 }
 
 /// `STATE`
 #[inline(always)]
+#[tactic(auto, using(crate::proofs::NumericLemmas::have_bits_other))]
 fn state_in(operands: &[u64]) -> Option<u8>
-    ensures { IfSome result (λ state. (operands.now ≡ state ∷ []) × (state < 2 ^ 8)) }
+    ensures some { IfSome result (λ state. (operands.now ≡ state ∷ []) × (state < 2 ^ 8)) }
+    ensures none { IsNone result → have_bits (8 ∷ []) operands.now ≡ false }
 {
     let [state] = operands.as_array::<1>()?;
     u8::try_from(*state).ok()
@@ -79,8 +147,10 @@ fn state_in(operands: &[u64]) -> Option<u8>
 
 /// `DWORDS`
 #[inline(always)]
+#[tactic(auto, using(crate::proofs::NumericLemmas::have_bits_other))]
 fn dwords_in(operands: &[u64]) -> Option<u32>
-    ensures { IfSome result (λ dwords. (operands.now ≡ dwords ∷ []) × (dwords < 2 ^ 32)) }
+    ensures some { IfSome result (λ dwords. (operands.now ≡ dwords ∷ []) × (dwords < 2 ^ 32)) }
+    ensures none { IsNone result → have_bits (32 ∷ []) operands.now ≡ false }
 {
     let [dwords] = operands.as_array::<1>()?;
     u32::try_from(*dwords).ok()
@@ -88,22 +158,26 @@ fn dwords_in(operands: &[u64]) -> Option<u32>
 
 /// `ACTION IEKEY CPTPL CRKEY NRKEY`
 #[inline(always)]
-fn registration_in(operands: &[u64]) -> Option<(u8, u8, u8, u64, u64)>
-    ensures { IfSome result (λ asked. (operands.now ≡ asked.0 ∷ asked.1 ∷ asked.2 ∷ asked.3 ∷ asked.4 ∷ [])
-        × (asked.0 < 2 ^ 8) × (asked.1 < 2 ^ 8) × (asked.2 < 2 ^ 8)) }
+#[tactic(auto, using(crate::proofs::NumericLemmas::have_bits_other))]
+fn registration_in(operands: &[u64]) -> Option<(u8, u64, u8, u64, u64)>
+    ensures some { IfSome result (λ asked.
+        (operands.now ≡ asked.0 ∷ asked.1 ∷ asked.2 ∷ asked.3 ∷ asked.4 ∷ [])
+        × (asked.0 < 2 ^ 8) × (asked.2 < 2 ^ 8)) }
+    ensures none { IsNone result → have_bits (8 ∷ 1 ∷ 8 ∷ 64 ∷ 64 ∷ []) operands.now ≡ false }
 {
     let [action, iekey, cptpl, crkey, nrkey] = operands.as_array::<5>()?;
     let action = u8::try_from(*action).ok()?;
-    let iekey = u8::try_from(*iekey).ok()?;
     let cptpl = u8::try_from(*cptpl).ok()?;
-    Some((action, iekey, cptpl, *crkey, *nrkey))
+    Some((action, *iekey, cptpl, *crkey, *nrkey))
 }
 
 /// `ACTION RTYPE CRKEY PRKEY`
 #[inline(always)]
+#[tactic(auto, using(crate::proofs::NumericLemmas::have_bits_other))]
 fn acquisition_in(operands: &[u64]) -> Option<(u8, u8, u64, u64)>
-    ensures { IfSome result (λ asked. (operands.now ≡ asked.0 ∷ asked.1 ∷ asked.2 ∷ asked.3 ∷ [])
+    ensures some { IfSome result (λ asked. (operands.now ≡ asked.0 ∷ asked.1 ∷ asked.2 ∷ asked.3 ∷ [])
         × (asked.0 < 2 ^ 8) × (asked.1 < 2 ^ 8)) }
+    ensures none { IsNone result → have_bits (8 ∷ 8 ∷ 64 ∷ 64 ∷ []) operands.now ≡ false }
 {
     let [action, rtype, crkey, prkey] = operands.as_array::<4>()?;
     let action = u8::try_from(*action).ok()?;
@@ -113,9 +187,11 @@ fn acquisition_in(operands: &[u64]) -> Option<(u8, u8, u64, u64)>
 
 /// `ACTION RTYPE CRKEY`
 #[inline(always)]
+#[tactic(auto, using(crate::proofs::NumericLemmas::have_bits_other))]
 fn release_in(operands: &[u64]) -> Option<(u8, u8, u64)>
-    ensures { IfSome result (λ asked. (operands.now ≡ asked.0 ∷ asked.1 ∷ asked.2 ∷ [])
+    ensures some { IfSome result (λ asked. (operands.now ≡ asked.0 ∷ asked.1 ∷ asked.2 ∷ [])
         × (asked.0 < 2 ^ 8) × (asked.1 < 2 ^ 8)) }
+    ensures none { IsNone result → have_bits (8 ∷ 8 ∷ 64 ∷ []) operands.now ≡ false }
 {
     let [action, rtype, crkey] = operands.as_array::<3>()?;
     let action = u8::try_from(*action).ok()?;
@@ -123,11 +199,12 @@ fn release_in(operands: &[u64]) -> Option<(u8, u8, u64)>
     Some((action, rtype, *crkey))
 }
 
-/// What the numbers behind `KEYWORD C N` ask for, of a keyword of reservations. `None` where they ask for nothing.
+/// What the numbers behind `KEYWORD C N` ask for, of a keyword of reservations.
 #[inline(always)]
 fn reservation_in<'a>(keyword: Keyword, nsid: u32, operands: &[u64]) -> Option<Request<'a>>
-    ensures { IfSome result (λ request. (words : List (List ℕ)) → Numbers operands.now words []
+    ensures some { IfSome result (λ request. (words : List (List ℕ)) → Numbers operands.now words []
         → request_by keyword nsid words ≡ Some (request_by_value request)) }
+    ensures none { IsNone result → (reserves keyword && have_bits (drop 2 (bits_of keyword)) operands.now) ≡ false }
 {
     match keyword {
         Keyword::Register => {
@@ -165,23 +242,14 @@ fn reservation_in<'a>(keyword: Keyword, nsid: u32, operands: &[u64]) -> Option<R
     }
 }
 
-/// What the numbers behind `KEYWORD C N` ask for. `None` where they ask for nothing, or the keyword wants other words.
+/// What the numbers behind `KEYWORD C N` ask for, where there are such.
 #[inline(always)]
-fn request_in<'a>(keyword: Keyword, nsid: u32, operands: &[u64]) -> Option<Request<'a>>
-    ensures { IfSome result (λ request. (words : List (List ℕ)) → Numbers operands.now words []
+fn operands_in<'a>(keyword: Keyword, nsid: u32, operands: &[u64]) -> Option<Request<'a>>
+    ensures some { IfSome result (λ request. (words : List (List ℕ)) → Numbers operands.now words []
         → request_by keyword nsid words ≡ Some (request_by_value request)) }
+    ensures none { IsNone result → (has_operands keyword && have_bits (drop 2 (bits_of keyword)) operands.now) ≡ false }
 {
     match keyword {
-        Keyword::Read => {
-            let (slba, blocks) = range_in(operands)?;
-            Some(Request::Read { nsid, slba, blocks })
-        }
-        Keyword::Zeroes => {
-            let (slba, blocks) = range_in(operands)?;
-            Some(Request::WriteZeroes { nsid, slba, blocks })
-        }
-        Keyword::Flush if operands.is_empty() => Some(Request::Flush { nsid }),
-        Keyword::Protection if operands.is_empty() => Some(Request::Protection { nsid }),
         Keyword::Protect => {
             let state = state_in(operands)?;
             Some(Request::Protect { nsid, state })
@@ -197,8 +265,9 @@ fn request_in<'a>(keyword: Keyword, nsid: u32, operands: &[u64]) -> Option<Reque
 /// `C N`, and the numbers behind them.
 #[inline(always)]
 fn front_in(numbers: &[u64]) -> Option<(u16, u32, &[u64])>
-    ensures { IfSome result (λ front. (numbers.now ≡ front.0 ∷ front.1 ∷ front.2.now)
+    ensures some { IfSome result (λ front. (numbers.now ≡ front.0 ∷ front.1 ∷ front.2.now)
         × (front.0 < 2 ^ 16) × (front.1 < 2 ^ 32)) }
+    ensures none { IsNone result → (bits : List ℕ) → have_bits (16 ∷ 32 ∷ bits) numbers.now ≡ false }
 {
     let [cntlid, nsid, operands @ ..] = numbers else {
         return None;
@@ -210,20 +279,48 @@ fn front_in(numbers: &[u64]) -> Option<(u16, u32, &[u64])>
 
 /// `C N`, and what the request of this keyword needs.
 #[inline(always)]
-fn place_in<'a>(keyword: Keyword, numbers: &[u64]) -> Option<FleetEvent<'a>>
-    ensures { IfSome result (λ event. (words : List (List ℕ)) → Numbers numbers.now words []
-        → sentence (keyword_text keyword ∷ words) ≡ Some (Event (event_by_value event))) }
+fn asked_in<'a>(keyword: Keyword, numbers: &[u64]) -> Option<FleetEvent<'a>>
+    ensures some { IfSome result (SaysEvent keyword numbers.now) }
+    ensures none { IsNone result → (has_operands keyword && have_bits (bits_of keyword) numbers.now) ≡ false }
 {
     let (cntlid, nsid, operands) = front_in(numbers)?;
-    let request = request_in(keyword, nsid, operands)?;
+    let request = operands_in(keyword, nsid, operands)?;
     Some(FleetEvent::Place(cntlid, request))
 }
 
-/// The event of a keyword and the numbers behind it. `None` where there is none, or the keyword wants other words.
+/// The request that a keyword and the numbers behind it place.
+#[inline(always)]
+fn place_in<'a>(keyword: Keyword, numbers: &[u64]) -> Option<FleetEvent<'a>>
+    ensures some { IfSome result (SaysEvent keyword numbers.now) }
+    ensures none { IsNone result → (asks keyword && have_bits (bits_of keyword) numbers.now) ≡ false }
+{
+    match keyword {
+        Keyword::Read => {
+            let (cntlid, nsid, slba, blocks) = range_in(numbers)?;
+            Some(FleetEvent::Place(cntlid, Request::Read { nsid, slba, blocks }))
+        }
+        Keyword::Zeroes => {
+            let (cntlid, nsid, slba, blocks) = range_in(numbers)?;
+            Some(FleetEvent::Place(cntlid, Request::WriteZeroes { nsid, slba, blocks }))
+        }
+        Keyword::Flush => {
+            let (cntlid, nsid) = named_in(numbers)?;
+            Some(FleetEvent::Place(cntlid, Request::Flush { nsid }))
+        }
+        Keyword::Protection => {
+            let (cntlid, nsid) = named_in(numbers)?;
+            Some(FleetEvent::Place(cntlid, Request::Protection { nsid }))
+        }
+        _ => asked_in(keyword, numbers),
+    }
+}
+
+/// The event that a keyword and the numbers behind it say. `None` where they say none: there are other numbers than its
+/// places want, or the keyword wants something else.
 #[inline(always)]
 pub fn event_in<'a>(keyword: Keyword, numbers: &[u64]) -> Option<FleetEvent<'a>>
-    ensures { IfSome result (λ event. (words : List (List ℕ)) → Numbers numbers.now words []
-        → sentence (keyword_text keyword ∷ words) ≡ Some (Event (event_by_value event))) }
+    ensures some { IfSome result (SaysEvent keyword numbers.now) }
+    ensures none { IsNone result → (is_numeric keyword && have_bits (bits_of keyword) numbers.now) ≡ false }
 {
     match keyword {
         Keyword::Up => Some(FleetEvent::BringUp(alone_in(numbers)?)),
@@ -246,6 +343,7 @@ pub fn event_in<'a>(keyword: Keyword, numbers: &[u64]) -> Option<FleetEvent<'a>>
             let (cntlid, offset, value) = write32_in(numbers)?;
             Some(FleetEvent::RawWrite32(cntlid, offset, value))
         }
+        Keyword::PowerCycle if numbers.is_empty() => Some(FleetEvent::PowerCycle),
         _ => place_in(keyword, numbers),
     }
 }

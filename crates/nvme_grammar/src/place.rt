@@ -3,14 +3,32 @@
 ghost use Rattle.std.specs.Prelude.{◌≡◌, ◌*◌, ◌/◌, ◌≤◌, length};
 ghost use Rattle.nvme_spec.specs.Limits.{most_bytes};
 ghost use Rattle.nvme_grammar.specs.LineFaults.{suits};
+ghost use Rattle.nvme_grammar.specs.Requests.{bit_at, bit_of};
 ghost use Rattle.nvme_grammar.specs.Places.{operand_name, operand_bits, spells, place_behind, takes_behind, wanted_text};
 
 use super::configuration::is_shared;
-use super::request::bit_in;
 use script_text::{
     NoRoom, Page, Spell, bytes_in, data_in, number_u8, number_u16, number_u32, number_u64,
     number_u128, put_labelled,
 };
+
+/// IEKEY, by its number: 0 or 1.
+pub fn bit_of(number: u64) -> Option<bool>
+    ensures { result ≡ bit_of number }
+{
+    match number {
+        0 => Some(false),
+        1 => Some(true),
+        _ => None,
+    }
+}
+
+/// IEKEY: 0 or 1.
+fn bit_in(word: &[u8]) -> Option<bool>
+    ensures { result ≡ bit_at word.now }
+{
+    bit_of(u64::from(number_u8(word)?))
+}
 
 /// A number of a line, by what it is of.
 #[derive(Clone, Copy, Debug, PartialEq, Eq)]

@@ -1,4 +1,4 @@
-use Rattle.std.proofs.Common.{◌≡◌, ◌++◌, ◌∷◌, ap, rules}
+use Rattle.std.proofs.Common.{◌≡◌, ◌∷◌, ap, rules}
 use Rattle.std.specs.List.{flat_map}
 use Rattle.nvme_grammar.specs.FaultTexts.{shown_byte}
 use Rattle.script_text.proofs.PageLemmas.{lacks_piece, next_piece}
