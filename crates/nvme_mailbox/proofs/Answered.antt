@@ -1,5 +1,5 @@
 -- Each answer that a mailbox holds is of an execution in the run, of a request that was placed in the run.
-use Rattle.nvme_mailbox.proofs.Words.{all-joined, ◌≡◌, ◌⊎◌, inl, inr, ℕ, ◌+◌, Bool, true, false, List, [], ◌∷◌, ◌++◌, length, map, Some, Ok, refl, sym, ap, subst, ◌∙◌, if◌then◌else◌, AllByRecursion, Status, Lane, Admin, Io, Done, asked_of, FleetEvent, Poll, FleetSeen, Reply, concerns, Item, FetchedItem, PostedAnswer, LaneBox, Mailbox, box_at, with_box, lane_of, names, with_mark, ring_lane, new_item, with_placed, answer_reply, WithDriver, Fleet, Run, Is, called_at, host_at, after_answer, with_posted, answer_for, HasMailbox, OwnStep, MailboxStep, waiting, posted_answers, requests_in, Conclusion, Executes, HappensThen, ResetClears, NewIsClear, WasPlacedAndExecuted, DoneIsItsExecution, done_in, remove, all-map}
+use Rattle.nvme_mailbox.proofs.Words.{all-joined, ◌≡◌, ◌⊎◌, inl, inr, ℕ, ◌+◌, Bool, true, false, List, [], ◌∷◌, ◌++◌, length, map, Some, Ok, refl, sym, ap, subst, ◌∙◌, if◌then◌else◌, AllByRecursion, Status, Lane, Admin, Io, Done, asked_of, FleetEvent, Poll, FleetSeen, Reply, concerns, Item, FetchedItem, PostedAnswer, LaneBox, Mailbox, box_at, with_box, lane_of, names, with_mark, new_item, with_placed, answer_reply, WithDriver, Fleet, Run, Is, called_at, host_at, after_answer, with_posted, answer_for, HasMailbox, OwnStep, MailboxStep, waiting, posted_answers, requests_in, Conclusion, Executes, HappensThen, ResetClears, NewIsClear, WasPlacedAndExecuted, DoneIsItsExecution, done_in, remove, all-map}
 use Rattle.nvme_mailbox.proofs.Lists.{all-left, all-right, all-over, all-get, all-removed}
 use Rattle.nvme_mailbox.specs.Deliveries.{polled}
 use Rattle.nvme_driver.specs.declared.ticket.Ticket.{Ticket}
@@ -43,9 +43,6 @@ Brings P Q (Take request) m = P (new_item m request)
 Brings P Q (Answer i x r) m = (since : ℕ) → Q (answer_for x r since)
 Brings P Q other m = Unit {0}
 
-ring-known : (P : Item → Type 0) (Q : PostedAnswer → Type 0) (b : LaneBox) → KnownIn P Q b → KnownIn P Q (ring_lane b)
-ring-known P Q b h = (tt, all-joined P b.rung b.placed h.1 h.0, h.2)
-
 pub moves-known : (P : Item → Type 0) (Q : PostedAnswer → Type 0) (v : Move) (m : Mailbox) → May v m → Brings P Q v m → Known P Q m → Known P Q (moved v m)
 unfolding after_answer
 moves-known P Q (Take request) m may new k =
@@ -54,7 +51,8 @@ moves-known P Q (Take request) m may new k =
     let h = box-known P Q l m k in
     with-known P Q l (with_placed b (new_item m request)) (record m { next = m.next + 1 }) k
     (all-joined P b.placed (new_item m request ∷ []) h.0 (new, tt), h.1, h.2)
-moves-known P Q RingBoth m may new k = (ring-known P Q m.admin k.0, ring-known P Q m.io k.1, k.2)
+moves-known P Q RingBoth m may new k =
+    ((tt, all-joined P m.admin.rung m.admin.placed k.0.1 k.0.0, k.0.2), (tt, all-joined P m.io.rung m.io.placed k.1.1 k.1.0, k.1.2), k.2)
 moves-known P Q (FetchFirst l x rest) m e new k =
     let h = box-known P Q l m k in
     let r : AllByRecursion P (x ∷ rest) = subst (AllByRecursion P) e h.1 in
@@ -62,8 +60,7 @@ moves-known P Q (FetchFirst l x rest) m e new k =
     (k.0, k.1, all-joined (OfItem P) m.fetched (record { item = x; marked = false } ∷ []) k.2 (r.0, tt)) (h.0, r.1, h.2)
 moves-known P Q (HandUp l first rest) m e new k =
     let h = box-known P Q l m k in
-    let r : AllByRecursion Q (first ∷ rest) = subst (AllByRecursion Q) e h.2 in
-    with-known P Q l _ m k (h.0, h.1, r.1)
+    with-known P Q l _ m k (h.0, h.1, (subst (AllByRecursion Q) e h.2).1)
 moves-known P Q (Clear what) m may new k = ((tt, tt, tt), (tt, tt, tt), tt)
 moves-known P Q (Answer i x r) m may new k =
     let l : Lane = lane_of x.item in

@@ -1,9 +1,9 @@
 -- A host's mailbox goes by its own events, but for the marks of others' executions.
-use Rattle.nvme_mailbox.proofs.Words.{◌≡◌, ◌≢◌, ℕ, ◌==◌, Bool, true, false, Option, None, Some, refl, sym, ap, subst, ◌∙◌, arith, slice_get, common_steps, Marks, Executed, Posted, NoSuch, Controller, FleetEvent, BringUp, Place, Ring, Fetch, Execute, Poll, Reset, RawStore, RawWrite32, PowerCycle, FleetSeen, NotRaw, Reply, concerns, FetchedItem, Mailbox, MailboxReaction, plain, fetched, reset, Site, RequestComesTo, WithDriver, Raw, Fleet, Moment, Is, Completes, ExecutesItem, ExecutesAt, host_at, with_host, power_cycled, called_at, raw_at, fetched_at, settled, after_answer, site_of, marks_in, replaced, numbered, HasMailbox, Becomes, Posts, ExecutesOwn, OwnStep, OthersStep, MailboxStep, MovesOn, HostsAreApart, marks_seen, marked_by}
+use Rattle.nvme_mailbox.proofs.Words.{◌≡◌, ◌≢◌, ℕ, ◌==◌, Bool, true, false, Option, None, Some, refl, sym, ap, subst, ◌∙◌, arith, slice_get, common_steps, Marks, Executed, Posted, NoSuch, Controller, FleetEvent, BringUp, Place, Ring, Fetch, Execute, Poll, Reset, RawStore, RawWrite32, PowerCycle, FleetSeen, NotRaw, Reply, concerns, FetchedItem, Mailbox, MailboxReaction, plain, fetched, reset, Site, RequestComesTo, WithDriver, Raw, Fleet, Moment, Is, Completes, ExecutesItem, ExecutesAt, host_at, with_host, power_cycled, called_at, raw_at, fetched_at, settled, after_answer, site_of, marks_in, replaced, numbered, HasMailbox, Becomes, Posts, ExecutesOwn, OwnStep, OthersStep, MailboxStep, MovesOn, HostsAreApart, marks_seen, marked_by, host_cycled, option_map}
 use Rattle.nvme_mailbox.specs.Fleets.{Host}
 use Rattle.nvme_event.specs.declared.seen.FleetSeen.TheVariants.{Executed as ExecutedSeen, NoController, Cycled}
 use Rattle.nvme_mailbox.proofs.MailboxMarks.{spared}
-use Rattle.nvme_mailbox.proofs.HostPlaces.{cycled-host, replaced-other, replaced-here, own-set, called-other, raw-other, fetched-other, marks-numbered}
+use Rattle.nvme_mailbox.proofs.HostPlaces.{cycled-at, replaced-other, replaced-here, own-set, called-other, raw-other, fetched-other, marks-numbered}
 
 pub is-same : (j k : ℕ) → (j == k) ≡ true → j ≡ k
 is-same j k h = grind (arith, common_steps, h)
@@ -134,7 +134,7 @@ by-execution tells old new j i k m reply false e at h = executes-other (host_at 
 by-cycle : (tells : Bool) (old new : Fleet) (k : ℕ) (m : Mailbox) (reply : Reply) → HasMailbox old k m → (reply ≡ plain Cycled) × (new ≡ power_cycled old) → MovesOn tells old PowerCycle reply new k m
 by-cycle tells old new k m reply at h = record {
   mailbox = (reset m).mailbox;
-  host = ap (λ f. host_at f k) h.1 ∙ cycled-host old k (WithDriver m) at;
+  host = ap (λ f. host_at f k) h.1 ∙ cycled-at old k ∙ ap (option_map host_cycled) at;
   moves = (h.0, refl);
 }
 

@@ -24,13 +24,10 @@ site-counts : (tells : Bool) (old new : Fleet) (event : FleetEvent) → Leaves t
 unfolding RequestComesTo CommandComesTo
 site-counts tells old new event (AsItWas e) = let same = ap (λ (s : Site). s.device.failures) e in omega (arith, same)
 site-counts tells old new event (ByRequest k i is m x r at found comes left) =
-    let e = ap (λ (s : Site). s.device.failures) left in
-    let less = execution-counts (lane_of x.item) tells k x.item.asked x.marked old.site r comes in
-    omega (arith, e, less)
+    omega (arith, ap (λ (s : Site). s.device.failures) left, execution-counts (lane_of x.item) tells k x.item.asked x.marked old.site r comes)
 site-counts tells old new event (ByCommand k i is c t a at found comes left) =
-    let e = ap (λ (s : Site). s.device.failures) left in
     let less = machine_proofs.answer-counts (t.queue == 0) tells (queues_of c) c.cntlid t (scene_in (setting_of old c)) a comes in
-    omega (arith, e, less)
+    omega (arith, ap (λ (s : Site). s.device.failures) left, less)
 site-counts tells old new event (PowerLost is left) = let e = ap (λ (s : Site). s.device.failures) left in omega (arith, e)
 
 pub step-counts : (tells : Bool) (old new : Fleet) (event : FleetEvent) (reply : Reply) → Step tells old event reply new → failures_in old ≤ failures_in new
@@ -39,9 +36,7 @@ step-counts tells old new event reply h = site-counts tells old new event (leave
 pub failures_never_fall : FailuresNeverFall
 failures_never_fall tells old new [] [] run = let e = ap failures_in run in omega (arith, e)
 failures_never_fall tells old new (event ∷ events) (x ∷ later) run =
-    let one = step-counts tells old run.0 event x run.1 in
-    let rest = failures_never_fall tells run.0 new events later run.2 in
-    omega (arith, one, rest)
+    omega (arith, step-counts tells old run.0 event x run.1, failures_never_fall tells run.0 new events later run.2)
 failures_never_fall tells old new events later run = absurd run
 
 -- Without a fault an execution is as the function says.
@@ -52,16 +47,10 @@ served-alone : (command : Command) (k : ℕ) (a : Asked) (s : Site) (r : Request
 served-alone command k a s r h same below =
     let so = spec.is-so command k (command_entry a) a.sent (scene_at s) (scene_at r.left) r.outcome.status h.returned (spec.calm (scene_at s) (scene_at r.left) same below) h.effect in
     let why = so.status in
-    let w = so.world in
-    let c = so.content in
-    let d = h.dw0 in
-    let n = h.rule in
-    let m = h.marks in
-    let b = h.data_back ∙ ap (λ x. bytes_with x h.returned) why ∙ ap (bytes_with (performance_of command k a s).status) so.returned_so in
     λ i. record {
-      outcome = record { status = why i; dw0 = d i; rule = n i; marks = m i };
-      bytes = b i;
-      left = record { world = w i; device = record { content = c i; failures = same i } };
+      outcome = record { status = why i; dw0 = h.dw0 i; rule = h.rule i; marks = h.marks i };
+      bytes = (h.data_back ∙ ap (λ x. bytes_with x h.returned) why ∙ ap (bytes_with (performance_of command k a s).status) so.returned_so) i;
+      left = record { world = so.world i; device = record { content = so.content i; failures = same i } };
     }
 
 io-alone : (v : Verdict) (k : ℕ) (a : Asked) (s : Site) (r : RequestExecution) → IoRequestComesTo v true k a s r
@@ -79,8 +68,7 @@ item-alone : (o : Option FetchedItem) (old new : Fleet) (k : ℕ) (m : Mailbox) 
 unfolding RequestComesTo request_execution settled
 item-alone None old new k m i reply h same below = h
 item-alone (Some x) old new k m i reply h same below =
-    let quiet : h.execution.left.device.failures ≡ old.site.device.failures = sym (ap failures_in h.leaves) ∙ same in
-    let so = execution-alone (lane_of x.item) k x.item.asked x.marked old.site h.execution h.comes_to quiet below in
+    let so = execution-alone (lane_of x.item) k x.item.asked x.marked old.site h.execution h.comes_to (sym (ap failures_in h.leaves) ∙ same) below in
     (h.gives ∙ ap (λ (r : RequestExecution). plain (ExecutedSeen (Posted r.outcome))) so, h.leaves ∙ ap (λ r. after_execution old k m i x r) so)
 
 -- what a raw host's controller gave and left is what the function says
@@ -110,8 +98,7 @@ raw-alone : (old new : Fleet) (k : ℕ) (c : Controller) (i : ℕ) (reply : Repl
     → Is (executing (Some (Raw c)) old k i) reply new
 unfolding settled
 raw-alone old new k c i reply h same below =
-    let quiet : h.left.device.failures ≡ old.site.device.failures = sym (ap failures_in h.leaves) ∙ same in
-    let so = one-alone (slice_get c.fetched i) i (setting_of old c) h.executed h.left h.executes quiet below in
+    let so = one-alone (slice_get c.fetched i) i (setting_of old c) h.executed h.left h.executes (sym (ap failures_in h.leaves) ∙ same) below in
     (h.gives ∙ ap (λ x. plain (ExecutedSeen x)) so.0, h.leaves ∙ (λ j. after_raw old k (so.0 j) (so.1 j)))
 
 executes-alone : (o : Option Host) (old new : Fleet) (k i : ℕ) (reply : Reply) → ExecutesAt o true old k i reply new
@@ -128,9 +115,8 @@ step-alone old new event reply h same below = h
 pub run_is_unique : RunIsUnique
 run_is_unique old new [] [] run same below = (refl, run)
 run_is_unique old new (event ∷ events) (s ∷ replies) run same below =
-    let a = step-counts true old run.0 event s run.1 in
     let b = failures_never_fall true run.0 new events replies run.2 in
-    let p : failures_in run.0 ≡ failures_in old = omega (arith, a, b, same) in
+    let p : failures_in run.0 ≡ failures_in old = omega (arith, step-counts true old run.0 event s run.1, b, same) in
     let one = step-alone old run.0 event s run.1 p below in
     let rest = run_is_unique run.0 new events replies run.2 (same ∙ sym p) (subst (λ n. n < 2 ^ 64 - 1) (sym p) below) in (
       (λ i. one.0 i ∷ (rest.0 ∙ ap (λ f. fault_free_replies f events) one.1) i),

@@ -1,5 +1,5 @@
 -- Without a fault there is a run over each list of events, from each fleet whose namespaces lie on its medium.
-use Rattle.nvme_mailbox.proofs.Words.{◌≡◌, ℕ, ◌+◌, ◌*◌, ◌≤◌, ◌==◌, Bool, true, List, [], ◌∷◌, ◌++◌, length, take, drop, Option, None, Some, Ok, Err, refl, sym, ap, ◌∙◌, arith, length-append, length-drop, slice_get, replicate, length-take-le, opcode, Command, WriteZeroes, AdminCommand, Verdict, Allowed, Denied, with_bytes, Judgement, action_rule, medium_block, IsLaidOut, extent_of, HasPassed, planned, passes, cycle_keeps_places, Lane, Admin, Io, Asked, FetchedCommand, Controller, QueuePair, queues_of, open_pair, Setting, FinishesOne, FinishesOver, scene_in, CommandComesTo, command-becomes, still, answer-extents, answer-size, FleetEvent, BringUp, Place, Ring, Fetch, Execute, Poll, Reset, RawStore, RawWrite32, PowerCycle, FleetSeen, FetchedItem, Mailbox, lane_of, MailboxReaction, Site, RequestExecution, scene_at, IsServed, IoRequestComesTo, RequestComesToAs, RequestComesTo, action_of, io_judgement, io_verdict, admin_judgement, admin_request_execution_by, admin_request_execution, command_entry, WithDriver, Raw, Fleet, Moment, Step, host_at, with_host, power_cycled, settled, called_at, raw_at, fetched_at, ExecutesItem, ExecutesAt, setting_of, served, performance_of, io_request_execution, request_execution_as, request_execution, executing_item, raw_over, raw_one, raw_execution, executing, fault_free_step, failures_in, RunExists}
+use Rattle.nvme_mailbox.proofs.Words.{◌≡◌, ℕ, ◌+◌, ◌*◌, ◌≤◌, ◌==◌, Bool, true, List, [], ◌∷◌, ◌++◌, length, take, drop, Option, None, Some, Ok, refl, sym, ap, ◌∙◌, arith, length-append, length-drop, slice_get, replicate, length-take-le, opcode, Command, WriteZeroes, AdminCommand, Verdict, Allowed, Denied, with_bytes, Judgement, action_rule, medium_block, IsLaidOut, extent_of, HasPassed, planned, passes, cycle_keeps_places, Lane, Admin, Io, Asked, FetchedCommand, Controller, QueuePair, queues_of, open_pair, Setting, FinishesOne, FinishesOver, scene_in, CommandComesTo, command-becomes, still, answer-extents, answer-size, FleetEvent, BringUp, Place, Ring, Fetch, Execute, Poll, Reset, RawStore, RawWrite32, PowerCycle, FleetSeen, FetchedItem, Mailbox, lane_of, MailboxReaction, Site, RequestExecution, scene_at, IsServed, IoRequestComesTo, RequestComesToAs, RequestComesTo, action_of, io_judgement, io_verdict, admin_judgement, admin_request_execution_by, admin_request_execution, command_entry, WithDriver, Raw, Fleet, Moment, Step, host_at, with_host, power_cycled, settled, called_at, raw_at, fetched_at, ExecutesItem, ExecutesAt, setting_of, served, performance_of, io_request_execution, request_execution_as, request_execution, executing_item, raw_over, raw_one, raw_execution, executing, fault_free_step, failures_in, RunExists}
 use Rattle.nvme_spec.specs.declared.command.Command.TheVariants.{Write}
 use Rattle.nvme_spec.specs.declared.verdict.Plan.{Plan}
 use Rattle.nvme_spec.specs.Commands as io_commands
@@ -11,9 +11,8 @@ use Rattle.nvme_machine.proofs.Determined as machine_proofs
 use Rattle.nvme_mailbox.specs.Fleets.{Host}
 
 admin-by-calm : (j : Judgement) (command : Option AdminCommand) (s : Site) (k : ℕ) (a : Asked) → (admin_request_execution_by j command s k a).left.device.failures ≡ s.device.failures
-admin-by-calm (Err d) command s k a = refl
-admin-by-calm (Ok u) None s k a = refl
 admin-by-calm (Ok u) (Some command) s k a = refl
+admin-by-calm j command s k a = refl
 
 pub admin-calm : (s : Site) (k : ℕ) (a : Asked) → (admin_request_execution s k a).left.device.failures ≡ s.device.failures
 unfolding admin_request_execution
@@ -39,11 +38,9 @@ lies-same old new e = record {
 -- bytes that are put in where a medium has some leave it no shorter
 put-in : (content : List ℕ) (at : ℕ) (bytes : List ℕ) → at ≤ length content → length content ≤ length (with_bytes content at bytes)
 put-in content at bytes fits =
-    let a = length-append (take at content ++ bytes) (drop (at + length bytes) content) in
-    let b = length-append (take at content) bytes in
     let c = length-take-le at content fits in
     let d = length-drop (at + length bytes) content in
-    omega (arith, a, b, c, d)
+    omega (arith, length-append (take at content ++ bytes) (drop (at + length bytes) content), length-append (take at content) bytes, c, d)
 
 -- what an allowed I/O command is known to have passed
 pub allowed-passes : (s : Site) (k : ℕ) (a : Asked) (marked : Bool) (plan : Plan) → io_verdict s.world k a marked ≡ Allowed plan → HasPassed s.world k (command_entry a) plan.kind
@@ -78,8 +75,7 @@ served-lies : (command : Command) (k : ℕ) (a : Asked) (s : Site) → IsLaidOut
 served-lies command k a s laid p =
     let r = served command k a s (performance_of command k a s) in
     let same = performs-rest true command k (command_entry a) a.sent (scene_at s) (scene_at r.left) r.outcome.status _ (spec.performs command k (command_entry a) a.sent [] (scene_at s) laid p) in
-    let l = same.layout in
-    record { extents = l.extents; size = served-size command k a s laid p }
+    record { extents = same.layout.extents; size = served-size command k a s laid p }
 
 -- an execution that is there, and what it leaves
 record Responds (lane : Lane) (k : ℕ) (a : Asked) (marked : Bool) (s : Site) (r : RequestExecution) : Type 0 where
@@ -95,12 +91,9 @@ io-responds (Allowed plan) k a marked s laid is =
     (served-is plan.kind k a s laid p, served-lies plan.kind k a s laid p, refl)
 
 admin-by-lies : (j : Judgement) (command : Option AdminCommand) (s : Site) (k : ℕ) (a : Asked) → StillLies s (admin_request_execution_by j command s k a).left
-admin-by-lies (Err d) command s k a = lies-same s s refl
-admin-by-lies (Ok u) None s k a = lies-same s s refl
 admin-by-lies (Ok u) (Some command) s k a =
-    let kept = still s.world _ (command-becomes s.world (command_entry a) a.sent command) in
-    let e = kept.extents in
-    record { extents = e.extents; size = omega arith }
+    record { extents = (still s.world _ (command-becomes s.world (command_entry a) a.sent command)).extents.extents; size = omega arith }
+admin-by-lies j command s k a = lies-same s s refl
 
 admin-lies : (s : Site) (k : ℕ) (a : Asked) → StillLies s (admin_request_execution s k a).left
 unfolding admin_request_execution
@@ -175,21 +168,18 @@ elsewhere s m = record { fleet = record { site = s; hosts = m.fleet.hosts }; rep
 
 called-elsewhere : (o : Option Host) (f : Fleet) (s : Site) (k : ℕ) (call : Mailbox → MailboxReaction) → called_at o (record f { site = s }) k call ≡ elsewhere s (called_at o f k call)
 unfolding with_host
-called-elsewhere None f s k call = refl
 called-elsewhere (Some (WithDriver m)) f s k call = refl
-called-elsewhere (Some (Raw c)) f s k call = refl
+called-elsewhere o f s k call = refl
 
 raw-elsewhere : (o : Option Host) (f : Fleet) (s : Site) (k : ℕ) (change : Controller → Controller) (what : FleetSeen) → raw_at o (record f { site = s }) k change what ≡ elsewhere s (raw_at o f k change what)
 unfolding with_host
-raw-elsewhere None f s k change what = refl
-raw-elsewhere (Some (WithDriver m)) f s k change what = refl
 raw-elsewhere (Some (Raw c)) f s k change what = refl
+raw-elsewhere o f s k change what = refl
 
 fetched-elsewhere : (o : Option Host) (f : Fleet) (s : Site) (k q : ℕ) → fetched_at o (record f { site = s }) k q ≡ elsewhere s (fetched_at o f k q)
 unfolding with_host
-fetched-elsewhere None f s k q = refl
-fetched-elsewhere (Some (WithDriver m)) f s k q = refl
 fetched-elsewhere (Some (Raw c)) f s k q = refl
+fetched-elsewhere o f s k q = refl
 
 -- neither an execution nor a power cycle
 abbrev pub IsOther : FleetEvent → Type 0

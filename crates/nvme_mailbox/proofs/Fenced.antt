@@ -13,17 +13,14 @@ reserved w v x k h = subst (IsReserved (nsid x.entry) w) (sym h.leaves) (is-rese
 pub hosts-stay : (old new : Fleet) (event : FleetEvent) → Acts old new event → (k : ℕ) → host_of new.site.world k ≡ host_of old.site.world k
 hosts-stay old new event (Rests h) k = let e = h.extents in e.hosts k
 hosts-stay old new event (Reserves j i number is x found numbered h) k =
-    let r = reserved old.site.world new.site.world x number h in
-    let l = r.layout in
-    l.hosts k
+    (reserved old.site.world new.site.world x number h).layout.hosts k
 hosts-stay old new event (Loses is world) k = let places = cycle_keeps_places old.site.world in ap (λ w. host_of w k) world ∙ places.hosts k
 
 -- the namespaces lie where they lay
 pub extents-stay : (old new : Fleet) (event : FleetEvent) → Acts old new event → HasSameExtents old.site.world new.site.world
 extents-stay old new event (Rests h) = h.extents
 extents-stay old new event (Reserves j i number is x found numbered h) =
-    let r = reserved old.site.world new.site.world x number h in
-    let l = r.layout in
+    let l = (reserved old.site.world new.site.world x number h).layout in
     record { hosts = l.hosts; extents = l.extents }
 extents-stay old new event (Loses is world) =
     let places = cycle_keeps_places old.site.world in
@@ -83,7 +80,5 @@ permissions_stay tells old new events later n run k = absurd run
 
 -- a run where each event is so, is a run
 pub plainly : (P : Fleet → FleetEvent → Type 0) (tells : Bool) (old new : Fleet) (events : List FleetEvent) (replies : List Reply) → RunWhere P tells old events replies new → Run tells old events replies new
-plainly P tells old new [] [] run = run
-plainly P tells old new [] (x ∷ later) run = run
-plainly P tells old new (event ∷ events) [] run = run
 plainly P tells old new (event ∷ events) (x ∷ later) run = (run.0, run.2, plainly P tells run.0 new events later run.3)
+plainly P tells old new events later run = run

@@ -16,9 +16,8 @@ set-here (x ∷ hs) zero g h at = refl
 set-here (x ∷ hs) (suc i) g h at = set-here hs i g h at
 
 pub replaced-other : (hs : List Host) (j k : ℕ) (h : Host) → j ≢ k → numbered (replaced hs j h) k ≡ numbered hs k
-replaced-other hs zero k h other = refl
-replaced-other hs (suc j) zero h other = refl
 replaced-other hs (suc j) (suc k) h other = set-other hs k j h (λ e. other (ap suc e))
+replaced-other hs j k h other = refl
 
 pub replaced-here : (hs : List Host) (k : ℕ) (g h : Host) → numbered hs k ≡ Some g → numbered (replaced hs k h) k ≡ Some h
 replaced-here hs zero g h at = absurd (cc)
@@ -42,20 +41,15 @@ pub cycled-at : (f : Fleet) (k : ℕ) → host_at (power_cycled f) k ≡ option_
 unfolding host_at power_cycled
 cycled-at f k = cycled-numbered f.hosts k
 
-pub cycled-host : (f : Fleet) (k : ℕ) (h : Host) → host_at f k ≡ Some h → host_at (power_cycled f) k ≡ Some (host_cycled h)
-cycled-host f k h at = cycled-at f k ∙ ap (option_map host_cycled) at
-
 -- an event of another host
 
 pub called-other : (o : Option Host) (f : Fleet) (j k : ℕ) (call : Mailbox → MailboxReaction) → j ≢ k → host_at (called_at o f j call).fleet k ≡ host_at f k
-called-other None f j k call other = refl
 called-other (Some (WithDriver m)) f j k call other = other-set f j k _ other
-called-other (Some (Raw c)) f j k call other = refl
+called-other o f j k call other = refl
 
 pub raw-other : (o : Option Host) (f : Fleet) (j k : ℕ) (change : Controller → Controller) (what : FleetSeen) → j ≢ k → host_at (raw_at o f j change what).fleet k ≡ host_at f k
-raw-other None f j k change what other = refl
-raw-other (Some (WithDriver m)) f j k change what other = refl
 raw-other (Some (Raw c)) f j k change what other = other-set f j k _ other
+raw-other o f j k change what other = refl
 
 pub fetched-other : (o : Option Host) (f : Fleet) (j k q : ℕ) → j ≢ k → host_at (fetched_at o f j q).fleet k ≡ host_at f k
 fetched-other None f j k q other = refl

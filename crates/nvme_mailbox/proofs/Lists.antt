@@ -19,7 +19,7 @@ all-get P (y ∷ xs) zero x h a = subst P (same_Some y x h) a.0
 all-get P (y ∷ xs) (suc i) x h a = all-get P xs i x h a.1
 
 pub all-removed : {A : Type 0} (P : A → Type 0) (xs : List A) (i : ℕ) → AllByRecursion P xs → AllByRecursion P (remove xs i)
-all-removed P [] zero a = tt
-all-removed P [] (suc i) a = tt
 all-removed P (x ∷ xs) zero a = a.1
 all-removed P (x ∷ xs) (suc i) a = (a.0, all-removed P xs i a.1)
+all-removed P [] (suc i) a = tt
+all-removed P [] zero a = tt

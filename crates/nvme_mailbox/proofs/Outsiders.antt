@@ -119,11 +119,9 @@ command-out command r by e keys host other h = tt
 pub outcome-out : (command : Option Command) (space : Option Namespace) (sender : Option ℕ) (e keys : List ℕ) (host : ℕ)
     → (command ≡ Some ReservationRegister → sender ≢ Some host) → ((m : Namespace) → space ≡ Some m → IsOut host m.reservation)
     → IfActs (KeepsOut host) (outcome_in command space sender e keys)
-outcome-out None space sender e keys host other h = tt
-outcome-out (Some command) None sender e keys host other h = tt
-outcome-out (Some command) (Some m) None e keys host other h = tt
 outcome-out (Some command) (Some m) (Some by) e keys host other h =
     command-out command m.reservation by e keys host (λ is same. other (ap Some is) (ap Some same)) (h m refl)
+outcome-out command space sender e keys host other h = tt
 
 -- A preempt removes, and those it removed have no key.
 abbrev pub Removes : ℕ → ActionOutcome → Type 0
@@ -140,11 +138,10 @@ preempt-removes r by type key victim host =
 pub outcome-removes : (space : Option Namespace) (sender : Option ℕ) (e keys : List ℕ) (host : ℕ) → (action e == 0) ≡ false
     → IfActs (Removes host) (outcome_in (Some ReservationAcquire) space sender e keys)
 unfolding action_outcome
-outcome-removes None sender e keys host is = tt
-outcome-removes (Some m) None e keys host is = tt
 outcome-removes (Some m) (Some by) e keys host is =
     subst (λ b. Removes host (if b then resv.acquire m.reservation by (rtype e) (current_key keys) else resv.preempt m.reservation by (rtype e) (current_key keys) (other_key keys)))
     (sym is) (preempt-removes m.reservation by (rtype e) (current_key keys) (other_key keys) host)
+outcome-removes space sender e keys host is = tt
 
 -- Worlds.
 
@@ -169,23 +166,21 @@ reserved-in next n (m ∷ ms) r h = by (m.nsid == n) refl (reserved-in next n ms
 pub removed-world : (w : World) (a n host : ℕ) (o : Option ActionOutcome) → a ≡ n → IfActs (Removes host) o → list_any (λ h. h == host) (removed_by o) ≡ true
     → IsOutside (world_after w a o) n host
 unfolding reservation_of namespace_of
-removed-world w a n host None same h gone = absurd (cc)
-removed-world w a n host (Some (Err why)) same h gone = absurd (cc)
 removed-world w a n host (Some (Ok t)) same h gone = λ r at.
     let is : r ≡ t.next = reserved-in t.next n w.namespaces r (subst (λ m. reservation_of (with_reservation w m t.next) n ≡ Some r) same at) in
     ap (λ x. is_registered x.registrants host) is ∙ h gone
+removed-world w a n host o same h gone = absurd (cc)
 
 -- what a command on namespace a makes of those without a key for namespace n
 pub world-out : (w : World) (a n host : ℕ) (o : Option ActionOutcome) → IsOutside w n host → (a ≡ n → IfActs (KeepsOut host) o) → IsOutside (world_after w a o) n host
 unfolding reservation_of namespace_of
-world-out w a n host None h k = h
-world-out w a n host (Some (Err why)) h k = h
 world-out w a n host (Some (Ok t)) h k = λ r at. elim (cases_Bool (a == n)) [
   | inl here ↦ (let same = eqb-true a n here in
       let is : r ≡ t.next = reserved-in t.next n w.namespaces r (subst (λ m. reservation_of (with_reservation w m t.next) n ≡ Some r) same at) in
       ap (λ x. is_registered x.registrants host) is ∙ k same)
   | inr there ↦ h r (ap (λ x. option_map (λ (m : Namespace). m.reservation) x) (sym (others-reserved w a t.next n (λ same. eqb-false a n there (sym same)))) ∙ at)
 ]
+world-out w a n host o h k = h
 
 -- Permissions.
 
@@ -205,5 +200,4 @@ pub outsider-shut : (o : Option Namespace) (host : ℕ) (r : Reservation) → op
     → permits_group o (Some host) Writing ≡ false
 outsider-shut None host r at out held = absurd (none-some _ at)
 outsider-shut (Some m) host r at out held =
-    let same : m.reservation ≡ r = same_Some _ _ at in
-    ap (λ (x : Reservation). is_permitted x.hold (resv.role_of x host) Writing) same ∙ (rw (out) (held-shuts r.hold held))
+    ap (λ (x : Reservation). is_permitted x.hold (resv.role_of x host) Writing) (same_Some _ _ at) ∙ (rw (out) (held-shuts r.hold held))

@@ -16,11 +16,7 @@ use Rattle.nvme_machine.proofs.PowerCycles.{persists-still}
 exactly : (m : Mailbox) (t : ℕ) → times t (reset m).mailbox.aborted ≡ times t (held_tickets m)
 exactly m t =
     let f = resets (is_ticket t) m in
-    let a = held-weigh (is_ticket t) m in
-    let p = f.waits in
-    let q = f.answered in
-    let r = f.aborts in
-    omega (arith, a, p, q, r)
+    omega (arith, held-weigh (is_ticket t) m, f.waits, f.answered, f.aborts)
 
 pub power_aborts : PowerAborts
 power_aborts tells old new reply step k m at =
@@ -30,8 +26,7 @@ power_aborts tells old new reply step k m at =
 pub done_since_power : DoneSincePower
 done_since_power tells before old mid new cycle first events replies run k m at reply step ticket dw0 len status says =
     let one = power_aborts tells before old cycle first k m at in
-    let is = one.2 in
-    done_is_its_execution tells old mid new events replies run k one.0 one.1 is.clear reply step ticket dw0 len status says
+    done_is_its_execution tells old mid new events replies run k one.0 one.1 one.2.clear reply step ticket dw0 len status says
 
 -- Reservations.
 
@@ -64,13 +59,11 @@ persistence_lasts tells old new events later n p run = absurd run
 
 pub fencing_outlasts_power : FencingOutlastsPower
 fencing_outlasts_power tells old mid new events replies n k i x outcome all p shut run found is step =
-    let lasts = persistence_lasts tells old mid events replies n p run in
-    refused.fencing_holds tells old mid new events replies n k i x outcome all shut lasts.0 found is step
+    refused.fencing_holds tells old mid new events replies n k i x outcome all shut (persistence_lasts tells old mid events replies n p run).0 found is step
 
 pub secrecy_outlasts_power : SecrecyOutlastsPower
 secrecy_outlasts_power old new medium events replies n regular differ p run shut =
-    let lasts = persistence_lasts true old new events replies n p run in
-    fenced_reading old new medium events replies n regular differ lasts.0 shut
+    fenced_reading old new medium events replies n regular differ (persistence_lasts true old new events replies n p run).0 shut
 
 pub replies_outlast_power : RepliesOutlastPower
 replies_outlast_power old new other medium events replies others n regular differ p run shut second calm quiet low =

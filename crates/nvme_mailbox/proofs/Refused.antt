@@ -1,5 +1,5 @@
 -- A fenced write is denied.
-use Rattle.nvme_mailbox.proofs.Words.{◌≡◌, ℕ, ◌==◌, ◌||◌, ◌&&◌, ◌++◌, Bool, true, false, not, List, [], ◌∷◌, take, Option, None, Some, Ok, Err, refl, ap, subst, ◌∙◌, slice_get, none-some, same_Some, opcode, nsid, Read as Reading, Write as Writing, Outcome, command_of, data_length_of, is_one_of, readers, writers, pointer_rule, denial_outcome, access_rules, permits_group, reservation_rule, protection_rule, range_rule, may_write, Judgement, Rule, judgement_by, else_by, first_failing, World, host_of, namespace_of, first_failing-append, Lane, Admin, Io, FetchedCommand, Posted, Controller, denied-verdict, Execute, FetchedItem, lane_of, plain, io_judgement, action_of, WithDriver, Raw, Fleet, Step, host_at, IoCommand, asked_command, raw_command, asked_by, sent_by, command_in, AreNumbered, IsExecutedBy, IsOn, LeavesReservation, conflict_unless, fenced, FencedWritesAreDenied, FencingHolds}
+use Rattle.nvme_mailbox.proofs.Words.{◌≡◌, ℕ, ◌==◌, ◌&&◌, ◌++◌, Bool, true, false, not, List, [], ◌∷◌, take, Option, None, Some, Ok, Err, refl, ap, subst, ◌∙◌, slice_get, none-some, same_Some, opcode, nsid, Read as Reading, Write as Writing, Outcome, command_of, data_length_of, is_one_of, readers, writers, pointer_rule, denial_outcome, access_rules, permits_group, reservation_rule, protection_rule, range_rule, may_write, Judgement, Rule, judgement_by, else_by, first_failing, World, host_of, namespace_of, first_failing-append, Lane, Admin, Io, FetchedCommand, Posted, Controller, denied-verdict, Execute, FetchedItem, lane_of, plain, io_judgement, action_of, WithDriver, Raw, Fleet, Step, host_at, IoCommand, asked_command, raw_command, asked_by, sent_by, command_in, AreNumbered, IsExecutedBy, IsOn, LeavesReservation, conflict_unless, fenced, FencedWritesAreDenied, FencingHolds}
 use Rattle.nvme_mailbox.specs.Fleets.{Host}
 use Rattle.nvme_spec.specs.declared.verdict.Denial.{Denial}
 use Rattle.nvme_spec.specs.IoData as spec
@@ -9,12 +9,9 @@ use Rattle.nvme_mailbox.specs.IoCommands.{asked_in, command_at}
 use Rattle.nvme_mailbox.proofs.IoExecutions.{is-io, executed_as_the_policy_allows}
 use Rattle.nvme_mailbox.proofs.Fenced.{permissions_stay, plainly}
 use Rattle.nvme_mailbox.proofs.Numbered.{numbers_stay}
+use Rattle.std.proofs.Math.Bool.{or-true}
 
 -- A fenced write is denied.
-
-or-true : (b : Bool) → (b || true) ≡ true
-or-true true = refl
-or-true false = refl
 
 conflicts : (w : World) (k : ℕ) (e : List ℕ) → is_one_of (command_of (opcode e)) writers ≡ true → permits_group (namespace_of w (nsid e)) (host_of w k) Writing ≡ false
     → judgement_by (reservation_rule (command_of (opcode e)) (namespace_of w (nsid e)) (host_of w k)) ≡ Err (record { rule = 7; status = status.reservation_conflict })
@@ -65,8 +62,7 @@ by-item (Some y) w k x found = in-lane (lane_of y.item) w k y x found
 by-raw : (o : Option FetchedCommand) (w : World) (k : ℕ) (c : Controller) (x : IoCommand) → c.cntlid ≡ k → sent_by w c o ≡ Some x → IsJudged w k x
 by-raw None w k c x is found = absurd (none-some _ found)
 by-raw (Some t) w k c x is found =
-    let io = is-io (t.queue == 0) x (raw_command w c t) found in
-    subst (λ n. IsJudged w n x) is (subst (IsJudged w c.cntlid) io.1 (raw-judged w c t))
+    subst (λ n. IsJudged w n x) is (subst (IsJudged w c.cntlid) (is-io (t.queue == 0) x (raw_command w c t) found).1 (raw-judged w c t))
 
 judged : (o : Option Host) (f : Fleet) (k i : ℕ) (x : IoCommand) → AreNumbered f → host_at f k ≡ o → command_in o f.site.world k i ≡ Some x → IsJudged f.site.world k x
 judged None f k i x all at found = absurd (none-some _ found)

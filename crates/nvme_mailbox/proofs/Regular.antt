@@ -1,5 +1,5 @@
 -- An opening is regular, and a fleet stays so.
-use Rattle.nvme_mailbox.proofs.Words.{false≢true, ◌≡◌, ℕ, ◌==◌, ◌≤◌, ◌<◌, ◌-◌, ◌^◌, ◌*◌, ◌%◌, ◌/◌, Bool, true, false, [], ◌∷◌, length, Option, None, Some, Ok, Err, refl, sym, ap, subst, ◌∙◌, arith, submission_entry, opcode, cdw12, most_bytes, Command, Compare, AdminCommand, Verdict, Allowed, Denied, Device, block_count, command_of, data_length_of, is_one_of, IsLaidOut, Judgement, Lane, Admin, Io, Request, Asked, asked_of, is_bad, CommandComesTo, queues_of, scene_in, answer-size, BringsItsData, performed-size, FleetEvent, Reply, Item, lane_of, RequestComesTo, RequestComesToAs, IoRequestComesTo, RequestExecution, Site, admin_judgement, admin_request_execution, admin_request_execution_by, command_entry, io_verdict, scene_at, Fleet, Step, opening, setting_of, IsRegular, OpeningIsRegular, RegularityStays, WasTaken}
+use Rattle.nvme_mailbox.proofs.Words.{false≢true, ◌≡◌, ℕ, ◌==◌, ◌≤◌, ◌<◌, ◌-◌, ◌^◌, ◌*◌, ◌%◌, ◌/◌, Bool, true, false, [], ◌∷◌, length, Option, Some, Ok, refl, sym, ap, subst, ◌∙◌, arith, submission_entry, opcode, cdw12, most_bytes, Command, Compare, AdminCommand, Verdict, Allowed, Denied, Device, block_count, command_of, data_length_of, is_one_of, IsLaidOut, Judgement, Lane, Admin, Io, Request, Asked, asked_of, is_bad, CommandComesTo, queues_of, scene_in, answer-size, BringsItsData, performed-size, FleetEvent, Reply, Item, lane_of, RequestComesTo, RequestComesToAs, IoRequestComesTo, RequestExecution, Site, admin_judgement, admin_request_execution, admin_request_execution_by, command_entry, io_verdict, scene_at, Fleet, Step, opening, setting_of, IsRegular, OpeningIsRegular, RegularityStays, WasTaken}
 use Rattle.std.proofs.lemmas.Nat.{from_le_bytes-to_le_bytes_4}
 use Rattle.nvme_spec.specs.declared.command.Command.TheVariants.{Write}
 use Rattle.nvme_spec.specs.AdminCommands as admin_commands
@@ -34,8 +34,7 @@ alike a x is long command named one = long ∙ ap (λ o. data_length_of o (comma
 blocks-brought : (a : Asked) (n : ℕ) → length a.sent ≡ n → n % 512 ≡ 0 → n ≤ most_bytes → 1 ≤ n → a.command.cdw12 ≡ n / 512 - 1 → length a.sent ≡ 512 * block_count (command_entry a)
 unfolding block_count
 blocks-brought a n long parts most some word =
-    let w = word-12 a (omega (arith, word, most)) in
-    omega (arith, long, parts, most, some, word, w)
+    omega (arith, long, parts, most, some, word, word-12 a (omega (arith, word, most)))
 
 brings-own : (r : Request) → is_bad r ≡ false → BringsItsOwn (asked_of r)
 unfolding command_entry submission_entry opcode command_of
@@ -58,9 +57,8 @@ abbrev SameSize : Site → Site → Type 0
 SameSize old new = length new.device.content ≡ length old.device.content
 
 admin-by-device : (j : Judgement) (command : Option AdminCommand) (s : Site) (k : ℕ) (a : Asked) → (admin_request_execution_by j command s k a).left.device ≡ s.device
-admin-by-device (Err d) command s k a = refl
-admin-by-device (Ok u) None s k a = refl
 admin-by-device (Ok u) (Some command) s k a = refl
+admin-by-device j command s k a = refl
 
 pub admin-device : (s : Site) (k : ℕ) (a : Asked) → (admin_request_execution s k a).left.device ≡ s.device
 unfolding admin_request_execution

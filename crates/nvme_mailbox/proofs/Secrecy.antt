@@ -1,5 +1,5 @@
 -- Hosts of a fleet that may not read a namespace learn nothing of its bytes.
-use Rattle.nvme_mailbox.proofs.Words.{AllByRecursion, fault_free_step, ◌≡◌, ◌<◌, ◌-◌, ◌^◌, ℕ, Bool, true, false, List, [], ◌∷◌, Option, None, Some, Ok, Err, refl, sym, ap, subst, ◌∙◌, slice_get, opcode, AdminCommand, Verdict, Allowed, Denied, Device, reserving, IsLaidOut, may_read, Judgement, World, Lane, Admin, Io, Asked, FetchedCommand, Executed, CommandExecution, Controller, QueuePair, open_pair, queues_of, FinishesOne, FinishesOver, Setting, scene_in, DifferIn, after_completion, Mirrors, command_execution_over, answers-over, performs, differ-still, FleetEvent, Execute, PowerCycle, OfItsHost, Reply, FetchedItem, Mailbox, lane_of, RequestComesTo, RequestComesToAs, IoRequestComesTo, RequestExecution, Site, admin_judgement, admin_request_execution, admin_request_execution_by, command_entry, io_verdict, scene_at, Allows, Forgets, LeavesReservation, Moment, ExecutesAt, ExecutesItem, ExecutesRaw, Fleet, Is, Raw, Step, WithDriver, after_answer, after_execution, after_raw, host_at, power_cycled, setting_of, settled, IsRegular, WasTaken, FencedReading, FencedReadingIsSame, MayNotRead, site_over}
+use Rattle.nvme_mailbox.proofs.Words.{AllByRecursion, fault_free_step, ◌≡◌, ◌<◌, ◌-◌, ◌^◌, ℕ, Bool, true, false, List, [], ◌∷◌, Option, None, Some, Ok, refl, sym, ap, subst, ◌∙◌, slice_get, opcode, AdminCommand, Verdict, Allowed, Denied, Device, reserving, IsLaidOut, may_read, Judgement, World, Lane, Admin, Io, Asked, FetchedCommand, Executed, CommandExecution, Controller, QueuePair, open_pair, queues_of, FinishesOne, FinishesOver, Setting, scene_in, DifferIn, after_completion, Mirrors, command_execution_over, answers-over, performs, differ-still, FleetEvent, Execute, PowerCycle, OfItsHost, Reply, FetchedItem, Mailbox, lane_of, RequestComesTo, RequestComesToAs, IoRequestComesTo, RequestExecution, Site, admin_judgement, admin_request_execution, admin_request_execution_by, command_entry, io_verdict, scene_at, Allows, Forgets, LeavesReservation, Moment, ExecutesAt, ExecutesItem, ExecutesRaw, Fleet, Is, Raw, Step, WithDriver, after_answer, after_execution, after_raw, host_at, power_cycled, setting_of, settled, IsRegular, WasTaken, FencedReading, FencedReadingIsSame, MayNotRead, site_over}
 use Rattle.nvme_mailbox.specs.Fleets.{Host}
 use Rattle.nvme_spec.specs.AdminCommands as admin_commands
 use Rattle.nvme_mailbox.specs.IoCommands.{command_at}
@@ -28,9 +28,8 @@ same-device : (n : ℕ) (w : World) (old new d : Device) → DifferIn n w old d 
 same-device n w old new d differ is = subst (λ x. DifferIn n w x d) (sym is) differ
 
 admin-by-over : (j : Judgement) (command : Option AdminCommand) (s : Site) (k : ℕ) (a : Asked) (d : Device) → request_execution_over d (admin_request_execution_by j command s k a) ≡ admin_request_execution_by j command (site_over d s) k a
-admin-by-over (Err e) command s k a d = refl
-admin-by-over (Ok u) None s k a d = refl
 admin-by-over (Ok u) (Some command) s k a d = refl
+admin-by-over j command s k a d = refl
 
 admin-over : (s : Site) (k : ℕ) (a : Asked) (d : Device) → request_execution_over d (admin_request_execution s k a) ≡ admin_request_execution (site_over d s) k a
 unfolding admin_request_execution
@@ -126,8 +125,7 @@ executes-over None n old new k i reply d regular differ fenced at h = (d, (h.0, 
 executes-over (Some (WithDriver m)) n old new k i reply d regular differ fenced at h =
     item-over (slice_get m.fetched i) n old new k m i reply d regular.laid differ fenced (λ x found. at-place old k i m x regular.taken at found) h
 executes-over (Some (Raw c)) n old new k i reply d regular differ fenced at h =
-    let number : c.cntlid ≡ k = regular.numbers k (Raw c) at in
-    command-over n old new k c i reply d regular.laid differ (ap (λ j. may_read old.site.world j n) number ∙ fenced) h
+    command-over n old new k c i reply d regular.laid differ (ap (λ j. may_read old.site.world j n) (regular.numbers k (Raw c) at) ∙ fenced) h
 
 -- Events.
 

@@ -54,16 +54,13 @@ rests Rise m u h = up-rests (moved Rise m) refl
 rests (Take request) m taken h = up-rests _ (box-up _ _ _ ∙ is-ready m.up _ taken)
 rests RingBoth m up h = up-rests (moved RingBoth m) up
 rests (FetchFirst lane x rest) m is h = λ down.
-    let e = lane-empty lane m (h (sym (box-up lane _ _) ∙ down)) in
-    absurd (filled x rest (sym is ∙ e.rung))
+    absurd (filled x rest (sym is ∙ (lane-empty lane m (h (sym (box-up lane _ _) ∙ down))).rung))
 rests (HandUp lane x rest) m is h = λ down.
-    let e = lane-empty lane m (h (sym (box-up lane _ m) ∙ down)) in
-    absurd (filled x rest (sym is ∙ e.posted))
+    absurd (filled x rest (sym is ∙ (lane-empty lane m (h (sym (box-up lane _ m) ∙ down))).posted))
 rests (Free t ts) m is h = λ down. let i = h down in record { admin = i.admin; io = i.io; fetched = i.fetched }
 rests (Clear what) m q h = λ down. record { admin = none; io = none; fetched = refl }
 rests (Answer i x r) m at h = λ down.
-    let idle = h (sym (box-up (lane_of x.item) _ _) ∙ down) in
-    absurd (none-some _ (sym (ap (λ xs. slice_get xs i) idle.fetched) ∙ at))
+    absurd (none-some _ (sym (ap (λ xs. slice_get xs i) (h (sym (box-up (lane_of x.item) _ _) ∙ down)).fetched) ∙ at))
 
 -- Of all hosts.
 

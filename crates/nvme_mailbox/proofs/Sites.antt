@@ -25,9 +25,7 @@ over : (o : Option QueuePair) (tells : Bool) (old new : Fleet) (k : ℕ) (c : Co
     → FinishesOver o tells i t (setting_of old c) executed left → new.site ≡ site_of left → Leaves tells old new (Execute k i)
 over None tells old new k c i t executed left at found h leaves = AsItWas (leaves ∙ ap site_of h.1)
 over (Some p) tells old new k c i t executed left at found h leaves =
-    let w = h.world in
-    let d = h.device in
-    ByCommand k i refl c t h.execution at found h.comes_to (leaves ∙ λ j. record { world = w j; device = d j })
+    ByCommand k i refl c t h.execution at found h.comes_to (leaves ∙ λ j. record { world = h.world j; device = h.device j })
 
 one : (o : Option FetchedCommand) (tells : Bool) (old new : Fleet) (k : ℕ) (c : Controller) (i : ℕ) (executed : Executed) (left : Setting) → host_at old k ≡ Some (Raw c) → slice_get c.fetched i ≡ o
     → FinishesOne o tells i (setting_of old c) executed left → new.site ≡ site_of left → Leaves tells old new (Execute k i)

@@ -1,5 +1,5 @@
 -- Tickets are given in order, and go once.
-use Rattle.nvme_mailbox.proofs.Words.{◌≡◌, inl, inr, ℕ, zero, suc, ◌+◌, ◌≤◌, nat_lt, Bool, true, false, List, [], ◌∷◌, ◌++◌, map, Some, refl, sym, ap, subst, ◌∙◌, arith, if◌then◌else◌, slice_get, slice_get-map, option_map, common_steps, length-map, ControllerConfig, new_controller, Lane, Admin, Io, FleetEvent, Reply, concerns, Item, FetchedItem, PostedAnswer, LaneBox, Mailbox, with_box, lane_of, new_mailbox, Site, WithDriver, Raw, Fleet, Run, host_at, after_answer, new_host, numbered, opening, HasMailbox, MailboxStep, given_in, given, done, aborted, along, held_tickets, waiting_tickets, answered_tickets, Balance, counting, TicketsAreConsecutive, is_ticket, times, below, GoesOnce, EachTicketGoesOnce, EachIsHeldOnce, NewHoldsEachOnce, OpeningHasDrivers, OpeningIsNew, TicketsOfAnOpeningGoOnce, HeldAreCounted, waiting, posted_answers, requests_in}
+use Rattle.nvme_mailbox.proofs.Words.{◌≡◌, inl, inr, ℕ, zero, suc, ◌+◌, ◌≤◌, nat_lt, Bool, true, false, List, [], ◌∷◌, ◌++◌, map, Some, refl, sym, ap, subst, ◌∙◌, arith, if◌then◌else◌, slice_get, slice_get-map, option_map, common_steps, length-map, ControllerConfig, new_controller, Lane, Admin, Io, FleetEvent, Reply, concerns, LaneBox, Mailbox, with_box, lane_of, new_mailbox, Site, WithDriver, Raw, Fleet, Run, host_at, after_answer, new_host, numbered, opening, HasMailbox, MailboxStep, given_in, given, done, aborted, along, held_tickets, waiting_tickets, answered_tickets, Balance, counting, TicketsAreConsecutive, is_ticket, times, below, GoesOnce, EachTicketGoesOnce, EachIsHeldOnce, NewHoldsEachOnce, OpeningHasDrivers, OpeningIsNew, TicketsOfAnOpeningGoOnce, HeldAreCounted, waiting, posted_answers}
 use Rattle.std.proofs.lemmas.List.{length-append}
 use Rattle.nvme_mailbox.proofs.MailboxMarks.{DiffersInMarks, others-differ}
 use Rattle.nvme_mailbox.proofs.Moves.{Move, Stay, Rise, Take, RingBoth, FetchFirst, HandUp, Free, Clear, Answer, May, moved, reply_of, own-moved}
@@ -91,38 +91,27 @@ next-below : (t a : ℕ) → is_ticket t a + below t a ≡ below t (a + 1)
 next-below t a = grind (arith, common_steps)
 
 times-counting : (t a c : ℕ) → times t (counting a c) + below t a ≡ below t (a + c)
-times-counting t a zero =
-    let g : a ≡ a + zero = omega arith in
-    let h = ap (below t) g in
-    omega (arith, h)
+times-counting t a zero = let g : a ≡ a + zero = omega arith in omega (arith, ap (below t) g)
 times-counting t a (suc c) =
-    let e = times-counting t (a + 1) c in
-    let f = next-below t a in
     let g : a + 1 + c ≡ a + suc c = omega arith in
-    let h = ap (below t) g in
-    omega (arith, e, f, h)
+    omega (arith, times-counting t (a + 1) c, next-below t a, ap (below t) g)
 
 -- what is held and what was given, of one ticket, is at most what was given at all
 held-after : (t : ℕ) (m n : Mailbox) (given executed done aborted : List ℕ) → Balance (is_ticket t) m n given executed done aborted → Gives m n given → times t (held_tickets m) ≤ below t m.next
     → times t (held_tickets m) + times t given ≤ below t n.next
 held-after t m n given executed done aborted b g h =
-    let a : times t given + below t m.next ≡ below t (m.next + g.0) = ap (λ xs. times t xs + below t m.next) g.1 ∙ times-counting t m.next g.0 in
-    let c = ap (below t) g.2 in
-    omega (arith, a, c, h)
+    omega (arith, ap (times t) g.1, times-counting t m.next g.0, ap (below t) g.2, h)
 
 goes-once : (t : ℕ) (m n : Mailbox) (given executed done aborted : List ℕ) → Balance (is_ticket t) m n given executed done aborted → Gives m n given → times t (held_tickets m) ≤ below t m.next
     → GoesOnce t n given executed done aborted
 goes-once t m n given executed done aborted b g h =
-    let p = b.held in
-    let q = b.waits in
     let a = held-after t m n given executed done aborted b g h in
     let d = below-small t n.next in
-    let x = total-append (is_ticket t) (waiting_tickets m ++ answered_tickets m) m.aborted in
     let y = total-append (is_ticket t) (waiting_tickets m) (answered_tickets m) in record {
       given_once = omega (arith, a, d);
-      executed_once = omega (arith, q, a, d, x, y);
-      handed_up_once = omega (arith, p, a, d);
-      kept = omega (arith, p);
+      executed_once = omega (arith, b.waits, a, d, total-append (is_ticket t) (waiting_tickets m ++ answered_tickets m) m.aborted, y);
+      handed_up_once = omega (arith, b.held, a, d);
+      kept = omega (arith, b.held);
     }
 
 pub each_ticket_goes_once : EachTicketGoesOnce
@@ -132,11 +121,8 @@ each_ticket_goes_once tells old new events replies run k m n at end once t =
 
 pub each_is_held_once : EachIsHeldOnce
 each_is_held_once tells old new events replies run k m n at end once t =
-    let g = walk k m n tells old events replies new run at end in
     let b = tickets_balance tells old new events replies run k m n at end (is_ticket t) in
-    let a = held-after t m n _ _ _ _ b g (once t) in
-    let p = b.held in
-    omega (arith, a, p)
+    omega (arith, held-after t m n _ _ _ _ b (walk k m n tells old events replies new run at end) (once t), b.held)
 
 pub new_holds_each_once : NewHoldsEachOnce
 unfolding waiting posted_answers
@@ -146,18 +132,7 @@ new_holds_each_once first t = omega arith
 
 pub held_are_counted : HeldAreCounted
 unfolding waiting posted_answers
-held_are_counted m =
-    let a = length-append (waiting_tickets m ++ answered_tickets m) m.aborted in
-    let b = length-append (waiting_tickets m) (answered_tickets m) in
-    let c = length-map (waiting m) (λ (i : Item). i.ticket) in
-    let d = length-map (posted_answers m) (λ (a : PostedAnswer). a.ticket) in
-    let e = length-append m.admin.posted m.io.posted in
-    let f = length-append (requests_in m.admin ++ requests_in m.io) (map (λ (f : FetchedItem). f.item) m.fetched) in
-    let g = length-append (requests_in m.admin) (requests_in m.io) in
-    let h = length-append m.admin.placed m.admin.rung in
-    let i = length-append m.io.placed m.io.rung in
-    let j = length-map m.fetched (λ (f : FetchedItem). f.item) in
-    omega (arith, a, b, c, d, e, f, g, h, i, j)
+held_are_counted m = simp (length-append, length-map) (omega arith)
 
 -- Openings.
 

@@ -1,5 +1,5 @@
 -- What becomes of tickets in one event of their host.
-use Rattle.nvme_mailbox.proofs.Words.{reset, ◌≡◌, inl, inr, ℕ, ◌+◌, nat_le, Bool, true, false, List, [], ◌∷◌, ◌++◌, map, Some, refl, sym, ap, subst, arith, if◌then◌else◌, slice_get, Lane, Admin, Io, asked_of, Item, FetchedItem, PostedAnswer, LaneBox, Mailbox, box_at, with_box, lane_of, tickets_in, ranked, rising, open_tickets, names, with_mark, new_item, with_placed, RequestExecution, after_answer, with_posted, answer_for, total, waiting, posted_answers, requests_in, waiting_tickets, answered_tickets, held_tickets, given_in, done_in, aborted_in, Posted, FleetSeen, where_posted, remove}
+use Rattle.nvme_mailbox.proofs.Words.{reset, ◌≡◌, inl, inr, ℕ, ◌+◌, nat_le, Bool, true, false, List, [], ◌∷◌, map, Some, refl, sym, ap, subst, arith, if◌then◌else◌, slice_get, Lane, Admin, Io, asked_of, Item, FetchedItem, PostedAnswer, LaneBox, Mailbox, box_at, with_box, lane_of, tickets_in, ranked, rising, open_tickets, names, with_mark, new_item, with_placed, RequestExecution, after_answer, with_posted, total, waiting, posted_answers, waiting_tickets, answered_tickets, held_tickets, given_in, done_in, aborted_in, Posted, FleetSeen, where_posted, remove}
 use Rattle.nvme_mailbox.specs.Mailboxes.{with_marks}
 use Rattle.nvme_event.specs.declared.seen.FleetSeen.TheVariants as seen
 use Rattle.nvme_mailbox.proofs.MailboxMarks.{DiffersInMarks}
@@ -29,29 +29,14 @@ total-map f g (x ∷ xs) = ap (λ n. f (g x) + n) (total-map f g xs)
 
 pub waits-weigh : (w : ℕ → ℕ) (m : Mailbox) → total w (waiting_tickets m) ≡ waits w m
 unfolding waiting
-waits-weigh w m =
-    let a = total-map w (λ (i : Item). i.ticket) (waiting m) in
-    let b = total-append (λ (i : Item). w i.ticket) (requests_in m.admin ++ requests_in m.io) (map (λ (f : FetchedItem). f.item) m.fetched) in
-    let c = total-append (λ (i : Item). w i.ticket) (requests_in m.admin) (requests_in m.io) in
-    let d = total-append (λ (i : Item). w i.ticket) m.admin.placed m.admin.rung in
-    let e = total-append (λ (i : Item). w i.ticket) m.io.placed m.io.rung in
-    let f = total-map (λ (i : Item). w i.ticket) (λ (f : FetchedItem). f.item) m.fetched in
-    omega (arith, a, b, c, d, e, f)
+waits-weigh w m = simp (total-map, total-append) (omega arith)
 
 pub posts-weigh : (w : ℕ → ℕ) (m : Mailbox) → total w (answered_tickets m) ≡ posts w m
 unfolding posted_answers
-posts-weigh w m =
-    let a = total-map w (λ (a : PostedAnswer). a.ticket) (posted_answers m) in
-    let b = total-append (λ (a : PostedAnswer). w a.ticket) m.admin.posted m.io.posted in
-    omega (arith, a, b)
+posts-weigh w m = simp (total-map, total-append)
 
 pub held-weigh : (w : ℕ → ℕ) (m : Mailbox) → total w (held_tickets m) ≡ waits w m + posts w m + total w m.aborted
-held-weigh w m =
-    let a = total-append w (waiting_tickets m ++ answered_tickets m) m.aborted in
-    let b = total-append w (waiting_tickets m) (answered_tickets m) in
-    let c = waits-weigh w m in
-    let d = posts-weigh w m in
-    omega (arith, a, b, c, d)
+held-weigh w m = simp total-append (omega (arith, waits-weigh w m, posts-weigh w m))
 
 -- What was waiting and what was given is waiting, executed or dropped; what was answered and what was executed is answered,
 -- done or lost; what was aborted, dropped and lost is aborted or handed up as such.
@@ -64,19 +49,13 @@ pub record Flow (w : ℕ → ℕ) (m n : Mailbox) (given executed done aborted :
 
 -- one flow behind another
 pub flows-on : (w : ℕ → ℕ) (l m n : Mailbox) (g h e x d y a b : ℕ) → Flow w l m g e d a → Flow w m n h x y b → Flow w l n (g + h) (e + x) (d + y) (a + b)
-flows-on w l m n g h e x d y a b one two =
-    let p = one.waits in
-    let q = one.answered in
-    let r = one.aborts in
-    let s = two.waits in
-    let t = two.answered in
-    let u = two.aborts in record {
-      dropped = one.dropped + two.dropped;
-      lost = one.lost + two.lost;
-      waits = omega (arith, p, s);
-      answered = omega (arith, q, t);
-      aborts = omega (arith, r, u);
-    }
+flows-on w l m n g h e x d y a b one two = record {
+  dropped = one.dropped + two.dropped;
+  lost = one.lost + two.lost;
+  waits = omega (arith, one.waits, two.waits);
+  answered = omega (arith, one.answered, two.answered);
+  aborts = omega (arith, one.aborts, two.aborts);
+}
 
 -- nothing flows where the same requests stand in the mailbox
 pub stays : (w : ℕ → ℕ) (m n : Mailbox) → waits w n ≡ waits w m → posts w n ≡ posts w m → total w n.aborted ≡ total w m.aborted → Flow w m n 0 0 0 0
@@ -99,37 +78,22 @@ taken-marked w ns (x ∷ xs) = λ i. by (names ns x) i + taken-marked w ns xs i
 pub marks_flow : (w : ℕ → ℕ) (m n : Mailbox) → DiffersInMarks m n → Flow w m n 0 0 0 0
 marks_flow w m n (inl e) = subst (λ x. Flow w m x 0 0 0 0) (sym e) (stays w m m refl refl refl)
 marks_flow w m n (inr h) =
-    let e = taken-marked w h.0 m.fetched in
-    subst (λ x. Flow w m x 0 0 0 0) (sym h.1) (stays w m (with_marks h.0 m) (omega (arith, e)) refl refl)
+    subst (λ x. Flow w m x 0 0 0 0) (sym h.1) (stays w m (with_marks h.0 m) (omega (arith, taken-marked w h.0 m.fetched)) refl refl)
 
 -- a request is the last of its lane
 with-request : (w : ℕ → ℕ) (l : Lane) (i : Item) (m : Mailbox) → Flow w m (with_box l (with_placed (box_at l m) i) (record m { next = m.next + 1 })) (w i.ticket + 0) 0 0 0
-with-request w Admin i m =
-    let e = total-append (λ (i : Item). w i.ticket) m.admin.placed (i ∷ []) in
-    record { dropped = 0; lost = 0; waits = omega (arith, e); answered = omega arith; aborts = omega arith }
-with-request w Io i m =
-    let e = total-append (λ (i : Item). w i.ticket) m.io.placed (i ∷ []) in
-    record { dropped = 0; lost = 0; waits = omega (arith, e); answered = omega arith; aborts = omega arith }
+with-request w Admin i m = record { dropped = 0; lost = 0; waits = simp total-append (omega arith); answered = omega arith; aborts = omega arith }
+with-request w Io i m = record { dropped = 0; lost = 0; waits = simp total-append (omega arith); answered = omega arith; aborts = omega arith }
 
 -- a lane's first rung request is fetched
 first-fetched : (w : ℕ → ℕ) (l : Lane) (x : Item) (rest : List Item) (m : Mailbox) → (box_at l m).rung ≡ x ∷ rest → Flow w m (moved (FetchFirst l x rest) m) 0 0 0 0
-first-fetched w Admin x rest m h =
-    let a = total-append (λ (f : FetchedItem). w f.item.ticket) m.fetched (record { item = x; marked = false } ∷ []) in
-    let b = ap (items w) h in
-    stays w m (moved (FetchFirst Admin x rest) m) (omega (arith, a, b)) refl refl
-first-fetched w Io x rest m h =
-    let a = total-append (λ (f : FetchedItem). w f.item.ticket) m.fetched (record { item = x; marked = false } ∷ []) in
-    let b = ap (items w) h in
-    stays w m (moved (FetchFirst Io x rest) m) (omega (arith, a, b)) refl refl
+first-fetched w Admin x rest m h = stays w m (moved (FetchFirst Admin x rest) m) (simp (total-append, h) (omega arith)) refl refl
+first-fetched w Io x rest m h = stays w m (moved (FetchFirst Io x rest) m) (simp (total-append, h) (omega arith)) refl refl
 
 -- the first answer of a lane is handed up
 hands-up : (w : ℕ → ℕ) (l : Lane) (first : PostedAnswer) (rest : List PostedAnswer) (m : Mailbox) → (box_at l m).posted ≡ first ∷ rest → Flow w m (moved (HandUp l first rest) m) 0 0 (w first.ticket + 0) 0
-hands-up w Admin first rest m h =
-    let e = ap (posted w) h in
-    record { dropped = 0; lost = 0; waits = omega arith; answered = omega (arith, e); aborts = omega arith }
-hands-up w Io first rest m h =
-    let e = ap (posted w) h in
-    record { dropped = 0; lost = 0; waits = omega arith; answered = omega (arith, e); aborts = omega arith }
+hands-up w Admin first rest m h = record { dropped = 0; lost = 0; waits = omega arith; answered = simp h (omega arith); aborts = omega arith }
+hands-up w Io first rest m h = record { dropped = 0; lost = 0; waits = omega arith; answered = simp h (omega arith); aborts = omega arith }
 
 -- A reset drops what waits, and loses the answers: both become aborted.
 
@@ -143,40 +107,23 @@ ranked-weighs w t (u ∷ us) = by (ranked-weighs w t us) (nat_le t u)
 
 rising-weighs : (w : ℕ → ℕ) (ts : List ℕ) → total w (rising ts) ≡ total w ts
 rising-weighs w [] = refl
-rising-weighs w (t ∷ ts) =
-    let a = ranked-weighs w t (rising ts) in
-    let b = rising-weighs w ts in
-    omega (arith, a, b)
+rising-weighs w (t ∷ ts) = omega (arith, ranked-weighs w t (rising ts), rising-weighs w ts)
 
 lane-weighs : (w : ℕ → ℕ) (b : LaneBox) → total w (tickets_in b) ≡ items w b.placed + items w b.rung + posted w b.posted
-lane-weighs w b =
-    let p = map (λ (i : Item). i.ticket) b.placed in
-    let r = map (λ (i : Item). i.ticket) b.rung in
-    let a = map (λ (a : PostedAnswer). a.ticket) b.posted in
-    let x = total-append w (p ++ r) a in
-    let y = total-append w p r in
-    let s = total-map w (λ (i : Item). i.ticket) b.placed in
-    let t = total-map w (λ (i : Item). i.ticket) b.rung in
-    let u = total-map w (λ (a : PostedAnswer). a.ticket) b.posted in
-    omega (arith, x, y, s, t, u)
+lane-weighs w b = simp (total-append, total-map)
 
 open-weighs : (w : ℕ → ℕ) (m : Mailbox) → total w (open_tickets m) ≡ waits w m + posts w m
 unfolding open_tickets
-open-weighs w m =
-    let f = map (λ (f : FetchedItem). f.item.ticket) m.fetched in
-    let r = rising-weighs w (tickets_in m.admin ++ tickets_in m.io ++ f) in
-    let x = total-append w (tickets_in m.admin ++ tickets_in m.io) f in
-    let y = total-append w (tickets_in m.admin) (tickets_in m.io) in
-    let a = lane-weighs w m.admin in
-    let i = lane-weighs w m.io in
-    let t = total-map w (λ (f : FetchedItem). f.item.ticket) m.fetched in
-    omega (arith, r, x, y, a, i, t)
+open-weighs w m = simp (rising-weighs, total-append, total-map) (omega arith)
 
 pub resets : (w : ℕ → ℕ) (m : Mailbox) → Flow w m (reset m).mailbox 0 0 0 0
-resets w m =
-    let a = total-append w m.aborted (open_tickets m) in
-    let b = open-weighs w m in
-    record { dropped = waits w m; lost = posts w m; waits = omega arith; answered = omega arith; aborts = omega (arith, a, b) }
+resets w m = record {
+  dropped = waits w m;
+  lost = posts w m;
+  waits = omega arith;
+  answered = omega arith;
+  aborts = simp total-append (omega (arith, open-weighs w m));
+}
 
 -- An execution.
 
@@ -188,22 +135,20 @@ posts-answer w i x r m h = by (lane_of x.item)
     gone = total-removed (λ (f : FetchedItem). w f.item.ticket) m.fetched i x h
 
     by : (l : Lane) → Flow w m (with_box l (with_posted (box_at l m) x r) (record m { fetched = remove m.fetched i })) 0 (w x.item.ticket + 0) 0 0
-    by Admin =
-        let e = total-append (λ (a : PostedAnswer). w a.ticket) m.admin.posted (answer_for x r m.admin.since ∷ []) in
-        record { dropped = 0; lost = 0; waits = omega (arith, gone); answered = omega (arith, e); aborts = omega arith }
-    by Io =
-        let e = total-append (λ (a : PostedAnswer). w a.ticket) m.io.posted (answer_for x r m.io.since ∷ []) in
-        record { dropped = 0; lost = 0; waits = omega (arith, gone); answered = omega (arith, e); aborts = omega arith }
+    by Admin = record { dropped = 0; lost = 0; waits = omega (arith, gone); answered = simp total-append (omega arith); aborts = omega arith }
+    by Io = record { dropped = 0; lost = 0; waits = omega (arith, gone); answered = simp total-append (omega arith); aborts = omega arith }
 
 -- Each move. What it gives is counted by its reply, and by the ticket of the request that it executes.
 
 -- the same numbers, otherwise written
 pub reads : (w : ℕ → ℕ) (m n : Mailbox) (g h e x d y a b : ℕ) → Flow w m n g e d a → g ≡ h → e ≡ x → d ≡ y → a ≡ b → Flow w m n h x y b
-reads w m n g h e x d y a b f p q r s =
-    let t = f.waits in
-    let u = f.answered in
-    let v = f.aborts in
-    record { dropped = f.dropped; lost = f.lost; waits = omega (arith, t, p, q); answered = omega (arith, u, q, r); aborts = omega (arith, v, s) }
+reads w m n g h e x d y a b f p q r s = record {
+  dropped = f.dropped;
+  lost = f.lost;
+  waits = omega (arith, f.waits);
+  answered = omega (arith, f.answered);
+  aborts = omega (arith, f.aborts);
+}
 
 abbrev pub FlowsIn : (ℕ → ℕ) → Mailbox → Mailbox → FleetSeen → List ℕ → Type 0
 FlowsIn w m n what tickets =
@@ -225,14 +170,11 @@ flows w (Stay what) m tickets q u = quiet-flow w m m what tickets q (stays w m m
 flows w Rise m tickets q u = stays w m (moved Rise m) refl refl refl
 flows w (Take request) m tickets q u = with-request w (asked_of request).command.lane (new_item m request) m
 flows w RingBoth m tickets q u =
-    let a = total-append (λ (i : Item). w i.ticket) m.admin.rung m.admin.placed in
-    let b = total-append (λ (i : Item). w i.ticket) m.io.rung m.io.placed in
-    stays w m (moved RingBoth m) (omega (arith, a, b)) refl refl
+    stays w m (moved RingBoth m) (simp total-append (omega arith)) refl refl
 flows w (FetchFirst l x rest) m tickets q u = first-fetched w l x rest m q
 flows w (HandUp l x rest) m tickets q u = hands-up w l x rest m q
 flows w (Free t ts) m tickets q u =
-    let e = ap (total w) q in
-    record { dropped = 0; lost = 0; waits = omega arith; answered = omega arith; aborts = omega (arith, e) }
+    record { dropped = 0; lost = 0; waits = omega arith; answered = omega arith; aborts = simp q (omega arith) }
 flows w (Clear what) m tickets q u = quiet-flow w m (moved (Clear what) m) what tickets q (resets w m)
 flows w (Answer i x r) m tickets q u =
     subst (λ ts. FlowsIn w m (after_answer i x r m) (seen.Executed (Posted r.outcome)) ts) (sym u) (posts-answer w i x r m q)

@@ -1,6 +1,5 @@
 -- What becomes of tickets over a run.
-use Rattle.nvme_mailbox.proofs.Words.{◌≡◌, ℕ, Bool, true, false, List, [], ◌∷◌, Option, Some, refl, sym, ap, subst, ◌∙◌, arith, if◌then◌else◌, FleetEvent, Reply, concerns, Mailbox, Site, WithDriver, Fleet, Run, host_at, total, HasMailbox, OwnStep, MailboxStep, given_in, done_in, aborted_in, named_by, ticket_of, where_posted, given, done, aborted, along, Balance, TicketsBalance, DriversStay}
-use Rattle.nvme_mailbox.specs.Fleets.{Host}
+use Rattle.nvme_mailbox.proofs.Words.{◌≡◌, ℕ, Bool, true, false, List, [], ◌∷◌, Some, refl, sym, ap, subst, ◌∙◌, arith, if◌then◌else◌, FleetEvent, Reply, concerns, Mailbox, Site, WithDriver, Fleet, Run, host_at, total, HasMailbox, OwnStep, MailboxStep, given_in, done_in, aborted_in, named_by, ticket_of, where_posted, given, done, aborted, along, Balance, TicketsBalance, DriversStay}
 use Rattle.nvme_mailbox.specs.Tickets.{fetched_by, executed}
 use Rattle.nvme_mailbox.proofs.Totals.{total-append}
 use Rattle.nvme_mailbox.proofs.Apart.{hosts_are_apart}
@@ -54,42 +53,28 @@ walk w k m tells old (event ∷ events) (x ∷ later) new run at =
 walk w k m tells old events later new run at = absurd run
 
 -- a host has one mailbox
-mail-of : Option Host → Mailbox → Mailbox
-mail-of (Some (WithDriver n)) m = n
-mail-of other m = m
-
 pub one-host : (m n : Mailbox) → Some (WithDriver m) ≡ Some (WithDriver n) → m ≡ n
-unfolding mail-of
-one-host m n h = ap (λ o. mail-of o m) h
+one-host m n h = cc
 
 pub one-mailbox : (f : Fleet) (k : ℕ) (m n : Mailbox) → HasMailbox f k m → HasMailbox f k n → m ≡ n
 one-mailbox f k m n a b = one-host m n (sym a ∙ b)
 
 balance : (w : ℕ → ℕ) (m n : Mailbox) (given executed done aborted : List ℕ) → Flow w m n (total w given) (total w executed) (total w done) (total w aborted) → Balance w m n given executed done aborted
 balance w m n given executed done aborted f =
-    let p = f.waits in
-    let q = f.answered in
-    let r = f.aborts in
-    let a = held-weigh w m in
-    let b = held-weigh w n in
-    let c = waits-weigh w m in
-    let d = waits-weigh w n in
-    let e = posts-weigh w m in
-    let g = posts-weigh w n in record {
-      held = omega (arith, p, q, r, a, b);
-      waits = omega (arith, p, c, d);
-      answered = omega (arith, q, e, g);
+    record {
+      held = omega (arith, f.waits, f.answered, f.aborts, held-weigh w m, held-weigh w n);
+      waits = omega (arith, f.waits, waits-weigh w m, waits-weigh w n);
+      answered = omega (arith, f.answered, posts-weigh w m, posts-weigh w n);
     }
 
 pub tickets_balance : TicketsBalance
 tickets_balance tells old new events replies run k m n at end w =
     let x = walk w k m tells old events replies new run at in
-    let same = one-mailbox new k x.mailbox n x.host end in
     let g = along (given k) tells old events replies new run in
     let e = along (executed k) tells old events replies new run in
     let d = along (done k) tells old events replies new run in
     let a = along (aborted k) tells old events replies new run in
-    balance w m n g e d a (subst (λ y. Flow w m y (total w g) (total w e) (total w d) (total w a)) same x.flow)
+    balance w m n g e d a (subst (λ y. Flow w m y (total w g) (total w e) (total w d) (total w a)) (one-mailbox new k x.mailbox n x.host end) x.flow)
 
 pub drivers_stay : DriversStay
 drivers_stay tells old new events replies run k m at =

@@ -10,8 +10,6 @@ spares other m q u = u
 
 pub unseen_never_comes : UnseenNeverComes
 unseen_never_comes tells old new [] [] run k m at h = h
-unseen_never_comes tells old new [] (x ∷ later) run k m at h = h
-unseen_never_comes tells old new (event ∷ events) [] run k m at h = h
 unseen_never_comes tells old new (event ∷ events) (x ∷ later) run k m at (inl h) =
     let one = hosts_are_apart tells old run.0 event x run.1 k m at in
     let own : OwnStep event tells k old.site m x run.0.site one.mailbox = subst (λ b. MailboxStep b event tells k old.site m x run.0.site one.mailbox) h.host one.moves in
@@ -20,3 +18,4 @@ unseen_never_comes tells old new (event ∷ events) (x ∷ later) run k m at (in
 unseen_never_comes tells old new (event ∷ events) (x ∷ later) run k m at (inr h) =
     let one = hosts_are_apart tells old run.0 event x run.1 k m at in
     unseen_never_comes tells run.0 new events later run.2 k one.mailbox one.host h
+unseen_never_comes tells old new events later run k m at h = h
