@@ -1,14 +1,13 @@
 -- The admin commands that a driver's requests ask for, what they move, and the fetched command of the admin lane.
-use Rattle.nvme_fleet.proofs.Words.{◌≡◌, ◌⊎◌, ℕ, ◌^◌, ◌<◌, ◌==◌, Bool, true, false, ◌||◌, List, length, Option, None, Some, refl, sym, ap, ◌∙◌, arith, inl, inr, and_parts, eqb-true, if◌then◌else◌, opcode, nsid, cdw10, Open, AdminCommand, Keep, World, Namespace, namespace_of, opcode_of, state_of, fid, number_of_queues, write_protection, protection_value, double_word_0, data_out, queue_change, Admin, Driver, entry_length, Asked, FetchedCommand, Controller, Slot, asked_in, is_plain, is_plain_in, lane_in}
+use Rattle.nvme_fleet.proofs.Words.{◌≡◌, ◌⊎◌, ℕ, ◌^◌, ◌<◌, ◌==◌, Bool, true, false, ◌||◌, List, length, Option, None, Some, refl, sym, ap, ◌∙◌, arith, inl, inr, and_parts, eqb-true, if◌then◌else◌, opcode, nsid, cdw10, Open, AdminCommand, Keep, World, Namespace, namespace_of, opcode_of, state_of, fid, number_of_queues, write_protection, protection_value, double_word_0, data_out, queue_change, Admin, Driver, Asked, FetchedCommand, Controller, Slot, asked_in, is_plain, is_plain_in, lane_in}
 use Rattle.nvme_wire.specs.Entry.{bits}
 use Rattle.nvme_spec.specs.declared.access.Protection.{Protection}
 use Rattle.nvme_spec.specs.declared.command.AdminCommand.TheVariants as admin
-use Rattle.nvme_spec.specs.AdminCommands.{command_of, data_length, data_length_of}
+use Rattle.nvme_spec.specs.AdminCommands.{command_of, data_length}
 use Rattle.nvme_spec.specs.AdminRules as rules
 use Rattle.nvme_spec.specs.AdminEffects.{world_after}
 use Rattle.nvme_fleet.proofs.AdminData.{length-identify_data}
 use Rattle.nvme_fleet.proofs.AdminJudging.{IsAsked}
-use Rattle.nvme_fleet.proofs.HeldStep.{IsHeld}
 use Rattle.nvme_fleet.proofs.PostStep.{slot_seen}
 
 -- Identify gives back all that it moves, the others nothing.
@@ -37,7 +36,7 @@ feature-is : (x : List ℕ) → (bits (cdw10 x) 7 0 == write_protection) ≡ tru
 unfolding fid
 feature-is x h = eqb-true (bits (cdw10 x) 7 0) write_protection h
 
-plain-admin : (s : Slot) (x : List ℕ) → lane_in s.waiting ≡ Admin → is_plain (asked_in s x) ≡ true → IsPlainAdmin (asked_in s x).received (asked_in s x).moved x
+pub plain-admin : (s : Slot) (x : List ℕ) → lane_in s.waiting ≡ Admin → is_plain (asked_in s x) ≡ true → IsPlainAdmin (asked_in s x).received (asked_in s x).moved x
 unfolding is_plain
 plain-admin s x l h =
     elim (or-parts _ _ (sym (ap (λ lane. is_plain_in lane (asked_in s x)) l) ∙ h)) [
@@ -122,10 +121,3 @@ dw0-small w x command = omega arith
 -- the request of a command, as it is read off its slot
 abbrev pub asked_by : Driver → Controller → FetchedCommand → Asked
 asked_by d c t = asked_in (slot_seen Admin d c t) t.entry
-
-pub plain-held : (d : Driver) (c : Controller) (t : FetchedCommand) (h : IsHeld Admin d c t) → IsPlainAdmin (asked_by d c t).received (asked_by d c t).moved t.entry
-plain-held d c t h = let u = h.suited in plain-admin (slot_seen Admin d c t) t.entry h.of_lane u.plain
-
--- so many bytes it moves
-pub moved-is : (d : Driver) (c : Controller) (t : FetchedCommand) (h : IsHeld Admin d c t) → (asked_by d c t).moved ≡ data_length_of (command_of (opcode t.entry)) t.entry
-moved-is d c t h = ap (λ l. entry_length l t.entry) h.of_lane

@@ -1,15 +1,15 @@
 -- An admin command is judged as its request, and what it is answered is what its request is answered.
-use Rattle.nvme_fleet.proofs.Words.{◌≡◌, ℕ, ◌^◌, ◌<◌, ◌≤◌, Bool, List, [], ◌∷◌, ◌++◌, length, take, Some, Ok, Err, refl, sym, ap, subst, ◌∙◌, arith, slice_get, take_all, cid, opcode, AdminCommand, Queues, Keep, Device, World, Judgement, judgement_by, first_failing, pointer_rule, data_in, data_addresses, with_scattered, with_bytes, admin_execution, execution_by, performance, data_out, scene, no_marks, Fits, JudgementRefuses, admin_execution_fits, Admin, data_area, Driver, Asked, FetchedCommand, CommandExecution, admin_command_execution, Controller, queues_of, FetchedItem, lane_of, Site, RequestExecution, command_entry, queue_pairs, admin_judgement, admin_served, admin_request_execution_by, admin_request_execution, RequestComesToAs, RequestComesTo, Sound, IsPaired, mailbox, lane_of_queue, IsAnsweredInItsSlot, AdminJudgedAsItsRequest, AdminAnswersItsRequest, request_execution_with}
+use Rattle.nvme_fleet.proofs.Words.{◌≡◌, ℕ, ◌^◌, ◌<◌, ◌≤◌, Bool, List, [], ◌∷◌, ◌++◌, length, take, Some, Ok, Err, refl, sym, ap, subst, ◌∙◌, arith, slice_get, take_all, cid, opcode, AdminCommand, Queues, Keep, Device, World, Judgement, judgement_by, first_failing, pointer_rule, data_in, data_addresses, with_scattered, with_bytes, admin_execution, execution_by, performance, data_out, scene, no_marks, Fits, JudgementRefuses, admin_execution_fits, Admin, data_area, Driver, Asked, FetchedCommand, CommandExecution, admin_command_execution, Controller, queues_of, FetchedItem, lane_of, Site, RequestExecution, command_entry, queue_pairs, admin_judgement, admin_served, admin_request_execution_by, admin_request_execution, RequestComesToAs, RequestComesTo, Sound, mailbox, lane_of_queue, IsAnsweredInItsSlot, AdminJudgedAsItsRequest, AdminAnswersItsRequest, request_execution_with, entry_length}
 use Rattle.nvme_spec.specs.AdminCommands.{command_of, data_length, data_length_of}
 use Rattle.nvme_spec.specs.AdminRules as rules
 use Rattle.nvme_spec.specs.Statuses as status
 use Rattle.nvme_spec.proofs.AdminDenials.{admin-refuses}
 use Rattle.nvme_fleet.proofs.Windows.{stored-none}
 use Rattle.nvme_fleet.proofs.AdminJudging.{IsAsked, admin-access-same, list-same, dw0-same, data-out-same, world-same}
-use Rattle.nvme_fleet.proofs.AdminKinds.{dw0-small, MovesAs, IsPlainAdmin, asked_by, plain-held, moved-is, length-out, keeps-queues, list-matters, world-matters}
+use Rattle.nvme_fleet.proofs.AdminKinds.{dw0-small, MovesAs, IsPlainAdmin, asked_by, plain-admin, length-out, keeps-queues, list-matters, world-matters}
 use Rattle.nvme_fleet.proofs.HeldStep.{IsHeld, held-known, pointer-passes, without-pointer, data-same, asked-at, lane-at}
 use Rattle.nvme_fleet.proofs.AnswerStep.{unsuccessful, denied-with}
-use Rattle.nvme_fleet.proofs.PostStep.{up-of}
+use Rattle.nvme_fleet.proofs.PostStep.{up-of, slot_seen}
 
 -- What is known of an admin command, its request and its slot.
 record IsAdmin (d : Driver) (c : Controller) (t : FetchedCommand) : Type 0 where
@@ -21,17 +21,14 @@ record IsAdmin (d : Driver) (c : Controller) (t : FetchedCommand) : Type 0 where
   -- the data that it gathers are those of the request, where it receives none
   gathers : (asked_by d c t).received ≡ 0 → rules.data_of c.window t.entry ≡ (asked_by d c t).sent
 
-paired-queues : (c : Controller) → IsPaired c → queues_of c ≡ queue_pairs
-paired-queues c p = rw (p.completion, p.submission) refl
-
 admin-known : (d : Driver) (c : Controller) (i : ℕ) (t : FetchedCommand) → Sound d c → slice_get c.fetched i ≡ Some t → t.queue ≡ 0 → IsAdmin d c t
 admin-known d c i t s g q =
     let h = held-known Admin d c i t s g (ap lane_of_queue q) in
-    let l = moved-is d c t h in
+    let l : (asked_by d c t).moved ≡ data_length_of (command_of (opcode t.entry)) t.entry = ap (λ lane. entry_length lane t.entry) h.of_lane in
     record {
       held = h;
-      plain = plain-held d c t h;
-      queues = paired-queues c (s.up (up-of d c i t s g));
+      plain = plain-admin (slot_seen Admin d c t) t.entry h.of_lane h.suited.plain;
+      queues = let p = s.up (up-of d c i t s g) in rw (p.completion, p.submission) refl;
       length_is = l;
       gathers = λ z. ap (λ n. data_in n c.window t.entry) (sym l) ∙ data-same Admin d c t h z;
     }
@@ -42,8 +39,7 @@ list-is : (d : Driver) (c : Controller) (t : FetchedCommand) (w : World) (h : Is
     ≡ rules.list_rule (command_of (opcode (command_entry (asked_by d c t)))) w (command_entry (asked_by d c t)) (asked_by d c t).sent
 list-is d c t w h =
     let p = h.plain in
-    let k = h.held in
-    let same = k.same in
+    let same = h.held.same in
     ap (λ o. rules.list_rule o w t.entry (rules.data_of c.window t.entry)) p.named
     ∙ list-matters w t.entry (rules.data_of c.window t.entry) (asked_by d c t).sent p.command (asked_by d c t).received (asked_by d c t).moved p.moves h.gathers
     ∙ sym (list-same w t.entry (command_entry (asked_by d c t)) (asked_by d c t).sent p.command p.asked same)
@@ -109,11 +105,9 @@ served-with d c t w device cntlid h command a m size i =
 stands-there : (d : Driver) (c : Controller) (t : FetchedCommand) (h : IsAdmin d c t) (bytes : List ℕ) (n : ℕ) → (asked_by d c t).moved ≡ n → length bytes ≤ (asked_by d c t).moved
     → with_scattered c.window (data_addresses n c.window t.entry) bytes ≡ with_bytes c.window (data_area (cid t.entry)) bytes
 stands-there d c t h bytes n e few =
-    let k = h.held in
-    let m = k.moves in
     ap (λ z. with_scattered c.window (data_addresses z c.window t.entry) bytes) (sym e)
     ∙ scattered-taken c.window (data_addresses (asked_by d c t).moved c.window t.entry) bytes
-    ∙ m.scatters bytes few
+    ∙ h.held.moves.scatters bytes few
 
 abbrev Said : Bool → Driver → Controller → FetchedCommand → FetchedItem → World → Device → ℕ → CommandExecution → Type 0
 Said tells d c t x w device cntlid a = (a.change ≡ Keep) × IsAnsweredInItsSlot tells d c t x w device cntlid a
@@ -123,8 +117,7 @@ said-by : (tells : Bool) (d : Driver) (c : Controller) (i : ℕ) (t : FetchedCom
     → MovesAs command (asked_by d c t).received (asked_by d c t).moved t.entry → (j : Judgement) → JudgementRefuses j → admin_judgement w cntlid (asked_by d c t) ≡ j
     → Said tells d c t x w device cntlid (admin_command_execution (scene w c.window device) (execution_by j (Some command) w cntlid t.entry c.window))
 said-by tells d c i t x w device cntlid h g f q command named a m (Err e) n judges =
-    let k = h.held in
-    let same = k.same in
+    let same = h.held.same in
     let r = unsuccessful e.status n in (
       refl,
       record {
@@ -143,13 +136,12 @@ said-by tells d c i t x w device cntlid h g f q command named a m (Ok u) n judge
     let moved : (asked_by d c t).moved ≡ data_length command t.entry = h.length_is ∙ ap (λ o. data_length_of o t.entry) named in
     let size = length-out w cntlid t.entry command (asked_by d c t).received (asked_by d c t).moved a moved m in
     let less = suits.less in
-    let most = suits.most in
     let back = k.received in (
       keeps-queues t.entry command a,
       record {
         bytes = data_out w cntlid command t.entry;
         window = stands-there d c t h (data_out w cntlid command t.entry) (data_length command t.entry) moved (omega (arith, size, less));
-        few = omega (arith, size, less, most);
+        few = omega (arith, size, less, suits.most);
         whole = omega (arith, size, back);
         comes_to = as-admin tells cntlid x (asked_by d c t) (record { world = w; device = device }) _ (Ok u) command (lane-at Admin d c i t x h.held g f (ap lane_of_queue q)) (asked-at Admin d c i t x g f (ap lane_of_queue q)) judges (ap command_of same.opcode ∙ named)
             (served-with d c t w device cntlid h command a m size);
@@ -181,8 +173,7 @@ executed-small w k e window (Ok u) command = dw0-small w e command
 pub admin-fits : (d : Driver) (c : Controller) (i : ℕ) (t : FetchedCommand) (w : World) (device : Device) (cntlid : ℕ) (a : CommandExecution) → Sound d c → slice_get c.fetched i ≡ Some t → t.queue ≡ 0
     → a ≡ admin_command_execution (scene w c.window device) (admin_execution w (queues_of c) cntlid t.entry c.window) → Fits a.outcome.status × (a.outcome.dw0 < 2 ^ 32)
 admin-fits d c i t w device cntlid a s g q h =
-    let k = admin-known d c i t s g q in
-    let p = k.plain in
+    let p = (admin-known d c i t s g q).plain in
     let small : (admin_execution w (queues_of c) cntlid t.entry c.window).dw0 < 2 ^ 32 =
     subst (λ x. x.dw0 < 2 ^ 32) (sym (executed-as w (queues_of c) cntlid t.entry c.window p.command p.named))
     (executed-small w cntlid t.entry c.window (rules.admin_judgement w (queues_of c) cntlid t.entry c.window) p.command) in

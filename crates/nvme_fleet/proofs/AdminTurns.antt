@@ -96,8 +96,7 @@ plain-is tells call old new plain h = ap (λ (s : Setting). s.controller) (calls
 pub call-admin : (tells : Bool) (call : Call) (old new : Setting) → LinkStep tells old call new → AreAdmin old.controller → AreAdmin new.controller
 call-admin tells Turns old new (x, h) f =
     let d : Controller = fetched_by old.controller in
-    let quiet = one-quiet (slice_get d.fetched 0) tells (with_controller old d) x new refl (fetch-admin old.controller f) h in
-    quiet.admin
+    (one-quiet (slice_get d.fetched 0) tells (with_controller old d) x new refl (fetch-admin old.controller f) h).admin
 call-admin tells call old new h f = subst AreAdmin (sym (plain-is tells call old new tt h)) (kept-admin call old.controller f)
 
 pub call-named : (tells : Bool) (call : Call) (old new : Setting) → LinkStep tells old call new → new.controller.cntlid ≡ old.controller.cntlid

@@ -1,5 +1,5 @@
 -- What an I/O command may be answered is what its request may be answered.
-use Rattle.nvme_fleet.proofs.Words.{◌≡◌, ℕ, Bool, not, false, List, [], Option, None, Some, Ok, Err, refl, sym, ap, subst, ◌∙◌, arith, slice_get, not-true, if◌then◌else◌, cid, opcode, Status, Command, Verdict, Allowed, Denied, Device, World, command_of, plan_of, is_one_of, ranged, Judgement, conclusion, scene, ExecutesBy, denial_outcome, denials, Refuses, VerdictRefuses, verdict-refuses, of-each, Io, data_area, is_success, Driver, FetchedCommand, CommandExecution, Controller, FetchedItem, lane_of, Site, RequestExecution, command_entry, io_judgement, io_verdict, denied_request_execution, IoRequestComesTo, RequestComesToAs, RequestComesTo, Sound, mailbox, lane_of_queue, IsServedInItsSlot, IsAnsweredInItsSlot, AnswersItsRequest, request_execution_with}
+use Rattle.nvme_fleet.proofs.Words.{◌≡◌, ℕ, Bool, not, false, List, [], Option, Some, Ok, refl, sym, ap, subst, ◌∙◌, arith, slice_get, not-true, if◌then◌else◌, cid, opcode, Status, Command, Verdict, Allowed, Denied, Device, World, command_of, plan_of, is_one_of, ranged, Judgement, conclusion, scene, ExecutesBy, denial_outcome, denials, Refuses, VerdictRefuses, verdict-refuses, of-each, Io, data_area, is_success, Driver, FetchedCommand, CommandExecution, Controller, FetchedItem, lane_of, Site, RequestExecution, command_entry, io_judgement, io_verdict, denied_request_execution, IoRequestComesTo, RequestComesToAs, RequestComesTo, Sound, mailbox, lane_of_queue, IsServedInItsSlot, IsAnsweredInItsSlot, AnswersItsRequest, request_execution_with}
 use Rattle.nvme_spec.specs.IoData as spec
 use Rattle.nvme_fleet.proofs.Windows.{stored-none}
 use Rattle.nvme_fleet.proofs.Commands.{SameFields}
@@ -17,17 +17,15 @@ plan-same command x y f i = record {
 }
 
 conclusion-same : (j : Judgement) (o : Option Command) (x y : List ℕ) → SameFields x y → conclusion j o y ≡ conclusion j o x
-conclusion-same (Err d) o x y f = refl
-conclusion-same (Ok u) None x y f = refl
 conclusion-same (Ok u) (Some command) x y f = ap Allowed (plan-same command x y f)
+conclusion-same j o x y f = refl
 
 -- the verdict on the request
 verdict-is : (d : Driver) (c : Controller) (i : ℕ) (t : FetchedCommand) (x : FetchedItem) (w : World) (cntlid : ℕ) (s : Sound d c) (g : slice_get c.fetched i ≡ Some t)
     (f : slice_get (mailbox d c).fetched i ≡ Some x) (q : t.queue ≡ 1) → io_verdict w cntlid x.item.asked x.marked ≡ spec.io_verdict w cntlid t.entry t.marked c.window
 verdict-is d c i t x w cntlid s g f q =
-    let k = io-known d c i t s g q in
     let e : x.item.asked ≡ asked_by d c t = asked-at Io d c i t x g f (ap lane_of_queue q) in
-    let m : SameFields t.entry (command_entry x.item.asked) = subst (λ a. SameFields t.entry (command_entry a)) (sym e) k.same in
+    let m : SameFields t.entry (command_entry x.item.asked) = subst (λ a. SameFields t.entry (command_entry a)) (sym e) (io-known d c i t s g q).same in
     conclusion-same (io_judgement w cntlid x.item.asked x.marked) (command_of (opcode (command_entry x.item.asked))) t.entry (command_entry x.item.asked) m
     ∙ ap (λ n. conclusion (io_judgement w cntlid x.item.asked x.marked) (command_of n) t.entry) m.opcode
     ∙ ap (λ j. conclusion j (command_of (opcode t.entry)) t.entry) (sym (judged_as_its_request d c i t x w cntlid s g f q))

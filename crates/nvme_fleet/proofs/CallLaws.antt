@@ -1,5 +1,5 @@
 -- The calls that the events of a fleet make of the medium, by the laws of the machine.
-use Rattle.nvme_fleet.proofs.Words.{◌≡◌, true, [], ◌∷◌, ◌++◌, refl, sym, ap, subst, ◌∙◌, arith, Outcome, Executed, Posted, Seen, Execute, AreCallsOfRun, told}
+use Rattle.nvme_fleet.proofs.Words.{◌≡◌, true, [], ◌∷◌, ◌++◌, refl, sym, ap, subst, ◌∙◌, arith, Outcome, Posted, Seen, Execute, AreCallsOfRun, told}
 use Rattle.nvme_spec.specs.FaultFreeCalls.{content_step}
 use Rattle.nvme_spec.specs.MediumCalls.{Calls}
 use Rattle.nvme_spec.proofs.PassingCalls.{content-alone, calls-split}
@@ -63,19 +63,10 @@ run_calls_are_unique old new other (e ∷ events) (x ∷ later) (y ∷ others) c
 
 -- A Flush.
 
-executed-is : (e : Executed) (o : Outcome) → seen.Executed e ≡ seen.Executed (Posted o) → given.Executed e ≡ given.Executed (Posted o)
-executed-is e o h = cc
-
 -- what was told was given
 given-is : (x : Seen) (o : Outcome) → told x ≡ seen.Executed (Posted o) → x ≡ given.Executed (Posted o)
-given-is given.Stored o h = absurd (cc)
-given-is given.Outside o h = absurd (cc)
-given-is given.Wrote o h = absurd (cc)
-given-is (given.Value v) o h = absurd (cc)
-given-is (given.Fetched fetched) o h = absurd (cc)
-given-is (given.Executed e) o h = executed-is e o h
-given-is given.NoController o h = absurd (cc)
-given-is given.Cycled o h = absurd (cc)
+given-is (given.Executed e) o h = let same : seen.Executed e ≡ seen.Executed (Posted o) = h in cc
+given-is other o h = absurd (cc)
 
 pub flushed_is_one_flush : FlushedIsOneFlush
 flushed_is_one_flush tells old new k i reply outcome calls h posted flush ok =

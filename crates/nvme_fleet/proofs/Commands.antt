@@ -100,10 +100,9 @@ read-so s x h k = ap submission_of h.spelled ∙ submission_is_read_back (entry_
 pub same-fields : (s : Slot) (x : List ℕ) → IsSuited s x → cid x < 24 → SameFields x (command_entry (asked_in s x))
 unfolding command_entry
 same-fields s x h k =
-    let f = fits-entry s x h k in
     let g = fits-command s x h k in
     let b = submission_is_read_back (command_fields (asked_in s x)) g in
-    let p = submission_is_plain (entry_fields (asked_in s x) (cid x)) f in
+    let p = submission_is_plain (entry_fields (asked_in s x) (cid x)) (fits-entry s x h k) in
     let q = submission_is_plain (command_fields (asked_in s x)) g in
     let e = h.spelled in
     record {

@@ -1,7 +1,7 @@
 -- A slot that no live request holds may be emptied: the lane holds as before, and its mailbox is the same.
-use Rattle.nvme_fleet.proofs.Words.{◌≡◌, ℕ, ◌<◌, ◌≤◌, List, [], ◌∷◌, length, refl, ap, sym, subst, ◌∙◌, arith, zero, suc, inl, inr, slice_set, length-set, cases_Bool, State, Slot, empty, box, off, in_flight, commands, commands_of, live_at, live_in, total, AgeIn, Carried, Running, Resting, Holds, Host}
+use Rattle.nvme_fleet.proofs.Words.{◌≡◌, ℕ, ◌<◌, ◌≤◌, List, [], ◌∷◌, length, refl, ap, sym, subst, ◌∙◌, arith, zero, suc, inl, inr, slice_set, length-set, cases_Bool, State, Slot, empty, off, in_flight, commands, commands_of, live_at, live_in, total, AgeIn, Carried, Running, Resting, Holds, Host}
 use Rattle.nvme_fleet.proofs.Totals.{each-all}
-use Rattle.nvme_fleet.proofs.Slots.{bare-box, bare-odd}
+use Rattle.nvme_fleet.proofs.Slots.{bare-odd}
 use Rattle.nvme_fleet.proofs.Queues.{Bare, bare-all}
 use Rattle.nvme_fleet.proofs.Places.{bare}
 
@@ -83,6 +83,3 @@ whole-of first d c s = elim (cases_Bool d.up) [
 
 pub bare-of : (first : ℕ) (d : Host) (c : State) (slot : ℕ) → Holds first d c → live_at d.slots slot ≡ 0 → Bare d c slot
 bare-of first d c slot s l = let w = whole-of first d c s in bare-all d c slot w.fetched w.waiting (omega (arith, w.carried slot, l))
-
-pub emptied-box : (d : Host) (c : State) (i : ℕ) → Bare d c i → box (emptied d i) c ≡ box d c
-emptied-box d c i b = bare-box d c i empty b

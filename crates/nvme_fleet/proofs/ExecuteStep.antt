@@ -19,22 +19,17 @@ pair-head : (d : Driver) (c : Controller) (i : ℕ) (t : FetchedCommand) (p : Qu
 pair-head d c i t p s g e =
     let k = known d c i t s g in
     let same : p ≡ pair_in (lane_of_queue t.queue) c = same_Some p (pair_in (lane_of_queue t.queue) c) (sym e ∙ open-is (lane_of_queue t.queue) d c i t k) in
-    let r = running (lane_of_queue t.queue) d c s k.up in
-    subst (λ (z : QueuePair). z.submission.head.fetched < 8) (sym same) r.fetched
+    subst (λ (z : QueuePair). z.submission.head.fetched < 8) (sym same) (running (lane_of_queue t.queue) d c s k.up).fetched
 
 pub completion-fits : (lane : Lane) (d : Driver) (c : Controller) (i : ℕ) (t : FetchedCommand) (p : QueuePair) (a : CommandExecution) → Sound d c → slice_get c.fetched i ≡ Some t → t.queue ≡ queue_id lane
     → open_pair c t ≡ Some p → Fits a.outcome.status × (a.outcome.dw0 < 2 ^ 32) → FitsCompletion (fields_of t p a)
 completion-fits lane d c i t p a s g q e f =
-    let k = held-known lane d c i t s g (ap lane_of_queue q ∙ lane-back lane) in
-    let head = pair-head d c i t p s g e in
-    let within = k.within in
     let status = f.0 in
-    let low = queue-small lane in
     record {
       dw0 = f.1;
-      sq_head = omega (arith, head);
-      sq_id = omega (arith, q, low);
-      cid = omega (arith, within);
+      sq_head = omega (arith, pair-head d c i t p s g e);
+      sq_id = omega (arith, q, queue-small lane);
+      cid = omega (arith, (held-known lane d c i t s g (ap lane_of_queue q ∙ lane-back lane)).within);
       sct = status.0;
       sc = status.1;
     }
@@ -62,10 +57,9 @@ pub finished : (tells : Bool) (d : Driver) (i : ℕ) (t : FetchedCommand) (p : Q
     → slice_get old.controller.fetched i ≡ Some t → open_pair old.controller t ≡ Some p → (h : Finishes tells i t p old executed new)
     → IsPostable tells d t p old (item_at d old.controller t) h.execution → IsExecuted tells d i old executed new
 finished tells d i t p old executed new s g e h x =
-    let f = found-at d old.controller i t g in
     let y = x.slot in
     let r = posting_is_a_step d old.controller i t p h.execution s g e (record { bytes = y.bytes; queues = x.keeps; window = y.window; few = y.few; whole = y.whole; fits = x.fits_so }) in
-    let same : item_at d old.controller t ≡ r.item = same_Some (item_at d old.controller t) r.item (sym f ∙ r.found) in
+    let same : item_at d old.controller t ≡ r.item = same_Some (item_at d old.controller t) r.item (sym (found-at d old.controller i t g) ∙ r.found) in
     record {
       item = r.item;
       execution = request_execution_with d t h.execution y.bytes;
@@ -82,9 +76,8 @@ finished tells d i t p old executed new s g e h x =
 pub finishes : (tells : Bool) (d : Driver) (i : ℕ) (t : FetchedCommand) (old : Setting) (executed : Executed) (new : Setting) → (s : Sound d old.controller)
     → (g : slice_get old.controller.fetched i ≡ Some t) → ExecutesNth tells i old executed new → (p : QueuePair) × (open_pair old.controller t ≡ Some p) × Finishes tells i t p old executed new
 finishes tells d i t old executed new s g h =
-    let over : FinishesOver (open_pair old.controller t) tells i t old executed new = subst (λ o. FinishesOne o tells i old executed new) g h in
     let room = posting_has_room d old.controller i t s g in
-    (room.0, room.1, subst (λ o. FinishesOver o tells i t old executed new) room.1 over)
+    (room.0, room.1, subst (λ o. FinishesOver o tells i t old executed new) room.1 (subst (λ o. FinishesOne o tells i old executed new) g h))
 
 io-postable : (tells : Bool) (d : Driver) (i : ℕ) (t : FetchedCommand) (p : QueuePair) (old : Setting) (a : CommandExecution) → Sound d old.controller → slice_get old.controller.fetched i ≡ Some t → t.queue ≡ 1
     → open_pair old.controller t ≡ Some p → CommandComesTo tells (queues_of old.controller) old.controller.cntlid t (scene_in old) a → IsPostable tells d t p old (item_at d old.controller t) a
@@ -134,8 +127,7 @@ admin_execution_is_a_step tells d i t old executed new s g q h =
 
 pub execution_is_a_step : ExecutionIsAStep
 execution_is_a_step tells d i t old executed new s g h =
-    let k = known d old.controller i t s g in
-    by-lane (lane_of_queue t.queue) k.queue
+    by-lane (lane_of_queue t.queue) (known d old.controller i t s g).queue
   where
     by-lane : (lane : Lane) → t.queue ≡ queue_id lane → IsExecuted tells d i old executed new
     by-lane Admin q = admin_execution_is_a_step tells d i t old executed new s g q h

@@ -1,11 +1,11 @@
 -- An execution in one lane: a request goes from those that were fetched to the answers that were posted.
-use Rattle.nvme_fleet.proofs.Words.{◌≡◌, ℕ, ◌+◌, ◌-◌, ◌%◌, ◌<◌, ◌≤◌, List, [], ◌∷◌, ◌++◌, length, map, refl, ap, sym, ◌∙◌, arith, true, false, cond, Bool, Some, take, slice_get, take-take, length-set, length-remove, slice_get_within, cid, Completion, completion_of, queue_id, answer_len, PostedAnswer, Effect, State, Slot, finished, finished_bytes, executed, executed_state, completion_bytes, ticket_in, received_in, IsOf, all-joined, in_flight, commands, completions, item, answer, box, Running, Holds, last_head, heard, unread, since, steps, commands_of, answers_of, live_at, slot_at, answers, holds, total, odd, suits, bears, replies, Carried, Host}
+use Rattle.nvme_fleet.proofs.Words.{◌≡◌, ℕ, ◌+◌, ◌-◌, ◌%◌, ◌<◌, ◌≤◌, List, [], ◌∷◌, ◌++◌, length, map, refl, ap, sym, ◌∙◌, arith, true, false, cond, Bool, Some, take, slice_get, take-take, length-set, length-remove, slice_get_within, cid, Completion, completion_of, queue_id, answer_len, PostedAnswer, Effect, State, Slot, finished, finished_bytes, executed, executed_state, completion_bytes, ticket_in, received_in, IsOf, all-joined, in_flight, commands, completions, item, answer, box, Running, Holds, last_head, heard, unread, since, steps, commands_of, answers_of, live_at, slot_at, answers, holds, total, odd, suits, bears, replies, Carried, Host, eq-eqb}
 use Rattle.std.proofs.Common.{remove}
 use Rattle.nvme_fleet.proofs.Totals.{live-within, live-small, live-set, slot-same, each-all}
 use Rattle.nvme_mailbox.proofs.Totals.{total-append, total-removed}
 use Rattle.nvme_fleet.proofs.Slots.{few, bare-box, bare-odd}
 use Rattle.nvme_fleet.proofs.Keeps.{EntersCompletion, answered, commands-same, completions-kept}
-use Rattle.nvme_fleet.proofs.Queues.{Bare, bare-all, completions-append, same-box, self-eqb, since-zero}
+use Rattle.nvme_fleet.proofs.Queues.{Bare, bare-all, completions-append, same-box, since-zero}
 use Rattle.nvme_fleet.proofs.Places.{up-holds}
 use Rattle.nvme_fleet.proofs.Phases.{phases-posted}
 
@@ -37,7 +37,7 @@ odd-suits false n m h z = let b : ⊥ = omega (arith, h, z) in absurd b
 
 pub fetched : (d : Host) (c : State) (i : ℕ) (x : List ℕ) → Running d c → slice_get c.taken i ≡ Some x → Fetched d c i x
 fetched d c i x s g =
-    let b : bears (cid x) x ≡ 1 = ap (λ b. cond b 1 0) (self-eqb (cid x) (cid x) refl) in
+    let b : bears (cid x) x ≡ 1 = ap (λ b. cond b 1 0) (eq-eqb (cid x) (cid x) refl) in
     let r : bears (cid x) x + commands_of (cid x) (remove c.taken i) ≡ commands_of (cid x) c.taken = total-removed (bears (cid x)) c.taken i x g in
     let l : live_at d.slots (cid x) ≡ 1 = omega (arith, s.carried (cid x), b, r, live-small (slot_at d.slots (cid x))) in
     let z : total (odd (holds d)) c.taken ≡ 0 = omega (arith, s.suited) in
@@ -74,13 +74,12 @@ unread-more : (d : Host) (c : State) (ans : Effect) (i : ℕ) (x bytes : List �
 unread-more d c ans i x bytes h =
     let s : Running d c = (h.fetched).running in
     let k = written d c ans i x bytes h in
-    let p : (d.consumed + c.unread) % 64 ≡ c.posted = sym s.posted in
     let g : c.unread ≤ (c.posted % 32 + 32 - d.consumed % 32) % 32 = omega (arith, s.posted, s.consumed, (h.fetched).room) in
     let e : completion_of (completion_bytes (executed_state c i x ans).window c.posted) ≡ finished c ans x =
     ap completion_of k.last ∙ h.reads in
     completions-append (executed_state c i x ans).window d.consumed c.unread 1 s.consumed ∙
     ap (λ t. t ++ completions (executed_state c i x ans).window ((d.consumed + c.unread) % 64) 1) (completions-kept c.window (executed_state c i x ans).window 8 (c.posted % 32) d.consumed c.unread k.keeps (omega arith) s.consumed (omega (arith, (h.fetched).room)) g) ∙
-    ap (λ n. unread d c ++ completions (executed_state c i x ans).window n 1) p ∙
+    ap (λ n. unread d c ++ completions (executed_state c i x ans).window n 1) (sym s.posted) ∙
     ap (λ t. unread d c ++ t ∷ []) e
 
 flight-same : (d : Host) (c : State) (ans : Effect) (i from n : ℕ) (x bytes : List ℕ) → Executes d c ans i x bytes → from < 8 → commands (executed_state c i x ans).window from n ≡ commands c.window from n
@@ -117,14 +116,13 @@ unfolding box
 execute-box d c ans i x bytes h =
     let f : ℕ → Slot = holds (executed d x bytes) in
     let b = bare-box d (record c { taken = remove c.taken i }) (cid x) (record (slot_at d.slots (cid x)) { bytes = bytes }) (h.fetched).bare in
-    let g = given-is d c ans i x bytes h in
     same-box _ _ _ _ _ _ _ _ _ _
     (ap (map (item f)) (flight-same d c ans i _ _ x bytes h (omega arith)))
     (ap (map (item f)) (flight-same d c ans i _ _ x bytes h ((h.fetched).running).fetched))
     (ap (answers f (heard d)) (unread-more d c ans i x bytes h) ∙ answers-more f (heard d) (unread d c) (finished c ans x))
     refl
     (since-done d c ans i x bytes h)
-    ∙ (λ j. record (b j) { posted = (b j).posted ++ g j ∷ []; since = 0 })
+    ∙ (λ j. record (b j) { posted = (b j).posted ++ (given-is d c ans i x bytes h) j ∷ []; since = 0 })
 
 -- a sum over the commands loses what the executed one brought
 execute-total : (f : List ℕ → ℕ) (d : Host) (c : State) (ans : Effect) (i : ℕ) (x bytes : List ℕ) → Executes d c ans i x bytes →
@@ -148,7 +146,6 @@ pub execute-running : (d : Host) (c : State) (ans : Effect) (i : ℕ) (x bytes :
 execute-running d c ans i x bytes h =
     let s : Running d c = (h.fetched).running in
     let w = written d c ans i x bytes h in
-    let l : cid x < length d.slots = omega (arith, (h.fetched).within, s.slots) in
     let u : steps (heard d) (unread (executed d x bytes) (executed_state c i x ans)) ≡ steps (heard d) (unread d c) + since d c =
     ap (steps (heard d)) (unread-more d c ans i x bytes h) ∙ steps-more (heard d) (unread d c) (finished c ans x) in
     record {
@@ -169,7 +166,7 @@ execute-running d c ans i x bytes h =
         arith,
         s.held,
         length-remove c.taken i (slice_get_within c.taken i x (h.fetched).there),
-        live-set d.slots (cid x) (record (slot_at d.slots (cid x)) { bytes = bytes }) l,
+        live-set d.slots (cid x) (record (slot_at d.slots (cid x)) { bytes = bytes }) (omega (arith, (h.fetched).within, s.slots)),
       );
       suited = omega (
         arith,

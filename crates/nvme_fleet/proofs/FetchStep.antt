@@ -90,8 +90,7 @@ record Waits (lane : Lane) (d : Driver) (c : Controller) : Type 0 where
 
 waits : (lane : Lane) (d : Driver) (c : Controller) → Sound d c → is_up d.state ≡ true → 0 < (state lane c).waiting → Waits lane d c
 waits lane d c s u p =
-    let r = running lane d c s u in
-    record { sound = s; up = u; some = p; entry = entry-in lane c.window (state lane c).fetched r.fetched }
+    record { sound = s; up = u; some = p; entry = entry-in lane c.window (state lane c).fetched (running lane d c s u).fetched }
 
 taken-at : (lane : Lane) (d : Driver) (c : Controller) → Waits lane d c → AtLane lane d d c (taken_in lane c) d.next (host lane d c.window) (after_fetch (state lane c))
 taken-at lane d c h =
@@ -156,8 +155,7 @@ rung-is lane d c xs h =
 one-waits : (lane : Lane) (d : Driver) (c : Controller) → Waits lane d c → Fetches lane d c
 unfolding after_fetch_of
 one-waits lane d c h =
-    let few : length c.fetched < 64 = omega (arith, length-taken c.fetched, lane-few Admin d c h.sound h.up, lane-few Io d c h.sound h.up) in
-    let o = open-queue lane c (h.sound.up h.up) few h.some in
+    let o = open-queue lane c (h.sound.up h.up) (omega (arith, length-taken c.fetched, lane-few Admin d c h.sound h.up, lane-few Io d c h.sound h.up)) h.some in
     let k : (fetched_from (queue_id lane) c (fetchable c (queue_id lane))).controller ≡ taken_in lane c = ap (λ x. (fetched_from (queue_id lane) c x).controller) o in
     let f = rung-is lane d c (first_rung lane d c ∷ rest_rung lane d c) (fetch-rung (host lane d c.window) (state lane c) h.some) in
     record {
@@ -185,10 +183,8 @@ lane-step lane d c s = elim (cases_Bool (is_up d.state)) [
 
 -- no other queue is there
 other-queue : (a i : Option SubmissionQueue) (n : ℕ) → slice_index_or (a ∷ i ∷ None ∷ None ∷ None ∷ []) (suc (suc n)) None ≡ None
-other-queue a i zero = refl
-other-queue a i (suc zero) = refl
-other-queue a i (suc (suc zero)) = refl
 other-queue a i (suc (suc (suc n))) = refl
+other-queue a i n = refl
 
 far-queue : (c : Controller) (p : IsPaired c) (n : ℕ) → fetchable c (suc (suc n)) ≡ None
 unfolding fetchable

@@ -16,8 +16,7 @@ commands-first w s (suc n) p = let e : suc n - 1 ≡ n = omega arith in rw e ref
 
 more : (d : Host) (c : State) → Running d c → 0 < c.waiting → since d (after_fetch c) ≡ since d c + 1
 more d c s p =
-    let l : last_head (heard d) (unread d c) < 8 = last-small (queue_id c.lane) (heard d) (unread d c) (omega arith) s.of_lane in
-    omega (arith, s.fetched, l, s.unheard, s.room, s.waiting, p)
+    omega (arith, s.fetched, last-small (queue_id c.lane) (heard d) (unread d c) (omega arith) s.of_lane, s.unheard, s.room, s.waiting, p)
 
 fewer : (d : Host) (c : State) → Running d c → 0 < c.waiting → in_flight d (after_fetch c) ≡ in_flight d c - 1
 fewer d c s p = omega (arith, s.put, s.fetched, p, s.waiting)

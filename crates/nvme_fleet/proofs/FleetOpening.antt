@@ -17,9 +17,7 @@ sound-one false n = let o = opening_is_sound 1 n in o.sound
 sound-each : (ks : List ControllerConfig) (i : ℕ) (d : Option Driver) (c : Controller) → slice_get (map opening_driver ks) i ≡ Some d → slice_get (opening-controllers ks) i ≡ Some c → SoundBy d c
 sound-each [] i d c h g = absurd (cc)
 sound-each (k ∷ ks) zero d c h g =
-    let a : opening_driver k ≡ d = same_Some _ _ h in
-    let b : new_controller k.cntlid ≡ c = same_Some _ _ g in
-    subst (λ p. SoundBy p c) a (subst (SoundBy (opening_driver k)) b (sound-one k.raw k.cntlid))
+    subst (λ p. SoundBy p c) (same_Some _ _ h) (subst (SoundBy (opening_driver k)) (same_Some _ _ g) (sound-one k.raw k.cntlid))
 sound-each (k ∷ ks) (suc i) d c h g = sound-each ks i d c h g
 
 pub opened-sound : (w : World) (v : Device) (ks : List ControllerConfig) (cs : List Controller) (ds : List (Option Driver)) (buffer : List ℕ) → cs ≡ opening-controllers ks → ds ≡ map opening_driver ks → buffer ≡ replicate most_bytes 0
@@ -39,9 +37,7 @@ host-one false n = let o = opening_is_sound 1 n in ap WithDriver o.mail
 hosts-each : (ks : List ControllerConfig) → hosts_of (map opening_driver ks) (opening-controllers ks) ≡ map new_host ks
 hosts-each [] = refl
 hosts-each (k ∷ ks) =
-    let one = host-one k.raw k.cntlid in
-    let rest = hosts-each ks in
-    λ j. one j ∷ rest j
+    λ j. (host-one k.raw k.cntlid) j ∷ (hosts-each ks) j
 
 pub opened-fleet : (c : Configuration) (w : World) (v : Device) (cs : List Controller) (ds : List (Option Driver)) (buffer : List ℕ) → w ≡ opening_world c → cs ≡ opening-controllers c.controllers → ds ≡ map opening_driver c.controllers
     → fleet_of (opened-state w v cs ds buffer) ≡ opening c v

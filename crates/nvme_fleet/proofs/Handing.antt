@@ -21,8 +21,7 @@ handed-count m d c result s = sym (ap (λ (r : Reply). data_len r.seen) s.gives)
 pub handed-step : (m : Mailbox) (d : Driver) (c : Controller) (result : Result (Option Answer) PollFault) (buffer : List ℕ) → IsStep (polled m) d c (record { seen = Polled result; bytes = (polled m).reply.bytes })
     → take (length (polled m).reply.bytes) buffer ≡ (polled m).reply.bytes → IsStep (polled m) d c (reply_in (Polled result) buffer)
 handed-step m d c result buffer s front =
-    let e : take (data_len (Polled result)) buffer ≡ (polled m).reply.bytes = ap (λ n. take n buffer) (handed-count m d c result s) ∙ front in
-    subst (λ xs. IsStep (polled m) d c (record { seen = Polled result; bytes = xs })) (sym e) s
+    subst (λ xs. IsStep (polled m) d c (record { seen = Polled result; bytes = xs })) (sym (ap (λ n. take n buffer) (handed-count m d c result s) ∙ front)) s
 
 long-enough : (n : ℕ) (xs ys : List ℕ) → n ≡ length ys → take n xs ≡ ys → n ≤ length xs
 long-enough n xs ys count front = fits n xs (ap length front ∙ sym count)

@@ -1,5 +1,5 @@
 -- What each event leaves of both layers of a fleet.
-use Rattle.nvme_fleet.proofs.Words.{AppliesRaw, Bool, CallsAt, Controller, DoesIfAny, Driver, DriverCall, Event, Executed, ExecutesItem, ExecutesOne, FetchedCommand, Fleet, FleetSeen, FleetState, Idle, IfNone, IfSome, Is, IsCalled, IsOfHost, IsSome, IsSoundFleet, IsThere, KeepsOthers, List, NoSuch, None, Option, Raw, Reaction, ReactsAs, Reply, Seen, Setting, Some, SoundBy, Store, SubmissionQueue, Subsystem, Took, WithDriver, Write32, [], after_fetch, after_store, after_write32, ap, arith, at-place, called, controller_at, controller_in, controller_of, data_len, driver_at, executed-back, false, fetchable, fetched_at, fetched_from, fleet_in, fleet_of, get_or, host_at, host_by, hosts_of, if◌then◌else◌, is_some, layers_of, length, mailbox, marks_after, marks_in, nat_le, none-some, plain, raw_fetch, raw_moment, reaction, reaction_to, refl, reply_in, same_Some, setting_of, settled, site_of, slice_get, slice_get_read, slice_get_within, slice_set, stored_seen, subst, suc, sym, told, true, window_size, with_bytes, with_driver, with_host, wrote, zero, ℕ, ◌+◌, ◌-◌, ◌<◌, ◌∙◌, ◌∷◌, ◌≡◌, ◌≤◌, drop, refill-all, take, ◌++◌}
+use Rattle.nvme_fleet.proofs.Words.{AppliesRaw, Bool, CallsAt, Controller, DoesIfAny, Driver, DriverCall, Event, Executed, ExecutesItem, ExecutesOne, FetchedCommand, Fleet, FleetSeen, FleetState, Idle, IfNone, IfSome, Is, IsCalled, IsOfHost, IsSome, IsSoundFleet, IsThere, KeepsOthers, List, NoSuch, None, Option, Raw, Reaction, ReactsAs, Reply, Seen, Setting, Some, SoundBy, Store, SubmissionQueue, Subsystem, Took, WithDriver, Write32, [], after_fetch, after_store, after_write32, ap, arith, at-place, called, controller_at, controller_in, controller_of, data_len, driver_at, executed-back, false, fetchable, fetched_at, fetched_from, fleet_in, fleet_of, get_or, host_at, host_by, hosts_of, if◌then◌else◌, is_some, layers_of, length, mailbox, marks_after, marks_in, nat_le, none-some, plain, raw_fetch, raw_moment, reaction, reaction_to, refl, reply_in, same_Some, setting_of, settled, site_of, slice_get, slice_get_read, slice_get_within, slice_set, stored_seen, subst, suc, sym, told, true, window_size, with_bytes, with_driver, with_host, wrote, zero, ℕ, ◌+◌, ◌-◌, ◌<◌, ◌∙◌, ◌∷◌, ◌≡◌, ◌≤◌, drop, refill-all, take, ◌++◌, new_controller, Layers}
 use Rattle.nvme_machine.specs.declared.seen.Seen.TheVariants as given
 use Rattle.nvme_machine.specs.Subsystems.{Step, ExecutesAt, with_controller}
 use Rattle.nvme_subsys.proofs.Numbers as numbers
@@ -10,8 +10,8 @@ use Rattle.nvme_fleet.proofs.ExecuteStep.{execution_is_a_step}
 use Rattle.nvme_fleet.proofs.FetchStep.{fetch_is_a_step}
 use Rattle.nvme_fleet.proofs.FleetStep.{execution_is_a_fleet_step}
 use Rattle.nvme_fleet.proofs.PostStep.{nothing_to_execute}
-use Rattle.nvme_fleet.proofs.Seating.{controller-there}
 use Rattle.nvme_fleet.proofs.Seats.{IsSeat, has-driver, has-settled, host-same, reseated, seat}
+use Rattle.std.proofs.lemmas.Option.{slice_get-get_or}
 
 -- What an event of the subsystem gives brings no data.
 told-plain : (x : Seen) (buffer : List ℕ) → reply_in (told x) buffer ≡ plain (told x)
@@ -60,7 +60,7 @@ pub place-below : (s : Subsystem) (k : ℕ) → IsThere s k → k - 1 < length s
 place-below s k h = omega (arith, h.0, h.1)
 
 found-there : (s : Subsystem) (k : ℕ) → IsThere s k → controller_at s k ≡ Some (controller_in s (k - 1))
-found-there s k there = at-place s k (k - 1) (controller_in s (k - 1)) (place-is k there.0) (controller-there s (k - 1) (place-below s k there))
+found-there s k there = at-place s k (k - 1) (controller_in s (k - 1)) (place-is k there.0) (slice_get-get_or s.controllers (k - 1) (new_controller 0) (place-below s k there))
 
 pub controller-is-in : (s : Subsystem) (k : ℕ) (c : Controller) → controller_at s k ≡ Some c → controller_in s (k - 1) ≡ c
 controller-is-in s k c h = same_Some (controller_in s (k - 1)) c (sym (found-there s k (is-there s k c h)) ∙ h)
@@ -142,7 +142,7 @@ has-fetched f g k q (Some d) c s =
     let r = fetch_is_a_step d c q s in
     record { step = λ h. (sym r.gives, h ∙ ap (λ m. with_host f k (WithDriver m)) (sym r.mail)); sound = r.sound }
 
-fetched-if : (o : Option Controller) (a : FleetState) (new : Subsystem) (k q : ℕ) (x : Seen) → controller_at a.subsystem k ≡ o → IsSoundFleet a → ReactsAs o a.subsystem k (after_fetch q) x new
+pub fetched-if : (o : Option Controller) (a : FleetState) (new : Subsystem) (k q : ℕ) (x : Seen) → controller_at a.subsystem k ≡ o → IsSoundFleet a → ReactsAs o a.subsystem k (after_fetch q) x new
     → HasApplied (λ r f. Is (fetched_at (host_at (fleet_of a) k) (fleet_of a) k q) r f) a new (told x)
 fetched-if None a new k q x at s h =
     still _ a new x given.NoController h.0 h.1 s (subst (λ o. Is (fetched_at o (fleet_of a) k q) (plain seen.NoController) (fleet_of a)) (sym (host-none a k at)) (refl, refl))
@@ -154,10 +154,6 @@ fetched-if (Some c) a new k q x at s h =
     let r = reseated a b k d.0 (after_fetch q c).controller s f.sound (sym t.kept) h.1 refl refl in
     same-given _ a new x (given.Fetched (raw_fetch c q)) (h.0 ∙ fetch-gives q c) (has-applied _ a new (given.Fetched (raw_fetch c q))
     (subst (λ o. Is (fetched_at o (fleet_of a) k q) (plain (seen.Fetched (raw_fetch c q))) (fleet_of b)) (sym t.host) (f.step r.fleet)) r.sound)
-
-pub fetched-there : (a : FleetState) (new : Subsystem) (k q : ℕ) (x : Seen) → IsSoundFleet a → ReactsAs (controller_at a.subsystem k) a.subsystem k (after_fetch q) x new
-    → HasApplied (λ r f. Is (fetched_at (host_at (fleet_of a) k) (fleet_of a) k q) r f) a new (told x)
-fetched-there a new k q x s h = fetched-if (controller_at a.subsystem k) a new k q x refl s h
 
 -- An execution.
 
@@ -180,14 +176,14 @@ unfolding fleet_in
 executed-by None o tells a new k n x at s there t named h =
     let c : Controller = controller_in a.subsystem (k - 1) in
     let f : Fleet = fleet_of a in
-    let e = executed-back tells a.subsystem k (k - 1) c n x new (place-is k there.0) (controller-there a.subsystem (k - 1) (place-below a.subsystem k there)) named h in
+    let e = executed-back tells a.subsystem k (k - 1) c n x new (place-is k there.0) (slice_get-get_or a.subsystem.controllers (k - 1) (new_controller 0) (place-below a.subsystem k there)) named h in
     settles tells a new k n None c x e.executed e.left s there t tt e.gives e.leaves
     (subst (λ y. mailboxes.ExecutesAt y tells f k n (plain (seen.Executed e.executed)) (settled f k (site_of e.left) (host_by None e.left.controller) (marks_in e.executed))) (sym t.host)
     (record { executed = e.executed; left = e.left; executes = e.executes; gives = refl; leaves = refl }))
 executed-by (Some d) (Some command) tells a new k n x at s there t named h =
     let c : Controller = controller_in a.subsystem (k - 1) in
     let f : Fleet = fleet_of a in
-    let e = executed-back tells a.subsystem k (k - 1) c n x new (place-is k there.0) (controller-there a.subsystem (k - 1) (place-below a.subsystem k there)) named h in
+    let e = executed-back tells a.subsystem k (k - 1) c n x new (place-is k there.0) (slice_get-get_or a.subsystem.controllers (k - 1) (new_controller 0) (place-below a.subsystem k there)) named h in
     let r = execution_is_a_step tells d n command (setting_of f c) e.executed e.left t.sound at e.executes in
     settles tells a new k n (Some d) c x e.executed e.left s there t r.sound e.gives e.leaves
     (execution_is_a_fleet_step tells f k d c n command e.executed e.left t.sound named t.host at e.executes)
@@ -257,18 +253,18 @@ refused-raw a k d event at some own host = by event own host
     by e same h = absurd h
 
 -- the same below
-pub refused-below : (tells : Bool) (a : FleetState) (k : ℕ) (d : Option Driver) (event : Event) → driver_at a.drivers k ≡ Some d → is_some d ≡ true → AppliesRaw (driver_at a.drivers k) tells (layers_of a) event seen.NotRaw (layers_of a)
-refused-below tells a k None event at some = absurd (cc)
-refused-below tells a k (Some d) event at some = subst (λ o. AppliesRaw o tells (layers_of a) event seen.NotRaw (layers_of a)) (sym at) (refl, refl)
+pub refused-below : (tells : Bool) (l : Layers) (k : ℕ) (d : Option Driver) (event : Event) → driver_at l.drivers k ≡ Some d → is_some d ≡ true → AppliesRaw (driver_at l.drivers k) tells l event seen.NotRaw l
+refused-below tells l k None event at some = absurd (cc)
+refused-below tells l k (Some d) event at some = subst (λ o. AppliesRaw o tells l event seen.NotRaw l) (sym at) (refl, refl)
 
-pub missed-below : (tells : Bool) (a : FleetState) (k : ℕ) (event : Event) → driver_at a.drivers k ≡ None → AppliesRaw (driver_at a.drivers k) tells (layers_of a) event seen.NoController (layers_of a)
-missed-below tells a k event at = subst (λ o. AppliesRaw o tells (layers_of a) event seen.NoController (layers_of a)) (sym at) (refl, refl)
+pub missed-below : (tells : Bool) (l : Layers) (k : ℕ) (event : Event) → driver_at l.drivers k ≡ None → AppliesRaw (driver_at l.drivers k) tells l event seen.NoController l
+missed-below tells l k event at = subst (λ o. AppliesRaw o tells l event seen.NoController l) (sym at) (refl, refl)
 
-pub applied-below : (tells : Bool) (a : FleetState) (new : Subsystem) (k : ℕ) (d : Option Driver) (event : Event) (x : Seen) (what : FleetSeen) → driver_at a.drivers k ≡ Some d → is_some d ≡ false → Step tells a.subsystem event x new → what ≡ told x
-    → AppliesRaw (driver_at a.drivers k) tells (layers_of a) event what (record { subsystem = new; drivers = a.drivers })
-applied-below tells a new k None event x what at none step is =
-    subst (λ o. AppliesRaw o tells (layers_of a) event what (record { subsystem = new; drivers = a.drivers })) (sym at) (record { given = x; step = step; gives = is; drivers = refl })
-applied-below tells a new k (Some d) event x what at none step is = absurd (cc)
+pub applied-below : (tells : Bool) (l : Layers) (new : Subsystem) (k : ℕ) (d : Option Driver) (event : Event) (x : Seen) (what : FleetSeen) → driver_at l.drivers k ≡ Some d → is_some d ≡ false → Step tells l.subsystem event x new → what ≡ told x
+    → AppliesRaw (driver_at l.drivers k) tells l event what (record { subsystem = new; drivers = l.drivers })
+applied-below tells l new k None event x what at none step is =
+    subst (λ o. AppliesRaw o tells l event what (record { subsystem = new; drivers = l.drivers })) (sym at) (record { given = x; step = step; gives = is; drivers = refl })
+applied-below tells l new k (Some d) event x what at none step is = absurd (cc)
 
 -- A driver's call.
 
@@ -304,8 +300,7 @@ delivered tells a b k d e call what s at drivers calls world device others long 
     let h = has-called (fleet_of a) (fleet_of b) k d e (controller_in a.subsystem i) x call (reply_in what b.buffer) t.sound calls in
     let set = numbers.replaced-at a.subsystem.controllers k i x is in
     let put = drivers ∙ put-is a.drivers k i e is in
-    let left : b.subsystem ≡ with_controller a.subsystem k x = others ∙ (λ j. record { world = world j; device = device j; controllers = sym set j }) in
-    let r = reseated a b k e x s h.sound put left long filled in
+    let r = reseated a b k e x s h.sound put (others ∙ (λ j. record { world = world j; device = device j; controllers = sym set j })) long filled in
     record {
       step = subst (λ o. Is (mailboxes.called_at o (fleet_of a) k (reaction_to call)) (reply_in what b.buffer) (fleet_of b)) (sym t.host) (h.step t.host r.fleet);
       sound = r.sound;
@@ -323,5 +318,5 @@ delivered-at tells a old new buffer len k n d e call what same s some is calls w
     (subst (λ o. HasDelivered tells o b k call what) same
     (delivered tells a b k d e call what s (found-at a old k n d same s some is) (ap (λ m. slice_set a.drivers m e) some.0) calls world device others long refl does))
 
-pub missed-call : (tells : Bool) (a : FleetState) (k : ℕ) (call : DriverCall) → driver_at a.drivers k ≡ None → CallsAt (driver_at a.drivers k) tells (layers_of a) k call seen.NoController (layers_of a)
-missed-call tells a k call at = subst (λ o. CallsAt o tells (layers_of a) k call seen.NoController (layers_of a)) (sym at) (refl, refl)
+pub missed-call : (tells : Bool) (l : Layers) (k : ℕ) (call : DriverCall) → driver_at l.drivers k ≡ None → CallsAt (driver_at l.drivers k) tells l k call seen.NoController l
+missed-call tells l k call at = subst (λ o. CallsAt o tells l k call seen.NoController l) (sym at) (refl, refl)

@@ -20,9 +20,8 @@ held lane d c i t k =
     let w = seen lane d c i t k in
     let h = is-suited (slot_seen lane d c t) t.entry (k.one).suits_it in
     let r = read-so (slot_seen lane d c t) t.entry h (k.one).within in
-    let l = h.there in
     let there : take (length (stored_list (cid t.entry) (asked_in (slot_seen lane d c t) t.entry).moved)) (listed c.window (cid t.entry)) ≡ stored_list (cid t.entry) (asked_in (slot_seen lane d c t) t.entry).moved =
-    sym (ap (λ (z : Slot). take (length (stored_list (cid t.entry) (asked_in (slot_seen lane d c t) t.entry).moved)) z.list) e) ∙ l in
+    sym (ap (λ (z : Slot). take (length (stored_list (cid t.entry) (asked_in (slot_seen lane d c t) t.entry).moved)) z.list) e) ∙ h.there in
     record {
       suited = h;
       within = (k.one).within;
@@ -50,11 +49,9 @@ pub data-same : (lane : Lane) (d : Driver) (c : Controller) (t : FetchedCommand)
     → data_in (asked_in (slot_seen lane d c t) t.entry).moved c.window t.entry ≡ (asked_in (slot_seen lane d c t) t.entry).sent
 unfolding area
 data-same lane d c t h z =
-    let m = h.moves in
-    let u = h.suited in
     let e : (asked_in (slot_seen lane d c t) t.entry).moved - (asked_in (slot_seen lane d c t) t.entry).received ≡ (asked_in (slot_seen lane d c t) t.entry).moved = omega (arith, z) in
-    m.gathers
-    ∙ sym (take-take (asked_in (slot_seen lane d c t) t.entry).moved most_bytes (drop (data_area (cid t.entry)) c.window) u.most)
+    h.moves.gathers
+    ∙ sym (take-take (asked_in (slot_seen lane d c t) t.entry).moved most_bytes (drop (data_area (cid t.entry)) c.window) h.suited.most)
     ∙ ap (λ n. take n (area c.window (cid t.entry))) (sym e)
     ∙ ap (take ((asked_in (slot_seen lane d c t) t.entry).moved - (asked_in (slot_seen lane d c t) t.entry).received)) (sym h.bytes)
 

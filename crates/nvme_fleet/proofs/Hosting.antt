@@ -6,13 +6,10 @@ use Rattle.nvme_fleet.proofs.MarkStep.{marks_are_steps}
 -- a host is where its driver and its controller are
 pub hosts-get : (ds : List (Option Driver)) (cs : List Controller) (i : ℕ) (d : Option Driver) (c : Controller) → slice_get ds i ≡ Some d → slice_get cs i ≡ Some c
     → slice_get (hosts_of ds cs) i ≡ Some (host_by d c)
-hosts-get [] cs i d c h g = absurd (cc)
-hosts-get (x ∷ ds) [] i d c h g = absurd (cc)
 hosts-get (x ∷ ds) (y ∷ cs) zero d c h g =
-    let a : x ≡ d = same_Some _ _ h in
-    let b : y ≡ c = same_Some _ _ g in
-    λ j. Some (host_by (a j) (b j))
+    λ j. Some (host_by ((same_Some _ _ h) j) ((same_Some _ _ g) j))
 hosts-get (x ∷ ds) (y ∷ cs) (suc i) d c h g = hosts-get ds cs i d c h g
+hosts-get ds cs i d c h g = absurd (cc)
 
 pub hosts-set : (ds : List (Option Driver)) (cs : List Controller) (i : ℕ) (d : Option Driver) (c : Controller)
     → hosts_of (slice_set ds i d) (slice_set cs i c) ≡ slice_set (hosts_of ds cs) i (host_by d c)
@@ -40,10 +37,9 @@ mark-sound (Some d) c n s = let m = marks_are_steps d c n s in m.sound
 pub hosts-marked : (w : World) (m : Marks) (k : ℕ) (ds : List (Option Driver)) (cs : List Controller)
     → ((i : ℕ) (d : Option Driver) (c : Controller) → slice_get ds i ≡ Some d → slice_get cs i ≡ Some c → SoundBy d c)
     → hosts_of ds (machine.marked_from w m k cs) ≡ marked_from w m k (hosts_of ds cs)
-hosts-marked w m k [] cs s = refl
-hosts-marked w m k (d ∷ ds) [] s = refl
 hosts-marked w m k (d ∷ ds) (c ∷ cs) s = λ j. by (is_host_among m.hosts.items (host_of w k)) j ∷ hosts-marked w m (k + 1) ds cs (λ i e x h g. s (suc i) e x h g) j
   where
     by : (b : Bool) → host_by d (if b then with_marks m.nsid c else c) ≡ (if b then marked m.nsid (host_by d c) else host_by d c)
     by true = mark-host d c m.nsid (s 0 d c refl refl)
     by false = refl
+hosts-marked w m k ds cs s = refl

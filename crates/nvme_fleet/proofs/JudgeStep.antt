@@ -48,8 +48,7 @@ pub action-is : (d : Driver) (c : Controller) (t : FetchedCommand) (w : World) (
     → reservation_outcome w cntlid t.entry (data_of c.window t.entry) ≡ action_of w cntlid (asked_in (slot_seen Io d c t) t.entry)
 unfolding reservation_outcome
 action-is d c t w cntlid h =
-    let u = h.suited in
-    let p = plain-io (asked_in (slot_seen Io d c t) t.entry) h.of_lane u.plain in
+    let p = plain-io (asked_in (slot_seen Io d c t) t.entry) h.of_lane h.suited.plain in
     ap (λ ks. outcome_in (io_commands.command_of (opcode t.entry)) (namespace_of w (nsid t.entry)) (host_of w cntlid) t.entry ks) (data-is d c t h)
     ∙ keys-of (io_commands.command_of (opcode t.entry)) (host_of w cntlid) (namespace_of w (nsid t.entry)) t.entry _ _ (asked_in (slot_seen Io d c t) t.entry).received (asked_in (slot_seen Io d c t) t.entry).moved p.0 p.1 (data-same Io d c t h)
     ∙ sym (reservation-same w cntlid t.entry (command_entry (asked_in (slot_seen Io d c t) t.entry)) (asked_in (slot_seen Io d c t) t.entry).sent h.same)
@@ -59,8 +58,7 @@ judged : (d : Driver) (c : Controller) (t : FetchedCommand) (w : World) (cntlid 
     → spec.io_judgement w cntlid t.entry t.marked c.window ≡ io_judgement w cntlid (asked_in (slot_seen Io d c t) t.entry) t.marked
 unfolding spec.io_judgement io_judgement
 judged d c t w cntlid h =
-    let m = h.moves in
-    let p = pointer-passes c.window (cid t.entry) t.entry (asked_in (slot_seen Io d c t) t.entry).moved m in
+    let p = pointer-passes c.window (cid t.entry) t.entry (asked_in (slot_seen Io d c t) t.entry).moved h.moves in
     let q : judgement_by (pointer_rule (io_commands.data_length_of (io_commands.command_of (opcode t.entry)) t.entry) c.window t.entry) ≡ Ok tt = ap (λ n. judgement_by (pointer_rule n c.window t.entry)) (sym (length-is d c t h)) ∙ p in
     without-pointer (access_rules w cntlid t.entry t.marked) (pointer_rule (io_commands.data_length_of (io_commands.command_of (opcode t.entry)) t.entry) c.window t.entry) (action_rule (reservation_outcome w cntlid t.entry (data_of c.window t.entry))) q
     ∙ ap (λ o. first_failing (access_rules w cntlid t.entry t.marked ++ action_rule o ∷ [])) (action-is d c t w cntlid h)
@@ -71,8 +69,6 @@ io-known d c i t s g q = held-known Io d c i t s g (ap lane_of_queue q)
 
 pub judged_as_its_request : JudgedAsItsRequest
 judged_as_its_request d c i t x w cntlid s g f q =
-    let h = io-known d c i t s g q in
-    let e = item-is d c i t x g f in
-    judged d c t w cntlid h
+    judged d c t w cntlid (io-known d c i t s g q)
     ∙ ap (λ a. io_judgement w cntlid a t.marked) (sym (asked-in Io d c t (ap lane_of_queue q)))
-    ∙ ap (λ (y : FetchedItem). io_judgement w cntlid y.item.asked y.marked) (sym e)
+    ∙ ap (λ (y : FetchedItem). io_judgement w cntlid y.item.asked y.marked) (sym (item-is d c i t x g f))

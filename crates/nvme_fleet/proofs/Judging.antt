@@ -1,5 +1,5 @@
 -- Commands with the same fields are judged alike.
-use Rattle.nvme_fleet.proofs.Words.{◌≡◌, ℕ, ◌*◌, Bool, List, Option, None, Some, refl, ap, opcode, nsid, Command, World, Namespace, namespace_of, host_of, starting_lba, block_count, action, iekey, cptpl, rtype, eds, report_length, data_length, access_rules, form_rule, action_outcome, reservation_outcome, outcome_in}
+use Rattle.nvme_fleet.proofs.Words.{◌≡◌, ℕ, ◌*◌, Bool, List, Option, Some, refl, ap, opcode, nsid, Command, World, Namespace, namespace_of, host_of, starting_lba, block_count, action, iekey, cptpl, rtype, eds, report_length, data_length, access_rules, form_rule, action_outcome, reservation_outcome, outcome_in}
 use Rattle.nvme_spec.specs.declared.command.Command.TheVariants as io
 use Rattle.nvme_spec.specs.Commands as io_commands
 use Rattle.nvme_spec.specs.IoRules as rules
@@ -31,9 +31,7 @@ same-outcome x y command r host keys h = refl
 
 outcome-in-same : (x y : List ℕ) (o : Option Command) (n : Option Namespace) (host : Option ℕ) (keys : List ℕ) → SameFields x y → outcome_in o n host y keys ≡ outcome_in o n host x keys
 outcome-in-same x y (Some command) (Some n) (Some host) keys h = same-outcome x y command n.reservation host keys h
-outcome-in-same x y (Some command) (Some n) None keys h = refl
-outcome-in-same x y (Some command) None host keys h = refl
-outcome-in-same x y None n host keys h = refl
+outcome-in-same x y o n host keys h = refl
 
 pub reservation-same : (w : World) (k : ℕ) (x y keys : List ℕ) → SameFields x y → reservation_outcome w k y keys ≡ reservation_outcome w k x keys
 unfolding reservation_outcome

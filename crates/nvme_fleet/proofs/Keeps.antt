@@ -1,6 +1,7 @@
 -- Two queue pages that differ in one submission entry and one completion entry at most, and what both then have.
 use Rattle.nvme_fleet.proofs.Words.{◌≡◌, ℕ, ◌+◌, ◌-◌, ◌*◌, ◌%◌, ◌<◌, ◌≤◌, List, length, refl, arith, zero, suc, false, eqb, take, drop, ◌⊎◌, inl, inr, subst, sym, cases_lt, eqb-false, ne_eqb, with_bytes, command_at, completion_bytes, commands, completions}
-use Rattle.nvme_fleet.proofs.Windows.{stored-length, stored-apart, stored-in}
+use Rattle.nvme_fleet.proofs.Windows.{stored-apart, stored-in}
+use Rattle.nvme_spec.proofs.Splices.{length-with_bytes}
 
 -- two queue pages that differ in the p-th submission entry and the m-th completion entry at most
 pub record Keeps (w w' : List ℕ) (p m : ℕ) : Type 0 where
@@ -33,7 +34,7 @@ enters w entry p l h b =
     record {
       keeps =
           record {
-            size = stored-length w entry (64 * p) i;
+            size = length-with_bytes w (64 * p) entry i;
             commands = λ k g q. stored-apart w entry (64 * p) (64 * k) 64 i (apart-entries k p (length entry) q (omega (arith, b)));
             completions = λ n q. stored-apart w entry (64 * p) (4096 + 16 * (n % 32)) 16 i (inr (omega (arith, h, b)));
           };
@@ -51,7 +52,7 @@ answered w entry m l h b =
     record {
       keeps =
           record {
-            size = stored-length w entry (4096 + 16 * m) i;
+            size = length-with_bytes w (4096 + 16 * m) entry i;
             commands = λ k g q. stored-apart w entry (4096 + 16 * m) (64 * k) 64 i (inl (omega (arith, g)));
             completions = λ n q. stored-apart w entry (4096 + 16 * m) (4096 + 16 * (n % 32)) 16 i (subst (λ x. (4096 + 16 * (n % 32) + 16 ≤ 4096 + 16 * m) ⊎ (4096 + 16 * m + x ≤ 4096 + 16 * (n % 32))) (sym b) (apart-16 4096 (n % 32) m q));
           };
@@ -62,31 +63,24 @@ answered w entry m l h b =
 pub commands-kept : (w w' : List ℕ) (p m from n : ℕ) → Keeps w w' p m → p < 8 → from < 8 → n ≤ (p + 8 - from) % 8 → commands w' from n ≡ commands w from n
 commands-kept w w' p m from zero k a b h = refl
 commands-kept w w' p m from (suc n) k a b h =
-    let q : eqb from p ≡ false = ne_eqb from p (λ e. omega (arith, e, h, b)) in
-    let r : (from + 1) % 8 < 8 = omega arith in
     let g : n ≤ (p + 8 - (from + 1) % 8) % 8 = omega (arith, h, a, b) in
-    rw (k.commands from b q, commands-kept w w' p m ((from + 1) % 8) n k a r g) refl
+    rw (k.commands from b (ne_eqb from p (λ e. omega (arith, e, h, b))), commands-kept w w' p m ((from + 1) % 8) n k a (omega arith) g) refl
 
 -- where no submission entry differs
 pub commands-same : (w w' : List ℕ) (m from n : ℕ) → Keeps w w' 8 m → from < 8 → commands w' from n ≡ commands w from n
 commands-same w w' m from zero k b = refl
 commands-same w w' m from (suc n) k b =
-    let q : eqb from 8 ≡ false = ne_eqb from 8 (λ e. omega (arith, e, b)) in
-    let r : (from + 1) % 8 < 8 = omega arith in
-    rw (k.commands from b q, commands-same w w' m ((from + 1) % 8) n k r) refl
+    rw (k.commands from b (ne_eqb from 8 (λ e. omega (arith, e, b))), commands-same w w' m ((from + 1) % 8) n k (omega arith)) refl
 
 -- a stretch of completions up to the m-th, which alone differs
 pub completions-kept : (w w' : List ℕ) (p m n k : ℕ) → Keeps w w' p m → m < 32 → n < 64 → k < 32 → k ≤ (m + 32 - n % 32) % 32 → completions w' n k ≡ completions w n k
 completions-kept w w' p m n zero h a b l g = refl
 completions-kept w w' p m n (suc k) h a b l g =
-    let q : eqb (n % 32) m ≡ false = ne_eqb (n % 32) m (λ e. omega (arith, e, g)) in
-    let r : (n + 1) % 64 < 64 = omega arith in
     let f : k ≤ (m + 32 - (n + 1) % 64 % 32) % 32 = omega (arith, g, a, b, l) in
-    rw (h.completions n q, completions-kept w w' p m ((n + 1) % 64) k h a r (omega (arith, l)) f) refl
+    rw (h.completions n (ne_eqb (n % 32) m (λ e. omega (arith, e, g))), completions-kept w w' p m ((n + 1) % 64) k h a (omega arith) (omega (arith, l)) f) refl
 
 -- where no completion entry differs
 pub completions-same : (w w' : List ℕ) (p n k : ℕ) → Keeps w w' p 32 → completions w' n k ≡ completions w n k
 completions-same w w' p n zero h = refl
 completions-same w w' p n (suc k) h =
-    let q : eqb (n % 32) 32 ≡ false = ne_eqb (n % 32) 32 (λ e. omega (arith, e)) in
-    rw (h.completions n q, completions-same w w' p ((n + 1) % 64) k h) refl
+    rw (h.completions n (ne_eqb (n % 32) 32 (λ e. omega (arith, e))), completions-same w w' p ((n + 1) % 64) k h) refl

@@ -95,8 +95,7 @@ own-is lane w n None l = let z : ⊥ = omega (arith, l) in absurd z
 own-is lane w n (Some x) l =
     elim (cases_Bool (same x.lane lane)) [
       | inl s ↦
-          let m : cond {A = ℕ} x.live 1 0 ≡ 1 = rw s at l in
-          own-by lane x (same-is x.lane lane s) (cond-one x.live m)
+          own-by lane x (same-is x.lane lane s) (cond-one x.live (rw s at l))
       | inr s ↦ let m : 0 ≡ 1 = rw s at l in let z : ⊥ = omega (arith, m) in absurd z
     ]
 

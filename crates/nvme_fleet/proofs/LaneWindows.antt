@@ -1,8 +1,9 @@
 -- Windows that differ in one slot or in the queue pages of one lane, and stores that leave such windows.
 use Rattle.nvme_fleet.proofs.Words.{list_page, data_area, ◌≡◌, ℕ, ◌+◌, ◌*◌, ◌<◌, ◌≤◌, List, length, refl, ap, ◌∙◌, arith, true, false, cond, eqb, take, drop, ◌⊎◌, inl, inr, take-take, cases_lt, eqb-false, most_bytes, with_bytes, Lane, Admin, Io, same, other, submission_queue, pages_of, area, listed}
-use Rattle.nvme_fleet.proofs.Windows.{stored-length, stored-apart, stored-in}
+use Rattle.nvme_fleet.proofs.Windows.{stored-apart, stored-in}
 use Rattle.std.proofs.Common.{rules}
 use Rattle.std.proofs.lemmas.List.{places, same_lists}
+use Rattle.nvme_spec.proofs.Splices.{length-with_bytes}
 
 -- what holds of a lane and of the other holds of each
 pub each-lane : (lane : Lane) (P : Lane → Type 0) → P lane → P (other lane) → (l : Lane) → P l
@@ -98,7 +99,7 @@ pub data-stored : (w v : List ℕ) (s : ℕ) (f : Lane → List ℕ → List ℕ
 data-stored w v s f bytes m h b =
     let i : data_area s + length bytes ≤ length v = omega (arith, m.size, h, b) in
     record {
-      size = stored-length v bytes (data_area s) i ∙ m.size;
+      size = length-with_bytes v (data_area s) bytes i ∙ m.size;
       slots = λ k g q. same-both w v _ k (m.slots k g q) (record { areas = area-apart v bytes (data_area s) k i (apart-data 1048576 k s (length bytes) q b); lists = list-apart v bytes (data_area s) k i (inl (omega (arith, g))) });
       pages = λ lane. pages-apart lane v bytes (data_area s) i (inl (omega (arith, queue-low lane))) ∙ m.pages lane;
     }
@@ -107,7 +108,7 @@ pub list-stored : (w v : List ℕ) (s : ℕ) (f : Lane → List ℕ → List ℕ
 list-stored w v s f bytes m h b =
     let i : list_page s + length bytes ≤ length v = omega (arith, m.size, h, b) in
     record {
-      size = stored-length v bytes (list_page s) i ∙ m.size;
+      size = length-with_bytes v (list_page s) bytes i ∙ m.size;
       slots = λ k g q. same-both w v _ k (m.slots k g q) (record { areas = area-apart v bytes (list_page s) k i (inr (omega (arith, h, b))); lists = list-apart v bytes (list_page s) k i (apart-list 65536 k s (length bytes) q b) });
       pages = λ lane. pages-apart lane v bytes (list_page s) i (inl (omega (arith, queue-low lane))) ∙ m.pages lane;
     }
@@ -116,7 +117,7 @@ pub page-stored : (lane : Lane) (w v : List ℕ) (s : ℕ) (f : Lane → List �
     Stored w (with_bytes v (submission_queue lane + at) bytes) s (λ l p. cond (same l lane) (with_bytes (f l p) at bytes) (f l p))
 page-stored lane w v s f bytes at m h =
     record {
-      size = stored-length v bytes (submission_queue lane + at) (omega (arith, queue-low lane, m.size, h)) ∙ m.size;
+      size = length-with_bytes v (submission_queue lane + at) bytes (omega (arith, queue-low lane, m.size, h)) ∙ m.size;
       slots = λ k g q. same-both w v _ k (m.slots k g q) (slot-apart lane v bytes at k m.size h g);
       pages = each-lane lane (λ l. pages_of l (with_bytes v (submission_queue lane + at) bytes) ≡ cond (same l lane) (with_bytes (f l (pages_of l w)) at bytes) (f l (pages_of l w)))
           (rw (same-self lane) (here-of lane v bytes at h (omega (arith, queue-low lane, m.size)) ∙ ap (λ x. with_bytes x at bytes) (m.pages lane)))

@@ -46,30 +46,23 @@ executes : (n : ℕ) (old new other : Layers) (m : Device) (k i : ℕ) (x : Flee
     → Happens true (layers_over m old) (Execute k i) x other → IsLed n old new other
 unfolding fleet_in
 executes n old new other m k i x both fenced h g =
-    let regular = both.regular in
     let before = both.differ in
     let start : m.failures ≡ count old.subsystem = before.failures in
-    let o = machine.step-over n old.subsystem new.subsystem (event.Execute k i) h.given m regular.laid before fenced h.step in
+    let o = machine.step-over n old.subsystem new.subsystem (event.Execute k i) h.given m both.regular.laid before fenced h.step in
     let left = o.2 in
     let calm : AreCalm (over m old.subsystem) (over o.0 new.subsystem) other.subsystem =
     record { one = left.failures ∙ both.one ∙ sym start; two = both.two ∙ sym start; below = subst (λ c. c < 2 ^ 64 - 1) (sym start) both.below } in
     (o.0, happens-alone (layers_over m old) (layers_over o.0 new) other (Execute k i) x calm both.tickets (record { given = h.given; step = o.1; gives = h.gives; drivers = h.drivers }) g, left)
-
-not-executed : (e : FleetEvent) → IsOther e → (k i : ℕ) → e ≡ Execute k i → ⊥
-not-executed e other k i is = subst IsOther is other
-
-cycled-apart : (k i : ℕ) → PowerCycle ≡ Execute k i → ⊥
-cycled-apart k i is = absurd (cc)
 
 leads : (n : ℕ) (old new other : Layers) (m : Device) (e : FleetEvent) (reply : Reply) → AreBoth n old new other m → OfItsHost (λ k. may_read old.subsystem.world k n ≡ false) e → Step true old e reply new
     → Happens true (layers_over m old) e reply.seen other → IsLed n old new other
 unfolding after_power_cycle
 leads n old new other m (Execute k i) reply both fenced s g = executes n old new other m k i reply.seen both fenced s.below g
 leads n old new other m PowerCycle reply both fenced s g =
-    let below = s.below in quietly n old new other m PowerCycle reply.seen both (ap (λ (t : Subsystem). t.device) below.cycled) cycled-apart s.below g
+    let below = s.below in quietly n old new other m PowerCycle reply.seen both (ap (λ (t : Subsystem). t.device) below.cycled) (λ k i is. cc) s.below g
 leads n old new other m e reply both fenced s g =
     let same = same-site old new (fault_free_step (fleet_in old) e) reply (other-site (fleet_in old) e tt) s.mailboxes in
-    quietly n old new other m e reply.seen both same.device (not-executed e tt) s.below g
+    quietly n old new other m e reply.seen both same.device (λ k i is. subst IsOther is tt) s.below g
 
 pub step-leads : (n : ℕ) (old new other : Layers) (m : Device) (e : FleetEvent) (reply : Reply) → count new.subsystem ≡ count old.subsystem → count other.subsystem ≡ count old.subsystem → count old.subsystem < 2 ^ 64 - 1
     → HaveTicketsOnce old → IsRegular (fleet_in old) → DifferIn n old.subsystem.world old.subsystem.device m → OfItsHost (λ k. may_read old.subsystem.world k n ≡ false) e → Step true old e reply new

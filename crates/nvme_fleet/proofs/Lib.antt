@@ -48,7 +48,6 @@ pub mod OwnCommands
 pub mod TurnStep
 pub mod RiseStep
 pub mod FleetStep
-pub mod Seating
 pub mod SoundOpening
 pub mod Hosting
 pub mod Seats

@@ -2,7 +2,6 @@
 -- medium, since admin commands make none.
 use Rattle.nvme_fleet.proofs.Words.{Bool, Call, CallOverMedium, CallStep, CallingAt, CallingOne, CallingOver, Calls, Controller, Driver, Event, FetchedCommand, IsStep, KeepsOthers, KeepsSite, LinkStep, Linked, List, MailboxReaction, MediumCall, None, Option, OverMedium, QueuePair, Ran, Reaches, ReachesMedium, Reply, Seen, Setting, Some, Subsystem, Turns, [], after_call, after_calls, after_fetch, ap, arith, controller_at, controller_in, events_of, events_of_calls, length, length-set, linked_controller, linked_setting, new_controller, open_pair, refl, scene_of, set-get_or, set-set, setting_in, slice_get, subst, sym, with_controller, with_controller_at, with_setting, ℕ, ◌++◌, ◌+◌, ◌<◌, ◌∙◌, ◌∷◌, ◌≡◌}
 use Rattle.nvme_mailbox.proofs.Lists.{all-get}
-use Rattle.std.specs.Borrow.{GName}
 use Rattle.nvme_spec.specs.MediumCalls.{Calls as CallsMade}
 use Rattle.nvme_machine.specs.declared.event.Event.TheVariants.{Fetch, Execute}
 use Rattle.nvme_machine.specs.Calling.{AreCallsAs, AreCallsOfExecution}
@@ -11,9 +10,10 @@ use Rattle.nvme_machine.specs.Subsystems.{Run}
 use Rattle.nvme_subsys.proofs.Numbers as numbers
 use Rattle.nvme_fleet.proofs.AdminTurns.{AreAdmin, IsAdmin, call-admin, call-named, fetch-admin, fetched_by}
 use Rattle.nvme_fleet.proofs.Reaching.{IsStepThere, is-put, plain-there, reacted-as, turns-there}
-use Rattle.nvme_fleet.proofs.Seating.{controller-there, get-set}
 use Rattle.nvme_fleet.proofs.PlainCalls.{IsPlain, plain-first}
 use Rattle.nvme_fleet.proofs.StartStep.{calls-are, calls-id}
+use Rattle.std.proofs.lemmas.List.{get_or-set_same}
+use Rattle.std.proofs.lemmas.Option.{slice_get-get_or}
 
 -- An admin command makes no call.
 
@@ -44,11 +44,10 @@ turn-none tells a b i (x ∷ y ∷ []) calls admin there (mid, here, behind, ste
     let m : Subsystem = with_controller_at a i d in
     let p = reacted-as a mid (i + 1) i (after_fetch 0) x refl there step.0 in
     let long : i < length m.controllers = let e = length-set a.controllers i d in omega (arith, e, there) in
-    let found : slice_get m.controllers i ≡ Some d = controller-there m i long ∙ ap Some (get-set a.controllers i d _ there) in
+    let found : slice_get m.controllers i ≡ Some d = slice_get-get_or m.controllers i (new_controller 0) long ∙ ap Some (get_or-set_same a.controllers i d _ there) in
     let none : now ≡ [] = none-executed tells m (i + 1) d y last now (numbers.at-place m (i + 1) i d refl found) (fetch-admin (controller_in a i) admin)
     (subst (λ (s : Subsystem). CallingAt (controller_at s (i + 1)) tells s (i + 1) 0 y last now) p.leaves executes) in
-    let empty : behind ≡ [] = after ∙ ap (λ cs. cs ++ later) none ∙ ended.1 in
-    joined ∙ ap (λ cs. cs ++ behind) step.1 ∙ empty
+    joined ∙ ap (λ cs. cs ++ behind) step.1 ∙ (after ∙ ap (λ cs. cs ++ later) none ∙ ended.1)
 
 -- One call.
 
@@ -81,7 +80,7 @@ same-put a i = ap (λ cs. (let s : Subsystem = record a { controllers = cs } in 
 
 put-twice : (a : Subsystem) (i : ℕ) (c : Controller) (f : Controller → Controller) → i < length a.controllers → with_controller_at (with_controller_at a i c) i (f (controller_in (with_controller_at a i c) i)) ≡ with_controller_at a i (f c)
 put-twice a i c f there =
-    ap (λ x. with_controller_at (with_controller_at a i c) i (f x)) (get-set a.controllers i c (new_controller 0) there)
+    ap (λ x. with_controller_at (with_controller_at a i c) i (f x)) (get_or-set_same a.controllers i c (new_controller 0) there)
     ∙ ap (λ cs. (let s : Subsystem = record a { controllers = cs } in s)) (set-set a.controllers i c (f c))
 
 plain-leaves : (tells : Bool) (call : Call) (a b : Subsystem) (i : ℕ) → IsPlain (call ∷ []) → i < length a.controllers → CallStep tells (i + 1) a call b → b ≡ with_controller_at a i (after_call call (controller_in a i))
@@ -127,9 +126,6 @@ pub record HasDone {M : Type 0} (r : MailboxReaction) (d : Driver) (p q : OverMe
 abbrev pub IsSameName : {M : Type 0} → OverMedium Linked M → OverMedium Linked M → Type 0
 IsSameName p q = q.state.name ∷ [] ≡ p.state.name ∷ []
 
-pub same-name : (a b : GName) → a ∷ [] ≡ b ∷ [] → a ≡ b
-same-name a b h = cc
-
 pub done : {M : Type 0} (tells : Bool) (calls : List Call) (r : MailboxReaction) (d e : Driver) (p q : OverMedium Linked M) (gives reply : Reply) (Below : Type 0) → p.state.place < length p.state.subsystem.controllers → IsSameName p q
     → AreMade tells calls p q → IsStep r d (after_calls calls (linked_controller p.state)) gives → e ≡ d → reply ≡ gives → Below → HasDone r e p q reply Below
 done tells calls r d e p q gives reply Below there name made step same is below =
@@ -147,7 +143,7 @@ done tells calls r d e p q gives reply Below there name made step same is below 
         device = ap (λ (s : Setting). s.device) put.setting_is;
         others = put.others;
         place = at;
-        name = same-name q.state.name p.state.name name;
+        name = cc (name);
       };
       below = below;
       medium = made.medium;

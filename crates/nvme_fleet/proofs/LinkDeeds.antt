@@ -8,7 +8,7 @@ use Rattle.nvme_driver.specs.Polls as poll
 use Rattle.nvme_event.specs.declared.seen.FleetSeen.TheVariants as seen
 use Rattle.nvme_mailbox.specs.Deliveries as mail
 use Rattle.nvme_fleet.proofs.AdminTurns.{IsAdmin}
-use Rattle.nvme_fleet.proofs.LinkCalls.{HasDone, IsFresh, IsSameName, calls-made, done, fresh-call, fresh-start, same-name}
+use Rattle.nvme_fleet.proofs.LinkCalls.{HasDone, IsFresh, IsSameName, calls-made, done, fresh-call, fresh-start}
 use Rattle.nvme_fleet.proofs.PlaceStep.{place_is_a_step, refusal_is_a_step}
 use Rattle.nvme_fleet.proofs.Places.{no-way}
 use Rattle.nvme_fleet.proofs.PlainCalls.{IsUndone, by-poll, plain-polled, plain-ring}
@@ -38,9 +38,8 @@ places {M} step tells d e p q request (Err why) s at name refused unchanged take
     done tells [] _ d e p q _ _ _ at.0 name made (refusal_is_a_step d (linked_controller p.state) request why s refused) unchanged.0 refl
     (unchanged.0, nothing-ran tells p.state.subsystem q.state.subsystem made.ran)
 places step tells d e p q request (Ok ticket) s at name refused unchanged taken (slot, free, is, calls) (other, same, held) =
-    let one : other ≡ slot = ap slot_in (sym same ∙ free) in
     let says : submission_of (driver.entry_of request slot) ≡ driver.entry_fields (asked_of request) slot =
-    subst (λ k. submission_of (driver.entry_of request k) ≡ driver.entry_fields (asked_of request) k) one held.says in
+    subst (λ k. submission_of (driver.entry_of request k) ≡ driver.entry_fields (asked_of request) k) (ap slot_in (sym same ∙ free)) held.says in
     let made = calls-made step tells (stores_of d request slot) p q tt at.0 calls in
     done tells (stores_of d request slot) _ (driver.placed d request slot) e p q _ _ _ at.0 name made (place_is_a_step d (linked_controller p.state) request slot s taken.0 free says) is
     (ap (λ t. mail.plain (seen.Placed (Ok t))) taken.1) (slot, free, is, made.ran)
@@ -141,8 +140,7 @@ comes-up : {M : Type 0} (step : M → MediumCall → M → Type 0) (tells : Bool
     → d.state ≡ Down → Rises (CallOverMedium step tells) window_over d p result e q → HasRisen tells d e p q result
 comes-up {M} step tells d e p q result s at name down h =
     let k : ℕ = p.state.place + 1 in
-    let off = s.down (ap is_up down) in
-    let fresh : IsFresh p p = fresh-start p at (subst (AllByRecursion IsAdmin) (sym off.fetched) tt) in
+    let fresh : IsFresh p p = fresh-start p at (subst (AllByRecursion IsAdmin) (sym (s.down (ap is_up down)).fetched) tt) in
     let setting : OverMedium Linked M → Setting = λ x. linked_setting x.state in
     let subsystem : OverMedium Linked M → Subsystem = λ x. x.state.subsystem in
     let there : IsMapped setting (CallOverMedium step tells) (LinkStep tells) window_over window_in (IsFresh p) = record {
@@ -159,7 +157,7 @@ comes-up {M} step tells d e p q result s at name down h =
     let left = one.1 in
     record {
       step = record { sound = r.sound; mail = r.mail; gives = reply-up (mailbox d (linked_controller p.state)) (ap is_up down) ∙ ap (λ x. mail.plain (seen.Up x)) (sym r.answered) };
-      site = record { cntlid = r.cntlid; world = r.world; device = r.device; others = left.others; place = left.place; name = same-name q.state.name p.state.name name };
+      site = record { cntlid = r.cntlid; world = r.world; device = r.device; others = left.others; place = left.place; name = cc (name) };
       below = subst (λ x. ComesUp tells k d p.state.subsystem x e q.state.subsystem) (sym r.answered)
           (subst (λ x. Rises (CallStep tells k) (λ z. window_at z k) d p.state.subsystem x e q.state.subsystem) r.answered two.0);
       medium = left.medium;

@@ -40,8 +40,7 @@ record Reaches (d : Driver) (c : Controller) (t : FetchedCommand) : Type 0 where
 reaches : (d : Driver) (c : Controller) (i : ℕ) (t : FetchedCommand) → Sound d c → slice_get c.fetched i ≡ Some t → Reaches d c t
 unfolding item_in
 reaches d c i t s g =
-    let k = known d c i t s g in
-    record { lane = lane-of-item (lane_of_queue t.queue) d c t refl (seen (lane_of_queue t.queue) d c i t k); space = refl }
+    record { lane = lane-of-item (lane_of_queue t.queue) d c t refl (seen (lane_of_queue t.queue) d c i t (known d c i t s g)); space = refl }
 
 io-is : (q : ℕ) → is_io (lane_of_queue q) ≡ not (q == 0)
 io-is q = elim (q == 0) as (λ b. is_io (if b then Admin else Io) ≡ not b) [
@@ -79,7 +78,6 @@ marks_are_steps d c n s =
       each = λ l. same-holds b.first _ _ _ _ (b.each l) refl (state-same l n c);
     } in
     let e = items-marked d c n c.fetched (λ i t g. reaches d c i t s g) in
-    let a = state-same Admin n c in
     let o = state-same Io n c in
     record {
       sound = record {
@@ -89,5 +87,5 @@ marks_are_steps d c n s =
         up = λ u. let p = s.up u in record { admin = p.admin; io = p.io; submission = p.submission; completion = p.completion; fetched = all-marked n c.fetched p.fetched; ready = p.ready; enabled = p.enabled };
         down = λ u. let o = s.down u in record { submission = o.submission; completion = o.completion; fetched = ap (map (marked n)) o.fetched; off = o.off; disabled = o.disabled };
       };
-      mail = λ j. record (mailbox d c) { admin = box (host Admin d c.window) (a j); io = box (host Io d c.window) (o j); fetched = e j };
+      mail = λ j. record (mailbox d c) { admin = box (host Admin d c.window) ((state-same Admin n c) j); io = box (host Io d c.window) (o j); fetched = e j };
     }

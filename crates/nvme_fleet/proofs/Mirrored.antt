@@ -132,12 +132,9 @@ value-status : (r : Registers) → register.value_at r 0x1c ≡ register.status_
 unfolding register.value_at
 value-status r = refl
 
-value-none : (x : Seen) (v : ℕ) (got : List Seen) → got ≡ x ∷ [] → got ≡ given.Value v ∷ [] → x ≡ given.NoController → ⊥
-value-none x v got a b e = absurd (cc)
-
 read-on : (o : Option Controller) (k v : ℕ) (p q : Subsystem) (x : Seen) (got : List Seen) → controller_at p k ≡ o → got ≡ x ∷ [] → got ≡ given.Value v ∷ [] → ReactsAs o p k (has_read csts) x q → At IsOn k p
     → At AreAdmin k p ⊎ (is_ready v ≡ false)
-read-on None k v p q x got at a b h known = absurd (value-none x v got a b h.0)
+read-on None k v p q x got at a b h known = absurd (cc (a, b, h.0))
 read-on (Some c) k v p q x got at a b h known = by (known c at)
   where
     by : IsOn c → At AreAdmin k p ⊎ (is_ready v ≡ false)
@@ -175,8 +172,7 @@ answer-over queues k t s a m is h =
 answer-quiet : (queues : Queues) (k : ℕ) (t : FetchedCommand) (s : Scene) (a : CommandExecution) → IsAdmin t → CommandComesTo true queues k t s a → a.outcome.marks ≡ no_marks
 unfolding CommandComesTo
 answer-quiet queues k t s a is h =
-    let e = subst (λ b. CommandComesToAs b true queues k t s a) is h in
-    ap (λ (y : CommandExecution). y.outcome.marks) e
+    ap (λ (y : CommandExecution). y.outcome.marks) (subst (λ b. CommandComesToAs b true queues k t s a) is h)
 
 answer-admin : (t : FetchedCommand) (p : QueuePair) (a : CommandExecution) (c : Controller) → AreAdmin c → AreAdmin (after_completion 0 t p a c)
 unfolding after_completion after_posting

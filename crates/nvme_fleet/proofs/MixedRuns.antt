@@ -108,11 +108,7 @@ can-be-same : (n : ℕ) (now next : Layers) (event : FleetEvent) (gives : Reply)
 unfolding fleet_in
 can-be-same n now next event gives medium regular step fenced differ =
     let one = step-over n (fleet_in now) (fleet_in next) event gives medium regular differ fenced step.mailboxes in
-    let same = extents-stay true now next event gives step in
-    (one.0, one.1, differ-still n now.subsystem.world next.subsystem.world next.subsystem.device one.0 same one.2)
-
-same-reply : (x y : Reply) → (x ∷ []) ≡ (y ∷ []) → x ≡ y
-same-reply x y h = cc
+    (one.0, one.1, differ-still n now.subsystem.world next.subsystem.world next.subsystem.device one.0 (extents-stay true now next event gives step) one.2)
 
 is-same : (n : ℕ) (now next : Layers) (event : FleetEvent) (gives : Reply) (medium : Device) → IsRegular (fleet_in now) → HaveTicketsOnce now → Step true now event gives next
     → OfItsHost (λ k. may_read now.subsystem.world k n ≡ false) event → DifferIn n now.subsystem.world now.subsystem.device medium → CanBeSame n now event gives next medium
@@ -123,11 +119,10 @@ is-same n now next event gives medium regular tickets step fenced differ (last, 
     let low : medium.failures < 2 ^ 64 - 1 = subst (λ m. m < 2 ^ 64 - 1) (sym start) below in
     let one = run_is_unique (over medium (fleet_in now)) (over last (fleet_in next)) (event ∷ []) (gives ∷ []) (over last (fleet_in next), mirrored, refl) (still.failures ∙ calm ∙ sym start) low in
     let two = run_is_unique (over medium (fleet_in now)) (fleet_in other) (event ∷ []) (another ∷ []) (fleet_in other, second.mailboxes, refl) (quiet ∙ sym start) low in
-    let same : another ≡ gives = same-reply another gives (two.0 ∙ sym one.0) in
-    let left : fleet_in other ≡ over last (fleet_in next) = two.1 ∙ sym one.1 in
+    let same : another ≡ gives = cc (one.0, two.0) in
     let led = step-leads n now next other medium event gives calm quiet below tickets regular differ fenced step (subst (λ r. Step true (layers_over medium now) event r other) same second) in
     let device : other.subsystem.device ≡ led.0 = ap (λ (l : Layers). l.subsystem.device) led.1 in
-    let holds : other.subsystem.device ≡ last = ap (λ (f : Fleet). f.site.device) left in (
+    let holds : other.subsystem.device ≡ last = ap (λ (f : Fleet). f.site.device) (two.1 ∙ sym one.1) in (
       same,
       led.1 ∙ ap (λ x. layers_over x next) (sym device),
       subst (λ x. DifferIn n next.subsystem.world next.subsystem.device x) (sym holds) still,

@@ -1,5 +1,5 @@
 -- A call at one lane of a driver and its controller: from what becomes of that lane, what holds of both, and the mailbox.
-use Rattle.nvme_fleet.proofs.Words.{◌≡◌, ℕ, zero, suc, ◌≤◌, true, List, [], ◌∷◌, length, map, Option, refl, sym, ap, ◌∙◌, arith, slice_set, Waiting, waiting_at, most_bytes, Lane, Admin, Io, Driver, Ends, ends, with_ends, is_up, FetchedCommand, Controller, FetchedItem, box_at, with_box, Host, State, Slot, box, slot_at, holds, commands_of, received_in, Running, Resting, Holds, Both, other, host, state, slots_in, commands_in, fetched_by, held_by, in_order, aborted_number, Sound, EndsFit, IsPaired, mailbox}
+use Rattle.nvme_fleet.proofs.Words.{◌≡◌, ℕ, zero, suc, ◌≤◌, true, List, [], ◌∷◌, length, map, Option, refl, sym, ap, ◌∙◌, arith, slice_set, Waiting, waiting_at, most_bytes, Lane, Admin, Io, Driver, Ends, ends, with_ends, is_up, FetchedCommand, Controller, FetchedItem, box_at, with_box, Host, State, Slot, box, slot_at, holds, commands_of, received_in, Running, Holds, Both, other, host, state, slots_in, commands_in, fetched_by, held_by, in_order, aborted_number, Sound, EndsFit, IsPaired, mailbox}
 use Rattle.nvme_fleet.proofs.Slots.{Apart, apart-set}
 use Rattle.nvme_fleet.proofs.Fetches.{still-running}
 use Rattle.nvme_fleet.proofs.Places.{age-later, no-way}
@@ -63,9 +63,6 @@ pub record AtLane (lane : Lane) (d d' : Driver) (c c' : Controller) (n : ℕ) (h
   pub state_here : state lane c' ≡ s
   pub state_there : state (other lane) c' ≡ state (other lane) c
 
-later-resting : (d : Host) (c : State) (n : ℕ) → Resting d c → Resting (record d { next = n }) c
-later-resting d c n s = record { window = s.window; slots = s.slots; put = s.put; unheard = s.unheard; consumed = s.consumed; off = s.off; idle = s.idle }
-
 later-holds : (first : ℕ) (d : Host) (c : State) (n : ℕ) → d.next ≤ n → Holds first d c → Holds first (record d { next = n }) c
 later-holds first d c n l s =
     record {
@@ -73,7 +70,7 @@ later-holds first d c n l s =
       begun = omega (arith, s.begun, l);
       ages = λ k. age-later first d.next n (slot_at d.slots k).waiting l (s.ages k);
       up = λ u. (let r = s.up u in still-running d c n c.waiting r.waiting r);
-      down = λ u. later-resting d c n (s.down u);
+      down = λ u. (let r = s.down u in record { window = r.window; slots = r.slots; put = r.put; unheard = r.unheard; consumed = r.consumed; off = r.off; idle = r.idle });
     }
 
 later-box : (d : Host) (c : State) (n : ℕ) → box (record d { next = n }) c ≡ box d c
@@ -118,10 +115,8 @@ same-box d d' c c' e f = λ i. box (e i) (f i)
 pub mail-at : (lane : Lane) (d d' : Driver) (c c' : Controller) (n : ℕ) (h : Host) (s : State) → AtLane lane d d' c c' n h s → (fs : List FetchedItem) → map (fetched_by (held_by d' c'.window)) c'.fetched ≡ fs
     → in_order aborted_number d'.slots ≡ in_order aborted_number d.slots → mailbox d' c' ≡ with_box lane (box h s) (record (mailbox d c) { next = n; fetched = fs })
 mail-at Admin d d' c c' n h s a fs f e =
-    let here = same-box _ _ _ _ a.host_here a.state_here in
     let there = same-box _ _ _ _ a.host_there a.state_there ∙ later-box (host Io d c.window) (state Io c) n in
-    λ i. record { up = is_up (a.up i); next = a.next i; admin = here i; io = there i; fetched = f i; aborted = e i }
+    λ i. record { up = is_up (a.up i); next = a.next i; admin = (same-box _ _ _ _ a.host_here a.state_here) i; io = there i; fetched = f i; aborted = e i }
 mail-at Io d d' c c' n h s a fs f e =
-    let here = same-box _ _ _ _ a.host_here a.state_here in
     let there = same-box _ _ _ _ a.host_there a.state_there ∙ later-box (host Admin d c.window) (state Admin c) n in
-    λ i. record { up = is_up (a.up i); next = a.next i; admin = there i; io = here i; fetched = f i; aborted = e i }
+    λ i. record { up = is_up (a.up i); next = a.next i; admin = there i; io = (same-box _ _ _ _ a.host_here a.state_here) i; fetched = f i; aborted = e i }

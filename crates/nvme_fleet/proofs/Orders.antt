@@ -1,5 +1,5 @@
 -- The order of slots by their numbers: the oldest aborted request, slots that are freed, and tickets that rise.
-use Rattle.nvme_fleet.proofs.Words.{◌≡◌, ℕ, ◌+◌, ◌<◌, ◌≤◌, List, [], ◌∷◌, ◌++◌, map, refl, ap, sym, ◌∙◌, arith, zero, suc, true, false, cond, eqb, Bool, Option, Some, None, inl, inr, slice_set, cases_Bool, eqb-true, common_steps, nat_le, ticket_in, live_waiting, AgeIn, aborted_number, ranked_too, in_order, ranked, rising, Waiting, waiting_at, abort}
+use Rattle.nvme_fleet.proofs.Words.{◌≡◌, ℕ, ◌+◌, ◌<◌, ◌≤◌, List, [], ◌∷◌, ◌++◌, map, refl, ap, sym, ◌∙◌, arith, zero, suc, true, false, cond, eqb, Bool, Option, Some, None, inl, inr, slice_set, cases_Bool, eqb-true, common_steps, nat_le, ticket_in, live_waiting, AgeIn, aborted_number, ranked_too, in_order, ranked, rising, Waiting, waiting_at, abort, eq-eqb}
 use Rattle.nvme_fleet.proofs.Queues.{eqb-sym}
 use Rattle.nvme_fleet.proofs.Totals.{waiting-small}
 use Rattle.nvme_fleet.proofs.Slots.{cond-zero}
@@ -36,9 +36,6 @@ pending-other (x ∷ xs) (suc i) (suc j) h = let k : eqb j i ≡ false = grind (
 pub cond-one : (b : Bool) → cond {A = ℕ} b 1 0 ≡ 1 → b ≡ true
 cond-one true h = refl
 cond-one false h = let b : ⊥ = omega (arith, h) in absurd b
-
-pub self-eqb : (n : ℕ) → eqb n n ≡ true
-self-eqb n = grind (arith, common_steps)
 
 -- two numbers may be put in their places in either order
 pub ranked-swap : (a b : ℕ) (us : List ℕ) → ranked a (ranked b us) ≡ ranked b (ranked a us)
@@ -112,8 +109,7 @@ oldest-first slots i t e h =
     let each : (k : ℕ) → EachIn (λ u. t ≤ u) (aborted_number (waiting_at (slice_set slots i None) k)) =
     λ k. elim (cases_Bool (eqb k i)) [
       | inl q ↦
-          let z : waiting_at (slice_set slots i None) k ≡ None = ap (waiting_at (slice_set slots i None)) (eqb-true k i q) ∙ pending-same slots i in
-          rw z tt
+          rw (ap (waiting_at (slice_set slots i None)) (eqb-true k i q) ∙ pending-same slots i) tt
       | inr q ↦ rw (pending-other slots i k q) (not-below t _ (h k))
     ] in
     slot-last aborted_number refl slots i ∙
@@ -145,23 +141,17 @@ tickets-freed : (slots : List (Option Waiting)) (i : ℕ) (ns : List ℕ) → ti
     map (ticket_at (slice_set slots i None)) ns ≡ map (ticket_at slots) ns
 tickets-freed slots i [] h = refl
 tickets-freed slots i (n ∷ ns) h =
-    let q : eqb n i ≡ false = cond-zero (eqb n i) (times i ns) h in
-    let r : times i ns ≡ 0 = omega (arith, h) in
-    rw (pending-other slots i n q, tickets-freed slots i ns r) refl
+    rw (pending-other slots i n (cond-zero (eqb n i) (times i ns) h), tickets-freed slots i ns (omega (arith, h))) refl
 
 times-freed : (slots : List (Option Waiting)) (n : ℕ) (ns : List ℕ) → ((i : ℕ) → times i (n ∷ ns) ≡ live_at slots i) →
     (i : ℕ) → times i ns ≡ live_at (slice_set slots n None) i
 times-freed slots n ns h i =
     elim (cases_Bool (eqb n i)) [
       | inl t ↦
-          let e : n ≡ i = eqb-true n i t in
-          let v : times i (n ∷ ns) ≡ 1 + times i ns = ap (λ b. cond b 1 0 + times i ns) t in
-          let z : waiting_at (slice_set slots n None) i ≡ None = ap (waiting_at (slice_set slots n None)) (sym e) ∙ pending-same slots n in
-          rw z (omega (arith, h i, v, waiting-small (waiting_at slots i)))
+          let z : waiting_at (slice_set slots n None) i ≡ None = ap (waiting_at (slice_set slots n None)) (sym (eqb-true n i t)) ∙ pending-same slots n in
+          rw z (omega (arith, h i, ap (λ b. cond b 1 0 + times i ns) t, waiting-small (waiting_at slots i)))
       | inr t ↦
-          let v : times i (n ∷ ns) ≡ 0 + times i ns = ap (λ b. cond b 1 0 + times i ns) t in
-          let q : eqb i n ≡ false = eqb-sym n i t in
-          rw (pending-other slots n i q) (omega (arith, h i, v))
+          rw (pending-other slots n i (eqb-sym n i t)) (omega (arith, h i, ap (λ b. cond b 1 0 + times i ns) t))
     ]
 
 -- the tickets of slots that name each live slot once are the live slots' tickets
@@ -169,10 +159,9 @@ pub rising-slots : (ns : List ℕ) (slots : List (Option Waiting)) → ((i : ℕ
     rising (map (ticket_at slots) ns) ≡ in_order waiting_ticket slots
 rising-slots [] slots h = sym (empty-order waiting_ticket slots (λ k. waiting-none (waiting_at slots k) (sym (h k))))
 rising-slots (n ∷ ns) slots h =
-    let v : times n (n ∷ ns) ≡ 1 + times n ns = ap (λ b. cond b 1 0 + times n ns) (self-eqb n) in
+    let v : times n (n ∷ ns) ≡ 1 + times n ns = ap (λ b. cond b 1 0 + times n ns) (eq-eqb n n refl) in
     let l : live_at slots n ≡ 1 = omega (arith, h n, v, waiting-small (waiting_at slots n)) in
-    let z : times n ns ≡ 0 = omega (arith, h n, v, l) in
-    ap (λ ts. ranked (ticket_at slots n) (rising ts)) (sym (tickets-freed slots n ns z)) ∙
+    ap (λ ts. ranked (ticket_at slots n) (rising ts)) (sym (tickets-freed slots n ns (omega (arith, h n, v, l)))) ∙
     ap (ranked (ticket_at slots n)) (rising-slots ns (slice_set slots n None) (times-freed slots n ns h)) ∙
     ap (λ o. ranked_too o (in_order waiting_ticket (slice_set slots n None))) (sym (waiting-some (waiting_at slots n) l)) ∙
     sym (slot-last waiting_ticket refl slots n)
@@ -228,10 +217,8 @@ abort-all first next (Some p ∷ xs) a =
     ]
 
 pub pending-abort : (slots : List (Option Waiting)) (k : ℕ) → waiting_at (map abort slots) k ≡ abort (waiting_at slots k)
-pending-abort [] k = refl
-pending-abort (None ∷ xs) zero = refl
-pending-abort (Some p ∷ xs) zero = refl
 pending-abort (x ∷ xs) (suc k) = pending-abort xs k
+pending-abort xs k = refl
 
 pub abort-idle : (o : Option Waiting) → live_waiting (abort o) ≡ 0
 abort-idle None = refl

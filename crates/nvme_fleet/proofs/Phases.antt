@@ -1,11 +1,8 @@
 -- The phase tags of a completion queue: what a new submission entry, a new completion and a completion that is consumed
 -- make of them.
-use Rattle.nvme_fleet.proofs.Words.{◌≡◌, ℕ, ◌+◌, ◌-◌, ◌%◌, ◌<◌, ◌≤◌, List, refl, ap, sym, ◌∙◌, arith, true, false, not, cond, eqb, Bool, inl, inr, lt-ltb, le-ltb, cases_lt, cases_eq, ne_eqb, common_steps, nat_lt, completion_of, completion_bytes, phase_of, Phases}
+use Rattle.nvme_fleet.proofs.Words.{◌≡◌, ℕ, ◌+◌, ◌-◌, ◌%◌, ◌<◌, List, refl, ap, sym, ◌∙◌, arith, true, false, not, cond, Bool, inl, inr, lt-ltb, le-ltb, cases_lt, cases_eq, ne_eqb, common_steps, nat_lt, completion_of, completion_bytes, phase_of, Phases}
 use Rattle.nvme_fleet.proofs.Queues.{same-entry, same-turn}
 use Rattle.nvme_fleet.proofs.Keeps.{Keeps, EntersCompletion}
-
-other-turn : (n k : ℕ) → k < 32 → 31 ≤ k → phase_of ((n + 1) % 64 + k) ≡ not (phase_of n)
-other-turn n k h g = grind (arith, common_steps)
 
 twice : (b : Bool) → b ≡ not (not b)
 twice true = refl
@@ -21,15 +18,12 @@ pub phases-posted : (w w' entry : List ℕ) (n k p : ℕ) → EntersCompletion w
 phases-posted w w' entry n k p h e room tag f j l =
     elim (cases_eq j k) [
       | inl same ↦
-          let m : (n + j) % 32 ≡ p % 32 = omega (arith, e, same) in
           let q : (n + j) % 64 ≡ p % 64 = omega (arith, e, same) in
-          let t : nat_lt j (k + 1) ≡ true = lt-ltb j (k + 1) (omega (arith, same)) in
-          ap (λ b. (completion_of b).phase) (same-entry w' (n + j) p m ∙ h.last) ∙ tag ∙ sym (same-turn (n + j) p q) ∙
-          sym (ap (λ b. cond b (phase_of (n + j)) (not (phase_of (n + j)))) t)
+          ap (λ b. (completion_of b).phase) (same-entry w' (n + j) p (omega (arith, e, same)) ∙ h.last) ∙ tag ∙ sym (same-turn (n + j) p q) ∙
+          sym (ap (λ b. cond b (phase_of (n + j)) (not (phase_of (n + j)))) (lt-ltb j (k + 1) (omega (arith, same))))
       | inr other ↦
-          let q : eqb ((n + j) % 32) (p % 32) ≡ false = ne_eqb _ _ (λ m. omega (arith, e, room, l, other, m)) in
           let t : nat_lt j (k + 1) ≡ nat_lt j k = grind (arith, common_steps, other) in
-          ap (λ b. (completion_of b).phase) (h.keeps.completions (n + j) q) ∙ f j l ∙
+          ap (λ b. (completion_of b).phase) (h.keeps.completions (n + j) (ne_eqb _ _ (λ m. omega (arith, e, room, l, other, m)))) ∙ f j l ∙
           sym (ap (λ b. cond b (phase_of (n + j)) (not (phase_of (n + j)))) t)
     ]
 
@@ -42,14 +36,11 @@ pub phases-consumed : (w : List ℕ) (n k : ℕ) → 0 < k → k < 32 → Phases
 phases-consumed w n k some few f j l =
     elim (cases_lt j 31) [
       | inl lt ↦
-          let e : ((n + 1) % 64 + j) % 32 ≡ (n + (j + 1)) % 32 = omega arith in
-          let g : ((n + 1) % 64 + j) % 64 ≡ (n + (j + 1)) % 64 = omega arith in
           let t : nat_lt j (k - 1) ≡ nat_lt (j + 1) k = grind (arith, common_steps) in
-          rw (same-entry w _ _ e, same-turn _ _ g, t) (f (j + 1) (omega (arith, lt)))
+          rw (same-entry w ((n + 1) % 64 + j) (n + (j + 1)) (omega arith), same-turn ((n + 1) % 64 + j) (n + (j + 1)) (omega arith), t) (f (j + 1) (omega (arith, lt)))
       | inr ge ↦
-          let e : ((n + 1) % 64 + j) % 32 ≡ n % 32 = omega (arith, l, ge) in
-          let g : nat_lt (((n + 1) % 64 + j) % 64) 32 ≡ not (phase_of n) = other-turn n j l ge in
+          let g : nat_lt (((n + 1) % 64 + j) % 64) 32 ≡ not (phase_of n) = grind (arith, common_steps, l, ge) in
           let t : nat_lt j (k - 1) ≡ false = le-ltb j (k - 1) (omega (arith, few, ge)) in
           let s : nat_lt 0 k ≡ true = lt-ltb 0 k some in
-          rw (same-entry w _ _ e, g, t) (first-phase w n k f ∙ ap (λ b. cond b (phase_of n) (not (phase_of n))) s ∙ twice (phase_of n))
+          rw (same-entry w ((n + 1) % 64 + j) n (omega (arith, l, ge)), g, t) (first-phase w n k f ∙ ap (λ b. cond b (phase_of n) (not (phase_of n))) s ∙ twice (phase_of n))
     ]

@@ -41,12 +41,11 @@ unheard-is lane d c = ap (λ (b : LaneBox). b.unheard) (box-is lane d c)
 refusal-is : (d : Driver) (c : Controller) (request : Request) → Sound d c → refusal (mailbox d c) request ≡ place_refusal d request
 refusal-is d c request s =
     same-tests (is_up d.state) (is_bad request) _ _ _ _ (nat_lt d.next ticket_count) (λ u.
-    let f = s.fits (lane_of request) in
     let r = running (lane_of request) d c s u in (
       free-same d c s.both u,
       ap (λ n. n == 7) (unheard-is (lane_of request) d c)
           ∙ full-is (ends (lane_of request) d).tail.unheard r.room
-          ∙ ap (λ n. n - 1 - (ends (lane_of request) d).tail.unheard == 0) (sym f.tail),
+          ∙ ap (λ n. n - 1 - (ends (lane_of request) d).tail.unheard == 0) (sym (s.fits (lane_of request)).tail),
     ))
 
 pub refusal_is_a_step : RefusalIsAStep
@@ -61,11 +60,8 @@ record Passed (u bad ring : Bool) : Type 0 where
   room : ring ≡ false
 
 passes : (u bad full ring more : Bool) → tests u bad full ring more ≡ None → Passed u bad ring
-passes false bad full ring more h = absurd (cc (h))
-passes true true full ring more h = absurd (cc (h))
-passes true false true ring more h = absurd (cc (h))
-passes true false false true more h = absurd (cc (h))
 passes true false false false more h = record { up = refl; good = refl; room = refl }
+passes u bad full ring more h = absurd (cc (h))
 
 below-seven : (u : ℕ) → u < 8 → (8 - 1 - u == 0) ≡ false → u < 7
 below-seven u h e = elim (cases_lt u 7) [
@@ -125,17 +121,15 @@ known : (d : Driver) (c : Controller) (request : Request) (slot : ℕ) → Sound
 known d c request slot s h f say =
     let p = passes (is_up d.state) (is_bad request) _ _ _ h in
     let g = s.fits (lane_of request) in
-    let b : Both d c = s.both in
     let r = running (lane_of request) d c s p.up in
     let a = free-some d.slots slot f in
-    let q : (8 - 1 - (ends (lane_of request) d).tail.unheard == 0) ≡ false = ap (λ n. n - 1 - (ends (lane_of request) d).tail.unheard == 0) (sym g.tail) ∙ p.room in
     record {
       sound = s;
       up = p.up;
       good = p.good;
       put = r.put;
-      room = below-seven (ends (lane_of request) d).tail.unheard r.room q;
-      within = omega (arith, a.0, b.slots);
+      room = below-seven (ends (lane_of request) d).tail.unheard r.room (ap (λ n. n - 1 - (ends (lane_of request) d).tail.unheard == 0) (sym g.tail) ∙ p.room);
+      within = omega (arith, a.0, s.both.slots);
       free = a.1;
       says = say;
       sized = sizes request p.good;
@@ -156,13 +150,12 @@ filled-so d c request slot k =
 asked-so : (d : Driver) (c : Controller) (request : Request) (slot : ℕ) → Known d c request slot
     → asked_in (whole (window_then d c request slot) slot (waiting_of d request)) (entry_of request slot) ≡ asked_of request
 asked-so d c request slot k =
-    let f = filled-so d c request slot k in
     let z = k.sized in
     let m : entry_length (lane_of request) (entry_of request slot) ≡ (asked_of request).moved = entries_move_their_data request slot (entry_of request slot) k.good k.says in
     let g = k.says in
     let n : entry_length (lane_of request) (entry_of request slot) - (asked_of request).received ≡ length (asked_of request).sent = ap (λ x. x - (asked_of request).received) m ∙ sym z.sent in
     let t : take (entry_length (lane_of request) (entry_of request slot) - (asked_of request).received) (area (window_then d c request slot) slot) ≡ (asked_of request).sent =
-    ap (λ x. take x (area (window_then d c request slot) slot)) n ∙ f.data_in in
+    ap (λ x. take x (area (window_then d c request slot) slot)) n ∙ (filled-so d c request slot k).data_in in
     λ i. record {
       command = record { lane = lane_of request; opcode = (g i).opcode; nsid = (g i).nsid; cdw10 = (g i).cdw10; cdw11 = (g i).cdw11; cdw12 = (g i).cdw12 };
       moved = m i;
@@ -209,7 +202,6 @@ placed-at d c request slot k =
     let f = filled-so d c request slot k in
     let x = changed-so d request slot in
     let b : Both d c = k.sound.both in
-    let g = k.sound.fits (lane_of request) in
     let here = slots-here (lane_of request) c.window (window_then d c request slot) d.slots slot (Some (waiting_of d request)) b.slots k.within f.stored.slots
     ∙ ap (λ t. slice_set (slots_in (lane_of request) c.window 0 d.slots) slot (cond t (whole (window_then d c request slot) slot (waiting_of d request)) empty)) (same-self (lane_of request)) in
     let there = slots-there (other (lane_of request)) c.window (window_then d c request slot) d.slots slot (Some (waiting_of d request)) b.slots k.within f.stored.slots (free-in (other (lane_of request)) d c request slot k)
@@ -218,7 +210,6 @@ placed-at d c request slot k =
     ∙ ap (λ t. cond t (with_bytes (pages_of (lane_of request) c.window) (64 * (ends (lane_of request) d).tail.put) (entry_of request slot)) (pages_of (lane_of request) c.window)) (same-self (lane_of request)) in
     let others = f.stored.pages (other (lane_of request))
     ∙ ap (λ t. cond t (with_bytes (pages_of (other (lane_of request)) c.window) (64 * (ends (lane_of request) d).tail.put) (entry_of request slot)) (pages_of (other (lane_of request)) c.window)) (other-same (lane_of request)) in
-    let t = g.tail in
     record {
       up = x.state;
       next = x.next;
@@ -229,7 +220,7 @@ placed-at d c request slot k =
           ∙ (λ i. record (host (lane_of request) d c.window) {
             next = d.next + 1;
             slots = here i;
-            put = ((ends (lane_of request) d).tail.put + 1) % t i;
+            put = ((ends (lane_of request) d).tail.put + 1) % (k.sound.fits (lane_of request)).tail i;
             unheard = (ends (lane_of request) d).tail.unheard + 1;
           });
       host_there = x.there (window_then d c request slot) ∙ (λ i. record (host (other (lane_of request)) d c.window) { next = d.next + 1; slots = there i });
@@ -260,16 +251,14 @@ stores-so : (d : Driver) (c : Controller) (request : Request) (slot : ℕ) → K
 stores-so d c request slot k =
     let z = k.sized in
     let l = length-stored_list slot (asked_of request).moved z.most in
-    let e = length-entry (entry_fields (asked_of request) slot) in
     let low = queue-low (lane_of request) in
-    let p = k.put in
     let one : Controller = record c { window = with_bytes c.window (data_area slot) (asked_of request).sent } in
     let two : Controller = record c { window = with_bytes (with_bytes c.window (data_area slot) (asked_of request).sent) (list_page slot) (stored_list slot (asked_of request).moved) } in
     let a = stored-at (data_area slot) (asked_of request).sent c (omega (arith, k.within, z.sent, z.most)) in
     let b = stored-at (list_page slot) (stored_list slot (asked_of request).moved) one (omega (arith, k.within, l)) in
     ap (λ x. (after_store (driver.entry_place d request) (entry_of request slot) (after_store (list_page slot) (stored_list slot (asked_of request).moved) x).controller).controller) a
     ∙ ap (λ x. (after_store (driver.entry_place d request) (entry_of request slot) x).controller) b
-    ∙ stored-at (driver.entry_place d request) (entry_of request slot) two (omega (arith, e, low, p))
+    ∙ stored-at (driver.entry_place d request) (entry_of request slot) two (omega (arith, length-entry (entry_fields (asked_of request) slot), low, k.put))
 
 aborted-set : (xs : List (Option Waiting)) (i : ℕ) (t : Waiting) → waiting_at xs i ≡ None → t.live ≡ true → in_order aborted_number (slice_set xs i (Some t)) ≡ in_order aborted_number xs
 aborted-set [] i t h l = refl
@@ -294,14 +283,13 @@ mail-so : (d : Driver) (c : Controller) (request : Request) (slot : ℕ) → Kno
 mail-so d c request slot k =
     let b : Both d c = k.sound.both in
     let at = placed-at d c request slot k in
-    let x = changed-so d request slot in
     let box_then = place-box _ _ (entry_of request slot) (waiting_of d request) slot _ _ (places-so d c request slot k)
     ∙ ap (λ u. with_placed u (item_in (whole (window_then d c request slot) slot (waiting_of d request)) (entry_of request slot))) (sym (box-is (lane_of request) d c))
     ∙ ap (with_placed (box_at (lane_of request) (mailbox d c))) (new-item-so d c request slot k) in
     mail-at (lane_of request) d (driver.placed d request slot) c (controller_then d c request slot) (d.next + 1) _ _ at (mailbox d c).fetched
     (fetched-at (lane_of request) d (driver.placed d request slot) c (controller_then d c request slot) (d.next + 1) _ _ at slot _ refl c.fetched
     (λ l. (bare-of b.first _ _ slot (b.each l) (idle-in l d c request slot k)).taken))
-    (ap (in_order aborted_number) x.slots ∙ aborted-set d.slots slot (waiting_of d request) k.free refl)
+    (ap (in_order aborted_number) (changed-so d request slot).slots ∙ aborted-set d.slots slot (waiting_of d request) k.free refl)
     ∙ ap (λ u. with_box (lane_of request) u (record (mailbox d c) { next = d.next + 1 })) box_then
 
 pub place_is_a_step : PlaceIsAStep

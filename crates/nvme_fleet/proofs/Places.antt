@@ -1,12 +1,12 @@
 -- Placing in one lane: a request in a slot that nobody bears joins those that were placed.
-use Rattle.nvme_fleet.proofs.Words.{◌≡◌, ℕ, ◌+◌, ◌-◌, ◌%◌, ◌<◌, ◌≤◌, List, [], ◌∷◌, ◌++◌, length, map, refl, ap, ◌∙◌, arith, true, false, cond, eqb, Option, Some, None, Bool, map-append, length-set, common_steps, Waiting, cid, live_in, suits, Slot, item_in, State, filled, placed_state, in_flight, commands, item, box, Running, Holds, Ages, AgeIn, last_head, heard, unread, commands_of, answers_of, live_at, slot_at, answers, holds, total, odd, bears, Carried, Host}
+use Rattle.nvme_fleet.proofs.Words.{◌≡◌, ℕ, ◌+◌, ◌-◌, ◌%◌, ◌<◌, ◌≤◌, List, [], ◌∷◌, ◌++◌, length, map, refl, ap, ◌∙◌, arith, true, false, cond, eqb, Option, Some, None, Bool, map-append, length-set, common_steps, Waiting, cid, live_in, suits, Slot, item_in, State, filled, placed_state, in_flight, commands, item, box, Running, Holds, Ages, AgeIn, last_head, heard, unread, commands_of, answers_of, live_at, slot_at, answers, holds, total, odd, bears, Carried, Host, eq-eqb}
 use Rattle.nvme_fleet.specs.Views.{placed}
 use Rattle.nvme_fleet.proofs.Totals.{live-set, slot-same, each-set, each-all}
 use Rattle.nvme_mailbox.proofs.Totals.{total-append}
 use Rattle.nvme_fleet.proofs.Slots.{bare-box, bare-odd}
 use Rattle.nvme_fleet.proofs.Keeps.{Enters, enters, commands-kept, completions-same}
 use Rattle.nvme_fleet.proofs.Phases.{phases-kept}
-use Rattle.nvme_fleet.proofs.Queues.{commands-append, Bare, bare-all, placed-part, rung-part, same-box, eqb-sym, self-eqb}
+use Rattle.nvme_fleet.proofs.Queues.{commands-append, Bare, bare-all, placed-part, rung-part, same-box, eqb-sym}
 
 -- what holds where a request is placed in a slot that is not live, by this command
 pub record Places (d : Host) (c : State) (x : List ℕ) (w : Waiting) (slot : ℕ) (bytes list : List ℕ) : Type 0 where
@@ -88,24 +88,22 @@ place-box d c x w slot bytes list h =
     let n : heard (placed d w slot bytes list) ≡ heard d = heard-placed d.put d.unheard (h.running).put h.room in
     let u = same-unread d c x w slot bytes list h in
     let b = bare-box d c slot (filled w bytes list) (bare d c slot h.running h.free) in
-    let y = here d c x w slot bytes list h in
     same-box _ _ _ _ _ _ _ _ _ _
     (ap (map (item f)) (placed-more d c x w slot bytes list h) ∙ map-append (item f) (placed-part d c) (x ∷ []))
     (ap (map (item f)) (rung-same d c x w slot bytes list h))
     (λ i. answers f (n i) (u i))
     refl
     (λ i. (c.fetched + 8 - last_head (n i) (u i)) % 8)
-    ∙ (λ i. record (b i) { placed = (b i).placed ++ item_in (y i) x ∷ []; unheard = (b i).unheard + 1 })
+    ∙ (λ i. record (b i) { placed = (b i).placed ++ item_in ((here d c x w slot bytes list h) i) x ∷ []; unheard = (b i).unheard + 1 })
 
 -- what a sum over the entries in flight gains
 flight-more : (f : List ℕ → ℕ) (d : Host) (c : State) (x : List ℕ) (w : Waiting) (slot : ℕ) (bytes list : List ℕ) → Places d c x w slot bytes list →
     total f (commands (placed_state d c x).window c.fetched (in_flight (placed d w slot bytes list) (placed_state d c x))) ≡
     total f (commands c.window c.fetched (in_flight d c)) + f x
 flight-more f d c x w slot bytes list h =
-    let s : Running d c = h.running in
     let t : total f (x ∷ []) ≡ f x = omega arith in
     ap (λ n. total f (commands (placed_state d c x).window c.fetched n)) (more-flight d c x w slot bytes list h) ∙
-    ap (total f) (stretch d c x w slot c.fetched (in_flight d c) bytes list h s.fetched refl) ∙
+    ap (total f) (stretch d c x w slot c.fetched (in_flight d c) bytes list h h.running.fetched refl) ∙
     total-append f (commands c.window c.fetched (in_flight d c)) (x ∷ []) ∙
     ap (λ n. total f (commands c.window c.fetched (in_flight d c)) + n) t
 
@@ -124,7 +122,7 @@ carried-place d c x w slot bytes list h =
     (λ k (o : Slot). commands_of k c.taken + commands_of k (commands (placed_state d c x).window c.fetched (in_flight (placed d w slot bytes list) (placed_state d c x)))
     + answers_of k (unread (placed d w slot bytes list) (placed_state d c x)) ≡ live_in o)
     d.slots slot (filled w bytes list) (omega (arith, h.within, s.slots))
-    (omega (arith, s.carried slot, h.free, flight-more (bears slot) d c x w slot bytes list h, ap (answers_of slot) u, new-bears x slot slot true h.named (self-eqb slot slot refl), new-live w bytes list h.live))
+    (omega (arith, s.carried slot, h.free, flight-more (bears slot) d c x w slot bytes list h, ap (answers_of slot) u, new-bears x slot slot true h.named (eq-eqb slot slot refl), new-live w bytes list h.live))
     (λ k q. omega (arith, s.carried k, flight-more (bears k) d c x w slot bytes list h, ap (answers_of k) u, new-bears x slot k false h.named (eqb-sym k slot q)))
 
 new-suits : (d : Host) (c : State) (x : List ℕ) (w : Waiting) (slot : ℕ) (bytes list : List ℕ) → Places d c x w slot bytes list → odd (holds (placed d w slot bytes list)) x ≡ 0
@@ -134,7 +132,6 @@ new-suits d c x w slot bytes list h =
 pub place-running : (d : Host) (c : State) (x : List ℕ) (w : Waiting) (slot : ℕ) (bytes list : List ℕ) → Places d c x w slot bytes list → Running (placed d w slot bytes list) (placed_state d c x)
 place-running d c x w slot bytes list h =
     let s : Running d c = h.running in
-    let b : Bare d c slot = bare d c slot s h.free in
     let m = more-flight d c x w slot bytes list h in
     let k = entered d c x w slot bytes list h in
     record {
@@ -156,7 +153,7 @@ place-running d c x w slot bytes list h =
         arith,
         s.suited,
         flight-more (odd (holds (placed d w slot bytes list))) d c x w slot bytes list h,
-        bare-odd d c slot (filled w bytes list) b,
+        bare-odd d c slot (filled w bytes list) (bare d c slot s h.free),
         new-suits d c x w slot bytes list h,
       );
     }

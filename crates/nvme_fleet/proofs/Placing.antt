@@ -35,8 +35,7 @@ free-some slots i h =
       | inl l ↦
           let t = lt-ltb (position_or_len is_none slots) (length slots) l in
           let e : position_or_len is_none slots ≡ i = same_Some _ _ (sym (ap (λ b. cond b (Some (position_or_len is_none slots)) None) t) ∙ h) in
-          let k = first-some slots l in
-          (omega (arith, l, e), rw (← e) k.0)
+          (omega (arith, l, e), rw (← e) (first-some slots l).0)
       | inr g ↦
           let t = le-ltb (position_or_len is_none slots) (length slots) g in
           let e : None ≡ Some i = sym (ap (λ b. cond b (Some (position_or_len is_none slots)) None) t) ∙ h in
@@ -47,15 +46,11 @@ free-none : (slots : List (Option Waiting)) → is_none (position is_none slots)
 free-none slots =
     elim (cases_lt (position_or_len is_none slots) (length slots)) [
       | inl l ↦
-          let t = lt-ltb (position_or_len is_none slots) (length slots) l in
-          let k = first-some slots l in
-          let f : eqb (total filled slots) (length slots) ≡ false = grind (arith, common_steps, k.1) in
-          rw (t, f) refl
+          let f : eqb (total filled slots) (length slots) ≡ false = grind (arith, common_steps, (first-some slots l).1) in
+          rw (lt-ltb (position_or_len is_none slots) (length slots) l, f) refl
       | inr g ↦
-          let t = le-ltb (position_or_len is_none slots) (length slots) g in
-          let k = first-none slots g in
-          let f : eqb (total filled slots) (length slots) ≡ true = grind (arith, common_steps, k) in
-          rw (t, f) refl
+          let f : eqb (total filled slots) (length slots) ≡ true = grind (arith, common_steps, first-none slots g) in
+          rw (le-ltb (position_or_len is_none slots) (length slots) g, f) refl
     ]
 
 ranked-length : (t : ℕ) (us : List ℕ) → length (ranked t us) ≡ length us + 1

@@ -1,18 +1,17 @@
 -- That a poll of a driver is a step of its mailbox: the first request that was aborted is handed up, or else the first answer
 -- of a lane.
-use Rattle.nvme_fleet.proofs.Words.{none-some, Done, Aborted, Polled, Reply, Host, Slot, PostedAnswer, empty, ticket_in, can_hear, area, MailboxReaction, mailbox_reaction, plain, answer_reply, handed_up, polled_aborted, polled_admin, polled_io, IsStep, PollIsAStep, after_calls, most_bytes, can_be_heard, waiting_at, ◌≡◌, ℕ, zero, suc, ◌+◌, ◌-◌, ◌*◌, ◌/◌, ◌%◌, ◌⊎◌, ◌<◌, ◌≤◌, ◌==◌, Bool, true, false, not, ◌&&◌, cond, List, [], ◌∷◌, length, take, drop, Option, None, Some, refl, sym, ap, subst, ◌∙◌, arith, inl, inr, length-drop, length-set, take-take, cases_Bool, cases_lt, lt-ltb, le-ltb, length-take-le, slice_get, slice_get_within, slice_set, slice_range, option_map, if◌then◌else◌, Ok, Err, Completion, completion_of, sq_id, sq_head, status, dw0, Status, phase_tag, Lane, Admin, Io, Waiting, Ticket, queue_id, submission_queue, completion_place_in, head_doorbell, data_area, Ends, Driver, is_up, ends, consumed_ends, Controller, DeviceEnds, with_head, completion_at, after_write32, box_at, with_box, LaneBox, box, answer, front, heard, less, consumed as consumed_one, next_completion, completion_bytes, phase_of, received_in, live_in, live_at as live_slot, holds, commands_of, Both, same, other, host, state, slot_in, slots_in, commands_in, pages_of, held_by, in_order, aborted_number, Sound, EndsFit, completion_as, mailbox}
+use Rattle.nvme_fleet.proofs.Words.{none-some, Done, Aborted, Polled, Reply, Host, Slot, PostedAnswer, empty, ticket_in, can_hear, area, MailboxReaction, mailbox_reaction, plain, answer_reply, handed_up, polled_aborted, polled_admin, polled_io, IsStep, PollIsAStep, after_calls, most_bytes, can_be_heard, waiting_at, ◌≡◌, ℕ, ◌+◌, ◌-◌, ◌*◌, ◌/◌, ◌%◌, ◌⊎◌, ◌<◌, ◌≤◌, ◌==◌, Bool, true, not, ◌&&◌, cond, List, [], ◌∷◌, length, take, drop, Option, None, Some, refl, sym, ap, subst, ◌∙◌, arith, inl, inr, length-drop, length-set, take-take, cases_Bool, cases_lt, lt-ltb, le-ltb, length-take-le, slice_get, slice_get_within, slice_set, slice_range, option_map, if◌then◌else◌, Ok, Err, Completion, completion_of, sq_id, sq_head, status, dw0, Status, phase_tag, Lane, Admin, Io, Waiting, Ticket, queue_id, submission_queue, completion_place_in, head_doorbell, data_area, Ends, Driver, is_up, ends, consumed_ends, Controller, DeviceEnds, with_head, completion_at, after_write32, box_at, with_box, LaneBox, box, answer, front, heard, less, consumed as consumed_one, next_completion, completion_bytes, phase_of, received_in, live_in, live_at as live_slot, holds, commands_of, Both, same, other, host, state, slot_in, slots_in, commands_in, pages_of, held_by, in_order, aborted_number, Sound, EndsFit, completion_as, mailbox, eq-eqb}
 use Rattle.nvme_fleet.proofs.LaneWindows.{each-lane}
 use Rattle.std.specs.Option.{option_flatten}
 use Rattle.nvme_driver.specs.declared.faults.PollFault.TheVariants as poll_fault
 use Rattle.nvme_mailbox.specs.Deliveries as step
 use Rattle.nvme_wire.specs.Completion.{cid}
 use Rattle.nvme_driver.specs.Polls as poll
-use Rattle.nvme_fleet.proofs.Slots.{few, apart-set}
-use Rattle.nvme_fleet.proofs.Queues.{self-eqb}
-use Rattle.nvme_fleet.proofs.Polls.{poll-posted, poll-box, poll-holds, none-posted, next-none, next-some, hears, front-of-lane, front-live, bare as bare_front}
+use Rattle.nvme_fleet.proofs.Slots.{few, apart-set, bare-box}
+use Rattle.nvme_fleet.proofs.Polls.{poll-posted, poll-box, poll-holds, none-posted, next-none, next-some, hears, front-of, front-live, bare as bare_front}
 use Rattle.nvme_fleet.proofs.Queues.{Bare}
-use Rattle.nvme_fleet.proofs.Empties.{emptied, emptied-holds, emptied-box, bare-of}
-use Rattle.nvme_fleet.proofs.Orders.{NotBelow, ticket_aborted, oldest-first, empty-order, live-freed}
+use Rattle.nvme_fleet.proofs.Empties.{emptied, emptied-holds, bare-of}
+use Rattle.nvme_fleet.proofs.Orders.{NotBelow, oldest-first, empty-order, live-freed}
 use Rattle.nvme_fleet.proofs.LaneSlots.{Own, own-at, slot-in, slots-here, slots-there, same-fetched}
 use Rattle.nvme_fleet.proofs.OneLane.{same-holds, running, box-is, Changed, changed, AtLane, size-set, sound-at, fetched-at, mail-at}
 use Rattle.nvme_fleet.proofs.Linking.{counts, completion-is, same-submission, Counted, counted, part-in, range-is}
@@ -111,7 +110,7 @@ aborts d c i t s e low =
     let hosts : (l : Lane) → host l (poll.freed d i) c.window ≡ emptied (host l d c.window) i = λ l. freed-host l d c.window i b.slots (omega (arith, within, b.slots)) in
     let bare : (l : Lane) → Bare (host l d c.window) (state l c) i = λ l. bare-of b.first _ _ i (b.each l) (idle l) in
     let boxes : (l : Lane) → box (host l (poll.freed d i) c.window) (state l c) ≡ box (host l d c.window) (state l c) =
-    λ l. ap (λ (u : Host). box u (state l c)) (hosts l) ∙ emptied-box (host l d c.window) (state l c) i (bare l) in
+    λ l. ap (λ (u : Host). box u (state l c)) (hosts l) ∙ bare-box (host l d c.window) (state l c) i empty (bare l) in
     let f = oldest-first d.slots i t.0 n (λ k. subst (NotBelow t.0) (sym (number-is (waiting_at d.slots k))) (below-is t (poll.aborted_at d.slots k) (low k))) in
     let taken = same-fetched (held_by d c.window) (held_by (poll.freed d i) c.window) i
     (λ l k q. ap (λ (u : Host). holds u k) (hosts l) ∙ apart-set (slots_in l c.window 0 d.slots) i empty k q) c.fetched (λ l. (bare l).taken) in
@@ -163,16 +162,14 @@ record Heads (lane : Lane) (d : Driver) (c : Controller) : Type 0 where
 heads : (lane : Lane) (d : Driver) (c : Controller) → Sound d c → is_up d.state ≡ true → 0 < (state lane c).unread → Heads lane d c
 heads lane d c s u p =
     let r = running lane d c s u in
-    let b : Both d c = s.both in
-    let f = s.fits lane in
     let o = own-at lane c.window d.slots (cid (entry_at lane d c)) (front-live (host lane d c.window) (state lane c) r p) in
     record {
       sound = s;
       up = u;
       some = p;
       own = o;
-      within = omega (arith, within-of d.slots (cid (entry_at lane d c)) (λ z. none-some o.waiting (sym z ∙ o.is)), b.slots);
-      heard = hear-is lane d c.window (sq_head (entry_at lane d c)) f ∙ hears (host lane d c.window) (state lane c) r p;
+      within = omega (arith, within-of d.slots (cid (entry_at lane d c)) (λ z. none-some o.waiting (sym z ∙ o.is)), s.both.slots);
+      heard = hear-is lane d c.window (sq_head (entry_at lane d c)) (s.fits lane) ∙ hears (host lane d c.window) (state lane c) r p;
     }
   where
     hear-is : (lane : Lane) (d : Driver) (w : List ℕ) (head : ℕ) → EndsFit (ends lane d) → can_be_heard (ends lane d).tail head ≡ can_hear (host lane d w) head
@@ -180,12 +177,11 @@ heads lane d c s u p =
 
 own-live : (lane : Lane) (w : Waiting) → w.lane ≡ lane → w.live ≡ true → poll.live_in lane (Some w) ≡ Some w
 own-live lane w a b =
-    let q : (queue_id w.lane == queue_id lane) ≡ true = self-eqb _ _ (ap queue_id a) in
-    ap (λ t. if t && w.live then Some w else None) q ∙ ap (λ t. if t then Some w else None) b
+    ap (λ t. if t && w.live then Some w else None) (eq-eqb _ _ (ap queue_id a)) ∙ ap (λ t. if t then Some w else None) b
 
 knows-it : (lane : Lane) (d : Driver) (c : Controller) (h : Heads lane d c) → poll.answered d lane (entry_at lane d c) ≡ Some (h.own).waiting
 knows-it lane d c h =
-    let a : (sq_id (entry_at lane d c) == queue_id lane) ≡ true = self-eqb _ _ (front-of-lane (host lane d c.window) (state lane c) (running lane d c h.sound h.up) h.some) in
+    let a : (sq_id (entry_at lane d c) == queue_id lane) ≡ true = eq-eqb _ _ (front-of (host lane d c.window) (state lane c) (running lane d c h.sound h.up) h.some).0.0 in
     ap (λ t. if t && can_be_heard (ends lane d).tail (sq_head (entry_at lane d c)) then poll.live_in lane (waiting_at d.slots (cid (entry_at lane d c))) else None) a
     ∙ ap (λ t. if t then poll.live_in lane (waiting_at d.slots (cid (entry_at lane d c))) else None) h.heard
     ∙ ap (poll.live_in lane) (h.own).is
@@ -258,13 +254,11 @@ polled-sound lane d c h =
     let b : Both d c = s.both in
     let f = s.fits lane in
     let x = changed-so lane d (entry_at lane d c) in
-    let t = told-so lane d c h in
-    let q = consumed-is (ends lane d) (sq_head (entry_at lane d c)) f h.heard in
     sound-at lane d (poll.consumed d lane (entry_at lane d c)) c (told_one lane c (head_then lane d)) d.next _ _ (polled-at lane d c h) s h.up
     (poll-holds b.first _ _ (b.each lane) h.up h.some)
-    (x.fits (subst EndsFit (sym q) (record { tail = f.tail; head = f.head })) s.fits)
+    (x.fits (subst EndsFit (sym (consumed-is (ends lane d) (sq_head (entry_at lane d c)) f h.heard)) (record { tail = f.tail; head = f.head })) s.fits)
     (λ k. subst (λ xs. received_in (waiting_at xs k) ≤ most_bytes) (sym x.slots) (size-set d.slots (cid (entry_at lane d c)) k None (omega arith) s.sizes))
-    t.paired
+    (told-so lane d c h).paired
 
 -- the first answer of the lane is gone
 polled-mail : (lane : Lane) (d : Driver) (c : Controller) → Heads lane d c
@@ -273,13 +267,12 @@ polled-mail lane d c h =
     let b : Both d c = h.sound.both in
     let r = running lane d c h.sound h.up in
     let at = polled-at lane d c h in
-    let x = changed-so lane d (entry_at lane d c) in
     let gone = bare-of b.first _ _ (cid (entry_at lane d c)) (b.each (other lane))
     (ap live_in (slot-in (other lane) c.window d.slots (cid (entry_at lane d c)) ∙ (h.own).absent c.window (cid (entry_at lane d c)))) in
     mail-at lane d (poll.consumed d lane (entry_at lane d c)) c (told_one lane c (head_then lane d)) d.next _ _ at (mailbox d c).fetched
     (fetched-at lane d (poll.consumed d lane (entry_at lane d c)) c (told_one lane c (head_then lane d)) d.next _ _ at (cid (entry_at lane d c)) empty refl c.fetched
     (each-lane lane (λ l. commands_of (cid (entry_at lane d c)) (commands_in l c.fetched) ≡ 0) (bare_front (host lane d c.window) (state lane c) r h.some).taken gone.taken))
-    (ap (in_order aborted_number) x.slots ∙ live-freed d.slots (cid (entry_at lane d c)) (h.own).counts)
+    (ap (in_order aborted_number) (changed-so lane d (entry_at lane d c)).slots ∙ live-freed d.slots (cid (entry_at lane d c)) (h.own).counts)
     ∙ ap (λ u. with_box lane u (mailbox d c)) (poll-box (host lane d c.window) (state lane c) r h.some
     ∙ ap (λ (u : LaneBox). record u { posted = rest_posted lane d c; unheard = u.unheard - (first_answer lane d c).step }) (sym (box-is lane d c)))
 
@@ -292,8 +285,7 @@ len-small received why h = elim (cases_Bool (poll.is_success why)) [
 
 place-small : (w : List ℕ) (k n : ℕ) → length w ≡ 4194304 → k < 24 → n ≤ most_bytes → length (take n (drop (data_area k) w)) ≡ n
 place-small w k n l h g =
-    let d = length-drop (data_area k) w in
-    length-take-le n (drop (data_area k) w) (omega (arith, d, l, h, g))
+    length-take-le n (drop (data_area k) w) (omega (arith, length-drop (data_area k) w, l, h, g))
 
 -- what the answer gives, in the driver and in the mailbox
 abbrev poll_reply : poll.Poll → Reply
@@ -307,8 +299,7 @@ answer-is : (lane : Lane) (d : Driver) (c : Controller) (h : Heads lane d c) →
 answer-is lane d c h =
     let n : ℕ = cid (entry_at lane d c) in
     let why : Status = status (entry_at lane d c) in
-    let size : received_in (waiting_at d.slots (cid (entry_at lane d c))) ≤ most_bytes = h.sound.sizes (cid (entry_at lane d c)) in
-    let small : ((h.own).waiting).received ≤ most_bytes = subst (λ o. received_in o ≤ most_bytes) (h.own).is size in
+    let small : ((h.own).waiting).received ≤ most_bytes = subst (λ o. received_in o ≤ most_bytes) (h.own).is (h.sound.sizes (cid (entry_at lane d c))) in
     let g = len-small ((h.own).waiting).received (status (entry_at lane d c)) small in
     let e = slot-in lane c.window d.slots (cid (entry_at lane d c)) ∙ (h.own).slot c.window (cid (entry_at lane d c)) in
     let t = area-data c.window (cid (entry_at lane d c)) (poll.answer_len ((h.own).waiting).received (status (entry_at lane d c))) g in
@@ -322,8 +313,7 @@ hands-up : (lane : Lane) (d : Driver) (c : Controller) (h : Heads lane d c)
     → IsStep (handed_up lane (first_answer lane d c) (rest_posted lane d c) (mailbox d c)) (answer_at lane d c h).driver (after_calls (answer_at lane d c h).calls c) (poll_reply (answer_at lane d c h))
 hands-up lane d c h =
     let p = h.sound.up h.up in
-    let f = h.sound.fits lane in
-    let v : poll.head_of (consumed_ends (ends lane d) (sq_head (entry_at lane d c))) ≡ head_then lane d = rw f.head refl in
+    let v : poll.head_of (consumed_ends (ends lane d) (sq_head (entry_at lane d c))) ≡ head_then lane d = rw (h.sound.fits lane).head refl in
     let e : after_calls (answer_at lane d c h).calls c ≡ told_one lane c (head_then lane d) =
     ap (λ n. after_write32 (head_doorbell lane) n c) v ∙ head-written lane c (head_then lane d) p.enabled p.ready (omega arith) in
     record {

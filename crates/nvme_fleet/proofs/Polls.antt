@@ -1,6 +1,6 @@
 -- Poll in one lane: the completion at its head is the first answer that was posted, and its slot is freed.
-use Rattle.nvme_fleet.proofs.Words.{◌≡◌, ℕ, ◌+◌, ◌-◌, ◌%◌, ◌<◌, ◌≤◌, List, [], ◌∷◌, length, refl, ap, sym, subst, ◌∙◌, arith, zero, suc, true, false, not, cond, eqb, Bool, Some, None, slice_set, length-set, lt-ltb, le-ltb, common_steps, nat_lt, Completion, LaneBox, completion_of, queue_id, completion_bytes, phase_of, AllByRecursion, IsOf, State, Slot, empty, slot_at, box, answer, front, left_after, can_hear, next_completion, consumed, less, in_flight, commands, completions, Running, last_head, heard, unread, since, steps, commands_of, answers_of, live_at, live_in, answers, holds, total, Carried, AgeIn, Holds, Host}
-use Rattle.nvme_fleet.proofs.Queues.{same-box, eqb-sym, self-eqb, Bare, bare-all}
+use Rattle.nvme_fleet.proofs.Words.{◌≡◌, ℕ, ◌+◌, ◌-◌, ◌%◌, ◌<◌, ◌≤◌, List, [], ◌∷◌, length, refl, ap, sym, subst, ◌∙◌, arith, zero, suc, true, false, not, cond, eqb, Bool, Some, None, slice_set, length-set, lt-ltb, le-ltb, common_steps, nat_lt, Completion, LaneBox, completion_of, queue_id, completion_bytes, phase_of, AllByRecursion, IsOf, State, Slot, empty, slot_at, box, answer, front, left_after, can_hear, next_completion, consumed, less, in_flight, commands, completions, Running, last_head, heard, unread, since, steps, commands_of, answers_of, live_at, live_in, answers, holds, total, Carried, AgeIn, Holds, Host, eq-eqb}
+use Rattle.nvme_fleet.proofs.Queues.{same-box, eqb-sym, Bare, bare-all}
 use Rattle.nvme_fleet.proofs.Totals.{live-small, live-within, live-set, each-set, each-all}
 use Rattle.nvme_fleet.proofs.Slots.{few, bare-box, bare-odd}
 use Rattle.nvme_fleet.proofs.Places.{up-holds}
@@ -45,11 +45,8 @@ heard-is p u h a b e = omega arith
 abbrev step-of : Host → State → ℕ
 step-of d c = ((front d c).sq_head + 8 - heard d) % 8
 
-front-of : (d : Host) (c : State) → Running d c → 0 < c.unread → AllByRecursion (IsOf (queue_id c.lane)) (front d c ∷ rest-of d c)
+pub front-of : (d : Host) (c : State) → Running d c → 0 < c.unread → AllByRecursion (IsOf (queue_id c.lane)) (front d c ∷ rest-of d c)
 front-of d c s p = subst (AllByRecursion (IsOf (queue_id c.lane))) (front-first d c p) s.of_lane
-
-pub front-of-lane : (d : Host) (c : State) → Running d c → 0 < c.unread → (front d c).sq_id ≡ queue_id c.lane
-front-of-lane d c s p = (front-of d c s p).0.0
 
 left-over : (d : Host) (c : State) → Running d c → 0 < c.unread → left_after d (front d c).sq_head ≡ d.unheard - step-of d c
 left-over d c s p =
@@ -57,16 +54,14 @@ left-over d c s p =
 
 pub hears : (d : Host) (c : State) → Running d c → 0 < c.unread → can_hear d (front d c).sq_head ≡ true
 hears d c s p =
-    let h : (front d c).sq_head < 8 = (front-of d c s p).0.1 in
-    let l : left_after d (front d c).sq_head ≡ d.unheard - step-of d c = left-over d c s p in
-    grind (arith, common_steps, h, l)
+    grind (arith, common_steps, (front-of d c s p).0.1, left-over d c s p)
 
 front-answers : (d : Host) (c : State) (slot : ℕ) (b : Bool) → 0 < c.unread → eqb (front d c).cid slot ≡ b → answers_of slot (unread d c) ≡ cond b 1 0 + answers_of slot (rest-of d c)
 front-answers d c slot b p e = ap (answers_of slot) (front-first d c p) ∙ ap (λ b. cond b 1 0 + answers_of slot (rest-of d c)) e
 
 pub front-live : (d : Host) (c : State) → Running d c → 0 < c.unread → live_at d.slots (front d c).cid ≡ 1
 front-live d c s p =
-    omega (arith, front-answers d c (front d c).cid true p (self-eqb (front d c).cid (front d c).cid refl), s.carried (front d c).cid, live-small (slot_at d.slots (front d c).cid))
+    omega (arith, front-answers d c (front d c).cid true p (eq-eqb (front d c).cid (front d c).cid refl), s.carried (front d c).cid, live-small (slot_at d.slots (front d c).cid))
 
 -- the driver once it has heard the front completion, before the slot is freed: no other place bears that
 abbrev popped : Host → Completion → Host
@@ -75,7 +70,7 @@ popped d e = record d { unheard = left_after d e.sq_head; consumed = (d.consumed
 pub bare : (d : Host) (c : State) → Running d c → 0 < c.unread → Bare (popped d (front d c)) (less c) (front d c).cid
 bare d c s p =
     bare-all (popped d (front d c)) (less c) (front d c).cid s.fetched s.waiting
-    (omega (arith, s.carried (front d c).cid, front-live d c s p, front-answers d c (front d c).cid true p (self-eqb (front d c).cid (front d c).cid refl)))
+    (omega (arith, s.carried (front d c).cid, front-live d c s p, front-answers d c (front d c).cid true p (eq-eqb (front d c).cid (front d c).cid refl)))
 
 heard-front : (d : Host) (c : State) → Running d c → 0 < c.unread → heard (consumed d (front d c)) ≡ (front d c).sq_head
 heard-front d c s p = heard-is d.put d.unheard (front d c).sq_head s.put s.room (front-of d c s p).0.1
@@ -119,7 +114,7 @@ carried-front d c s p =
     let n : ℕ = (front d c).cid in
     each-set (λ k (o : Slot). commands_of k c.taken + commands_of k (commands c.window c.fetched (in_flight d c)) + answers_of k (rest-of d c) ≡ live_in o)
     d.slots n empty (live-within d.slots n (front-live d c s p))
-    (omega (arith, s.carried n, front-answers d c n true p (self-eqb n n refl), live-small (slot_at d.slots n)))
+    (omega (arith, s.carried n, front-answers d c n true p (eq-eqb n n refl), live-small (slot_at d.slots n)))
     (λ k q. omega (arith, s.carried k, front-answers d c k false p (eqb-sym k n q)))
 
 -- one live slot fewer, and one answer

@@ -1,5 +1,5 @@
 -- An answer that is posted stands at the end of its lane in the mailbox, and the other lane stays.
-use Rattle.nvme_fleet.proofs.Words.{none-some, same_Some, ◌≡◌, ℕ, ◌+◌, ◌-◌, ◌*◌, ◌%◌, ◌<◌, ◌≤◌, nat_lt, true, List, [], ◌∷◌, ◌++◌, cond, length, take, Some, refl, sym, ap, subst, ◌∙◌, arith, inl, inr, slice_get, slice_set, cases_Bool, lt-ltb, slice_get-map, cid, Completion, completion_entry, completion_of, FitsCompletion, completion_is_read_back, Keep, with_bytes, most_bytes, phase_tag, Lane, queue_id, submission_queue, completion_queue, data_area, Driver, is_up, waiting_at, answer_len, FetchedCommand, Controller, QueuePair, pair_with, open_pair, after_posting, after_queue_change, completion_at, CommandExecution, after_completion, FetchedItem, box_at, with_box, lane_of, after_answer, with_posted, Effect, Host, State, Slot, DeviceEnds, slot_at, item_in, finished, finished_bytes, received_in, lane_in, live_in, commands_of, box, executed as executed_one, executed_state, Both, same, other, host, state, pages_of, area, listed, slots_in, commands_in, whole, held_by, fetched_by, lane_of_queue, Sound, IsPaired, IsOfLane, mailbox, submission_as, completion_as, PostingIsAStep, PostingHasRoom, NothingToExecute, request_execution_with}
+use Rattle.nvme_fleet.proofs.Words.{none-some, same_Some, ◌≡◌, ℕ, ◌+◌, ◌-◌, ◌*◌, ◌%◌, ◌<◌, ◌≤◌, true, List, [], ◌∷◌, ◌++◌, cond, length, take, Some, refl, sym, ap, subst, ◌∙◌, arith, inl, inr, slice_get, slice_set, cases_Bool, lt-ltb, slice_get-map, cid, Completion, completion_entry, completion_of, FitsCompletion, completion_is_read_back, Keep, with_bytes, most_bytes, phase_tag, Lane, queue_id, submission_queue, completion_queue, data_area, Driver, is_up, waiting_at, answer_len, FetchedCommand, Controller, QueuePair, pair_with, open_pair, after_posting, after_queue_change, CommandExecution, after_completion, FetchedItem, box_at, with_box, lane_of, after_answer, with_posted, Effect, Host, State, Slot, DeviceEnds, slot_at, item_in, finished, finished_bytes, received_in, lane_in, live_in, commands_of, box, executed as executed_one, executed_state, Both, same, other, host, state, pages_of, area, listed, slots_in, commands_in, whole, held_by, fetched_by, lane_of_queue, Sound, IsPaired, IsOfLane, mailbox, submission_as, completion_as, PostingIsAStep, PostingHasRoom, NothingToExecute, request_execution_with}
 use Rattle.std.proofs.Common.{remove}
 use Rattle.nvme_mailbox.proofs.Lists.{all-get, all-removed}
 use Rattle.std.specs.Option.{option_map}
@@ -40,9 +40,6 @@ queue-is t (inr e) = rw e refl
 abbrev pub pair_in : Lane → Controller → QueuePair
 pair_in lane c = pair_with (submission_as lane (counts lane c)) (completion_as lane (counts lane c))
 
-cqid-at : (lane : Lane) (c : Controller) → IsPaired c → completion_at c (submission_as lane (counts lane c)).cqid ≡ Some (completion_as lane (counts lane c))
-cqid-at lane c p = completion-is lane c p
-
 -- what is known of the i-th command, which is of this lane
 pub record Known (lane : Lane) (d : Driver) (c : Controller) (i : ℕ) (t : FetchedCommand) : Type 0 where
   pub sound : Sound d c
@@ -62,14 +59,13 @@ up-of d c i t s g = elim (cases_Bool (is_up d.state)) [
 pub known : (d : Driver) (c : Controller) (i : ℕ) (t : FetchedCommand) → Sound d c → slice_get c.fetched i ≡ Some t → Known (lane_of_queue t.queue) d c i t
 known d c i t s g =
     let u = up-of d c i t s g in
-    let p = s.up u in
     let r = ranked-in (lane_of_queue t.queue) c.fetched i t g (same-self (lane_of_queue t.queue)) in
     let o = fetched_one (host (lane_of_queue t.queue) d c.window) (state (lane_of_queue t.queue) c) (rank (lane_of_queue t.queue) c.fetched i) t.entry (running (lane_of_queue t.queue) d c s u) r.there in
     record {
       sound = s;
       there = g;
       of_lane = refl;
-      queue = queue-is t (all-get IsOfLane c.fetched i t g p.fetched);
+      queue = queue-is t (all-get IsOfLane c.fetched i t g (s.up u).fetched);
       up = u;
       one = o;
       own = own-at (lane_of_queue t.queue) c.window d.slots (cid t.entry) o.live;
@@ -79,9 +75,7 @@ pub open-is : (lane : Lane) (d : Driver) (c : Controller) (i : ℕ) (t : Fetched
 unfolding open_pair
 open-is lane d c i t k =
     let p = k.sound.up k.up in
-    let room = (k.one).room in
-    let r : nat_lt 0 (32 - 1 - (state lane c).unread) ≡ true = lt-ltb 0 (32 - 1 - (state lane c).unread) (omega (arith, room)) in
-    rw (k.queue, submission-is lane c p, cqid-at lane c p, r) refl
+    rw (k.queue, submission-is lane c p, completion-is lane c p, lt-ltb 0 (32 - 1 - (state lane c).unread) (omega (arith, (k.one).room))) refl
 
 pub posting_has_room : PostingHasRoom
 posting_has_room d c i t s g = (pair_in (lane_of_queue t.queue) c, open-is (lane_of_queue t.queue) d c i t (known d c i t s g))
@@ -185,16 +179,14 @@ answers : (lane : Lane) (d : Driver) (c : Controller) (i : ℕ) (t : FetchedComm
     → a.left.window ≡ with_bytes c.window (data_area (cid t.entry)) bytes → length bytes ≤ most_bytes → answer_len (received_in (waiting_at d.slots (cid t.entry))) a.outcome.status ≤ length bytes
     → Answers lane d c i t a bytes
 answers lane d c i t a bytes k f w few whole =
-    let r = running lane d c k.sound k.up in
-    let small : (state lane c).posted < 64 = omega (arith, r.posted) in
+    let small : (state lane c).posted < 64 = omega (arith, (running lane d c k.sound k.up).posted) in
     let b = bytes-are lane c t a bytes k.queue small in
-    let sight = seen lane d c i t k in
     let z : length (finished_bytes (state lane c) (effect_of a bytes) t.entry) ≡ 16 = sym (ap length b) ∙ length-completion (fields_of t (pair_in lane c) a) in
     record {
       known = k;
       size = z;
       reads = sym (ap completion_of b) ∙ completion_is_read_back (fields_of t (pair_in lane c) a) f ∙ finished-is lane c t a bytes k.queue small;
-      fits = subst (λ n. answer_len n a.outcome.status ≤ length bytes) (sym sight.received) whole;
+      fits = subst (λ n. answer_len n a.outcome.status ≤ length bytes) (sym (seen lane d c i t k).received) whole;
       wrote = stores lane c.window bytes (finished_bytes (state lane c) (effect_of a bytes) t.entry) (cid t.entry) (4096 + 16 * ((state lane c).posted % 32)) k.sound.both.window (k.one).within few (omega (arith, z));
       window = window-is lane c i t a bytes b w;
     }
@@ -231,18 +223,16 @@ posted-at lane d c i t a bytes h =
     let n : cid t.entry < 24 = (k.one).within in
     let v = h.window in
     let q = posted-so lane c i t a (k.sound.up k.up) in
-    let e = seen-is lane d c i t k in
     let stay = ap (slots_in lane (window_then lane c t a bytes) 0) (sym (set-waiting d.slots (cid t.entry) (omega (arith, n, b.slots)))) in
     let here = ap (slots_in lane (window_then lane c t a bytes) 0) (sym (set-waiting d.slots (cid t.entry) (omega (arith, n, b.slots))))
     ∙ slots-here lane c.window (window_then lane c t a bytes) d.slots (cid t.entry) (waiting_at d.slots (cid t.entry)) b.slots n w.stored.slots
     ∙ ap (slice_set (slots_in lane c.window 0 d.slots) (cid t.entry))
     (o.slot (window_then lane c t a bytes) (cid t.entry)
     ∙ (λ j. record { waiting = Some o.waiting; bytes = area (window_then lane c t a bytes) (cid t.entry); list = w.lists j })
-    ∙ ap (λ (s : Slot). record s { bytes = area (window_then lane c t a bytes) (cid t.entry) }) (sym e)) in
+    ∙ ap (λ (s : Slot). record s { bytes = area (window_then lane c t a bytes) (cid t.entry) }) (sym (seen-is lane d c i t k))) in
     let there = ap (slots_in (other lane) (window_then lane c t a bytes) 0) (sym (set-waiting d.slots (cid t.entry) (omega (arith, n, b.slots))))
     ∙ slots-there (other lane) c.window (window_then lane c t a bytes) d.slots (cid t.entry) (waiting_at d.slots (cid t.entry)) b.slots n w.stored.slots (o.absent c.window (cid t.entry)) (o.absent (window_then lane c t a bytes) (cid t.entry)) in
     let taken = removed-here lane d c i t k in
-    let left = still-there lane d c i t k in
     let new = finished_bytes (state lane c) (effect_of a bytes) t.entry in
     let at = 4096 + 16 * ((state lane c).posted % 32) in
     let pages = ap (pages_of lane) v ∙ w.stored.pages lane ∙ ap (λ x. cond x (with_bytes (pages_of lane c.window) at new) (pages_of lane c.window)) (same-self lane) in
@@ -257,7 +247,7 @@ posted-at lane d c i t a bytes h =
       host_there = ap (host (other lane) d) v ∙ (λ j. record (host (other lane) d c.window) { slots = there j });
       state_here = q.here
           ∙ (λ j. record (state lane c) { window = pages j; posted = ((state lane c).posted + 1) % 64; unread = (state lane c).unread + 1; taken = taken j });
-      state_there = q.there ∙ (λ j. record (state (other lane) c) { window = others j; taken = left j });
+      state_there = q.there ∙ (λ j. record (state (other lane) c) { window = others j; taken = (still-there lane d c i t k) j });
     }
 
 -- its answer, in its lane

@@ -16,8 +16,7 @@ use Rattle.nvme_mailbox.proofs.PowerCycles.{fleeting, left-so, stays-reserved}
 
 pub power_takes : PowerTakes
 power_takes tells old new reply step =
-    let below = step.below in
-    machine_proofs.power_takes tells old.subsystem new.subsystem Cycled (refl, below.cycled)
+    machine_proofs.power_takes tells old.subsystem new.subsystem Cycled (refl, step.below.cycled)
 
 -- Both layers.
 

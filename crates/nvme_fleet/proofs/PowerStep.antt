@@ -1,5 +1,5 @@
 -- A power cycle is a step of each mailbox, and of the fleet.
-use Rattle.nvme_fleet.proofs.Words.{◌≡◌, ◌+◌, ℕ, zero, suc, Bool, List, [], ◌∷◌, map, Option, None, Some, refl, sym, ap, subst, ◌∙◌, slice_get, option_map, length-map, same_Some, Driver, after_reset, Seen, Cycled, Wrote, NoController, Controller, after_write32, wrote, Subsystem, ReactsAs, controller_at, after_power_cycle, Ran, FleetState, IsSoundFleet, SoundBy, fleet_in, fleet_of, host_by, hosts_of, layers_of, WithDriver, Fleet, host_cycled, Cycles, resets_from, AreCycled, Sound, IsOff, mailbox}
+use Rattle.nvme_fleet.proofs.Words.{◌≡◌, ◌+◌, ◌++◌, ℕ, zero, suc, Bool, List, [], ◌∷◌, drop, length, map, refill-all, take, Option, None, Some, refl, sym, ap, subst, ◌∙◌, slice_get, option_map, length-map, same_Some, Driver, after_reset, Seen, Cycled, Wrote, NoController, Controller, after_write32, wrote, Subsystem, ReactsAs, controller_at, after_power_cycle, Ran, FleetState, IsSoundFleet, SoundBy, fleet_in, fleet_of, host_by, hosts_of, layers_of, WithDriver, Fleet, host_cycled, Cycles, resets_from, AreCycled, Sound, IsOff, mailbox}
 use Rattle.nvme_driver.specs.Drivers as driver
 use Rattle.nvme_machine.specs.Controllers.{power_cycled}
 use Rattle.nvme_machine.specs.Subsystems.{numbered, replaced, with_controller}
@@ -104,10 +104,10 @@ pub record IsCycledFleet (tells : Bool) (a b : FleetState) : Type 0 where
   pub below : Cycles tells (layers_of a) seen.Cycled (layers_of b)
 
 -- the fleet behind a power cycle
-abbrev pub cycled-state : FleetState → FleetState
+abbrev cycled-state : FleetState → FleetState
 cycled-state a = record a { subsystem = after_power_cycle a.subsystem; drivers = map (option_map after_reset) a.drivers }
 
-pub is-cycled : (tells : Bool) (a : FleetState) → IsSoundFleet a → IsCycledFleet tells a (cycled-state a)
+is-cycled : (tells : Bool) (a : FleetState) → IsSoundFleet a → IsCycledFleet tells a (cycled-state a)
 unfolding mailboxes.power_cycled after_power_cycle fleet_in
 is-cycled tells a s =
     let ran = resets-ran tells (after_power_cycle a.subsystem) 1 a.drivers (are-cycled a.subsystem) in
@@ -126,3 +126,11 @@ is-cycled tells a s =
         drivers = refl;
       };
     }
+
+-- with the drivers put back that were lent
+pub cycled-at : (tells : Bool) (a old : FleetState) (new : Subsystem) (drivers : List (Option Driver)) (len : ℕ) → a ≡ old → IsSoundFleet a → new ≡ after_power_cycle a.subsystem → drivers ≡ map (option_map after_reset) a.drivers
+    → len ≡ length drivers
+    → IsCycledFleet tells old (record { subsystem = new; drivers = take len (drivers ++ drop (length drivers) a.drivers); buffer = a.buffer; filled = a.filled })
+cycled-at tells a old new drivers len same s is reset whole =
+    let back = refill-all len a.drivers drivers whole ∙ reset in
+    subst (λ b. IsCycledFleet tells old b) (sym (λ i. record a { subsystem = is i; drivers = back i })) (subst (λ o. IsCycledFleet tells o (cycled-state a)) same (is-cycled tells a s))

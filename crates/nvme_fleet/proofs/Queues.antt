@@ -1,5 +1,5 @@
 -- Stretches of entries in the queues of a lane: joined, counted, and with the requests that they bear.
-use Rattle.nvme_fleet.proofs.Words.{◌≡◌, ℕ, ◌+◌, ◌-◌, ◌%◌, ◌<◌, List, [], ◌∷◌, ◌++◌, length, map, refl, ap, ◌∙◌, arith, zero, suc, true, false, eqb, take, drop, ◌*◌, nat_lt, length-map, common_steps, Completion, Item, PostedAnswer, LaneBox, completion_of, command_at, completion_bytes, phase_of, State, Slot, in_flight, commands, completions, item, answers, box, Running, holds, heard, unread, total, live_in, Host, ◌≤◌, bears, commands_of, answers_of}
+use Rattle.nvme_fleet.proofs.Words.{◌≡◌, ℕ, ◌+◌, ◌-◌, ◌%◌, ◌<◌, List, [], ◌∷◌, ◌++◌, length, map, refl, ap, ◌∙◌, arith, zero, suc, false, eqb, take, drop, ◌*◌, nat_lt, length-map, common_steps, Completion, Item, PostedAnswer, LaneBox, completion_of, command_at, completion_bytes, phase_of, State, Slot, in_flight, commands, completions, item, answers, box, Running, holds, heard, unread, total, live_in, Host, ◌≤◌, bears, commands_of, answers_of}
 use Rattle.nvme_mailbox.proofs.Totals.{total-append}
 
 -- a step round the ring
@@ -14,8 +14,7 @@ commands-append w s zero b h =
     rw (e, z) refl
 commands-append w s (suc a) b h =
     let e : suc a + b ≡ suc (a + b) = omega arith in
-    let r : (s + 1) % 8 < 8 = omega arith in
-    rw e (ap (λ t. command_at w s ∷ t) (rw (turn s a) at (commands-append w ((s + 1) % 8) a b r)))
+    rw e (ap (λ t. command_at w s ∷ t) (rw (turn s a) at (commands-append w ((s + 1) % 8) a b (omega arith))))
 
 pub completions-append : (w : List ℕ) (n a b : ℕ) → n < 64 → completions w n (a + b) ≡ completions w n a ++ completions w ((n + a) % 64) b
 completions-append w n zero b h =
@@ -24,9 +23,8 @@ completions-append w n zero b h =
     rw (e, z) refl
 completions-append w n (suc a) b h =
     let e : suc a + b ≡ suc (a + b) = omega arith in
-    let r : (n + 1) % 64 < 64 = omega arith in
     let t : ((n + 1) % 64 + a) % 64 ≡ (n + suc a) % 64 = omega arith in
-    rw e (ap (λ t. completion_of (completion_bytes w n) ∷ t) (rw t at (completions-append w ((n + 1) % 64) a b r)))
+    rw e (ap (λ t. completion_of (completion_bytes w n) ∷ t) (rw t at (completions-append w ((n + 1) % 64) a b (omega arith))))
 
 pub length-commands : (w : List ℕ) (s n : ℕ) → length (commands w s n) ≡ n
 length-commands w s zero = refl
@@ -94,9 +92,6 @@ same-box p p' r r' q q' u u' s s' h1 h2 h3 h4 h5 = rw (h1, h2, h3, h4, h5) refl
 
 pub eqb-sym : (a b : ℕ) → eqb a b ≡ false → eqb b a ≡ false
 eqb-sym a b h = grind (arith, common_steps, h)
-
-pub self-eqb : (n m : ℕ) → n ≡ m → eqb n m ≡ true
-self-eqb n m h = grind (arith, common_steps, h)
 
 pub same-entry : (w : List ℕ) (a b : ℕ) → a % 32 ≡ b % 32 → completion_bytes w a ≡ completion_bytes w b
 same-entry w a b e = ap (λ i. take 16 (drop (4096 + 16 * i) w)) e

@@ -29,8 +29,7 @@ ranked-in lane (x ∷ xs) (suc i) t h e =
 pub removed-there : (lane : Lane) (ts : List FetchedCommand) (i : ℕ) (t : FetchedCommand) → slice_get ts i ≡ Some t → same (lane_of_queue t.queue) lane ≡ false → commands_in lane (remove ts i) ≡ commands_in lane ts
 removed-there lane [] i t h e = absurd (none-some _ h)
 removed-there lane (x ∷ xs) zero t h e =
-    let q : x ≡ t = same_Some x t h in
-    rw (q, e) refl
+    rw (same_Some x t h, e) refl
 removed-there lane (x ∷ xs) (suc i) t h e =
     elim (cases_Bool (same (lane_of_queue x.queue) lane)) [
       | inl f ↦ rw f (ap (λ l. x.entry ∷ l) (removed-there lane xs i t h e))

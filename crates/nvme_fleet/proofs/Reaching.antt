@@ -5,8 +5,9 @@ use Rattle.nvme_machine.specs.declared.event.Event.TheVariants as event
 use Rattle.nvme_machine.specs.Subsystems.{Step, Run, ExecutesAt, with_controller as with_controller_of}
 use Rattle.nvme_subsys.proofs.Numbers as numbers
 use Rattle.nvme_fleet.proofs.AdminTurns.{AreAdmin, fetch-admin, fetched_by, one-quiet}
-use Rattle.nvme_fleet.proofs.Seating.{controller-there, get-set}
 use Rattle.nvme_fleet.proofs.PlainCalls.{IsPlain}
+use Rattle.std.proofs.lemmas.List.{get_or-set_same}
+use Rattle.std.proofs.lemmas.Option.{slice_get-get_or}
 
 -- Runs of one event, and of two.
 
@@ -43,7 +44,7 @@ pub reacted-as : (a b : Subsystem) (k i : ℕ) (f : Controller → Reaction) (gi
 unfolding with_controller_of
 reacted-as a b k i f given at there h =
     let c : Controller = controller_in a i in
-    let r = subst (λ o. ReactsAs o a k f given b) (numbers.at-place a k i c at (controller-there a i there)) h in
+    let r = subst (λ o. ReactsAs o a k f given b) (numbers.at-place a k i c at (slice_get-get_or a.controllers i (new_controller 0) there)) h in
     let d : Reaction = f c in
     record { gives = r.0; leaves = r.1 ∙ ap (λ cs. (let s : Subsystem = record a { controllers = cs } in s)) (numbers.replaced-at a.controllers k i d.controller at) }
 
@@ -54,7 +55,7 @@ pub record IsPut (a b : Subsystem) (i : ℕ) (s : Setting) : Type 0 where
 
 pub is-put : (a b : Subsystem) (i : ℕ) (s : Setting) → i < length a.controllers → b ≡ with_setting a i s → IsPut a b i s
 is-put a b i s there h =
-    let same : setting_in (with_setting a i s) i ≡ s = ap (λ c. setting c s.world s.device) (get-set a.controllers i s.controller (new_controller 0) there) in
+    let same : setting_in (with_setting a i s) i ≡ s = ap (λ c. setting c s.world s.device) (get_or-set_same a.controllers i s.controller (new_controller 0) there) in
     subst (λ x. IsPut a x i s) (sym h) (record { setting_is = same; others = ap (with_setting a i) (sym same) })
 
 -- A call is a step of the setting, and the others stay.
@@ -93,7 +94,7 @@ turns-there tells a b i admin there named s =
     let r = two-ran tells a b (event.Fetch (i + 1) 0) (event.Execute (i + 1) 0) s.given s.run in
     let p = reacted-as a r.mid (i + 1) i (after_fetch 0) r.first refl there r.starts in
     let long : i < length mid.controllers = let e = length-set a.controllers i d in omega (arith, e, there) in
-    let found : slice_get mid.controllers i ≡ Some d = controller-there mid i long ∙ ap Some (get-set a.controllers i d _ there) in
+    let found : slice_get mid.controllers i ≡ Some d = slice_get-get_or mid.controllers i (new_controller 0) long ∙ ap Some (get_or-set_same a.controllers i d _ there) in
     let e = numbers.executed-back tells mid (i + 1) i d 0 r.last b refl found (fetch-id 0 c ∙ named) (subst (λ x. ExecutesAt (controller_at x (i + 1)) tells x (i + 1) 0 r.last b) p.leaves r.ends) in
     let left : Setting = e.left in
     let quiet = one-quiet (slice_get d.fetched 0) tells (setting d a.world a.device) e.executed left refl (fetch-admin c admin) e.executes in
@@ -105,4 +106,4 @@ turns-there tells a b i admin there named s =
 
 -- the window of a controller
 pub window-there : (s : Subsystem) (k i : ℕ) → k ≡ i + 1 → i < length s.controllers → window_at s k ≡ (controller_in s i).window
-window-there s k i at there = ap window_of (numbers.at-place s k i (controller_in s i) at (controller-there s i there))
+window-there s k i at there = ap window_of (numbers.at-place s k i (controller_in s i) at (slice_get-get_or s.controllers i (new_controller 0) there))

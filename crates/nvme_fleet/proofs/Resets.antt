@@ -1,9 +1,8 @@
 -- A reset in one lane: it rests, its mailbox is empty, and the tickets of what was open are those of its slots.
-use Rattle.nvme_fleet.proofs.Words.{◌≡◌, ℕ, ◌+◌, List, [], ◌∷◌, map, refl, ap, ◌∙◌, arith, zero, suc, false, length-map, cid, Item, PostedAnswer, Completion, State, Slot, slot_at, abort_slot, off, box, item, item_in, answers, ticket_in, in_flight, commands, commands_of, unread, Holds, bears, Host}
+use Rattle.nvme_fleet.proofs.Words.{◌≡◌, ℕ, List, [], ◌∷◌, map, refl, ap, ◌∙◌, arith, zero, suc, false, length-map, cid, Item, PostedAnswer, Completion, State, Slot, slot_at, abort_slot, off, box, item, item_in, answers, ticket_in, unread, Holds, Host}
 use Rattle.nvme_fleet.specs.Views.{reset}
 pub use Rattle.nvme_fleet.proofs.Queues.{placed-part, rung-part}
 pub use Rattle.nvme_fleet.proofs.Empties.{Whole, whole-of}
-use Rattle.nvme_fleet.proofs.Queues.{flight-total}
 use Rattle.nvme_fleet.proofs.Orders.{abort-idle, abort-age}
 use Rattle.nvme_fleet.proofs.Places.{no-way}
 
@@ -35,9 +34,6 @@ reset-holds first d c s =
 pub reset-box : (d : Host) (c : State) → box (reset d) (off c) ≡ record { placed = []; rung = []; posted = []; unheard = 0; since = 0 }
 unfolding box
 reset-box d c = refl
-
-pub parts : (d : Host) (c : State) (slot : ℕ) → Whole d c → commands_of slot (commands c.window c.fetched (in_flight d c)) ≡ commands_of slot (rung-part c) + commands_of slot (placed-part d c)
-parts d c slot w = flight-total (bears slot) d c w.fetched w.waiting
 
 abbrev pub slots_of : List (List ℕ) → List ℕ
 slots_of [] = []

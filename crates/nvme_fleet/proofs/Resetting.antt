@@ -1,15 +1,15 @@
 -- A reset over both lanes: all that is open is aborted, by rising tickets.
-use Rattle.nvme_fleet.proofs.Words.{item_in, rising, waiting_at, empty_box, open_tickets, tickets_in, FetchedItem, cid, abort, Waiting, most_bytes, ◌≡◌, ℕ, ◌+◌, ◌≤◌, List, [], ◌∷◌, ◌++◌, length, map, refl, ap, sym, ◌∙◌, arith, zero, suc, false, cond, eqb, Option, Some, None, inl, inr, map-append, length-map, cases_Bool, Completion, Slot, empty, slot_at, box, abort_slot, off, ticket_in, received_in, live_at as live_slot, commands_of, answers_of, unread, AgeIn, Ages as AgesOne, Lane, Admin, Io, same, Driver, ends, after_reset, FetchedCommand, Controller, lane_of_queue, Both, whole, slots_in, commands_in, host, state, fetched_by, held_by, in_order, aborted_number, Sound, EndsFit, IsOff, mailbox}
+use Rattle.nvme_fleet.proofs.Words.{item_in, rising, waiting_at, empty_box, open_tickets, tickets_in, FetchedItem, cid, abort, Waiting, most_bytes, ◌≡◌, ℕ, ◌+◌, ◌≤◌, List, [], ◌∷◌, ◌++◌, length, map, refl, ap, sym, ◌∙◌, arith, zero, suc, false, cond, eqb, Option, Some, None, inl, inr, map-append, length-map, cases_Bool, Completion, Slot, empty, slot_at, box, abort_slot, off, ticket_in, received_in, live_at as live_slot, commands_of, answers_of, unread, AgeIn, Ages as AgesOne, Lane, Admin, Io, same, Driver, ends, after_reset, FetchedCommand, Controller, lane_of_queue, Both, whole, slots_in, commands_in, host, state, fetched_by, held_by, in_order, aborted_number, Sound, EndsFit, IsOff, mailbox, eq-eqb, bears}
 use Rattle.nvme_fleet.proofs.LaneWindows.{same-self}
 use Rattle.nvme_mailbox.specs.Deliveries as mail
 use Rattle.nvme_fleet.specs.Views.{reset as reset_one}
 use Rattle.nvme_fleet.proofs.Totals.{live-small}
-use Rattle.nvme_fleet.proofs.Queues.{self-eqb}
 use Rattle.nvme_fleet.proofs.Places.{no-way}
-use Rattle.nvme_fleet.proofs.Resets.{reset-holds, reset-box, Whole, whole-of, placed-part, rung-part, parts, slots_of, cids_of, ticket_slot, placed-tickets, rung-tickets, posted-tickets}
+use Rattle.nvme_fleet.proofs.Resets.{reset-holds, reset-box, Whole, whole-of, placed-part, rung-part, slots_of, cids_of, ticket_slot, placed-tickets, rung-tickets, posted-tickets}
 use Rattle.nvme_fleet.proofs.LaneSlots.{rest-fewer, slot-in, own-at, live-of}
 use Rattle.nvme_fleet.proofs.Orders.{live_at, ticket_at, Ages, times, rising-slots, abort-all, pending-abort}
 use Rattle.nvme_fleet.proofs.OneLane.{same-holds}
+use Rattle.nvme_fleet.proofs.Queues.{flight-total}
 
 -- Reset of both lanes is Reset of each
 slots-reset : (lane : Lane) (w : List ℕ) (k : ℕ) (slots : List (Option Waiting)) → slots_in lane w k (map abort slots) ≡ map abort_slot (slots_in lane w k slots)
@@ -77,16 +77,13 @@ ticket-same lane w slots n l =
     let o = own-at lane w slots n l in
     ap (λ (s : Slot). ticket_in s.waiting) (slot-in lane w slots n ∙ o.slot w n) ∙ sym (ap ticket_in o.is)
 
-less-times : (i n : ℕ) (ns : List ℕ) (k : ℕ) → times i (n ∷ ns) ≤ k → times i ns ≤ k
-less-times i n ns k h = omega (arith, h)
-
 tickets-same : (lane : Lane) (w : List ℕ) (slots : List (Option Waiting)) (ns : List ℕ) → ((i : ℕ) → times i ns ≤ live_slot (slots_in lane w 0 slots) i) →
     map (ticket_slot (slots_in lane w 0 slots)) ns ≡ map (ticket_at slots) ns
 tickets-same lane w slots [] h = refl
 tickets-same lane w slots (n ∷ ns) h =
-    let v : times n (n ∷ ns) ≡ 1 + times n ns = ap (λ b. cond b 1 0 + times n ns) (self-eqb n n refl) in
+    let v : times n (n ∷ ns) ≡ 1 + times n ns = ap (λ b. cond b 1 0 + times n ns) (eq-eqb n n refl) in
     let l : live_slot (slots_in lane w 0 slots) n ≡ 1 = omega (arith, h n, v, live-small (slot_at (slots_in lane w 0 slots) n)) in
-    rw (ticket-same lane w slots n l, tickets-same lane w slots ns (λ i. less-times i n ns _ (h i))) refl
+    rw (ticket-same lane w slots n l, tickets-same lane w slots ns (λ i. omega (arith, h i))) refl
 
 abbrev slots_taken : List FetchedCommand → List ℕ
 slots_taken [] = []
@@ -105,7 +102,7 @@ times-taken i (t ∷ ts) = omega (arith, times-taken i ts, one-lane (lane_of_que
 own-more : (t : FetchedCommand) (ts : List FetchedCommand) (n : ℕ) → n ≡ cid t.entry → commands_of n (commands_in (lane_of_queue t.queue) (t ∷ ts)) ≡ 1 + commands_of n (commands_in (lane_of_queue t.queue) ts)
 own-more t ts n e =
     ap (λ b. commands_of n (cond b (t.entry ∷ commands_in (lane_of_queue t.queue) ts) (commands_in (lane_of_queue t.queue) ts))) (same-self (lane_of_queue t.queue)) ∙
-    ap (λ b. cond b 1 0 + commands_of n (commands_in (lane_of_queue t.queue) ts)) (ap (λ m. eqb m n) (sym e) ∙ self-eqb n n refl)
+    ap (λ b. cond b 1 0 + commands_of n (commands_in (lane_of_queue t.queue) ts)) (ap (λ m. eqb m n) (sym e) ∙ eq-eqb n n refl)
 
 -- what was fetched has the tickets of its slots
 taken-tickets : (d : Driver) (w : List ℕ) (ts : List FetchedCommand) → ((lane : Lane) (i : ℕ) → commands_of i (commands_in lane ts) ≤ live_slot (slots_in lane w 0 d.slots) i) →
@@ -132,9 +129,6 @@ times-append i (x ∷ xs) ys = omega (arith, times-append i xs ys)
 
 abbrev WholeIn : Lane → Driver → Controller → Type 0
 WholeIn lane d c = Whole (host lane d c.window) (state lane c)
-
-taken-bound : (d : Driver) (c : Controller) → ((l : Lane) → WholeIn l d c) → (lane : Lane) (i : ℕ) → commands_of i (commands_in lane c.fetched) ≤ live_slot (slots_in lane c.window 0 d.slots) i
-taken-bound d c a lane i = omega (arith, (a lane).carried i)
 
 -- the slots of a lane's requests that were not answered, but for those that were fetched, and of all such requests
 abbrev named_in : Lane → Driver → Controller → List ℕ
@@ -164,7 +158,7 @@ lane-times lane d c i w =
       times-slots i r,
       times-cids i u,
       w.carried i,
-      parts (host lane d c.window) (state lane c) i w,
+      flight-total (bears i) (host lane d c.window) (state lane c) w.fetched w.waiting,
     )
 
 lane-named : (lane : Lane) (d : Driver) (c : Controller) → WholeIn lane d c → tickets_in (box (host lane d c.window) (state lane c)) ≡ map (ticket_at d.slots) (named_in lane d c)
@@ -175,7 +169,7 @@ lane-named lane d c w =
 outstanding-named : (d : Driver) (c : Controller) → ((l : Lane) → WholeIn l d c) → open_tickets (mailbox d c) ≡ rising (map (ticket_at d.slots) (all_named d c))
 unfolding open_tickets
 outstanding-named d c w =
-    ap rising (λ i. lane-named Admin d c (w Admin) i ++ lane-named Io d c (w Io) i ++ taken-tickets d c.window c.fetched (taken-bound d c w) i)
+    ap rising (λ i. lane-named Admin d c (w Admin) i ++ lane-named Io d c (w Io) i ++ taken-tickets d c.window c.fetched (λ lane k. omega (arith, (w lane).carried k)) i)
     ∙ ap rising (map-three (ticket_at d.slots) (named_in Admin d c) (named_in Io d c) (slots_taken c.fetched))
 
 named-times : (d : Driver) (c : Controller) → ((l : Lane) → WholeIn l d c) → (i : ℕ) → times i (all_named d c) ≡ live_at d.slots i

@@ -1,12 +1,12 @@
 -- Bringing up is a step of the mailbox: two rounds of a command of the driver's own.
-use Rattle.nvme_fleet.proofs.Words.{◌≡◌, ℕ, ◌<◌, Bool, true, false, List, length, Option, None, Result, Ok, refl, sym, ap, subst, ◌∙◌, arith, SqeFields, Status, submission_entry, cid as command_cid, completion_entry, with_bytes, Device, World, value_at, Admin, Up, UpFault, Calls, Driver, ends, is_up, Rises, Creates, CreatesBoth, CreatesSubmissions, create_completion_queue, create_submission_queue, csts, is_ready, fault_of, start_calls, started, Concludes, Controller, after_queue_change, Setting, setting, brought_up, recounted, Mailbox, Sound, IsOff, EndsFit, mailbox, LinkStep, BringUpIsAStep, with_controller, window_in, part-there}
+use Rattle.nvme_fleet.proofs.Words.{◌≡◌, ℕ, ◌<◌, Bool, true, false, List, length, None, Result, Ok, refl, sym, ap, subst, ◌∙◌, arith, SqeFields, submission_entry, cid as command_cid, completion_entry, with_bytes, value_at, Admin, Up, UpFault, Calls, Driver, ends, is_up, Rises, Creates, CreatesBoth, CreatesSubmissions, create_completion_queue, create_submission_queue, csts, is_ready, fault_of, start_calls, started, Concludes, Controller, after_queue_change, Setting, setting, brought_up, recounted, Mailbox, Sound, IsOff, EndsFit, mailbox, LinkStep, BringUpIsAStep, with_controller, window_in, part-there}
 use Rattle.nvme_fleet.proofs.LaneWindows.{each-lane}
 use Rattle.nvme_fleet.proofs.Places.{no-way}
-use Rattle.nvme_fleet.proofs.Windows.{stored-length}
 use Rattle.nvme_fleet.proofs.Rising.{Rises as RisesFrom, IsOwn, OwnCommand, own_window, zeroed-size, made_completions, made_submissions, risen_driver, risen_controller, risen-both, risen-mail}
 use Rattle.nvme_fleet.proofs.StartStep.{running, zeroed_all, setting_calls, calls-are, value-is, started-is, ready-value}
 use Rattle.nvme_fleet.proofs.OwnCommands.{first_change, second_change, completions-made, submissions-made, first-cid, second-cid, first-size, second-size, length-completion}
-use Rattle.nvme_fleet.proofs.TurnStep.{Round, round, own_completion, says-own, with_admin, ends_at, put_window}
+use Rattle.nvme_fleet.proofs.TurnStep.{round, own_completion, says-own, with_admin, ends_at, put_window}
+use Rattle.nvme_spec.proofs.Splices.{length-with_bytes}
 
 -- the n-th such command, with its completion
 abbrev own : ℕ → SqeFields → OwnCommand
@@ -22,24 +22,6 @@ is-own n f h size i = record {
 -- the window once it was answered
 abbrev answered_window : ℕ → SqeFields → List ℕ → List ℕ
 answered_window n f w = own_window n w (own n f)
-
-first-round : (tells : Bool) (k : ℕ) (w : List ℕ) (world : World) (device : Device) (d d' : Driver) (new : Setting) (result : Option Status) → length w ≡ 4194304
-    → Creates (LinkStep tells) window_in create_completion_queue (with_admin (ends_at 0) d) (setting (running k 0 0 None None 0 w) world device) result d' new
-    → Round 0 k None made_completions (put_window 0 w (submission_entry create_completion_queue)) (submission_entry create_completion_queue) d (setting (running k 0 0 None None 0 w) world device) result d' new
-unfolding after_queue_change
-first-round tells k w world device d d' new result long h =
-    let e : List ℕ = submission_entry create_completion_queue in
-    round tells 0 k None None None made_completions w world device create_completion_queue first_change d d' new result (omega arith) long first-size first-cid
-    (stored-length w e 0 (omega (arith, long, first-size)) ∙ long) (part-there w e 0 64 first-size (omega (arith, long))) refl (completions-made world k (put_window 0 w e)) refl h
-
-second-round : (tells : Bool) (k : ℕ) (w : List ℕ) (world : World) (device : Device) (d d' : Driver) (new : Setting) (result : Option Status) → length w ≡ 4194304
-    → Creates (LinkStep tells) window_in create_submission_queue (with_admin (ends_at 1) d) (setting (running k 1 0 None made_completions 0 w) world device) result d' new
-    → Round 1 k made_submissions made_completions (put_window 1 w (submission_entry create_submission_queue)) (submission_entry create_submission_queue) d (setting (running k 1 0 None made_completions 0 w) world device) result d' new
-unfolding after_queue_change
-second-round tells k w world device d d' new result long h =
-    let e : List ℕ = submission_entry create_submission_queue in
-    round tells 1 k None made_submissions made_completions made_completions w world device create_submission_queue second_change d d' new result (omega arith) long second-size second-cid
-    (stored-length w e 64 (omega (arith, long, second-size)) ∙ long) (part-there w e 64 64 second-size (omega (arith, long))) refl (submissions-made world k (put_window 1 w e)) refl h
 
 -- It is started: the queue pages are zeroed, and it is ready.
 record Started (k : ℕ) (old : Setting) (value : ℕ) (on : Setting) : Type 0 where
@@ -72,18 +54,22 @@ first-size-of w l =
     let e : List ℕ = submission_entry create_completion_queue in
     let b : List ℕ = completion_entry (own_completion 0 e) in
     let z = zeroed-size w l in
-    let p : length (with_bytes (zeroed_all w) 0 e) ≡ 4194304 = stored-length (zeroed_all w) e 0 (omega (arith, z, first-size)) ∙ z in
-    stored-length (with_bytes (zeroed_all w) 0 e) b 4096 (omega (arith, p, length-completion (own_completion 0 e))) ∙ p
+    let p : length (with_bytes (zeroed_all w) 0 e) ≡ 4194304 = length-with_bytes (zeroed_all w) 0 e (omega (arith, z, first-size)) ∙ z in
+    length-with_bytes (with_bytes (zeroed_all w) 0 e) 4096 b (omega (arith, p, length-completion (own_completion 0 e))) ∙ p
 
 second-part : (tells : Bool) (k : ℕ) (d d' : Driver) (old mid new : Setting) (result : Result (Unit {0}) UpFault) (left : Driver) → length old.controller.window ≡ 4194304
     → left ≡ with_admin (ends_at 1) (started d)
     → mid ≡ setting (running k 1 0 None made_completions 0 (first_window old.controller.window)) old.world old.device
     → CreatesSubmissions (LinkStep tells) window_in None left mid result d' new → RoundsAre k d old result d' new
+unfolding after_queue_change
 second-part tells k d d' old mid new result left long l m (answer, over, creates, concludes) =
     let w : List ℕ = first_window old.controller.window in
+    let e : List ℕ = submission_entry create_submission_queue in
+    let z = first-size-of old.controller.window long in
     let h = subst (λ z. Creates (LinkStep tells) window_in create_submission_queue z (setting (running k 1 0 None made_completions 0 w) old.world old.device) answer over new) l
     (subst (λ z. Creates (LinkStep tells) window_in create_submission_queue left z answer over new) m creates) in
-    let r = second-round tells k w old.world old.device (started d) over new answer (first-size-of old.controller.window long) h in
+    let r = round tells 1 k None made_submissions made_completions made_completions w old.world old.device create_submission_queue second_change (started d) over new answer (omega arith) z second-size second-cid
+    (length-with_bytes w 64 e (omega (arith, z, second-size)) ∙ z) (part-there w e 64 64 second-size (omega (arith, z))) refl (submissions-made old.world k (put_window 1 w e)) refl h in
     let c = subst (λ z. Concludes (fault_of z) result over d') r.answered concludes in
     record {
       answered = c.0;
@@ -94,10 +80,14 @@ second-part tells k d d' old mid new result left long l m (answer, over, creates
 both-parts : (tells : Bool) (k : ℕ) (d d' : Driver) (old on new : Setting) (result : Result (Unit {0}) UpFault) → length old.controller.window ≡ 4194304
     → on ≡ setting (running k 0 0 None None 0 (zeroed_all old.controller.window)) old.world old.device
     → CreatesBoth (LinkStep tells) window_in true (started d) on result d' new → RoundsAre k d old result d' new
+unfolding after_queue_change
 both-parts tells k d d' old on new result long o (answer, left, mid, creates, submissions) =
     let w : List ℕ = zeroed_all old.controller.window in
+    let e : List ℕ = submission_entry create_completion_queue in
+    let z = zeroed-size old.controller.window long in
     let h = subst (λ z. Creates (LinkStep tells) window_in create_completion_queue (started d) z answer left mid) o creates in
-    let r = first-round tells k w old.world old.device (started d) left mid answer (zeroed-size old.controller.window long) h in
+    let r = round tells 0 k None None None made_completions w old.world old.device create_completion_queue first_change (started d) left mid answer (omega arith) z first-size first-cid
+    (length-with_bytes w 0 e (omega (arith, z, first-size)) ∙ z) (part-there w e 0 64 first-size (omega (arith, z))) refl (completions-made old.world k (put_window 0 w e)) refl h in
     second-part tells k d d' old mid new result left long r.driver r.setting_is
     (subst (λ z. CreatesSubmissions (LinkStep tells) window_in (fault_of z) left mid result d' new) r.answered submissions)
 
@@ -110,12 +100,6 @@ rises-are tells d d' old new result o long (value, on, starts, both) =
     (subst (λ v. CreatesBoth (LinkStep tells) window_in (is_ready v) (started d) on result d' new) s.ready both)
 
 -- What this comes to.
-first-own : IsOwn (own 0 create_completion_queue)
-first-own = is-own 0 create_completion_queue (omega arith) first-size first-cid
-
-second-own : IsOwn (own 1 create_submission_queue)
-second-own = is-own 1 create_submission_queue (omega arith) second-size second-cid
-
 abbrev RisesSo : Driver → Controller → Type 0
 RisesSo d c = RisesFrom d c (own 0 create_completion_queue) (own 1 create_submission_queue)
 
@@ -143,7 +127,12 @@ pub bring_up_is_a_step : BringUpIsAStep
 bring_up_is_a_step tells d d' old new result s h rises =
     let r = rises-are tells d d' old new result (s.down (ap is_up h)) s.both.window rises in
     let k : ℕ = old.controller.cntlid in
-    let f : RisesSo d old.controller = record { sound = s; down = h; command = first-own; later = second-own } in
+    let f : RisesSo d old.controller = record {
+      sound = s;
+      down = h;
+      command = is-own 0 create_completion_queue (omega arith) first-size first-cid;
+      later = is-own 1 create_submission_queue (omega arith) second-size second-cid;
+    } in
     record {
       answered = r.answered;
       sound = rw (r.driver, r.setting_is) (risen-sound k d old.controller f);

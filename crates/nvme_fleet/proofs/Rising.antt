@@ -1,5 +1,5 @@
 -- Bringing up over both lanes: both hold once the driver has come up, and the mailbox is up and counts anew.
-use Rattle.nvme_fleet.proofs.Words.{completion_of, ◌≡◌, ℕ, ◌+◌, ◌*◌, List, length, map, Option, Some, refl, ap, sym, ◌∙◌, arith, ne_eqb, true, with_bytes, State, zeros, zeroed, fresh_host, fresh_state, own_host, own_state, Resting, Holds, box, recounted, Lane, Admin, Io, Down, Up, submission_queue, Driver, is_up, started, Controller, SubmissionQueue, CompletionQueue, Both, is_failed, pages_of, slots_in, host, state, fetched_by, held_by, Sound, IsOff, mailbox, Host}
+use Rattle.nvme_fleet.proofs.Words.{completion_of, ◌≡◌, ℕ, ◌+◌, ◌*◌, List, length, map, Option, Some, refl, ap, sym, ◌∙◌, arith, ne_eqb, true, with_bytes, State, zeros, zeroed, fresh_host, fresh_state, own_host, own_state, Resting, Holds, box, recounted, Lane, Admin, Io, Down, Up, submission_queue, Driver, is_up, started, Controller, SubmissionQueue, CompletionQueue, Both, is_failed, pages_of, slots_in, host, state, fetched_by, held_by, Sound, mailbox, Host}
 use Rattle.nvme_fleet.proofs.Ups.{Quiet, own-quiet, fresh-quiet, zeros-are, risen-holds, resting-box, quiet-box}
 use Rattle.nvme_fleet.proofs.LaneWindows.{each-lane, Stored, none-stored, page-stored}
 use Rattle.nvme_fleet.proofs.LaneSlots.{slots-apart}
@@ -86,34 +86,28 @@ same-quiet d d' c c' q e f = rw (e, f) q
 quiet : (k : ℕ) (d : Driver) (c : Controller) (first second : OwnCommand) → Rises d c first second → (l : Lane)
     → Quiet (host l (risen_driver d) (up_window c.window first second)) (state l (risen_controller k (up_window c.window first second)))
 quiet k d c first second h Admin =
-    let m = up-stored d c first second h in
-    let e = slots-up Admin d c first second h in
     let f = ap is_failed (sym h.down) in
     let a = h.command in
     let b = h.later in
     same-quiet _ _ _ _
     (own-quiet (own_host (fresh_host (host Admin d c.window))) (own_state (fresh_state (state Admin c)) first.command first.completion) second.command second.completion
     (own-quiet (fresh_host (host Admin d c.window)) (fresh_state (state Admin c)) first.command first.completion (fresh-quiet (host Admin d c.window) (state Admin c) (resting Admin d c first second h)) a.command a.completion a.phase) b.command b.completion b.phase)
-    (λ i. record (own_host (own_host (fresh_host (host Admin d c.window)))) { failed = f i; slots = e i })
-    (ap (λ p. record (state Admin (risen_controller k c.window)) { window = p }) (m.pages Admin))
+    (λ i. record (own_host (own_host (fresh_host (host Admin d c.window)))) { failed = f i; slots = (slots-up Admin d c first second h) i })
+    (ap (λ p. record (state Admin (risen_controller k c.window)) { window = p }) ((up-stored d c first second h).pages Admin))
 quiet k d c first second h Io =
-    let m = up-stored d c first second h in
-    let e = slots-up Io d c first second h in
-    let f = ap is_failed (sym h.down) in
     same-quiet _ _ _ _ (fresh-quiet (host Io d c.window) (state Io c) (resting Io d c first second h))
-    (λ i. record (fresh_host (host Io d c.window)) { failed = f i; slots = e i })
-    (ap (λ p. record (state Io (risen_controller k c.window)) { window = p }) (m.pages Io))
+    (λ i. record (fresh_host (host Io d c.window)) { failed = (ap is_failed (sym h.down)) i; slots = (slots-up Io d c first second h) i })
+    (ap (λ p. record (state Io (risen_controller k c.window)) { window = p }) ((up-stored d c first second h).pages Io))
 
 -- a driver that has come up holds in both lanes
 pub risen-both : (k : ℕ) (d : Driver) (c : Controller) (first second : OwnCommand) → Rises d c first second → Both (risen_driver d) (risen_controller k (up_window c.window first second))
 risen-both k d c first second h =
     let b : Both d c = h.sound.both in
-    let m = up-stored d c first second h in
     let q = quiet k d c first second h in
     let f = ap is_failed (sym h.down) in
     record {
       first = d.next;
-      window = m.size;
+      window = (up-stored d c first second h).size;
       slots = b.slots;
       each = each-lane Admin (λ l. Holds d.next (host l (risen_driver d) (up_window c.window first second)) (state l (risen_controller k (up_window c.window first second))))
           (risen-holds b.first _ _ _ _ (b.each Admin) (resting Admin d c first second h) refl f refl (slots-up Admin d c first second h) (q Admin))
@@ -125,11 +119,9 @@ pub risen-mail : (k : ℕ) (d : Driver) (c : Controller) (first second : OwnComm
     mailbox (risen_driver d) (risen_controller k (up_window c.window first second))
     ≡ record (mailbox d c) { up = true; admin = recounted (mailbox d c).admin; io = recounted (mailbox d c).io }
 risen-mail k d c first second h =
-    let q = quiet k d c first second h in
-    let o : IsOff c = h.sound.down (ap is_up h.down) in
     let boxes : (l : Lane) → box (host l (risen_driver d) (up_window c.window first second)) (state l (risen_controller k (up_window c.window first second))) ≡ recounted (box (host l d c.window) (state l c)) =
-    λ l. quiet-box _ _ (q l) ∙ sym (ap recounted (resting-box _ _ (resting l d c first second h))) in
+    λ l. quiet-box _ _ ((quiet k d c first second h) l) ∙ sym (ap recounted (resting-box _ _ (resting l d c first second h))) in
     let admin = boxes Admin in
     let io = boxes Io in
-    let none = ap (map (fetched_by (held_by d c.window))) (sym o.fetched) in
+    let none = ap (map (fetched_by (held_by d c.window))) (sym (h.sound.down (ap is_up h.down)).fetched) in
     λ i. record (mailbox d c) { up = true; admin = admin i; io = io i; fetched = none i }

@@ -141,8 +141,7 @@ has-settled a b k d x left s n kept only subsystem =
     let set = are-set a.drivers a.subsystem.controllers k d left.controller s.pairs s.sound n in
     let all : AllSound a.drivers cs = subst (λ ds. AllSound ds cs) kept set.sound in
     let t : FleetState = record a { subsystem = record { world = w; device = left.device; controllers = marks_after w x cs } } in
-    let same : b ≡ t = only ∙ ap (λ z. (let y : FleetState = record a { subsystem = z } in y)) subsystem in
-    subst (λ y. IsSettled a y k d x left) (sym same) (record {
+    subst (λ y. IsSettled a y k d x left) (sym (only ∙ ap (λ z. (let y : FleetState = record a { subsystem = z } in y)) subsystem)) (record {
       fleet = ap (λ hs. (let f : Fleet = record { site = site_of left; hosts = hs } in f))
           (hosts-after w a.drivers cs x all ∙ ap (marked_from w (marks_in x) 1) (ap (λ ds. hosts_of ds cs) (sym kept) ∙ set.hosts));
       sound = record {

@@ -27,13 +27,10 @@ leads : (n : ℕ) (old new other : Layers) (m : Device) (events : List FleetEven
 unfolding fleet_in
 leads n old new other m [] [] regular tickets differ run fenced second a b low = (m, second ∙ ap (layers_over m) (sym run))
 leads n old new other m (event ∷ events) (x ∷ later) regular tickets differ (mid, quiet, step, rest) fenced (mid', step', rest') a b low =
-    let p = step-counted old mid event x step in
     let q = run-counted mid new events later (plain-run _ mid new events later rest) in
-    let p' = step-counted (layers_over m old) mid' event x step' in
     let q' = run-counted mid' other events later rest' in
-    let start = differ.failures in
-    let one : count mid.subsystem ≡ count old.subsystem = omega (arith, p, q, a) in
-    let two : count mid'.subsystem ≡ count old.subsystem = omega (arith, p', q', b, start) in
+    let one : count mid.subsystem ≡ count old.subsystem = omega (arith, step-counted old mid event x step, q, a) in
+    let two : count mid'.subsystem ≡ count old.subsystem = omega (arith, step-counted (layers_over m old) mid' event x step', q', b, differ.failures) in
     let led = step-leads n old mid mid' m event x one two low tickets regular differ fenced.0 step step' in
     let same = extents-stay (fleet_in old) (fleet_in mid) event (step-acts true (fleet_in old) (fleet_in mid) event x step.mailboxes) in
     leads n mid new other led.0 events later (step-regular (fleet_in old) (fleet_in mid) event x step.mailboxes regular) (happens-once true old mid event x.seen step.below tickets)
@@ -48,5 +45,4 @@ layers_read_the_same old new other d events replies others n regular tickets dif
     let r = fenced_reading_is_same (fleet_in old) (fleet_in new) (fleet_in other) d events replies others n regular differ (below (LeavesReservation n) old new events replies run) fenced
     (runs_of_mailboxes true (layers_over d old) other events others second) calm quiet low in
     let l = leads n old new other d events replies regular tickets differ run fenced (subst (λ given. layers.Run true (layers_over d old) events given other) r.0 second) calm quiet low in
-    let device : other.subsystem.device ≡ l.0 = ap (λ (x : Layers). x.subsystem.device) l.1 in
-    (r.0, l.1 ∙ ap (λ x. layers_over x new) (sym device), r.2)
+    (r.0, l.1 ∙ ap (λ x. layers_over x new) (sym (ap (λ (x : Layers). x.subsystem.device) l.1)), r.2)

@@ -1,5 +1,5 @@
 -- What an allowed I/O command does is what its request does.
-use Rattle.nvme_fleet.proofs.Words.{◌≡◌, ℕ, ◌+◌, ◌*◌, ◌≤◌, ◌==◌, ◌&&◌, Bool, true, false, List, [], ◌∷◌, length, take, Option, None, Some, refl, sym, ap, subst, ◌∙◌, arith, inl, inr, slice_get, cases_Bool, take_all, is_some, replicate, if◌then◌else◌, cid, nsid, Status, Command, Device, World, Namespace, namespace_of, data_length, data_length_of, is_one_of, block_count, marks_on, no_marks, Scene, scene, Performs, medium_block, start_of, report_of, world_after, marks_of, removed_by, reservation_outcome, data_of, HasPassed, has-passed, waiting_at, answer_len, is_success, Io, Asked, with_scattered, data_addresses, RequestExecution, mailbox, Driver, FetchedCommand, Controller, FetchedItem, lane_of_queue, command_entry, action_of, IsServed, bytes_with, asked_in, received_in, AllowedServesItsRequest, request_execution_with}
+use Rattle.nvme_fleet.proofs.Words.{◌≡◌, ℕ, ◌+◌, ◌*◌, ◌≤◌, ◌==◌, ◌&&◌, Bool, true, false, List, [], ◌∷◌, length, take, Option, None, Some, refl, sym, ap, subst, ◌∙◌, arith, inl, inr, cases_Bool, take_all, is_some, replicate, if◌then◌else◌, cid, nsid, Status, Command, Device, World, Namespace, namespace_of, data_length, data_length_of, is_one_of, block_count, marks_on, no_marks, Scene, scene, Performs, medium_block, start_of, report_of, world_after, marks_of, removed_by, reservation_outcome, data_of, HasPassed, has-passed, waiting_at, answer_len, is_success, Io, Asked, with_scattered, data_addresses, Driver, FetchedCommand, Controller, lane_of_queue, command_entry, action_of, IsServed, bytes_with, asked_in, received_in, AllowedServesItsRequest, request_execution_with, and_parts}
 use Rattle.nvme_spec.specs.declared.command.Command.TheVariants as io
 use Rattle.nvme_spec.specs.Effects.{ReadEffect, WriteEffect, CompareEffect}
 use Rattle.nvme_spec.specs.Report.{ControllerHost}
@@ -79,10 +79,6 @@ report-length : (o : Option Namespace) (ks : List ControllerHost) (n : ℕ) → 
 report-length None ks n h = absurd (cc (h))
 report-length (Some space) ks n h = length-report_data space.reservation ks n
 
-some-there : (a b : Bool) → (a && b) ≡ true → a ≡ true
-some-there true b h = refl
-some-there false b h = absurd (cc (h))
-
 returns : (tells : Bool) (command : Command) (k : ℕ) (x keys : List ℕ) (old new : Scene) (answer : Status) (returned : List ℕ) → HasPassed old.world k x command
     → Performs tells command k x keys old new answer returned → Returns command x answer returned
 returns tells io.Read k x keys old new answer returned p h = read-back tells (medium_block old.world x) old.device new.device x answer returned h.effect
@@ -90,7 +86,7 @@ returns tells io.ReservationRegister k x keys old new answer returned p h = none
 returns tells io.ReservationAcquire k x keys old new answer returned p h = none-back io.ReservationAcquire x answer returned refl h.data_back
 returns tells io.ReservationRelease k x keys old new answer returned p h = none-back io.ReservationRelease x answer returned refl h.data_back
 returns tells io.ReservationReport k x keys old new answer returned p h =
-    let e : length returned ≡ data_length io.ReservationReport x = ap length h.data_back ∙ report-length (namespace_of old.world (nsid x)) old.world.controllers (data_length io.ReservationReport x) (some-there _ _ p.attached) in
+    let e : length returned ≡ data_length io.ReservationReport x = ap length h.data_back ∙ report-length (namespace_of old.world (nsid x)) old.world.controllers (data_length io.ReservationReport x) (and_parts _ _ p.attached).0 in
     record { few = omega (arith, e); done = λ t. e }
 returns tells command k x keys old new answer returned p h = let f = h.effect in none-back command x answer returned refl f.1
 
@@ -125,28 +121,18 @@ record IsAllowed (d : Driver) (c : Controller) (t : FetchedCommand) (kind : Comm
 
 allowed : (d : Driver) (c : Controller) (t : FetchedCommand) (w : World) (cntlid : ℕ) (kind : Command) → IsIo d c t → HasPassed w cntlid t.entry kind → IsAllowed d c t kind
 allowed d c t w cntlid kind h p =
-    let u = h.suited in
-    let q = plain-io (asked_by d c t) h.of_lane u.plain in
+    let q = plain-io (asked_by d c t) h.of_lane h.suited.plain in
     record {
       known = h;
       moved = length-is d c t h ∙ ap (λ o. data_length_of o t.entry) p.named;
       received = q.1 ∙ ap (λ o. if is_one_of o (io.Read ∷ io.ReservationReport ∷ []) then (asked_by d c t).moved else 0) p.named;
     }
 
--- what was asked is what the mailbox's request asks
-served-by : (tells : Bool) (d : Driver) (c : Controller) (i : ℕ) (t : FetchedCommand) (x : FetchedItem) (w : World) (device : Device) (cntlid : ℕ) (kind : Command) (r : RequestExecution)
-    → slice_get c.fetched i ≡ Some t → slice_get (mailbox d c).fetched i ≡ Some x → t.queue ≡ 1
-    → IsServed tells kind cntlid (asked_by d c t) (record { world = w; device = device }) r → IsServed tells kind cntlid x.item.asked (record { world = w; device = device }) r
-served-by tells d c i t x w device cntlid kind r g f q h =
-    subst (λ a. IsServed tells kind cntlid a (record { world = w; device = device }) r) (sym (asked-at Io d c i t x g f (ap lane_of_queue q))) h
-
 pub allowed_serves_its_request : AllowedServesItsRequest
 allowed_serves_its_request tells d c i t x w device cntlid plan a s g f q is h =
     let k = io-known d c i t s g q in
     let p = has-passed w cntlid t.entry t.marked c.window plan is in
     let y = allowed d c t w cntlid plan.kind k p in
-    let u = k.suited in
-    let m = k.moves in
     let o = action-is d c t w cntlid k in
     let back = returns tells plan.kind cntlid t.entry (data_of c.window t.entry) (scene w c.window device) a.left a.outcome.status h.returned p h.effect in
     let few : length h.returned ≤ (asked_by d c t).moved = (let l = back.few in let e = y.moved in omega (arith, l, e)) in
@@ -156,10 +142,10 @@ allowed_serves_its_request tells d c i t x w device cntlid plan a s g f q is h =
       bytes = h.returned;
       window = h.window
           ∙ ap (λ n. with_scattered c.window (take (length h.returned) (data_addresses n c.window t.entry)) h.returned) (sym y.moved)
-          ∙ m.scatters h.returned few;
-      few = (let e = u.most in omega (arith, few, e));
+          ∙ k.moves.scatters h.returned few;
+      few = (let e = k.suited.most in omega (arith, few, e));
       whole = enough a.outcome.status (received_in (waiting_at d.slots (cid t.entry))) h.returned done;
-      served = served-by tells d c i t x w device cntlid plan.kind (request_execution_with d t a h.returned) g f q (record {
+      served = subst (λ y. IsServed tells plan.kind cntlid y (record { world = w; device = device }) (request_execution_with d t a h.returned)) (sym (asked-at Io d c i t x g f (ap lane_of_queue q))) (record {
         returned = h.returned;
         effect = performs-same tells plan.kind cntlid t.entry (command_entry (asked_by d c t)) (data_of c.window t.entry) (asked_by d c t).sent (scene w c.window device) a.left a.outcome.status h.returned
             (asked_by d c t).received (asked_by d c t).moved k.same y.received (λ z. data-is d c t k ∙ data-same Io d c t k z) o h.effect;

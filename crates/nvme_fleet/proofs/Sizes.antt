@@ -1,7 +1,6 @@
 -- How many bytes a request moves: those that it sends, or those that it receives, and never more than a transfer has.
-use Rattle.nvme_fleet.proofs.Words.{true, ◌≡◌, ℕ, ◌-◌, ◌*◌, ◌≤◌, nat_lt, false, List, ◌++◌, length, refl, ap, ◌∙◌, arith, length-append, inl, inr, cases_lt, lt-ltb, ◌==◌, most_bytes, is_plain, Request, Asked, asked_of, is_bad, key, controller_list, within}
+use Rattle.nvme_fleet.proofs.Words.{true, ◌≡◌, ℕ, ◌-◌, ◌*◌, ◌≤◌, nat_lt, false, List, ◌++◌, length, refl, ap, ◌∙◌, arith, length-append, inl, inr, cases_lt, lt-ltb, ◌==◌, most_bytes, is_plain, Request, Asked, asked_of, is_bad, key, controller_list, within, eq-eqb}
 use Rattle.nvme_spec.specs.Commands as io_commands
-use Rattle.nvme_fleet.proofs.Queues.{self-eqb}
 use Rattle.nvme_driver.specs.declared.request.Request.TheVariants.{Read, Write, Compare, Register, Acquire, Release, Report, Attach, Detach}
 use Rattle.nvme_driver.proofs.Moving.{whole}
 use Rattle.nvme_driver.proofs.Spelling.{controller_list_length}
@@ -44,7 +43,7 @@ sizes request e = record { received = omega arith; sent = refl; most = omega ari
 
 -- what a request asks is plain
 self : (n : ℕ) → (n == n) ≡ true
-self n = self-eqb n n refl
+self n = eq-eqb n n refl
 
 pub plain : (request : Request) → is_plain (asked_of request) ≡ true
 unfolding is_plain io_commands.command_of

@@ -15,24 +15,18 @@ cond-zero false n h = refl
 pub same-items : (f g : ℕ → Slot) (i : ℕ) → Apart i f g → (xs : List (List ℕ)) → commands_of i xs ≡ 0 → map (item g) xs ≡ map (item f) xs
 same-items f g i a [] h = refl
 same-items f g i a (x ∷ xs) h =
-    let q : eqb (cid x) i ≡ false = cond-zero (eqb (cid x) i) (commands_of i xs) h in
-    let r : commands_of i xs ≡ 0 = omega (arith, h) in
-    rw (a (cid x) q, same-items f g i a xs r) refl
+    rw (a (cid x) (cond-zero (eqb (cid x) i) (commands_of i xs) h), same-items f g i a xs (omega (arith, h))) refl
 
 pub same-odd : (f g : ℕ → Slot) (i : ℕ) → Apart i f g → (xs : List (List ℕ)) → commands_of i xs ≡ 0 → total (odd g) xs ≡ total (odd f) xs
 same-odd f g i a [] h = refl
 same-odd f g i a (x ∷ xs) h =
-    let q : eqb (cid x) i ≡ false = cond-zero (eqb (cid x) i) (commands_of i xs) h in
-    let r : commands_of i xs ≡ 0 = omega (arith, h) in
-    rw (a (cid x) q, same-odd f g i a xs r) refl
+    rw (a (cid x) (cond-zero (eqb (cid x) i) (commands_of i xs) h), same-odd f g i a xs (omega (arith, h))) refl
 
 -- a slot that no completion bears may change
 pub same-answers : (f g : ℕ → Slot) (i : ℕ) → Apart i f g → (heard : ℕ) (es : List Completion) → answers_of i es ≡ 0 → answers g heard es ≡ answers f heard es
 same-answers f g i a heard [] h = refl
 same-answers f g i a heard (e ∷ es) h =
-    let q : eqb e.cid i ≡ false = cond-zero (eqb e.cid i) (answers_of i es) h in
-    let r : answers_of i es ≡ 0 = omega (arith, h) in
-    rw (a e.cid q, same-answers f g i a e.sq_head es r) refl
+    rw (a e.cid (cond-zero (eqb e.cid i) (answers_of i es) h), same-answers f g i a e.sq_head es (omega (arith, h))) refl
 
 -- another slot in a place
 pub apart-set : (slots : List Slot) (i : ℕ) (s : Slot) → Apart i (slot_at slots) (slot_at (slice_set slots i s))

@@ -48,11 +48,7 @@ off_with k configuration sizes asq acq w = record {
 
 off-is : (c : Controller) (o : IsOff c) → c ≡ off_with c.cntlid c.registers.cc c.registers.aqa c.registers.asq c.registers.acq c.window
 off-is c o =
-    let a = o.submission in
-    let b = o.completion in
-    let f = o.fetched in
-    let s = o.off in
-    λ i. record c { registers = record c.registers { state = s i }; submission = a i; completion = b i; fetched = f i }
+    λ i. record c { registers = record c.registers { state = o.off i }; submission = o.submission i; completion = o.completion i; fetched = o.fetched i }
 
 -- One that is enabled with the admin queues of a driver, which have counted so many commands; and these queues for I/O.
 abbrev pub running : ℕ → ℕ → ℕ → Option SubmissionQueue → Option CompletionQueue → ℕ → List ℕ → Controller
@@ -78,9 +74,6 @@ stored-at address bytes c h = rw (le-leb (address + length bytes) 4194304 h) ref
 page-is : zero_page ≡ zeros
 unfolding zero_page zeros
 page-is = refl
-
-page-size : length zero_page ≡ 4096
-page-size = ap length page-is ∙ zeros-are.long
 
 both-halves : (x v : ℕ) → v < 2 ^ 32 → with_high (with_low x v) 0 ≡ v
 both-halves x v h = omega arith
@@ -116,7 +109,7 @@ zeroed-is w = ap (λ z. with_bytes (with_bytes (with_bytes (with_bytes w 0 z) 0x
 
 page-at : (address : ℕ) (k configuration sizes asq acq : ℕ) (w : List ℕ) → address ≤ 0x3000
     → (after_store address zero_page (off_with k configuration sizes asq acq w)).controller ≡ off_with k configuration sizes asq acq (with_bytes w address zero_page)
-page-at address k configuration sizes asq acq w h = stored-at address zero_page (off_with k configuration sizes asq acq w) (omega (arith, h, page-size))
+page-at address k configuration sizes asq acq w h = stored-at address zero_page (off_with k configuration sizes asq acq w) (omega (arith, h, ap length page-is, zeros-are.long))
 
 -- the writes behind the pages
 abbrev last_calls : List Call

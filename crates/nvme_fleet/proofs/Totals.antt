@@ -2,10 +2,10 @@
 use Rattle.nvme_fleet.proofs.Words.{◌≡◌, ℕ, ◌+◌, ◌<◌, ◌≤◌, List, [], ◌∷◌, length, map, refl, sym, ap, subst, arith, zero, suc, inl, inr, false, cases_Bool, eqb, eqb-true, Option, Some, None, slice_set, common_steps, Waiting, Slot, slot_at, total, live_waiting, live_in, live_at, remove}
 
 pub map-removed : {A B : Type 0} (g : A → B) (xs : List A) (i : ℕ) → map g (remove xs i) ≡ remove (map g xs) i
-map-removed g [] zero = refl
-map-removed g [] (suc i) = refl
-map-removed g (y ∷ ys) zero = refl
 map-removed g (y ∷ ys) (suc i) = ap (λ t. g y ∷ t) (map-removed g ys i)
+map-removed g (y ∷ ys) zero = refl
+map-removed g [] (suc i) = refl
+map-removed g [] zero = refl
 
 -- the live slots
 pub waiting-small : (o : Option Waiting) → live_waiting o ≤ 1

@@ -57,9 +57,8 @@ turn-is tells k n s x w world device change new (executed, h) adm =
       completion = record { base = 0x1000; tail = record { size = 32; posted = n; unread = 0 } };
     } in
     let c = h.controller ∙ ap (λ (a : CommandExecution). after_completion 0 t p a (after_fetch 0 (running k n 1 s x 0 w)).controller) is in
-    let u = h.world ∙ ap (λ (a : CommandExecution). a.left.world) is in
     let v = h.device ∙ ap (λ (a : CommandExecution). a.left.device) is in
-    λ i. record { controller = c i; world = u i; device = v i }
+    λ i. record { controller = c i; world = (h.world ∙ ap (λ (a : CommandExecution). a.left.world) is) i; device = v i }
 
 -- Its completion is found.
 
@@ -98,9 +97,6 @@ says-own n e h i =
       status = ap (λ (c : Completion). c.status) r;
     }
 
-twice-mod : (n : ℕ) → (n + 1) % 8 ≡ slot_of 8 ((n + 1) % 8)
-twice-mod n = omega arith
-
 -- the ends once it is put
 abbrev pub ends_put : ℕ → Ends
 ends_put n = put_ends (ends_at n)
@@ -109,7 +105,7 @@ found-as : (n : ℕ) (b found : List ℕ) → n < 32 → SaysOwn n b → found �
     → own_of (ends_put n) (if is_new (ends_put n) found then Some found else None) ≡ Some b
 found-as n b found h says is =
     let new : is_new (ends_put n) b ≡ true = rw (says.phase, own-phase n h) refl in
-    let own : answers_own (ends_put n) b ≡ true = rw (says.queue, says.command, says.head) (eq-eqb ((n + 1) % 8) (slot_of 8 ((n + 1) % 8)) (twice-mod n)) in
+    let own : answers_own (ends_put n) b ≡ true = rw (says.queue, says.command, says.head) (eq-eqb ((n + 1) % 8) (slot_of 8 ((n + 1) % 8)) (omega arith)) in
     ap (λ f. own_of (ends_put n) (if is_new (ends_put n) f then Some f else None)) is
     ∙ ap (λ t. own_of (ends_put n) (if t then Some b else None)) new
     ∙ ap (λ t. if t then Some b else None) own

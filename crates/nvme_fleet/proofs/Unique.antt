@@ -140,12 +140,10 @@ opening_has_tickets_once c v i d found = opened-each c.controllers i d found
 borne-twice : (d : Driver) (i j : ℕ) (v w : Waiting) → HasTicketsOnce d → eqb j i ≡ false → waiting_at d.slots i ≡ Some v → waiting_at d.slots j ≡ Some w → v.ticket.0 ≡ w.ticket.0 → ⊥
 borne-twice d i j v w one apart here there same =
     let t : ℕ = v.ticket.0 in
-    let a = once_proofs.taken t d.slots i v here in
-    let b = once_proofs.taken t (slice_set d.slots i None) j w (pending-other d.slots i j apart ∙ there) in
     let p : bears t (Some v) ≡ 1 = ap (λ (x : Bool). if x then 1 else 0) (eq-eqb v.ticket.0 t refl) in
     let q : bears t (Some w) ≡ 1 = ap (λ (x : Bool). if x then 1 else 0) (eq-eqb w.ticket.0 t (sym same)) in
     let few = one t in
-    omega (arith, a, b, p, q, few)
+    omega (arith, once_proofs.taken t d.slots i v here, once_proofs.taken t (slice_set d.slots i None) j w (pending-other d.slots i j apart ∙ there), p, q, few)
 
 oldest-slot : (d : Driver) (i j : ℕ) (t u : Ticket) → HasTicketsOnce d → aborted_at d.slots i ≡ Some t → aborted_at d.slots j ≡ Some u → t.0 ≤ u.0 → u.0 ≤ t.0 → j ≡ i
 oldest-slot d i j t u one here there low high =
@@ -329,9 +327,8 @@ pub layers-alone : (old new other : Layers) (e : FleetEvent) (reply reply' : Rep
     → (reply' ≡ reply) × (other ≡ new)
 unfolding fleet_in
 layers-alone old new other e reply reply' calm all h g =
-    let one = step-alone (fleet_in old) (fleet_in new) e reply h.mailboxes calm.one calm.below in
     let two = step-alone (fleet_in old) (fleet_in other) e reply' g.mailboxes calm.two calm.below in
-    let same : reply' ≡ reply = two.0 ∙ sym one.0 in
+    let same : reply' ≡ reply = two.0 ∙ sym (step-alone (fleet_in old) (fleet_in new) e reply h.mailboxes calm.one calm.below).0 in
     (same, happens-alone old new other e reply.seen calm all h.below (subst (λ (r : Reply). Happens true old e r.seen other) same g.below))
 
 pub layers_run_is_unique : LayersRunIsUnique

@@ -1,11 +1,12 @@
 -- Bringing up in one lane: nothing is on its way behind each of the driver's own commands, and it holds at the end.
 use Rattle.nvme_fleet.proofs.Words.{◌≡◌, ℕ, ◌+◌, ◌-◌, ◌*◌, ◌%◌, ◌<◌, ◌≤◌, List, [], ◌∷◌, length, refl, ap, sym, ◌∙◌, arith, suc, true, false, take, drop, get_or, subst, length-drop, get_or-take, get_or-drop, get_or-replicate, length-replicate, length-take-le, same_lists, le-ltb, common_steps, replicate, with_bytes, queue_id, completion_of, phase, AllByRecursion, IsOf, phase_of, State, Slot, slot_at, zeros, fresh_host, fresh_state, own_host, own_state, in_flight, commands, completions, commands_of, answers_of, unread, heard, steps, since, last_head, total, odd, holds, live_in, live_at, Phases, Running, Resting, Holds, box, Host}
 use Rattle.nvme_fleet.proofs.Phases.{phases-kept, phases-posted, phases-consumed}
-use Rattle.nvme_fleet.proofs.Windows.{stored-length, stored-part}
+use Rattle.nvme_fleet.proofs.Windows.{stored-part}
 use Rattle.nvme_fleet.proofs.Keeps.{enters, answered}
 use Rattle.nvme_fleet.proofs.Queues.{since-zero}
 use Rattle.nvme_fleet.proofs.Places.{up-holds}
 use Rattle.nvme_fleet.proofs.Orders.{idle-age}
+use Rattle.nvme_spec.proofs.Splices.{length-with_bytes}
 
 -- a lane that is up, where nothing is on its way
 pub record Quiet (d : Host) (c : State) : Type 0 where
@@ -32,10 +33,8 @@ quiet-running d c s =
     let u : unread d c ≡ [] = ap (λ k. completions c.window d.consumed k) s.unread in
     let f : in_flight d c ≡ 0 = omega (arith, s.fetched, s.put) in
     let e : commands c.window c.fetched (in_flight d c) ≡ [] = ap (λ k. commands c.window c.fetched k) f in
-    let l : last_head (heard d) (unread d c) ≡ heard d = ap (last_head (heard d)) u in
-    let z : steps (heard d) (unread d c) ≡ 0 = ap (steps (heard d)) u in
     let h : heard d ≡ d.put = omega (arith, s.unheard, s.put) in
-    let n : since d c ≡ 0 = omega (arith, l, h, s.fetched, s.put) in
+    let n : since d c ≡ 0 = omega (arith, ap (last_head (heard d)) u, h, s.fetched, s.put) in
     record {
       ready = s.ready;
       window = s.window;
@@ -45,7 +44,7 @@ quiet-running d c s =
       consumed = s.consumed;
       posted = omega (arith, s.posted, s.unread, s.consumed);
       waiting = omega (arith, s.waiting);
-      unheard = omega (arith, z, n, f, s.unheard);
+      unheard = omega (arith, ap (steps (heard d)) u, n, f, s.unheard);
       room = omega (arith, s.unheard);
       of_lane = subst (AllByRecursion (IsOf (queue_id c.lane))) (sym u) tt;
       phases = s.phases;
@@ -112,8 +111,7 @@ no-phase = refl
 zero-entry : (w : List ℕ) (j : ℕ) → length w ≡ 8192 → j + 16 ≤ 4096 → take 16 (drop (4096 + j) (with_bytes w 4096 zeros)) ≡ replicate 16 0
 zero-entry w j l h =
     let z : length zeros ≡ 4096 = zeros-are.long in
-    let d = length-drop j zeros in
-    let n : length (take 16 (drop j zeros)) ≡ 16 = length-take-le 16 _ (omega (arith, d, z, h)) in
+    let n : length (take 16 (drop j zeros)) ≡ 16 = length-take-le 16 _ (omega (arith, length-drop j zeros, z, h)) in
     stored-part w zeros 4096 j 16 (omega (arith, l)) (omega (arith, z, h)) ∙
     same_lists _ _ (n ∙ sym (length-replicate {A = ℕ} 16 0)) (λ k x inside.
     let b : k < 16 = omega (arith, inside, n) in
@@ -124,19 +122,17 @@ turn-of k h = grind (arith, common_steps)
 
 fresh-phases : (d : Host) (c : State) → length c.window ≡ 8192 → Phases (fresh_state c).window 0 0
 fresh-phases d c w k q =
-    let z : length zeros ≡ 4096 = zeros-are.long in
-    let a : length (with_bytes c.window 0 zeros) ≡ 8192 = stored-length c.window zeros 0 (omega (arith, w, z)) ∙ w in
-    let e = zero-entry (with_bytes c.window 0 zeros) (16 * ((0 + k) % 32)) a (omega arith) in
-    rw (le-ltb k 0 (omega arith), turn-of k q) (ap phase e ∙ no-phase)
+    let a : length (with_bytes c.window 0 zeros) ≡ 8192 = length-with_bytes c.window 0 zeros (omega (arith, w, zeros-are.long)) ∙ w in
+    rw (le-ltb k 0 (omega arith), turn-of k q) (ap phase (zero-entry (with_bytes c.window 0 zeros) (16 * ((0 + k) % 32)) a (omega arith)) ∙ no-phase)
 
 -- a lane that was just turned on is quiet
 pub fresh-quiet : (d : Host) (c : State) → Resting d c → Quiet (fresh_host d) (fresh_state c)
 fresh-quiet d c r =
     let z : length zeros ≡ 4096 = zeros-are.long in
-    let a : length (with_bytes c.window 0 zeros) ≡ length c.window = stored-length c.window zeros 0 (omega (arith, r.window, z)) in
+    let a : length (with_bytes c.window 0 zeros) ≡ length c.window = length-with_bytes c.window 0 zeros (omega (arith, r.window, z)) in
     record {
       ready = refl;
-      window = stored-length (with_bytes c.window 0 zeros) zeros 4096 (omega (arith, a, r.window, z)) ∙ a ∙ r.window;
+      window = length-with_bytes (with_bytes c.window 0 zeros) 4096 zeros (omega (arith, a, r.window, z)) ∙ a ∙ r.window;
       slots = r.slots;
       put = omega arith;
       fetched = refl;

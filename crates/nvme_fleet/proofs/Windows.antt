@@ -2,7 +2,6 @@
 use Rattle.nvme_fleet.proofs.Words.{◌≡◌, ℕ, ◌+◌, ◌≤◌, List, [], ◌++◌, length, ap, ◌∙◌, arith, take, drop, ◌⊎◌, inl, inr, same_lists, take-append-drop, append-nil, with_bytes}
 use Rattle.std.proofs.Common.{rules}
 use Rattle.std.proofs.lemmas.List.{places}
-use Rattle.nvme_spec.proofs.Splices.{length-with_bytes}
 
 -- what lies in a store, a part of it, and what lies before it and behind it
 pub stored-in : (w bytes : List ℕ) (at : ℕ) → at ≤ length w → take (length bytes) (drop at (with_bytes w at bytes)) ≡ bytes
@@ -10,9 +9,6 @@ stored-in w bytes at fits = same_lists _ _ (search (rules, places)) (λ k d h. g
 
 pub stored-part : (w bytes : List ℕ) (at j n : ℕ) → at ≤ length w → j + n ≤ length bytes → take n (drop (at + j) (with_bytes w at bytes)) ≡ take n (drop j bytes)
 stored-part w bytes at j n fits within = same_lists _ _ (search (rules, places)) (λ k d h. grind (arith, places))
-
-pub stored-length : (w bytes : List ℕ) (at : ℕ) → at + length bytes ≤ length w → length (with_bytes w at bytes) ≡ length w
-stored-length w bytes at fits = length-with_bytes w at bytes fits
 
 pub stored-apart : (w bytes : List ℕ) (at from n : ℕ) → at + length bytes ≤ length w → (from + n ≤ at) ⊎ (at + length bytes ≤ from) →
     take n (drop from (with_bytes w at bytes)) ≡ take n (drop from w)

@@ -16,7 +16,7 @@ use Rattle.nvme_driver.specs.Layout.{tail_doorbell, head_doorbell}
 use Rattle.nvme_driver.specs.Polls.{IsOldest, polled}
 use Rattle.nvme_driver.specs.Rises.{Rises}
 use Rattle.nvme_machine.specs.declared.event.Event.{Event}
-use Rattle.nvme_machine.specs.declared.event.Event.TheVariants.{Store, Write32, Read32, Fetch, Execute, PowerCycle}
+use Rattle.nvme_machine.specs.declared.event.Event.TheVariants.{Store, Write32, Read32, Fetch, Execute}
 use Rattle.nvme_machine.specs.declared.seen.Seen.{Seen}
 use Rattle.nvme_machine.specs.declared.seen.Seen.TheVariants.{Value}
 use Rattle.nvme_machine.specs.Controllers.{Controller}

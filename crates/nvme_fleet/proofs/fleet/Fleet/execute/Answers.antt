@@ -21,17 +21,15 @@ returns-in_default-clause-calls g c =
 
 pub invariant_of-self : goal.invariant_of-self
 invariant_of-self g c =
-    let a : FleetState = record { subsystem = c.self.inside.subsystem.state; drivers = c.self.inside.drivers.items; buffer = c.self.inside.buffer.items; filled = c.self.inside.filled } in
     let there = subst (λ (t : FleetState). IsThere t.subsystem c.args.cntlid) (sym (state-is c.self.view_is)) c.in-Some.ensures.some.1 in
     let named = subst (λ (t : FleetState). (controller_in t.subsystem (c.args.cntlid - 1)).cntlid ≡ c.args.cntlid) (sym (state-is c.self.view_is)) c.in-Some.ensures.named in
-    (executed-there g.M.Medium.tells a c.execute_marking.new.self.state c.args.cntlid c.args.i (machine.seen_with c.execute_marking.new.marks c.execute_marking.result) c.self.invariant there named c.execute_marking.ensures.executes).sound
+    (executed-there g.M.Medium.tells _ c.execute_marking.new.self.state c.args.cntlid c.args.i (machine.seen_with c.execute_marking.new.marks c.execute_marking.result) c.self.invariant there named c.execute_marking.ensures.executes).sound
 
 pub returns-clause-step : goal.returns-clause-step
 returns-clause-step g c =
-    let a : FleetState = record { subsystem = c.self.inside.subsystem.state; drivers = c.self.inside.drivers.items; buffer = c.self.inside.buffer.items; filled = c.self.inside.filled } in
     let there = subst (λ (t : FleetState). IsThere t.subsystem c.args.cntlid) (sym (state-is c.self.view_is)) c.in-Some.ensures.some.1 in
     let named = subst (λ (t : FleetState). (controller_in t.subsystem (c.args.cntlid - 1)).cntlid ≡ c.args.cntlid) (sym (state-is c.self.view_is)) c.in-Some.ensures.named in
-    rw (← c.self.view_is, (c.told.ensures.seen c.execute_marking.new.marks)) ((executed-there g.M.Medium.tells a c.execute_marking.new.self.state c.args.cntlid c.args.i (machine.seen_with c.execute_marking.new.marks c.execute_marking.result) c.self.invariant there named c.execute_marking.ensures.executes).step)
+    rw (← c.self.view_is, (c.told.ensures.seen c.execute_marking.new.marks)) ((executed-there g.M.Medium.tells _ c.execute_marking.new.self.state c.args.cntlid c.args.i (machine.seen_with c.execute_marking.new.marks c.execute_marking.result) c.self.invariant there named c.execute_marking.ensures.executes).step)
 
 pub returns-clause-calls : goal.returns-clause-calls
 returns-clause-calls g c =

@@ -1,8 +1,7 @@
-use Rattle.nvme_fleet.proofs.Words.{◌≡◌, ◌++◌, ◌∙◌, length, map, take, drop, sym, ap, subst, refl, arith, option_map, after_reset, step-count, refill-all, FleetState, IsSoundFleet, fleet_of, layers_of, Cycles, AreCycled}
+use Rattle.nvme_fleet.proofs.Words.{◌∙◌, length, map, sym, ap, subst, refl, arith, option_map, after_reset, step-count, AreCycled, state-is}
 use Rattle.nvme_machine.specs.Bare as machine
 use Rattle.nvme_machine.specs.declared.event.Event.TheVariants.{PowerCycle}
-use Rattle.nvme_event.specs.declared.seen.FleetSeen.TheVariants.{Cycled}
-use Rattle.nvme_fleet.proofs.PowerStep.{are-cycled, is-cycled}
+use Rattle.nvme_fleet.proofs.PowerStep.{are-cycled, cycled-at}
 use Rattle.nvme_fleet.proofs.fleet.Fleet.power_cycle.Goals as goal
 
 pub reset_all-requires-clause-pairs : goal.reset_all-requires-clause-pairs
@@ -15,38 +14,17 @@ reset_all-requires-clause-cycled g c = subst AreCycled (sym c.react.ensures.step
 
 pub invariant_of-self : goal.invariant_of-self
 invariant_of-self g c =
-    let a : FleetState = record { subsystem = c.self.inside.subsystem.state; drivers = c.self.inside.drivers.items; buffer = c.self.inside.buffer.items; filled = c.self.inside.filled } in
-    let drivers : c.reset_all.new.drivers ≡ map (option_map after_reset) c.self.inside.drivers.items = rw c.deref_mut.ensures.value at c.reset_all.ensures.drivers in
-    let whole : take c.self.inside.drivers.len (c.reset_all.new.drivers ++ drop (length c.reset_all.new.drivers) c.self.inside.drivers.items) ≡ c.reset_all.new.drivers =
-    refill-all c.self.inside.drivers.len _ c.reset_all.new.drivers (omega (arith, c.deref_mut.ensures.len, c.reset_all.auto.drivers)) in
-    let state = c.reset_all.ensures.state ∙ c.react.ensures.step.1 in
-    let items = whole ∙ drivers in
-    let r = is-cycled g.M.Medium.tells a c.self.invariant in
-    subst IsSoundFleet (sym (λ j. (let s : FleetState = record { subsystem = state j; drivers = items j; buffer = c.self.inside.buffer.items; filled = c.self.inside.filled } in s))) r.sound
+    (cycled-at g.M.Medium.tells _ _ _ _ c.self.inside.drivers.len (state-is c.self.view_is) c.self.invariant (c.reset_all.ensures.state ∙ c.react.ensures.step.1)
+    (c.reset_all.ensures.drivers ∙ ap (map (option_map after_reset)) c.deref_mut.ensures.value) (omega (arith, c.deref_mut.ensures.len, c.reset_all.auto.drivers))).sound
 
 pub returns-clause-step : goal.returns-clause-step
-returns-clause-step g c =
-    let a : FleetState = record { subsystem = c.self.inside.subsystem.state; drivers = c.self.inside.drivers.items; buffer = c.self.inside.buffer.items; filled = c.self.inside.filled } in
-    let drivers : c.reset_all.new.drivers ≡ map (option_map after_reset) c.self.inside.drivers.items = rw c.deref_mut.ensures.value at c.reset_all.ensures.drivers in
-    let whole : take c.self.inside.drivers.len (c.reset_all.new.drivers ++ drop (length c.reset_all.new.drivers) c.self.inside.drivers.items) ≡ c.reset_all.new.drivers =
-    refill-all c.self.inside.drivers.len _ c.reset_all.new.drivers (omega (arith, c.deref_mut.ensures.len, c.reset_all.auto.drivers)) in
-    let state = c.reset_all.ensures.state ∙ c.react.ensures.step.1 in
-    let items = whole ∙ drivers in
-    let r = is-cycled g.M.Medium.tells a c.self.invariant in
-    rw (← c.self.view_is) (
-      refl,
-      ap fleet_of (λ j. (let s : FleetState = record { subsystem = state j; drivers = items j; buffer = c.self.inside.buffer.items; filled = c.self.inside.filled } in s)) ∙ r.step,
-    )
+returns-clause-step g c = (
+  refl,
+  (cycled-at g.M.Medium.tells _ _ _ _ c.self.inside.drivers.len (state-is c.self.view_is) c.self.invariant (c.reset_all.ensures.state ∙ c.react.ensures.step.1)
+      (c.reset_all.ensures.drivers ∙ ap (map (option_map after_reset)) c.deref_mut.ensures.value) (omega (arith, c.deref_mut.ensures.len, c.reset_all.auto.drivers))).step,
+)
 
 pub returns-clause-below : goal.returns-clause-below
 returns-clause-below g c =
-    let a : FleetState = record { subsystem = c.self.inside.subsystem.state; drivers = c.self.inside.drivers.items; buffer = c.self.inside.buffer.items; filled = c.self.inside.filled } in
-    let drivers : c.reset_all.new.drivers ≡ map (option_map after_reset) c.self.inside.drivers.items = rw c.deref_mut.ensures.value at c.reset_all.ensures.drivers in
-    let whole : take c.self.inside.drivers.len (c.reset_all.new.drivers ++ drop (length c.reset_all.new.drivers) c.self.inside.drivers.items) ≡ c.reset_all.new.drivers =
-    refill-all c.self.inside.drivers.len _ c.reset_all.new.drivers (omega (arith, c.deref_mut.ensures.len, c.reset_all.auto.drivers)) in
-    let state = c.reset_all.ensures.state ∙ c.react.ensures.step.1 in
-    let items = whole ∙ drivers in
-    let r = is-cycled g.M.Medium.tells a c.self.invariant in
-    rw (← c.self.view_is)
-    (subst (λ b. Cycles g.M.Medium.tells (layers_of a) Cycled (layers_of b))
-    (sym (λ j. (let s : FleetState = record { subsystem = state j; drivers = items j; buffer = c.self.inside.buffer.items; filled = c.self.inside.filled } in s))) r.below)
+    (cycled-at g.M.Medium.tells _ _ _ _ c.self.inside.drivers.len (state-is c.self.view_is) c.self.invariant (c.reset_all.ensures.state ∙ c.react.ensures.step.1)
+    (c.reset_all.ensures.drivers ∙ ap (map (option_map after_reset)) c.deref_mut.ensures.value) (omega (arith, c.deref_mut.ensures.len, c.reset_all.auto.drivers))).below

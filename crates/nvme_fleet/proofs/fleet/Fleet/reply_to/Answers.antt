@@ -13,9 +13,8 @@ returns g c =
     let step = c.apply-seen.ensures.step in
     let few : length given ≤ most_bytes = subst (λ xs. length xs ≤ most_bytes) c.data.ensures.value c.data.ensures.few in
     let room = fits-room g.M.Medium.tells old c.args.event (record { seen = c.apply-seen.result; bytes = given }) new step few in
-    let long : length c.data.result.now ≡ length given = ap length c.data.ensures.value in
     let none : length c.args.bytes.items ≡ 0 = ap length c.requires.empty in
-    let ok = c.extend_from_slice-fits.ensures.succeeds (omega (arith, c.args.bytes.ok.0, none, long, room, c.requires.room)) in
+    let ok = c.extend_from_slice-fits.ensures.succeeds (omega (arith, c.args.bytes.ok.0, none, ap length c.data.ensures.value, room, c.requires.room)) in
     let whole = copied c.extend_from_slice-fits.result c.args.bytes.items c.extend_from_slice-fits.new.self.items c.data.result.now c.extend_from_slice-fits.ensures.items ok c.requires.empty in
     record {
       step = record {

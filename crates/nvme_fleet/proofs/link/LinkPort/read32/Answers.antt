@@ -9,14 +9,8 @@ use Rattle.nvme_fleet.proofs.link.LinkPort.read32.Goals as goal
 
 -- a register's value is told as one
 read-bare : (v : ℕ) (seen : BareSeen) → seen_of seen ≡ given.Value v → seen ≡ bare.Value v
-read-bare v bare.Stored e = absurd (cc)
-read-bare v bare.Outside e = absurd (cc)
-read-bare v bare.Wrote e = absurd (cc)
 read-bare v (bare.Value w) e = let same : w ≡ v = cc in ap bare.Value same
-read-bare v (bare.Fetched f) e = absurd (cc)
-read-bare v (bare.Executed x) e = absurd (cc)
-read-bare v bare.Cycled e = absurd (cc)
-read-bare v bare.NoController e = absurd (cc)
+read-bare v other e = absurd (cc)
 
 pub invariant_of-self : goal.invariant_of-self
 invariant_of-self g c = there-after g.M.Medium.tells _ _ (Read32 c.self.inside.cntlid c.args.offset) (seen_of c.react.result) c.self.inside.cntlid c.react.ensures.step c.self.invariant
