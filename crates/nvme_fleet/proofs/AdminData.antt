@@ -1,5 +1,5 @@
 -- How long the data are that an admin command gives back.
-use Rattle.nvme_fleet.proofs.Words.{◌≡◌, ℕ, ◌+◌, ◌*◌, ◌≤◌, nat_lt, ◌==◌, ◌&&◌, Bool, true, false, cond, List, [], ◌∷◌, length, filter, Option, None, Some, refl, ◌∙◌, arith, length-append, length-replicate, flat_map, if◌then◌else◌, AllByRecursion, range_with_len, nsid, World, Namespace, namespace_of, is_attached, cns, namespace_structure, controller_structure, identify_data}
+use Rattle.nvme_fleet.proofs.Words.{◌≡◌, ℕ, ◌+◌, ◌*◌, ◌≤◌, nat_lt, ◌==◌, ◌&&◌, Bool, true, false, cond, List, [], ◌∷◌, length, filter, Option, None, Some, refl, ◌∙◌, arith, length-append, length-replicate, flat_map, if◌then◌else◌, AllByRecursion, range_with_len, nsid, World, Namespace, namespace_of, is_attached, cns, namespace_structure, controller_structure, identify_data, common_steps}
 use Rattle.std.specs.Int.{w32, to_le_bytes}
 use Rattle.nvme_spec.specs.Identify.{Field, with_fields, no_fields, namespace_fields, controller_fields, identify_namespace, identify_controller, namespace_list, identify_attached}
 use Rattle.nvme_spec.proofs.Splices.{length-with_bytes}
@@ -37,12 +37,7 @@ length-spelled (x ∷ xs) =
 
 few-filter : (p : ℕ → Bool) (xs : List ℕ) → length (filter p xs) ≤ length xs
 few-filter p [] = omega arith
-few-filter p (x ∷ xs) =
-    let rest = few-filter p xs in
-    elim (p x) as (λ b. length (cond b (x ∷ filter p xs) (filter p xs)) ≤ length (x ∷ xs)) [
-      | true ↦ omega (arith, rest)
-      | false ↦ omega (arith, rest)
-    ]
+few-filter p (x ∷ xs) = grind (arith, common_steps, few-filter p xs)
 
 length-list : (p : ℕ → Bool) → length (namespace_list (filter p (range_with_len 1 8))) ≡ 4096
 unfolding namespace_list

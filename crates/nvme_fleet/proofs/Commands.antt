@@ -1,5 +1,5 @@
 -- A command that suits its slot: its fields, and the same command as its request is judged by.
-use Rattle.nvme_fleet.proofs.Words.{◌≡◌, ℕ, ◌^◌, ◌<◌, ◌≤◌, true, List, length, take, sym, ap, subst, ◌∙◌, arith, inl, inr, and_parts, cases_Bool, bytes_eq-Decides, bytes_eq, nat_le, leb-true, SqeFields, submission_entry, submission_of, opcode, fuse, psdt, cid, nsid, cdw10, cdw11, cdw12, FitsSqeFields, submission_is_read_back, submission_is_plain, most_bytes, stored_list, first_entry, second_entry, entry_fields, Slot, asked_in, suits, is_plain, command_entry, command_fields}
+use Rattle.nvme_fleet.proofs.Words.{◌≡◌, ℕ, ◌^◌, ◌<◌, ◌≤◌, true, List, length, take, sym, ap, subst, ◌∙◌, arith, inl, inr, and_parts, cases_Bool, bytes_eq-Decides, bytes_eq, nat_le, leb-true, SqeFields, submission_entry, submission_of, opcode, fuse, psdt, cid, nsid, cdw10, cdw11, cdw12, FitsSqeFields, submission_is_read_back, submission_is_plain, most_bytes, stored_list, first_entry, second_entry, entry_fields, Slot, asked_in, suits, is_plain, command_entry, command_fields, common_steps}
 
 -- what suits says
 pub record IsSuited (s : Slot) (x : List ℕ) : Type 0 where
@@ -57,19 +57,10 @@ pub record SameFields (x y : List ℕ) : Type 0 where
   pub cdw12 : cdw12 y ≡ cdw12 x
 
 first-small : (slot n : ℕ) → slot < 24 → first_entry slot n < 2 ^ 64
-first-small slot n h = elim (cases_Bool (nat_le n 0)) [
-  | inl t ↦ rw t (omega arith)
-  | inr t ↦ rw t (omega (arith, h))
-]
+first-small slot n h = grind (arith, common_steps)
 
 second-small : (slot n : ℕ) → slot < 24 → second_entry slot n < 2 ^ 64
-second-small slot n h = elim (cases_Bool (nat_le n 4096)) [
-  | inl t ↦ rw t (omega arith)
-  | inr t ↦ elim (cases_Bool (nat_le n 8192)) [
-    | inl u ↦ rw (t, u) (omega (arith, h))
-    | inr u ↦ rw (t, u) (omega (arith, h))
-  ]
-]
+second-small slot n h = grind (arith, common_steps)
 
 -- the fields of a suited command fit, and so do those of the same command as it is judged
 fits-entry : (s : Slot) (x : List ℕ) → IsSuited s x → cid x < 24 → FitsSqeFields (entry_fields (asked_in s x) (cid x))

@@ -1,5 +1,5 @@
 -- A fetch is a step of the mailbox: it takes the first request that is rung in its lane, and the other lane stays.
-use Rattle.nvme_fleet.proofs.Words.{all-joined, ◌≡◌, ℕ, zero, suc, ◌+◌, ◌-◌, ◌%◌, ◌<◌, ◌≤◌, true, false, List, [], ◌∷◌, ◌++◌, length, Option, None, Some, refl, sym, ap, subst, ◌∙◌, arith, inl, inr, nat_lt, cases_Bool, cases_lt, lt-ltb, ne_eqb, append-nil, map-append, slice_index_or, Lane, Admin, Io, queue_id, Driver, is_up, Idle, FetchedCommand, Controller, SubmissionQueue, fetchable, after_fetch as after_fetch_of, fetched_from, submission_at, most_fetched, Item, FetchedItem, LaneBox, with_box, MailboxReaction, mailbox_reaction, plain, fetched, fetched_first, fetched_of, lane_at, raw_fetch, State, box, item, command_at, DeviceEnds, Both, same, other, host, state, pages_of, commands_in, fetched_by, held_by, lane_of_queue, Sound, IsPaired, IsOff, IsOfLane, mailbox, submission_as, IsStep, FetchIsAStep}
+use Rattle.nvme_fleet.proofs.Words.{all-joined, ◌≡◌, ℕ, zero, suc, ◌+◌, ◌-◌, ◌%◌, ◌<◌, ◌≤◌, true, false, List, [], ◌∷◌, ◌++◌, length, Option, None, Some, refl, sym, ap, subst, ◌∙◌, arith, inl, inr, nat_lt, cases_Bool, cases_lt, lt-ltb, ne_eqb, append-nil, map-append, slice_index_or, Lane, Admin, Io, queue_id, Driver, is_up, Idle, FetchedCommand, Controller, SubmissionQueue, fetchable, after_fetch as after_fetch_of, fetched_from, submission_at, most_fetched, Item, FetchedItem, LaneBox, with_box, MailboxReaction, mailbox_reaction, plain, fetched, fetched_first, fetched_of, lane_at, raw_fetch, State, box, item, command_at, DeviceEnds, Both, same, other, host, state, pages_of, commands_in, fetched_by, held_by, lane_of_queue, Sound, IsPaired, IsOff, IsOfLane, mailbox, submission_as, IsStep, FetchIsAStep, common_steps}
 use Rattle.nvme_event.specs.declared.seen.FleetSeen.TheVariants.{Fetched}
 use Rattle.nvme_machine.specs.Controllers.{head_entry}
 use Rattle.nvme_mailbox.specs.Deliveries.{with_rest}
@@ -26,11 +26,7 @@ idle-step d c q s none same =
 -- a lane where none waits, and one where one does
 empty-queue : (lane : Lane) (c : Controller) → IsPaired c → (state lane c).waiting ≡ 0 → fetchable c (queue_id lane) ≡ None
 unfolding fetchable
-empty-queue lane c p z =
-    elim (cases_Bool (nat_lt (length c.fetched) most_fetched)) [
-      | inl t ↦ rw (p.ready, t, submission-is lane c p, z) refl
-      | inr t ↦ rw (p.ready, t) refl
-    ]
+empty-queue lane c p z = grind (arith, common_steps, p.ready, submission-is lane c p, z)
 
 open-queue : (lane : Lane) (c : Controller) → IsPaired c → length c.fetched < 64 → 0 < (state lane c).waiting → fetchable c (queue_id lane) ≡ Some (submission_as lane (counts lane c))
 unfolding fetchable
@@ -63,11 +59,7 @@ taken-so lane c p =
 -- a lane's commands of two lists, and of one command
 commands-append : (lane : Lane) (xs ys : List FetchedCommand) → commands_in lane (xs ++ ys) ≡ commands_in lane xs ++ commands_in lane ys
 commands-append lane [] ys = refl
-commands-append lane (x ∷ xs) ys =
-    elim (cases_Bool (same (lane_of_queue x.queue) lane)) [
-      | inl e ↦ rw e (ap (λ l. x.entry ∷ l) (commands-append lane xs ys))
-      | inr e ↦ rw e (commands-append lane xs ys)
-    ]
+commands-append lane (x ∷ xs) ys = grind (arith, common_steps, commands-append lane xs ys)
 
 one-here : (lane : Lane) (x : List ℕ) → commands_in lane (record { entry = x; queue = queue_id lane; marked = false } ∷ []) ≡ x ∷ []
 one-here Admin x = refl

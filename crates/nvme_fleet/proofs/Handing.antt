@@ -2,6 +2,7 @@
 use Rattle.nvme_fleet.proofs.Words.{◌≡◌, ◌≤◌, ℕ, zero, suc, List, [], ◌∷◌, length, take, Option, Result, refl, sym, ap, subst, ◌∙◌, arith, Answer, PollFault, Driver, Controller, Polled, Reply, data_len, Mailbox, MailboxReaction, reply_in, IsStep}
 use Rattle.nvme_mailbox.proofs.Moves.{Move, Stay, Clear, May, reply_of, polls}
 use Rattle.nvme_mailbox.specs.Deliveries.{polled}
+use Rattle.std.proofs.lemmas.List.{length-take}
 
 counted : (v : Move) (m : Mailbox) → May v m → data_len (reply_of v m).seen ≡ length (reply_of v m).bytes
 counted (Stay what) m q = q.bytes
@@ -24,12 +25,7 @@ handed-step m d c result buffer s front =
     subst (λ xs. IsStep (polled m) d c (record { seen = Polled result; bytes = xs })) (sym (ap (λ n. take n buffer) (handed-count m d c result s) ∙ front)) s
 
 long-enough : (n : ℕ) (xs ys : List ℕ) → n ≡ length ys → take n xs ≡ ys → n ≤ length xs
-long-enough n xs ys count front = fits n xs (ap length front ∙ sym count)
-  where
-    fits : (n : ℕ) (xs : List ℕ) → length (take n xs) ≡ n → n ≤ length xs
-    fits zero xs h = omega arith
-    fits (suc n) [] h = absurd (omega (arith, h))
-    fits (suc n) (x ∷ xs) h = let le = fits n xs (omega (arith, h)) in omega (arith, le)
+long-enough n xs ys count front = omega (arith, length-take n xs, ap length front, count)
 
 pub handed-fits : (m : Mailbox) (d : Driver) (c : Controller) (result : Result (Option Answer) PollFault) (buffer : List ℕ) → IsStep (polled m) d c (record { seen = Polled result; bytes = (polled m).reply.bytes })
     → take (length (polled m).reply.bytes) buffer ≡ (polled m).reply.bytes → data_len (Polled result) ≤ length buffer

@@ -1,5 +1,5 @@
 -- The slots of the window as each lane sees them: where one changes, all others stay in both lanes.
-use Rattle.nvme_fleet.proofs.Words.{waiting_at, cid, Waiting, ◌≡◌, ℕ, ◌+◌, ◌<◌, ◌≤◌, List, [], ◌∷◌, length, map, refl, ap, sym, ◌∙◌, arith, zero, suc, true, false, cond, eqb, Option, Some, None, slice_set, inl, inr, cases_Bool, ne_eqb, Slot, empty, slot_at, live_in, live_waiting, item, commands_of, Lane, Admin, Io, same, other, FetchedCommand, lane_of_queue, whole, slot_in, slots_in, commands_in, fetched_by}
+use Rattle.nvme_fleet.proofs.Words.{waiting_at, cid, Waiting, ◌≡◌, ℕ, ◌+◌, ◌<◌, ◌≤◌, List, [], ◌∷◌, length, map, refl, ap, sym, ◌∙◌, arith, zero, suc, true, false, cond, eqb, Option, Some, None, slice_set, inl, inr, cases_Bool, ne_eqb, Slot, empty, slot_at, live_in, live_waiting, item, commands_of, Lane, Admin, Io, same, other, FetchedCommand, lane_of_queue, whole, slot_in, slots_in, commands_in, fetched_by, common_steps}
 use Rattle.nvme_fleet.proofs.Slots.{Apart, cond-zero}
 use Rattle.nvme_fleet.proofs.LaneWindows.{Same, same-self, same-other}
 use Rattle.nvme_fleet.proofs.Orders.{cond-one}
@@ -112,10 +112,7 @@ own-zero Admin x i us h = cond-zero (eqb (cid x) i) (commands_of i us) h
 own-zero Io x i us h = cond-zero (eqb (cid x) i) (commands_of i us) h
 
 pub rest-fewer : (lane : Lane) (t : FetchedCommand) (ts : List FetchedCommand) (i : ℕ) → commands_of i (commands_in lane ts) ≤ commands_of i (commands_in lane (t ∷ ts))
-rest-fewer lane t ts i = elim (cases_Bool (same (lane_of_queue t.queue) lane)) [
-  | inl e ↦ rw e (omega arith)
-  | inr e ↦ rw e (omega arith)
-]
+rest-fewer lane t ts i = grind (arith, common_steps)
 
 same-item : (f g : ℕ → Slot) (x : List ℕ) → g (cid x) ≡ f (cid x) → item g x ≡ item f x
 same-item f g x h = rw h refl

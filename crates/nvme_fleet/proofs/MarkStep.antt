@@ -1,5 +1,5 @@
 -- Marks reach the mailbox where they reach its controller.
-use Rattle.nvme_fleet.proofs.Words.{◌≡◌, ℕ, suc, ◌==◌, ◌&&◌, not, Bool, true, false, List, [], ◌∷◌, map, Some, refl, sym, ap, ◌∙◌, slice_get, if◌then◌else◌, AllByRecursion, nsid, Lane, Admin, Io, Driver, FetchedCommand, Controller, lane_of, is_io, item_in, box, Both, commands_in, host, state, held_by, fetched_by, Sound, IsOfLane, mailbox, lane_of_queue, MarksAreSteps}
+use Rattle.nvme_fleet.proofs.Words.{◌≡◌, ℕ, suc, ◌==◌, ◌&&◌, not, Bool, true, false, List, [], ◌∷◌, map, Some, refl, sym, ap, ◌∙◌, slice_get, if◌then◌else◌, AllByRecursion, nsid, Lane, Admin, Io, Driver, FetchedCommand, Controller, lane_of, is_io, item_in, box, Both, commands_in, host, state, held_by, fetched_by, Sound, IsOfLane, mailbox, lane_of_queue, MarksAreSteps, common_steps, arith}
 use Rattle.nvme_machine.specs.Controllers as machine
 use Rattle.nvme_mailbox.specs.Mailboxes as mail
 use Rattle.nvme_fleet.proofs.OneLane.{same-holds}
@@ -43,10 +43,7 @@ reaches d c i t s g =
     record { lane = lane-of-item (lane_of_queue t.queue) d c t refl (seen (lane_of_queue t.queue) d c i t (known d c i t s g)); space = refl }
 
 io-is : (q : ℕ) → is_io (lane_of_queue q) ≡ not (q == 0)
-io-is q = elim (q == 0) as (λ b. is_io (if b then Admin else Io) ≡ not b) [
-  | true ↦ refl
-  | false ↦ refl
-]
+io-is q = grind (arith, common_steps)
 
 names-same : (d : Driver) (c : Controller) (n : ℕ) (t : FetchedCommand) → Reaches d c t → mail.names n (item_at d c t) ≡ machine.names n t
 names-same d c n t r =

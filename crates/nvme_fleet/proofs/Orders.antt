@@ -34,8 +34,7 @@ pending-other (x ∷ xs) (suc i) zero h = refl
 pending-other (x ∷ xs) (suc i) (suc j) h = let k : eqb j i ≡ false = grind (arith, common_steps, h) in pending-other xs i j k
 
 pub cond-one : (b : Bool) → cond {A = ℕ} b 1 0 ≡ 1 → b ≡ true
-cond-one true h = refl
-cond-one false h = let b : ⊥ = omega (arith, h) in absurd b
+cond-one b h = grind (arith, common_steps, h)
 
 -- two numbers may be put in their places in either order
 pub ranked-swap : (a b : ℕ) (us : List ℕ) → ranked a (ranked b us) ≡ ranked b (ranked a us)
@@ -127,11 +126,7 @@ waiting_ticket (Some p) = cond p.live (Some p.ticket.0) None
 
 waiting-none : (o : Option Waiting) → live_waiting o ≡ 0 → waiting_ticket o ≡ None
 waiting-none None h = refl
-waiting-none (Some p) h =
-    elim (cases_Bool p.live) [
-      | inl t ↦ let b : live_waiting (Some p) ≡ 1 = ap (λ b. cond {A = ℕ} b 1 0) t in let z : ⊥ = omega (arith, b, h) in absurd z
-      | inr t ↦ rw t refl
-    ]
+waiting-none (Some p) h = grind (arith, common_steps, h)
 
 waiting-some : (o : Option Waiting) → live_waiting o ≡ 1 → waiting_ticket o ≡ Some (ticket_in o)
 waiting-some None h = let b : ⊥ = omega (arith, h) in absurd b
@@ -145,14 +140,7 @@ tickets-freed slots i (n ∷ ns) h =
 
 times-freed : (slots : List (Option Waiting)) (n : ℕ) (ns : List ℕ) → ((i : ℕ) → times i (n ∷ ns) ≡ live_at slots i) →
     (i : ℕ) → times i ns ≡ live_at (slice_set slots n None) i
-times-freed slots n ns h i =
-    elim (cases_Bool (eqb n i)) [
-      | inl t ↦
-          let z : waiting_at (slice_set slots n None) i ≡ None = ap (waiting_at (slice_set slots n None)) (sym (eqb-true n i t)) ∙ pending-same slots n in
-          rw z (omega (arith, h i, ap (λ b. cond b 1 0 + times i ns) t, waiting-small (waiting_at slots i)))
-      | inr t ↦
-          rw (pending-other slots n i (eqb-sym n i t)) (omega (arith, h i, ap (λ b. cond b 1 0 + times i ns) t))
-    ]
+times-freed slots n ns h i = grind (arith, common_steps, h i, waiting-small (waiting_at slots i), pending-same slots n, pending-other slots n i)
 
 -- the tickets of slots that name each live slot once are the live slots' tickets
 pub rising-slots : (ns : List ℕ) (slots : List (Option Waiting)) → ((i : ℕ) → times i ns ≡ live_at slots i) →
@@ -168,10 +156,7 @@ rising-slots (n ∷ ns) slots h =
 
 ranked-low : (t : ℕ) (us vs : List ℕ) → Each (λ v. t ≤ v) vs → ranked t (us ++ vs) ≡ ranked t us ++ vs
 ranked-low t [] vs h = ranked-first t vs h
-ranked-low t (u ∷ us) vs h = elim (cases_Bool (nat_le t u)) [
-  | inl e ↦ rw e refl
-  | inr e ↦ rw e (ap (λ l. u ∷ l) (ranked-low t us vs h))
-]
+ranked-low t (u ∷ us) vs h = grind (arith, common_steps, ranked-low t us vs h)
 
 ranked-high : (t first : ℕ) (us vs : List ℕ) → first ≤ t → Each (λ u. u < first) us → ranked t (us ++ vs) ≡ us ++ ranked t vs
 ranked-high t first [] vs p h = refl
@@ -185,10 +170,7 @@ each-weaker P Q f (u ∷ us) h = (f u h.0, each-weaker P Q f us h.1)
 
 aborted-young : (first next : ℕ) (o : Option Waiting) → AgeIn first next o → EachIn (λ u. u < first) (aborted_number o)
 aborted-young first next None h = tt
-aborted-young first next (Some p) h = elim (cases_Bool p.live) [
-  | inl t ↦ rw t tt
-  | inr t ↦ rw t (rw t at h.0)
-]
+aborted-young first next (Some p) h = grind (arith, common_steps, h)
 
 waiting-old : (first next : ℕ) (o : Option Waiting) → AgeIn first next o → EachIn (λ u. first ≤ u) (waiting_ticket o)
 waiting-old first next None h = tt
@@ -230,8 +212,4 @@ abort-age first next (Some p) h = (h.1, h.1)
 
 pub idle-age : (first next : ℕ) (o : Option Waiting) → live_waiting o ≡ 0 → AgeIn first next o → AgeIn next next o
 idle-age first next None l h = tt
-idle-age first next (Some p) l h =
-    elim (cases_Bool p.live) [
-      | inl t ↦ let b : live_waiting (Some p) ≡ 1 = ap (λ b. cond {A = ℕ} b 1 0) t in let z : ⊥ = omega (arith, b, l) in absurd z
-      | inr t ↦ rw t (h.1, h.1)
-    ]
+idle-age first next (Some p) l h = grind (arith, common_steps, h, l)

@@ -1,5 +1,5 @@
 -- A placing is a step of the mailbox: the lane of the request takes it, and the other lane sees the next ticket alone.
-use Rattle.nvme_fleet.proofs.Words.{◌≡◌, ℕ, zero, suc, ◌+◌, ◌-◌, ◌*◌, ◌%◌, ◌<◌, ◌≤◌, ◌==◌, nat_lt, Bool, true, false, not, ◌&&◌, cond, List, [], ◌∷◌, length, take, Option, None, Some, refl, sym, ap, subst, ◌∙◌, arith, inl, inr, cases_lt, ne_eqb, le-leb, bytes_eq-Decides, bytes_eq, slice_set, length-set, if◌then◌else◌, nat_le, SqeFields, submission_entry, submission_of, cid, with_bytes, most_bytes, Lane, Waiting, Request, PlaceRefusal, NotReady, BadRequest, NoSlot, RingFull, TicketsExhausted, list_page, data_area, submission_queue, stored_list, Asked, asked_of, is_bad, Driver, is_up, ends, entry_of, entry_fields, entry_length, free_slot, place_refusal, put_ends, ticket_count, stores_of, waiting_of, waiting_at, length-stored_list, entries_move_their_data, Controller, after_store, LaneBox, box_at, with_box, MailboxReaction, refusal, placed_by, new_item, with_placed, Host, State, Slot, empty, box, live_in, live_at, asked_in, is_plain, suits, item_in, received_in, placed_state, Both, same, other, host, state, slot_in, slots_in, whole, area, listed, pages_of, in_order, aborted_number, ranked_too, Sound, mailbox, PlaceIsAStep, RefusalIsAStep, after_calls}
+use Rattle.nvme_fleet.proofs.Words.{◌≡◌, ℕ, zero, suc, ◌+◌, ◌-◌, ◌*◌, ◌%◌, ◌<◌, ◌≤◌, ◌==◌, nat_lt, Bool, true, false, not, ◌&&◌, cond, List, [], ◌∷◌, length, take, Option, None, Some, refl, sym, ap, subst, ◌∙◌, arith, inl, inr, cases_lt, ne_eqb, le-leb, bytes_eq-Decides, bytes_eq, slice_set, length-set, if◌then◌else◌, nat_le, SqeFields, submission_entry, submission_of, cid, with_bytes, most_bytes, Lane, Waiting, Request, PlaceRefusal, NotReady, BadRequest, NoSlot, RingFull, TicketsExhausted, list_page, data_area, submission_queue, stored_list, Asked, asked_of, is_bad, Driver, is_up, ends, entry_of, entry_fields, entry_length, free_slot, place_refusal, put_ends, ticket_count, stores_of, waiting_of, waiting_at, length-stored_list, entries_move_their_data, Controller, after_store, LaneBox, box_at, with_box, MailboxReaction, refusal, placed_by, new_item, with_placed, Host, State, Slot, empty, box, live_in, live_at, asked_in, is_plain, suits, item_in, received_in, placed_state, Both, same, other, host, state, slot_in, slots_in, whole, area, listed, pages_of, in_order, aborted_number, ranked_too, Sound, mailbox, PlaceIsAStep, RefusalIsAStep, after_calls, common_steps}
 use Rattle.nvme_driver.specs.Drivers as driver
 use Rattle.nvme_driver.specs.Drivers.{lane_of}
 use Rattle.nvme_driver.proofs.Placing.{length-entry}
@@ -17,10 +17,7 @@ use Rattle.nvme_fleet.proofs.Placing.{free-some, free-same}
 -- The tests of a placing see the same in a mailbox and in its driver.
 
 full-is : (u : ℕ) → u < 8 → (u == 7) ≡ (8 - 1 - u == 0)
-full-is u h = elim (cases_lt u 7) [
-  | inl l ↦ ne_eqb u 7 (λ e. omega (arith, e, l)) ∙ sym (ne_eqb (8 - 1 - u) 0 (λ e. omega (arith, e, l)))
-  | inr g ↦ (let e : u ≡ 7 = omega (arith, h, g) in rw e refl)
-]
+full-is u h = grind (arith, common_steps, h)
 
 abbrev tests : Bool → Bool → Bool → Bool → Bool → Option PlaceRefusal
 tests u bad full ring more =
@@ -64,10 +61,7 @@ passes true false false false more h = record { up = refl; good = refl; room = r
 passes u bad full ring more h = absurd (cc (h))
 
 below-seven : (u : ℕ) → u < 8 → (8 - 1 - u == 0) ≡ false → u < 7
-below-seven u h e = elim (cases_lt u 7) [
-  | inl l ↦ l
-  | inr g ↦ (let k : 8 - 1 - u ≡ 0 = omega (arith, g) in absurd (no-way (8 - 1 - u == 0) e (rw k refl)))
-]
+below-seven u h e = grind (arith, common_steps, h, e)
 
 -- A command suits a slot whose request it spells, and whose list is there.
 same-bytes : (xs ys : List ℕ) → xs ≡ ys → bytes_eq xs ys ≡ true

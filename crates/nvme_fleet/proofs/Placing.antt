@@ -55,22 +55,14 @@ free-none slots =
 
 ranked-length : (t : ℕ) (us : List ℕ) → length (ranked t us) ≡ length us + 1
 ranked-length t [] = omega arith
-ranked-length t (u ∷ us) =
-    elim (cases_Bool (nat_le t u)) [
-      | inl e ↦ rw e (omega arith)
-      | inr e ↦ rw e (omega (arith, ranked-length t us))
-    ]
+ranked-length t (u ∷ us) = grind (arith, common_steps, ranked-length t us)
 
 abbrev aborted : List (Option Waiting) → List ℕ
 aborted slots = in_order aborted_number slots
 
 -- one slot more
 split-one : (p : Waiting) (us : List ℕ) → live_waiting (Some p) + length (ranked_too (aborted_number (Some p)) us) ≡ length us + 1
-split-one p us =
-    elim (cases_Bool p.live) [
-      | inl e ↦ rw e (omega arith)
-      | inr e ↦ rw e (omega (arith, ranked-length p.ticket.0 us))
-    ]
+split-one p us = grind (arith, common_steps, ranked-length p.ticket.0 us)
 
 split : (w : List ℕ) (k : ℕ) (slots : List (Option Waiting)) →
     total live_in (slots_in Admin w k slots) + total live_in (slots_in Io w k slots) + length (aborted slots) ≡ total filled slots

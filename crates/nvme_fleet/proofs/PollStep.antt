@@ -1,6 +1,6 @@
 -- That a poll of a driver is a step of its mailbox: the first request that was aborted is handed up, or else the first answer
 -- of a lane.
-use Rattle.nvme_fleet.proofs.Words.{none-some, Done, Aborted, Polled, Reply, Host, Slot, PostedAnswer, empty, ticket_in, can_hear, area, MailboxReaction, mailbox_reaction, plain, answer_reply, handed_up, polled_aborted, polled_admin, polled_io, IsStep, PollIsAStep, after_calls, most_bytes, can_be_heard, waiting_at, ◌≡◌, ℕ, ◌+◌, ◌-◌, ◌*◌, ◌/◌, ◌%◌, ◌⊎◌, ◌<◌, ◌≤◌, ◌==◌, Bool, true, not, ◌&&◌, cond, List, [], ◌∷◌, length, take, drop, Option, None, Some, refl, sym, ap, subst, ◌∙◌, arith, inl, inr, length-drop, length-set, take-take, cases_Bool, cases_lt, lt-ltb, le-ltb, length-take-le, slice_get, slice_get_within, slice_set, slice_range, option_map, if◌then◌else◌, Ok, Err, Completion, completion_of, sq_id, sq_head, status, dw0, Status, phase_tag, Lane, Admin, Io, Waiting, Ticket, queue_id, submission_queue, completion_place_in, head_doorbell, data_area, Ends, Driver, is_up, ends, consumed_ends, Controller, DeviceEnds, with_head, completion_at, after_write32, box_at, with_box, LaneBox, box, answer, front, heard, less, consumed as consumed_one, next_completion, completion_bytes, phase_of, received_in, live_in, live_at as live_slot, holds, commands_of, Both, same, other, host, state, slot_in, slots_in, commands_in, pages_of, held_by, in_order, aborted_number, Sound, EndsFit, completion_as, mailbox, eq-eqb}
+use Rattle.nvme_fleet.proofs.Words.{none-some, Done, Aborted, Polled, Reply, Host, Slot, PostedAnswer, empty, ticket_in, can_hear, area, MailboxReaction, mailbox_reaction, plain, answer_reply, handed_up, polled_aborted, polled_admin, polled_io, IsStep, PollIsAStep, after_calls, most_bytes, can_be_heard, waiting_at, ◌≡◌, ℕ, ◌+◌, ◌-◌, ◌*◌, ◌/◌, ◌%◌, ◌⊎◌, ◌<◌, ◌≤◌, ◌==◌, Bool, true, not, ◌&&◌, cond, List, [], ◌∷◌, length, take, drop, Option, None, Some, refl, sym, ap, subst, ◌∙◌, arith, inl, inr, length-drop, length-set, take-take, cases_Bool, cases_lt, lt-ltb, le-ltb, length-take-le, slice_get, slice_get_within, slice_set, slice_range, option_map, if◌then◌else◌, Ok, Err, Completion, completion_of, sq_id, sq_head, status, dw0, Status, phase_tag, Lane, Admin, Io, Waiting, Ticket, queue_id, submission_queue, completion_place_in, head_doorbell, data_area, Ends, Driver, is_up, ends, consumed_ends, Controller, DeviceEnds, with_head, completion_at, after_write32, box_at, with_box, LaneBox, box, answer, front, heard, less, consumed as consumed_one, next_completion, completion_bytes, phase_of, received_in, live_in, live_at as live_slot, holds, commands_of, Both, same, other, host, state, slot_in, slots_in, commands_in, pages_of, held_by, in_order, aborted_number, Sound, EndsFit, completion_as, mailbox, eq-eqb, common_steps}
 use Rattle.nvme_fleet.proofs.LaneWindows.{each-lane}
 use Rattle.std.specs.Option.{option_flatten}
 use Rattle.nvme_driver.specs.declared.faults.PollFault.TheVariants as poll_fault
@@ -27,16 +27,7 @@ bytes-in lane w n =
     range-is w (completion_place_in lane n) 16 ∙ ap (λ m. take 16 (drop m w)) e ∙ sym (part-in w (submission_queue lane) (4096 + 16 * (n % 32)) 16 (omega arith))
 
 pub tag-is : (n : ℕ) → n < 64 → phase_tag 32 n ≡ phase_of n
-tag-is n h = elim (cases_lt n 32) [
-  | inl l ↦
-      let a : n / 32 % 2 ≡ 0 = omega (arith, l) in
-      let b : n % 64 ≡ n = omega (arith, l) in
-      rw (a, b, lt-ltb n 32 l) refl
-  | inr g ↦
-      let a : n / 32 % 2 ≡ 1 = omega (arith, g, h) in
-      let b : n % 64 ≡ n = omega (arith, h) in
-      rw (a, b, le-ltb n 32 g) refl
-]
+tag-is n h = grind (arith, common_steps, h)
 
 -- whether it is new, and what it is
 abbrev is_next : Lane → Driver → List ℕ → Bool
@@ -68,10 +59,7 @@ new-some lane d w x h e = elim (cases_Bool (is_next lane d w)) [
 
 number-is : (o : Option Waiting) → aborted_number o ≡ option_map (λ (t : Ticket). t.0) (poll.aborted_ticket o)
 number-is None = refl
-number-is (Some w) = elim (cases_Bool w.live) [
-  | inl l ↦ rw l refl
-  | inr l ↦ rw l refl
-]
+number-is (Some w) = grind (arith, common_steps)
 
 below-is : (t : Ticket) (o : Option Ticket) → poll.IsNotBelow t o → NotBelow t.0 (option_map (λ (u : Ticket). u.0) o)
 below-is t None h = tt
@@ -87,13 +75,7 @@ within-of xs i h = by (slice_get xs i) refl
 -- an aborted request is live in no lane
 idle-in : (l : Lane) (w : List ℕ) (n : ℕ) (o : Option Waiting) (t : ℕ) → aborted_number o ≡ Some t → live_in (slot_in l w n o) ≡ 0
 idle-in l w n None t e = refl
-idle-in l w n (Some x) t e = elim (cases_Bool x.live) [
-  | inl h ↦ let z : None ≡ Some t = rw h at e in absurd (none-some t z)
-  | inr h ↦ elim (cases_Bool (same x.lane l)) [
-    | inl s ↦ rw (s, h) refl
-    | inr s ↦ rw s refl
-  ]
-]
+idle-in l w n (Some x) t e = grind (arith, common_steps, e)
 
 freed-host : (l : Lane) (d : Driver) (w : List ℕ) (i : ℕ) → length d.slots ≡ 24 → i < 24 → host l (poll.freed d i) w ≡ emptied (host l d w) i
 freed-host Admin d w i e h = rw (slots-here Admin w w d.slots i None e h (λ k b q. record { areas = refl; lists = refl })) refl
@@ -278,10 +260,7 @@ polled-mail lane d c h =
 
 -- an answer is as long as the request says where it succeeded
 len-small : (received : ℕ) (why : Status) → received ≤ most_bytes → poll.answer_len received why ≤ most_bytes
-len-small received why h = elim (cases_Bool (poll.is_success why)) [
-  | inl t ↦ rw t h
-  | inr t ↦ rw t (omega arith)
-]
+len-small received why h = grind (arith, common_steps, h)
 
 place-small : (w : List ℕ) (k n : ℕ) → length w ≡ 4194304 → k < 24 → n ≤ most_bytes → length (take n (drop (data_area k) w)) ≡ n
 place-small w k n l h g =

@@ -1,5 +1,5 @@
 -- Which of its own lane's commands a fetched command is.
-use Rattle.nvme_fleet.proofs.Words.{none-some, same_Some, ◌≡◌, ℕ, List, [], ◌∷◌, refl, ap, zero, suc, true, false, cond, Some, inl, inr, slice_get, cases_Bool, Lane, same, FetchedCommand, lane_of_queue, commands_in}
+use Rattle.nvme_fleet.proofs.Words.{none-some, same_Some, ◌≡◌, ℕ, List, [], ◌∷◌, refl, ap, zero, suc, true, false, cond, Some, inl, inr, slice_get, cases_Bool, Lane, same, FetchedCommand, lane_of_queue, commands_in, common_steps, arith}
 use Rattle.std.proofs.Common.{remove}
 
 -- how many of a lane's commands stand before the i-th
@@ -30,8 +30,4 @@ pub removed-there : (lane : Lane) (ts : List FetchedCommand) (i : ℕ) (t : Fetc
 removed-there lane [] i t h e = absurd (none-some _ h)
 removed-there lane (x ∷ xs) zero t h e =
     rw (same_Some x t h, e) refl
-removed-there lane (x ∷ xs) (suc i) t h e =
-    elim (cases_Bool (same (lane_of_queue x.queue) lane)) [
-      | inl f ↦ rw f (ap (λ l. x.entry ∷ l) (removed-there lane xs i t h e))
-      | inr f ↦ rw f (removed-there lane xs i t h e)
-    ]
+removed-there lane (x ∷ xs) (suc i) t h e = grind (arith, common_steps, removed-there lane xs i t h e)

@@ -1,5 +1,5 @@
 -- A reset over both lanes: all that is open is aborted, by rising tickets.
-use Rattle.nvme_fleet.proofs.Words.{item_in, rising, waiting_at, empty_box, open_tickets, tickets_in, FetchedItem, cid, abort, Waiting, most_bytes, ◌≡◌, ℕ, ◌+◌, ◌≤◌, List, [], ◌∷◌, ◌++◌, length, map, refl, ap, sym, ◌∙◌, arith, zero, suc, false, cond, eqb, Option, Some, None, inl, inr, map-append, length-map, cases_Bool, Completion, Slot, empty, slot_at, box, abort_slot, off, ticket_in, received_in, live_at as live_slot, commands_of, answers_of, unread, AgeIn, Ages as AgesOne, Lane, Admin, Io, same, Driver, ends, after_reset, FetchedCommand, Controller, lane_of_queue, Both, whole, slots_in, commands_in, host, state, fetched_by, held_by, in_order, aborted_number, Sound, EndsFit, IsOff, mailbox, eq-eqb, bears}
+use Rattle.nvme_fleet.proofs.Words.{item_in, rising, waiting_at, empty_box, open_tickets, tickets_in, FetchedItem, cid, abort, Waiting, most_bytes, ◌≡◌, ℕ, ◌+◌, ◌≤◌, List, [], ◌∷◌, ◌++◌, length, map, refl, ap, sym, ◌∙◌, arith, zero, suc, false, cond, eqb, Option, Some, None, inl, inr, map-append, length-map, cases_Bool, Completion, Slot, empty, slot_at, box, abort_slot, off, ticket_in, received_in, live_at as live_slot, commands_of, answers_of, unread, AgeIn, Ages as AgesOne, Lane, Admin, Io, same, Driver, ends, after_reset, FetchedCommand, Controller, lane_of_queue, Both, whole, slots_in, commands_in, host, state, fetched_by, held_by, in_order, aborted_number, Sound, EndsFit, IsOff, mailbox, eq-eqb, bears, common_steps}
 use Rattle.nvme_fleet.proofs.LaneWindows.{same-self}
 use Rattle.nvme_mailbox.specs.Deliveries as mail
 use Rattle.nvme_fleet.specs.Views.{reset as reset_one}
@@ -15,11 +15,7 @@ use Rattle.nvme_fleet.proofs.Queues.{flight-total}
 slots-reset : (lane : Lane) (w : List ℕ) (k : ℕ) (slots : List (Option Waiting)) → slots_in lane w k (map abort slots) ≡ map abort_slot (slots_in lane w k slots)
 slots-reset lane w k [] = refl
 slots-reset lane w k (None ∷ xs) = ap (λ l. empty ∷ l) (slots-reset lane w (suc k) xs)
-slots-reset lane w k (Some x ∷ xs) =
-    elim (cases_Bool (same x.lane lane)) [
-      | inl e ↦ rw (e, slots-reset lane w (suc k) xs) refl
-      | inr e ↦ rw (e, slots-reset lane w (suc k) xs) refl
-    ]
+slots-reset lane w k (Some x ∷ xs) = grind (arith, common_steps, slots-reset lane w (suc k) xs)
 
 host-reset : (lane : Lane) (d : Driver) (w : List ℕ) → host lane (after_reset d) w ≡ reset_one (host lane d w)
 host-reset Admin d w = rw (slots-reset Admin w 0 d.slots) refl

@@ -1,5 +1,5 @@
 -- How many bytes a request moves: those that it sends, or those that it receives, and never more than a transfer has.
-use Rattle.nvme_fleet.proofs.Words.{true, ◌≡◌, ℕ, ◌-◌, ◌*◌, ◌≤◌, nat_lt, false, List, ◌++◌, length, refl, ap, ◌∙◌, arith, length-append, inl, inr, cases_lt, lt-ltb, ◌==◌, most_bytes, is_plain, Request, Asked, asked_of, is_bad, key, controller_list, within, eq-eqb}
+use Rattle.nvme_fleet.proofs.Words.{true, ◌≡◌, ℕ, ◌-◌, ◌*◌, ◌≤◌, nat_lt, false, List, ◌++◌, length, refl, ap, ◌∙◌, arith, length-append, inl, inr, cases_lt, lt-ltb, ◌==◌, most_bytes, is_plain, Request, Asked, asked_of, is_bad, key, controller_list, within, eq-eqb, common_steps}
 use Rattle.nvme_spec.specs.Commands as io_commands
 use Rattle.nvme_driver.specs.declared.request.Request.TheVariants.{Read, Write, Compare, Register, Acquire, Release, Report, Attach, Detach}
 use Rattle.nvme_driver.proofs.Moving.{whole}
@@ -17,10 +17,7 @@ length-keys : (a b : ℕ) → length (key a ++ key b) ≡ 16
 length-keys a b = length-append (key a) (key b) ∙ (let x = length-key a in let y = length-key b in omega arith)
 
 few-listed : (n : ℕ) → nat_lt 2047 n ≡ false → n ≤ 2047
-few-listed n e = elim (cases_lt 2047 n) [
-  | inl l ↦ (let t = lt-ltb 2047 n l in absurd (cc (e, t)))
-  | inr g ↦ omega (arith, g)
-]
+few-listed n e = grind (arith, common_steps, e)
 
 sending-sizes : (n : ℕ) (xs : List ℕ) → length xs ≡ n → n ≤ most_bytes → (a : Asked) → a.received ≡ 0 → a.moved ≡ n → a.sent ≡ xs → Sizes a
 sending-sizes n xs h g a r m s = record {

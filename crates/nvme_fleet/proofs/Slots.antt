@@ -1,5 +1,5 @@
 -- A slot that no command and no completion bears may change; at most 24 are borne.
-use Rattle.nvme_fleet.proofs.Words.{◌≡◌, ℕ, ◌+◌, ◌≤◌, List, [], ◌∷◌, length, map, refl, arith, true, false, cond, eqb, Bool, slice_set, cid, Completion, State, Slot, slot_at, item, answers, total, odd, commands_of, answers_of, Running, in_flight, Host, box, heard, holds, commands}
+use Rattle.nvme_fleet.proofs.Words.{◌≡◌, ℕ, ◌+◌, ◌≤◌, List, [], ◌∷◌, length, map, refl, arith, true, false, cond, eqb, Bool, slice_set, cid, Completion, State, Slot, slot_at, item, answers, total, odd, commands_of, answers_of, Running, in_flight, Host, box, heard, holds, commands, common_steps}
 use Rattle.nvme_fleet.proofs.Totals.{live-few, slot-other}
 use Rattle.nvme_fleet.proofs.Queues.{Bare, same-box}
 
@@ -8,8 +8,7 @@ abbrev pub Apart : ℕ → (ℕ → Slot) → (ℕ → Slot) → Type 0
 Apart i f g = (k : ℕ) → eqb k i ≡ false → g k ≡ f k
 
 pub cond-zero : (b : Bool) (n : ℕ) → cond b 1 0 + n ≡ 0 → b ≡ false
-cond-zero true n h = let b : ⊥ = omega (arith, h) in absurd b
-cond-zero false n h = refl
+cond-zero b n h = grind (arith, common_steps, h)
 
 -- a slot that no command bears may change
 pub same-items : (f g : ℕ → Slot) (i : ℕ) → Apart i f g → (xs : List (List ℕ)) → commands_of i xs ≡ 0 → map (item g) xs ≡ map (item f) xs

@@ -1,5 +1,5 @@
 -- Without a fault of the medium there is one run of both layers over each list of events.
-use Rattle.nvme_fleet.proofs.Words.{◌≡◌, ◌⊎◌, inl, inr, ◌<◌, ◌≤◌, ℕ, zero, suc, ◌-◌, ◌^◌, nat_lt, Bool, true, false, List, [], ◌∷◌, map, Option, None, Some, Result, Ok, Err, refl, sym, ap, subst, ◌∙◌, arith, option_map, slice_get, slice_set, if◌then◌else◌, replicate, cases_Bool, eqb-true, eq-eqb, none-some, same_Some, ControllerConfig, Answer, NotUp, PlaceRefusal, PollFault, UpFault, Request, Waiting, Ticket, Driver, after_reset, new_driver, stores_of, IsNotBelow, IsOldest, aborted_at, waiting_at, Event, Subsystem, FleetEvent, BringUp, Place, Ring, Fetch, Execute, Poll, Reset, RawStore, RawWrite32, PowerCycle, FleetSeen, Reply, DriverCall, CallStep, ComesUp, Does, DoesIfAny, Places, Polls, Ran, Rings, events_of, events_of_calls, reset_events, ring_events, window_at, Layers, fleet_in, opening_driver, Applies, AppliesRaw, CallsAt, Cycles, Happens, driver_at, with_driver, HasTicketsOnce, HaveTicketsOnce, LayersRunIsUnique, OpeningHasTicketsOnce, TicketsStayOnce, polled, Call, Rises, Seen, Turns, eqb}
+use Rattle.nvme_fleet.proofs.Words.{◌≡◌, ◌⊎◌, inl, inr, ◌<◌, ◌≤◌, ℕ, zero, suc, ◌-◌, ◌^◌, nat_lt, Bool, true, false, List, [], ◌∷◌, map, Option, None, Some, Result, Ok, Err, refl, sym, ap, subst, ◌∙◌, arith, option_map, slice_get, slice_set, if◌then◌else◌, replicate, cases_Bool, eqb-true, eq-eqb, none-some, same_Some, ControllerConfig, Answer, NotUp, PlaceRefusal, PollFault, UpFault, Request, Waiting, Ticket, Driver, after_reset, new_driver, stores_of, IsNotBelow, IsOldest, aborted_at, waiting_at, Event, Subsystem, FleetEvent, BringUp, Place, Ring, Fetch, Execute, Poll, Reset, RawStore, RawWrite32, PowerCycle, FleetSeen, Reply, DriverCall, CallStep, ComesUp, Does, DoesIfAny, Places, Polls, Ran, Rings, events_of, events_of_calls, reset_events, ring_events, window_at, Layers, fleet_in, opening_driver, Applies, AppliesRaw, CallsAt, Cycles, Happens, driver_at, with_driver, HasTicketsOnce, HaveTicketsOnce, LayersRunIsUnique, OpeningHasTicketsOnce, TicketsStayOnce, polled, Call, Rises, Seen, Turns, eqb, common_steps}
 use Rattle.nvme_driver.specs.Drivers.{placed}
 use Rattle.nvme_driver.specs.Once as once
 use Rattle.nvme_driver.specs.Once.{bears, borne}
@@ -117,8 +117,7 @@ none-borne t zero = refl
 none-borne t (suc n) = let h = none-borne t n in omega (arith, h)
 
 at-most-one : (b : Bool) → (if b then 0 else 1) ≤ 1
-at-most-one true = omega arith
-at-most-one false = omega arith
+at-most-one b = grind (arith, common_steps)
 
 new-once : (first : ℕ) → HasTicketsOnce (new_driver first)
 new-once first t = let none = none-borne t 24 in let few = at-most-one (nat_lt t first) in omega (arith, none, few)

@@ -44,6 +44,7 @@ pub fn calls_are_of_events()
 /// A command of a host that may not write its namespace makes no write call and no flush call, and where it may not read
 /// either, no call. So hosts that may not write a namespace write none of its blocks, until a reservation command on it
 /// is executed that all rules let pass, or power is lost that its reservation does not outlast.
+#[tactic(auto, using(crate::proofs::AllowedCalls::calls_are_allowed, crate::proofs::AllowedCalls::calls_of_runs_are_allowed, crate::proofs::AllowedCalls::fenced_hosts_write_no_block))]
 pub fn blocks_are_written_as_allowed()
     ensures event { CallsAreAllowed }
     ensures run { CallsOfRunsAreAllowed }
@@ -109,6 +110,7 @@ pub fn bringing_up_is_a_step()
 /// the request's data, whatever a fault of the medium chooses; and what it may be answered, its request may be
 /// answered. An admin command is answered what its request is answered, and the queues stay. So an execution of a
 /// command of either lane is the step of the mailbox.
+#[tactic(auto, using(crate::proofs::ServeStep::allowed_serves_its_request, crate::proofs::AnswerStep::answers_its_request, crate::proofs::PostStep::nothing_to_execute, crate::proofs::PostStep::posting_is_a_step, crate::proofs::ExecuteStep::io_execution_is_a_step, crate::proofs::ExecuteStep::admin_execution_is_a_step))]
 pub fn postings_are_steps()
     ensures judged { JudgedAsItsRequest }
     ensures serves { AllowedServesItsRequest }

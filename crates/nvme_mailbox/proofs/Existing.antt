@@ -9,6 +9,7 @@ use Rattle.nvme_spec.proofs.Fencing.{performs-rest}
 use Rattle.nvme_machine.specs.FaultFree.{fault_free_command_execution}
 use Rattle.nvme_machine.proofs.Determined as machine_proofs
 use Rattle.nvme_mailbox.specs.Fleets.{Host}
+use Rattle.std.proofs.lemmas.List.{length-take}
 
 admin-by-calm : (j : Judgement) (command : Option AdminCommand) (s : Site) (k : ℕ) (a : Asked) → (admin_request_execution_by j command s k a).left.device.failures ≡ s.device.failures
 admin-by-calm (Ok u) (Some command) s k a = refl
@@ -37,10 +38,7 @@ lies-same old new e = record {
 
 -- bytes that are put in where a medium has some leave it no shorter
 put-in : (content : List ℕ) (at : ℕ) (bytes : List ℕ) → at ≤ length content → length content ≤ length (with_bytes content at bytes)
-put-in content at bytes fits =
-    let c = length-take-le at content fits in
-    let d = length-drop (at + length bytes) content in
-    omega (arith, length-append (take at content ++ bytes) (drop (at + length bytes) content), length-append (take at content) bytes, c, d)
+put-in content at bytes fits = simp (length-append, length-take, length-drop) (omega arith)
 
 -- what an allowed I/O command is known to have passed
 pub allowed-passes : (s : Site) (k : ℕ) (a : Asked) (marked : Bool) (plan : Plan) → io_verdict s.world k a marked ≡ Allowed plan → HasPassed s.world k (command_entry a) plan.kind

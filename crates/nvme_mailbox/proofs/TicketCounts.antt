@@ -11,10 +11,7 @@ use Rattle.nvme_mailbox.proofs.TicketRuns.{one-host, one-mailbox, drivers_stay, 
 -- The next tickets.
 
 pub counting-append : (a c d : ℕ) → counting a (c + d) ≡ counting a c ++ counting (a + c) d
-counting-append a zero d =
-    let e : zero + d ≡ d = omega arith in
-    let f : a ≡ a + zero = omega arith in
-    ap (counting a) e ∙ ap (λ n. counting n d) f
+counting-append a zero d = grind (arith, common_steps)
 counting-append a (suc c) d =
     let e : suc c + d ≡ suc (c + d) = omega arith in
     let f : a + 1 + c ≡ a + suc c = omega arith in
@@ -81,11 +78,7 @@ tickets_are_consecutive tells old new events replies run k m n at end = walk k m
 -- Once.
 
 below-small : (t a : ℕ) → below t a ≤ 1
-below-small t a = by (nat_lt t a)
-  where
-    by : (b : Bool) → (if b then 1 else 0) ≤ 1
-    by true = omega arith
-    by false = omega arith
+below-small t a = grind (arith, common_steps)
 
 next-below : (t a : ℕ) → is_ticket t a + below t a ≡ below t (a + 1)
 next-below t a = grind (arith, common_steps)

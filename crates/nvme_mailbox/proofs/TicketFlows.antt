@@ -109,9 +109,6 @@ rising-weighs : (w : ℕ → ℕ) (ts : List ℕ) → total w (rising ts) ≡ to
 rising-weighs w [] = refl
 rising-weighs w (t ∷ ts) = omega (arith, ranked-weighs w t (rising ts), rising-weighs w ts)
 
-lane-weighs : (w : ℕ → ℕ) (b : LaneBox) → total w (tickets_in b) ≡ items w b.placed + items w b.rung + posted w b.posted
-lane-weighs w b = simp (total-append, total-map)
-
 open-weighs : (w : ℕ → ℕ) (m : Mailbox) → total w (open_tickets m) ≡ waits w m + posts w m
 unfolding open_tickets
 open-weighs w m = simp (rising-weighs, total-append, total-map) (omega arith)
