@@ -182,10 +182,7 @@ far-queue : (c : Controller) (p : IsPaired c) (n : ℕ) → fetchable c (suc (su
 unfolding fetchable
 far-queue c p n =
     let e : submission_at c (suc (suc n)) ≡ None = ap (λ l. slice_index_or l (suc (suc n)) None) p.submission ∙ other-queue (Some (submission_as Admin p.admin)) (Some (submission_as Io p.io)) n in
-    elim (cases_Bool (nat_lt (length c.fetched) most_fetched)) [
-      | inl t ↦ rw (p.ready, t, e) refl
-      | inr t ↦ rw (p.ready, t) refl
-    ]
+    grind (arith, common_steps, p.ready, e)
 
 no-lane : (n : ℕ) → lane_at (suc (suc n)) ≡ None
 no-lane n = rw (ne_eqb (suc (suc n)) 0 (λ e. omega (arith, e)), ne_eqb (suc (suc n)) 1 (λ e. omega (arith, e))) refl

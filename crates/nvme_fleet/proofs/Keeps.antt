@@ -10,18 +10,10 @@ pub record Keeps (w w' : List ℕ) (p m : ℕ) : Type 0 where
   pub completions : (n : ℕ) → eqb (n % 32) m ≡ false → completion_bytes w' n ≡ completion_bytes w n
 
 apart-entries : (k p n : ℕ) → eqb k p ≡ false → n ≤ 64 → (64 * k + 64 ≤ 64 * p) ⊎ (64 * p + n ≤ 64 * k)
-apart-entries k p n q h =
-    elim (cases_lt k p) [
-      | inl l ↦ inl (omega (arith, l))
-      | inr g ↦ inr (let e = eqb-false k p q in omega (arith, g, e, h))
-    ]
+apart-entries k p n q h = elim (cases_lt k p) [ inl l ↦ inl (omega (arith, l)) | inr g ↦ inr (let e = eqb-false k p q in omega (arith, g, e, h)) ]
 
 apart-16 : (base k s : ℕ) → eqb k s ≡ false → (base + 16 * k + 16 ≤ base + 16 * s) ⊎ (base + 16 * s + 16 ≤ base + 16 * k)
-apart-16 base k s q =
-    elim (cases_lt k s) [
-      | inl l ↦ inl (omega (arith, l))
-      | inr g ↦ inr (let e = eqb-false k s q in omega (arith, g, e))
-    ]
+apart-16 base k s q = elim (cases_lt k s) [ inl l ↦ inl (omega (arith, l)) | inr g ↦ inr (let e = eqb-false k s q in omega (arith, g, e)) ]
 
 -- a new submission entry
 pub record Enters (w w' : List ℕ) (p : ℕ) (entry : List ℕ) : Type 0 where

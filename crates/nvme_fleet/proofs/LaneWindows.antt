@@ -49,18 +49,10 @@ unfolding pages_of
 pages-apart lane w bytes at i h = stored-apart w bytes at (submission_queue lane) 8192 i h
 
 apart-data : (base k s n : ℕ) → eqb k s ≡ false → n ≤ most_bytes → (base + most_bytes * k + most_bytes ≤ base + most_bytes * s) ⊎ (base + most_bytes * s + n ≤ base + most_bytes * k)
-apart-data base k s n q h =
-    elim (cases_lt k s) [
-      | inl l ↦ inl (omega (arith, l))
-      | inr g ↦ inr (let e = eqb-false k s q in omega (arith, g, e, h))
-    ]
+apart-data base k s n q h = elim (cases_lt k s) [ inl l ↦ inl (omega (arith, l)) | inr g ↦ inr (let e = eqb-false k s q in omega (arith, g, e, h)) ]
 
 apart-list : (base k s n : ℕ) → eqb k s ≡ false → n ≤ 4096 → (base + 4096 * k + 4096 ≤ base + 4096 * s) ⊎ (base + 4096 * s + n ≤ base + 4096 * k)
-apart-list base k s n q h =
-    elim (cases_lt k s) [
-      | inl l ↦ inl (omega (arith, l))
-      | inr g ↦ inr (let e = eqb-false k s q in omega (arith, g, e, h))
-    ]
+apart-list base k s n q h = elim (cases_lt k s) [ inl l ↦ inl (omega (arith, l)) | inr g ↦ inr (let e = eqb-false k s q in omega (arith, g, e, h)) ]
 
 pub lists-data : (w bytes : List ℕ) (s : ℕ) → length w ≡ 4194304 → s < 24 → length bytes ≤ most_bytes → listed (with_bytes w (data_area s) bytes) s ≡ listed w s
 lists-data w bytes s l h b = list-apart w bytes (data_area s) s (omega (arith, l, h, b)) (inl (omega (arith, h)))

@@ -79,10 +79,7 @@ EachIn P (Some u) = P u
 
 each-ranked : (P : ℕ → Type 0) (t : ℕ) (us : List ℕ) → P t → Each P us → Each P (ranked t us)
 each-ranked P t [] p q = (p, tt)
-each-ranked P t (u ∷ us) p q = elim (cases_Bool (nat_le t u)) [
-  | inl e ↦ rw e (p, q)
-  | inr e ↦ rw e (q.0, each-ranked P t us p q.1)
-]
+each-ranked P t (u ∷ us) p q = elim (cases_Bool (nat_le t u)) [ inl e ↦ rw e (p, q) | inr e ↦ rw e (q.0, each-ranked P t us p q.1) ]
 
 each-too : (P : ℕ → Type 0) (o : Option ℕ) (us : List ℕ) → EachIn P o → Each P us → Each P (ranked_too o us)
 each-too P None us p q = q
@@ -174,10 +171,7 @@ aborted-young first next (Some p) h = grind (arith, common_steps, h)
 
 waiting-old : (first next : ℕ) (o : Option Waiting) → AgeIn first next o → EachIn (λ u. first ≤ u) (waiting_ticket o)
 waiting-old first next None h = tt
-waiting-old first next (Some p) h = elim (cases_Bool p.live) [
-  | inl t ↦ rw t (rw t at h.0)
-  | inr t ↦ rw t tt
-]
+waiting-old first next (Some p) h = elim (cases_Bool p.live) [ inl t ↦ rw t (rw t at h.0) | inr t ↦ rw t tt ]
 
 -- once all are aborted, those that were stand before those that were not
 pub abort-all : (first next : ℕ) (slots : List (Option Waiting)) → Ages first next slots →

@@ -26,10 +26,7 @@ entered d c x w slot bytes list h = enters c.window x d.put (h.running).window (
 
 more-flight : (d : Host) (c : State) (x : List ℕ) (w : Waiting) (slot : ℕ) (bytes list : List ℕ) → Places d c x w slot bytes list →
     in_flight (placed d w slot bytes list) (placed_state d c x) ≡ in_flight d c + 1
-more-flight d c x w slot bytes list h =
-    let s : Running d c = h.running in
-    let n : in_flight d c < 7 = omega (arith, s.unheard, h.room) in
-    omega (arith, s.put, s.fetched, n)
+more-flight d c x w slot bytes list h = omega (arith, h.running.put, h.running.fetched, h.running.unheard, h.room)
 
 -- entries up to the tail stay, and the new one is the last
 stretch : (d : Host) (c : State) (x : List ℕ) (w : Waiting) (slot from n : ℕ) (bytes list : List ℕ) → Places d c x w slot bytes list → from < 8 → n ≡ (d.put + 8 - from) % 8 →

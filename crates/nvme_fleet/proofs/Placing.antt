@@ -2,6 +2,8 @@
 use Rattle.nvme_fleet.proofs.Words.{same_Some, held, ranked, Waiting, ◌≡◌, ℕ, ◌+◌, ◌<◌, ◌≤◌, List, [], ◌∷◌, length, refl, ap, sym, ◌∙◌, arith, true, false, cond, eqb, Option, Some, None, inl, inr, suc, length-map, cases_Bool, lt-ltb, le-ltb, cases_lt, common_steps, position, position_or_len, is_none, nat_le, waiting_at, Running, live_in, live_waiting, total, Lane, Admin, Io, same, Driver, is_up, FetchedCommand, Controller, lane_of_queue, Both, slots_in, commands_in, host, state, fetched_by, held_by, ranked_too, in_order, aborted_number, mailbox}
 use Rattle.nvme_fleet.proofs.Queues.{box-live}
 use Rattle.nvme_fleet.proofs.LaneSlots.{live-of}
+use Rattle.std.proofs.lemmas.List.Quantifiers.{position-Some}
+use Rattle.std.proofs.lemmas.Option.{slice_get-get_or}
 
 -- the slots without lanes: both lanes' live ones, and those that were aborted
 abbrev filled : Option Waiting → ℕ
@@ -31,16 +33,8 @@ first-none (Some p ∷ xs) h = omega (arith, first-none xs (omega (arith, h)))
 
 pub free-some : (slots : List (Option Waiting)) (i : ℕ) → position is_none slots ≡ Some i → (i < length slots) × (waiting_at slots i ≡ None)
 free-some slots i h =
-    elim (cases_lt (position_or_len is_none slots) (length slots)) [
-      | inl l ↦
-          let t = lt-ltb (position_or_len is_none slots) (length slots) l in
-          let e : position_or_len is_none slots ≡ i = same_Some _ _ (sym (ap (λ b. cond b (Some (position_or_len is_none slots)) None) t) ∙ h) in
-          (omega (arith, l, e), rw (← e) (first-some slots l).0)
-      | inr g ↦
-          let t = le-ltb (position_or_len is_none slots) (length slots) g in
-          let e : None ≡ Some i = sym (ap (λ b. cond b (Some (position_or_len is_none slots)) None) t) ∙ h in
-          absurd cc
-    ]
+    let p = position-Some is_none slots i None h in
+    (p.0, grind (arith, common_steps, slice_get-get_or slots i None p.0, p.1))
 
 free-none : (slots : List (Option Waiting)) → is_none (position is_none slots) ≡ eqb (total filled slots) (length slots)
 free-none slots =

@@ -40,20 +40,11 @@ new-is : (lane : Lane) (d : Driver) (w : List ℕ) → (ends lane d).head.consum
 new-is lane d w h = rw (bytes-in lane w (ends lane d).head.consumed, tag-is (ends lane d).head.consumed h) refl
 
 new-none : (lane : Lane) (d : Driver) (w : List ℕ) → (ends lane d).head.consumed < 64 → next_completion (host lane d w) (pages_of lane w) ≡ None → poll.new_in lane (ends lane d) w ≡ None
-new-none lane d w h e = elim (cases_Bool (is_next lane d w)) [
-  | inl t ↦ absurd (some-none _ (sym (ap (λ b. cond b (Some (completion_of (completion_bytes (pages_of lane w) (host lane d w).consumed))) None) t) ∙ e))
-  | inr t ↦ new-is lane d w h ∙ ap (λ b. if b then Some (completion_bytes (pages_of lane w) (ends lane d).head.consumed) else None) t
-]
-  where
-    some-none : (x : Completion) → Some x ≡ None → ⊥
-    some-none x h = cc
+new-none lane d w h e = grind (arith, common_steps, new-is lane d w h, e)
 
 new-some : (lane : Lane) (d : Driver) (w : List ℕ) (x : Completion) → (ends lane d).head.consumed < 64 → next_completion (host lane d w) (pages_of lane w) ≡ Some x
     → poll.new_in lane (ends lane d) w ≡ Some (completion_bytes (pages_of lane w) (ends lane d).head.consumed)
-new-some lane d w x h e = elim (cases_Bool (is_next lane d w)) [
-  | inl t ↦ new-is lane d w h ∙ ap (λ b. if b then Some (completion_bytes (pages_of lane w) (ends lane d).head.consumed) else None) t
-  | inr t ↦ absurd (none-some x (sym (ap (λ b. cond b (Some (completion_of (completion_bytes (pages_of lane w) (host lane d w).consumed))) None) t) ∙ e))
-]
+new-some lane d w x h e = grind (arith, common_steps, new-is lane d w h, e)
 
 -- Aborted requests.
 

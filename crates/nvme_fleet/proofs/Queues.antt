@@ -8,19 +8,13 @@ turn s a = omega arith
 
 -- the entries of two stretches, one behind the other
 pub commands-append : (w : List ℕ) (s : ℕ) (a b : ℕ) → s < 8 → commands w s (a + b) ≡ commands w s a ++ commands w ((s + a) % 8) b
-commands-append w s zero b h =
-    let e : (s + 0) % 8 ≡ s = omega arith in
-    let z : 0 + b ≡ b = omega arith in
-    rw (e, z) refl
+commands-append w s zero b h = grind (arith, common_steps, h)
 commands-append w s (suc a) b h =
     let e : suc a + b ≡ suc (a + b) = omega arith in
     rw e (ap (λ t. command_at w s ∷ t) (rw (turn s a) at (commands-append w ((s + 1) % 8) a b (omega arith))))
 
 pub completions-append : (w : List ℕ) (n a b : ℕ) → n < 64 → completions w n (a + b) ≡ completions w n a ++ completions w ((n + a) % 64) b
-completions-append w n zero b h =
-    let e : (n + 0) % 64 ≡ n = omega arith in
-    let z : 0 + b ≡ b = omega arith in
-    rw (e, z) refl
+completions-append w n zero b h = grind (arith, common_steps, h)
 completions-append w n (suc a) b h =
     let e : suc a + b ≡ suc (a + b) = omega arith in
     let t : ((n + 1) % 64 + a) % 64 ≡ (n + suc a) % 64 = omega arith in

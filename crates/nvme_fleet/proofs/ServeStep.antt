@@ -98,10 +98,7 @@ marks-same command x y o q f e =
 
 -- the bytes that come with the answer
 handed : (why : Status) (received : ℕ) (returned : List ℕ) → (is_success why ≡ true → length returned ≡ received) → take (answer_len received why) returned ≡ bytes_with why returned
-handed why received returned h = elim (cases_Bool (is_success why)) [
-  | inl t ↦ rw t (let l = h t in take_all received returned (omega (arith, l)))
-  | inr t ↦ rw t refl
-]
+handed why received returned h = grind (arith, common_steps, take_all received returned, h)
 
 enough : (why : Status) (received : ℕ) (returned : List ℕ) → (is_success why ≡ true → length returned ≡ received) → answer_len received why ≤ length returned
 enough why received returned h = grind (arith, common_steps, h)

@@ -138,21 +138,16 @@ opening_has_tickets_once c v i d found = opened-each c.controllers i d found
 
 borne-twice : (d : Driver) (i j : ℕ) (v w : Waiting) → HasTicketsOnce d → eqb j i ≡ false → waiting_at d.slots i ≡ Some v → waiting_at d.slots j ≡ Some w → v.ticket.0 ≡ w.ticket.0 → ⊥
 borne-twice d i j v w one apart here there same =
-    let t : ℕ = v.ticket.0 in
-    let p : bears t (Some v) ≡ 1 = ap (λ (x : Bool). if x then 1 else 0) (eq-eqb v.ticket.0 t refl) in
-    let q : bears t (Some w) ≡ 1 = ap (λ (x : Bool). if x then 1 else 0) (eq-eqb w.ticket.0 t (sym same)) in
-    let few = one t in
-    omega (arith, once_proofs.taken t d.slots i v here, once_proofs.taken t (slice_set d.slots i None) j w (pending-other d.slots i j apart ∙ there), p, q, few)
+    let a = once_proofs.taken v.ticket.0 d.slots i v here in
+    let b = once_proofs.taken v.ticket.0 (slice_set d.slots i None) j w (pending-other d.slots i j apart ∙ there) in
+    grind (arith, common_steps, a, b, same, one v.ticket.0)
 
 oldest-slot : (d : Driver) (i j : ℕ) (t u : Ticket) → HasTicketsOnce d → aborted_at d.slots i ≡ Some t → aborted_at d.slots j ≡ Some u → t.0 ≤ u.0 → u.0 ≤ t.0 → j ≡ i
 oldest-slot d i j t u one here there low high =
     let a = once_proofs.aborted-is (waiting_at d.slots i) t here in
     let b = once_proofs.aborted-is (waiting_at d.slots j) u there in
     let same : a.0.ticket.0 ≡ b.0.ticket.0 = ap (λ (x : Ticket). x.0) a.2 ∙ omega (arith, low, high) ∙ sym (ap (λ (x : Ticket). x.0) b.2) in
-    elim (cases_Bool (eqb j i)) [
-      | inl is ↦ eqb-true j i is
-      | inr apart ↦ absurd (borne-twice d i j a.0 b.0 one apart a.1 b.1 same)
-    ]
+    elim (cases_Bool (eqb j i)) [ inl is ↦ eqb-true j i is | inr apart ↦ absurd (borne-twice d i j a.0 b.0 one apart a.1 b.1 same) ]
 
 oldest-alone : (d : Driver) (o p : Option ℕ) → HasTicketsOnce d → IsOldest d.slots o → IsOldest d.slots p → p ≡ o
 oldest-alone d None None one h g = refl

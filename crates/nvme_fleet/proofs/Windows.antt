@@ -16,6 +16,4 @@ stored-apart w bytes at from n fits (inl before) = same_lists _ _ (search (rules
 stored-apart w bytes at from n fits (inr behind) = same_lists _ _ (search (rules, places)) (λ k d h. grind (arith, places))
 
 pub stored-none : (w : List ℕ) (at : ℕ) → with_bytes w at [] ≡ w
-stored-none w at =
-    let e : at + 0 ≡ at = omega arith in
-    ap (λ t. t ++ drop (at + 0) w) (append-nil (take at w)) ∙ ap (λ n. take at w ++ drop n w) e ∙ take-append-drop at w
+stored-none w at = same_lists _ _ (search (rules, places)) (λ k d h. grind (arith, places))

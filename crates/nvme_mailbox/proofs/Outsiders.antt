@@ -1,5 +1,5 @@
 -- Hosts that have no key for a namespace: what any reservation command makes of them.
-use Rattle.nvme_mailbox.proofs.Words.{◌≡◌, ◌≢◌, inl, inr, ℕ, ◌==◌, ◌||◌, ◌&&◌, ◌++◌, Bool, true, false, cond, not, nat_lt, List, [], ◌∷◌, filter, Option, None, Some, Ok, Err, refl, sym, ap, subst, ◌∙◌, map, find, option_map, if◌then◌else◌, list_any, or_parts, eqb-true, eqb-false, ne_eqb, cases_Bool, none-some, same_Some, Write as Writing, Command, ReservationRegister, ReservationAcquire, ReservationRelease, action, cptpl, iekey, rtype, world_after, removed_by, current_key, other_key, key_outcome, action_outcome, outcome_in, permits_group, reservation_of, Reservation, ActionOutcome, is_registered, is_registered_with, is_key_in_use, is_holders_key, is_holder, is_of_type, is_of_all, is_free, with_key, removed_hosts, World, Namespace, namespace_of, with_namespace, with_reservation, others-reserved, IsOutside}
+use Rattle.nvme_mailbox.proofs.Words.{◌≡◌, ◌≢◌, inl, inr, ℕ, ◌==◌, ◌||◌, ◌&&◌, ◌++◌, Bool, true, false, cond, not, nat_lt, List, [], ◌∷◌, filter, Option, None, Some, Ok, Err, refl, sym, ap, subst, ◌∙◌, map, find, option_map, if◌then◌else◌, list_any, or_parts, eqb-true, eqb-false, ne_eqb, cases_Bool, none-some, same_Some, Write as Writing, Command, ReservationRegister, ReservationAcquire, ReservationRelease, action, cptpl, iekey, rtype, world_after, removed_by, current_key, other_key, key_outcome, action_outcome, outcome_in, permits_group, reservation_of, Reservation, ActionOutcome, is_registered, is_registered_with, is_key_in_use, is_holders_key, is_holder, is_of_type, is_of_all, is_free, with_key, removed_hosts, World, Namespace, namespace_of, with_namespace, with_reservation, others-reserved, IsOutside, common_steps, arith}
 use Rattle.nvme_spec.specs.declared.access.Registrant.{Registrant}
 use Rattle.nvme_spec.specs.declared.access.Hold.{Hold}
 use Rattle.nvme_spec.specs.declared.access.Hold.TheVariants.{Free, One, All}
@@ -17,12 +17,7 @@ IsOut host r = is_registered r.registrants host ≡ false
 filtered-out : (q : Registrant → Bool) (xs : List Registrant) (host : ℕ) → is_registered xs host ≡ false → is_registered (filter q xs) host ≡ false
 filtered-out q [] host h = refl
 filtered-out q (x ∷ xs) host h =
-    let two = or_parts (x.host == host) (is_registered xs host) h in
-    let rest = filtered-out q xs host two.1 in
-    elim (q x) as (λ b. is_registered (cond b (x ∷ filter q xs) (filter q xs)) host ≡ false) [
-      | true ↦ ap (λ b. b || is_registered (filter q xs) host) two.0 ∙ rest
-      | false ↦ rest
-    ]
+    let two = or_parts (x.host == host) (is_registered xs host) h in grind (arith, common_steps, two.0, filtered-out q xs host two.1)
 
 joined-out : (xs ys : List Registrant) (host : ℕ) → is_registered xs host ≡ false → is_registered ys host ≡ false → is_registered (xs ++ ys) host ≡ false
 joined-out [] ys host h k = k
@@ -40,21 +35,7 @@ keyed-out xs by key host other h =
 -- what was removed is registered no more
 removed-out : (before after : List Registrant) (host : ℕ) → list_any (λ h. h == host) (removed_hosts before after) ≡ true → is_registered after host ≡ false
 removed-out [] after host h = absurd (cc)
-removed-out (x ∷ xs) after host h = by (is_registered after x.host) refl (removed-out xs after host) h
-  where
-    rest : List ℕ
-    rest = removed_hosts xs after
-
-    one : (c : Bool) → (x.host == host) ≡ c → is_registered after x.host ≡ false → (list_any (λ h. h == host) rest ≡ true → is_registered after host ≡ false)
-        → (c || list_any (λ h. h == host) rest) ≡ true → is_registered after host ≡ false
-    one true f e again l = ap (is_registered after) (sym (eqb-true x.host host f)) ∙ e
-    one false f e again l = again l
-
-    by : (b : Bool) → is_registered after x.host ≡ b → (list_any (λ h. h == host) rest ≡ true → is_registered after host ≡ false)
-        → list_any (λ h. h == host) (map (λ r. r.host) (cond (not b) (x ∷ filter (λ r. not (is_registered after r.host)) xs) (filter (λ r. not (is_registered after r.host)) xs))) ≡ true
-        → is_registered after host ≡ false
-    by true e again k = again k
-    by false e again k = one (x.host == host) refl e again k
+removed-out (x ∷ xs) after host h = grind (arith, common_steps, removed-out xs after host, h)
 
 -- Actions.
 

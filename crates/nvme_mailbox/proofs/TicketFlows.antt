@@ -1,5 +1,5 @@
 -- What becomes of tickets in one event of their host.
-use Rattle.nvme_mailbox.proofs.Words.{reset, ◌≡◌, inl, inr, ℕ, ◌+◌, nat_le, Bool, true, false, List, [], ◌∷◌, map, Some, refl, sym, ap, subst, arith, if◌then◌else◌, slice_get, Lane, Admin, Io, asked_of, Item, FetchedItem, PostedAnswer, LaneBox, Mailbox, box_at, with_box, lane_of, tickets_in, ranked, rising, open_tickets, names, with_mark, new_item, with_placed, RequestExecution, after_answer, with_posted, total, waiting, posted_answers, waiting_tickets, answered_tickets, held_tickets, given_in, done_in, aborted_in, Posted, FleetSeen, where_posted, remove}
+use Rattle.nvme_mailbox.proofs.Words.{reset, ◌≡◌, inl, inr, ℕ, ◌+◌, nat_le, Bool, true, false, List, [], ◌∷◌, map, Some, refl, sym, ap, subst, arith, if◌then◌else◌, slice_get, Lane, Admin, Io, asked_of, Item, FetchedItem, PostedAnswer, LaneBox, Mailbox, box_at, with_box, lane_of, tickets_in, ranked, rising, open_tickets, names, with_mark, new_item, with_placed, RequestExecution, after_answer, with_posted, total, waiting, posted_answers, waiting_tickets, answered_tickets, held_tickets, given_in, done_in, aborted_in, Posted, FleetSeen, where_posted, remove, common_steps}
 use Rattle.nvme_mailbox.specs.Mailboxes.{with_marks}
 use Rattle.nvme_event.specs.declared.seen.FleetSeen.TheVariants as seen
 use Rattle.nvme_mailbox.proofs.MailboxMarks.{DiffersInMarks}
@@ -69,11 +69,7 @@ stays w m n p q r = record {
 
 taken-marked : (w : ℕ → ℕ) (ns : ℕ) (xs : List FetchedItem) → taken w (map (with_mark ns) xs) ≡ taken w xs
 taken-marked w ns [] = refl
-taken-marked w ns (x ∷ xs) = λ i. by (names ns x) i + taken-marked w ns xs i
-  where
-    by : (b : Bool) → w (if b then record x { marked = true } else x).item.ticket ≡ w x.item.ticket
-    by true = refl
-    by false = refl
+taken-marked w ns (x ∷ xs) = grind (arith, common_steps, taken-marked w ns xs)
 
 pub marks_flow : (w : ℕ → ℕ) (m n : Mailbox) → DiffersInMarks m n → Flow w m n 0 0 0 0
 marks_flow w m n (inl e) = subst (λ x. Flow w m x 0 0 0 0) (sym e) (stays w m m refl refl refl)
@@ -99,11 +95,7 @@ hands-up w Io first rest m h = record { dropped = 0; lost = 0; waits = omega ari
 
 ranked-weighs : (w : ℕ → ℕ) (t : ℕ) (us : List ℕ) → total w (ranked t us) ≡ w t + total w us
 ranked-weighs w t [] = refl
-ranked-weighs w t (u ∷ us) = by (ranked-weighs w t us) (nat_le t u)
-  where
-    by : total w (ranked t us) ≡ w t + total w us → (b : Bool) → total w (if b then t ∷ u ∷ us else u ∷ ranked t us) ≡ w t + (w u + total w us)
-    by e true = refl
-    by e false = omega (arith, e)
+ranked-weighs w t (u ∷ us) = grind (arith, common_steps, ranked-weighs w t us)
 
 rising-weighs : (w : ℕ → ℕ) (ts : List ℕ) → total w (rising ts) ≡ total w ts
 rising-weighs w [] = refl

@@ -9,7 +9,4 @@ total-append f (x ∷ xs) ys = omega (arith, total-append f xs ys)
 pub total-removed : {A : Type 0} (f : A → ℕ) (xs : List A) (i : ℕ) (x : A) → slice_get xs i ≡ Some x → f x + total f (remove xs i) ≡ total f xs
 total-removed f [] i x h = absurd cc
 total-removed f (y ∷ ys) zero x h = ap (λ z. f z + total f ys) (sym (same_Some y x h))
-total-removed f (y ∷ ys) (suc i) x h =
-    let k : f x + total f (remove ys i) ≡ total f ys = total-removed f ys i x h in
-    let e : total f (remove (y ∷ ys) (suc i)) ≡ f y + total f (remove ys i) = refl in
-    omega (arith, k, e)
+total-removed f (y ∷ ys) (suc i) x h = omega (arith, total-removed f ys i x h)
