@@ -1,5 +1,5 @@
 -- How long the data are that an admin command gives back.
-use Rattle.nvme_fleet.proofs.Words.{◌≡◌, ℕ, ◌+◌, ◌*◌, ◌≤◌, nat_lt, ◌==◌, ◌&&◌, Bool, true, false, cond, List, [], ◌∷◌, length, filter, Option, None, Some, refl, ◌∙◌, arith, length-append, length-replicate, flat_map, if◌then◌else◌, AllByRecursion, range_with_len, nsid, World, Namespace, namespace_of, is_attached, cns, namespace_structure, controller_structure, identify_data, common_steps}
+use Rattle.nvme_fleet.proofs.Words.{◌≡◌, ℕ, ◌+◌, ◌*◌, ◌≤◌, nat_lt, ◌==◌, ◌&&◌, Bool, true, false, List, [], ◌∷◌, length, filter, Option, None, Some, refl, ◌∙◌, arith, length-append, length-replicate, flat_map, if◌then◌else◌, AllByRecursion, range_with_len, nsid, World, Namespace, namespace_of, is_attached, cns, namespace_structure, controller_structure, identify_data, common_steps}
 use Rattle.std.specs.Int.{w32, to_le_bytes}
 use Rattle.nvme_spec.specs.Identify.{Field, with_fields, no_fields, namespace_fields, controller_fields, identify_namespace, identify_controller, namespace_list, identify_attached}
 use Rattle.nvme_spec.proofs.Splices.{length-with_bytes}

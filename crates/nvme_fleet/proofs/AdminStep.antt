@@ -39,27 +39,24 @@ list-is : (d : Driver) (c : Controller) (t : FetchedCommand) (w : World) (h : Is
     ≡ rules.list_rule (command_of (opcode (command_entry (asked_by d c t)))) w (command_entry (asked_by d c t)) (asked_by d c t).sent
 list-is d c t w h =
     let p = h.plain in
-    let same = h.held.same in
     ap (λ o. rules.list_rule o w t.entry (rules.data_of c.window t.entry)) p.named
     ∙ list-matters w t.entry (rules.data_of c.window t.entry) (asked_by d c t).sent p.command (asked_by d c t).received (asked_by d c t).moved p.moves h.gathers
-    ∙ sym (list-same w t.entry (command_entry (asked_by d c t)) (asked_by d c t).sent p.command p.asked same)
-    ∙ sym (ap (λ o. rules.list_rule o w (command_entry (asked_by d c t)) (asked_by d c t).sent) (ap command_of same.opcode ∙ p.named))
+    ∙ sym (list-same w t.entry (command_entry (asked_by d c t)) (asked_by d c t).sent p.command p.asked h.held.same)
+    ∙ sym (ap (λ o. rules.list_rule o w (command_entry (asked_by d c t)) (asked_by d c t).sent) (ap command_of h.held.same.opcode ∙ p.named))
 
 -- the same judgement
 judged : (d : Driver) (c : Controller) (t : FetchedCommand) (w : World) (cntlid : ℕ) (h : IsAdmin d c t)
     → rules.admin_judgement w (queues_of c) cntlid t.entry c.window ≡ admin_judgement w cntlid (asked_by d c t)
 unfolding rules.admin_judgement admin_judgement
 judged d c t w cntlid h =
-    let p = h.plain in
-    let k = h.held in
     let passes : judgement_by (pointer_rule (data_length_of (command_of (opcode t.entry)) t.entry) c.window t.entry) ≡ Ok tt =
-    ap (λ n. judgement_by (pointer_rule n c.window t.entry)) (sym h.length_is) ∙ pointer-passes c.window (cid t.entry) t.entry (asked_by d c t).moved k.moves in
+    ap (λ n. judgement_by (pointer_rule n c.window t.entry)) (sym h.length_is) ∙ pointer-passes c.window (cid t.entry) t.entry (asked_by d c t).moved h.held.moves in
     without-pointer (rules.admin_access_rules w (queues_of c) cntlid t.entry) (pointer_rule (data_length_of (command_of (opcode t.entry)) t.entry) c.window t.entry)
     (rules.list_rule (command_of (opcode t.entry)) w t.entry (rules.data_of c.window t.entry)) passes
     ∙ ap (λ r. first_failing (rules.admin_access_rules w (queues_of c) cntlid t.entry ++ r ∷ [])) (list-is d c t w h)
     ∙ ap (λ qs. first_failing (rules.admin_access_rules w qs cntlid t.entry ++ rules.list_rule (command_of (opcode (command_entry (asked_by d c t)))) w (command_entry (asked_by d c t)) (asked_by d c t).sent ∷ [])) h.queues
     ∙ ap (λ rs. first_failing (rs ++ rules.list_rule (command_of (opcode (command_entry (asked_by d c t)))) w (command_entry (asked_by d c t)) (asked_by d c t).sent ∷ []))
-    (sym (admin-access-same w queue_pairs cntlid t.entry (command_entry (asked_by d c t)) p.command p.asked p.named k.same))
+    (sym (admin-access-same w queue_pairs cntlid t.entry (command_entry (asked_by d c t)) h.plain.command h.plain.asked h.plain.named h.held.same))
 
 pub admin_judged_as_its_request : AdminJudgedAsItsRequest
 admin_judged_as_its_request d c i t x w cntlid s g f q =
@@ -130,18 +127,15 @@ said-by tells d c i t x w device cntlid h g f q command named a m (Err e) n judg
       },
     )
 said-by tells d c i t x w device cntlid h g f q command named a m (Ok u) n judges =
-    let k = h.held in
-    let same = k.same in
-    let suits = k.suited in
+    let same = h.held.same in
     let moved : (asked_by d c t).moved ≡ data_length command t.entry = h.length_is ∙ ap (λ o. data_length_of o t.entry) named in
     let size = length-out w cntlid t.entry command (asked_by d c t).received (asked_by d c t).moved a moved m in
-    let less = suits.less in
-    let back = k.received in (
+    let back = h.held.received in (
       keeps-queues t.entry command a,
       record {
         bytes = data_out w cntlid command t.entry;
-        window = stands-there d c t h (data_out w cntlid command t.entry) (data_length command t.entry) moved (omega (arith, size, less));
-        few = omega (arith, size, less, suits.most);
+        window = stands-there d c t h (data_out w cntlid command t.entry) (data_length command t.entry) moved (omega (arith, size, h.held.suited.less));
+        few = omega (arith, size, h.held.suited.less, h.held.suited.most);
         whole = omega (arith, size, back);
         comes_to = as-admin tells cntlid x (asked_by d c t) (record { world = w; device = device }) _ (Ok u) command (lane-at Admin d c i t x h.held g f (ap lane_of_queue q)) (asked-at Admin d c i t x g f (ap lane_of_queue q)) judges (ap command_of same.opcode ∙ named)
             (served-with d c t w device cntlid h command a m size);

@@ -1,5 +1,5 @@
 -- A controller that fetches from its admin queue alone executes admin commands alone, and these mark nothing.
-use Rattle.nvme_fleet.proofs.Words.{all-filter, all-joined, ◌≡◌, ℕ, ◌+◌, ◌==◌, Bool, true, false, List, length, Option, None, Some, refl, sym, ap, subst, ◌∙◌, slice_get, nat_le, if◌then◌else◌, AllByRecursion, QueueChange, DropSq, AdminQueues, RegEffect, Enable, Disable, with_bytes, no_marks, window_size, World, FetchedCommand, Executed, NoSuch, CqFull, Stored, Outside, CommandComesTo, CommandComesToAs, CommandExecution, Controller, SubmissionQueue, QueuePair, reaction, queues_of, open_pair, after_store, after_write32, after_fetch, fetched_from, fetchable, taking_effect, with_admin_queues, after_posting, after_queue_change, Setting, FinishesOne, FinishesOver, scene_in, after_completion, unmarked, Call, Stores, Writes, Turns, marks_after, fetch-id, LinkStep, with_controller, [], after_call, ◌∷◌}
+use Rattle.nvme_fleet.proofs.Words.{all-filter, all-joined, ◌≡◌, ℕ, ◌+◌, ◌==◌, Bool, true, false, List, length, Option, None, Some, refl, sym, ap, subst, ◌∙◌, slice_get, nat_le, if◌then◌else◌, AllByRecursion, QueueChange, DropSq, AdminQueues, RegEffect, Enable, Disable, with_bytes, window_size, World, FetchedCommand, Executed, NoSuch, CqFull, Stored, Outside, CommandComesTo, CommandComesToAs, CommandExecution, Controller, SubmissionQueue, QueuePair, reaction, queues_of, open_pair, after_store, after_write32, after_fetch, fetched_from, fetchable, taking_effect, with_admin_queues, after_posting, after_queue_change, Setting, FinishesOne, FinishesOver, scene_in, after_completion, unmarked, Call, Stores, Writes, Turns, marks_after, fetch-id, LinkStep, with_controller, [], after_call, ◌∷◌}
 use Rattle.nvme_mailbox.proofs.Lists.{all-get, all-removed}
 use Rattle.nvme_spec.specs.Registers as register
 use Rattle.nvme_machine.specs.Subsystems.{marked_from}
@@ -68,9 +68,8 @@ over-quiet None tells t old x left is h f = left-alone old left x CqFull f.0 (λ
 over-quiet (Some p) tells t old x left is h f =
     let a : CommandExecution = f.execution in
     let admin = subst (λ b. CommandComesToAs b tells (queues_of old.controller) old.controller.cntlid t (scene_in old) a) is f.comes_to in
-    let none : a.outcome.marks ≡ no_marks = ap (λ (y : CommandExecution). y.outcome.marks) admin in
     record {
-      marks = λ w cs. ap (λ z. marks_after w z cs) f.gives ∙ ap (λ m. marked_from w m 1 cs) none ∙ unmarked w 1 cs;
+      marks = λ w cs. ap (λ z. marks_after w z cs) f.gives ∙ ap (λ m. marked_from w m 1 cs) (ap (λ (y : CommandExecution). y.outcome.marks) admin) ∙ unmarked w 1 cs;
       admin = subst AreAdmin (sym f.controller)
           (change-admin a.change (after_posting 0 t p a.outcome.status a.outcome.dw0 (record old.controller { window = a.left.window })) (all-removed IsAdmin old.controller.fetched 0 h));
     }

@@ -53,12 +53,11 @@ run_calls_are_unique old new other (e ∷ events) (x ∷ later) (y ∷ others) c
     let q' = run-counted now other events others (layer_calls_are_of_a_run true now other events others rest ran) in
     let calm : AreCalm old.subsystem mid.subsystem now.subsystem = record { one = omega (arith, p, q, a); two = omega (arith, p', q', b); below = below } in
     let same : now ≡ mid = (layers-alone old mid now e x y calm all one two).1 in
-    let still : count mid.subsystem ≡ count old.subsystem = calm.one in
     let first : own ≡ here = step_calls_are_unique true old mid now e x y here own content s.mid t.mid step stepped s.first t.first in
     let reached : t.mid ≡ s.mid = content-alone here content s.mid t.mid s.first (subst (λ cs. Calls content_step content cs t.mid) first t.first) in
     let after : rest ≡ behind = run_calls_are_unique mid new other events later others behind rest s.mid left right (happens-once true old mid e x.seen one.below all) run
     (subst (λ l. AreCallsOfRun true l events others other rest) same ran) s.rest (subst (λ c. Calls content_step c rest right) reached t.rest)
-    (a ∙ sym still) (b ∙ sym still) (low mid.subsystem (count old.subsystem) still below) in
+    (a ∙ sym calm.one) (b ∙ sym calm.one) (low mid.subsystem (count old.subsystem) calm.one below) in
     made_of ∙ (ap (λ cs. cs ++ rest) first ∙ (ap (λ cs. here ++ cs) after ∙ sym joined))
 
 -- A Flush.
@@ -70,7 +69,6 @@ given-is other o h = absurd (cc)
 
 pub flushed_is_one_flush : FlushedIsOneFlush
 flushed_is_one_flush tells old new k i reply outcome calls h posted flush ok =
-    let below = h.below in
-    let is = given-is below.given outcome (sym below.gives ∙ posted) in
+    let is = given-is h.below.given outcome (sym h.below.gives ∙ posted) in
     machine_laws.flushed_is_one_flush tells old.subsystem new.subsystem k i outcome calls
-    (subst (λ x. machine.AreCallsOfStep tells old.subsystem (event.Execute k i) x new.subsystem calls) is below.step) flush ok
+    (subst (λ x. machine.AreCallsOfStep tells old.subsystem (event.Execute k i) x new.subsystem calls) is h.below.step) flush ok

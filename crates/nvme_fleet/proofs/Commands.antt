@@ -1,5 +1,5 @@
 -- A command that suits its slot: its fields, and the same command as its request is judged by.
-use Rattle.nvme_fleet.proofs.Words.{◌≡◌, ℕ, ◌^◌, ◌<◌, ◌≤◌, true, List, length, take, sym, ap, subst, ◌∙◌, arith, inl, inr, and_parts, cases_Bool, bytes_eq-Decides, bytes_eq, nat_le, leb-true, SqeFields, submission_entry, submission_of, opcode, fuse, psdt, cid, nsid, cdw10, cdw11, cdw12, FitsSqeFields, submission_is_read_back, submission_is_plain, most_bytes, stored_list, first_entry, second_entry, entry_fields, Slot, asked_in, suits, is_plain, command_entry, command_fields, common_steps}
+use Rattle.nvme_fleet.proofs.Words.{◌≡◌, ℕ, ◌^◌, ◌<◌, ◌≤◌, true, List, length, take, sym, ap, subst, ◌∙◌, arith, and_parts, bytes_eq-Decides, bytes_eq, leb-true, SqeFields, submission_entry, submission_of, opcode, fuse, psdt, cid, nsid, cdw10, cdw11, cdw12, FitsSqeFields, submission_is_read_back, submission_is_plain, most_bytes, stored_list, first_entry, second_entry, entry_fields, Slot, asked_in, suits, is_plain, command_entry, command_fields, common_steps}
 
 -- what suits says
 pub record IsSuited (s : Slot) (x : List ℕ) : Type 0 where
@@ -95,11 +95,10 @@ same-fields s x h k =
     let b = submission_is_read_back (command_fields (asked_in s x)) g in
     let p = submission_is_plain (entry_fields (asked_in s x) (cid x)) (fits-entry s x h k) in
     let q = submission_is_plain (command_fields (asked_in s x)) g in
-    let e = h.spelled in
     record {
       opcode = ap (λ (z : SqeFields). z.opcode) b;
-      fuse = q.0 ∙ sym (ap fuse e ∙ p.0);
-      psdt = q.1 ∙ sym (ap psdt e ∙ p.1);
+      fuse = q.0 ∙ sym (ap fuse h.spelled ∙ p.0);
+      psdt = q.1 ∙ sym (ap psdt h.spelled ∙ p.1);
       nsid = ap (λ (z : SqeFields). z.nsid) b;
       cdw10 = ap (λ (z : SqeFields). z.cdw10) b;
       cdw11 = ap (λ (z : SqeFields). z.cdw11) b;

@@ -24,14 +24,13 @@ pair-head d c i t p s g e =
 pub completion-fits : (lane : Lane) (d : Driver) (c : Controller) (i : ℕ) (t : FetchedCommand) (p : QueuePair) (a : CommandExecution) → Sound d c → slice_get c.fetched i ≡ Some t → t.queue ≡ queue_id lane
     → open_pair c t ≡ Some p → Fits a.outcome.status × (a.outcome.dw0 < 2 ^ 32) → FitsCompletion (fields_of t p a)
 completion-fits lane d c i t p a s g q e f =
-    let status = f.0 in
     record {
       dw0 = f.1;
       sq_head = omega (arith, pair-head d c i t p s g e);
       sq_id = omega (arith, q, queue-small lane);
       cid = omega (arith, (held-known lane d c i t s g (ap lane_of_queue q ∙ lane-back lane)).within);
-      sct = status.0;
-      sc = status.1;
+      sct = f.0.0;
+      sc = f.0.1;
     }
   where
     queue-small : (l : Lane) → queue_id l < 2
@@ -95,8 +94,7 @@ io-postable tells d i t p old a s g q e h =
 pub io_execution_is_a_step : IoExecutionIsAStep
 io_execution_is_a_step tells d i t old executed new s g q h =
     let f = finishes tells d i t old executed new s g h in
-    let y = f.2 in
-    finished tells d i t f.0 old executed new s g f.1 y (io-postable tells d i t f.0 old y.execution s g q f.1 y.comes_to)
+    finished tells d i t f.0 old executed new s g f.1 f.2 (io-postable tells d i t f.0 old f.2.execution s g q f.1 f.2.comes_to)
 
 -- Of the admin lane.
 
@@ -120,8 +118,7 @@ admin-postable tells d i t p old a s g q e h =
 pub admin_execution_is_a_step : AdminExecutionIsAStep
 admin_execution_is_a_step tells d i t old executed new s g q h =
     let f = finishes tells d i t old executed new s g h in
-    let y = f.2 in
-    finished tells d i t f.0 old executed new s g f.1 y (admin-postable tells d i t f.0 old y.execution s g q f.1 y.comes_to)
+    finished tells d i t f.0 old executed new s g f.1 f.2 (admin-postable tells d i t f.0 old f.2.execution s g q f.1 f.2.comes_to)
 
 -- Of either lane.
 

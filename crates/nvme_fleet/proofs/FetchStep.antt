@@ -1,5 +1,5 @@
 -- A fetch is a step of the mailbox: it takes the first request that is rung in its lane, and the other lane stays.
-use Rattle.nvme_fleet.proofs.Words.{all-joined, ◌≡◌, ℕ, zero, suc, ◌+◌, ◌-◌, ◌%◌, ◌<◌, ◌≤◌, true, false, List, [], ◌∷◌, ◌++◌, length, Option, None, Some, refl, sym, ap, subst, ◌∙◌, arith, inl, inr, nat_lt, cases_Bool, cases_lt, lt-ltb, ne_eqb, append-nil, map-append, slice_index_or, Lane, Admin, Io, queue_id, Driver, is_up, Idle, FetchedCommand, Controller, SubmissionQueue, fetchable, after_fetch as after_fetch_of, fetched_from, submission_at, most_fetched, Item, FetchedItem, LaneBox, with_box, MailboxReaction, mailbox_reaction, plain, fetched, fetched_first, fetched_of, lane_at, raw_fetch, State, box, item, command_at, DeviceEnds, Both, same, other, host, state, pages_of, commands_in, fetched_by, held_by, lane_of_queue, Sound, IsPaired, IsOff, IsOfLane, mailbox, submission_as, IsStep, FetchIsAStep, common_steps}
+use Rattle.nvme_fleet.proofs.Words.{all-joined, ◌≡◌, ℕ, zero, suc, ◌+◌, ◌-◌, ◌%◌, ◌<◌, ◌≤◌, true, false, List, [], ◌∷◌, ◌++◌, length, Option, None, Some, refl, sym, ap, subst, ◌∙◌, arith, inl, inr, cases_Bool, cases_lt, lt-ltb, ne_eqb, append-nil, map-append, slice_index_or, Lane, Admin, Io, queue_id, Driver, is_up, Idle, FetchedCommand, Controller, SubmissionQueue, fetchable, after_fetch as after_fetch_of, fetched_from, submission_at, Item, FetchedItem, LaneBox, with_box, MailboxReaction, mailbox_reaction, plain, fetched, fetched_first, fetched_of, lane_at, raw_fetch, State, box, item, command_at, DeviceEnds, same, other, host, state, pages_of, commands_in, fetched_by, held_by, Sound, IsPaired, IsOff, IsOfLane, mailbox, submission_as, IsStep, FetchIsAStep, common_steps}
 use Rattle.nvme_event.specs.declared.seen.FleetSeen.TheVariants.{Fetched}
 use Rattle.nvme_machine.specs.Controllers.{head_entry}
 use Rattle.nvme_mailbox.specs.Deliveries.{with_rest}
@@ -108,9 +108,8 @@ taken-at lane d c h =
 taken-sound : (lane : Lane) (d : Driver) (c : Controller) → Waits lane d c → Sound d (taken_in lane c)
 taken-sound lane d c h =
     let s = h.sound in
-    let b : Both d c = s.both in
     sound-at lane d d c (taken_in lane c) d.next _ _ (taken-at lane d c h) s h.up
-    (same-up b.first _ _ _ (b.each lane) h.up (fetch-running _ _ (running lane d c s h.up) h.some)) s.fits s.sizes (taken-so lane c (s.up h.up)).paired
+    (same-up s.both.first _ _ _ (s.both.each lane) h.up (fetch-running _ _ (running lane d c s h.up) h.some)) s.fits s.sizes (taken-so lane c (s.up h.up)).paired
 
 -- the first request that is rung in the lane, and the rest
 abbrev first_rung : Lane → Driver → Controller → Item

@@ -1,5 +1,5 @@
 -- A poll tells how many bytes it hands up, and they stand at the front of the buffer.
-use Rattle.nvme_fleet.proofs.Words.{◌≡◌, ◌≤◌, ℕ, zero, suc, List, [], ◌∷◌, length, take, Option, Result, refl, sym, ap, subst, ◌∙◌, arith, Answer, PollFault, Driver, Controller, Polled, Reply, data_len, Mailbox, MailboxReaction, reply_in, IsStep}
+use Rattle.nvme_fleet.proofs.Words.{◌≡◌, ◌≤◌, ℕ, List, length, take, Option, Result, refl, sym, ap, subst, ◌∙◌, arith, Answer, PollFault, Driver, Controller, Polled, Reply, data_len, Mailbox, MailboxReaction, reply_in, IsStep}
 use Rattle.nvme_mailbox.proofs.Moves.{Move, Stay, Clear, May, reply_of, polls}
 use Rattle.nvme_mailbox.specs.Deliveries.{polled}
 use Rattle.std.proofs.lemmas.List.{length-take}

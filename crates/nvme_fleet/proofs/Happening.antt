@@ -83,8 +83,7 @@ put-is ds (suc n) i d h = let same : i ≡ n = omega (arith, h) in ap (λ m. sli
 
 driver-there : (a : FleetState) (k : ℕ) (d : Option Driver) → IsSoundFleet a → IsThere a.subsystem k → d ≡ get_or a.drivers (k - 1) d → driver_at a.drivers k ≡ Some d
 driver-there a k d s there is =
-    let pairs = s.pairs in
-    driver-is a.drivers k (k - 1) (place-is k there.0) ∙ slice_get_read a.drivers (length a.drivers) (k - 1) d refl (omega (arith, pairs, there.0, there.1)) is
+    driver-is a.drivers k (k - 1) (place-is k there.0) ∙ slice_get_read a.drivers (length a.drivers) (k - 1) d refl (omega (arith, s.pairs, there.0, there.1)) is
 
 -- the driver that is lent from the place of a controller
 pub record IsFound (a : FleetState) (k : ℕ) (d : Option Driver) : Type 0 where

@@ -55,8 +55,7 @@ answered w entry m l h b =
 pub commands-kept : (w w' : List ℕ) (p m from n : ℕ) → Keeps w w' p m → p < 8 → from < 8 → n ≤ (p + 8 - from) % 8 → commands w' from n ≡ commands w from n
 commands-kept w w' p m from zero k a b h = refl
 commands-kept w w' p m from (suc n) k a b h =
-    let g : n ≤ (p + 8 - (from + 1) % 8) % 8 = omega (arith, h, a, b) in
-    rw (k.commands from b (ne_eqb from p (λ e. omega (arith, e, h, b))), commands-kept w w' p m ((from + 1) % 8) n k a (omega arith) g) refl
+    rw (k.commands from b (ne_eqb from p (λ e. omega (arith, e, h, b))), commands-kept w w' p m ((from + 1) % 8) n k a (omega arith) (omega (arith, h, a, b))) refl
 
 -- where no submission entry differs
 pub commands-same : (w w' : List ℕ) (m from n : ℕ) → Keeps w w' 8 m → from < 8 → commands w' from n ≡ commands w from n

@@ -34,25 +34,21 @@ IsLed n old new other = (left : Device) × (other ≡ layers_over left new) × D
 quietly : (n : ℕ) (old new other : Layers) (m : Device) (e : FleetEvent) (x : FleetSeen) → AreBoth n old new other m → new.subsystem.device ≡ old.subsystem.device → ((k i : ℕ) → e ≡ Execute k i → ⊥) → Happens true old e x new
     → Happens true (layers_over m old) e x other → IsLed n old new other
 quietly n old new other m e x both same apart h g =
-    let before = both.differ in
-    let start : m.failures ≡ count old.subsystem = before.failures in
+    let start : m.failures ≡ count old.subsystem = both.differ.failures in
     let calm : AreCalm (over m old.subsystem) (over m new.subsystem) other.subsystem = record { one = refl; two = both.two ∙ sym start; below = subst (λ c. c < 2 ^ 64 - 1) (sym start) both.below } in (
       m,
       happens-alike (over m) (over-carried m) old new other e x (λ k i is y s. absurd (apart k i is)) calm both.tickets h g,
-      subst (λ d. DifferIn n old.subsystem.world d m) (sym same) before,
+      subst (λ d. DifferIn n old.subsystem.world d m) (sym same) both.differ,
     )
 
 executes : (n : ℕ) (old new other : Layers) (m : Device) (k i : ℕ) (x : FleetSeen) → AreBoth n old new other m → may_read old.subsystem.world k n ≡ false → Applies true old (event.Execute k i) x new
     → Happens true (layers_over m old) (Execute k i) x other → IsLed n old new other
 unfolding fleet_in
 executes n old new other m k i x both fenced h g =
-    let before = both.differ in
-    let start : m.failures ≡ count old.subsystem = before.failures in
-    let o = machine.step-over n old.subsystem new.subsystem (event.Execute k i) h.given m both.regular.laid before fenced h.step in
-    let left = o.2 in
+    let o = machine.step-over n old.subsystem new.subsystem (event.Execute k i) h.given m both.regular.laid both.differ fenced h.step in
     let calm : AreCalm (over m old.subsystem) (over o.0 new.subsystem) other.subsystem =
-    record { one = left.failures ∙ both.one ∙ sym start; two = both.two ∙ sym start; below = subst (λ c. c < 2 ^ 64 - 1) (sym start) both.below } in
-    (o.0, happens-alone (layers_over m old) (layers_over o.0 new) other (Execute k i) x calm both.tickets (record { given = h.given; step = o.1; gives = h.gives; drivers = h.drivers }) g, left)
+    record { one = o.2.failures ∙ both.one ∙ sym both.differ.failures; two = both.two ∙ sym both.differ.failures; below = subst (λ c. c < 2 ^ 64 - 1) (sym both.differ.failures) both.below } in
+    (o.0, happens-alone (layers_over m old) (layers_over o.0 new) other (Execute k i) x calm both.tickets (record { given = h.given; step = o.1; gives = h.gives; drivers = h.drivers }) g, o.2)
 
 leads : (n : ℕ) (old new other : Layers) (m : Device) (e : FleetEvent) (reply : Reply) → AreBoth n old new other m → OfItsHost (λ k. may_read old.subsystem.world k n ≡ false) e → Step true old e reply new
     → Happens true (layers_over m old) e reply.seen other → IsLed n old new other

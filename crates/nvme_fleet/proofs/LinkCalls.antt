@@ -101,9 +101,8 @@ calls-made step tells (call ∷ calls) p q plain there (mid, one, rest) =
     let a : Subsystem = p.state.subsystem in
     let i : ℕ = p.state.place in
     let c : Controller = after_call call (controller_in a i) in
-    let over = one.over in
-    let own = over.step in
-    let at = over.place in
+    let own = one.over.step in
+    let at = one.over.place in
     let here = plain-leaves tells call a mid.state.subsystem i two.0 there own in
     let long : length mid.state.subsystem.controllers ≡ length a.controllers = ap (λ (s : Subsystem). length s.controllers) here ∙ length-set a.controllers i c in
     let later = calls-made step tells calls mid q two.1 (omega (arith, long, at, there)) rest in
@@ -132,9 +131,8 @@ done tells calls r d e p q gives reply Below there name made step same is below 
     let a : Subsystem = p.state.subsystem in
     let i : ℕ = p.state.place in
     let c : Controller = after_calls calls (controller_in a i) in
-    let at = made.place in
     let put = is-put a q.state.subsystem i (with_controller (setting_in a i) c) there made.leaves in
-    let found : linked_controller q.state ≡ c = ap (controller_in q.state.subsystem) at ∙ ap (λ (s : Setting). s.controller) put.setting_is in
+    let found : linked_controller q.state ≡ c = ap (controller_in q.state.subsystem) made.place ∙ ap (λ (s : Setting). s.controller) put.setting_is in
     record {
       step = subst (λ x. IsStep r e x reply) (sym found) (subst (λ x. IsStep r e c x) (sym is) (subst (λ x. IsStep r x c gives) (sym same) step));
       site = record {
@@ -142,7 +140,7 @@ done tells calls r d e p q gives reply Below there name made step same is below 
         world = ap (λ (s : Setting). s.world) put.setting_is;
         device = ap (λ (s : Setting). s.device) put.setting_is;
         others = put.others;
-        place = at;
+        place = made.place;
         name = cc (name);
       };
       below = below;
@@ -173,10 +171,9 @@ fresh-call step tells p call x y f h =
     let a : Subsystem = x.state.subsystem in
     let b : Subsystem = y.state.subsystem in
     let i : ℕ = x.state.place in
-    let over = h.over in
-    let place = over.place in
+    let place = h.over.place in
     let at = f.reaches in
-    let there = call-there tells call a b i f.admin at.0 at.1 over.step in
+    let there = call-there tells call a b i f.admin at.0 at.1 h.over.step in
     let one : LinkStep tells (setting_in a i) call (linked_setting y.state) = subst (λ n. LinkStep tells (setting_in a i) call (setting_in b n)) (sym place) there.step in
     let long : length b.controllers ≡ length a.controllers = ap (λ (s : Subsystem). length s.controllers) there.others ∙ length-set a.controllers i (controller_in b i) in (
       one,

@@ -154,13 +154,12 @@ comes-up {M} step tells d e p q result s at name down h =
     let one = rises-mapped setting (CallOverMedium step tells) (LinkStep tells) window_over window_in (IsFresh p) there d e p q result fresh h in
     let two = rises-mapped subsystem (CallOverMedium step tells) (CallStep tells k) window_over (λ z. window_at z k) (IsFresh p) below d e p q result fresh h in
     let r = bring_up_is_a_step tells d e (linked_setting p.state) (linked_setting q.state) result s down one.0 in
-    let left = one.1 in
     record {
       step = record { sound = r.sound; mail = r.mail; gives = reply-up (mailbox d (linked_controller p.state)) (ap is_up down) ∙ ap (λ x. mail.plain (seen.Up x)) (sym r.answered) };
-      site = record { cntlid = r.cntlid; world = r.world; device = r.device; others = left.others; place = left.place; name = cc (name) };
+      site = record { cntlid = r.cntlid; world = r.world; device = r.device; others = one.1.others; place = one.1.place; name = cc (name) };
       below = subst (λ x. ComesUp tells k d p.state.subsystem x e q.state.subsystem) (sym r.answered)
           (subst (λ x. Rises (CallStep tells k) (λ z. window_at z k) d p.state.subsystem x e q.state.subsystem) r.answered two.0);
-      medium = left.medium;
+      medium = one.1.medium;
     }
 
 rises-by : {M : Type 0} (step : M → MediumCall → M → Type 0) (tells : Bool) (d e : Driver) (p q : OverMedium Linked M) (result : Result (Unit {0}) UpFault) (state : State) → d.state ≡ state → Sound d (linked_controller p.state) → Reaches p.state

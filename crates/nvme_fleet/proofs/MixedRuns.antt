@@ -132,7 +132,6 @@ pub secrecy_holds_of_each_event : SecrecyHoldsOfEachEvent
 secrecy_holds_of_each_event old new front later event replies calls n medium regular tickets cut fenced differ =
     let run = layer_calls_are_of_a_run true old cut.now front cut.given cut.before cut.first in
     let there : IsRegular (fleet_in cut.now) = regularity_stays (fleet_in old) (fleet_in cut.now) front cut.given (runs_of_mailboxes true old cut.now front cut.given run) regular in
-    let once : HaveTicketsOnce cut.now = tickets_stay_once true old cut.now front cut.given run tickets in
     let step : Step true cut.now event cut.gives cut.next = layer_calls_are_of_a_step true cut.now cut.next event cut.gives cut.own cut.then_this in
     let possible = can-be-same n cut.now cut.next event cut.gives medium there step fenced differ in
-    (possible, is-same n cut.now cut.next event cut.gives medium there once step fenced differ possible)
+    (possible, is-same n cut.now cut.next event cut.gives medium there (tickets_stay_once true old cut.now front cut.given run tickets) step fenced differ possible)

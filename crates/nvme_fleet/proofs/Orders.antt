@@ -1,6 +1,5 @@
 -- The order of slots by their numbers: the oldest aborted request, slots that are freed, and tickets that rise.
 use Rattle.nvme_fleet.proofs.Words.{◌≡◌, ℕ, ◌+◌, ◌<◌, ◌≤◌, List, [], ◌∷◌, ◌++◌, map, refl, ap, sym, ◌∙◌, arith, zero, suc, true, false, cond, eqb, Bool, Option, Some, None, inl, inr, slice_set, cases_Bool, eqb-true, common_steps, nat_le, ticket_in, live_waiting, AgeIn, aborted_number, ranked_too, in_order, ranked, rising, Waiting, waiting_at, abort, eq-eqb}
-use Rattle.nvme_fleet.proofs.Queues.{eqb-sym}
 use Rattle.nvme_fleet.proofs.Totals.{waiting-small}
 use Rattle.nvme_fleet.proofs.Slots.{cond-zero}
 

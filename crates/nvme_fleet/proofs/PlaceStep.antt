@@ -1,11 +1,11 @@
 -- A placing is a step of the mailbox: the lane of the request takes it, and the other lane sees the next ticket alone.
-use Rattle.nvme_fleet.proofs.Words.{◌≡◌, ℕ, zero, suc, ◌+◌, ◌-◌, ◌*◌, ◌%◌, ◌<◌, ◌≤◌, ◌==◌, nat_lt, Bool, true, false, not, ◌&&◌, cond, List, [], ◌∷◌, length, take, Option, None, Some, refl, sym, ap, subst, ◌∙◌, arith, inl, inr, cases_lt, ne_eqb, le-leb, bytes_eq-Decides, bytes_eq, slice_set, length-set, if◌then◌else◌, nat_le, SqeFields, submission_entry, submission_of, cid, with_bytes, most_bytes, Lane, Waiting, Request, PlaceRefusal, NotReady, BadRequest, NoSlot, RingFull, TicketsExhausted, list_page, data_area, submission_queue, stored_list, Asked, asked_of, is_bad, Driver, is_up, ends, entry_of, entry_fields, entry_length, free_slot, place_refusal, put_ends, ticket_count, stores_of, waiting_of, waiting_at, length-stored_list, entries_move_their_data, Controller, after_store, LaneBox, box_at, with_box, MailboxReaction, refusal, placed_by, new_item, with_placed, Host, State, Slot, empty, box, live_in, live_at, asked_in, is_plain, suits, item_in, received_in, placed_state, Both, same, other, host, state, slot_in, slots_in, whole, area, listed, pages_of, in_order, aborted_number, ranked_too, Sound, mailbox, PlaceIsAStep, RefusalIsAStep, after_calls, common_steps}
+use Rattle.nvme_fleet.proofs.Words.{◌≡◌, ℕ, zero, suc, ◌+◌, ◌-◌, ◌*◌, ◌%◌, ◌<◌, ◌≤◌, ◌==◌, nat_lt, Bool, true, false, not, ◌&&◌, cond, List, [], ◌∷◌, length, take, Option, None, Some, refl, sym, ap, subst, ◌∙◌, arith, le-leb, bytes_eq-Decides, bytes_eq, slice_set, length-set, if◌then◌else◌, nat_le, SqeFields, submission_entry, submission_of, cid, with_bytes, most_bytes, Lane, Waiting, Request, PlaceRefusal, NotReady, BadRequest, NoSlot, RingFull, TicketsExhausted, list_page, data_area, submission_queue, stored_list, Asked, asked_of, is_bad, Driver, is_up, ends, entry_of, entry_fields, entry_length, free_slot, place_refusal, put_ends, ticket_count, stores_of, waiting_of, waiting_at, length-stored_list, entries_move_their_data, Controller, after_store, LaneBox, box_at, with_box, MailboxReaction, refusal, placed_by, new_item, with_placed, Host, State, Slot, empty, box, live_in, live_at, asked_in, is_plain, suits, item_in, received_in, placed_state, Both, same, other, host, state, slot_in, slots_in, whole, area, listed, pages_of, in_order, aborted_number, ranked_too, Sound, mailbox, PlaceIsAStep, RefusalIsAStep, after_calls, common_steps}
 use Rattle.nvme_driver.specs.Drivers as driver
 use Rattle.nvme_driver.specs.Drivers.{lane_of}
 use Rattle.nvme_driver.proofs.Placing.{length-entry}
 use Rattle.nvme_mailbox.specs.Deliveries.{with_request}
 use Rattle.nvme_fleet.specs.Views.{placed as placed_one}
-use Rattle.nvme_fleet.proofs.Places.{Places, place-box, place-holds, no-way}
+use Rattle.nvme_fleet.proofs.Places.{Places, place-box, place-holds}
 use Rattle.nvme_fleet.proofs.Empties.{bare-of}
 use Rattle.nvme_fleet.proofs.Sizes.{Sizes, sizes, plain as plain_request}
 use Rattle.nvme_fleet.proofs.StartStep.{stored-at}
@@ -132,13 +132,12 @@ known d c request slot s h f say =
 filled-so : (d : Driver) (c : Controller) (request : Request) (slot : ℕ) → Known d c request slot
     → Fills (lane_of request) c.window (window_then d c request slot) slot (ends (lane_of request) d).tail.put (asked_of request).sent (stored_list slot (asked_of request).moved) (entry_of request slot)
 filled-so d c request slot k =
-    let z = k.sized in
-    let l = length-stored_list slot (asked_of request).moved z.most in
+    let l = length-stored_list slot (asked_of request).moved k.sized.most in
     let two : List ℕ = with_bytes (with_bytes c.window (data_area slot) (asked_of request).sent) (list_page slot) (stored_list slot (asked_of request).moved) in
     let e : (ends (lane_of request) d).tail.put % 8 ≡ (ends (lane_of request) d).tail.put = omega (arith, k.put) in
     subst (λ n. Fills (lane_of request) c.window (with_bytes two (submission_queue (lane_of request) + 64 * n) (entry_of request slot)) slot (ends (lane_of request) d).tail.put (asked_of request).sent (stored_list slot (asked_of request).moved) (entry_of request slot)) (sym e)
     (fills (lane_of request) c.window (asked_of request).sent (stored_list slot (asked_of request).moved) (entry_of request slot) slot
-    (ends (lane_of request) d).tail.put k.sound.both.window k.within k.put (omega (arith, z.sent, z.most)) (omega (arith, l)) (length-entry (entry_fields (asked_of request) slot)))
+    (ends (lane_of request) d).tail.put k.sound.both.window k.within k.put (omega (arith, k.sized.sent, k.sized.most)) (omega (arith, l)) (length-entry (entry_fields (asked_of request) slot)))
 
 -- the command asks what the request asks
 asked-so : (d : Driver) (c : Controller) (request : Request) (slot : ℕ) → Known d c request slot
@@ -147,9 +146,8 @@ asked-so d c request slot k =
     let z = k.sized in
     let m : entry_length (lane_of request) (entry_of request slot) ≡ (asked_of request).moved = entries_move_their_data request slot (entry_of request slot) k.good k.says in
     let g = k.says in
-    let n : entry_length (lane_of request) (entry_of request slot) - (asked_of request).received ≡ length (asked_of request).sent = ap (λ x. x - (asked_of request).received) m ∙ sym z.sent in
     let t : take (entry_length (lane_of request) (entry_of request slot) - (asked_of request).received) (area (window_then d c request slot) slot) ≡ (asked_of request).sent =
-    ap (λ x. take x (area (window_then d c request slot) slot)) n ∙ (filled-so d c request slot k).data_in in
+    ap (λ x. take x (area (window_then d c request slot) slot)) (ap (λ x. x - (asked_of request).received) m ∙ sym z.sent) ∙ (filled-so d c request slot k).data_in in
     λ i. record {
       command = record { lane = lane_of request; opcode = (g i).opcode; nsid = (g i).nsid; cdw10 = (g i).cdw10; cdw11 = (g i).cdw11; cdw12 = (g i).cdw12 };
       moved = m i;
@@ -243,12 +241,11 @@ places-so d c request slot k =
 
 stores-so : (d : Driver) (c : Controller) (request : Request) (slot : ℕ) → Known d c request slot → after_calls (stores_of d request slot) c ≡ controller_then d c request slot
 stores-so d c request slot k =
-    let z = k.sized in
-    let l = length-stored_list slot (asked_of request).moved z.most in
+    let l = length-stored_list slot (asked_of request).moved k.sized.most in
     let low = queue-low (lane_of request) in
     let one : Controller = record c { window = with_bytes c.window (data_area slot) (asked_of request).sent } in
     let two : Controller = record c { window = with_bytes (with_bytes c.window (data_area slot) (asked_of request).sent) (list_page slot) (stored_list slot (asked_of request).moved) } in
-    let a = stored-at (data_area slot) (asked_of request).sent c (omega (arith, k.within, z.sent, z.most)) in
+    let a = stored-at (data_area slot) (asked_of request).sent c (omega (arith, k.within, k.sized.sent, k.sized.most)) in
     let b = stored-at (list_page slot) (stored_list slot (asked_of request).moved) one (omega (arith, k.within, l)) in
     ap (λ x. (after_store (driver.entry_place d request) (entry_of request slot) (after_store (list_page slot) (stored_list slot (asked_of request).moved) x).controller).controller) a
     ∙ ap (λ x. (after_store (driver.entry_place d request) (entry_of request slot) x).controller) b
@@ -262,27 +259,25 @@ aborted-set (x ∷ xs) (suc i) t h l = ap (ranked_too (aborted_number x)) (abort
 sound-so : (d : Driver) (c : Controller) (request : Request) (slot : ℕ) → Known d c request slot → Sound (driver.placed d request slot) (controller_then d c request slot)
 sound-so d c request slot k =
     let s = k.sound in
-    let b : Both d c = s.both in
     let z = k.sized in
     let x = changed-so d request slot in
     let g = s.fits (lane_of request) in
     let p = s.up k.up in
     sound-at (lane_of request) d (driver.placed d request slot) c (controller_then d c request slot) (d.next + 1) _ _ (placed-at d c request slot k) s k.up
-    (place-holds b.first _ _ (entry_of request slot) (waiting_of d request) slot _ _ (b.each (lane_of request)) k.up (places-so d c request slot k))
+    (place-holds s.both.first _ _ (entry_of request slot) (waiting_of d request) slot _ _ (s.both.each (lane_of request)) k.up (places-so d c request slot k))
     (x.fits (record { tail = g.tail; head = g.head }) s.fits)
     (λ j. subst (λ xs. received_in (waiting_at xs j) ≤ most_bytes) (sym x.slots) (size-set d.slots slot j (Some (waiting_of d request)) (omega (arith, z.received, z.most)) s.sizes))
     (record { admin = p.admin; io = p.io; submission = p.submission; completion = p.completion; fetched = p.fetched; ready = p.ready; enabled = p.enabled })
 
 mail-so : (d : Driver) (c : Controller) (request : Request) (slot : ℕ) → Known d c request slot → mailbox (driver.placed d request slot) (controller_then d c request slot) ≡ with_request (mailbox d c) request
 mail-so d c request slot k =
-    let b : Both d c = k.sound.both in
     let at = placed-at d c request slot k in
     let box_then = place-box _ _ (entry_of request slot) (waiting_of d request) slot _ _ (places-so d c request slot k)
     ∙ ap (λ u. with_placed u (item_in (whole (window_then d c request slot) slot (waiting_of d request)) (entry_of request slot))) (sym (box-is (lane_of request) d c))
     ∙ ap (with_placed (box_at (lane_of request) (mailbox d c))) (new-item-so d c request slot k) in
     mail-at (lane_of request) d (driver.placed d request slot) c (controller_then d c request slot) (d.next + 1) _ _ at (mailbox d c).fetched
     (fetched-at (lane_of request) d (driver.placed d request slot) c (controller_then d c request slot) (d.next + 1) _ _ at slot _ refl c.fetched
-    (λ l. (bare-of b.first _ _ slot (b.each l) (idle-in l d c request slot k)).taken))
+    (λ l. (bare-of k.sound.both.first _ _ slot (k.sound.both.each l) (idle-in l d c request slot k)).taken))
     (ap (in_order aborted_number) (changed-so d request slot).slots ∙ aborted-set d.slots slot (waiting_of d request) k.free refl)
     ∙ ap (λ u. with_box (lane_of request) u (record (mailbox d c) { next = d.next + 1 })) box_then
 

@@ -1,5 +1,5 @@
 -- A mailbox holds a request for each slot that is not free: so many live ones in both lanes, so many that were aborted.
-use Rattle.nvme_fleet.proofs.Words.{same_Some, held, ranked, Waiting, ◌≡◌, ℕ, ◌+◌, ◌<◌, ◌≤◌, List, [], ◌∷◌, length, refl, ap, sym, ◌∙◌, arith, true, false, cond, eqb, Option, Some, None, inl, inr, suc, length-map, cases_Bool, lt-ltb, le-ltb, cases_lt, common_steps, position, position_or_len, is_none, nat_le, waiting_at, Running, live_in, live_waiting, total, Lane, Admin, Io, same, Driver, is_up, FetchedCommand, Controller, lane_of_queue, Both, slots_in, commands_in, host, state, fetched_by, held_by, ranked_too, in_order, aborted_number, mailbox}
+use Rattle.nvme_fleet.proofs.Words.{held, ranked, Waiting, ◌≡◌, ℕ, ◌+◌, ◌<◌, ◌≤◌, List, [], ◌∷◌, length, refl, ap, sym, ◌∙◌, arith, true, false, cond, eqb, Option, Some, None, inl, inr, suc, length-map, lt-ltb, le-ltb, cases_lt, common_steps, position, position_or_len, is_none, waiting_at, Running, live_in, live_waiting, total, Lane, Admin, Io, same, Driver, is_up, FetchedCommand, Controller, lane_of_queue, Both, slots_in, commands_in, host, state, fetched_by, held_by, ranked_too, in_order, aborted_number, mailbox}
 use Rattle.nvme_fleet.proofs.Queues.{box-live}
 use Rattle.nvme_fleet.proofs.LaneSlots.{live-of}
 use Rattle.std.proofs.lemmas.List.Quantifiers.{position-Some}

@@ -1,6 +1,6 @@
 -- That a poll of a driver is a step of its mailbox: the first request that was aborted is handed up, or else the first answer
 -- of a lane.
-use Rattle.nvme_fleet.proofs.Words.{none-some, Done, Aborted, Polled, Reply, Host, Slot, PostedAnswer, empty, ticket_in, can_hear, area, MailboxReaction, mailbox_reaction, plain, answer_reply, handed_up, polled_aborted, polled_admin, polled_io, IsStep, PollIsAStep, after_calls, most_bytes, can_be_heard, waiting_at, ◌≡◌, ℕ, ◌+◌, ◌-◌, ◌*◌, ◌/◌, ◌%◌, ◌⊎◌, ◌<◌, ◌≤◌, ◌==◌, Bool, true, not, ◌&&◌, cond, List, [], ◌∷◌, length, take, drop, Option, None, Some, refl, sym, ap, subst, ◌∙◌, arith, inl, inr, length-drop, length-set, take-take, cases_Bool, cases_lt, lt-ltb, le-ltb, length-take-le, slice_get, slice_get_within, slice_set, slice_range, option_map, if◌then◌else◌, Ok, Err, Completion, completion_of, sq_id, sq_head, status, dw0, Status, phase_tag, Lane, Admin, Io, Waiting, Ticket, queue_id, submission_queue, completion_place_in, head_doorbell, data_area, Ends, Driver, is_up, ends, consumed_ends, Controller, DeviceEnds, with_head, completion_at, after_write32, box_at, with_box, LaneBox, box, answer, front, heard, less, consumed as consumed_one, next_completion, completion_bytes, phase_of, received_in, live_in, live_at as live_slot, holds, commands_of, Both, same, other, host, state, slot_in, slots_in, commands_in, pages_of, held_by, in_order, aborted_number, Sound, EndsFit, completion_as, mailbox, eq-eqb, common_steps}
+use Rattle.nvme_fleet.proofs.Words.{none-some, Done, Aborted, Polled, Reply, Host, Slot, PostedAnswer, empty, ticket_in, can_hear, area, MailboxReaction, mailbox_reaction, plain, answer_reply, handed_up, polled_aborted, polled_admin, polled_io, IsStep, PollIsAStep, after_calls, most_bytes, can_be_heard, waiting_at, ◌≡◌, ℕ, ◌+◌, ◌-◌, ◌*◌, ◌%◌, ◌⊎◌, ◌<◌, ◌≤◌, ◌==◌, Bool, true, not, ◌&&◌, cond, List, [], ◌∷◌, length, take, drop, Option, None, Some, refl, sym, ap, subst, ◌∙◌, arith, inl, inr, length-drop, length-set, take-take, cases_Bool, cases_lt, lt-ltb, length-take-le, slice_get, slice_get_within, slice_set, slice_range, option_map, if◌then◌else◌, Ok, Err, Completion, completion_of, sq_id, sq_head, status, dw0, Status, phase_tag, Lane, Admin, Io, Waiting, Ticket, queue_id, submission_queue, completion_place_in, head_doorbell, data_area, Ends, Driver, is_up, ends, consumed_ends, Controller, DeviceEnds, with_head, completion_at, after_write32, box_at, with_box, LaneBox, box, answer, front, heard, less, consumed as consumed_one, next_completion, completion_bytes, phase_of, received_in, live_in, live_at as live_slot, holds, commands_of, Both, other, host, state, slot_in, slots_in, commands_in, pages_of, held_by, in_order, aborted_number, Sound, EndsFit, completion_as, mailbox, eq-eqb, common_steps}
 use Rattle.nvme_fleet.proofs.LaneWindows.{each-lane}
 use Rattle.std.specs.Option.{option_flatten}
 use Rattle.nvme_driver.specs.declared.faults.PollFault.TheVariants as poll_fault
@@ -32,8 +32,7 @@ tag-is n h = grind (arith, common_steps, h)
 -- whether it is new, and what it is
 abbrev is_next : Lane → Driver → List ℕ → Bool
 is_next lane d w =
-    let e = completion_of (completion_bytes (pages_of lane w) (host lane d w).consumed) in
-    cond e.phase (phase_of (host lane d w).consumed) (not (phase_of (host lane d w).consumed))
+    cond (completion_of (completion_bytes (pages_of lane w) (host lane d w).consumed)).phase (phase_of (host lane d w).consumed) (not (phase_of (host lane d w).consumed))
 
 new-is : (lane : Lane) (d : Driver) (w : List ℕ) → (ends lane d).head.consumed < 64
     → poll.new_in lane (ends lane d) w ≡ (if is_next lane d w then Some (completion_bytes (pages_of lane w) (ends lane d).head.consumed) else None)
@@ -192,9 +191,8 @@ told-so lane d c h =
     let p = h.sound.up h.up in
     let r = running lane d c h.sound h.up in
     let few : (state lane c).unread < 32 = omega (arith, few (host lane d c.window) (state lane c) r) in
-    let v : head_then lane d < 32 = omega arith in
     let e : with_head (head_then lane d) (completion_as lane (counts lane c)) ≡ completion_as lane (told_counts lane c) =
-    rw (lt-ltb (head_then lane d) 32 v, fewer (ends lane d).head.consumed (state lane c).unread (state lane c).posted r.consumed h.some few r.posted) refl in
+    rw (lt-ltb (head_then lane d) 32 (omega arith), fewer (ends lane d).head.consumed (state lane c).unread (state lane c).posted r.consumed h.some few r.posted) refl in
     counted lane c (told_one lane c (head_then lane d)) (told_counts lane c) p (same-submission lane c p)
     (ap (λ o. slice_set c.completion (queue_id lane) (option_map (with_head (head_then lane d)) o)) (completion-is lane c p) ∙ ap (λ q. slice_set c.completion (queue_id lane) (Some q)) e)
     p.fetched refl
@@ -224,11 +222,10 @@ polled-at lane d c h =
 polled-sound : (lane : Lane) (d : Driver) (c : Controller) → Heads lane d c → Sound (poll.consumed d lane (entry_at lane d c)) (told_one lane c (head_then lane d))
 polled-sound lane d c h =
     let s = h.sound in
-    let b : Both d c = s.both in
     let f = s.fits lane in
     let x = changed-so lane d (entry_at lane d c) in
     sound-at lane d (poll.consumed d lane (entry_at lane d c)) c (told_one lane c (head_then lane d)) d.next _ _ (polled-at lane d c h) s h.up
-    (poll-holds b.first _ _ (b.each lane) h.up h.some)
+    (poll-holds s.both.first _ _ (s.both.each lane) h.up h.some)
     (x.fits (subst EndsFit (sym (consumed-is (ends lane d) (sq_head (entry_at lane d c)) f h.heard)) (record { tail = f.tail; head = f.head })) s.fits)
     (λ k. subst (λ xs. received_in (waiting_at xs k) ≤ most_bytes) (sym x.slots) (size-set d.slots (cid (entry_at lane d c)) k None (omega arith) s.sizes))
     (told-so lane d c h).paired
@@ -237,10 +234,9 @@ polled-sound lane d c h =
 polled-mail : (lane : Lane) (d : Driver) (c : Controller) → Heads lane d c
     → mailbox (poll.consumed d lane (entry_at lane d c)) (told_one lane c (head_then lane d)) ≡ (handed_up lane (first_answer lane d c) (rest_posted lane d c) (mailbox d c)).mailbox
 polled-mail lane d c h =
-    let b : Both d c = h.sound.both in
     let r = running lane d c h.sound h.up in
     let at = polled-at lane d c h in
-    let gone = bare-of b.first _ _ (cid (entry_at lane d c)) (b.each (other lane))
+    let gone = bare-of h.sound.both.first _ _ (cid (entry_at lane d c)) (h.sound.both.each (other lane))
     (ap live_in (slot-in (other lane) c.window d.slots (cid (entry_at lane d c)) ∙ (h.own).absent c.window (cid (entry_at lane d c)))) in
     mail-at lane d (poll.consumed d lane (entry_at lane d c)) c (told_one lane c (head_then lane d)) d.next _ _ at (mailbox d c).fetched
     (fetched-at lane d (poll.consumed d lane (entry_at lane d c)) c (told_one lane c (head_then lane d)) d.next _ _ at (cid (entry_at lane d c)) empty refl c.fetched

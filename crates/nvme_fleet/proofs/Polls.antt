@@ -106,8 +106,7 @@ none-posted d c e = ap (λ k. answers (holds d) (heard d) (completions c.window 
 unheard-front : (d : Host) (c : State) → Running d c → 0 < c.unread →
     steps (heard (consumed d (front d c))) (rest-of d c) + since (consumed d (front d c)) (less c) + in_flight d c ≡ left_after d (front d c).sq_head
 unheard-front d c s p =
-    let h : steps (heard (consumed d (front d c))) (rest-of d c) ≡ steps (front d c).sq_head (rest-of d c) = ap (λ h. steps h (rest-of d c)) (heard-front d c s p) in
-    omega (arith, h, since-front d c s p, left-over d c s p, ap (steps (heard d)) (front-first d c p), s.unheard)
+    omega (arith, ap (λ h. steps h (rest-of d c)) (heard-front d c s p), since-front d c s p, left-over d c s p, ap (steps (heard d)) (front-first d c p), s.unheard)
 
 carried-front : (d : Host) (c : State) → Running d c → 0 < c.unread → Carried (consumed d (front d c)) (less c)
 carried-front d c s p =

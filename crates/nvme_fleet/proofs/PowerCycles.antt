@@ -78,9 +78,8 @@ one-protected : (old new : Layers) (e : FleetEvent) (reply : Reply) (n : ℕ) �
 one-protected old new e reply n laid is powered step =
     by-event true old new e reply (StaysProtected n old new) step
     (λ same.
-    let w = same.world in
     let d = same.device in
-    (ap (λ x. bytes_of x new.subsystem.device.content n) w ∙ ap (λ (x : Device). bytes_of old.subsystem.world x.content n) d, ap (λ x. protection_at x n) w ∙ is))
+    (ap (λ x. bytes_of x new.subsystem.device.content n) same.world ∙ ap (λ (x : Device). bytes_of old.subsystem.world x.content n) d, ap (λ x. protection_at x n) same.world ∙ is))
     (λ k i at given one.
     machine_proofs.protected_until_power old.subsystem new.subsystem (event.Execute k i ∷ []) (given ∷ []) n laid is ((λ same. executes-no-cycle k i same), tt) (new.subsystem, one, refl))
     (λ at one. absurd (powered at))

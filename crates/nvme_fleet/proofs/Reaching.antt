@@ -45,8 +45,7 @@ unfolding with_controller_of
 reacted-as a b k i f given at there h =
     let c : Controller = controller_in a i in
     let r = subst (λ o. ReactsAs o a k f given b) (numbers.at-place a k i c at (slice_get-get_or a.controllers i (new_controller 0) there)) h in
-    let d : Reaction = f c in
-    record { gives = r.0; leaves = r.1 ∙ ap (λ cs. (let s : Subsystem = record a { controllers = cs } in s)) (numbers.replaced-at a.controllers k i d.controller at) }
+    record { gives = r.0; leaves = r.1 ∙ ap (λ cs. (let s : Subsystem = record a { controllers = cs } in s)) (numbers.replaced-at a.controllers k i (f c).controller at) }
 
 -- what a call leaves where it reaches a controller
 pub record IsPut (a b : Subsystem) (i : ℕ) (s : Setting) : Type 0 where

@@ -15,8 +15,7 @@ is-off c = record { submission = refl; completion = refl; fetched = refl; off = 
 -- one that was off already
 same-off : (c : Controller) (o : IsOff c) → record c { registers = record c.registers { cc = 0 } } ≡ off_now c
 same-off c o =
-    let s = o.off in
-    λ i. record c { registers = record c.registers { cc = 0; state = s i }; submission = o.submission i; completion = o.completion i; fetched = o.fetched i }
+    λ i. record c { registers = record c.registers { cc = 0; state = o.off i }; submission = o.submission i; completion = o.completion i; fetched = o.fetched i }
 
 written : (d : Driver) (c : Controller) → Sound d c → after_calls reset_calls c ≡ off_now c
 written d c s = elim (cases_Bool (is_up d.state)) [

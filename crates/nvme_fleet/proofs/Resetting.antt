@@ -1,5 +1,5 @@
 -- A reset over both lanes: all that is open is aborted, by rising tickets.
-use Rattle.nvme_fleet.proofs.Words.{item_in, rising, waiting_at, empty_box, open_tickets, tickets_in, FetchedItem, cid, abort, Waiting, most_bytes, ◌≡◌, ℕ, ◌+◌, ◌≤◌, List, [], ◌∷◌, ◌++◌, length, map, refl, ap, sym, ◌∙◌, arith, zero, suc, false, cond, eqb, Option, Some, None, inl, inr, map-append, length-map, cases_Bool, Completion, Slot, empty, slot_at, box, abort_slot, off, ticket_in, received_in, live_at as live_slot, commands_of, answers_of, unread, AgeIn, Ages as AgesOne, Lane, Admin, Io, same, Driver, ends, after_reset, FetchedCommand, Controller, lane_of_queue, Both, whole, slots_in, commands_in, host, state, fetched_by, held_by, in_order, aborted_number, Sound, EndsFit, IsOff, mailbox, eq-eqb, bears, common_steps}
+use Rattle.nvme_fleet.proofs.Words.{item_in, rising, waiting_at, empty_box, open_tickets, tickets_in, FetchedItem, cid, abort, Waiting, most_bytes, ◌≡◌, ℕ, ◌+◌, ◌≤◌, List, [], ◌∷◌, ◌++◌, length, map, refl, ap, sym, ◌∙◌, arith, zero, suc, false, cond, eqb, Option, Some, None, map-append, length-map, Completion, Slot, empty, slot_at, box, abort_slot, off, ticket_in, received_in, live_at as live_slot, commands_of, answers_of, unread, AgeIn, Ages as AgesOne, Lane, Admin, Io, same, Driver, ends, after_reset, FetchedCommand, Controller, lane_of_queue, Both, whole, slots_in, commands_in, host, state, fetched_by, held_by, in_order, aborted_number, Sound, EndsFit, IsOff, mailbox, eq-eqb, bears, common_steps}
 use Rattle.nvme_fleet.proofs.LaneWindows.{same-self}
 use Rattle.nvme_mailbox.specs.Deliveries as mail
 use Rattle.nvme_fleet.specs.Views.{reset as reset_one}
@@ -78,8 +78,7 @@ tickets-same : (lane : Lane) (w : List ℕ) (slots : List (Option Waiting)) (ns 
 tickets-same lane w slots [] h = refl
 tickets-same lane w slots (n ∷ ns) h =
     let v : times n (n ∷ ns) ≡ 1 + times n ns = ap (λ b. cond b 1 0 + times n ns) (eq-eqb n n refl) in
-    let l : live_slot (slots_in lane w 0 slots) n ≡ 1 = omega (arith, h n, v, live-small (slot_at (slots_in lane w 0 slots) n)) in
-    rw (ticket-same lane w slots n l, tickets-same lane w slots ns (λ i. omega (arith, h i))) refl
+    rw (ticket-same lane w slots n (omega (arith, h n, v, live-small (slot_at (slots_in lane w 0 slots) n))), tickets-same lane w slots ns (λ i. omega (arith, h i))) refl
 
 abbrev slots_taken : List FetchedCommand → List ℕ
 slots_taken [] = []

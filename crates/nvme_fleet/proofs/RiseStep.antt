@@ -52,10 +52,9 @@ record RoundsAre (k : ℕ) (d : Driver) (old : Setting) (result : Result (Unit {
 first-size-of : (w : List ℕ) → length w ≡ 4194304 → length (first_window w) ≡ 4194304
 first-size-of w l =
     let e : List ℕ = submission_entry create_completion_queue in
-    let b : List ℕ = completion_entry (own_completion 0 e) in
     let z = zeroed-size w l in
     let p : length (with_bytes (zeroed_all w) 0 e) ≡ 4194304 = length-with_bytes (zeroed_all w) 0 e (omega (arith, z, first-size)) ∙ z in
-    length-with_bytes (with_bytes (zeroed_all w) 0 e) 4096 b (omega (arith, p, length-completion (own_completion 0 e))) ∙ p
+    length-with_bytes (with_bytes (zeroed_all w) 0 e) 4096 (completion_entry (own_completion 0 e)) (omega (arith, p, length-completion (own_completion 0 e))) ∙ p
 
 second-part : (tells : Bool) (k : ℕ) (d d' : Driver) (old mid new : Setting) (result : Result (Unit {0}) UpFault) (left : Driver) → length old.controller.window ≡ 4194304
     → left ≡ with_admin (ends_at 1) (started d)
@@ -126,7 +125,6 @@ came-up m h = rw h refl
 pub bring_up_is_a_step : BringUpIsAStep
 bring_up_is_a_step tells d d' old new result s h rises =
     let r = rises-are tells d d' old new result (s.down (ap is_up h)) s.both.window rises in
-    let k : ℕ = old.controller.cntlid in
     let f : RisesSo d old.controller = record {
       sound = s;
       down = h;
@@ -135,10 +133,10 @@ bring_up_is_a_step tells d d' old new result s h rises =
     } in
     record {
       answered = r.answered;
-      sound = rw (r.driver, r.setting_is) (risen-sound k d old.controller f);
+      sound = rw (r.driver, r.setting_is) (risen-sound old.controller.cntlid d old.controller f);
       mail = came-up (mailbox d old.controller) (ap is_up h)
           ∙ sym (ap (λ z. mailbox z new.controller) r.driver ∙ ap (mailbox (risen_driver d)) (ap (λ (q : Setting). q.controller) r.setting_is)
-          ∙ risen-mail k d old.controller (own 0 create_completion_queue) (own 1 create_submission_queue) f);
+          ∙ risen-mail old.controller.cntlid d old.controller (own 0 create_completion_queue) (own 1 create_submission_queue) f);
       cntlid = ap (λ (q : Setting). q.controller.cntlid) r.setting_is;
       world = ap (λ (q : Setting). q.world) r.setting_is;
       device = ap (λ (q : Setting). q.device) r.setting_is;

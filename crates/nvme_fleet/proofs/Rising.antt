@@ -66,10 +66,9 @@ up_page first second Io p = zeroed p
 
 up-stored : (d : Driver) (c : Controller) (first second : OwnCommand) → Rises d c first second → Stored c.window (up_window c.window first second) 24 (up_page first second)
 up-stored d c first second h =
-    let a = h.command in
     let b = h.later in
     let z = zeros-stored c.window h.sound.both.window in
-    let one = page-stored Admin c.window _ 24 _ first.completion 4096 (page-stored Admin c.window (zeroed_all c.window) 24 _ first.command 0 z (omega (arith, a.command))) (omega (arith, a.completion)) in
+    let one = page-stored Admin c.window _ 24 _ first.completion 4096 (page-stored Admin c.window (zeroed_all c.window) 24 _ first.command 0 z (omega (arith, h.command.command))) (omega (arith, h.command.completion)) in
     let two = page-stored Admin c.window _ 24 _ second.completion 4112 (page-stored Admin c.window (own_window 0 (zeroed_all c.window) first) 24 _ second.command 64 one (omega (arith, b.command))) (omega (arith, b.completion)) in
     record { size = two.size; slots = two.slots; pages = each-lane Admin (λ l. pages_of l (up_window c.window first second) ≡ up_page first second l (pages_of l c.window)) (two.pages Admin) (two.pages Io) }
 
@@ -86,13 +85,12 @@ same-quiet d d' c c' q e f = rw (e, f) q
 quiet : (k : ℕ) (d : Driver) (c : Controller) (first second : OwnCommand) → Rises d c first second → (l : Lane)
     → Quiet (host l (risen_driver d) (up_window c.window first second)) (state l (risen_controller k (up_window c.window first second)))
 quiet k d c first second h Admin =
-    let f = ap is_failed (sym h.down) in
     let a = h.command in
     let b = h.later in
     same-quiet _ _ _ _
     (own-quiet (own_host (fresh_host (host Admin d c.window))) (own_state (fresh_state (state Admin c)) first.command first.completion) second.command second.completion
     (own-quiet (fresh_host (host Admin d c.window)) (fresh_state (state Admin c)) first.command first.completion (fresh-quiet (host Admin d c.window) (state Admin c) (resting Admin d c first second h)) a.command a.completion a.phase) b.command b.completion b.phase)
-    (λ i. record (own_host (own_host (fresh_host (host Admin d c.window)))) { failed = f i; slots = (slots-up Admin d c first second h) i })
+    (λ i. record (own_host (own_host (fresh_host (host Admin d c.window)))) { failed = (ap is_failed (sym h.down)) i; slots = (slots-up Admin d c first second h) i })
     (ap (λ p. record (state Admin (risen_controller k c.window)) { window = p }) ((up-stored d c first second h).pages Admin))
 quiet k d c first second h Io =
     same-quiet _ _ _ _ (fresh-quiet (host Io d c.window) (state Io c) (resting Io d c first second h))

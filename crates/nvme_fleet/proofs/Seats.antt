@@ -75,7 +75,6 @@ pub reseated : (a b : FleetState) (k : ℕ) (e : Option Driver) (x : Controller)
     → length b.buffer ≡ length a.buffer → b.filled ≡ a.filled → IsReseated a b k e x
 unfolding fleet_in with_host machine.with_controller
 reseated a b k e x s n ds subsystem long same =
-    let fits = s.fits in
     let set = are-set a.drivers a.subsystem.controllers k e x s.pairs s.sound n in
     record {
       fleet = (λ j. fleet_in (record { subsystem = subsystem j; drivers = ds j })) ∙ ap (λ hs. (let f : Fleet = record (fleet_of a) { hosts = hs } in f)) set.hosts;
@@ -83,7 +82,7 @@ reseated a b k e x s n ds subsystem long same =
         pairs = ap length ds ∙ set.pairs ∙ sym (ap (λ (t : Subsystem). length t.controllers) subsystem);
         sound = subst (λ ys. AllSound ys b.subsystem.controllers) (sym ds) (subst (λ (t : Subsystem). AllSound (with_driver a.drivers k e) t.controllers) (sym subsystem) set.sound);
         room = long ∙ s.room;
-        fits = omega (arith, long, fits, same);
+        fits = omega (arith, long, s.fits, same);
       };
     }
 

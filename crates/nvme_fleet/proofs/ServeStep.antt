@@ -1,5 +1,5 @@
 -- What an allowed I/O command does is what its request does.
-use Rattle.nvme_fleet.proofs.Words.{◌≡◌, ℕ, ◌+◌, ◌*◌, ◌≤◌, ◌==◌, ◌&&◌, Bool, true, false, List, [], ◌∷◌, length, take, Option, None, Some, refl, sym, ap, subst, ◌∙◌, arith, inl, inr, cases_Bool, take_all, is_some, replicate, if◌then◌else◌, cid, nsid, Status, Command, Device, World, Namespace, namespace_of, data_length, data_length_of, is_one_of, block_count, marks_on, no_marks, Scene, scene, Performs, medium_block, start_of, report_of, world_after, marks_of, removed_by, reservation_outcome, data_of, HasPassed, has-passed, waiting_at, answer_len, is_success, Io, Asked, with_scattered, data_addresses, Driver, FetchedCommand, Controller, lane_of_queue, command_entry, action_of, IsServed, bytes_with, asked_in, received_in, AllowedServesItsRequest, request_execution_with, and_parts, common_steps}
+use Rattle.nvme_fleet.proofs.Words.{◌≡◌, ℕ, ◌+◌, ◌*◌, ◌≤◌, ◌==◌, ◌&&◌, Bool, true, false, List, [], ◌∷◌, length, take, Option, None, Some, refl, sym, ap, subst, ◌∙◌, arith, inl, inr, take_all, is_some, replicate, if◌then◌else◌, cid, nsid, Status, Command, Device, World, Namespace, namespace_of, data_length, data_length_of, is_one_of, block_count, marks_on, no_marks, Scene, scene, Performs, medium_block, start_of, report_of, world_after, marks_of, removed_by, reservation_outcome, data_of, HasPassed, has-passed, waiting_at, answer_len, is_success, Io, Asked, with_scattered, data_addresses, Driver, FetchedCommand, Controller, lane_of_queue, command_entry, action_of, IsServed, bytes_with, asked_in, received_in, AllowedServesItsRequest, request_execution_with, and_parts, common_steps}
 use Rattle.nvme_spec.specs.declared.command.Command.TheVariants as io
 use Rattle.nvme_spec.specs.Effects.{ReadEffect, WriteEffect, CompareEffect}
 use Rattle.nvme_spec.specs.Report.{ControllerHost}

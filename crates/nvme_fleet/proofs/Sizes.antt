@@ -1,5 +1,5 @@
 -- How many bytes a request moves: those that it sends, or those that it receives, and never more than a transfer has.
-use Rattle.nvme_fleet.proofs.Words.{true, ◌≡◌, ℕ, ◌-◌, ◌*◌, ◌≤◌, nat_lt, false, List, ◌++◌, length, refl, ap, ◌∙◌, arith, length-append, inl, inr, cases_lt, lt-ltb, ◌==◌, most_bytes, is_plain, Request, Asked, asked_of, is_bad, key, controller_list, within, eq-eqb, common_steps}
+use Rattle.nvme_fleet.proofs.Words.{true, ◌≡◌, ℕ, ◌-◌, ◌*◌, ◌≤◌, nat_lt, false, List, ◌++◌, length, refl, ap, ◌∙◌, arith, length-append, ◌==◌, most_bytes, is_plain, Request, Asked, asked_of, is_bad, key, controller_list, within, eq-eqb, common_steps}
 use Rattle.nvme_spec.specs.Commands as io_commands
 use Rattle.nvme_driver.specs.declared.request.Request.TheVariants.{Read, Write, Compare, Register, Acquire, Release, Report, Attach, Detach}
 use Rattle.nvme_driver.proofs.Moving.{whole}

@@ -1,5 +1,5 @@
 -- A slot that no command and no completion bears may change; at most 24 are borne.
-use Rattle.nvme_fleet.proofs.Words.{◌≡◌, ℕ, ◌+◌, ◌≤◌, List, [], ◌∷◌, length, map, refl, arith, true, false, cond, eqb, Bool, slice_set, cid, Completion, State, Slot, slot_at, item, answers, total, odd, commands_of, answers_of, Running, in_flight, Host, box, heard, holds, commands, common_steps}
+use Rattle.nvme_fleet.proofs.Words.{◌≡◌, ℕ, ◌+◌, ◌≤◌, List, [], ◌∷◌, length, map, refl, arith, false, cond, eqb, Bool, slice_set, cid, Completion, State, Slot, slot_at, item, answers, total, odd, commands_of, answers_of, Running, in_flight, Host, box, heard, holds, commands, common_steps}
 use Rattle.nvme_fleet.proofs.Totals.{live-few, slot-other}
 use Rattle.nvme_fleet.proofs.Queues.{Bare, same-box}
 

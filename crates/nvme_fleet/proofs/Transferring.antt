@@ -1,6 +1,6 @@
 -- The data of a command that suits its slot: its pointer has no fault, what it gathers is what lies at the slot's place, and
 -- what is scattered over it is stored there.
-use Rattle.nvme_fleet.proofs.Words.{◌≡◌, ℕ, zero, suc, ◌+◌, ◌*◌, ◌<◌, ◌≤◌, ◌==◌, false, List, length, take, drop, None, refl, sym, ap, ◌∙◌, arith, ne_eqb, take-take, common_steps, nat_le, if◌then◌else◌, prp1, prp2, with_bytes, most_bytes, window_size, gathered_bytes, addresses, pieces_of, with_scattered, data_transfer, data_addresses, data_in, data_fault, data_area, list_page, first_entry, second_entry, listed_pages, pages_behind, page_entries, stored_list, HasList, IsRequest, slot_transfer, length-stored_list, listed}
+use Rattle.nvme_fleet.proofs.Words.{◌≡◌, ℕ, zero, suc, ◌+◌, ◌*◌, ◌<◌, ◌≤◌, false, List, length, take, drop, None, refl, sym, ap, ◌∙◌, arith, ne_eqb, take-take, common_steps, nat_le, if◌then◌else◌, prp1, prp2, with_bytes, most_bytes, window_size, gathered_bytes, addresses, pieces_of, with_scattered, data_transfer, data_addresses, data_in, data_fault, data_area, list_page, first_entry, second_entry, listed_pages, pages_behind, page_entries, stored_list, HasList, IsRequest, slot_transfer, length-stored_list, listed}
 use Rattle.nvme_spec.specs.Pointer.{transfer, pointer_fault}
 use Rattle.nvme_spec.proofs.Contents.{length-data_in}
 use Rattle.nvme_driver.proofs.SlotPointers.{slots_are_contiguous, slots_move_one_run}
@@ -43,9 +43,8 @@ some-data window k x n whole fits some most there a b =
     let one = slots_move_one_run window k n r list in
     let sound = slots_are_contiguous window k n r list in
     let t : data_transfer n window x ≡ slot_transfer window k n = λ i. transfer window (a i) (b i) n in
-    let z : (n == 0) ≡ false = ne_eqb n 0 (λ e. omega (arith, e, some)) in
     record {
-      fault = ap (λ y. if y then None else pointer_fault (data_transfer n window x)) z ∙ ap pointer_fault t ∙ sound.sound;
+      fault = ap (λ y. if y then None else pointer_fault (data_transfer n window x)) (ne_eqb n 0 (λ e. omega (arith, e, some))) ∙ ap pointer_fault t ∙ sound.sound;
       gathers = ap (λ y. gathered_bytes window (addresses (pieces_of y))) t ∙ one.gathering ∙ ap (λ m. take m (drop (data_area k) window)) (omega arith);
       scatters = λ returned h. ap (λ y. with_scattered window (take (length returned) (addresses (pieces_of y))) returned) t ∙ one.scattering returned h;
     }

@@ -1,5 +1,5 @@
 -- Without a fault of the medium there is one run of both layers over each list of events.
-use Rattle.nvme_fleet.proofs.Words.{◌≡◌, ◌⊎◌, inl, inr, ◌<◌, ◌≤◌, ℕ, zero, suc, ◌-◌, ◌^◌, nat_lt, Bool, true, false, List, [], ◌∷◌, map, Option, None, Some, Result, Ok, Err, refl, sym, ap, subst, ◌∙◌, arith, option_map, slice_get, slice_set, if◌then◌else◌, replicate, cases_Bool, eqb-true, eq-eqb, none-some, same_Some, ControllerConfig, Answer, NotUp, PlaceRefusal, PollFault, UpFault, Request, Waiting, Ticket, Driver, after_reset, new_driver, stores_of, IsNotBelow, IsOldest, aborted_at, waiting_at, Event, Subsystem, FleetEvent, BringUp, Place, Ring, Fetch, Execute, Poll, Reset, RawStore, RawWrite32, PowerCycle, FleetSeen, Reply, DriverCall, CallStep, ComesUp, Does, DoesIfAny, Places, Polls, Ran, Rings, events_of, events_of_calls, reset_events, ring_events, window_at, Layers, fleet_in, opening_driver, Applies, AppliesRaw, CallsAt, Cycles, Happens, driver_at, with_driver, HasTicketsOnce, HaveTicketsOnce, LayersRunIsUnique, OpeningHasTicketsOnce, TicketsStayOnce, polled, Call, Rises, Seen, Turns, eqb, common_steps}
+use Rattle.nvme_fleet.proofs.Words.{◌≡◌, ◌⊎◌, inl, inr, ◌<◌, ◌≤◌, ℕ, zero, suc, ◌-◌, ◌^◌, nat_lt, Bool, true, false, List, [], ◌∷◌, map, Option, None, Some, Result, Ok, Err, refl, sym, ap, subst, ◌∙◌, arith, option_map, slice_get, slice_set, if◌then◌else◌, replicate, cases_Bool, eqb-true, none-some, same_Some, ControllerConfig, Answer, NotUp, PlaceRefusal, PollFault, UpFault, Request, Waiting, Ticket, Driver, after_reset, new_driver, stores_of, IsNotBelow, IsOldest, aborted_at, waiting_at, Event, Subsystem, FleetEvent, BringUp, Place, Ring, Fetch, Execute, Poll, Reset, RawStore, RawWrite32, PowerCycle, FleetSeen, Reply, DriverCall, CallStep, ComesUp, Does, DoesIfAny, Places, Polls, Ran, Rings, events_of, events_of_calls, reset_events, ring_events, window_at, Layers, fleet_in, opening_driver, Applies, AppliesRaw, CallsAt, Cycles, Happens, driver_at, with_driver, HasTicketsOnce, HaveTicketsOnce, LayersRunIsUnique, OpeningHasTicketsOnce, TicketsStayOnce, polled, Call, Rises, Seen, Turns, eqb, common_steps}
 use Rattle.nvme_driver.specs.Drivers.{placed}
 use Rattle.nvme_driver.specs.Once as once
 use Rattle.nvme_driver.specs.Once.{bears, borne}
@@ -138,9 +138,8 @@ opening_has_tickets_once c v i d found = opened-each c.controllers i d found
 
 borne-twice : (d : Driver) (i j : ℕ) (v w : Waiting) → HasTicketsOnce d → eqb j i ≡ false → waiting_at d.slots i ≡ Some v → waiting_at d.slots j ≡ Some w → v.ticket.0 ≡ w.ticket.0 → ⊥
 borne-twice d i j v w one apart here there same =
-    let a = once_proofs.taken v.ticket.0 d.slots i v here in
     let b = once_proofs.taken v.ticket.0 (slice_set d.slots i None) j w (pending-other d.slots i j apart ∙ there) in
-    grind (arith, common_steps, a, b, same, one v.ticket.0)
+    grind (arith, common_steps, once_proofs.taken v.ticket.0 d.slots i v here, b, same, one v.ticket.0)
 
 oldest-slot : (d : Driver) (i j : ℕ) (t u : Ticket) → HasTicketsOnce d → aborted_at d.slots i ≡ Some t → aborted_at d.slots j ≡ Some u → t.0 ≤ u.0 → u.0 ≤ t.0 → j ≡ i
 oldest-slot d i j t u one here there low high =
@@ -336,8 +335,7 @@ layers_run_is_unique old new other (e ∷ events) (x ∷ later) (y ∷ others) a
     let q' = run-counted mid' other events others rest' in
     let calm : AreCalm old.subsystem mid.subsystem mid'.subsystem = record { one = omega (arith, p, q, a); two = omega (arith, p', q', b); below = below } in
     let one = layers-alone old mid mid' e x y calm all step step' in
-    let still : count mid.subsystem ≡ count old.subsystem = calm.one in
     let r = layers_run_is_unique mid new other events later others (happens-once true old mid e x.seen step.below all) rest (subst (λ l. Run true l events others other) one.1 rest')
-    (a ∙ sym still) (b ∙ sym still) (low mid.subsystem (count old.subsystem) still below) in
+    (a ∙ sym calm.one) (b ∙ sym calm.one) (low mid.subsystem (count old.subsystem) calm.one below) in
     ((λ i. one.0 i ∷ r.0 i), r.1)
 layers_run_is_unique old new other events replies others all h g a b below = absurd h

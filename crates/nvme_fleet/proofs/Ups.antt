@@ -110,9 +110,8 @@ no-phase = refl
 -- a completion in the zeroed page
 zero-entry : (w : List ℕ) (j : ℕ) → length w ≡ 8192 → j + 16 ≤ 4096 → take 16 (drop (4096 + j) (with_bytes w 4096 zeros)) ≡ replicate 16 0
 zero-entry w j l h =
-    let z : length zeros ≡ 4096 = zeros-are.long in
-    let n : length (take 16 (drop j zeros)) ≡ 16 = length-take-le 16 _ (omega (arith, length-drop j zeros, z, h)) in
-    stored-part w zeros 4096 j 16 (omega (arith, l)) (omega (arith, z, h)) ∙
+    let n : length (take 16 (drop j zeros)) ≡ 16 = length-take-le 16 _ (omega (arith, length-drop j zeros, zeros-are.long, h)) in
+    stored-part w zeros 4096 j 16 (omega (arith, l)) (omega (arith, zeros-are.long, h)) ∙
     same_lists _ _ (n ∙ sym (length-replicate {A = ℕ} 16 0)) (λ k x inside.
     let b : k < 16 = omega (arith, inside, n) in
     byte-of zeros j k 16 x b ∙ zeros-are.each (j + k) x (omega (arith, h, b)) ∙ sym (get_or-replicate 16 k 0 x b))
@@ -128,11 +127,10 @@ fresh-phases d c w k q =
 -- a lane that was just turned on is quiet
 pub fresh-quiet : (d : Host) (c : State) → Resting d c → Quiet (fresh_host d) (fresh_state c)
 fresh-quiet d c r =
-    let z : length zeros ≡ 4096 = zeros-are.long in
-    let a : length (with_bytes c.window 0 zeros) ≡ length c.window = length-with_bytes c.window 0 zeros (omega (arith, r.window, z)) in
+    let a : length (with_bytes c.window 0 zeros) ≡ length c.window = length-with_bytes c.window 0 zeros (omega (arith, r.window, zeros-are.long)) in
     record {
       ready = refl;
-      window = length-with_bytes (with_bytes c.window 0 zeros) 4096 zeros (omega (arith, a, r.window, z)) ∙ a ∙ r.window;
+      window = length-with_bytes (with_bytes c.window 0 zeros) 4096 zeros (omega (arith, a, r.window, zeros-are.long)) ∙ a ∙ r.window;
       slots = r.slots;
       put = omega arith;
       fetched = refl;

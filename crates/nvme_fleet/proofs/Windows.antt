@@ -1,5 +1,5 @@
 -- What a store leaves of a list of bytes: in its place, and before and behind it.
-use Rattle.nvme_fleet.proofs.Words.{◌≡◌, ℕ, ◌+◌, ◌≤◌, List, [], ◌++◌, length, ap, ◌∙◌, arith, take, drop, ◌⊎◌, inl, inr, same_lists, take-append-drop, append-nil, with_bytes}
+use Rattle.nvme_fleet.proofs.Words.{◌≡◌, ℕ, ◌+◌, ◌≤◌, List, [], length, arith, take, drop, ◌⊎◌, inl, inr, same_lists, with_bytes}
 use Rattle.std.proofs.Common.{rules}
 use Rattle.std.proofs.lemmas.List.{places}
 

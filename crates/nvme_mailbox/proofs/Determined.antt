@@ -46,10 +46,9 @@ served-alone : (command : Command) (k : ℕ) (a : Asked) (s : Site) (r : Request
     → r ≡ served command k a s (performance_of command k a s)
 served-alone command k a s r h same below =
     let so = spec.is-so command k (command_entry a) a.sent (scene_at s) (scene_at r.left) r.outcome.status h.returned (spec.calm (scene_at s) (scene_at r.left) same below) h.effect in
-    let why = so.status in
     λ i. record {
-      outcome = record { status = why i; dw0 = h.dw0 i; rule = h.rule i; marks = h.marks i };
-      bytes = (h.data_back ∙ ap (λ x. bytes_with x h.returned) why ∙ ap (bytes_with (performance_of command k a s).status) so.returned_so) i;
+      outcome = record { status = so.status i; dw0 = h.dw0 i; rule = h.rule i; marks = h.marks i };
+      bytes = (h.data_back ∙ ap (λ x. bytes_with x h.returned) so.status ∙ ap (bytes_with (performance_of command k a s).status) so.returned_so) i;
       left = record { world = so.world i; device = record { content = so.content i; failures = same i } };
     }
 

@@ -1,5 +1,5 @@
 -- Without a fault there is a run over each list of events, from each fleet whose namespaces lie on its medium.
-use Rattle.nvme_mailbox.proofs.Words.{◌≡◌, ℕ, ◌+◌, ◌*◌, ◌≤◌, ◌==◌, Bool, true, List, [], ◌∷◌, ◌++◌, length, take, drop, Option, None, Some, Ok, refl, sym, ap, ◌∙◌, arith, length-append, length-drop, slice_get, replicate, length-take-le, opcode, Command, WriteZeroes, AdminCommand, Verdict, Allowed, Denied, with_bytes, Judgement, action_rule, medium_block, IsLaidOut, extent_of, HasPassed, planned, passes, cycle_keeps_places, Lane, Admin, Io, Asked, FetchedCommand, Controller, QueuePair, queues_of, open_pair, Setting, FinishesOne, FinishesOver, scene_in, CommandComesTo, command-becomes, still, answer-extents, answer-size, FleetEvent, BringUp, Place, Ring, Fetch, Execute, Poll, Reset, RawStore, RawWrite32, PowerCycle, FleetSeen, FetchedItem, Mailbox, lane_of, MailboxReaction, Site, RequestExecution, scene_at, IsServed, IoRequestComesTo, RequestComesToAs, RequestComesTo, action_of, io_judgement, io_verdict, admin_judgement, admin_request_execution_by, admin_request_execution, command_entry, WithDriver, Raw, Fleet, Moment, Step, host_at, with_host, power_cycled, settled, called_at, raw_at, fetched_at, ExecutesItem, ExecutesAt, setting_of, served, performance_of, io_request_execution, request_execution_as, request_execution, executing_item, raw_over, raw_one, raw_execution, executing, fault_free_step, failures_in, RunExists}
+use Rattle.nvme_mailbox.proofs.Words.{◌≡◌, ℕ, ◌*◌, ◌≤◌, ◌==◌, Bool, true, List, [], ◌∷◌, length, Option, None, Some, Ok, refl, sym, ap, ◌∙◌, arith, length-append, length-drop, slice_get, replicate, opcode, Command, WriteZeroes, AdminCommand, Verdict, Allowed, Denied, with_bytes, Judgement, action_rule, medium_block, IsLaidOut, extent_of, HasPassed, planned, passes, cycle_keeps_places, Lane, Admin, Io, Asked, FetchedCommand, Controller, QueuePair, queues_of, open_pair, Setting, FinishesOne, FinishesOver, scene_in, CommandComesTo, command-becomes, still, answer-extents, answer-size, FleetEvent, BringUp, Place, Ring, Fetch, Execute, Poll, Reset, RawStore, RawWrite32, PowerCycle, FleetSeen, FetchedItem, Mailbox, lane_of, MailboxReaction, Site, RequestExecution, scene_at, IsServed, IoRequestComesTo, RequestComesToAs, RequestComesTo, action_of, io_judgement, io_verdict, admin_judgement, admin_request_execution_by, admin_request_execution, command_entry, WithDriver, Raw, Fleet, Moment, Step, host_at, with_host, power_cycled, settled, called_at, raw_at, fetched_at, ExecutesItem, ExecutesAt, setting_of, served, performance_of, io_request_execution, request_execution_as, request_execution, executing_item, raw_over, raw_one, raw_execution, executing, fault_free_step, failures_in, RunExists}
 use Rattle.nvme_spec.specs.declared.command.Command.TheVariants.{Write}
 use Rattle.nvme_spec.specs.declared.verdict.Plan.{Plan}
 use Rattle.nvme_spec.specs.Commands as io_commands
@@ -134,10 +134,9 @@ raw-over None i t s laid = ((refl, refl), lies-same _ _ refl, refl)
 raw-over (Some p) i t s laid =
     let a = fault_free_command_execution (queues_of s.controller) s.controller.cntlid t (scene_in s) in
     let is = machine_proofs.answers (queues_of s.controller) s.controller.cntlid t (scene_in s) laid in
-    let e = answer-extents (t.queue == 0) true (queues_of s.controller) s.controller.cntlid t (scene_in s) a is in
     let z = answer-size (t.queue == 0) (queues_of s.controller) s.controller.cntlid t (scene_in s) a laid is in (
       record { execution = a; comes_to = is; gives = refl; controller = refl; world = refl; device = refl },
-      record { extents = e.extents; size = omega (arith, z) },
+      record { extents = (answer-extents (t.queue == 0) true (queues_of s.controller) s.controller.cntlid t (scene_in s) a is).extents; size = omega (arith, z) },
       machine_proofs.calm-answer (queues_of s.controller) s.controller.cntlid t (scene_in s),
     )
 

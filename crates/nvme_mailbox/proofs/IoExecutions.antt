@@ -78,16 +78,15 @@ is-io false x y h = (refl, same_Some _ _ h)
 over-does : (o : Option QueuePair) (tells : Bool) (old new : Fleet) (c : Controller) (i : ℕ) (t : FetchedCommand) (executed : Executed) (left : Setting) (x : IoCommand) (outcome : Outcome)
     → FinishesOver o tells i t (setting_of old c) executed left → executed ≡ Posted outcome → new.site ≡ site_of left → sent_by old.site.world c (Some t) ≡ Some x → Does tells old c.cntlid x outcome new
 unfolding site_left
-over-does None tells old new c i t executed left x outcome h posted leaves found = let e = sym h.0 ∙ posted in absurd (cc)
+over-does None tells old new c i t executed left x outcome h posted leaves found = let e = sym h.0 ∙ posted in absurd cc
 over-does (Some p) tells old new c i t executed left x outcome h posted leaves found =
     let io = is-io (t.queue == 0) x (raw_command old.site.world c t) found in
     let a : CommandExecution = h.execution in
     let answer = io-answer tells (queues_of c) c.cntlid t (scene_in (setting_of old c)) a io.0 h.comes_to in
     let e : Posted a.outcome ≡ Posted outcome = sym h.gives ∙ posted in
-    let same : a.outcome ≡ outcome = cc in
     let w = h.world in
     let v = h.device in
-    moved tells old new c.cntlid x (raw_command old.site.world c t) a.outcome outcome (site_left a.left) io.1 same (leaves ∙ λ k. record { world = w k; device = v k })
+    moved tells old new c.cntlid x (raw_command old.site.world c t) a.outcome outcome (site_left a.left) io.1 (cc) (leaves ∙ λ k. record { world = w k; device = v k })
     (command-as (spec.io_verdict old.site.world c.cntlid t.entry t.marked c.window) tells c t old.site a.left a.outcome answer.1)
 
 one-does : (o : Option FetchedCommand) (tells : Bool) (old new : Fleet) (c : Controller) (i : ℕ) (executed : Executed) (left : Setting) (x : IoCommand) (outcome : Outcome)

@@ -64,15 +64,14 @@ pub preempted_is_outside : PreemptedIsOutside
 unfolding reservation_outcome
 preempted_is_outside tells old new n k i host x all p gone =
     let e : List ℕ = x.entry in
-    let is = p.is in
-    let command : command_of (opcode e) ≡ Some ReservationAcquire = acquires (command_of (opcode e)) is.is_one in
+    let command : command_of (opcode e) ≡ Some ReservationAcquire = acquires (command_of (opcode e)) p.is.is_one in
     let v : verdict_on x ≡ Allowed (plan_of ReservationAcquire e) = ap (λ j. conclusion j (command_of (opcode e)) e) p.allowed ∙ ap (λ o. conclusion (Ok tt) o e) command in
     let h : HasItsEffect tells ReservationAcquire k x old.site p.outcome new.site =
     subst (λ v. IsExecutedBy v tells k x old.site p.outcome new.site) v (executed_as_the_policy_allows tells old new k i x p.outcome all p.step p.found) in
     let w : World = old.site.world in
     let removes : IfActs (Removes host) (reservation_outcome w k e x.sent) =
     subst (λ o. IfActs (Removes host) (outcome_in o (namespace_of w (nsid e)) (host_of w k) e x.sent)) (sym command) (outcome-removes (namespace_of w (nsid e)) (host_of w k) e x.sent host p.preempts) in
-    subst (λ v. IsOutside v n host) (sym h.effect.world) (removed-world w (nsid e) n host (reservation_outcome w k e x.sent) is.names removes gone)
+    subst (λ v. IsOutside v n host) (sym h.effect.world) (removed-world w (nsid e) n host (reservation_outcome w k e x.sent) p.is.names removes gone)
 
 pub preempted_stays_out : PreemptedStaysOut
 preempted_stays_out tells old mid last new n k i host x all p gone events replies run held j l y outcome sender found is execution =

@@ -1,7 +1,6 @@
 -- A fenced write is denied.
 use Rattle.nvme_mailbox.proofs.Words.{◌≡◌, ℕ, ◌==◌, ◌&&◌, ◌++◌, Bool, true, false, not, List, [], ◌∷◌, take, Option, None, Some, Ok, Err, refl, ap, subst, ◌∙◌, slice_get, none-some, same_Some, opcode, nsid, Read as Reading, Write as Writing, Outcome, command_of, data_length_of, is_one_of, readers, writers, pointer_rule, denial_outcome, access_rules, permits_group, reservation_rule, protection_rule, range_rule, may_write, Judgement, Rule, judgement_by, else_by, first_failing, World, host_of, namespace_of, first_failing-append, Lane, Admin, Io, FetchedCommand, Posted, Controller, denied-verdict, Execute, FetchedItem, lane_of, plain, io_judgement, action_of, WithDriver, Raw, Fleet, Step, host_at, IoCommand, asked_command, raw_command, asked_by, sent_by, command_in, AreNumbered, IsExecutedBy, IsOn, LeavesReservation, conflict_unless, fenced, FencedWritesAreDenied, FencingHolds}
 use Rattle.nvme_mailbox.specs.Fleets.{Host}
-use Rattle.nvme_spec.specs.declared.verdict.Denial.{Denial}
 use Rattle.nvme_spec.specs.IoData as spec
 use Rattle.nvme_spec.specs.Statuses as status
 use Rattle.nvme_event.specs.declared.seen.FleetSeen.TheVariants.{Executed as ExecutedSeen}
@@ -81,8 +80,7 @@ pub refused : (tells : Bool) (old new : Fleet) (n k i : ℕ) (x : IoCommand) (ou
     → Step tells old (Execute k i) (plain (ExecutedSeen (Posted outcome))) new
     → (outcome ≡ denial_outcome (fenced old.site.world k x).rule (fenced old.site.world k x).status) × (new.site ≡ old.site)
 refused tells old new n k i x outcome all shut found is step =
-    let d : Denial = fenced old.site.world k x in
-    let v = denied-verdict x.judgement (command_of (opcode x.entry)) x.entry d (fenced_writes_are_denied old n k i x all found is shut) in
+    let v = denied-verdict x.judgement (command_of (opcode x.entry)) x.entry (fenced old.site.world k x) (fenced_writes_are_denied old n k i x all found is shut) in
     subst (λ v. IsExecutedBy v tells k x old.site outcome new.site) v (executed_as_the_policy_allows tells old new k i x outcome all step found)
 
 pub fencing_holds : FencingHolds

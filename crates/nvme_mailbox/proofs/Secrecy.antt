@@ -1,5 +1,5 @@
 -- Hosts of a fleet that may not read a namespace learn nothing of its bytes.
-use Rattle.nvme_mailbox.proofs.Words.{AllByRecursion, fault_free_step, ◌≡◌, ◌<◌, ◌-◌, ◌^◌, ℕ, Bool, true, false, List, [], ◌∷◌, Option, None, Some, Ok, refl, sym, ap, subst, ◌∙◌, slice_get, opcode, AdminCommand, Verdict, Allowed, Denied, Device, reserving, IsLaidOut, may_read, Judgement, World, Lane, Admin, Io, Asked, FetchedCommand, Executed, CommandExecution, Controller, QueuePair, open_pair, queues_of, FinishesOne, FinishesOver, Setting, scene_in, DifferIn, after_completion, Mirrors, command_execution_over, answers-over, performs, differ-still, FleetEvent, Execute, PowerCycle, OfItsHost, Reply, FetchedItem, Mailbox, lane_of, RequestComesTo, RequestComesToAs, IoRequestComesTo, RequestExecution, Site, admin_judgement, admin_request_execution, admin_request_execution_by, command_entry, io_verdict, scene_at, Allows, Forgets, LeavesReservation, Moment, ExecutesAt, ExecutesItem, ExecutesRaw, Fleet, Is, Raw, Step, WithDriver, after_answer, after_execution, after_raw, host_at, power_cycled, setting_of, settled, IsRegular, WasTaken, FencedReading, FencedReadingIsSame, MayNotRead, site_over}
+use Rattle.nvme_mailbox.proofs.Words.{AllByRecursion, fault_free_step, ◌≡◌, ◌<◌, ◌-◌, ◌^◌, ℕ, Bool, true, false, List, [], ◌∷◌, Option, None, Some, Ok, refl, sym, ap, subst, ◌∙◌, slice_get, opcode, AdminCommand, Verdict, Allowed, Denied, Device, reserving, IsLaidOut, may_read, Judgement, World, Lane, Admin, Io, Asked, FetchedCommand, Executed, Controller, QueuePair, open_pair, queues_of, FinishesOne, FinishesOver, Setting, scene_in, DifferIn, after_completion, Mirrors, command_execution_over, answers-over, performs, differ-still, FleetEvent, Execute, PowerCycle, OfItsHost, Reply, FetchedItem, Mailbox, lane_of, RequestComesTo, RequestComesToAs, IoRequestComesTo, RequestExecution, Site, admin_judgement, admin_request_execution, admin_request_execution_by, command_entry, io_verdict, scene_at, Allows, Forgets, LeavesReservation, Moment, ExecutesAt, ExecutesItem, ExecutesRaw, Fleet, Is, Raw, Step, WithDriver, after_answer, after_execution, after_raw, host_at, power_cycled, setting_of, settled, IsRegular, WasTaken, FencedReading, FencedReadingIsSame, MayNotRead, site_over}
 use Rattle.nvme_mailbox.specs.Fleets.{Host}
 use Rattle.nvme_spec.specs.AdminCommands as admin_commands
 use Rattle.nvme_mailbox.specs.IoCommands.{command_at}
@@ -71,10 +71,9 @@ item-over : (o : Option FetchedItem) (n : ℕ) (old new : Fleet) (k : ℕ) (m : 
 unfolding RequestComesTo settled after_answer
 item-over None n old new k m i reply d laid differ fenced held h = (d, (h.0, ap (over d) h.1), whole n old new d differ h.1)
 item-over (Some y) n old new k m i reply d laid differ fenced held h =
-    let r : RequestExecution = h.execution in
-    let a = lane-over (lane_of y.item) n k y.item.asked y.marked old.site r d laid differ fenced (taken-brings y.item (held y refl)) h.comes_to in (
+    let a = lane-over (lane_of y.item) n k y.item.asked y.marked old.site h.execution d laid differ fenced (taken-brings y.item (held y refl)) h.comes_to in (
       a.0,
-      record { execution = request_execution_over a.0 r; comes_to = a.1; gives = h.gives; leaves = ap (over a.0) h.leaves ∙ same a.0 r },
+      record { execution = request_execution_over a.0 h.execution; comes_to = a.1; gives = h.gives; leaves = ap (over a.0) h.leaves ∙ same a.0 h.execution },
       subst (λ (f : Fleet). DifferIn n old.site.world f.site.device a.0) (sym h.leaves) a.2,
     )
   where
@@ -90,11 +89,10 @@ pair-over : (o : Option QueuePair) (n i : ℕ) (t : FetchedCommand) (old new : S
 unfolding after_completion
 pair-over None n i t old new executed d laid differ fenced h = (d, (h.0, ap (setting_over d) h.1), same-device n old.world old.device new.device d differ (ap (λ (s : Setting). s.device) h.1))
 pair-over (Some p) n i t old new executed d laid differ fenced h =
-    let a : CommandExecution = h.execution in
-    let m = answers-over n (queues_of old.controller) old.controller.cntlid t (scene_in old) a d laid differ fenced h.comes_to in (
+    let m = answers-over n (queues_of old.controller) old.controller.cntlid t (scene_in old) h.execution d laid differ fenced h.comes_to in (
       m.0,
-      record { execution = command_execution_over m.0 a; comes_to = m.1; gives = h.gives; controller = h.controller; world = h.world; device = refl },
-      same-device n old.world a.left.device new.device m.0 m.2 h.device,
+      record { execution = command_execution_over m.0 h.execution; comes_to = m.1; gives = h.gives; controller = h.controller; world = h.world; device = refl },
+      same-device n old.world h.execution.left.device new.device m.0 m.2 h.device,
     )
 
 one-over : (o : Option FetchedCommand) (n i : ℕ) (old new : Setting) (executed : Executed) (d : Device) → IsLaidOut old.world old.device.content → DifferIn n old.world old.device d
@@ -108,10 +106,9 @@ command-over : (n : ℕ) (old new : Fleet) (k : ℕ) (c : Controller) (i : ℕ) 
     → MirrorsStep n old new (λ x. ExecutesRaw true (over d old) k c i reply (over x new))
 unfolding settled
 command-over n old new k c i reply d laid differ fenced h =
-    let left : Setting = h.left in
-    let m = one-over (slice_get c.fetched i) n i (setting_of old c) left h.executed d laid differ fenced h.executes in (
+    let m = one-over (slice_get c.fetched i) n i (setting_of old c) h.left h.executed d laid differ fenced h.executes in (
       m.0,
-      record { executed = h.executed; left = setting_over m.0 left; executes = m.1; gives = h.gives; leaves = ap (over m.0) h.leaves ∙ same m.0 h.executed left },
+      record { executed = h.executed; left = setting_over m.0 h.left; executes = m.1; gives = h.gives; leaves = ap (over m.0) h.leaves ∙ same m.0 h.executed h.left },
       subst (λ (f : Fleet). DifferIn n old.site.world f.site.device m.0) (sym h.leaves) m.2,
     )
   where
@@ -181,14 +178,13 @@ pub fenced_reading_is_same : FencedReadingIsSame
 fenced_reading_is_same old new other d events replies others n regular differ run fenced second calm quiet below =
     let r = fenced_reading old new d events replies n regular differ run fenced in
     let last : Device = r.0 in
-    let r-differ = r.2 in
     let start : d.failures ≡ old.site.device.failures = differ.failures in
     let low : d.failures < 2 ^ 64 - 1 = subst (λ m. m < 2 ^ 64 - 1) (sym start) below in
-    let one = run_is_unique (over d old) (over last new) events replies (plainly (LeavesReservation n) true (over d old) (over last new) events replies r.1) (r-differ.failures ∙ calm ∙ sym start) low in
+    let one = run_is_unique (over d old) (over last new) events replies (plainly (LeavesReservation n) true (over d old) (over last new) events replies r.1) (r.2.failures ∙ calm ∙ sym start) low in
     let two = run_is_unique (over d old) other events others second (quiet ∙ sym start) low in
     let same : other ≡ over last new = two.1 ∙ sym one.1 in
     let device : other.site.device ≡ last = ap (λ (f : Fleet). f.site.device) same in (
       two.0 ∙ sym one.0,
       same ∙ ap (λ x. over x new) (sym device),
-      subst (λ x. DifferIn n new.site.world new.site.device x) (sym device) r-differ,
+      subst (λ x. DifferIn n new.site.world new.site.device x) (sym device) r.2,
     )

@@ -27,9 +27,7 @@ Rests m = m.up ≡ false → IsIdle m
 clear : (m : Mailbox) → IsIdle m → IsClear m
 unfolding waiting posted_answers
 clear m i =
-    let a = i.admin in
-    let b = i.io in
-    record { requests = rw (a.placed, a.rung, b.placed, b.rung, i.fetched) refl; posted = rw (a.posted, b.posted) refl }
+    record { requests = rw (i.admin.placed, i.admin.rung, i.io.placed, i.io.rung, i.fetched) refl; posted = rw (i.admin.posted, i.io.posted) refl }
 
 up-rests : (m : Mailbox) → m.up ≡ true → Rests m
 up-rests m up down = absurd (true≢false (sym up ∙ down))

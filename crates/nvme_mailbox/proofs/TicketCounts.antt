@@ -1,5 +1,5 @@
 -- Tickets are given in order, and go once.
-use Rattle.nvme_mailbox.proofs.Words.{◌≡◌, inl, inr, ℕ, zero, suc, ◌+◌, ◌≤◌, nat_lt, Bool, true, false, List, [], ◌∷◌, ◌++◌, map, Some, refl, sym, ap, subst, ◌∙◌, arith, if◌then◌else◌, slice_get, slice_get-map, option_map, common_steps, length-map, ControllerConfig, new_controller, Lane, Admin, Io, FleetEvent, Reply, concerns, LaneBox, Mailbox, with_box, lane_of, new_mailbox, Site, WithDriver, Raw, Fleet, Run, host_at, after_answer, new_host, numbered, opening, HasMailbox, MailboxStep, given_in, given, done, aborted, along, held_tickets, waiting_tickets, answered_tickets, Balance, counting, TicketsAreConsecutive, is_ticket, times, below, GoesOnce, EachTicketGoesOnce, EachIsHeldOnce, NewHoldsEachOnce, OpeningHasDrivers, OpeningIsNew, TicketsOfAnOpeningGoOnce, HeldAreCounted, waiting, posted_answers}
+use Rattle.nvme_mailbox.proofs.Words.{◌≡◌, inl, inr, ℕ, zero, suc, ◌+◌, ◌≤◌, Bool, true, false, List, [], ◌∷◌, ◌++◌, map, Some, refl, sym, ap, subst, ◌∙◌, arith, if◌then◌else◌, slice_get, slice_get-map, option_map, common_steps, length-map, ControllerConfig, new_controller, Lane, Admin, Io, FleetEvent, Reply, concerns, LaneBox, Mailbox, with_box, lane_of, new_mailbox, Site, WithDriver, Raw, Fleet, Run, host_at, after_answer, new_host, numbered, opening, HasMailbox, MailboxStep, given_in, given, done, aborted, along, held_tickets, waiting_tickets, answered_tickets, Balance, counting, TicketsAreConsecutive, is_ticket, times, below, GoesOnce, EachTicketGoesOnce, EachIsHeldOnce, NewHoldsEachOnce, OpeningHasDrivers, OpeningIsNew, TicketsOfAnOpeningGoOnce, HeldAreCounted, waiting, posted_answers}
 use Rattle.std.proofs.lemmas.List.{length-append}
 use Rattle.nvme_mailbox.proofs.MailboxMarks.{DiffersInMarks, others-differ}
 use Rattle.nvme_mailbox.proofs.Moves.{Move, Stay, Rise, Take, RingBoth, FetchFirst, HandUp, Free, Clear, Answer, May, moved, reply_of, own-moved}
@@ -26,11 +26,10 @@ none m n e = (0, refl, omega (arith, e))
 
 gives-on : (l m n : Mailbox) (xs ys : List ℕ) → Gives l m xs → Gives m n ys → Gives l n (xs ++ ys)
 gives-on l m n xs ys a b =
-    let p = a.2 in
     let q = b.2 in (
       a.0 + b.0,
-      (λ i. a.1 i ++ b.1 i) ∙ ap (λ t. counting l.next a.0 ++ counting t b.0) p ∙ sym (counting-append l.next a.0 b.0),
-      omega (arith, p, q),
+      (λ i. a.1 i ++ b.1 i) ∙ ap (λ t. counting l.next a.0 ++ counting t b.0) a.2 ∙ sym (counting-append l.next a.0 b.0),
+      omega (arith, a.2, q),
     )
 
 box-next : (l : Lane) (b : LaneBox) (m : Mailbox) → (with_box l b m).next ≡ m.next
@@ -109,8 +108,7 @@ goes-once t m n given executed done aborted b g h =
 
 pub each_ticket_goes_once : EachTicketGoesOnce
 each_ticket_goes_once tells old new events replies run k m n at end once t =
-    let g = walk k m n tells old events replies new run at end in
-    goes-once t m n _ _ _ _ (tickets_balance tells old new events replies run k m n at end (is_ticket t)) g (once t)
+    goes-once t m n _ _ _ _ (tickets_balance tells old new events replies run k m n at end (is_ticket t)) (walk k m n tells old events replies new run at end) (once t)
 
 pub each_is_held_once : EachIsHeldOnce
 each_is_held_once tells old new events replies run k m n at end once t =

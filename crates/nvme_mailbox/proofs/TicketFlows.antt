@@ -1,5 +1,5 @@
 -- What becomes of tickets in one event of their host.
-use Rattle.nvme_mailbox.proofs.Words.{reset, ◌≡◌, inl, inr, ℕ, ◌+◌, nat_le, Bool, true, false, List, [], ◌∷◌, map, Some, refl, sym, ap, subst, arith, if◌then◌else◌, slice_get, Lane, Admin, Io, asked_of, Item, FetchedItem, PostedAnswer, LaneBox, Mailbox, box_at, with_box, lane_of, tickets_in, ranked, rising, open_tickets, names, with_mark, new_item, with_placed, RequestExecution, after_answer, with_posted, total, waiting, posted_answers, waiting_tickets, answered_tickets, held_tickets, given_in, done_in, aborted_in, Posted, FleetSeen, where_posted, remove, common_steps}
+use Rattle.nvme_mailbox.proofs.Words.{reset, ◌≡◌, inl, inr, ℕ, ◌+◌, List, [], ◌∷◌, map, Some, refl, sym, ap, subst, arith, slice_get, Lane, Admin, Io, asked_of, Item, FetchedItem, PostedAnswer, Mailbox, box_at, with_box, lane_of, ranked, rising, open_tickets, with_mark, new_item, with_placed, RequestExecution, after_answer, with_posted, total, waiting, posted_answers, waiting_tickets, answered_tickets, held_tickets, given_in, done_in, aborted_in, Posted, FleetSeen, where_posted, remove, common_steps}
 use Rattle.nvme_mailbox.specs.Mailboxes.{with_marks}
 use Rattle.nvme_event.specs.declared.seen.FleetSeen.TheVariants as seen
 use Rattle.nvme_mailbox.proofs.MailboxMarks.{DiffersInMarks}

@@ -1,5 +1,5 @@
 -- Sums over lists.
-use Rattle.nvme_mailbox.proofs.Words.{◌≡◌, ℕ, ◌+◌, zero, suc, List, [], ◌∷◌, ◌++◌, Some, refl, ap, sym, arith, same_Some, slice_get, remove, total}
+use Rattle.nvme_mailbox.proofs.Words.{◌≡◌, ℕ, ◌+◌, zero, suc, List, [], ◌∷◌, ◌++◌, Some, ap, sym, arith, same_Some, slice_get, remove, total}
 
 pub total-append : {A : Type 0} (f : A → ℕ) (xs ys : List A) → total f (xs ++ ys) ≡ total f xs + total f ys
 total-append f [] ys = omega arith

@@ -1,9 +1,6 @@
-use Rattle.nvme_fleet.proofs.ExecuteStep.{io_execution_is_a_step, admin_execution_is_a_step}
 use Rattle.nvme_fleet.proofs.AdminStep.{admin_judged_as_its_request, admin_answers_its_request}
 use Rattle.nvme_fleet.proofs.JudgeStep.{judged_as_its_request}
-use Rattle.nvme_fleet.proofs.PostStep.{nothing_to_execute, posting_has_room, posting_is_a_step}
-use Rattle.nvme_fleet.proofs.ServeStep.{allowed_serves_its_request}
-use Rattle.nvme_fleet.proofs.AnswerStep.{answers_its_request}
+use Rattle.nvme_fleet.proofs.PostStep.{posting_has_room}
 use Rattle.nvme_fleet.proofs.laws.postings_are_steps.Goals as goal
 
 pub returns-clause-room : goal.returns-clause-room
