@@ -33,34 +33,34 @@ admin-known d c i t s g q =
       gathers = λ z. ap (λ n. data_in n c.window t.entry) (sym l) ∙ data-same Admin d c t h z;
     }
 
--- the rule on the list, by the request
-list-is : (d : Driver) (c : Controller) (t : FetchedCommand) (w : World) (h : IsAdmin d c t)
-    → rules.list_rule (command_of (opcode t.entry)) w t.entry (rules.data_of c.window t.entry)
-    ≡ rules.list_rule (command_of (opcode (command_entry (asked_by d c t)))) w (command_entry (asked_by d c t)) (asked_by d c t).sent
-list-is d c t w h =
-    let p = h.plain in
-    ap (λ o. rules.list_rule o w t.entry (rules.data_of c.window t.entry)) p.named
-    ∙ list-matters w t.entry (rules.data_of c.window t.entry) (asked_by d c t).sent p.command (asked_by d c t).received (asked_by d c t).moved p.moves h.gathers
-    ∙ sym (list-same w t.entry (command_entry (asked_by d c t)) (asked_by d c t).sent p.command p.asked h.held.same)
-    ∙ sym (ap (λ o. rules.list_rule o w (command_entry (asked_by d c t)) (asked_by d c t).sent) (ap command_of h.held.same.opcode ∙ p.named))
+-- How it is judged.
+module _ (d : Driver) (c : Controller) (t : FetchedCommand) (h : IsAdmin d c t) where
+  -- the rule on the list, by the request
+  list-is : (w : World)
+      → rules.list_rule (command_of (opcode t.entry)) w t.entry (rules.data_of c.window t.entry) ≡ rules.list_rule (command_of (opcode (command_entry (asked_by d c t)))) w (command_entry (asked_by d c t)) (asked_by d c t).sent
+  list-is w =
+      let p = h.plain in
+      ap (λ o. rules.list_rule o w t.entry (rules.data_of c.window t.entry)) p.named
+      ∙ list-matters w t.entry (rules.data_of c.window t.entry) (asked_by d c t).sent p.command (asked_by d c t).received (asked_by d c t).moved p.moves h.gathers
+      ∙ sym (list-same w t.entry (command_entry (asked_by d c t)) (asked_by d c t).sent p.command p.asked h.held.same)
+      ∙ sym (ap (λ o. rules.list_rule o w (command_entry (asked_by d c t)) (asked_by d c t).sent) (ap command_of h.held.same.opcode ∙ p.named))
 
--- the same judgement
-judged : (d : Driver) (c : Controller) (t : FetchedCommand) (w : World) (cntlid : ℕ) (h : IsAdmin d c t)
-    → rules.admin_judgement w (queues_of c) cntlid t.entry c.window ≡ admin_judgement w cntlid (asked_by d c t)
-unfolding rules.admin_judgement admin_judgement
-judged d c t w cntlid h =
-    let passes : judgement_by (pointer_rule (data_length_of (command_of (opcode t.entry)) t.entry) c.window t.entry) ≡ Ok tt =
-    ap (λ n. judgement_by (pointer_rule n c.window t.entry)) (sym h.length_is) ∙ pointer-passes c.window (cid t.entry) t.entry (asked_by d c t).moved h.held.moves in
-    without-pointer (rules.admin_access_rules w (queues_of c) cntlid t.entry) (pointer_rule (data_length_of (command_of (opcode t.entry)) t.entry) c.window t.entry)
-    (rules.list_rule (command_of (opcode t.entry)) w t.entry (rules.data_of c.window t.entry)) passes
-    ∙ ap (λ r. first_failing (rules.admin_access_rules w (queues_of c) cntlid t.entry ++ r ∷ [])) (list-is d c t w h)
-    ∙ ap (λ qs. first_failing (rules.admin_access_rules w qs cntlid t.entry ++ rules.list_rule (command_of (opcode (command_entry (asked_by d c t)))) w (command_entry (asked_by d c t)) (asked_by d c t).sent ∷ [])) h.queues
-    ∙ ap (λ rs. first_failing (rs ++ rules.list_rule (command_of (opcode (command_entry (asked_by d c t)))) w (command_entry (asked_by d c t)) (asked_by d c t).sent ∷ []))
-    (sym (admin-access-same w queue_pairs cntlid t.entry (command_entry (asked_by d c t)) h.plain.command h.plain.asked h.plain.named h.held.same))
+  -- the same judgement
+  judged : (w : World) (cntlid : ℕ) → rules.admin_judgement w (queues_of c) cntlid t.entry c.window ≡ admin_judgement w cntlid (asked_by d c t)
+  unfolding rules.admin_judgement admin_judgement
+  judged w cntlid =
+      let passes : judgement_by (pointer_rule (data_length_of (command_of (opcode t.entry)) t.entry) c.window t.entry) ≡ Ok tt =
+      ap (λ n. judgement_by (pointer_rule n c.window t.entry)) (sym h.length_is) ∙ pointer-passes c.window (cid t.entry) t.entry (asked_by d c t).moved h.held.moves in
+      without-pointer (rules.admin_access_rules w (queues_of c) cntlid t.entry) (pointer_rule (data_length_of (command_of (opcode t.entry)) t.entry) c.window t.entry)
+      (rules.list_rule (command_of (opcode t.entry)) w t.entry (rules.data_of c.window t.entry)) passes
+      ∙ ap (λ r. first_failing (rules.admin_access_rules w (queues_of c) cntlid t.entry ++ r ∷ [])) (list-is w)
+      ∙ ap (λ qs. first_failing (rules.admin_access_rules w qs cntlid t.entry ++ rules.list_rule (command_of (opcode (command_entry (asked_by d c t)))) w (command_entry (asked_by d c t)) (asked_by d c t).sent ∷ [])) h.queues
+      ∙ ap (λ rs. first_failing (rs ++ rules.list_rule (command_of (opcode (command_entry (asked_by d c t)))) w (command_entry (asked_by d c t)) (asked_by d c t).sent ∷ []))
+      (sym (admin-access-same w queue_pairs cntlid t.entry (command_entry (asked_by d c t)) h.plain.command h.plain.asked h.plain.named h.held.same))
 
 pub admin_judged_as_its_request : AdminJudgedAsItsRequest
 admin_judged_as_its_request d c i t x w cntlid s g f q =
-    judged d c t w cntlid (admin-known d c i t s g q) ∙ ap (λ a. admin_judgement w cntlid a) (sym (asked-at Admin d c i t x g f (ap lane_of_queue q)))
+    judged d c t (admin-known d c i t s g q) w cntlid ∙ ap (λ a. admin_judgement w cntlid a) (sym (asked-at Admin d c i t x g f (ap lane_of_queue q)))
 
 -- The answer.
 
@@ -79,74 +79,72 @@ scattered-taken w [] (b ∷ bs) = refl
 scattered-taken w (a ∷ places) [] = refl
 scattered-taken w (a ∷ places) (b ∷ bs) = scattered-taken _ places bs
 
--- an allowed command's answer, as the mailbox has it
-served-with : (d : Driver) (c : Controller) (t : FetchedCommand) (w : World) (device : Device) (cntlid : ℕ) (h : IsAdmin d c t) (command : AdminCommand) → IsAsked command
-    → MovesAs command (asked_by d c t).received (asked_by d c t).moved t.entry → length (data_out w cntlid command t.entry) ≡ (asked_by d c t).received
-    → request_execution_with d t (admin_command_execution (scene w c.window device) (performance w cntlid c.window command t.entry)) (data_out w cntlid command t.entry)
-    ≡ admin_served (record { world = w; device = device }) cntlid (asked_by d c t) command
-served-with d c t w device cntlid h command a m size i =
-    let k = h.held in
-    let y : List ℕ = command_entry (asked_by d c t) in
-    let whole : take (asked_by d c t).received (data_out w cntlid command t.entry) ≡ data_out w cntlid command t.entry = take_all (asked_by d c t).received (data_out w cntlid command t.entry) (omega (arith, size)) in
-    let bytes = ap (λ n. take n (data_out w cntlid command t.entry)) (sym k.received) ∙ whole ∙ sym (data-out-same w cntlid t.entry y command a k.same) in
-    let world = world-matters w t.entry (rules.data_of c.window t.entry) (asked_by d c t).sent command (asked_by d c t).received (asked_by d c t).moved m h.gathers
-    ∙ sym (world-same w t.entry y (asked_by d c t).sent command a k.same) in
-    let dw0 = sym (dw0-same w t.entry y command a k.same) in
-    record {
-      outcome = record { status = status.successful_completion; dw0 = dw0 i; rule = 0; marks = no_marks };
-      bytes = bytes i;
-      left = record { world = world i; device = device };
-    }
-
--- its data stand at the slot's place
-stands-there : (d : Driver) (c : Controller) (t : FetchedCommand) (h : IsAdmin d c t) (bytes : List ℕ) (n : ℕ) → (asked_by d c t).moved ≡ n → length bytes ≤ (asked_by d c t).moved
-    → with_scattered c.window (data_addresses n c.window t.entry) bytes ≡ with_bytes c.window (data_area (cid t.entry)) bytes
-stands-there d c t h bytes n e few =
-    ap (λ z. with_scattered c.window (data_addresses z c.window t.entry) bytes) (sym e)
-    ∙ scattered-taken c.window (data_addresses (asked_by d c t).moved c.window t.entry) bytes
-    ∙ h.held.moves.scatters bytes few
-
 abbrev Said : Bool → Driver → Controller → FetchedCommand → FetchedItem → World → Device → ℕ → CommandExecution → Type 0
 Said tells d c t x w device cntlid a = (a.change ≡ Keep) × IsAnsweredInItsSlot tells d c t x w device cntlid a
-
-said-by : (tells : Bool) (d : Driver) (c : Controller) (i : ℕ) (t : FetchedCommand) (x : FetchedItem) (w : World) (device : Device) (cntlid : ℕ) (h : IsAdmin d c t)
-    → slice_get c.fetched i ≡ Some t → slice_get (mailbox d c).fetched i ≡ Some x → t.queue ≡ 0 → (command : AdminCommand) → command_of (opcode t.entry) ≡ Some command → IsAsked command
-    → MovesAs command (asked_by d c t).received (asked_by d c t).moved t.entry → (j : Judgement) → JudgementRefuses j → admin_judgement w cntlid (asked_by d c t) ≡ j
-    → Said tells d c t x w device cntlid (admin_command_execution (scene w c.window device) (execution_by j (Some command) w cntlid t.entry c.window))
-said-by tells d c i t x w device cntlid h g f q command named a m (Err e) n judges =
-    let same = h.held.same in
-    let r = unsuccessful e.status n in (
-      refl,
-      record {
-        bytes = [];
-        window = sym (stored-none c.window (data_area (cid t.entry)));
-        few = omega arith;
-        whole = rw r (omega arith);
-        comes_to = as-admin tells cntlid x (asked_by d c t) (record { world = w; device = device }) _ (Err e) command (lane-at Admin d c i t x h.held g f (ap lane_of_queue q)) (asked-at Admin d c i t x g f (ap lane_of_queue q)) judges (ap command_of same.opcode ∙ named)
-            (denied-with d t (admin_command_execution (scene w c.window device) (execution_by (Err e) (Some command) w cntlid t.entry c.window)) w c.window device e.rule e.status r refl refl);
-      },
-    )
-said-by tells d c i t x w device cntlid h g f q command named a m (Ok u) n judges =
-    let same = h.held.same in
-    let moved : (asked_by d c t).moved ≡ data_length command t.entry = h.length_is ∙ ap (λ o. data_length_of o t.entry) named in
-    let size = length-out w cntlid t.entry command (asked_by d c t).received (asked_by d c t).moved a moved m in
-    let back = h.held.received in (
-      keeps-queues t.entry command a,
-      record {
-        bytes = data_out w cntlid command t.entry;
-        window = stands-there d c t h (data_out w cntlid command t.entry) (data_length command t.entry) moved (omega (arith, size, h.held.suited.less));
-        few = omega (arith, size, h.held.suited.less, h.held.suited.most);
-        whole = omega (arith, size, back);
-        comes_to = as-admin tells cntlid x (asked_by d c t) (record { world = w; device = device }) _ (Ok u) command (lane-at Admin d c i t x h.held g f (ap lane_of_queue q)) (asked-at Admin d c i t x g f (ap lane_of_queue q)) judges (ap command_of same.opcode ∙ named)
-            (served-with d c t w device cntlid h command a m size);
-      },
-    )
 
 -- an execution, by what the rules say
 executed-as : (w : World) (queues : Queues) (k : ℕ) (e window : List ℕ) (command : AdminCommand) → command_of (opcode e) ≡ Some command
     → admin_execution w queues k e window ≡ execution_by (rules.admin_judgement w queues k e window) (Some command) w k e window
 unfolding admin_execution
 executed-as w queues k e window command h = ap (λ o. execution_by (rules.admin_judgement w queues k e window) o w k e window) h
+
+-- What it answers.
+module _ (d : Driver) (c : Controller) (t : FetchedCommand) (h : IsAdmin d c t) where
+  -- an allowed command's answer, as the mailbox has it
+  served-with : (w : World) (device : Device) (cntlid : ℕ) (command : AdminCommand) → IsAsked command → MovesAs command (asked_by d c t).received (asked_by d c t).moved t.entry → length (data_out w cntlid command t.entry) ≡ (asked_by d c t).received
+      → request_execution_with d t (admin_command_execution (scene w c.window device) (performance w cntlid c.window command t.entry)) (data_out w cntlid command t.entry) ≡ admin_served (record { world = w; device = device }) cntlid (asked_by d c t) command
+  served-with w device cntlid command a m size i =
+      let k = h.held in
+      let y : List ℕ = command_entry (asked_by d c t) in
+      let whole : take (asked_by d c t).received (data_out w cntlid command t.entry) ≡ data_out w cntlid command t.entry = take_all (asked_by d c t).received (data_out w cntlid command t.entry) (omega (arith, size)) in
+      let bytes = ap (λ n. take n (data_out w cntlid command t.entry)) (sym k.received) ∙ whole ∙ sym (data-out-same w cntlid t.entry y command a k.same) in
+      let world = world-matters w t.entry (rules.data_of c.window t.entry) (asked_by d c t).sent command (asked_by d c t).received (asked_by d c t).moved m h.gathers
+      ∙ sym (world-same w t.entry y (asked_by d c t).sent command a k.same) in
+      let dw0 = sym (dw0-same w t.entry y command a k.same) in
+      record {
+        outcome = record { status = status.successful_completion; dw0 = dw0 i; rule = 0; marks = no_marks };
+        bytes = bytes i;
+        left = record { world = world i; device = device };
+      }
+
+  -- its data stand at the slot's place
+  stands-there : (bytes : List ℕ) (n : ℕ) → (asked_by d c t).moved ≡ n → length bytes ≤ (asked_by d c t).moved
+      → with_scattered c.window (data_addresses n c.window t.entry) bytes ≡ with_bytes c.window (data_area (cid t.entry)) bytes
+  stands-there bytes n e few =
+      ap (λ z. with_scattered c.window (data_addresses z c.window t.entry) bytes) (sym e)
+      ∙ scattered-taken c.window (data_addresses (asked_by d c t).moved c.window t.entry) bytes
+      ∙ h.held.moves.scatters bytes few
+
+  said-by : (tells : Bool) (i : ℕ) (x : FetchedItem) (w : World) (device : Device) (cntlid : ℕ) → slice_get c.fetched i ≡ Some t → slice_get (mailbox d c).fetched i ≡ Some x → t.queue ≡ 0 → (command : AdminCommand) → command_of (opcode t.entry) ≡ Some command → IsAsked command → MovesAs command (asked_by d c t).received (asked_by d c t).moved t.entry → (j : Judgement) → JudgementRefuses j → admin_judgement w cntlid (asked_by d c t) ≡ j
+      → Said tells d c t x w device cntlid (admin_command_execution (scene w c.window device) (execution_by j (Some command) w cntlid t.entry c.window))
+  said-by tells i x w device cntlid g f q command named a m (Err e) n judges =
+      let same = h.held.same in
+      let r = unsuccessful e.status n in (
+        refl,
+        record {
+          bytes = [];
+          window = sym (stored-none c.window (data_area (cid t.entry)));
+          few = omega arith;
+          whole = rw r (omega arith);
+          comes_to = as-admin tells cntlid x (asked_by d c t) (record { world = w; device = device }) _ (Err e) command (lane-at Admin d c i t x h.held g f (ap lane_of_queue q)) (asked-at Admin d c i t x g f (ap lane_of_queue q)) judges (ap command_of same.opcode ∙ named)
+              (denied-with d t (admin_command_execution (scene w c.window device) (execution_by (Err e) (Some command) w cntlid t.entry c.window)) w c.window device e.rule e.status r refl refl);
+        },
+      )
+  said-by tells i x w device cntlid g f q command named a m (Ok u) n judges =
+      let same = h.held.same in
+      let moved : (asked_by d c t).moved ≡ data_length command t.entry = h.length_is ∙ ap (λ o. data_length_of o t.entry) named in
+      let size = length-out w cntlid t.entry command (asked_by d c t).received (asked_by d c t).moved a moved m in
+      let back = h.held.received in (
+        keeps-queues t.entry command a,
+        record {
+          bytes = data_out w cntlid command t.entry;
+          window = stands-there (data_out w cntlid command t.entry) (data_length command t.entry) moved (omega (arith, size, h.held.suited.less));
+          few = omega (arith, size, h.held.suited.less, h.held.suited.most);
+          whole = omega (arith, size, back);
+          comes_to = as-admin tells cntlid x (asked_by d c t) (record { world = w; device = device }) _ (Ok u) command (lane-at Admin d c i t x h.held g f (ap lane_of_queue q)) (asked-at Admin d c i t x g f (ap lane_of_queue q)) judges (ap command_of same.opcode ∙ named)
+              (served-with w device cntlid command a m size);
+        },
+      )
 
 pub admin_answers_its_request : AdminAnswersItsRequest
 admin_answers_its_request tells d c i t x w device cntlid a s g f q h =
@@ -155,8 +153,8 @@ admin_answers_its_request tells d c i t x w device cntlid a s g f q h =
     let e : a ≡ admin_command_execution (scene w c.window device) (execution_by (rules.admin_judgement w (queues_of c) cntlid t.entry c.window) (Some p.command) w cntlid t.entry c.window) =
     h ∙ ap (admin_command_execution (scene w c.window device)) (executed-as w (queues_of c) cntlid t.entry c.window p.command p.named) in
     subst (Said tells d c t x w device cntlid) (sym e)
-    (said-by tells d c i t x w device cntlid k g f q p.command p.named p.asked p.moves (rules.admin_judgement w (queues_of c) cntlid t.entry c.window)
-    (admin-refuses w (queues_of c) cntlid t.entry c.window) (sym (judged d c t w cntlid k)))
+    (said-by d c t k tells i x w device cntlid g f q p.command p.named p.asked p.moves (rules.admin_judgement w (queues_of c) cntlid t.entry c.window)
+    (admin-refuses w (queues_of c) cntlid t.entry c.window) (sym (judged d c t k w cntlid)))
 
 -- Its completion's fields are within their width.
 

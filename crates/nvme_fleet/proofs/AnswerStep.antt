@@ -3,9 +3,8 @@ use Rattle.nvme_fleet.proofs.Words.{◌≡◌, ℕ, Bool, not, false, List, [], 
 use Rattle.nvme_spec.specs.IoData as spec
 use Rattle.nvme_fleet.proofs.Windows.{stored-none}
 use Rattle.nvme_fleet.proofs.Commands.{SameFields}
-use Rattle.nvme_fleet.proofs.Judging.{length-same, same-count, same-lba}
 use Rattle.nvme_fleet.proofs.HeldStep.{asked-at, lane-at}
-use Rattle.nvme_fleet.proofs.JudgeStep.{io-known, judged_as_its_request}
+use Rattle.nvme_fleet.proofs.JudgeStep.{io-known, judged_as_its_request, length-same, same-count, same-lba}
 use Rattle.nvme_fleet.proofs.ServeStep.{asked_by, allowed_serves_its_request}
 
 plan-same : (command : Command) (x y : List ℕ) → SameFields x y → plan_of command y ≡ plan_of command x

@@ -1,11 +1,12 @@
 -- An execution of a command of either lane is the step of the mailbox.
-use Rattle.nvme_fleet.proofs.Words.{same_Some, ◌≡◌, ℕ, ◌^◌, ◌<◌, ◌==◌, Bool, List, Some, refl, sym, ap, subst, ◌∙◌, arith, slice_get, FitsCompletion, Outcome, Verdict, Allowed, Denied, Keep, admin_execution, Scene, ExecutesBy, Fits, execution_fits, Lane, Admin, Io, queue_id, Driver, FetchedCommand, Executed, Controller, QueuePair, open_pair, queues_of, CommandExecution, admin_command_execution, CommandComesToAs, CommandComesTo, IoCommandComesTo, Setting, ExecutesNth, Finishes, FinishesOver, FinishesOne, scene_in, FetchedItem, RequestComesTo, Sound, mailbox, lane_of_queue, IsAnsweredInItsSlot, IsExecuted, request_execution_with, IoExecutionIsAStep, AdminExecutionIsAStep, ExecutionIsAStep}
+use Rattle.nvme_fleet.proofs.Words.{same_Some, ◌≡◌, ℕ, ◌^◌, ◌<◌, ◌==◌, Bool, List, Some, refl, sym, ap, subst, ◌∙◌, arith, slice_get, FitsCompletion, Outcome, Verdict, Allowed, Denied, Keep, admin_execution, Scene, ExecutesBy, Fits, execution_fits, Lane, Admin, Io, queue_id, Driver, FetchedCommand, Executed, Controller, QueuePair, open_pair, queues_of, CommandExecution, admin_command_execution, CommandComesToAs, CommandComesTo, IoCommandComesTo, Setting, ExecutesNth, Finishes, FinishesOver, FinishesOne, scene_in, FetchedItem, RequestComesTo, Sound, mailbox, lane_of_queue, IsAnsweredInItsSlot, IsExecuted, request_execution_with, IoExecutionIsAStep, AdminExecutionIsAStep, ExecutionIsAStep, None, plain, Fleet, WithDriver, Completes, ExecutesItem, ExecutesAt, settled, site_of, setting_of, marks_in, ExecutionIsAFleetStep, NoExecutionIsAFleetStep}
 use Rattle.nvme_fleet.proofs.OneLane.{running}
 use Rattle.nvme_spec.specs.IoData as spec
-use Rattle.nvme_fleet.proofs.PostStep.{known, open-is, pair_in, fields_of, item_at, found-at, posting_has_room, posting_is_a_step}
+use Rattle.nvme_fleet.proofs.PostStep.{known, open-is, pair_in, fields_of, item_at, found-at, posting_has_room, posting_is_a_step, nothing_to_execute}
 use Rattle.nvme_fleet.proofs.HeldStep.{held-known}
 use Rattle.nvme_fleet.proofs.AdminStep.{admin_answers_its_request, admin-fits}
 use Rattle.nvme_fleet.proofs.AnswerStep.{answers_its_request}
+use Rattle.nvme_event.specs.declared.seen.FleetSeen.TheVariants.{Executed as ExecutedSeen}
 
 -- Dword 0 of an I/O command's completion.
 
@@ -129,3 +130,32 @@ execution_is_a_step tells d i t old executed new s g h =
     by-lane : (lane : Lane) → t.queue ≡ queue_id lane → IsExecuted tells d i old executed new
     by-lane Admin q = admin_execution_is_a_step tells d i t old executed new s g q h
     by-lane Io q = io_execution_is_a_step tells d i t old executed new s g q h
+
+-- An execution of a controller that has a driver is the step of its fleet.
+
+-- the fleet as the execution leaves it
+abbrev after : Fleet → ℕ → Driver → Executed → Setting → Fleet
+after f k d executed left = settled f k (site_of left) (WithDriver (mailbox d left.controller)) (marks_in executed)
+
+completes : (tells : Bool) (f : Fleet) (k : ℕ) (d : Driver) (c : Controller) (i : ℕ) (executed : Executed) (left : Setting) → c.cntlid ≡ k → (r : IsExecuted tells d i (setting_of f c) executed left)
+    → Completes tells f k (mailbox d c) i r.item (plain (ExecutedSeen executed)) (after f k d executed left)
+completes tells f k d c i executed left e r = record {
+  execution = r.execution;
+  comes_to = subst (λ n. RequestComesTo tells n r.item f.site r.execution) e r.comes_to;
+  gives = ap (λ x. plain (ExecutedSeen x)) r.gives;
+  leaves = λ j. settled f k (record { world = r.world j; device = r.device j }) (WithDriver (r.mail j)) (marks_in (r.gives j));
+}
+
+pub execution_is_a_fleet_step : ExecutionIsAFleetStep
+execution_is_a_fleet_step tells f k d c i t executed left s e host g h =
+    let r = execution_is_a_step tells d i t (setting_of f c) executed left s g h in
+    let y : ExecutesItem (slice_get (mailbox d c).fetched i) tells f k (mailbox d c) i (plain (ExecutedSeen executed)) (after f k d executed left) =
+    subst (λ o. ExecutesItem o tells f k (mailbox d c) i (plain (ExecutedSeen executed)) (after f k d executed left)) (sym r.found) (completes tells f k d c i executed left e r) in
+    subst (λ o. ExecutesAt o tells f k i (plain (ExecutedSeen executed)) (after f k d executed left)) (sym host) y
+
+pub no_execution_is_a_fleet_step : NoExecutionIsAFleetStep
+no_execution_is_a_fleet_step tells f k d c i executed left host g h =
+    let none : FinishesOne None tells i (setting_of f c) executed left = subst (λ o. FinishesOne o tells i (setting_of f c) executed left) g h in
+    let y : ExecutesItem (slice_get (mailbox d c).fetched i) tells f k (mailbox d c) i (plain (ExecutedSeen executed)) f =
+    subst (λ o. ExecutesItem o tells f k (mailbox d c) i (plain (ExecutedSeen executed)) f) (sym (nothing_to_execute d c i g)) (ap (λ x. plain (ExecutedSeen x)) none.0, refl) in
+    (none.1, subst (λ o. ExecutesAt o tells f k i (plain (ExecutedSeen executed)) f) (sym host) y)

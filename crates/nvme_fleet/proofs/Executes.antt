@@ -60,29 +60,9 @@ pub record Executes (d : Host) (c : State) (ans : Effect) (i : ℕ) (x bytes : L
   pub fits : answer_len (received_in (slot_at d.slots (cid x)).waiting) ans.status ≤ length ans.bytes
   pub gets : take (length ans.bytes) bytes ≡ ans.bytes
 
-written : (d : Host) (c : State) (ans : Effect) (i : ℕ) (x bytes : List ℕ) → Executes d c ans i x bytes →
-    EntersCompletion c.window (executed_state c i x ans).window (c.posted % 32) (finished_bytes c ans x)
-written d c ans i x bytes h = answered c.window (finished_bytes c ans x) (c.posted % 32) ((h.fetched).running).window (omega arith) h.size
-
 -- the slot keeps its request, and gets the data
 here : (d : Host) (x bytes : List ℕ) → cid x < length d.slots → holds (executed d x bytes) (cid x) ≡ record (slot_at d.slots (cid x)) { bytes = bytes }
 here d x bytes l = slot-same d.slots (cid x) (record (slot_at d.slots (cid x)) { bytes = bytes }) l
-
--- one completion more is unread
-unread-more : (d : Host) (c : State) (ans : Effect) (i : ℕ) (x bytes : List ℕ) → Executes d c ans i x bytes → unread (executed d x bytes) (executed_state c i x ans) ≡ unread d c ++ finished c ans x ∷ []
-unread-more d c ans i x bytes h =
-    let s : Running d c = (h.fetched).running in
-    let k = written d c ans i x bytes h in
-    let g : c.unread ≤ (c.posted % 32 + 32 - d.consumed % 32) % 32 = omega (arith, s.posted, s.consumed, (h.fetched).room) in
-    let e : completion_of (completion_bytes (executed_state c i x ans).window c.posted) ≡ finished c ans x =
-    ap completion_of k.last ∙ h.reads in
-    completions-append (executed_state c i x ans).window d.consumed c.unread 1 s.consumed ∙
-    ap (λ t. t ++ completions (executed_state c i x ans).window ((d.consumed + c.unread) % 64) 1) (completions-kept c.window (executed_state c i x ans).window 8 (c.posted % 32) d.consumed c.unread k.keeps (omega arith) s.consumed (omega (arith, (h.fetched).room)) g) ∙
-    ap (λ n. unread d c ++ completions (executed_state c i x ans).window n 1) (sym s.posted) ∙
-    ap (λ t. unread d c ++ t ∷ []) e
-
-flight-same : (d : Host) (c : State) (ans : Effect) (i from n : ℕ) (x bytes : List ℕ) → Executes d c ans i x bytes → from < 8 → commands (executed_state c i x ans).window from n ≡ commands c.window from n
-flight-same d c ans i from n x bytes h b = commands-same c.window (executed_state c i x ans).window (c.posted % 32) from n (written d c ans i x bytes h).keeps b
 
 -- the answer that a command is given
 abbrev pub given : Host → State → Effect → List ℕ → PostedAnswer
@@ -97,89 +77,106 @@ given d c ans x = record {
 front-of : (n m : ℕ) (bytes front : List ℕ) → n ≤ m → take m bytes ≡ front → take n bytes ≡ take n front
 front-of n m bytes front h e = sym (take-take n m bytes h) ∙ ap (take n) e
 
--- the answer that is posted
-given-is : (d : Host) (c : State) (ans : Effect) (i : ℕ) (x bytes : List ℕ) → Executes d c ans i x bytes →
-    answer (holds (executed d x bytes)) (last_head (heard d) (unread d c)) (finished c ans x) ≡ given d c ans x
-given-is d c ans i x bytes h =
-    let k = here d x bytes (omega (arith, (h.fetched).within, ((h.fetched).running).slots)) in
-    rw (k, front-of (answer_len (received_in (slot_at d.slots (cid x)).waiting) ans.status) (length ans.bytes) bytes ans.bytes h.fits h.gets) refl
-
-since-done : (d : Host) (c : State) (ans : Effect) (i : ℕ) (x bytes : List ℕ) → Executes d c ans i x bytes → since (executed d x bytes) (executed_state c i x ans) ≡ 0
-since-done d c ans i x bytes h =
-    ap (λ l. (c.fetched + 8 - l) % 8) (ap (last_head (heard d)) (unread-more d c ans i x bytes h) ∙ last-more (heard d) (unread d c) (finished c ans x)) ∙ since-zero c.fetched ((h.fetched).running).fetched
-
--- Execute puts the answer behind those that are posted
-pub execute-box : (d : Host) (c : State) (ans : Effect) (i : ℕ) (x bytes : List ℕ) → Executes d c ans i x bytes →
-    box (executed d x bytes) (executed_state c i x ans) ≡ record (box d c) { posted = (box d c).posted ++ given d c ans x ∷ []; since = 0 }
-unfolding box
-execute-box d c ans i x bytes h =
-    let f : ℕ → Slot = holds (executed d x bytes) in
-    let b = bare-box d (record c { taken = remove c.taken i }) (cid x) (record (slot_at d.slots (cid x)) { bytes = bytes }) (h.fetched).bare in
-    same-box _ _ _ _ _ _ _ _ _ _
-    (ap (map (item f)) (flight-same d c ans i _ _ x bytes h (omega arith)))
-    (ap (map (item f)) (flight-same d c ans i _ _ x bytes h ((h.fetched).running).fetched))
-    (ap (answers f (heard d)) (unread-more d c ans i x bytes h) ∙ answers-more f (heard d) (unread d c) (finished c ans x))
-    refl
-    (since-done d c ans i x bytes h)
-    ∙ (λ j. record (b j) { posted = (b j).posted ++ (given-is d c ans i x bytes h) j ∷ []; since = 0 })
-
--- a sum over the commands loses what the executed one brought
-execute-total : (f : List ℕ → ℕ) (d : Host) (c : State) (ans : Effect) (i : ℕ) (x bytes : List ℕ) → Executes d c ans i x bytes →
-    f x + total f (remove c.taken i) + total f (commands (executed_state c i x ans).window c.fetched (in_flight d c)) ≡
-    total f c.taken + total f (commands c.window c.fetched (in_flight d c))
-execute-total f d c ans i x bytes h =
-    omega (arith, total-removed f c.taken i x (h.fetched).there, ap (total f) (flight-same d c ans i c.fetched (in_flight d c) x bytes h ((h.fetched).running).fetched))
-
 -- the slots keep their requests
 pending-done : (d : Host) (x bytes : List ℕ) (k : ℕ) → (holds (executed d x bytes) k).waiting ≡ (slot_at d.slots k).waiting
 pending-done d x bytes k = each-all (λ k (o : Slot). o.waiting ≡ (slot_at d.slots k).waiting) d.slots (cid x) (record (slot_at d.slots (cid x)) { bytes = bytes }) refl (λ k. refl) k
 
-carried-done : (d : Host) (c : State) (ans : Effect) (i : ℕ) (x bytes : List ℕ) → Executes d c ans i x bytes → Carried (executed d x bytes) (executed_state c i x ans)
-carried-done d c ans i x bytes h k =
-    let u : answers_of k (unread (executed d x bytes) (executed_state c i x ans)) ≡ answers_of k (unread d c) + bears k x =
-    ap (answers_of k) (unread-more d c ans i x bytes h) ∙ total-append (replies k) (unread d c) (finished c ans x ∷ []) ∙ ap (λ n. answers_of k (unread d c) + n) (omega arith) in
-    rw (pending-done d x bytes k)
-    (omega (arith, ((h.fetched).running).carried k, u, execute-total (bears k) d c ans i x bytes h))
+-- What such an execution leaves.
+module _ (d : Host) (c : State) (ans : Effect) (i : ℕ) (x bytes : List ℕ) (h : Executes d c ans i x bytes) where
+  written : EntersCompletion c.window (executed_state c i x ans).window (c.posted % 32) (finished_bytes c ans x)
+  written = answered c.window (finished_bytes c ans x) (c.posted % 32) ((h.fetched).running).window (omega arith) h.size
 
-pub execute-running : (d : Host) (c : State) (ans : Effect) (i : ℕ) (x bytes : List ℕ) → Executes d c ans i x bytes → Running (executed d x bytes) (executed_state c i x ans)
-execute-running d c ans i x bytes h =
-    let s : Running d c = (h.fetched).running in
-    let w = written d c ans i x bytes h in
-    let u : steps (heard d) (unread (executed d x bytes) (executed_state c i x ans)) ≡ steps (heard d) (unread d c) + since d c =
-    ap (steps (heard d)) (unread-more d c ans i x bytes h) ∙ steps-more (heard d) (unread d c) (finished c ans x) in
-    record {
-      ready = s.ready;
-      window = w.keeps.size ∙ s.window;
-      slots = length-set d.slots (cid x) (record (slot_at d.slots (cid x)) { bytes = bytes }) ∙ s.slots;
-      put = s.put;
-      fetched = s.fetched;
-      consumed = s.consumed;
-      posted = omega (arith, s.posted);
-      waiting = s.waiting;
-      unheard = omega (arith, u, since-done d c ans i x bytes h, s.unheard);
-      room = s.room;
-      of_lane = rw (unread-more d c ans i x bytes h) (all-joined (IsOf (queue_id c.lane)) (unread d c) (finished c ans x ∷ []) s.of_lane ((refl, s.fetched), tt));
-      phases = phases-posted c.window _ _ d.consumed c.unread c.posted w s.posted (omega (arith, (h.fetched).room)) (ap (λ (e : Completion). e.phase) h.reads) s.phases;
-      carried = carried-done d c ans i x bytes h;
-      held = omega (
-        arith,
-        s.held,
-        length-remove c.taken i (slice_get_within c.taken i x (h.fetched).there),
-        live-set d.slots (cid x) (record (slot_at d.slots (cid x)) { bytes = bytes }) (omega (arith, (h.fetched).within, s.slots)),
-      );
-      suited = omega (
-        arith,
-        s.suited,
-        execute-total (odd (holds d)) d c ans i x bytes h,
-        bare-odd d (record c { taken = remove c.taken i }) (cid x) (record (slot_at d.slots (cid x)) { bytes = bytes }) (h.fetched).bare,
-        ap (total (odd (holds (executed d x bytes)))) (flight-same d c ans i c.fetched (in_flight d c) x bytes h s.fetched),
-      );
-    }
+  -- one completion more is unread
+  unread-more : unread (executed d x bytes) (executed_state c i x ans) ≡ unread d c ++ finished c ans x ∷ []
+  unread-more =
+      let s : Running d c = (h.fetched).running in
+      let k = written in
+      let g : c.unread ≤ (c.posted % 32 + 32 - d.consumed % 32) % 32 = omega (arith, s.posted, s.consumed, (h.fetched).room) in
+      let e : completion_of (completion_bytes (executed_state c i x ans).window c.posted) ≡ finished c ans x =
+      ap completion_of k.last ∙ h.reads in
+      completions-append (executed_state c i x ans).window d.consumed c.unread 1 s.consumed ∙
+      ap (λ t. t ++ completions (executed_state c i x ans).window ((d.consumed + c.unread) % 64) 1) (completions-kept c.window (executed_state c i x ans).window 8 (c.posted % 32) d.consumed c.unread k.keeps (omega arith) s.consumed (omega (arith, (h.fetched).room)) g) ∙
+      ap (λ n. unread d c ++ completions (executed_state c i x ans).window n 1) (sym s.posted) ∙
+      ap (λ t. unread d c ++ t ∷ []) e
 
--- the lane whose command was executed holds
-pub execute-holds : (first : ℕ) (d : Host) (c : State) (ans : Effect) (i : ℕ) (x bytes : List ℕ) → Holds first d c → d.up ≡ true → Executes d c ans i x bytes →
-    Holds first (executed d x bytes) (executed_state c i x ans)
-execute-holds first d c ans i x bytes s u h =
-    up-holds first (executed d x bytes) (executed_state c i x ans) u s.failed s.begun
-    (λ k. rw (pending-done d x bytes k) (s.ages k))
-    (execute-running d c ans i x bytes h)
+  flight-same : (from n : ℕ) → from < 8 → commands (executed_state c i x ans).window from n ≡ commands c.window from n
+  flight-same from n b = commands-same c.window (executed_state c i x ans).window (c.posted % 32) from n written.keeps b
+
+  -- the answer that is posted
+  given-is : answer (holds (executed d x bytes)) (last_head (heard d) (unread d c)) (finished c ans x) ≡ given d c ans x
+  given-is =
+      let k = here d x bytes (omega (arith, (h.fetched).within, ((h.fetched).running).slots)) in
+      rw (k, front-of (answer_len (received_in (slot_at d.slots (cid x)).waiting) ans.status) (length ans.bytes) bytes ans.bytes h.fits h.gets) refl
+
+  since-done : since (executed d x bytes) (executed_state c i x ans) ≡ 0
+  since-done =
+      ap (λ l. (c.fetched + 8 - l) % 8) (ap (last_head (heard d)) unread-more ∙ last-more (heard d) (unread d c) (finished c ans x)) ∙ since-zero c.fetched ((h.fetched).running).fetched
+
+  -- Execute puts the answer behind those that are posted
+  pub execute-box : box (executed d x bytes) (executed_state c i x ans) ≡ record (box d c) { posted = (box d c).posted ++ given d c ans x ∷ []; since = 0 }
+  unfolding box
+  execute-box =
+      let f : ℕ → Slot = holds (executed d x bytes) in
+      let b = bare-box d (record c { taken = remove c.taken i }) (cid x) (record (slot_at d.slots (cid x)) { bytes = bytes }) (h.fetched).bare in
+      same-box _ _ _ _ _ _ _ _ _ _
+      (ap (map (item f)) (flight-same _ _ (omega arith)))
+      (ap (map (item f)) (flight-same _ _ ((h.fetched).running).fetched))
+      (ap (answers f (heard d)) unread-more ∙ answers-more f (heard d) (unread d c) (finished c ans x))
+      refl
+      since-done
+      ∙ (λ j. record (b j) { posted = (b j).posted ++ given-is j ∷ []; since = 0 })
+
+  -- a sum over the commands loses what the executed one brought
+  execute-total : (f : List ℕ → ℕ)
+      → f x + total f (remove c.taken i) + total f (commands (executed_state c i x ans).window c.fetched (in_flight d c)) ≡ total f c.taken + total f (commands c.window c.fetched (in_flight d c))
+  execute-total f =
+      omega (arith, total-removed f c.taken i x (h.fetched).there, ap (total f) (flight-same c.fetched (in_flight d c) ((h.fetched).running).fetched))
+
+  carried-done : Carried (executed d x bytes) (executed_state c i x ans)
+  carried-done k =
+      let u : answers_of k (unread (executed d x bytes) (executed_state c i x ans)) ≡ answers_of k (unread d c) + bears k x =
+      ap (answers_of k) unread-more ∙ total-append (replies k) (unread d c) (finished c ans x ∷ []) ∙ ap (λ n. answers_of k (unread d c) + n) (omega arith) in
+      rw (pending-done d x bytes k)
+      (omega (arith, ((h.fetched).running).carried k, u, execute-total (bears k)))
+
+  pub execute-running : Running (executed d x bytes) (executed_state c i x ans)
+  execute-running =
+      let s : Running d c = (h.fetched).running in
+      let w = written in
+      let u : steps (heard d) (unread (executed d x bytes) (executed_state c i x ans)) ≡ steps (heard d) (unread d c) + since d c =
+      ap (steps (heard d)) unread-more ∙ steps-more (heard d) (unread d c) (finished c ans x) in
+      record {
+        ready = s.ready;
+        window = w.keeps.size ∙ s.window;
+        slots = length-set d.slots (cid x) (record (slot_at d.slots (cid x)) { bytes = bytes }) ∙ s.slots;
+        put = s.put;
+        fetched = s.fetched;
+        consumed = s.consumed;
+        posted = omega (arith, s.posted);
+        waiting = s.waiting;
+        unheard = omega (arith, u, since-done, s.unheard);
+        room = s.room;
+        of_lane = rw unread-more (all-joined (IsOf (queue_id c.lane)) (unread d c) (finished c ans x ∷ []) s.of_lane ((refl, s.fetched), tt));
+        phases = phases-posted c.window _ _ d.consumed c.unread c.posted w s.posted (omega (arith, (h.fetched).room)) (ap (λ (e : Completion). e.phase) h.reads) s.phases;
+        carried = carried-done;
+        held = omega (
+          arith,
+          s.held,
+          length-remove c.taken i (slice_get_within c.taken i x (h.fetched).there),
+          live-set d.slots (cid x) (record (slot_at d.slots (cid x)) { bytes = bytes }) (omega (arith, (h.fetched).within, s.slots)),
+        );
+        suited = omega (
+          arith,
+          s.suited,
+          execute-total (odd (holds d)),
+          bare-odd d (record c { taken = remove c.taken i }) (cid x) (record (slot_at d.slots (cid x)) { bytes = bytes }) (h.fetched).bare,
+          ap (total (odd (holds (executed d x bytes)))) (flight-same c.fetched (in_flight d c) s.fetched),
+        );
+      }
+
+  -- the lane whose command was executed holds
+  pub execute-holds : (first : ℕ) → Holds first d c → d.up ≡ true → Holds first (executed d x bytes) (executed_state c i x ans)
+  execute-holds first s u =
+      up-holds first (executed d x bytes) (executed_state c i x ans) u s.failed s.begun
+      (λ k. rw (pending-done d x bytes k) (s.ages k))
+      execute-running

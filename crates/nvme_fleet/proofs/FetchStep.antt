@@ -87,7 +87,6 @@ waits lane d c s u p =
 taken-at : (lane : Lane) (d : Driver) (c : Controller) → Waits lane d c → AtLane lane d d c (taken_in lane c) d.next (host lane d c.window) (after_fetch (state lane c))
 taken-at lane d c h =
     let k = taken-so lane c (h.sound.up h.up) in
-    let x : List ℕ = head_entry c (submission_as lane (counts lane c)) in
     let here = commands-append lane c.fetched (new_command lane c ∷ [])
     ∙ ap (λ ys. commands_in lane c.fetched ++ ys) (one-here lane (head_entry c (submission_as lane (counts lane c))) ∙ ap (λ y. y ∷ []) h.entry) in
     let there = commands-append (other lane) c.fetched (new_command lane c ∷ [])
@@ -120,7 +119,6 @@ rest_rung lane d c = (box (host lane d c.window) (after_fetch (state lane c))).r
 
 taken-mail : (lane : Lane) (d : Driver) (c : Controller) → Waits lane d c → mailbox d (taken_in lane c) ≡ (fetched_first lane (first_rung lane d c ∷ rest_rung lane d c) (mailbox d c)).mailbox
 taken-mail lane d c h =
-    let fs : List FetchedItem = (mailbox d c).fetched ++ record { item = first_rung lane d c; marked = false } ∷ [] in
     mail-at lane d d c (taken_in lane c) d.next _ _ (taken-at lane d c h) ((mailbox d c).fetched ++ record { item = first_rung lane d c; marked = false } ∷ [])
     (map-append (fetched_by (held_by d c.window)) c.fetched (new_command lane c ∷ [])
     ∙ ap (λ x. (mailbox d c).fetched ++ x ∷ []) (one-item lane d c.window (head_entry c (submission_as lane (counts lane c)))

@@ -6,9 +6,8 @@ use Rattle.nvme_subsys.proofs.Numbers as numbers
 use Rattle.nvme_event.specs.declared.seen.FleetSeen.TheVariants as seen
 use Rattle.nvme_mailbox.specs.Fleets as mailboxes
 use Rattle.nvme_mailbox.specs.Fleets.{Host}
-use Rattle.nvme_fleet.proofs.ExecuteStep.{execution_is_a_step}
+use Rattle.nvme_fleet.proofs.ExecuteStep.{execution_is_a_step, execution_is_a_fleet_step}
 use Rattle.nvme_fleet.proofs.FetchStep.{fetch_is_a_step}
-use Rattle.nvme_fleet.proofs.FleetStep.{execution_is_a_fleet_step}
 use Rattle.nvme_fleet.proofs.PostStep.{nothing_to_execute}
 use Rattle.nvme_fleet.proofs.Seats.{IsSeat, has-driver, has-settled, host-same, reseated, seat}
 use Rattle.std.proofs.lemmas.Option.{slice_get-get_or}
@@ -74,12 +73,10 @@ pub lent-there : {A : Type 0} (f : A → Controller) (o : Option A) (x : A) (s :
 lent-there f o x s k is h = controller-is-in s k (f x) (subst (λ p. IfSome p (λ y. controller_at s k ≡ Some (f y))) is h)
 
 driver-is : (ds : List (Option Driver)) (k i : ℕ) → k ≡ i + 1 → driver_at ds k ≡ slice_get ds i
-driver-is ds zero i h = absurd (omega (arith, h))
-driver-is ds (suc n) i h = let same : n ≡ i = omega (arith, h) in ap (slice_get ds) same
+driver-is ds k i h = let next : k ≡ suc i = omega (arith, h) in ap (driver_at ds) next
 
 put-is : (ds : List (Option Driver)) (k i : ℕ) (d : Option Driver) → k ≡ i + 1 → slice_set ds i d ≡ with_driver ds k d
-put-is ds zero i d h = absurd (omega (arith, h))
-put-is ds (suc n) i d h = let same : i ≡ n = omega (arith, h) in ap (λ m. slice_set ds m d) same
+put-is ds k i d h = let next : suc i ≡ k = omega (arith, h) in ap (λ n. with_driver ds n d) next
 
 driver-there : (a : FleetState) (k : ℕ) (d : Option Driver) → IsSoundFleet a → IsThere a.subsystem k → d ≡ get_or a.drivers (k - 1) d → driver_at a.drivers k ≡ Some d
 driver-there a k d s there is =

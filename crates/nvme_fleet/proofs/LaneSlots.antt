@@ -1,5 +1,8 @@
 -- The slots of the window as each lane sees them: where one changes, all others stay in both lanes.
 use Rattle.nvme_fleet.proofs.Words.{waiting_at, cid, Waiting, ◌≡◌, ℕ, ◌+◌, ◌<◌, ◌≤◌, List, [], ◌∷◌, length, map, refl, ap, sym, ◌∙◌, arith, zero, suc, true, false, cond, eqb, Option, Some, None, slice_set, inl, inr, cases_Bool, ne_eqb, Slot, empty, slot_at, live_in, live_waiting, item, commands_of, Lane, Admin, Io, same, other, FetchedCommand, lane_of_queue, whole, slot_in, slots_in, commands_in, fetched_by, common_steps}
+use Rattle.std.specs.Option.{option_flatten}
+use Rattle.std.proofs.lemmas.Option.{slice_get-get_or}
+use Rattle.nvme_mailbox.proofs.Lists.{got-back}
 use Rattle.nvme_fleet.proofs.Slots.{Apart, cond-zero}
 use Rattle.nvme_fleet.proofs.LaneWindows.{Same, same-self, same-other}
 use Rattle.nvme_fleet.proofs.Orders.{cond-one}
@@ -43,9 +46,7 @@ set-slot (y ∷ ys) zero = refl
 set-slot (y ∷ ys) (suc i) = ap (λ t. y ∷ t) (set-slot ys i)
 
 pub set-waiting : (xs : List (Option Waiting)) (i : ℕ) → i < length xs → slice_set xs i (waiting_at xs i) ≡ xs
-set-waiting [] i h = let z : ⊥ = omega (arith, h) in absurd z
-set-waiting (x ∷ xs) zero h = refl
-set-waiting (x ∷ xs) (suc i) h = ap (λ t. x ∷ t) (set-waiting xs i (omega (arith, h)))
+set-waiting xs i h = let at = slice_get-get_or xs i None h in got-back xs i (waiting_at xs i) (at ∙ ap Some (sym (ap option_flatten at)))
 
 -- windows that share all slots but one
 abbrev pub Others : List ℕ → List ℕ → ℕ → Type 0
@@ -64,10 +65,7 @@ slots-there l w w' xs n o e b h before then =
     ∙ set-slot (slots_in l w 0 xs) n
 
 same-is : (x lane : Lane) → same x lane ≡ true → x ≡ lane
-same-is Admin Admin e = refl
-same-is Admin Io e = absurd (cc (e))
-same-is Io Admin e = absurd (cc (e))
-same-is Io Io e = refl
+same-is x lane e = grind (arith, common_steps, e)
 
 -- the request that a live slot of a lane holds, in whatever window; the other lane sees none there
 pub record Own (lane : Lane) (o : Option Waiting) : Type 0 where

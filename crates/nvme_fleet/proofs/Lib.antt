@@ -24,14 +24,12 @@ pub mod Registering
 pub mod Linking
 pub mod FetchStep
 pub mod RingStep
-pub mod ResetStep
 pub mod PollStep
 pub mod Sizes
 pub mod PlaceStep
 pub mod PostStep
 pub mod MarkStep
 pub mod Commands
-pub mod Judging
 pub mod Transferring
 pub mod HeldStep
 pub mod JudgeStep
@@ -47,9 +45,7 @@ pub mod StartStep
 pub mod OwnCommands
 pub mod TurnStep
 pub mod RiseStep
-pub mod FleetStep
 pub mod SoundOpening
-pub mod Hosting
 pub mod Seats
 pub mod FleetOpening
 pub mod FleetRuns
@@ -69,7 +65,6 @@ pub mod Mirrored
 pub mod LayersOver
 pub mod AllowedCalls
 pub mod PowerStep
-pub mod PowerLink
 pub mod PowerCycles
 pub mod CallLaws
 pub mod MixedRuns

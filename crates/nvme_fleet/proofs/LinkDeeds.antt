@@ -14,7 +14,7 @@ use Rattle.nvme_fleet.proofs.Places.{no-way}
 use Rattle.nvme_fleet.proofs.PlainCalls.{IsUndone, by-poll, plain-polled, plain-ring}
 use Rattle.nvme_fleet.proofs.PollStep.{poll_is_a_step}
 use Rattle.nvme_fleet.proofs.Reaching.{window-there}
-use Rattle.nvme_fleet.proofs.ResetStep.{reset_is_a_step}
+use Rattle.nvme_fleet.proofs.Resetting.{reset_is_a_step}
 use Rattle.nvme_fleet.proofs.RingStep.{ring_is_a_step}
 use Rattle.nvme_fleet.proofs.RiseStep.{bring_up_is_a_step}
 

@@ -1,5 +1,7 @@
 -- The order of slots by their numbers: the oldest aborted request, slots that are freed, and tickets that rise.
-use Rattle.nvme_fleet.proofs.Words.{◌≡◌, ℕ, ◌+◌, ◌<◌, ◌≤◌, List, [], ◌∷◌, ◌++◌, map, refl, ap, sym, ◌∙◌, arith, zero, suc, true, false, cond, eqb, Bool, Option, Some, None, inl, inr, slice_set, cases_Bool, eqb-true, common_steps, nat_le, ticket_in, live_waiting, AgeIn, aborted_number, ranked_too, in_order, ranked, rising, Waiting, waiting_at, abort, eq-eqb}
+use Rattle.nvme_fleet.proofs.Words.{◌≡◌, ℕ, ◌+◌, ◌<◌, ◌≤◌, List, [], ◌∷◌, ◌++◌, map, refl, ap, sym, ◌∙◌, arith, zero, suc, true, false, cond, eqb, Bool, Option, Some, None, inl, inr, slice_set, cases_Bool, eqb-true, common_steps, nat_le, ticket_in, live_waiting, AgeIn, aborted_number, ranked_too, in_order, ranked, rising, Waiting, waiting_at, abort, eq-eqb, eqb-false}
+use Rattle.std.specs.Option.{option_flatten}
+use Rattle.nvme_mailbox.proofs.Lists.{got-other}
 use Rattle.nvme_fleet.proofs.Totals.{waiting-small}
 use Rattle.nvme_fleet.proofs.Slots.{cond-zero}
 
@@ -26,11 +28,7 @@ pending-same (x ∷ xs) zero = refl
 pending-same (x ∷ xs) (suc i) = pending-same xs i
 
 pub pending-other : (slots : List (Option Waiting)) (i j : ℕ) → eqb j i ≡ false → waiting_at (slice_set slots i None) j ≡ waiting_at slots j
-pending-other [] i j h = refl
-pending-other (x ∷ xs) zero zero h = grind (arith, h)
-pending-other (x ∷ xs) zero (suc j) h = refl
-pending-other (x ∷ xs) (suc i) zero h = refl
-pending-other (x ∷ xs) (suc i) (suc j) h = let k : eqb j i ≡ false = grind (arith, common_steps, h) in pending-other xs i j k
+pending-other slots i j h = ap option_flatten (got-other slots i None j (eqb-false j i h))
 
 pub cond-one : (b : Bool) → cond {A = ℕ} b 1 0 ≡ 1 → b ≡ true
 cond-one b h = grind (arith, common_steps, h)

@@ -129,37 +129,6 @@ known d c request slot s h f say =
       sized = sizes request p.good;
     }
 
-filled-so : (d : Driver) (c : Controller) (request : Request) (slot : ℕ) → Known d c request slot
-    → Fills (lane_of request) c.window (window_then d c request slot) slot (ends (lane_of request) d).tail.put (asked_of request).sent (stored_list slot (asked_of request).moved) (entry_of request slot)
-filled-so d c request slot k =
-    let l = length-stored_list slot (asked_of request).moved k.sized.most in
-    let two : List ℕ = with_bytes (with_bytes c.window (data_area slot) (asked_of request).sent) (list_page slot) (stored_list slot (asked_of request).moved) in
-    let e : (ends (lane_of request) d).tail.put % 8 ≡ (ends (lane_of request) d).tail.put = omega (arith, k.put) in
-    subst (λ n. Fills (lane_of request) c.window (with_bytes two (submission_queue (lane_of request) + 64 * n) (entry_of request slot)) slot (ends (lane_of request) d).tail.put (asked_of request).sent (stored_list slot (asked_of request).moved) (entry_of request slot)) (sym e)
-    (fills (lane_of request) c.window (asked_of request).sent (stored_list slot (asked_of request).moved) (entry_of request slot) slot
-    (ends (lane_of request) d).tail.put k.sound.both.window k.within k.put (omega (arith, k.sized.sent, k.sized.most)) (omega (arith, l)) (length-entry (entry_fields (asked_of request) slot)))
-
--- the command asks what the request asks
-asked-so : (d : Driver) (c : Controller) (request : Request) (slot : ℕ) → Known d c request slot
-    → asked_in (whole (window_then d c request slot) slot (waiting_of d request)) (entry_of request slot) ≡ asked_of request
-asked-so d c request slot k =
-    let z = k.sized in
-    let m : entry_length (lane_of request) (entry_of request slot) ≡ (asked_of request).moved = entries_move_their_data request slot (entry_of request slot) k.good k.says in
-    let g = k.says in
-    let t : take (entry_length (lane_of request) (entry_of request slot) - (asked_of request).received) (area (window_then d c request slot) slot) ≡ (asked_of request).sent =
-    ap (λ x. take x (area (window_then d c request slot) slot)) (ap (λ x. x - (asked_of request).received) m ∙ sym z.sent) ∙ (filled-so d c request slot k).data_in in
-    λ i. record {
-      command = record { lane = lane_of request; opcode = (g i).opcode; nsid = (g i).nsid; cdw10 = (g i).cdw10; cdw11 = (g i).cdw11; cdw12 = (g i).cdw12 };
-      moved = m i;
-      sent = t i;
-      received = (asked_of request).received;
-    }
-
-new-item-so : (d : Driver) (c : Controller) (request : Request) (slot : ℕ) → Known d c request slot
-    → item_in (whole (window_then d c request slot) slot (waiting_of d request)) (entry_of request slot) ≡ new_item (mailbox d c) request
-unfolding item_in
-new-item-so d c request slot k = ap (λ (a : Asked). record { ticket = d.next; asked = a }) (asked-so d c request slot k)
-
 -- What becomes of the lane.
 abbrev host_then : Driver → Controller → Request → ℕ → Host
 host_then d c request slot =
@@ -172,13 +141,6 @@ state_then d c request slot = placed_state (host (lane_of request) d c.window) (
 abbrev controller_then : Driver → Controller → Request → ℕ → Controller
 controller_then d c request slot = record c { window = window_then d c request slot }
 
--- no lane has a request in the slot
-free-in : (l : Lane) (d : Driver) (c : Controller) (request : Request) (slot : ℕ) → Known d c request slot → slot_in l c.window slot (waiting_at d.slots slot) ≡ empty
-free-in l d c request slot k = ap (slot_in l c.window slot) k.free
-
-idle-in : (l : Lane) (d : Driver) (c : Controller) (request : Request) (slot : ℕ) → Known d c request slot → live_at (slots_in l c.window 0 d.slots) slot ≡ 0
-idle-in l d c request slot k = ap live_in (slot-in l c.window d.slots slot ∙ free-in l d c request slot k)
-
 -- What the driver's ends, next ticket and slots become.
 abbrev ChangedSo : Driver → Request → ℕ → Type 0
 ChangedSo d request slot =
@@ -187,99 +149,133 @@ ChangedSo d request slot =
 changed-so : (d : Driver) (request : Request) (slot : ℕ) → ChangedSo d request slot
 changed-so d request slot = changed (lane_of request) d (put_ends (ends (lane_of request) d)) (d.next + 1) (slice_set d.slots slot (Some (waiting_of d request)))
 
-placed-at : (d : Driver) (c : Controller) (request : Request) (slot : ℕ) → Known d c request slot
-    → AtLane (lane_of request) d (driver.placed d request slot) c (controller_then d c request slot) (d.next + 1) (host_then d c request slot) (state_then d c request slot)
-placed-at d c request slot k =
-    let w : List ℕ = window_then d c request slot in
-    let f = filled-so d c request slot k in
-    let x = changed-so d request slot in
-    let b : Both d c = k.sound.both in
-    let here = slots-here (lane_of request) c.window (window_then d c request slot) d.slots slot (Some (waiting_of d request)) b.slots k.within f.stored.slots
-    ∙ ap (λ t. slice_set (slots_in (lane_of request) c.window 0 d.slots) slot (cond t (whole (window_then d c request slot) slot (waiting_of d request)) empty)) (same-self (lane_of request)) in
-    let there = slots-there (other (lane_of request)) c.window (window_then d c request slot) d.slots slot (Some (waiting_of d request)) b.slots k.within f.stored.slots (free-in (other (lane_of request)) d c request slot k)
-    (ap (λ t. cond t (whole (window_then d c request slot) slot (waiting_of d request)) empty) (same-other (lane_of request))) in
-    let pages = f.stored.pages (lane_of request)
-    ∙ ap (λ t. cond t (with_bytes (pages_of (lane_of request) c.window) (64 * (ends (lane_of request) d).tail.put) (entry_of request slot)) (pages_of (lane_of request) c.window)) (same-self (lane_of request)) in
-    let others = f.stored.pages (other (lane_of request))
-    ∙ ap (λ t. cond t (with_bytes (pages_of (other (lane_of request)) c.window) (64 * (ends (lane_of request) d).tail.put) (entry_of request slot)) (pages_of (other (lane_of request)) c.window)) (other-same (lane_of request)) in
-    record {
-      up = x.state;
-      next = x.next;
-      later = omega arith;
-      window = f.stored.size ∙ sym b.window;
-      slots = ap length x.slots ∙ length-set d.slots slot (Some (waiting_of d request));
-      host_here = x.here (window_then d c request slot)
-          ∙ (λ i. record (host (lane_of request) d c.window) {
-            next = d.next + 1;
-            slots = here i;
-            put = ((ends (lane_of request) d).tail.put + 1) % (k.sound.fits (lane_of request)).tail i;
-            unheard = (ends (lane_of request) d).tail.unheard + 1;
-          });
-      host_there = x.there (window_then d c request slot) ∙ (λ i. record (host (other (lane_of request)) d c.window) { next = d.next + 1; slots = there i });
-      state_here = λ i. record (state (lane_of request) c) { window = pages i };
-      state_there = λ i. record (state (other (lane_of request)) c) { window = others i };
-    }
-
--- what the lane's own Place asks for
-places-so : (d : Driver) (c : Controller) (request : Request) (slot : ℕ) → Known d c request slot
-    → Places (host (lane_of request) d c.window) (state (lane_of request) c) (entry_of request slot) (waiting_of d request) slot (area (window_then d c request slot) slot) (listed (window_then d c request slot) slot)
-places-so d c request slot k =
-    let f = filled-so d c request slot k in
-    let z = k.sized in
-    let named : cid (entry_of request slot) ≡ slot = ap (λ (x : SqeFields). x.cid) k.says in
-    record {
-      running = running (lane_of request) d c k.sound k.up;
-      free = idle-in (lane_of request) d c request slot k;
-      within = k.within;
-      room = k.room;
-      size = length-entry (entry_fields (asked_of request) slot);
-      named = named;
-      live = refl;
-      ticket = refl;
-      suits_it = suits-by (whole (window_then d c request slot) slot (waiting_of d request)) (entry_of request slot) (asked_of request) slot (asked-so d c request slot k) named refl z.most z.received f.list_in (plain_request request);
-    }
-
-stores-so : (d : Driver) (c : Controller) (request : Request) (slot : ℕ) → Known d c request slot → after_calls (stores_of d request slot) c ≡ controller_then d c request slot
-stores-so d c request slot k =
-    let l = length-stored_list slot (asked_of request).moved k.sized.most in
-    let low = queue-low (lane_of request) in
-    let one : Controller = record c { window = with_bytes c.window (data_area slot) (asked_of request).sent } in
-    let two : Controller = record c { window = with_bytes (with_bytes c.window (data_area slot) (asked_of request).sent) (list_page slot) (stored_list slot (asked_of request).moved) } in
-    let a = stored-at (data_area slot) (asked_of request).sent c (omega (arith, k.within, k.sized.sent, k.sized.most)) in
-    let b = stored-at (list_page slot) (stored_list slot (asked_of request).moved) one (omega (arith, k.within, l)) in
-    ap (λ x. (after_store (driver.entry_place d request) (entry_of request slot) (after_store (list_page slot) (stored_list slot (asked_of request).moved) x).controller).controller) a
-    ∙ ap (λ x. (after_store (driver.entry_place d request) (entry_of request slot) x).controller) b
-    ∙ stored-at (driver.entry_place d request) (entry_of request slot) two (omega (arith, length-entry (entry_fields (asked_of request) slot), low, k.put))
-
 aborted-set : (xs : List (Option Waiting)) (i : ℕ) (t : Waiting) → waiting_at xs i ≡ None → t.live ≡ true → in_order aborted_number (slice_set xs i (Some t)) ≡ in_order aborted_number xs
 aborted-set [] i t h l = refl
 aborted-set (x ∷ xs) zero t h l = rw (h, l) refl
 aborted-set (x ∷ xs) (suc i) t h l = ap (ranked_too (aborted_number x)) (aborted-set xs i t h l)
 
-sound-so : (d : Driver) (c : Controller) (request : Request) (slot : ℕ) → Known d c request slot → Sound (driver.placed d request slot) (controller_then d c request slot)
-sound-so d c request slot k =
-    let s = k.sound in
-    let z = k.sized in
-    let x = changed-so d request slot in
-    let g = s.fits (lane_of request) in
-    let p = s.up k.up in
-    sound-at (lane_of request) d (driver.placed d request slot) c (controller_then d c request slot) (d.next + 1) _ _ (placed-at d c request slot k) s k.up
-    (place-holds s.both.first _ _ (entry_of request slot) (waiting_of d request) slot _ _ (s.both.each (lane_of request)) k.up (places-so d c request slot k))
-    (x.fits (record { tail = g.tail; head = g.head }) s.fits)
-    (λ j. subst (λ xs. received_in (waiting_at xs j) ≤ most_bytes) (sym x.slots) (size-set d.slots slot j (Some (waiting_of d request)) (omega (arith, z.received, z.most)) s.sizes))
-    (record { admin = p.admin; io = p.io; submission = p.submission; completion = p.completion; fetched = p.fetched; ready = p.ready; enabled = p.enabled })
+-- What the placing of such a request leaves.
+module _ (d : Driver) (c : Controller) (request : Request) (slot : ℕ) (k : Known d c request slot) where
+  filled-so : Fills (lane_of request) c.window (window_then d c request slot) slot (ends (lane_of request) d).tail.put (asked_of request).sent (stored_list slot (asked_of request).moved) (entry_of request slot)
+  filled-so =
+      let l = length-stored_list slot (asked_of request).moved k.sized.most in
+      let two : List ℕ = with_bytes (with_bytes c.window (data_area slot) (asked_of request).sent) (list_page slot) (stored_list slot (asked_of request).moved) in
+      let e : (ends (lane_of request) d).tail.put % 8 ≡ (ends (lane_of request) d).tail.put = omega (arith, k.put) in
+      subst (λ n. Fills (lane_of request) c.window (with_bytes two (submission_queue (lane_of request) + 64 * n) (entry_of request slot)) slot (ends (lane_of request) d).tail.put (asked_of request).sent (stored_list slot (asked_of request).moved) (entry_of request slot)) (sym e)
+      (fills (lane_of request) c.window (asked_of request).sent (stored_list slot (asked_of request).moved) (entry_of request slot) slot
+      (ends (lane_of request) d).tail.put k.sound.both.window k.within k.put (omega (arith, k.sized.sent, k.sized.most)) (omega (arith, l)) (length-entry (entry_fields (asked_of request) slot)))
 
-mail-so : (d : Driver) (c : Controller) (request : Request) (slot : ℕ) → Known d c request slot → mailbox (driver.placed d request slot) (controller_then d c request slot) ≡ with_request (mailbox d c) request
-mail-so d c request slot k =
-    let at = placed-at d c request slot k in
-    let box_then = place-box _ _ (entry_of request slot) (waiting_of d request) slot _ _ (places-so d c request slot k)
-    ∙ ap (λ u. with_placed u (item_in (whole (window_then d c request slot) slot (waiting_of d request)) (entry_of request slot))) (sym (box-is (lane_of request) d c))
-    ∙ ap (with_placed (box_at (lane_of request) (mailbox d c))) (new-item-so d c request slot k) in
-    mail-at (lane_of request) d (driver.placed d request slot) c (controller_then d c request slot) (d.next + 1) _ _ at (mailbox d c).fetched
-    (fetched-at (lane_of request) d (driver.placed d request slot) c (controller_then d c request slot) (d.next + 1) _ _ at slot _ refl c.fetched
-    (λ l. (bare-of k.sound.both.first _ _ slot (k.sound.both.each l) (idle-in l d c request slot k)).taken))
-    (ap (in_order aborted_number) (changed-so d request slot).slots ∙ aborted-set d.slots slot (waiting_of d request) k.free refl)
-    ∙ ap (λ u. with_box (lane_of request) u (record (mailbox d c) { next = d.next + 1 })) box_then
+  -- the command asks what the request asks
+  asked-so : asked_in (whole (window_then d c request slot) slot (waiting_of d request)) (entry_of request slot) ≡ asked_of request
+  asked-so =
+      let z = k.sized in
+      let m : entry_length (lane_of request) (entry_of request slot) ≡ (asked_of request).moved = entries_move_their_data request slot (entry_of request slot) k.good k.says in
+      let g = k.says in
+      let t : take (entry_length (lane_of request) (entry_of request slot) - (asked_of request).received) (area (window_then d c request slot) slot) ≡ (asked_of request).sent =
+      ap (λ x. take x (area (window_then d c request slot) slot)) (ap (λ x. x - (asked_of request).received) m ∙ sym z.sent) ∙ filled-so.data_in in
+      λ i. record {
+        command = record { lane = lane_of request; opcode = (g i).opcode; nsid = (g i).nsid; cdw10 = (g i).cdw10; cdw11 = (g i).cdw11; cdw12 = (g i).cdw12 };
+        moved = m i;
+        sent = t i;
+        received = (asked_of request).received;
+      }
+
+  new-item-so : item_in (whole (window_then d c request slot) slot (waiting_of d request)) (entry_of request slot) ≡ new_item (mailbox d c) request
+  unfolding item_in
+  new-item-so = ap (λ (a : Asked). record { ticket = d.next; asked = a }) asked-so
+
+  -- no lane has a request in the slot
+  free-in : (l : Lane) → slot_in l c.window slot (waiting_at d.slots slot) ≡ empty
+  free-in l = ap (slot_in l c.window slot) k.free
+
+  idle-in : (l : Lane) → live_at (slots_in l c.window 0 d.slots) slot ≡ 0
+  idle-in l = ap live_in (slot-in l c.window d.slots slot ∙ free-in l)
+
+  placed-at : AtLane (lane_of request) d (driver.placed d request slot) c (controller_then d c request slot) (d.next + 1) (host_then d c request slot) (state_then d c request slot)
+  placed-at =
+      let f = filled-so in
+      let x = changed-so d request slot in
+      let b : Both d c = k.sound.both in
+      let here = slots-here (lane_of request) c.window (window_then d c request slot) d.slots slot (Some (waiting_of d request)) b.slots k.within f.stored.slots
+      ∙ ap (λ t. slice_set (slots_in (lane_of request) c.window 0 d.slots) slot (cond t (whole (window_then d c request slot) slot (waiting_of d request)) empty)) (same-self (lane_of request)) in
+      let there = slots-there (other (lane_of request)) c.window (window_then d c request slot) d.slots slot (Some (waiting_of d request)) b.slots k.within f.stored.slots (free-in (other (lane_of request)))
+      (ap (λ t. cond t (whole (window_then d c request slot) slot (waiting_of d request)) empty) (same-other (lane_of request))) in
+      let pages = f.stored.pages (lane_of request)
+      ∙ ap (λ t. cond t (with_bytes (pages_of (lane_of request) c.window) (64 * (ends (lane_of request) d).tail.put) (entry_of request slot)) (pages_of (lane_of request) c.window)) (same-self (lane_of request)) in
+      let others = f.stored.pages (other (lane_of request))
+      ∙ ap (λ t. cond t (with_bytes (pages_of (other (lane_of request)) c.window) (64 * (ends (lane_of request) d).tail.put) (entry_of request slot)) (pages_of (other (lane_of request)) c.window)) (other-same (lane_of request)) in
+      record {
+        up = x.state;
+        next = x.next;
+        later = omega arith;
+        window = f.stored.size ∙ sym b.window;
+        slots = ap length x.slots ∙ length-set d.slots slot (Some (waiting_of d request));
+        host_here = x.here (window_then d c request slot)
+            ∙ (λ i. record (host (lane_of request) d c.window) {
+              next = d.next + 1;
+              slots = here i;
+              put = ((ends (lane_of request) d).tail.put + 1) % (k.sound.fits (lane_of request)).tail i;
+              unheard = (ends (lane_of request) d).tail.unheard + 1;
+            });
+        host_there = x.there (window_then d c request slot) ∙ (λ i. record (host (other (lane_of request)) d c.window) { next = d.next + 1; slots = there i });
+        state_here = λ i. record (state (lane_of request) c) { window = pages i };
+        state_there = λ i. record (state (other (lane_of request)) c) { window = others i };
+      }
+
+  -- what the lane's own Place asks for
+  places-so : Places (host (lane_of request) d c.window) (state (lane_of request) c) (entry_of request slot) (waiting_of d request) slot (area (window_then d c request slot) slot) (listed (window_then d c request slot) slot)
+  places-so =
+      let f = filled-so in
+      let z = k.sized in
+      let named : cid (entry_of request slot) ≡ slot = ap (λ (x : SqeFields). x.cid) k.says in
+      record {
+        running = running (lane_of request) d c k.sound k.up;
+        free = idle-in (lane_of request);
+        within = k.within;
+        room = k.room;
+        size = length-entry (entry_fields (asked_of request) slot);
+        named = named;
+        live = refl;
+        ticket = refl;
+        suits_it = suits-by (whole (window_then d c request slot) slot (waiting_of d request)) (entry_of request slot) (asked_of request) slot asked-so named refl z.most z.received f.list_in (plain_request request);
+      }
+
+  stores-so : after_calls (stores_of d request slot) c ≡ controller_then d c request slot
+  stores-so =
+      let l = length-stored_list slot (asked_of request).moved k.sized.most in
+      let low = queue-low (lane_of request) in
+      let one : Controller = record c { window = with_bytes c.window (data_area slot) (asked_of request).sent } in
+      let two : Controller = record c { window = with_bytes (with_bytes c.window (data_area slot) (asked_of request).sent) (list_page slot) (stored_list slot (asked_of request).moved) } in
+      let a = stored-at (data_area slot) (asked_of request).sent c (omega (arith, k.within, k.sized.sent, k.sized.most)) in
+      let b = stored-at (list_page slot) (stored_list slot (asked_of request).moved) one (omega (arith, k.within, l)) in
+      ap (λ x. (after_store (driver.entry_place d request) (entry_of request slot) (after_store (list_page slot) (stored_list slot (asked_of request).moved) x).controller).controller) a
+      ∙ ap (λ x. (after_store (driver.entry_place d request) (entry_of request slot) x).controller) b
+      ∙ stored-at (driver.entry_place d request) (entry_of request slot) two (omega (arith, length-entry (entry_fields (asked_of request) slot), low, k.put))
+
+  sound-so : Sound (driver.placed d request slot) (controller_then d c request slot)
+  sound-so =
+      let s = k.sound in
+      let z = k.sized in
+      let x = changed-so d request slot in
+      let g = s.fits (lane_of request) in
+      let p = s.up k.up in
+      sound-at (lane_of request) d (driver.placed d request slot) c (controller_then d c request slot) (d.next + 1) _ _ placed-at s k.up
+      (place-holds _ _ (entry_of request slot) (waiting_of d request) slot _ _ places-so s.both.first (s.both.each (lane_of request)) k.up)
+      (x.fits (record { tail = g.tail; head = g.head }) s.fits)
+      (λ j. subst (λ xs. received_in (waiting_at xs j) ≤ most_bytes) (sym x.slots) (size-set d.slots slot j (Some (waiting_of d request)) (omega (arith, z.received, z.most)) s.sizes))
+      (record { admin = p.admin; io = p.io; submission = p.submission; completion = p.completion; fetched = p.fetched; ready = p.ready; enabled = p.enabled })
+
+  mail-so : mailbox (driver.placed d request slot) (controller_then d c request slot) ≡ with_request (mailbox d c) request
+  mail-so =
+      let at = placed-at in
+      let box_then = place-box _ _ (entry_of request slot) (waiting_of d request) slot _ _ places-so
+      ∙ ap (λ u. with_placed u (item_in (whole (window_then d c request slot) slot (waiting_of d request)) (entry_of request slot))) (sym (box-is (lane_of request) d c))
+      ∙ ap (with_placed (box_at (lane_of request) (mailbox d c))) new-item-so in
+      mail-at (lane_of request) d (driver.placed d request slot) c (controller_then d c request slot) (d.next + 1) _ _ at (mailbox d c).fetched
+      (fetched-at (lane_of request) d (driver.placed d request slot) c (controller_then d c request slot) (d.next + 1) _ _ at slot _ refl c.fetched
+      (λ l. (bare-of k.sound.both.first _ _ slot (k.sound.both.each l) (idle-in l)).taken))
+      (ap (in_order aborted_number) (changed-so d request slot).slots ∙ aborted-set d.slots slot (waiting_of d request) k.free refl)
+      ∙ ap (λ u. with_box (lane_of request) u (record (mailbox d c) { next = d.next + 1 })) box_then
 
 pub place_is_a_step : PlaceIsAStep
 place_is_a_step d c request slot s h f say =

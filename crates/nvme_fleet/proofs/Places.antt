@@ -20,31 +20,6 @@ pub record Places (d : Host) (c : State) (x : List ℕ) (w : Waiting) (slot : �
   pub ticket : w.ticket.0 ≡ d.next
   pub suits_it : suits (filled w bytes list) x ≡ true
 
-entered : (d : Host) (c : State) (x : List ℕ) (w : Waiting) (slot : ℕ) (bytes list : List ℕ) → Places d c x w slot bytes list →
-    Enters c.window (placed_state d c x).window d.put x
-entered d c x w slot bytes list h = enters c.window x d.put (h.running).window (h.running).put h.size
-
-more-flight : (d : Host) (c : State) (x : List ℕ) (w : Waiting) (slot : ℕ) (bytes list : List ℕ) → Places d c x w slot bytes list →
-    in_flight (placed d w slot bytes list) (placed_state d c x) ≡ in_flight d c + 1
-more-flight d c x w slot bytes list h = omega (arith, h.running.put, h.running.fetched, h.running.unheard, h.room)
-
--- entries up to the tail stay, and the new one is the last
-stretch : (d : Host) (c : State) (x : List ℕ) (w : Waiting) (slot from n : ℕ) (bytes list : List ℕ) → Places d c x w slot bytes list → from < 8 → n ≡ (d.put + 8 - from) % 8 →
-    commands (placed_state d c x).window from (n + 1) ≡ commands c.window from n ++ x ∷ []
-stretch d c x w slot from n bytes list h b e =
-    let s : Running d c = h.running in
-    let p : (from + n) % 8 ≡ d.put = omega (arith, s.put, b, e) in
-    let k = entered d c x w slot bytes list h in
-    let z : commands (placed_state d c x).window ((from + n) % 8) 1 ≡ x ∷ [] =
-    ap (λ i. commands (placed_state d c x).window i 1) p ∙ ap (λ x. x ∷ []) k.last in
-    commands-append (placed_state d c x).window from n 1 b ∙
-    ap (λ t. t ++ commands (placed_state d c x).window ((from + n) % 8) 1) (commands-kept c.window (placed_state d c x).window d.put 32 from n k.keeps s.put b (omega (arith, e))) ∙
-    ap (λ t. commands c.window from n ++ t) z
-
-same-unread : (d : Host) (c : State) (x : List ℕ) (w : Waiting) (slot : ℕ) (bytes list : List ℕ) → Places d c x w slot bytes list →
-    unread (placed d w slot bytes list) (placed_state d c x) ≡ unread d c
-same-unread d c x w slot bytes list h = completions-same c.window (placed_state d c x).window d.put d.consumed c.unread (entered d c x w slot bytes list h).keeps
-
 heard-placed : (p u : ℕ) → p < 8 → u < 7 → ((p + 1) % 8 + 8 - (u + 1)) % 8 ≡ (p + 8 - u) % 8
 heard-placed p u a b = omega arith
 
@@ -52,108 +27,12 @@ heard-placed p u a b = omega arith
 pub bare : (d : Host) (c : State) (slot : ℕ) → Running d c → live_at d.slots slot ≡ 0 → Bare d c slot
 bare d c slot s z = bare-all d c slot s.fetched s.waiting (omega (arith, s.carried slot, z))
 
--- the slot of the new command
-here : (d : Host) (c : State) (x : List ℕ) (w : Waiting) (slot : ℕ) (bytes list : List ℕ) → Places d c x w slot bytes list →
-    holds (placed d w slot bytes list) (cid x) ≡ filled w bytes list
-here d c x w slot bytes list h =
-    ap (holds (placed d w slot bytes list)) h.named ∙ slot-same d.slots slot (filled w bytes list) (omega (arith, h.within, (h.running).slots))
-
-placed-more : (d : Host) (c : State) (x : List ℕ) (w : Waiting) (slot : ℕ) (bytes list : List ℕ) → Places d c x w slot bytes list →
-    placed-part (placed d w slot bytes list) (placed_state d c x) ≡ placed-part d c ++ x ∷ []
-placed-more d c x w slot bytes list h =
-    let s : Running d c = h.running in
-    let n : in_flight (placed d w slot bytes list) (placed_state d c x) - c.waiting ≡ (in_flight d c - c.waiting) + 1 = omega (arith, more-flight d c x w slot bytes list h, s.waiting) in
-    let e : in_flight d c - c.waiting ≡ (d.put + 8 - (c.fetched + c.waiting) % 8) % 8 = omega (arith, s.put, s.fetched, s.waiting) in
-    ap (commands (placed_state d c x).window ((c.fetched + c.waiting) % 8)) n ∙
-    stretch d c x w slot ((c.fetched + c.waiting) % 8) (in_flight d c - c.waiting) bytes list h (omega arith) e
-
-rung-same : (d : Host) (c : State) (x : List ℕ) (w : Waiting) (slot : ℕ) (bytes list : List ℕ) → Places d c x w slot bytes list → rung-part (placed_state d c x) ≡ rung-part c
-rung-same d c x w slot bytes list h =
-    let s : Running d c = h.running in
-    commands-kept c.window (placed_state d c x).window d.put 32 c.fetched c.waiting (entered d c x w slot bytes list h).keeps s.put s.fetched s.waiting
-
--- Place appends the request to those that are placed
-pub place-box : (d : Host) (c : State) (x : List ℕ) (w : Waiting) (slot : ℕ) (bytes list : List ℕ) → Places d c x w slot bytes list →
-    box (placed d w slot bytes list) (placed_state d c x) ≡
-    record (box d c) {
-      placed = (box d c).placed ++ item_in (filled w bytes list) x ∷ [];
-      unheard = (box d c).unheard + 1;
-    }
-unfolding box
-place-box d c x w slot bytes list h =
-    let f : ℕ → Slot = holds (placed d w slot bytes list) in
-    let n : heard (placed d w slot bytes list) ≡ heard d = heard-placed d.put d.unheard (h.running).put h.room in
-    let u = same-unread d c x w slot bytes list h in
-    let b = bare-box d c slot (filled w bytes list) (bare d c slot h.running h.free) in
-    same-box _ _ _ _ _ _ _ _ _ _
-    (ap (map (item f)) (placed-more d c x w slot bytes list h) ∙ map-append (item f) (placed-part d c) (x ∷ []))
-    (ap (map (item f)) (rung-same d c x w slot bytes list h))
-    (λ i. answers f (n i) (u i))
-    refl
-    (λ i. (c.fetched + 8 - last_head (n i) (u i)) % 8)
-    ∙ (λ i. record (b i) { placed = (b i).placed ++ item_in ((here d c x w slot bytes list h) i) x ∷ []; unheard = (b i).unheard + 1 })
-
--- what a sum over the entries in flight gains
-flight-more : (f : List ℕ → ℕ) (d : Host) (c : State) (x : List ℕ) (w : Waiting) (slot : ℕ) (bytes list : List ℕ) → Places d c x w slot bytes list →
-    total f (commands (placed_state d c x).window c.fetched (in_flight (placed d w slot bytes list) (placed_state d c x))) ≡
-    total f (commands c.window c.fetched (in_flight d c)) + f x
-flight-more f d c x w slot bytes list h =
-    let t : total f (x ∷ []) ≡ f x = omega arith in
-    ap (λ n. total f (commands (placed_state d c x).window c.fetched n)) (more-flight d c x w slot bytes list h) ∙
-    ap (total f) (stretch d c x w slot c.fetched (in_flight d c) bytes list h h.running.fetched refl) ∙
-    total-append f (commands c.window c.fetched (in_flight d c)) (x ∷ []) ∙
-    ap (λ n. total f (commands c.window c.fetched (in_flight d c)) + n) t
-
 -- the new request is live, and bears its slot
 new-live : (w : Waiting) (bytes list : List ℕ) → w.live ≡ true → live_in (filled w bytes list) ≡ 1
 new-live w bytes list h = ap (λ b. cond b 1 0) h
 
 new-bears : (x : List ℕ) (slot k : ℕ) (b : Bool) → cid x ≡ slot → eqb slot k ≡ b → bears k x ≡ cond b 1 0
 new-bears x slot k b named t = ap (λ n. cond (eqb n k) 1 0) named ∙ ap (λ b. cond b 1 0) t
-
-carried-place : (d : Host) (c : State) (x : List ℕ) (w : Waiting) (slot : ℕ) (bytes list : List ℕ) → Places d c x w slot bytes list → Carried (placed d w slot bytes list) (placed_state d c x)
-carried-place d c x w slot bytes list h =
-    let s : Running d c = h.running in
-    let u = same-unread d c x w slot bytes list h in
-    each-set
-    (λ k (o : Slot). commands_of k c.taken + commands_of k (commands (placed_state d c x).window c.fetched (in_flight (placed d w slot bytes list) (placed_state d c x)))
-    + answers_of k (unread (placed d w slot bytes list) (placed_state d c x)) ≡ live_in o)
-    d.slots slot (filled w bytes list) (omega (arith, h.within, s.slots))
-    (omega (arith, s.carried slot, h.free, flight-more (bears slot) d c x w slot bytes list h, ap (answers_of slot) u, new-bears x slot slot true h.named (eq-eqb slot slot refl), new-live w bytes list h.live))
-    (λ k q. omega (arith, s.carried k, flight-more (bears k) d c x w slot bytes list h, ap (answers_of k) u, new-bears x slot k false h.named (eqb-sym k slot q)))
-
-new-suits : (d : Host) (c : State) (x : List ℕ) (w : Waiting) (slot : ℕ) (bytes list : List ℕ) → Places d c x w slot bytes list → odd (holds (placed d w slot bytes list)) x ≡ 0
-new-suits d c x w slot bytes list h =
-    ap (λ s. cond (suits s x) 0 1) (here d c x w slot bytes list h) ∙ ap (λ b. cond b 0 1) h.suits_it
-
-pub place-running : (d : Host) (c : State) (x : List ℕ) (w : Waiting) (slot : ℕ) (bytes list : List ℕ) → Places d c x w slot bytes list → Running (placed d w slot bytes list) (placed_state d c x)
-place-running d c x w slot bytes list h =
-    let s : Running d c = h.running in
-    let m = more-flight d c x w slot bytes list h in
-    let k = entered d c x w slot bytes list h in
-    record {
-      ready = s.ready;
-      window = k.keeps.size ∙ s.window;
-      slots = length-set d.slots slot (filled w bytes list) ∙ s.slots;
-      put = omega arith;
-      fetched = s.fetched;
-      consumed = s.consumed;
-      posted = s.posted;
-      waiting = omega (arith, m, s.waiting);
-      unheard = rw (heard-placed d.put d.unheard s.put h.room, same-unread d c x w slot bytes list h) (omega (arith, m, s.unheard));
-      room = omega (arith, h.room);
-      of_lane = rw (same-unread d c x w slot bytes list h) s.of_lane;
-      phases = phases-kept c.window _ d.put d.consumed c.unread k.keeps s.phases;
-      carried = carried-place d c x w slot bytes list h;
-      held = omega (arith, m, s.held, live-set d.slots slot (filled w bytes list) (omega (arith, h.within, s.slots)), h.free, new-live w bytes list h.live);
-      suited = omega (
-        arith,
-        s.suited,
-        flight-more (odd (holds (placed d w slot bytes list))) d c x w slot bytes list h,
-        bare-odd d c slot (filled w bytes list) (bare d c slot s h.free),
-        new-suits d c x w slot bytes list h,
-      );
-    }
 
 -- a request may be older than a later next one
 pub age-later : (first n m : ℕ) (o : Option Waiting) → n ≤ m → AgeIn first n o → AgeIn first m o
@@ -167,9 +46,117 @@ no-way b e f = grind (arith, common_steps, e, f)
 pub up-holds : (first : ℕ) (d : Host) (c : State) → d.up ≡ true → d.failed ≡ false → first ≤ d.next → Ages first d.next d.slots → Running d c → Holds first d c
 up-holds first d c u f b a r = record { failed = f; begun = b; ages = a; up = λ e. r; down = λ e. absurd (no-way d.up e u) }
 
-pub place-holds : (first : ℕ) (d : Host) (c : State) (x : List ℕ) (w : Waiting) (slot : ℕ) (bytes list : List ℕ) → Holds first d c → d.up ≡ true → Places d c x w slot bytes list →
-    Holds first (placed d w slot bytes list) (placed_state d c x)
-place-holds first d c x w slot bytes list s u h =
-    up-holds first (placed d w slot bytes list) (placed_state d c x) u s.failed (omega (arith, s.begun))
-    (each-all (λ k (o : Slot). AgeIn first (d.next + 1) o.waiting) d.slots slot (filled w bytes list) (rw (h.live, h.ticket) (s.begun, omega arith)) (λ k. age-later first d.next (d.next + 1) (slot_at d.slots k).waiting (omega arith) (s.ages k)))
-    (place-running d c x w slot bytes list h)
+-- What such a placing leaves.
+module _ (d : Host) (c : State) (x : List ℕ) (w : Waiting) (slot : ℕ) (bytes list : List ℕ) (h : Places d c x w slot bytes list) where
+  entered : Enters c.window (placed_state d c x).window d.put x
+  entered = enters c.window x d.put (h.running).window (h.running).put h.size
+
+  more-flight : in_flight (placed d w slot bytes list) (placed_state d c x) ≡ in_flight d c + 1
+  more-flight = omega (arith, h.running.put, h.running.fetched, h.running.unheard, h.room)
+
+  -- entries up to the tail stay, and the new one is the last
+  stretch : (from n : ℕ) → from < 8 → n ≡ (d.put + 8 - from) % 8 → commands (placed_state d c x).window from (n + 1) ≡ commands c.window from n ++ x ∷ []
+  stretch from n b e =
+      let s : Running d c = h.running in
+      let p : (from + n) % 8 ≡ d.put = omega (arith, s.put, b, e) in
+      let k = entered in
+      let z : commands (placed_state d c x).window ((from + n) % 8) 1 ≡ x ∷ [] =
+      ap (λ i. commands (placed_state d c x).window i 1) p ∙ ap (λ x. x ∷ []) k.last in
+      commands-append (placed_state d c x).window from n 1 b ∙
+      ap (λ t. t ++ commands (placed_state d c x).window ((from + n) % 8) 1) (commands-kept c.window (placed_state d c x).window d.put 32 from n k.keeps s.put b (omega (arith, e))) ∙
+      ap (λ t. commands c.window from n ++ t) z
+
+  same-unread : unread (placed d w slot bytes list) (placed_state d c x) ≡ unread d c
+  same-unread = completions-same c.window (placed_state d c x).window d.put d.consumed c.unread entered.keeps
+
+  -- the slot of the new command
+  here : holds (placed d w slot bytes list) (cid x) ≡ filled w bytes list
+  here = ap (holds (placed d w slot bytes list)) h.named ∙ slot-same d.slots slot (filled w bytes list) (omega (arith, h.within, (h.running).slots))
+
+  placed-more : placed-part (placed d w slot bytes list) (placed_state d c x) ≡ placed-part d c ++ x ∷ []
+  placed-more =
+      let s : Running d c = h.running in
+      let n : in_flight (placed d w slot bytes list) (placed_state d c x) - c.waiting ≡ (in_flight d c - c.waiting) + 1 = omega (arith, more-flight, s.waiting) in
+      let e : in_flight d c - c.waiting ≡ (d.put + 8 - (c.fetched + c.waiting) % 8) % 8 = omega (arith, s.put, s.fetched, s.waiting) in
+      ap (commands (placed_state d c x).window ((c.fetched + c.waiting) % 8)) n ∙
+      stretch ((c.fetched + c.waiting) % 8) (in_flight d c - c.waiting) (omega arith) e
+
+  rung-same : rung-part (placed_state d c x) ≡ rung-part c
+  rung-same =
+      let s : Running d c = h.running in
+      commands-kept c.window (placed_state d c x).window d.put 32 c.fetched c.waiting entered.keeps s.put s.fetched s.waiting
+
+  -- Place appends the request to those that are placed
+  pub place-box : box (placed d w slot bytes list) (placed_state d c x) ≡ record (box d c) { placed = (box d c).placed ++ item_in (filled w bytes list) x ∷ []; unheard = (box d c).unheard + 1 }
+  unfolding box
+  place-box =
+      let f : ℕ → Slot = holds (placed d w slot bytes list) in
+      let n : heard (placed d w slot bytes list) ≡ heard d = heard-placed d.put d.unheard (h.running).put h.room in
+      let u = same-unread in
+      let b = bare-box d c slot (filled w bytes list) (bare d c slot h.running h.free) in
+      same-box _ _ _ _ _ _ _ _ _ _
+      (ap (map (item f)) placed-more ∙ map-append (item f) (placed-part d c) (x ∷ []))
+      (ap (map (item f)) rung-same)
+      (λ i. answers f (n i) (u i))
+      refl
+      (λ i. (c.fetched + 8 - last_head (n i) (u i)) % 8)
+      ∙ (λ i. record (b i) { placed = (b i).placed ++ item_in (here i) x ∷ []; unheard = (b i).unheard + 1 })
+
+  -- what a sum over the entries in flight gains
+  flight-more : (f : List ℕ → ℕ)
+      → total f (commands (placed_state d c x).window c.fetched (in_flight (placed d w slot bytes list) (placed_state d c x))) ≡ total f (commands c.window c.fetched (in_flight d c)) + f x
+  flight-more f =
+      let t : total f (x ∷ []) ≡ f x = omega arith in
+      ap (λ n. total f (commands (placed_state d c x).window c.fetched n)) more-flight ∙
+      ap (total f) (stretch c.fetched (in_flight d c) h.running.fetched refl) ∙
+      total-append f (commands c.window c.fetched (in_flight d c)) (x ∷ []) ∙
+      ap (λ n. total f (commands c.window c.fetched (in_flight d c)) + n) t
+
+  carried-place : Carried (placed d w slot bytes list) (placed_state d c x)
+  carried-place =
+      let s : Running d c = h.running in
+      let u = same-unread in
+      each-set
+      (λ k (o : Slot). commands_of k c.taken + commands_of k (commands (placed_state d c x).window c.fetched (in_flight (placed d w slot bytes list) (placed_state d c x)))
+      + answers_of k (unread (placed d w slot bytes list) (placed_state d c x)) ≡ live_in o)
+      d.slots slot (filled w bytes list) (omega (arith, h.within, s.slots))
+      (omega (arith, s.carried slot, h.free, flight-more (bears slot), ap (answers_of slot) u, new-bears x slot slot true h.named (eq-eqb slot slot refl), new-live w bytes list h.live))
+      (λ k q. omega (arith, s.carried k, flight-more (bears k), ap (answers_of k) u, new-bears x slot k false h.named (eqb-sym k slot q)))
+
+  new-suits : odd (holds (placed d w slot bytes list)) x ≡ 0
+  new-suits = ap (λ s. cond (suits s x) 0 1) here ∙ ap (λ b. cond b 0 1) h.suits_it
+
+  pub place-running : Running (placed d w slot bytes list) (placed_state d c x)
+  place-running =
+      let s : Running d c = h.running in
+      let m = more-flight in
+      let k = entered in
+      record {
+        ready = s.ready;
+        window = k.keeps.size ∙ s.window;
+        slots = length-set d.slots slot (filled w bytes list) ∙ s.slots;
+        put = omega arith;
+        fetched = s.fetched;
+        consumed = s.consumed;
+        posted = s.posted;
+        waiting = omega (arith, m, s.waiting);
+        unheard = rw (heard-placed d.put d.unheard s.put h.room, same-unread) (omega (arith, m, s.unheard));
+        room = omega (arith, h.room);
+        of_lane = rw same-unread s.of_lane;
+        phases = phases-kept c.window _ d.put d.consumed c.unread k.keeps s.phases;
+        carried = carried-place;
+        held = omega (arith, m, s.held, live-set d.slots slot (filled w bytes list) (omega (arith, h.within, s.slots)), h.free, new-live w bytes list h.live);
+        suited = omega (
+          arith,
+          s.suited,
+          flight-more (odd (holds (placed d w slot bytes list))),
+          bare-odd d c slot (filled w bytes list) (bare d c slot s h.free),
+          new-suits,
+        );
+      }
+
+  pub place-holds : (first : ℕ) → Holds first d c → d.up ≡ true → Holds first (placed d w slot bytes list) (placed_state d c x)
+  place-holds first s u =
+      up-holds first (placed d w slot bytes list) (placed_state d c x) u s.failed (omega (arith, s.begun))
+      (each-all (λ k (o : Slot). AgeIn first (d.next + 1) o.waiting) d.slots slot (filled w bytes list) (rw (h.live, h.ticket) (s.begun, omega arith)) (λ k. age-later first d.next (d.next + 1) (slot_at d.slots k).waiting (omega arith) (s.ages k)))
+      place-running

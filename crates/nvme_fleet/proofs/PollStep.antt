@@ -151,14 +151,6 @@ own-live : (lane : Lane) (w : Waiting) → w.lane ≡ lane → w.live ≡ true �
 own-live lane w a b =
     ap (λ t. if t && w.live then Some w else None) (eq-eqb _ _ (ap queue_id a)) ∙ ap (λ t. if t then Some w else None) b
 
-knows-it : (lane : Lane) (d : Driver) (c : Controller) (h : Heads lane d c) → poll.answered d lane (entry_at lane d c) ≡ Some (h.own).waiting
-knows-it lane d c h =
-    let a : (sq_id (entry_at lane d c) == queue_id lane) ≡ true = eq-eqb _ _ (front-of (host lane d c.window) (state lane c) (running lane d c h.sound h.up) h.some).0.0 in
-    ap (λ t. if t && can_be_heard (ends lane d).tail (sq_head (entry_at lane d c)) then poll.live_in lane (waiting_at d.slots (cid (entry_at lane d c))) else None) a
-    ∙ ap (λ t. if t then poll.live_in lane (waiting_at d.slots (cid (entry_at lane d c))) else None) h.heard
-    ∙ ap (poll.live_in lane) (h.own).is
-    ∙ own-live lane (h.own).waiting (h.own).of_lane (h.own).live
-
 abbrev answer_at : (lane : Lane) (d : Driver) (c : Controller) → Heads lane d c → poll.Poll
 answer_at lane d c h = poll.answered_poll d c.window lane (entry_at lane d c) (Some (h.own).waiting)
 
@@ -186,65 +178,6 @@ head_then lane d = ((ends lane d).head.consumed + 1) % 64 % 32
 fewer : (n k p : ℕ) → n < 64 → 0 < k → k < 32 → p ≡ (n + k) % 64 → (32 + p % 32 - (n + 1) % 64 % 32) % 32 ≡ k - 1
 fewer n k p a b e f = omega arith
 
-told-so : (lane : Lane) (d : Driver) (c : Controller) → Heads lane d c → Counted lane c (told_one lane c (head_then lane d)) (told_counts lane c)
-told-so lane d c h =
-    let p = h.sound.up h.up in
-    let r = running lane d c h.sound h.up in
-    let few : (state lane c).unread < 32 = omega (arith, few (host lane d c.window) (state lane c) r) in
-    let e : with_head (head_then lane d) (completion_as lane (counts lane c)) ≡ completion_as lane (told_counts lane c) =
-    rw (lt-ltb (head_then lane d) 32 (omega arith), fewer (ends lane d).head.consumed (state lane c).unread (state lane c).posted r.consumed h.some few r.posted) refl in
-    counted lane c (told_one lane c (head_then lane d)) (told_counts lane c) p (same-submission lane c p)
-    (ap (λ o. slice_set c.completion (queue_id lane) (option_map (with_head (head_then lane d)) o)) (completion-is lane c p) ∙ ap (λ q. slice_set c.completion (queue_id lane) (Some q)) e)
-    p.fetched refl
-
-polled-at : (lane : Lane) (d : Driver) (c : Controller) → Heads lane d c
-    → AtLane lane d (poll.consumed d lane (entry_at lane d c)) c (told_one lane c (head_then lane d)) d.next (consumed_one (host lane d c.window) (head-of lane d c)) (less (state lane c))
-polled-at lane d c h =
-    let b : Both d c = h.sound.both in
-    let x = changed-so lane d (entry_at lane d c) in
-    let t = told-so lane d c h in
-    let q = consumed-is (ends lane d) (sq_head (entry_at lane d c)) (h.sound.fits lane) h.heard in
-    let here = slots-here lane c.window c.window d.slots (cid (entry_at lane d c)) None b.slots h.within (λ k g e. record { areas = refl; lists = refl }) in
-    let there = slots-there (other lane) c.window c.window d.slots (cid (entry_at lane d c)) None b.slots h.within (λ k g e. record { areas = refl; lists = refl }) ((h.own).absent c.window (cid (entry_at lane d c))) refl in
-    record {
-      up = x.state;
-      next = x.next;
-      later = omega arith;
-      window = refl;
-      slots = ap length x.slots ∙ length-set d.slots (cid (entry_at lane d c)) None;
-      host_here = x.here c.window
-          ∙ (λ i. record (host lane d c.window) { slots = here i; put = (q i).tail.put; unheard = (q i).tail.unheard; consumed = (q i).head.consumed });
-      host_there = x.there c.window ∙ (λ i. record (host (other lane) d c.window) { slots = there i });
-      state_here = t.here;
-      state_there = t.there;
-    }
-
-polled-sound : (lane : Lane) (d : Driver) (c : Controller) → Heads lane d c → Sound (poll.consumed d lane (entry_at lane d c)) (told_one lane c (head_then lane d))
-polled-sound lane d c h =
-    let s = h.sound in
-    let f = s.fits lane in
-    let x = changed-so lane d (entry_at lane d c) in
-    sound-at lane d (poll.consumed d lane (entry_at lane d c)) c (told_one lane c (head_then lane d)) d.next _ _ (polled-at lane d c h) s h.up
-    (poll-holds s.both.first _ _ (s.both.each lane) h.up h.some)
-    (x.fits (subst EndsFit (sym (consumed-is (ends lane d) (sq_head (entry_at lane d c)) f h.heard)) (record { tail = f.tail; head = f.head })) s.fits)
-    (λ k. subst (λ xs. received_in (waiting_at xs k) ≤ most_bytes) (sym x.slots) (size-set d.slots (cid (entry_at lane d c)) k None (omega arith) s.sizes))
-    (told-so lane d c h).paired
-
--- the first answer of the lane is gone
-polled-mail : (lane : Lane) (d : Driver) (c : Controller) → Heads lane d c
-    → mailbox (poll.consumed d lane (entry_at lane d c)) (told_one lane c (head_then lane d)) ≡ (handed_up lane (first_answer lane d c) (rest_posted lane d c) (mailbox d c)).mailbox
-polled-mail lane d c h =
-    let r = running lane d c h.sound h.up in
-    let at = polled-at lane d c h in
-    let gone = bare-of h.sound.both.first _ _ (cid (entry_at lane d c)) (h.sound.both.each (other lane))
-    (ap live_in (slot-in (other lane) c.window d.slots (cid (entry_at lane d c)) ∙ (h.own).absent c.window (cid (entry_at lane d c)))) in
-    mail-at lane d (poll.consumed d lane (entry_at lane d c)) c (told_one lane c (head_then lane d)) d.next _ _ at (mailbox d c).fetched
-    (fetched-at lane d (poll.consumed d lane (entry_at lane d c)) c (told_one lane c (head_then lane d)) d.next _ _ at (cid (entry_at lane d c)) empty refl c.fetched
-    (each-lane lane (λ l. commands_of (cid (entry_at lane d c)) (commands_in l c.fetched) ≡ 0) (bare_front (host lane d c.window) (state lane c) r h.some).taken gone.taken))
-    (ap (in_order aborted_number) (changed-so lane d (entry_at lane d c)).slots ∙ live-freed d.slots (cid (entry_at lane d c)) (h.own).counts)
-    ∙ ap (λ u. with_box lane u (mailbox d c)) (poll-box (host lane d c.window) (state lane c) r h.some
-    ∙ ap (λ (u : LaneBox). record u { posted = rest_posted lane d c; unheard = u.unheard - (first_answer lane d c).step }) (sym (box-is lane d c)))
-
 -- an answer is as long as the request says where it succeeded
 len-small : (received : ℕ) (why : Status) → received ≤ most_bytes → poll.answer_len received why ≤ most_bytes
 len-small received why h = grind (arith, common_steps, h)
@@ -261,46 +194,11 @@ area-data : (w : List ℕ) (s n : ℕ) → n ≤ most_bytes → take n (area w s
 unfolding area
 area-data w s n h = take-take n most_bytes (drop (data_area s) w) h ∙ sym (range-is w (data_area s) n)
 
-answer-is : (lane : Lane) (d : Driver) (c : Controller) (h : Heads lane d c) → answer_reply (first_answer lane d c) ≡ poll_reply (answer_at lane d c h)
-answer-is lane d c h =
-    let n : ℕ = cid (entry_at lane d c) in
-    let why : Status = status (entry_at lane d c) in
-    let small : ((h.own).waiting).received ≤ most_bytes = subst (λ o. received_in o ≤ most_bytes) (h.own).is (h.sound.sizes (cid (entry_at lane d c))) in
-    let g = len-small ((h.own).waiting).received (status (entry_at lane d c)) small in
-    let e = slot-in lane c.window d.slots (cid (entry_at lane d c)) ∙ (h.own).slot c.window (cid (entry_at lane d c)) in
-    let t = area-data c.window (cid (entry_at lane d c)) (poll.answer_len ((h.own).waiting).received (status (entry_at lane d c))) g in
-    let l = ap length (t ∙ range-is c.window (data_area (cid (entry_at lane d c))) (poll.answer_len ((h.own).waiting).received (status (entry_at lane d c))))
-    ∙ place-small c.window (cid (entry_at lane d c)) (poll.answer_len ((h.own).waiting).received (status (entry_at lane d c))) h.sound.both.window h.within g in
-    ap (λ (z : Slot). answer_reply (record { ticket = ticket_in z.waiting; status = status (entry_at lane d c); dw0 = dw0 (entry_at lane d c); bytes = take (poll.answer_len (received_in z.waiting) (status (entry_at lane d c))) z.bytes; step = (first_answer lane d c).step })) e
-    ∙ (λ i. record { seen = Polled (Ok (Some (Done ((h.own).waiting).ticket (status (entry_at lane d c)) (dw0 (entry_at lane d c)) (l i)))); bytes = t i })
-
--- a completion of a lane is handed up
-hands-up : (lane : Lane) (d : Driver) (c : Controller) (h : Heads lane d c)
-    → IsStep (handed_up lane (first_answer lane d c) (rest_posted lane d c) (mailbox d c)) (answer_at lane d c h).driver (after_calls (answer_at lane d c h).calls c) (poll_reply (answer_at lane d c h))
-hands-up lane d c h =
-    let p = h.sound.up h.up in
-    let v : poll.head_of (consumed_ends (ends lane d) (sq_head (entry_at lane d c))) ≡ head_then lane d = rw (h.sound.fits lane).head refl in
-    let e : after_calls (answer_at lane d c h).calls c ≡ told_one lane c (head_then lane d) =
-    ap (λ n. after_write32 (head_doorbell lane) n c) v ∙ head-written lane c (head_then lane d) p.enabled p.ready (omega arith) in
-    record {
-      sound = subst (Sound (poll.consumed d lane (entry_at lane d c))) (sym e) (polled-sound lane d c h);
-      mail = sym (ap (mailbox (poll.consumed d lane (entry_at lane d c))) e ∙ polled-mail lane d c h);
-      gives = answer-is lane d c h;
-    }
-
 -- What is found, where nothing was aborted.
 
 abbrev Finds : Driver → Controller → MailboxReaction → Type 0
 Finds d c r =
     IsStep r (poll.found_poll d c.window (poll.found d c.window)).driver (after_calls (poll.found_poll d c.window (poll.found d c.window)).calls c) (poll_reply (poll.found_poll d c.window (poll.found d c.window)))
-
--- a completion of a lane
-finds-one : (lane : Lane) (d : Driver) (c : Controller) (r : MailboxReaction) → Heads lane d c → poll.found d c.window ≡ Some (record { lane = lane; entry = entry_at lane d c })
-    → r ≡ handed_up lane (first_answer lane d c) (rest_posted lane d c) (mailbox d c) → Finds d c r
-finds-one lane d c r h found q =
-    let known = ap (poll.found_poll d c.window) found ∙ ap (poll.answered_poll d c.window lane (entry_at lane d c)) (knows-it lane d c h) in
-    subst (λ y. Finds d c y) (sym q)
-    (subst (λ k. IsStep (handed_up lane (first_answer lane d c) (rest_posted lane d c) (mailbox d c)) k.driver (after_calls k.calls c) (poll_reply k)) (sym known) (hands-up lane d c h))
 
 -- or none
 finds-none : (d : Driver) (c : Controller) (r : MailboxReaction) → Sound d c → poll.found d c.window ≡ None → r ≡ mailbox_reaction (mailbox d c) (Polled (Ok None)) → Finds d c r
@@ -334,13 +232,112 @@ has lane d c s u =
       }))
     ]
 
+-- What handing up such a completion leaves.
+module _ (lane : Lane) (d : Driver) (c : Controller) (h : Heads lane d c) where
+  knows-it : poll.answered d lane (entry_at lane d c) ≡ Some (h.own).waiting
+  knows-it =
+      let a : (sq_id (entry_at lane d c) == queue_id lane) ≡ true = eq-eqb _ _ (front-of (host lane d c.window) (state lane c) (running lane d c h.sound h.up) h.some).0.0 in
+      ap (λ t. if t && can_be_heard (ends lane d).tail (sq_head (entry_at lane d c)) then poll.live_in lane (waiting_at d.slots (cid (entry_at lane d c))) else None) a
+      ∙ ap (λ t. if t then poll.live_in lane (waiting_at d.slots (cid (entry_at lane d c))) else None) h.heard
+      ∙ ap (poll.live_in lane) (h.own).is
+      ∙ own-live lane (h.own).waiting (h.own).of_lane (h.own).live
+
+  told-so : Counted lane c (told_one lane c (head_then lane d)) (told_counts lane c)
+  told-so =
+      let p = h.sound.up h.up in
+      let r = running lane d c h.sound h.up in
+      let few : (state lane c).unread < 32 = omega (arith, few (host lane d c.window) (state lane c) r) in
+      let e : with_head (head_then lane d) (completion_as lane (counts lane c)) ≡ completion_as lane (told_counts lane c) =
+      rw (lt-ltb (head_then lane d) 32 (omega arith), fewer (ends lane d).head.consumed (state lane c).unread (state lane c).posted r.consumed h.some few r.posted) refl in
+      counted lane c (told_one lane c (head_then lane d)) (told_counts lane c) p (same-submission lane c p)
+      (ap (λ o. slice_set c.completion (queue_id lane) (option_map (with_head (head_then lane d)) o)) (completion-is lane c p) ∙ ap (λ q. slice_set c.completion (queue_id lane) (Some q)) e)
+      p.fetched refl
+
+  polled-at : AtLane lane d (poll.consumed d lane (entry_at lane d c)) c (told_one lane c (head_then lane d)) d.next (consumed_one (host lane d c.window) (head-of lane d c)) (less (state lane c))
+  polled-at =
+      let b : Both d c = h.sound.both in
+      let x = changed-so lane d (entry_at lane d c) in
+      let t = told-so in
+      let q = consumed-is (ends lane d) (sq_head (entry_at lane d c)) (h.sound.fits lane) h.heard in
+      let here = slots-here lane c.window c.window d.slots (cid (entry_at lane d c)) None b.slots h.within (λ k g e. record { areas = refl; lists = refl }) in
+      let there = slots-there (other lane) c.window c.window d.slots (cid (entry_at lane d c)) None b.slots h.within (λ k g e. record { areas = refl; lists = refl }) ((h.own).absent c.window (cid (entry_at lane d c))) refl in
+      record {
+        up = x.state;
+        next = x.next;
+        later = omega arith;
+        window = refl;
+        slots = ap length x.slots ∙ length-set d.slots (cid (entry_at lane d c)) None;
+        host_here = x.here c.window
+            ∙ (λ i. record (host lane d c.window) { slots = here i; put = (q i).tail.put; unheard = (q i).tail.unheard; consumed = (q i).head.consumed });
+        host_there = x.there c.window ∙ (λ i. record (host (other lane) d c.window) { slots = there i });
+        state_here = t.here;
+        state_there = t.there;
+      }
+
+  polled-sound : Sound (poll.consumed d lane (entry_at lane d c)) (told_one lane c (head_then lane d))
+  polled-sound =
+      let s = h.sound in
+      let f = s.fits lane in
+      let x = changed-so lane d (entry_at lane d c) in
+      sound-at lane d (poll.consumed d lane (entry_at lane d c)) c (told_one lane c (head_then lane d)) d.next _ _ polled-at s h.up
+      (poll-holds s.both.first _ _ (s.both.each lane) h.up h.some)
+      (x.fits (subst EndsFit (sym (consumed-is (ends lane d) (sq_head (entry_at lane d c)) f h.heard)) (record { tail = f.tail; head = f.head })) s.fits)
+      (λ k. subst (λ xs. received_in (waiting_at xs k) ≤ most_bytes) (sym x.slots) (size-set d.slots (cid (entry_at lane d c)) k None (omega arith) s.sizes))
+      told-so.paired
+
+  -- the first answer of the lane is gone
+  polled-mail : mailbox (poll.consumed d lane (entry_at lane d c)) (told_one lane c (head_then lane d)) ≡ (handed_up lane (first_answer lane d c) (rest_posted lane d c) (mailbox d c)).mailbox
+  polled-mail =
+      let r = running lane d c h.sound h.up in
+      let at = polled-at in
+      let gone = bare-of h.sound.both.first _ _ (cid (entry_at lane d c)) (h.sound.both.each (other lane))
+      (ap live_in (slot-in (other lane) c.window d.slots (cid (entry_at lane d c)) ∙ (h.own).absent c.window (cid (entry_at lane d c)))) in
+      mail-at lane d (poll.consumed d lane (entry_at lane d c)) c (told_one lane c (head_then lane d)) d.next _ _ at (mailbox d c).fetched
+      (fetched-at lane d (poll.consumed d lane (entry_at lane d c)) c (told_one lane c (head_then lane d)) d.next _ _ at (cid (entry_at lane d c)) empty refl c.fetched
+      (each-lane lane (λ l. commands_of (cid (entry_at lane d c)) (commands_in l c.fetched) ≡ 0) (bare_front (host lane d c.window) (state lane c) r h.some).taken gone.taken))
+      (ap (in_order aborted_number) (changed-so lane d (entry_at lane d c)).slots ∙ live-freed d.slots (cid (entry_at lane d c)) (h.own).counts)
+      ∙ ap (λ u. with_box lane u (mailbox d c)) (poll-box (host lane d c.window) (state lane c) r h.some
+      ∙ ap (λ (u : LaneBox). record u { posted = rest_posted lane d c; unheard = u.unheard - (first_answer lane d c).step }) (sym (box-is lane d c)))
+
+  answer-is : answer_reply (first_answer lane d c) ≡ poll_reply (answer_at lane d c h)
+  answer-is =
+      let small : ((h.own).waiting).received ≤ most_bytes = subst (λ o. received_in o ≤ most_bytes) (h.own).is (h.sound.sizes (cid (entry_at lane d c))) in
+      let g = len-small ((h.own).waiting).received (status (entry_at lane d c)) small in
+      let e = slot-in lane c.window d.slots (cid (entry_at lane d c)) ∙ (h.own).slot c.window (cid (entry_at lane d c)) in
+      let t = area-data c.window (cid (entry_at lane d c)) (poll.answer_len ((h.own).waiting).received (status (entry_at lane d c))) g in
+      let l = ap length (t ∙ range-is c.window (data_area (cid (entry_at lane d c))) (poll.answer_len ((h.own).waiting).received (status (entry_at lane d c))))
+      ∙ place-small c.window (cid (entry_at lane d c)) (poll.answer_len ((h.own).waiting).received (status (entry_at lane d c))) h.sound.both.window h.within g in
+      ap (λ (z : Slot). answer_reply (record { ticket = ticket_in z.waiting; status = status (entry_at lane d c); dw0 = dw0 (entry_at lane d c); bytes = take (poll.answer_len (received_in z.waiting) (status (entry_at lane d c))) z.bytes; step = (first_answer lane d c).step })) e
+      ∙ (λ i. record { seen = Polled (Ok (Some (Done ((h.own).waiting).ticket (status (entry_at lane d c)) (dw0 (entry_at lane d c)) (l i)))); bytes = t i })
+
+  -- a completion of a lane is handed up
+  hands-up : IsStep (handed_up lane (first_answer lane d c) (rest_posted lane d c) (mailbox d c)) (answer_at lane d c h).driver (after_calls (answer_at lane d c h).calls c) (poll_reply (answer_at lane d c h))
+  hands-up =
+      let p = h.sound.up h.up in
+      let v : poll.head_of (consumed_ends (ends lane d) (sq_head (entry_at lane d c))) ≡ head_then lane d = rw (h.sound.fits lane).head refl in
+      let e : after_calls (answer_at lane d c h).calls c ≡ told_one lane c (head_then lane d) =
+      ap (λ n. after_write32 (head_doorbell lane) n c) v ∙ head-written lane c (head_then lane d) p.enabled p.ready (omega arith) in
+      record {
+        sound = subst (Sound (poll.consumed d lane (entry_at lane d c))) (sym e) polled-sound;
+        mail = sym (ap (mailbox (poll.consumed d lane (entry_at lane d c))) e ∙ polled-mail);
+        gives = answer-is;
+      }
+
+  -- a completion of a lane
+  finds-one : (r : MailboxReaction) → poll.found d c.window ≡ Some (record { lane = lane; entry = entry_at lane d c }) → r ≡ handed_up lane (first_answer lane d c) (rest_posted lane d c) (mailbox d c)
+      → Finds d c r
+  finds-one r found q =
+      let known = ap (poll.found_poll d c.window) found ∙ ap (poll.answered_poll d c.window lane (entry_at lane d c)) knows-it in
+      subst (λ y. Finds d c y) (sym q)
+      (subst (λ k. IsStep (handed_up lane (first_answer lane d c) (rest_posted lane d c) (mailbox d c)) k.driver (after_calls k.calls c) (poll_reply k)) (sym known) hands-up)
+
 -- of the admin lane first
 all-found : (d : Driver) (c : Controller) → Sound d c → is_up d.state ≡ true → Finds d c (polled_admin (mailbox d c).admin.posted (mailbox d c))
 all-found d c s u = by (has Admin d c s u) (has Io d c s u)
   where
     by : Has Admin d c ⊎ HasNone Admin d c → Has Io d c ⊎ HasNone Io d c → Finds d c (polled_admin (mailbox d c).admin.posted (mailbox d c))
-    by (inl a) i = finds-one Admin d c _ a.heads (ap (λ o. poll.found_or (poll.found_in Admin o) (poll.found_in Io (poll.new_in Io d.io c.window))) a.found) (ap (λ xs. polled_admin xs (mailbox d c)) a.posted)
-    by (inr n) (inl a) = finds-one Io d c _ a.heads (λ j. poll.found_or (poll.found_in Admin (n.found j)) (poll.found_in Io (a.found j)))
+    by (inl a) i = finds-one Admin d c a.heads _ (ap (λ o. poll.found_or (poll.found_in Admin o) (poll.found_in Io (poll.new_in Io d.io c.window))) a.found) (ap (λ xs. polled_admin xs (mailbox d c)) a.posted)
+    by (inr n) (inl a) = finds-one Io d c a.heads _ (λ j. poll.found_or (poll.found_in Admin (n.found j)) (poll.found_in Io (a.found j)))
         (ap (λ xs. polled_admin xs (mailbox d c)) n.posted ∙ ap (λ xs. polled_io xs (mailbox d c)) a.posted)
     by (inr n) (inr m) = finds-none d c _ s (λ j. poll.found_or (poll.found_in Admin (n.found j)) (poll.found_in Io (m.found j)))
         (ap (λ xs. polled_admin xs (mailbox d c)) n.posted ∙ ap (λ xs. polled_io xs (mailbox d c)) m.posted)

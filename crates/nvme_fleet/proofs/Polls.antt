@@ -11,10 +11,7 @@ rest-of d c = completions c.window ((d.consumed + 1) % 64) (c.unread - 1)
 
 -- what the phase of the first completion tells
 tag-tells : (new b x : Bool) → x ≡ cond new b (not b) → cond x b (not b) ≡ new
-tag-tells true true x e = rw e refl
-tag-tells true false x e = rw e refl
-tag-tells false true x e = rw e refl
-tag-tells false false x e = rw e refl
+tag-tells new b x e = grind (arith, common_steps, e)
 
 next-is : (d : Host) (c : State) (new : Bool) → Running d c → nat_lt 0 c.unread ≡ new → next_completion d c.window ≡ cond new (Some (front d c)) None
 next-is d c new s e =
@@ -23,9 +20,6 @@ next-is d c new s e =
 
 pub next-none : (d : Host) (c : State) → Running d c → c.unread ≡ 0 → next_completion d c.window ≡ None
 next-none d c s z = next-is d c false s (le-ltb 0 c.unread (omega (arith, z)))
-
-pub next-some : (d : Host) (c : State) → Running d c → 0 < c.unread → next_completion d c.window ≡ Some (completion_of (completion_bytes c.window d.consumed))
-next-some d c s p = next-is d c true s (lt-ltb 0 c.unread p)
 
 unread-first : (w : List ℕ) (n k : ℕ) → 0 < k → completions w n k ≡ completion_of (completion_bytes w n) ∷ completions w ((n + 1) % 64) (k - 1)
 unread-first w n zero p = let b : ⊥ = omega (arith, p) in absurd b
@@ -45,103 +39,102 @@ heard-is p u h a b e = omega arith
 abbrev step-of : Host → State → ℕ
 step-of d c = ((front d c).sq_head + 8 - heard d) % 8
 
-pub front-of : (d : Host) (c : State) → Running d c → 0 < c.unread → AllByRecursion (IsOf (queue_id c.lane)) (front d c ∷ rest-of d c)
-front-of d c s p = subst (AllByRecursion (IsOf (queue_id c.lane))) (front-first d c p) s.of_lane
-
-left-over : (d : Host) (c : State) → Running d c → 0 < c.unread → left_after d (front d c).sq_head ≡ d.unheard - step-of d c
-left-over d c s p =
-    left-is d.put d.unheard (front d c).sq_head s.put s.room (front-of d c s p).0.1 (omega (arith, ap (steps (heard d)) (front-first d c p), s.unheard))
-
-pub hears : (d : Host) (c : State) → Running d c → 0 < c.unread → can_hear d (front d c).sq_head ≡ true
-hears d c s p =
-    grind (arith, common_steps, (front-of d c s p).0.1, left-over d c s p)
-
 front-answers : (d : Host) (c : State) (slot : ℕ) (b : Bool) → 0 < c.unread → eqb (front d c).cid slot ≡ b → answers_of slot (unread d c) ≡ cond b 1 0 + answers_of slot (rest-of d c)
 front-answers d c slot b p e = ap (answers_of slot) (front-first d c p) ∙ ap (λ b. cond b 1 0 + answers_of slot (rest-of d c)) e
-
-pub front-live : (d : Host) (c : State) → Running d c → 0 < c.unread → live_at d.slots (front d c).cid ≡ 1
-front-live d c s p =
-    omega (arith, front-answers d c (front d c).cid true p (eq-eqb (front d c).cid (front d c).cid refl), s.carried (front d c).cid, live-small (slot_at d.slots (front d c).cid))
 
 -- the driver once it has heard the front completion, before the slot is freed: no other place bears that
 abbrev popped : Host → Completion → Host
 popped d e = record d { unheard = left_after d e.sq_head; consumed = (d.consumed + 1) % 64 }
 
-pub bare : (d : Host) (c : State) → Running d c → 0 < c.unread → Bare (popped d (front d c)) (less c) (front d c).cid
-bare d c s p =
-    bare-all (popped d (front d c)) (less c) (front d c).cid s.fetched s.waiting
-    (omega (arith, s.carried (front d c).cid, front-live d c s p, front-answers d c (front d c).cid true p (eq-eqb (front d c).cid (front d c).cid refl)))
-
-heard-front : (d : Host) (c : State) → Running d c → 0 < c.unread → heard (consumed d (front d c)) ≡ (front d c).sq_head
-heard-front d c s p = heard-is d.put d.unheard (front d c).sq_head s.put s.room (front-of d c s p).0.1
-
-since-front : (d : Host) (c : State) → Running d c → 0 < c.unread → since (consumed d (front d c)) (less c) ≡ since d c
-since-front d c s p =
-    ap (λ h. (c.fetched + 8 - last_head h (rest-of d c)) % 8) (heard-front d c s p) ∙
-    sym (ap (λ es. (c.fetched + 8 - last_head (heard d) es) % 8) (front-first d c p))
-
--- consuming the front completion frees its slot
-freed-box : (d : Host) (c : State) → Running d c → 0 < c.unread → box (consumed d (front d c)) (less c) ≡ box (popped d (front d c)) (less c)
-freed-box d c s p = bare-box (popped d (front d c)) (less c) (front d c).cid empty (bare d c s p)
-
--- Poll takes the first answer that was posted
-pub poll-posted : (d : Host) (c : State) → Running d c → 0 < c.unread →
-    (box d c).posted ≡ answer (holds d) (heard d) (front d c) ∷ (box (consumed d (front d c)) (less c)).posted
-unfolding box
-poll-posted d c s p =
-    let later = ap (λ (b : LaneBox). b.posted) (freed-box d c s p) ∙ ap (λ h. answers (holds d) h (rest-of d c)) (heard-front d c s p) in
-    ap (answers (holds d) (heard d)) (front-first d c p) ∙ ap (λ others. answer (holds d) (heard d) (front d c) ∷ others) (sym later)
-
-pub poll-box : (d : Host) (c : State) → Running d c → 0 < c.unread →
-    box (consumed d (front d c)) (less c) ≡ record (box d c) { posted = (box (consumed d (front d c)) (less c)).posted; unheard = (box d c).unheard - (answer (holds d) (heard d) (front d c)).step }
-unfolding box
-poll-box d c s p =
-    let f = freed-box d c s p in
-    same-box _ _ _ _ _ _ _ _ _ _ (ap (λ (b : LaneBox). b.placed) f) (ap (λ (b : LaneBox). b.rung) f) refl (left-over d c s p) (since-front d c s p)
-
 pub none-posted : (d : Host) (c : State) → c.unread ≡ 0 → (box d c).posted ≡ []
 unfolding box
 none-posted d c e = ap (λ k. answers (holds d) (heard d) (completions c.window d.consumed k)) e
 
-unheard-front : (d : Host) (c : State) → Running d c → 0 < c.unread →
-    steps (heard (consumed d (front d c))) (rest-of d c) + since (consumed d (front d c)) (less c) + in_flight d c ≡ left_after d (front d c).sq_head
-unheard-front d c s p =
-    omega (arith, ap (λ h. steps h (rest-of d c)) (heard-front d c s p), since-front d c s p, left-over d c s p, ap (steps (heard d)) (front-first d c p), s.unheard)
+-- A lane that runs, with a completion that was not consumed.
+module _ (d : Host) (c : State) (s : Running d c) (p : 0 < c.unread) where
+  pub next-some : next_completion d c.window ≡ Some (completion_of (completion_bytes c.window d.consumed))
+  next-some = next-is d c true s (lt-ltb 0 c.unread p)
 
-carried-front : (d : Host) (c : State) → Running d c → 0 < c.unread → Carried (consumed d (front d c)) (less c)
-carried-front d c s p =
-    let n : ℕ = (front d c).cid in
-    each-set (λ k (o : Slot). commands_of k c.taken + commands_of k (commands c.window c.fetched (in_flight d c)) + answers_of k (rest-of d c) ≡ live_in o)
-    d.slots n empty (live-within d.slots n (front-live d c s p))
-    (omega (arith, s.carried n, front-answers d c n true p (eq-eqb n n refl), live-small (slot_at d.slots n)))
-    (λ k q. omega (arith, s.carried k, front-answers d c k false p (eqb-sym k n q)))
+  pub front-of : AllByRecursion (IsOf (queue_id c.lane)) (front d c ∷ rest-of d c)
+  front-of = subst (AllByRecursion (IsOf (queue_id c.lane))) (front-first d c p) s.of_lane
 
--- one live slot fewer, and one answer
-held-front : (d : Host) (c : State) → Running d c → 0 < c.unread →
-    length c.taken + in_flight d c + (c.unread - 1) ≡ total live_in (slice_set d.slots (front d c).cid empty)
-held-front d c s p =
-    let l : live_at d.slots (front d c).cid ≡ 1 = front-live d c s p in
-    omega (arith, s.held, p, l, live-set d.slots (front d c).cid empty (live-within d.slots (front d c).cid l))
+  left-over : left_after d (front d c).sq_head ≡ d.unheard - step-of d c
+  left-over = left-is d.put d.unheard (front d c).sq_head s.put s.room front-of.0.1 (omega (arith, ap (steps (heard d)) (front-first d c p), s.unheard))
 
-pub poll-running : (d : Host) (c : State) → Running d c → 0 < c.unread → Running (consumed d (front d c)) (less c)
-poll-running d c s p =
-    record {
-      ready = s.ready;
-      window = s.window;
-      slots = length-set d.slots (front d c).cid empty ∙ s.slots;
-      put = s.put;
-      fetched = s.fetched;
-      consumed = omega arith;
-      posted = omega (arith, s.posted, p);
-      waiting = s.waiting;
-      unheard = unheard-front d c s p;
-      room = omega arith;
-      of_lane = (front-of d c s p).1;
-      phases = phases-consumed c.window d.consumed c.unread p (omega (arith, few d c s)) s.phases;
-      carried = carried-front d c s p;
-      held = held-front d c s p;
-      suited = bare-odd (popped d (front d c)) (less c) (front d c).cid empty (bare d c s p) ∙ s.suited;
-    }
+  pub hears : can_hear d (front d c).sq_head ≡ true
+  hears = grind (arith, common_steps, front-of.0.1, left-over)
+
+  pub front-live : live_at d.slots (front d c).cid ≡ 1
+  front-live =
+      omega (arith, front-answers d c (front d c).cid true p (eq-eqb (front d c).cid (front d c).cid refl), s.carried (front d c).cid, live-small (slot_at d.slots (front d c).cid))
+
+  pub bare : Bare (popped d (front d c)) (less c) (front d c).cid
+  bare =
+      bare-all (popped d (front d c)) (less c) (front d c).cid s.fetched s.waiting
+      (omega (arith, s.carried (front d c).cid, front-live, front-answers d c (front d c).cid true p (eq-eqb (front d c).cid (front d c).cid refl)))
+
+  heard-front : heard (consumed d (front d c)) ≡ (front d c).sq_head
+  heard-front = heard-is d.put d.unheard (front d c).sq_head s.put s.room front-of.0.1
+
+  since-front : since (consumed d (front d c)) (less c) ≡ since d c
+  since-front =
+      ap (λ h. (c.fetched + 8 - last_head h (rest-of d c)) % 8) heard-front ∙
+      sym (ap (λ es. (c.fetched + 8 - last_head (heard d) es) % 8) (front-first d c p))
+
+  -- consuming the front completion frees its slot
+  freed-box : box (consumed d (front d c)) (less c) ≡ box (popped d (front d c)) (less c)
+  freed-box = bare-box (popped d (front d c)) (less c) (front d c).cid empty bare
+
+  -- Poll takes the first answer that was posted
+  pub poll-posted : (box d c).posted ≡ answer (holds d) (heard d) (front d c) ∷ (box (consumed d (front d c)) (less c)).posted
+  unfolding box
+  poll-posted =
+      let later = ap (λ (b : LaneBox). b.posted) freed-box ∙ ap (λ h. answers (holds d) h (rest-of d c)) heard-front in
+      ap (answers (holds d) (heard d)) (front-first d c p) ∙ ap (λ others. answer (holds d) (heard d) (front d c) ∷ others) (sym later)
+
+  pub poll-box : box (consumed d (front d c)) (less c)
+      ≡ record (box d c) { posted = (box (consumed d (front d c)) (less c)).posted; unheard = (box d c).unheard - (answer (holds d) (heard d) (front d c)).step }
+  unfolding box
+  poll-box =
+      let f = freed-box in
+      same-box _ _ _ _ _ _ _ _ _ _ (ap (λ (b : LaneBox). b.placed) f) (ap (λ (b : LaneBox). b.rung) f) refl left-over since-front
+
+  unheard-front : steps (heard (consumed d (front d c))) (rest-of d c) + since (consumed d (front d c)) (less c) + in_flight d c ≡ left_after d (front d c).sq_head
+  unheard-front = omega (arith, ap (λ h. steps h (rest-of d c)) heard-front, since-front, left-over, ap (steps (heard d)) (front-first d c p), s.unheard)
+
+  carried-front : Carried (consumed d (front d c)) (less c)
+  carried-front =
+      let n : ℕ = (front d c).cid in
+      each-set (λ k (o : Slot). commands_of k c.taken + commands_of k (commands c.window c.fetched (in_flight d c)) + answers_of k (rest-of d c) ≡ live_in o)
+      d.slots n empty (live-within d.slots n front-live)
+      (omega (arith, s.carried n, front-answers d c n true p (eq-eqb n n refl), live-small (slot_at d.slots n)))
+      (λ k q. omega (arith, s.carried k, front-answers d c k false p (eqb-sym k n q)))
+
+  -- one live slot fewer, and one answer
+  held-front : length c.taken + in_flight d c + (c.unread - 1) ≡ total live_in (slice_set d.slots (front d c).cid empty)
+  held-front =
+      let l : live_at d.slots (front d c).cid ≡ 1 = front-live in
+      omega (arith, s.held, p, l, live-set d.slots (front d c).cid empty (live-within d.slots (front d c).cid l))
+
+  pub poll-running : Running (consumed d (front d c)) (less c)
+  poll-running =
+      record {
+        ready = s.ready;
+        window = s.window;
+        slots = length-set d.slots (front d c).cid empty ∙ s.slots;
+        put = s.put;
+        fetched = s.fetched;
+        consumed = omega arith;
+        posted = omega (arith, s.posted, p);
+        waiting = s.waiting;
+        unheard = unheard-front;
+        room = omega arith;
+        of_lane = front-of.1;
+        phases = phases-consumed c.window d.consumed c.unread p (omega (arith, few d c s)) s.phases;
+        carried = carried-front;
+        held = held-front;
+        suited = bare-odd (popped d (front d c)) (less c) (front d c).cid empty bare ∙ s.suited;
+      }
 
 -- the lane that was polled holds
 pub poll-holds : (first : ℕ) (d : Host) (c : State) → Holds first d c → d.up ≡ true → 0 < c.unread → Holds first (consumed d (front d c)) (less c)

@@ -191,11 +191,6 @@ answers lane d c i t a bytes k f w few whole =
       window = window-is lane c i t a bytes b w;
     }
 
--- what the lane's own Execute asks for
-executes-so : (lane : Lane) (d : Driver) (c : Controller) (i : ℕ) (t : FetchedCommand) (a : CommandExecution) (bytes : List ℕ) → Answers lane d c i t a bytes
-    → Executes (host lane d c.window) (state lane c) (effect_of a bytes) (rank lane c.fetched i) t.entry (area (window_then lane c t a bytes) (cid t.entry))
-executes-so lane d c i t a bytes h = record { fetched = (h.known).one; size = h.size; reads = h.reads; fits = h.fits; gets = h.wrote.data_in }
-
 -- What becomes of the lane.
 abbrev host_then : Lane → Driver → Controller → FetchedCommand → CommandExecution → List ℕ → Host
 host_then lane d c t a bytes = executed_one (host lane d c.window) t.entry (area (window_then lane c t a bytes) (cid t.entry))
@@ -212,43 +207,6 @@ removed-here lane d c i t k = (ranked-in lane c.fetched i t k.there (ap (λ l. s
 
 still-there : (lane : Lane) (d : Driver) (c : Controller) (i : ℕ) (t : FetchedCommand) → Known lane d c i t → commands_in (other lane) (remove c.fetched i) ≡ commands_in (other lane) c.fetched
 still-there lane d c i t k = removed-there (other lane) c.fetched i t k.there (ap (λ l. same l (other lane)) k.of_lane ∙ same-other lane)
-
-posted-at : (lane : Lane) (d : Driver) (c : Controller) (i : ℕ) (t : FetchedCommand) (a : CommandExecution) (bytes : List ℕ) → Answers lane d c i t a bytes → Posts lane d c i t a bytes
-unfolding after_posting
-posted-at lane d c i t a bytes h =
-    let k = h.known in
-    let b : Both d c = k.sound.both in
-    let o = k.own in
-    let w = h.wrote in
-    let n : cid t.entry < 24 = (k.one).within in
-    let v = h.window in
-    let q = posted-so lane c i t a (k.sound.up k.up) in
-    let stay = ap (slots_in lane (window_then lane c t a bytes) 0) (sym (set-waiting d.slots (cid t.entry) (omega (arith, n, b.slots)))) in
-    let here = ap (slots_in lane (window_then lane c t a bytes) 0) (sym (set-waiting d.slots (cid t.entry) (omega (arith, n, b.slots))))
-    ∙ slots-here lane c.window (window_then lane c t a bytes) d.slots (cid t.entry) (waiting_at d.slots (cid t.entry)) b.slots n w.stored.slots
-    ∙ ap (slice_set (slots_in lane c.window 0 d.slots) (cid t.entry))
-    (o.slot (window_then lane c t a bytes) (cid t.entry)
-    ∙ (λ j. record { waiting = Some o.waiting; bytes = area (window_then lane c t a bytes) (cid t.entry); list = w.lists j })
-    ∙ ap (λ (s : Slot). record s { bytes = area (window_then lane c t a bytes) (cid t.entry) }) (sym (seen-is lane d c i t k))) in
-    let there = ap (slots_in (other lane) (window_then lane c t a bytes) 0) (sym (set-waiting d.slots (cid t.entry) (omega (arith, n, b.slots))))
-    ∙ slots-there (other lane) c.window (window_then lane c t a bytes) d.slots (cid t.entry) (waiting_at d.slots (cid t.entry)) b.slots n w.stored.slots (o.absent c.window (cid t.entry)) (o.absent (window_then lane c t a bytes) (cid t.entry)) in
-    let taken = removed-here lane d c i t k in
-    let new = finished_bytes (state lane c) (effect_of a bytes) t.entry in
-    let at = 4096 + 16 * ((state lane c).posted % 32) in
-    let pages = ap (pages_of lane) v ∙ w.stored.pages lane ∙ ap (λ x. cond x (with_bytes (pages_of lane c.window) at new) (pages_of lane c.window)) (same-self lane) in
-    let others = ap (pages_of (other lane)) v ∙ w.stored.pages (other lane) ∙ ap (λ x. cond x (with_bytes (pages_of (other lane) c.window) at new) (pages_of (other lane) c.window)) (other-same lane) in
-    record {
-      up = refl;
-      next = refl;
-      later = omega arith;
-      window = ap length v ∙ w.stored.size ∙ sym b.window;
-      slots = refl;
-      host_here = ap (host lane d) v ∙ (λ j. record (host lane d c.window) { slots = here j });
-      host_there = ap (host (other lane) d) v ∙ (λ j. record (host (other lane) d c.window) { slots = there j });
-      state_here = q.here
-          ∙ (λ j. record (state lane c) { window = pages j; posted = ((state lane c).posted + 1) % 64; unread = (state lane c).unread + 1; taken = taken j });
-      state_there = q.there ∙ (λ j. record (state (other lane) c) { window = others j; taken = (still-there lane d c i t k) j });
-    }
 
 -- its answer, in its lane
 box-posted : (lane : Lane) (d : Driver) (c : Controller) (t : FetchedCommand) (a : CommandExecution) (bytes : List ℕ) → lane_of_queue t.queue ≡ lane → Seen lane d c t
@@ -275,33 +233,74 @@ bare-then lane d c i t k =
     (ap (commands_of (cid t.entry)) (still-there lane d c i t k)
     ∙ (bare-of b.first _ _ (cid t.entry) (b.each (other lane)) (ap live_in (slot-in (other lane) c.window d.slots (cid t.entry) ∙ o.absent c.window (cid t.entry)))).taken)
 
-posted-mail : (lane : Lane) (d : Driver) (c : Controller) (i : ℕ) (t : FetchedCommand) (a : CommandExecution) (bytes : List ℕ) → Answers lane d c i t a bytes
-    → mailbox d (posted_then lane c i t a) ≡ after_answer i (item_at d c t) (request_execution_with d t a bytes) (mailbox d c)
-unfolding after_posting
-posted-mail lane d c i t a bytes h =
-    let k = h.known in
-    let at = posted-at lane d c i t a bytes h in
-    let sight = seen lane d c i t k in
-    mail-at lane d d c (posted_then lane c i t a) d.next _ _ at (remove (mailbox d c).fetched i)
-    (fetched-at lane d d c (posted_then lane c i t a) d.next _ _ at (cid t.entry) _ refl (remove c.fetched i) (bare-then lane d c i t k) ∙ map-removed (fetched_by (held_by d c.window)) c.fetched i)
-    refl
-    ∙ ap (λ u. with_box lane u (record (mailbox d c) { fetched = remove (mailbox d c).fetched i }))
-    (execute-box _ _ (effect_of a bytes) (rank lane c.fetched i) t.entry _ (executes-so lane d c i t a bytes h) ∙ box-posted lane d c t a bytes k.of_lane sight)
-    ∙ answered lane d c i t a bytes k.of_lane sight
-
-posted-sound : (lane : Lane) (d : Driver) (c : Controller) (i : ℕ) (t : FetchedCommand) (a : CommandExecution) (bytes : List ℕ) → Answers lane d c i t a bytes → Sound d (posted_then lane c i t a)
-posted-sound lane d c i t a bytes h =
-    let k = h.known in
-    let s = k.sound in
-    let b : Both d c = s.both in
-    sound-at lane d d c (posted_then lane c i t a) d.next _ _ (posted-at lane d c i t a bytes h) s k.up
-    (execute-holds b.first _ _ (effect_of a bytes) (rank lane c.fetched i) t.entry _ (b.each lane) k.up (executes-so lane d c i t a bytes h)) s.fits s.sizes (posted-so lane c i t a (s.up k.up)).paired
-
 -- the controller, where the queues stay
 kept : (c : Controller) (i : ℕ) (t : FetchedCommand) (p : QueuePair) (a : CommandExecution) → a.change ≡ Keep
     → after_completion i t p a c ≡ after_posting i t p a.outcome.status a.outcome.dw0 (record c { window = a.left.window })
 unfolding after_completion after_queue_change
 kept c i t p a e = rw e refl
+
+-- What such an answer leaves.
+module _ (lane : Lane) (d : Driver) (c : Controller) (i : ℕ) (t : FetchedCommand) (a : CommandExecution) (bytes : List ℕ) (h : Answers lane d c i t a bytes) where
+  -- what the lane's own Execute asks for
+  executes-so : Executes (host lane d c.window) (state lane c) (effect_of a bytes) (rank lane c.fetched i) t.entry (area (window_then lane c t a bytes) (cid t.entry))
+  executes-so = record { fetched = (h.known).one; size = h.size; reads = h.reads; fits = h.fits; gets = h.wrote.data_in }
+
+  posted-at : Posts lane d c i t a bytes
+  unfolding after_posting
+  posted-at =
+      let k = h.known in
+      let b : Both d c = k.sound.both in
+      let o = k.own in
+      let w = h.wrote in
+      let n : cid t.entry < 24 = (k.one).within in
+      let v = h.window in
+      let q = posted-so lane c i t a (k.sound.up k.up) in
+      let here = ap (slots_in lane (window_then lane c t a bytes) 0) (sym (set-waiting d.slots (cid t.entry) (omega (arith, n, b.slots))))
+      ∙ slots-here lane c.window (window_then lane c t a bytes) d.slots (cid t.entry) (waiting_at d.slots (cid t.entry)) b.slots n w.stored.slots
+      ∙ ap (slice_set (slots_in lane c.window 0 d.slots) (cid t.entry))
+      (o.slot (window_then lane c t a bytes) (cid t.entry)
+      ∙ (λ j. record { waiting = Some o.waiting; bytes = area (window_then lane c t a bytes) (cid t.entry); list = w.lists j })
+      ∙ ap (λ (s : Slot). record s { bytes = area (window_then lane c t a bytes) (cid t.entry) }) (sym (seen-is lane d c i t k))) in
+      let there = ap (slots_in (other lane) (window_then lane c t a bytes) 0) (sym (set-waiting d.slots (cid t.entry) (omega (arith, n, b.slots))))
+      ∙ slots-there (other lane) c.window (window_then lane c t a bytes) d.slots (cid t.entry) (waiting_at d.slots (cid t.entry)) b.slots n w.stored.slots (o.absent c.window (cid t.entry)) (o.absent (window_then lane c t a bytes) (cid t.entry)) in
+      let taken = removed-here lane d c i t k in
+      let new = finished_bytes (state lane c) (effect_of a bytes) t.entry in
+      let at = 4096 + 16 * ((state lane c).posted % 32) in
+      let pages = ap (pages_of lane) v ∙ w.stored.pages lane ∙ ap (λ x. cond x (with_bytes (pages_of lane c.window) at new) (pages_of lane c.window)) (same-self lane) in
+      let others = ap (pages_of (other lane)) v ∙ w.stored.pages (other lane) ∙ ap (λ x. cond x (with_bytes (pages_of (other lane) c.window) at new) (pages_of (other lane) c.window)) (other-same lane) in
+      record {
+        up = refl;
+        next = refl;
+        later = omega arith;
+        window = ap length v ∙ w.stored.size ∙ sym b.window;
+        slots = refl;
+        host_here = ap (host lane d) v ∙ (λ j. record (host lane d c.window) { slots = here j });
+        host_there = ap (host (other lane) d) v ∙ (λ j. record (host (other lane) d c.window) { slots = there j });
+        state_here = q.here
+            ∙ (λ j. record (state lane c) { window = pages j; posted = ((state lane c).posted + 1) % 64; unread = (state lane c).unread + 1; taken = taken j });
+        state_there = q.there ∙ (λ j. record (state (other lane) c) { window = others j; taken = (still-there lane d c i t k) j });
+      }
+
+  posted-mail : mailbox d (posted_then lane c i t a) ≡ after_answer i (item_at d c t) (request_execution_with d t a bytes) (mailbox d c)
+  unfolding after_posting
+  posted-mail =
+      let k = h.known in
+      let at = posted-at in
+      let sight = seen lane d c i t k in
+      mail-at lane d d c (posted_then lane c i t a) d.next _ _ at (remove (mailbox d c).fetched i)
+      (fetched-at lane d d c (posted_then lane c i t a) d.next _ _ at (cid t.entry) _ refl (remove c.fetched i) (bare-then lane d c i t k) ∙ map-removed (fetched_by (held_by d c.window)) c.fetched i)
+      refl
+      ∙ ap (λ u. with_box lane u (record (mailbox d c) { fetched = remove (mailbox d c).fetched i }))
+      (execute-box _ _ (effect_of a bytes) (rank lane c.fetched i) t.entry _ executes-so ∙ box-posted lane d c t a bytes k.of_lane sight)
+      ∙ answered lane d c i t a bytes k.of_lane sight
+
+  posted-sound : Sound d (posted_then lane c i t a)
+  posted-sound =
+      let k = h.known in
+      let s = k.sound in
+      let b : Both d c = s.both in
+      sound-at lane d d c (posted_then lane c i t a) d.next _ _ posted-at s k.up
+      (execute-holds _ _ (effect_of a bytes) (rank lane c.fetched i) t.entry _ executes-so b.first (b.each lane) k.up) s.fits s.sizes (posted-so lane c i t a (s.up k.up)).paired
 
 pub posting_is_a_step : PostingIsAStep
 posting_is_a_step d c i t p a s g queues h =

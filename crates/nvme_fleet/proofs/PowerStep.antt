@@ -1,5 +1,5 @@
 -- A power cycle is a step of each mailbox, and of the fleet.
-use Rattle.nvme_fleet.proofs.Words.{◌≡◌, ◌+◌, ◌++◌, ℕ, zero, suc, Bool, List, [], ◌∷◌, drop, length, map, refill-all, take, Option, None, Some, refl, sym, ap, subst, ◌∙◌, slice_get, option_map, length-map, same_Some, Driver, after_reset, Seen, Cycled, Wrote, NoController, Controller, after_write32, wrote, Subsystem, ReactsAs, controller_at, after_power_cycle, Ran, FleetState, IsSoundFleet, SoundBy, fleet_in, fleet_of, host_by, hosts_of, layers_of, WithDriver, Fleet, host_cycled, Cycles, resets_from, AreCycled, Sound, IsOff, mailbox}
+use Rattle.nvme_fleet.proofs.Words.{◌≡◌, ◌+◌, ◌++◌, ℕ, zero, suc, Bool, List, [], ◌∷◌, drop, length, map, refill-all, take, Option, None, Some, refl, sym, ap, subst, ◌∙◌, slice_get, option_map, length-map, same_Some, Driver, after_reset, Seen, Cycled, Wrote, NoController, Controller, after_write32, wrote, Subsystem, ReactsAs, controller_at, after_power_cycle, Ran, FleetState, IsSoundFleet, SoundBy, fleet_in, fleet_of, host_by, hosts_of, layers_of, WithDriver, Fleet, host_cycled, Cycles, resets_from, AreCycled, Sound, IsOff, mailbox, ◌<◌, Calls, reset_calls, MediumCall, OverMedium, Linked, controller_in, with_controller_at, CallOverMedium, new_controller}
 use Rattle.nvme_driver.specs.Drivers as driver
 use Rattle.nvme_machine.specs.Controllers.{power_cycled}
 use Rattle.nvme_machine.specs.Subsystems.{numbered, replaced, with_controller}
@@ -10,6 +10,8 @@ use Rattle.nvme_event.specs.declared.seen.FleetSeen.TheVariants as seen
 use Rattle.nvme_fleet.proofs.Registering.{disabled-off}
 use Rattle.nvme_fleet.proofs.Resetting.{reset-sound, reset-mail}
 use Rattle.nvme_fleet.proofs.Seats.{AllSound}
+use Rattle.nvme_fleet.proofs.LinkCalls.{calls-made}
+use Rattle.std.proofs.lemmas.Option.{slice_get-get_or}
 
 -- One host.
 
@@ -134,3 +136,23 @@ pub cycled-at : (tells : Bool) (a old : FleetState) (new : Subsystem) (drivers :
 cycled-at tells a old new drivers len same s is reset whole =
     let back = refill-all len a.drivers drivers whole ∙ reset in
     subst (λ b. IsCycledFleet tells old b) (sym (λ i. record a { subsystem = is i; drivers = back i })) (subst (λ o. IsCycledFleet tells o (cycled-state a)) same (is-cycled tells a s))
+
+-- A reset over a link changes nothing at a controller that power has reset.
+
+pub record IsStill {M : Type 0} (p q : OverMedium Linked M) : Type 0 where
+  pub subsystem : q.state.subsystem ≡ p.state.subsystem
+  pub medium : q.medium ≡ p.medium
+
+pub over-still : {M : Type 0} (step : M → MediumCall → M → Type 0) (tells : Bool) (p q : OverMedium Linked M) → p.state.place < length p.state.subsystem.controllers
+    → AreCycled p.state.subsystem → Calls (CallOverMedium step tells) p reset_calls q → IsStill p q
+over-still step tells p q there cycled calls =
+    let a : Subsystem = p.state.subsystem in
+    let i : ℕ = p.state.place in
+    let c : Controller = controller_in a i in
+    let found = slice_get-get_or a.controllers i (new_controller 0) there in
+    let made = calls-made step tells reset_calls p q tt there calls in
+    record {
+      subsystem = made.leaves ∙ ap (with_controller_at a i) (written-still c (cycled (i + 1) c (numbers.at-place a (i + 1) i c refl found)))
+          ∙ ap (λ cs. (let s : Subsystem = record a { controllers = cs } in s)) (numbers.set-same a.controllers i c found);
+      medium = made.medium;
+    }

@@ -1,5 +1,5 @@
 -- A reset over both lanes: all that is open is aborted, by rising tickets.
-use Rattle.nvme_fleet.proofs.Words.{item_in, rising, waiting_at, empty_box, open_tickets, tickets_in, FetchedItem, cid, abort, Waiting, most_bytes, ◌≡◌, ℕ, ◌+◌, ◌≤◌, List, [], ◌∷◌, ◌++◌, length, map, refl, ap, sym, ◌∙◌, arith, zero, suc, false, cond, eqb, Option, Some, None, map-append, length-map, Completion, Slot, empty, slot_at, box, abort_slot, off, ticket_in, received_in, live_at as live_slot, commands_of, answers_of, unread, AgeIn, Ages as AgesOne, Lane, Admin, Io, same, Driver, ends, after_reset, FetchedCommand, Controller, lane_of_queue, Both, whole, slots_in, commands_in, host, state, fetched_by, held_by, in_order, aborted_number, Sound, EndsFit, IsOff, mailbox, eq-eqb, bears, common_steps}
+use Rattle.nvme_fleet.proofs.Words.{item_in, rising, waiting_at, empty_box, open_tickets, tickets_in, FetchedItem, cid, abort, Waiting, most_bytes, ◌≡◌, ℕ, ◌+◌, ◌≤◌, List, [], ◌∷◌, ◌++◌, length, map, refl, ap, sym, ◌∙◌, arith, zero, suc, false, cond, eqb, Option, Some, None, map-append, length-map, Completion, Slot, empty, slot_at, box, abort_slot, off, ticket_in, received_in, live_at as live_slot, commands_of, answers_of, unread, AgeIn, Ages as AgesOne, Lane, Admin, Io, same, Driver, ends, after_reset, FetchedCommand, Controller, lane_of_queue, Both, whole, slots_in, commands_in, host, state, fetched_by, held_by, in_order, aborted_number, Sound, EndsFit, IsOff, mailbox, eq-eqb, bears, common_steps, subst, inl, inr, cases_Bool, Off, is_up, reset_calls, without_queues, ResetIsAStep, after_calls}
 use Rattle.nvme_fleet.proofs.LaneWindows.{same-self}
 use Rattle.nvme_mailbox.specs.Deliveries as mail
 use Rattle.nvme_fleet.specs.Views.{reset as reset_one}
@@ -10,6 +10,7 @@ use Rattle.nvme_fleet.proofs.LaneSlots.{rest-fewer, slot-in, own-at, live-of}
 use Rattle.nvme_fleet.proofs.Orders.{live_at, ticket_at, Ages, times, rising-slots, abort-all, pending-abort}
 use Rattle.nvme_fleet.proofs.OneLane.{same-holds}
 use Rattle.nvme_fleet.proofs.Queues.{flight-total}
+use Rattle.nvme_fleet.proofs.Registering.{disabled, disabled-off}
 
 -- Reset of both lanes is Reset of each
 slots-reset : (lane : Lane) (w : List ℕ) (k : ℕ) (slots : List (Option Waiting)) → slots_in lane w k (map abort slots) ≡ map abort_slot (slots_in lane w k slots)
@@ -193,3 +194,34 @@ reset-mail d c c' b o w =
     let io = reset-empty Io d c c' o w in
     let none = ap (map (fetched_by (held_by (after_reset d) c'.window))) o.fetched in
     λ i. record { up = false; next = d.next; admin = admin i; io = io i; fetched = none i; aborted = e i }
+
+-- That a reset of a driver and its controller is a step of the mailbox.
+
+-- A reset is a step of the mailbox.
+
+-- the controller once it was disabled
+abbrev off_now : Controller → Controller
+off_now c = without_queues (record c { registers = record c.registers { cc = 0; state = Off } })
+
+is-off : (c : Controller) → IsOff (off_now c)
+is-off c = record { submission = refl; completion = refl; fetched = refl; off = refl; disabled = refl }
+
+-- one that was off already
+same-off : (c : Controller) (o : IsOff c) → record c { registers = record c.registers { cc = 0 } } ≡ off_now c
+same-off c o =
+    λ i. record c { registers = record c.registers { cc = 0; state = o.off i }; submission = o.submission i; completion = o.completion i; fetched = o.fetched i }
+
+written : (d : Driver) (c : Controller) → Sound d c → after_calls reset_calls c ≡ off_now c
+written d c s = elim (cases_Bool (is_up d.state)) [
+  | inl u ↦ let p = s.up u in disabled c p.enabled
+  | inr u ↦ let o = s.down u in disabled-off c o.disabled ∙ same-off c o
+]
+
+pub reset_is_a_step : ResetIsAStep
+reset_is_a_step d c s =
+    let e = written d c s in
+    record {
+      sound = subst (Sound (after_reset d)) (sym e) (reset-sound d c (off_now c) s (is-off c) refl);
+      mail = sym (reset-mail d c (off_now c) s.both (is-off c) refl) ∙ ap (mailbox (after_reset d)) (sym e);
+      gives = refl;
+    }

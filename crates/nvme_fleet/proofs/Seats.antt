@@ -1,11 +1,49 @@
 -- Hosts by their numbers: a driver and a controller of a fleet, what they stand for, and a fleet where they have become
 -- others.
-use Rattle.nvme_fleet.proofs.Words.{Bool, Controller, CqFull, Driver, Executed, Fleet, FleetState, IsSoundFleet, List, Marks, NoSuch, Option, Posted, Setting, Some, SoundBy, World, [], ap, arith, controller_at, driver_at, fleet_in, fleet_of, host_at, host_by, host_of, hosts_of, if◌then◌else◌, is_host_among, length, length-after, length-set, marked, marked_from, marks_after, marks_in, no_marks, none-some, refl, same_Some, settled, site_of, slice_get, slice_set, subst, sym, with_driver, with_host, with_marks, ℕ, ◌+◌, ◌∙◌, ◌∷◌, ◌≡◌, Subsystem, false, suc, true, zero}
+use Rattle.nvme_fleet.proofs.Words.{Bool, Controller, CqFull, Driver, Executed, Fleet, FleetState, IsSoundFleet, List, Marks, NoSuch, Option, Posted, Setting, Some, SoundBy, World, [], ap, arith, controller_at, driver_at, fleet_in, fleet_of, host_at, host_by, host_of, hosts_of, if◌then◌else◌, is_host_among, length, length-after, length-set, marked, marked_from, marks_after, marks_in, no_marks, none-some, refl, same_Some, settled, site_of, slice_get, slice_set, subst, sym, with_driver, with_host, with_marks, ℕ, ◌+◌, ◌∙◌, ◌∷◌, ◌≡◌, Subsystem, false, suc, true, zero, None, WithDriver}
+use Rattle.nvme_mailbox.proofs.Lists.{got-back}
 use Rattle.nvme_machine.specs.Subsystems as machine
 use Rattle.nvme_machine.proofs.Denials.{not_one}
 use Rattle.nvme_mailbox.specs.Fleets as mailboxes
 use Rattle.nvme_mailbox.specs.Fleets.{Host}
-use Rattle.nvme_fleet.proofs.Hosting.{driver-same, hosts-get, hosts-marked, hosts-set, mark-sound}
+use Rattle.nvme_fleet.proofs.MarkStep.{marks_are_steps}
+
+-- Hosts by their places: those of a list of drivers beside a list of controllers.
+
+-- a host is where its driver and its controller are
+pub hosts-get : (ds : List (Option Driver)) (cs : List Controller) (i : ℕ) (d : Option Driver) (c : Controller) → slice_get ds i ≡ Some d → slice_get cs i ≡ Some c
+    → slice_get (hosts_of ds cs) i ≡ Some (host_by d c)
+hosts-get (x ∷ ds) (y ∷ cs) zero d c h g =
+    λ j. Some (host_by ((same_Some _ _ h) j) ((same_Some _ _ g) j))
+hosts-get (x ∷ ds) (y ∷ cs) (suc i) d c h g = hosts-get ds cs i d c h g
+hosts-get ds cs i d c h g = absurd (cc)
+
+pub hosts-set : (ds : List (Option Driver)) (cs : List Controller) (i : ℕ) (d : Option Driver) (c : Controller)
+    → hosts_of (slice_set ds i d) (slice_set cs i c) ≡ slice_set (hosts_of ds cs) i (host_by d c)
+hosts-set [] cs i d c = refl
+hosts-set (x ∷ ds) [] zero d c = refl
+hosts-set (x ∷ ds) [] (suc i) d c = refl
+hosts-set (x ∷ ds) (y ∷ cs) zero d c = refl
+hosts-set (x ∷ ds) (y ∷ cs) (suc i) d c = ap (λ hs. host_by x y ∷ hs) (hosts-set ds cs i d c)
+
+-- A controller's marks reach its host, and keep it sound.
+pub mark-host : (d : Option Driver) (c : Controller) (n : ℕ) → SoundBy d c → host_by d (with_marks n c) ≡ marked n (host_by d c)
+mark-host None c n s = refl
+mark-host (Some d) c n s = let m = marks_are_steps d c n s in ap WithDriver m.mail
+
+pub mark-sound : (d : Option Driver) (c : Controller) (n : ℕ) → SoundBy d c → SoundBy d (with_marks n c)
+mark-sound None c n s = tt
+mark-sound (Some d) c n s = let m = marks_are_steps d c n s in m.sound
+
+pub hosts-marked : (w : World) (m : Marks) (k : ℕ) (ds : List (Option Driver)) (cs : List Controller)
+    → ((i : ℕ) (d : Option Driver) (c : Controller) → slice_get ds i ≡ Some d → slice_get cs i ≡ Some c → SoundBy d c)
+    → hosts_of ds (machine.marked_from w m k cs) ≡ marked_from w m k (hosts_of ds cs)
+hosts-marked w m k (d ∷ ds) (c ∷ cs) s = λ j. by (is_host_among m.hosts.items (host_of w k)) j ∷ hosts-marked w m (k + 1) ds cs (λ i e x h g. s (suc i) e x h g) j
+  where
+    by : (b : Bool) → host_by d (if b then with_marks m.nsid c else c) ≡ (if b then marked m.nsid (host_by d c) else host_by d c)
+    by true = mark-host d c m.nsid (s 0 d c refl refl)
+    by false = refl
+hosts-marked w m k ds cs s = refl
 
 -- all drivers are sound with their controllers
 abbrev pub AllSound : List (Option Driver) → List Controller → Type 0
@@ -50,7 +88,7 @@ seat a zero d c s h g = absurd (none-some _ h)
 seat a (suc i) d c s h g = record {
   host = hosts-get a.drivers a.subsystem.controllers i d c h g;
   sound = s.sound i d c h g;
-  kept = driver-same a.drivers i d h;
+  kept = got-back a.drivers i d h;
 }
 
 -- there is a driver's place beside each controller
@@ -139,7 +177,6 @@ has-settled a b k d x left s n kept only subsystem =
     let cs : List Controller = machine.replaced a.subsystem.controllers k left.controller in
     let set = are-set a.drivers a.subsystem.controllers k d left.controller s.pairs s.sound n in
     let all : AllSound a.drivers cs = subst (λ ds. AllSound ds cs) kept set.sound in
-    let t : FleetState = record a { subsystem = record { world = w; device = left.device; controllers = marks_after w x cs } } in
     subst (λ y. IsSettled a y k d x left) (sym (only ∙ ap (λ z. (let y : FleetState = record a { subsystem = z } in y)) subsystem)) (record {
       fleet = ap (λ hs. (let f : Fleet = record { site = site_of left; hosts = hs } in f))
           (hosts-after w a.drivers cs x all ∙ ap (marked_from w (marks_in x) 1) (ap (λ ds. hosts_of ds cs) (sym kept) ∙ set.hosts));

@@ -8,10 +8,9 @@ use Rattle.nvme_spec.specs.Statuses as status
 use Rattle.nvme_spec.proofs.Reporting.{length-report_data}
 use Rattle.nvme_fleet.proofs.Places.{no-way}
 use Rattle.nvme_fleet.proofs.Commands.{SameFields}
-use Rattle.nvme_fleet.proofs.Judging.{length-same, same-count, same-lba, same-action}
 use Rattle.nvme_fleet.proofs.PostStep.{slot_seen}
 use Rattle.nvme_fleet.proofs.HeldStep.{asked-at, data-same}
-use Rattle.nvme_fleet.proofs.JudgeStep.{IsIo, io-known, action-is, plain-io, length-is, data-is}
+use Rattle.nvme_fleet.proofs.JudgeStep.{IsIo, io-known, action-is, plain-io, length-is, data-is, length-same, same-count, same-lba, same-action}
 
 same-block : (w : World) (x y : List ℕ) → SameFields x y → medium_block w x ≡ medium_block w y
 same-block w x y h = sym (λ i. start_of (namespace_of w (h.nsid i)) + same-lba x y h i)

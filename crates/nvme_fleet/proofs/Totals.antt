@@ -1,5 +1,8 @@
 -- Sums over the live slots of a lane.
-use Rattle.nvme_fleet.proofs.Words.{◌≡◌, ℕ, ◌+◌, ◌<◌, ◌≤◌, List, [], ◌∷◌, length, map, refl, sym, ap, subst, arith, zero, suc, inl, inr, false, cases_Bool, eqb, eqb-true, Option, Some, None, slice_set, common_steps, Waiting, Slot, slot_at, total, live_waiting, live_in, live_at, remove}
+use Rattle.nvme_fleet.proofs.Words.{◌≡◌, ℕ, ◌+◌, ◌<◌, ◌≤◌, List, [], ◌∷◌, length, map, refl, sym, ap, subst, arith, zero, suc, inl, inr, false, cases_Bool, eqb, eqb-true, Option, Some, None, slice_set, common_steps, Waiting, Slot, slot_at, total, live_waiting, live_in, live_at, remove, eqb-false}
+use Rattle.nvme_fleet.specs.Views.{the_slot, empty}
+use Rattle.std.proofs.lemmas.Option.{slice_get-get_or}
+use Rattle.nvme_mailbox.proofs.Lists.{got-other, got-here}
 
 pub map-removed : {A B : Type 0} (g : A → B) (xs : List A) (i : ℕ) → map g (remove xs i) ≡ remove (map g xs) i
 map-removed g (y ∷ ys) (suc i) = ap (λ t. g y ∷ t) (map-removed g ys i)
@@ -31,16 +34,10 @@ live-set (x ∷ xs) zero s h = omega arith
 live-set (x ∷ xs) (suc i) s h = omega (arith, live-set xs i s (omega (arith, h)))
 
 pub slot-same : (slots : List Slot) (i : ℕ) (s : Slot) → i < length slots → slot_at (slice_set slots i s) i ≡ s
-slot-same [] i s h = let b : ⊥ = omega (arith, h) in absurd b
-slot-same (x ∷ xs) zero s h = refl
-slot-same (x ∷ xs) (suc i) s h = slot-same xs i s (omega (arith, h))
+slot-same slots i s h = ap the_slot (got-here slots i _ s (slice_get-get_or slots i empty h))
 
 pub slot-other : (slots : List Slot) (i : ℕ) (s : Slot) (j : ℕ) → eqb j i ≡ false → slot_at (slice_set slots i s) j ≡ slot_at slots j
-slot-other [] i s j h = refl
-slot-other (x ∷ xs) zero s zero h = grind (arith, h)
-slot-other (x ∷ xs) zero s (suc j) h = refl
-slot-other (x ∷ xs) (suc i) s zero h = refl
-slot-other (x ∷ xs) (suc i) s (suc j) h = let k : eqb j i ≡ false = grind (arith, common_steps, h) in slot-other xs i s j k
+slot-other slots i s j h = ap the_slot (got-other slots i s j (eqb-false j i h))
 
 -- what holds of a slot that is put in a place, and of each other slot
 pub each-set : (P : ℕ → Slot → Type 0) (slots : List Slot) (i : ℕ) (s : Slot) → i < length slots → P i s → ((k : ℕ) → eqb k i ≡ false → P k (slot_at slots k)) → (k : ℕ) → P k (slot_at (slice_set slots i s) k)

@@ -126,7 +126,7 @@ pub fn postings_are_steps()
 
 /// An execution of any command that a controller fetched from its driver is the step of their mailbox. In a fleet with
 /// this mailbox it is the fleet's step, and where there is no command, nothing changes.
-#[tactic(auto, using(crate::proofs::ExecuteStep::execution_is_a_step, crate::proofs::FleetStep::execution_is_a_fleet_step, crate::proofs::FleetStep::no_execution_is_a_fleet_step))]
+#[tactic(auto, using(crate::proofs::ExecuteStep::execution_is_a_step, crate::proofs::ExecuteStep::execution_is_a_fleet_step, crate::proofs::ExecuteStep::no_execution_is_a_fleet_step))]
 pub fn executions_are_steps()
     ensures mailbox { ExecutionIsAStep }
     ensures fleet { ExecutionIsAFleetStep }

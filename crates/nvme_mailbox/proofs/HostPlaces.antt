@@ -1,27 +1,16 @@
 -- What an event leaves at the place of one host.
-use Rattle.nvme_mailbox.proofs.Words.{same_Some, ◌≡◌, ◌≢◌, ℕ, zero, suc, ◌+◌, Bool, true, false, List, [], ◌∷◌, Option, None, Some, refl, ap, ◌∙◌, arith, if◌then◌else◌, map, option_map, slice_get, slice_set, slice_get-map, Marks, World, host_of, Controller, is_host_among, FleetSeen, Mailbox, MailboxReaction, WithDriver, Raw, Fleet, host_at, with_host, host_cycled, power_cycled, called_at, raw_at, fetched_at, marked, marked_from, numbered, replaced, marked_by}
+use Rattle.nvme_mailbox.proofs.Words.{same_Some, ◌≡◌, ◌≢◌, ℕ, zero, suc, ◌+◌, Bool, true, false, List, [], ◌∷◌, Option, None, Some, refl, sym, ap, ◌∙◌, arith, if◌then◌else◌, map, option_map, slice_get, slice_get-map, Marks, World, host_of, Controller, is_host_among, FleetSeen, Mailbox, MailboxReaction, WithDriver, Raw, Fleet, host_at, with_host, host_cycled, power_cycled, called_at, raw_at, fetched_at, marked, marked_from, numbered, replaced, marked_by}
+use Rattle.nvme_mailbox.proofs.Lists.{got-other, got-here}
 use Rattle.nvme_mailbox.specs.Fleets.{Host}
 use Rattle.nvme_mailbox.specs.Mailboxes.{with_marks}
 
-set-other : (hs : List Host) (i j : ℕ) (h : Host) → j ≢ i → slice_get (slice_set hs j h) i ≡ slice_get hs i
-set-other [] i j h other = refl
-set-other (x ∷ hs) zero zero h other = absurd (other refl)
-set-other (x ∷ hs) zero (suc j) h other = refl
-set-other (x ∷ hs) (suc i) zero h other = refl
-set-other (x ∷ hs) (suc i) (suc j) h other = set-other hs i j h (λ e. other (ap suc e))
-
-set-here : (hs : List Host) (i : ℕ) (g h : Host) → slice_get hs i ≡ Some g → slice_get (slice_set hs i h) i ≡ Some h
-set-here [] i g h at = absurd (cc)
-set-here (x ∷ hs) zero g h at = refl
-set-here (x ∷ hs) (suc i) g h at = set-here hs i g h at
-
 pub replaced-other : (hs : List Host) (j k : ℕ) (h : Host) → j ≢ k → numbered (replaced hs j h) k ≡ numbered hs k
-replaced-other hs (suc j) (suc k) h other = set-other hs k j h (λ e. other (ap suc e))
+replaced-other hs (suc j) (suc k) h other = got-other hs j h k (λ e. other (ap suc (sym e)))
 replaced-other hs j k h other = refl
 
 pub replaced-here : (hs : List Host) (k : ℕ) (g h : Host) → numbered hs k ≡ Some g → numbered (replaced hs k h) k ≡ Some h
 replaced-here hs zero g h at = absurd (cc)
-replaced-here hs (suc k) g h at = set-here hs k g h at
+replaced-here hs (suc k) g h at = got-here hs k g h at
 
 -- a host other than this one has become another
 pub other-set : (f : Fleet) (j k : ℕ) (h : Host) → j ≢ k → host_at (with_host f j h) k ≡ host_at f k

@@ -1,5 +1,5 @@
--- Lists of which each is so.
-use Rattle.nvme_mailbox.proofs.Words.{◌≡◌, ℕ, zero, suc, List, [], ◌∷◌, ◌++◌, map, Some, subst, slice_get, AllByRecursion, remove, same_Some}
+-- Lists of which each is so, and lists where one place is set.
+use Rattle.nvme_mailbox.proofs.Words.{◌≡◌, ℕ, zero, suc, List, [], ◌∷◌, ◌++◌, map, Some, subst, slice_get, slice_set, AllByRecursion, remove, same_Some, ◌≢◌, refl, sym, ap}
 
 pub all-left : {A : Type 0} (P : A → Type 0) (xs ys : List A) → AllByRecursion P (xs ++ ys) → AllByRecursion P xs
 all-left P [] ys a = tt
@@ -23,3 +23,21 @@ all-removed P (x ∷ xs) zero a = a.1
 all-removed P (x ∷ xs) (suc i) a = (a.0, all-removed P xs i a.1)
 all-removed P [] (suc i) a = tt
 all-removed P [] zero a = tt
+
+-- what stands in a list where one place is set
+pub got-other : {A : Type 0} (xs : List A) (i : ℕ) (x : A) (j : ℕ) → j ≢ i → slice_get (slice_set xs i x) j ≡ slice_get xs j
+got-other [] i x j other = refl
+got-other (y ∷ xs) zero x zero other = absurd (other refl)
+got-other (y ∷ xs) zero x (suc j) other = refl
+got-other (y ∷ xs) (suc i) x zero other = refl
+got-other (y ∷ xs) (suc i) x (suc j) other = got-other xs i x j (λ e. other (ap suc e))
+
+pub got-here : {A : Type 0} (xs : List A) (i : ℕ) (y x : A) → slice_get xs i ≡ Some y → slice_get (slice_set xs i x) i ≡ Some x
+got-here [] i y x at = absurd (cc)
+got-here (z ∷ xs) zero y x at = refl
+got-here (z ∷ xs) (suc i) y x at = got-here xs i y x at
+
+pub got-back : {A : Type 0} (xs : List A) (i : ℕ) (x : A) → slice_get xs i ≡ Some x → slice_set xs i x ≡ xs
+got-back [] i x at = absurd (cc)
+got-back (y ∷ xs) zero x at = ap (λ z. z ∷ xs) (sym (same_Some y x at))
+got-back (y ∷ xs) (suc i) x at = ap (λ ys. y ∷ ys) (got-back xs i x at)

@@ -3,7 +3,7 @@ use Rattle.nvme_fleet.proofs.RingStep.{ring_is_a_step}
 use Rattle.nvme_fleet.proofs.PollStep.{poll_is_a_step}
 use Rattle.nvme_fleet.proofs.PlaceStep.{place_is_a_step, refusal_is_a_step}
 use Rattle.nvme_fleet.proofs.MarkStep.{marks_are_steps}
-use Rattle.nvme_fleet.proofs.ResetStep.{reset_is_a_step}
+use Rattle.nvme_fleet.proofs.Resetting.{reset_is_a_step}
 use Rattle.nvme_fleet.proofs.laws.events_are_steps.Goals as goal
 
 pub returns-clause-ring : goal.returns-clause-ring
