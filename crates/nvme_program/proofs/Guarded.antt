@@ -1,86 +1,89 @@
 -- What the end of a program that judges its image says of its status, and its steps, each as an end.
-use Rattle.std.proofs.Common.{◌≡◌, ◌≢◌, ℕ, Bool, true, false, List, Option, Some, None, refl, ap, sym, ◌∙◌, inl, inr}
+use Rattle.std.proofs.Common.{◌≡◌, ◌≢◌, ℕ, Bool, true, false, List, Option, Some, None, refl, ap, sym, inl, inr}
 use Rattle.std.specs.Prelude.{Result, Ok, Err}
+use Rattle.nvme_medium.specs.declared.medium.Medium as medium
+use Rattle.nvme_medium.specs.declared.cached.Cached.{Cached}
 use Rattle.nvme_program.specs.CommandLines.{behind_option, image_in, means_image, script_in, word_fault}
-use Rattle.nvme_program.specs.Programs.{Opening, AsText, EndsBehindText, EndsFromImage, EndsGuarded, EndsGuardedByWord, GuardedEnds, IsJudgement, IsOfFile, judged}
+use Rattle.nvme_program.specs.Failures.{IsOfFile}
+use Rattle.nvme_program.specs.Programs.{EndsBehindText, EndsFromImage, EndsGuarded, EndsGuardedByWord, GuardedEnds, IsJudgement, Tells, judged}
 use Rattle.nvme_program.specs.Statuses.{end_status}
+use Rattle.nvme_program.specs.SystemCalls.{SystemCall, ReadsText}
 use Rattle.nvme_program.specs.declared.command_line.WordFault.{WordFault}
 use Rattle.nvme_program.specs.declared.failure.Failure.{Failure}
 use Rattle.nvme_program.specs.declared.failure.Failure.TheVariants.{CommandLine, Memory}
+use Rattle.nvme_program.specs.declared.running.Runner as runner
 use Rattle.nvme_program.specs.declared.system.Unopened.{Unopened}
-use Rattle.nvme_program.proofs.ProgramEnds.{from-image, memory-status, of-file}
-
-from-guarded : {S : Type 0} (step : S → Opening → S → Type 0) (meant : Bool) (old : S) (image path : Option (List ℕ)) (end : Option Failure) (new : S)
-    → EndsGuarded step meant old image path end new → end_status end ≢ 3
-from-guarded step true old image path end new ends = from-image step old image path end new ends
-from-guarded step false old None path end new ends = from-image step old None path end new ends
-from-guarded {S = S} step false old (Some image) path end new ends = by (judged ends.0) ends.1 ends.3
-  where
-    by : (failed : Option Failure) (mid : S) → EndsBehindText step failed mid image path end new → end_status end ≢ 3
-    by (Some failure) mid behind same = of-file failure behind.1 (ap end_status (sym behind.0) ∙ same)
-    by None mid behind same = from-image step mid (Some image) path end new behind same
-
-pub refused_status : {S : Type 0} (step : S → Opening → S → Type 0) (old : S) (words : List (List ℕ)) (end : Option Failure) (new : S)
-    → GuardedEnds step old words end new → word_fault (behind_option words) ≢ None → end_status end ≡ 3
-refused_status step old words end new ends refused = by (word_fault (behind_option words)) ends refused
-  where
-    by : (word : Option WordFault) → EndsGuardedByWord step word (means_image words) old (behind_option words) end new → word ≢ None → end_status end ≡ 3
-    by (Some fault) ends refused = ap end_status ends.0
-    by None ends refused = absurd (refused refl)
-
-pub taken_status : {S : Type 0} (step : S → Opening → S → Type 0) (old : S) (words : List (List ℕ)) (end : Option Failure) (new : S)
-    → GuardedEnds step old words end new → word_fault (behind_option words) ≡ None → end_status end ≢ 3
-taken_status step old words end new ends none = by (word_fault (behind_option words)) ends none
-  where
-    by : (word : Option WordFault) → EndsGuardedByWord step word (means_image words) old (behind_option words) end new → word ≡ None → end_status end ≢ 3
-    by (Some fault) ends none = let bad = none in cc
-    by None (inl memory) none = memory-status end memory.0
-    by None (inr ends) none = from-guarded step (means_image words) old _ _ end new ends
-
--- the steps
-
-pub meant_image : {S : Type 0} (step : S → Opening → S → Type 0) (old : S) (image path : Option (List ℕ)) (end : Option Failure) (new : S)
-    → EndsFromImage step old image path end new → EndsGuarded step true old image path end new
-meant_image step old image path end new ends = ends
-
-pub no_image : {S : Type 0} (step : S → Opening → S → Type 0) (meant : Bool) (old : S) (path : Option (List ℕ)) (end : Option Failure) (new : S)
-    → EndsFromImage step old None path end new → EndsGuarded step meant old None path end new
-no_image step true old path end new ends = ends
-no_image step false old path end new ends = ends
+use Rattle.nvme_program.proofs.ProgramEnds.{from-image, memory-told, of-file, told}
 
 -- the failure of a judgement
 failure-of : (outcome : Result (List ℕ) Failure) (e : Unopened) → IsJudgement outcome (Err e) → (judged outcome ≡ Some e.failure) × IsOfFile e.failure
 failure-of (Ok text) e is = (rw is.0 (ap Some (sym is.1)), rw is.1 tt)
 failure-of (Err failure) e is = (ap Some (sym is.0), rw is.0 is.1)
 
-pub refused_image : {S : Type 0} (step : S → Opening → S → Type 0) (old : S) (image : List ℕ) (path : Option (List ℕ))
-    (outcome : Result (List ℕ) Failure) (e : Unopened) (new : S) → step old (AsText image outcome) new → IsJudgement outcome (Err e)
-    → EndsGuarded step false old (Some image) path (Some e.failure) new
-refused_image step old image path outcome e new reads is =
-    let of = failure-of outcome e is in (outcome, new, reads, rw of.0 (refl, of.1, refl))
-
 passes : (outcome : Result (List ℕ) Failure) → IsJudgement outcome (Ok tt) → judged outcome ≡ None
 passes (Ok text) is = rw is refl
 passes (Err failure) is = absurd is
 
-pub judged_image : {S : Type 0} (step : S → Opening → S → Type 0) (old : S) (image : List ℕ) (path : Option (List ℕ))
-    (outcome : Result (List ℕ) Failure) (mid : S) (end : Option Failure) (new : S) → step old (AsText image outcome) mid
-    → IsJudgement outcome (Ok tt) → EndsFromImage step mid (Some image) path end new
-    → EndsGuarded step false old (Some image) path end new
-judged_image step old image path outcome mid end new reads is ends = (outcome, mid, reads, rw (passes outcome is) ends)
+module _ {S I T R : Type 0} (step : S → SystemCall I T → S → Type 0) (image : medium.Ghosts I) (behind_cache : medium.Ghosts (Cached I image)) (remaining : T → Option (List ℕ)) (runs : runner.Ghosts R) where
+  from-guarded : (meant : Bool) (named path : Option (List ℕ)) (system : S) (before : R) (end : Option Failure) (new : S) (after : R)
+      → EndsGuarded step image behind_cache remaining runs meant named path system before end new after → end_status end ≢ 3
+  from-guarded true named path system before end new after ends = from-image step image behind_cache remaining runs named path system before end new after ends
+  from-guarded false None path system before end new after ends = from-image step image behind_cache remaining runs None path system before end new after ends
+  from-guarded false (Some named) path system before end new after ends = by (judged ends.0) ends.1 ends.3
+    where
+      by : (failed : Option Failure) (mid : S) → EndsBehindText step image behind_cache remaining runs failed named path mid before end new after → end_status end ≢ 3
+      by (Some failure) mid behind = told step image behind_cache remaining runs failure before end after behind.2 (of-file failure behind.0)
+      by None mid behind = from-image step image behind_cache remaining runs (Some named) path mid before end new after behind
 
-pub words_fail : {S : Type 0} (step : S → Opening → S → Type 0) (old : S) (words behind : List (List ℕ)) (failure : Failure)
-    → behind ≡ behind_option words → (word_fault behind ≢ None → failure ≡ CommandLine) → (word_fault behind ≡ None → failure ≡ Memory)
-    → GuardedEnds step old words (Some failure) old
-words_fail step old words behind failure is refused taken = rw (sym is) (by (word_fault behind) refused taken)
-  where
-    by : (word : Option WordFault) → (word ≢ None → failure ≡ CommandLine) → (word ≡ None → failure ≡ Memory)
-        → EndsGuardedByWord step word (means_image words) old behind (Some failure) old
-    by (Some fault) refused taken = (ap Some (refused (λ none. let bad = none in cc)), refl)
-    by None refused taken = inl (ap Some (taken refl), refl)
+  pub refused_status : (words : List (List ℕ)) (system : S) (before : R) (end : Option Failure) (new : S) (after : R)
+      → GuardedEnds step image behind_cache remaining runs words system before end new after → word_fault (behind_option words) ≢ None → end_status end ≡ 3
+  refused_status words system before end new after ends refused = by (word_fault (behind_option words)) ends refused
+    where
+      by : (word : Option WordFault) → EndsGuardedByWord step image behind_cache remaining runs word (means_image words) (behind_option words) system before end new after
+          → word ≢ None → end_status end ≡ 3
+      by (Some fault) ends refused = ap end_status ends.1.0
+      by None ends refused = absurd (refused refl)
 
-pub words_are_taken : {S : Type 0} (step : S → Opening → S → Type 0) (old : S) (words : List (List ℕ)) (end : Option Failure) (new : S)
-    → word_fault (behind_option words) ≡ None
-    → EndsGuarded step (means_image words) old (image_in (behind_option words)) (script_in (behind_option words)) end new
-    → GuardedEnds step old words end new
-words_are_taken step old words end new taken image = rw taken (inr image)
+  pub taken_status : (words : List (List ℕ)) (system : S) (before : R) (end : Option Failure) (new : S) (after : R)
+      → GuardedEnds step image behind_cache remaining runs words system before end new after → word_fault (behind_option words) ≡ None → end_status end ≢ 3
+  taken_status words system before end new after ends none = by (word_fault (behind_option words)) ends none
+    where
+      by : (word : Option WordFault) → EndsGuardedByWord step image behind_cache remaining runs word (means_image words) (behind_option words) system before end new after
+          → word ≡ None → end_status end ≢ 3
+      by (Some fault) ends none = let bad = none in cc
+      by None (inl memory) none = memory-told step image behind_cache remaining runs before end after memory.1
+      by None (inr ends) none = from-guarded (means_image words) _ _ system before end new after ends
+
+  -- the steps
+
+  pub no_image : (meant : Bool) (path : Option (List ℕ)) (system : S) (before : R) (end : Option Failure) (new : S) (after : R)
+      → EndsFromImage step image behind_cache remaining runs None path system before end new after → EndsGuarded step image behind_cache remaining runs meant None path system before end new after
+  no_image true path system before end new after ends = ends
+  no_image false path system before end new after ends = ends
+
+  pub refused_image : (named : List ℕ) (path : Option (List ℕ)) (outcome : Result (List ℕ) Failure) (e : Unopened) (system : S) (before : R) (end : Option Failure) (new : S) (after : R)
+      → step system (ReadsText named outcome) new → IsJudgement outcome (Err e) → Tells step image behind_cache remaining runs e.failure before end after
+      → EndsGuarded step image behind_cache remaining runs false (Some named) path system before end new after
+  refused_image named path outcome e system before end new after reads is tells =
+      let of = failure-of outcome e is in (outcome, new, reads, rw of.0 (of.1, refl, tells))
+
+  pub judged_image : (named : List ℕ) (path : Option (List ℕ)) (outcome : Result (List ℕ) Failure) (system mid : S) (before : R) (end : Option Failure) (new : S) (after : R)
+      → step system (ReadsText named outcome) mid → IsJudgement outcome (Ok tt) → EndsFromImage step image behind_cache remaining runs (Some named) path mid before end new after
+      → EndsGuarded step image behind_cache remaining runs false (Some named) path system before end new after
+  judged_image named path outcome system mid before end new after reads is ends = (outcome, mid, reads, rw (passes outcome is) ends)
+
+  pub words_fail : (words behind : List (List ℕ)) (failure : Failure) (system : S) (before : R) (end : Option Failure) (after : R)
+      → behind ≡ behind_option words → (word_fault behind ≢ None → failure ≡ CommandLine) → (word_fault behind ≡ None → failure ≡ Memory)
+      → Tells step image behind_cache remaining runs failure before end after → GuardedEnds step image behind_cache remaining runs words system before end system after
+  words_fail words behind failure system before end after is refused taken tells = rw (sym is) (by (word_fault behind) refused taken)
+    where
+      by : (word : Option WordFault) → (word ≢ None → failure ≡ CommandLine) → (word ≡ None → failure ≡ Memory)
+          → EndsGuardedByWord step image behind_cache remaining runs word (means_image words) behind system before end system after
+      by (Some fault) refused taken = (refl, rw (sym (refused (λ none. let bad = none in cc))) tells)
+      by None refused taken = inl (refl, rw (sym (taken refl)) tells)
+
+  pub words_are_taken : (words : List (List ℕ)) (system : S) (before : R) (end : Option Failure) (new : S) (after : R)
+      → word_fault (behind_option words) ≡ None
+      → EndsGuarded step image behind_cache remaining runs (means_image words) (image_in (behind_option words)) (script_in (behind_option words)) system before end new after
+      → GuardedEnds step image behind_cache remaining runs words system before end new after
+  words_are_taken words system before end new after taken image = rw taken (inr image)

@@ -1,20 +1,19 @@
--- What the end of a program says of its status.
+-- What the end of a program says of its status, and its steps, each as an end.
 use Rattle.std.proofs.Common.{◌≡◌, ◌≢◌, ℕ, List, Option, Some, None, refl, ap, sym, arith, ◌∙◌, inl, inr}
+use Rattle.std.specs.Prelude.{Result, Ok, Err}
+use Rattle.nvme_medium.specs.declared.medium.Medium as medium
+use Rattle.nvme_medium.specs.declared.cached.Cached.{Cached}
+use Rattle.nvme_medium.specs.contracts.memory.MemMediumMedium.TheImpl as in_memory
 use Rattle.nvme_program.specs.CommandLines.{image_in, script_in, word_fault}
-use Rattle.nvme_program.specs.Programs.{Opening, AsImage, AsScript, Opens, EndsByWord, EndsBehindImage, EndsBehindScript, EndsFromImage, EndsFromScript, IsOfFile, IsOfRun, ProgramEnds}
+use Rattle.nvme_program.specs.Failures.{IsOfFile, IsOfRun}
+use Rattle.nvme_program.specs.Programs.{EndsBehindImage, EndsBehindScript, EndsByWord, EndsFromImage, EndsFromScript, ProgramEnds, Tells}
 use Rattle.nvme_program.specs.Statuses.{end_status, exit_status}
+use Rattle.nvme_program.specs.SystemCalls.{SystemCall}
 use Rattle.nvme_program.specs.declared.command_line.WordFault.{WordFault}
 use Rattle.nvme_program.specs.declared.fault.ScriptFault.TheVariants as script
 use Rattle.nvme_program.specs.declared.failure.Failure.{Failure}
 use Rattle.nvme_program.specs.declared.failure.Failure.TheVariants.{Script, File, CommandLine, Memory}
-
-pub refused_status : {S : Type 0} (step : S → Opening → S → Type 0) (old : S) (words : List (List ℕ)) (end : Option Failure) (new : S)
-    → ProgramEnds step old words end new → word_fault words ≢ None → end_status end ≡ 3
-refused_status step old words end new ends refused = by (word_fault words) ends refused
-  where
-    by : (word : Option WordFault) → EndsByWord step word old words end new → word ≢ None → end_status end ≡ 3
-    by (Some fault) ends refused = ap end_status ends.0
-    by None ends refused = absurd (refused refl)
+use Rattle.nvme_program.specs.declared.running.Runner as runner
 
 pub of-file : (failure : Failure) → IsOfFile failure → exit_status failure ≢ 3
 of-file File is same = absurd (omega arith)
@@ -34,88 +33,69 @@ of-run (Some Memory) is same = absurd (omega arith)
 of-run (Some File) is same = absurd is
 of-run (Some CommandLine) is same = absurd is
 
--- an opening's failure is one of files
-opened : {S : Type 0} (step : S → Opening → S → Type 0) (opening : List ℕ → Option Failure → Opening) (old : S) (path : Option (List ℕ))
-    (failure : Failure) (new : S) → Opens step opening old path (Some failure) new → IsOfFile failure
-opened step opening old None failure new opens = let bad = opens.0 in cc
-opened step opening old (Some path) failure new opens = opens.1
+module _ {S I T R : Type 0} (step : S → SystemCall I T → S → Type 0) (image : medium.Ghosts I) (behind_cache : medium.Ghosts (Cached I image)) (remaining : T → Option (List ℕ)) (runs : runner.Ghosts R) where
+  pub told : (failure : Failure) (before : R) (end : Option Failure) (after : R) → Tells step image behind_cache remaining runs failure before end after
+      → exit_status failure ≢ 3 → end_status end ≢ 3
+  told failure before end after is other same = other (ap end_status (sym is.0) ∙ same)
 
-pub memory-status : (end : Option Failure) → end ≡ Some Memory → end_status end ≢ 3
-memory-status end is same = of-file Memory tt (sym (ap end_status is) ∙ same)
+  pub memory-told : (before : R) (end : Option Failure) (after : R) → Tells step image behind_cache remaining runs Memory before end after → end_status end ≢ 3
+  memory-told before end after is = told Memory before end after is (of-file Memory tt)
 
-from-script : {S : Type 0} (step : S → Opening → S → Type 0) (old : S) (path : Option (List ℕ)) (end : Option Failure) (new : S)
-    → EndsFromScript step old path end new → end_status end ≢ 3
-from-script step old path end new ends = by ends.0 ends.1 ends.2
-  where
-    by : (failed : Option Failure) → Opens step AsScript old path failed new → EndsBehindScript failed end → end_status end ≢ 3
-    by None opens behind same = of-run end behind same
-    by (Some failure) opens behind same = of-file failure (opened step AsScript old path failure new opens) (ap end_status (sym behind) ∙ same)
+  behind-script : {M : Type 0} (calls : medium.Ghosts M) (outcome : Result T Failure) (old left : M) (before : R) (end : Option Failure) (after : R)
+      → EndsBehindScript step image behind_cache remaining runs calls outcome old left before end after → end_status end ≢ 3
+  behind-script calls (Err failure) old left before end after ends = told failure before end after ends.2 (of-file failure ends.0)
+  behind-script calls (Ok script) old left before end after ends = of-run end ends.2
 
-pub from-image : {S : Type 0} (step : S → Opening → S → Type 0) (old : S) (image path : Option (List ℕ)) (end : Option Failure) (new : S)
-    → EndsFromImage step old image path end new → end_status end ≢ 3
-from-image {S = S} step old image path end new ends = by ends.0 ends.1 ends.2 ends.3
-  where
-    by : (failed : Option Failure) (mid : S) → Opens step AsImage old image failed mid → EndsBehindImage step failed mid path end new → end_status end ≢ 3
-    by None mid opens (inl memory) same = memory-status end memory.0 same
-    by None mid opens (inr ends) same = from-script step mid path end new ends same
-    by (Some failure) mid opens behind same = of-file failure (opened step AsImage old image failure mid opens) (ap end_status (sym behind.0) ∙ same)
+  from-script : {M : Type 0} (calls : medium.Ghosts M) (path : Option (List ℕ)) (old left : M) (system : S) (before : R) (end : Option Failure) (new : S) (after : R)
+      → EndsFromScript step image behind_cache remaining runs calls path old left system before end new after → end_status end ≢ 3
+  from-script calls None old left system before end new after ends = of-run end ends.2
+  from-script calls (Some path) old left system before end new after ends = behind-script calls ends.0 old left before end after ends.2
 
-pub taken_status : {S : Type 0} (step : S → Opening → S → Type 0) (old : S) (words : List (List ℕ)) (end : Option Failure) (new : S)
-    → ProgramEnds step old words end new → word_fault words ≡ None → end_status end ≢ 3
-taken_status step old words end new ends none = by (word_fault words) ends none
-  where
-    by : (word : Option WordFault) → EndsByWord step word old words end new → word ≡ None → end_status end ≢ 3
-    by (Some fault) ends none = let bad = none in cc
-    by None (inl memory) none = memory-status end memory.0
-    by None (inr ends) none = from-image step old _ _ end new ends
+  behind-image : (outcome : Result I Failure) (path : Option (List ℕ)) (system : S) (before : R) (end : Option Failure) (new : S) (after : R)
+      → EndsBehindImage step image behind_cache remaining runs outcome path system before end new after → end_status end ≢ 3
+  behind-image (Err failure) path system before end new after ends = told failure before end after ends.2 (of-file failure ends.0)
+  behind-image (Ok opened) path system before end new after (inl memory) = memory-told before end after memory.1
+  behind-image (Ok opened) path system before end new after (inr on) =
+      from-script behind_cache path on.cached on.left system before end on.mid after on.ends
 
--- the steps of a program, each as an end
+  pub from-image : (named path : Option (List ℕ)) (system : S) (before : R) (end : Option Failure) (new : S) (after : R)
+      → EndsFromImage step image behind_cache remaining runs named path system before end new after → end_status end ≢ 3
+  from-image None path system before end new after (inl memory) = memory-told before end after memory.1
+  from-image None path system before end new after (inr ends) = from-script in_memory.ghosts path ends.0 ends.1 system before end new after ends.3
+  from-image (Some named) path system before end new after ends = behind-image ends.0 path ends.1 before end new after ends.3
 
-pub script_is_none : {S : Type 0} (step : S → Opening → S → Type 0) (old : S) (end : Option Failure)
-    → IsOfRun end → EndsFromScript step old None end old
-script_is_none step old end run = (None, (refl, refl), run)
+  pub refused_status : (words : List (List ℕ)) (system : S) (before : R) (end : Option Failure) (new : S) (after : R)
+      → ProgramEnds step image behind_cache remaining runs words system before end new after → word_fault words ≢ None → end_status end ≡ 3
+  refused_status words system before end new after ends refused = by (word_fault words) ends refused
+    where
+      by : (word : Option WordFault) → EndsByWord step image behind_cache remaining runs word words system before end new after → word ≢ None → end_status end ≡ 3
+      by (Some fault) ends refused = ap end_status ends.1.0
+      by None ends refused = absurd (refused refl)
 
-pub script_fails : {S : Type 0} (step : S → Opening → S → Type 0) (old : S) (path : List ℕ) (failure : Failure) (new : S)
-    → step old (AsScript path (Some failure)) new → IsOfFile failure → EndsFromScript step old (Some path) (Some failure) new
-script_fails step old path failure new opens file = (Some failure, (opens, file), refl)
+  pub taken_status : (words : List (List ℕ)) (system : S) (before : R) (end : Option Failure) (new : S) (after : R)
+      → ProgramEnds step image behind_cache remaining runs words system before end new after → word_fault words ≡ None → end_status end ≢ 3
+  taken_status words system before end new after ends none = by (word_fault words) ends none
+    where
+      by : (word : Option WordFault) → EndsByWord step image behind_cache remaining runs word words system before end new after → word ≡ None → end_status end ≢ 3
+      by (Some fault) ends none = let bad = none in cc
+      by None (inl memory) none = memory-told before end after memory.1
+      by None (inr ends) none = from-image _ _ system before end new after ends
 
-pub script_runs : {S : Type 0} (step : S → Opening → S → Type 0) (old : S) (path : List ℕ) (end : Option Failure) (new : S)
-    → step old (AsScript path None) new → IsOfRun end → EndsFromScript step old (Some path) end new
-script_runs step old path end new opens run = (None, (opens, tt), run)
+  -- the steps
 
-pub image_is_none : {S : Type 0} (step : S → Opening → S → Type 0) (old : S) (path : Option (List ℕ)) (end : Option Failure) (new : S)
-    → EndsFromScript step old path end new → EndsFromImage step old None path end new
-image_is_none step old path end new ends = (None, old, (refl, refl), inr ends)
+  pub words_are_refused : (words : List (List ℕ)) (system : S) (before : R) (end : Option Failure) (after : R)
+      → word_fault words ≢ None → Tells step image behind_cache remaining runs CommandLine before end after → ProgramEnds step image behind_cache remaining runs words system before end system after
+  words_are_refused words system before end after refused is = by (word_fault words) refused
+    where
+      by : (word : Option WordFault) → word ≢ None → EndsByWord step image behind_cache remaining runs word words system before end system after
+      by (Some fault) refused = (refl, is)
+      by None refused = absurd (refused refl)
 
-pub memory_is_none : {S : Type 0} (step : S → Opening → S → Type 0) (old : S) (path : Option (List ℕ))
-    → EndsFromImage step old None path (Some Memory) old
-memory_is_none step old path = (None, old, (refl, refl), inl (refl, refl))
+  pub words_get_no_memory : (words : List (List ℕ)) (system : S) (before : R) (end : Option Failure) (after : R)
+      → word_fault words ≡ None → Tells step image behind_cache remaining runs Memory before end after → ProgramEnds step image behind_cache remaining runs words system before end system after
+  words_get_no_memory words system before end after taken is = rw taken (inl (refl, is))
 
-pub image_fails : {S : Type 0} (step : S → Opening → S → Type 0) (old : S) (image : List ℕ) (path : Option (List ℕ)) (failure : Failure) (new : S)
-    → step old (AsImage image (Some failure)) new → IsOfFile failure → EndsFromImage step old (Some image) path (Some failure) new
-image_fails step old image path failure new opens file = (Some failure, new, (opens, file), (refl, refl))
-
-pub image_has_no_room : {S : Type 0} (step : S → Opening → S → Type 0) (old : S) (image : List ℕ) (path : Option (List ℕ)) (new : S)
-    → step old (AsImage image None) new → EndsFromImage step old (Some image) path (Some Memory) new
-image_has_no_room step old image path new opens = (None, new, (opens, tt), inl (refl, refl))
-
-pub image_opens : {S : Type 0} (step : S → Opening → S → Type 0) (old : S) (image : List ℕ) (path : Option (List ℕ)) (mid : S)
-    (end : Option Failure) (new : S) → step old (AsImage image None) mid → EndsFromScript step mid path end new
-    → EndsFromImage step old (Some image) path end new
-image_opens step old image path mid end new opens ends = (None, mid, (opens, tt), inr ends)
-
-pub words_are_refused : {S : Type 0} (step : S → Opening → S → Type 0) (old : S) (words : List (List ℕ))
-    → word_fault words ≢ None → ProgramEnds step old words (Some CommandLine) old
-words_are_refused step old words refused = by (word_fault words) refused
-  where
-    by : (word : Option WordFault) → word ≢ None → EndsByWord step word old words (Some CommandLine) old
-    by (Some fault) refused = (refl, refl)
-    by None refused = absurd (refused refl)
-
-pub words_get_no_memory : {S : Type 0} (step : S → Opening → S → Type 0) (old : S) (words : List (List ℕ))
-    → word_fault words ≡ None → ProgramEnds step old words (Some Memory) old
-words_get_no_memory step old words taken = rw taken (inl (refl, refl))
-
-pub words_are_taken : {S : Type 0} (step : S → Opening → S → Type 0) (old : S) (words : List (List ℕ)) (end : Option Failure) (new : S)
-    → word_fault words ≡ None → EndsFromImage step old (image_in words) (script_in words) end new → ProgramEnds step old words end new
-words_are_taken step old words end new taken image = rw taken (inr image)
+  pub words_are_taken : (words : List (List ℕ)) (named path : Option (List ℕ)) (system : S) (before : R) (end : Option Failure) (new : S) (after : R)
+      → word_fault words ≡ None → named ≡ image_in words → path ≡ script_in words → EndsFromImage step image behind_cache remaining runs named path system before end new after
+      → ProgramEnds step image behind_cache remaining runs words system before end new after
+  words_are_taken words named path system before end new after taken is at ends = rw (taken, sym is, sym at) (inr ends)

@@ -4,7 +4,10 @@ pub mod FaultKinds
 pub mod CommandLines
 pub mod Statuses
 pub mod FailureTexts
+pub mod Failures
+pub mod SystemCalls
 pub mod Programs
+pub mod Streams
 pub mod Media
 pub mod Reasons
 pub mod ReasonLaws

@@ -1,76 +1,23 @@
--- A program from its command line to its end: what it opens, in which order, and which failure ends it.
-use Rattle.std.specs.Prelude.{◌≡◌, ◌⊎◌, ℕ, Bool, true, false, List, Option, None, Some, Result, Ok, Err, IfSome, if◌then◌else◌}
+-- A program from its command line to its end: what it opens, in which order, what it runs over which medium, and which
+-- failure ends it.
+use Rattle.std.specs.Prelude.{◌≡◌, ◌⊎◌, ℕ, Bool, true, false, List, [], Option, None, Some, Result, Ok, Err, if◌then◌else◌}
+use Rattle.nvme_medium.specs.declared.medium.Medium as medium
+use Rattle.nvme_medium.specs.declared.cached.Cached.{Cached}
+use Rattle.nvme_medium.specs.declared.memory.MemMedium.{MemMedium}
+use Rattle.nvme_medium.specs.contracts.memory.MemMediumMedium.TheImpl as in_memory
+use Rattle.nvme_medium.specs.Caches.{inner_of, blocks_kept, capacity_of}
+use Rattle.nvme_medium.specs.Memory.{memory_bytes}
 use Rattle.nvme_grammar.specs.Beginnings.{begins_script}
 use Rattle.nvme_program.specs.CommandLines.{word_fault, image_in, script_in, means_image, behind_option}
+use Rattle.nvme_program.specs.Failures.{IsOfFile, IsOfRun}
+use Rattle.nvme_program.specs.Media.{zero_blocks}
+use Rattle.nvme_program.specs.SystemCalls.{SystemCall, OpensImage, OpensScript, ReadsText, ClosesImage}
 use Rattle.nvme_program.specs.declared.command_line.WordFault.{WordFault}
 use Rattle.nvme_program.specs.declared.failure.Failure.{Failure}
-use Rattle.nvme_program.specs.declared.failure.Failure.TheVariants.{Script, File, CommandLine, Memory}
+use Rattle.nvme_program.specs.declared.failure.Failure.TheVariants.{File, CommandLine, Memory}
+use Rattle.nvme_program.specs.declared.running.Runner as runner
 use Rattle.nvme_program.specs.declared.system.Cause.TheVariants.{IsScript}
 use Rattle.nvme_program.specs.declared.system.Unopened.{Unopened}
-
--- The opening of a file, as the image or as the script, by its path; and the failure, where it can't be opened. Or the
--- reading of what is named as the image, with its text or the failure.
-pub data Opening : Type 0 where
-  AsImage : List ℕ → Option Failure → Opening
-  AsScript : List ℕ → Option Failure → Opening
-  AsText : List ℕ → Result (List ℕ) Failure → Opening
-
--- a file that can't be opened is a file fault, or want of memory
-abbrev pub IsOfFile : Failure → Type 0
-IsOfFile File = Unit {0}
-IsOfFile Memory = Unit {0}
-IsOfFile _ = ⊥
-
--- the end of a run: none, a fault of the script, or want of memory
-abbrev pub IsOfRun : Option Failure → Type 0
-IsOfRun None = Unit {0}
-IsOfRun (Some (Script fault)) = Unit {0}
-IsOfRun (Some Memory) = Unit {0}
-IsOfRun _ = ⊥
-
--- What is named is opened, and nothing else is.
-abbrev pub Opens : {S : Type 0} → (S → Opening → S → Type 0) → (List ℕ → Option Failure → Opening)
-    → S → Option (List ℕ) → Option Failure → S → Type 0
-Opens step opening old None failed new = (failed ≡ None) × (new ≡ old)
-Opens step opening old (Some path) failed new = step old (opening path failed) new × IfSome failed IsOfFile
-
--- behind the opening of the script: its failure is the end, or else the run has one
-abbrev pub EndsBehindScript : Option Failure → Option Failure → Type 0
-EndsBehindScript (Some failure) end = end ≡ Some failure
-EndsBehindScript None end = IsOfRun end
-
--- the script is opened, and run
-abbrev pub EndsFromScript : {S : Type 0} → (S → Opening → S → Type 0)
-    → S → Option (List ℕ) → Option Failure → S → Type 0
-EndsFromScript step old script end new =
-    (failed : Option Failure) × Opens step AsScript old script failed new × EndsBehindScript failed end
-
--- behind the opening of the image: its failure is the end, or want of memory for its medium, or else the script decides
-abbrev pub EndsBehindImage : {S : Type 0} → (S → Opening → S → Type 0) → Option Failure
-    → S → Option (List ℕ) → Option Failure → S → Type 0
-EndsBehindImage step (Some failure) old script end new = (end ≡ Some failure) × (new ≡ old)
-EndsBehindImage step None old script end new =
-    ((end ≡ Some Memory) × (new ≡ old)) ⊎ EndsFromScript step old script end new
-
--- the image is opened, and then the script
-abbrev pub EndsFromImage : {S : Type 0} → (S → Opening → S → Type 0)
-    → S → Option (List ℕ) → Option (List ℕ) → Option Failure → S → Type 0
-EndsFromImage {S} step old image script end new =
-    (failed : Option Failure) × (mid : S) × Opens step AsImage old image failed mid
-    × EndsBehindImage step failed mid script end new
-
--- by the first word that is refused, if there is one
-abbrev pub EndsByWord : {S : Type 0} → (S → Opening → S → Type 0) → Option WordFault
-    → S → List (List ℕ) → Option Failure → S → Type 0
-EndsByWord step (Some fault) old words end new = (end ≡ Some CommandLine) × (new ≡ old)
-EndsByWord step None old words end new =
-    ((end ≡ Some Memory) × (new ≡ old)) ⊎ EndsFromImage step old (image_in words) (script_in words) end new
-
--- A program on these words: a word that is refused, want of memory, the image, the script and the run end it, in this
--- order.
-abbrev pub ProgramEnds : {S : Type 0} → (S → Opening → S → Type 0)
-    → S → List (List ℕ) → Option Failure → S → Type 0
-ProgramEnds step old words end new = EndsByWord step (word_fault words) old words end new
 
 -- what the judgement of an image's text comes to, with the cause: a text that begins as a script does is refused
 abbrev pub IsJudgement : Result (List ℕ) Failure → Result (Unit {0}) Unopened → Type 0
@@ -84,29 +31,100 @@ abbrev pub judged : Result (List ℕ) Failure → Option Failure
 judged (Ok text) = if begins_script text then Some File else None
 judged (Err failure) = Some failure
 
--- behind the judgement: its failure is the end, and no file is opened; else the image is opened, and then the script
-abbrev pub EndsBehindText : {S : Type 0} → (S → Opening → S → Type 0) → Option Failure
-    → S → List ℕ → Option (List ℕ) → Option Failure → S → Type 0
-EndsBehindText step (Some failure) old image script end new = (end ≡ Some failure) × IsOfFile failure × (new ≡ old)
-EndsBehindText step None old image script end new = EndsFromImage step old (Some image) script end new
+-- A program is a runner in a system. Of the system the definitions know which states may follow a call of it, and what is
+-- known of an open image, of one behind a cache, and of an open script; of the runner what a run does, and what is left of
+-- it as it tells a failure.
+module _ {S I T R : Type 0} (step : S → SystemCall I T → S → Type 0) (image : medium.Ghosts I)
+    (behind_cache : medium.Ghosts (Cached I image)) (remaining : T → Option (List ℕ)) (runs : runner.Ghosts R) where
+  -- a failure is told, and is the end
+  abbrev pub Tells : Failure → R → Option Failure → R → Type 0
+  Tells failure before end after = (end ≡ Some failure) × runs.tells before after
 
--- an image that is named is judged by its text first, where no word says that it is meant
-abbrev pub EndsGuarded : {S : Type 0} → (S → Opening → S → Type 0) → Bool
-    → S → Option (List ℕ) → Option (List ℕ) → Option Failure → S → Type 0
-EndsGuarded {S} step false old (Some image) script end new =
-    (outcome : Result (List ℕ) Failure) × (mid : S) × step old (AsText image outcome) mid
-    × EndsBehindText step (judged outcome) mid image script end new
-EndsGuarded step is_meant old image script end new = EndsFromImage step old image script end new
+  -- behind the opening of the script: its failure is the end, and no call is made of the medium; or else it is run
+  abbrev pub EndsBehindScript : {M : Type 0} → medium.Ghosts M → Result T Failure
+      → M → M → R → Option Failure → R → Type 0
+  EndsBehindScript {M} calls (Err failure) old left before end after =
+      IsOfFile failure × (left ≡ old) × Tells failure before end after
+  EndsBehindScript {M} calls (Ok script) old left before end after =
+      (read : T) × runs.ran T M remaining calls script read old left before end after × IsOfRun end
 
-abbrev pub EndsGuardedByWord : {S : Type 0} → (S → Opening → S → Type 0) → Option WordFault → Bool
-    → S → List (List ℕ) → Option Failure → S → Type 0
-EndsGuardedByWord step (Some fault) is_meant old words end new = (end ≡ Some CommandLine) × (new ≡ old)
-EndsGuardedByWord step None is_meant old words end new =
-    ((end ≡ Some Memory) × (new ≡ old)) ⊎ EndsGuarded step is_meant old (image_in words) (script_in words) end new
+  -- The script is opened, and run over a medium, which is left so; where none is named, the runner knows what to run.
+  abbrev pub EndsFromScript : {M : Type 0} → medium.Ghosts M → Option (List ℕ)
+      → M → M → S → R → Option Failure → S → R → Type 0
+  EndsFromScript {M} calls None old left system before end new after =
+      (new ≡ system) × runs.ran_unnamed M calls old left before end after × IsOfRun end
+  EndsFromScript {M} calls (Some path) old left system before end new after =
+      (outcome : Result T Failure) × step system (OpensScript path outcome) new
+      × EndsBehindScript calls outcome old left before end after
 
--- A program that judges its image: on these words, behind the option that says that the image is meant, it ends as any
--- program does, but that an image is judged before it is opened.
-abbrev pub GuardedEnds : {S : Type 0} → (S → Opening → S → Type 0)
-    → S → List (List ℕ) → Option Failure → S → Type 0
-GuardedEnds step old words end new =
-    EndsGuardedByWord step (word_fault (behind_option words)) (means_image words) old (behind_option words) end new
+  -- The medium is an image that was opened, behind a cache of 256 blocks that keeps none yet; and the image is closed as
+  -- the cache left it.
+  pub record EndsOnImage (opened : I) (script : Option (List ℕ)) (system : S) (before : R) (end : Option Failure)
+      (new : S) (after : R) : Type 0 where
+    pub cached : Cached I image
+    pub left : Cached I image
+    pub mid : S
+    pub inner : inner_of cached ≡ opened
+    pub empty : blocks_kept cached ≡ []
+    pub capacity : capacity_of cached ≡ 256
+    pub ends : EndsFromScript behind_cache script cached left system before end mid after
+    pub closes : step mid (ClosesImage (inner_of left)) new
+
+  -- behind the opening of the image: its failure is the end, or want of memory for its cache, or else the script decides
+  abbrev pub EndsBehindImage : Result I Failure → Option (List ℕ) → S → R → Option Failure → S → R → Type 0
+  EndsBehindImage (Err failure) script system before end new after =
+      IsOfFile failure × (new ≡ system) × Tells failure before end after
+  EndsBehindImage (Ok opened) script system before end new after =
+      (step system (ClosesImage opened) new × Tells Memory before end after)
+      ⊎ EndsOnImage opened script system before end new after
+
+  -- The image is opened, and then the script; where none is named the medium is 1,024 blocks of zeros in memory.
+  abbrev pub EndsFromImage : Option (List ℕ) → Option (List ℕ) → S → R → Option Failure → S → R → Type 0
+  EndsFromImage None script system before end new after =
+      ((new ≡ system) × Tells Memory before end after)
+      ⊎ ((zeros : MemMedium) × (left : MemMedium) × (memory_bytes zeros ≡ zero_blocks 1024)
+      × EndsFromScript in_memory.ghosts script zeros left system before end new after)
+  EndsFromImage (Some path) script system before end new after =
+      (outcome : Result I Failure) × (mid : S) × step system (OpensImage path outcome) mid
+      × EndsBehindImage outcome script mid before end new after
+
+  -- by the first word that is refused, if there is one
+  abbrev pub EndsByWord : Option WordFault → List (List ℕ) → S → R → Option Failure → S → R → Type 0
+  EndsByWord (Some fault) words system before end new after = (new ≡ system) × Tells CommandLine before end after
+  EndsByWord None words system before end new after =
+      ((new ≡ system) × Tells Memory before end after)
+      ⊎ EndsFromImage (image_in words) (script_in words) system before end new after
+
+  -- A program on these words: a word that is refused, want of memory, the image, the script and the run end it, in this
+  -- order.
+  abbrev pub ProgramEnds : List (List ℕ) → S → R → Option Failure → S → R → Type 0
+  ProgramEnds words system before end new after = EndsByWord (word_fault words) words system before end new after
+
+  -- behind the judgement: its failure is the end, and no file is opened; else the image is opened, and then the script
+  abbrev pub EndsBehindText : Option Failure → List ℕ → Option (List ℕ) → S → R → Option Failure → S → R → Type 0
+  EndsBehindText (Some failure) path script system before end new after =
+      IsOfFile failure × (new ≡ system) × Tells failure before end after
+  EndsBehindText None path script system before end new after =
+      EndsFromImage (Some path) script system before end new after
+
+  -- an image that is named is judged by its text first, where no word says that it is meant
+  abbrev pub EndsGuarded : Bool → Option (List ℕ) → Option (List ℕ) → S → R → Option Failure → S → R → Type 0
+  EndsGuarded false (Some path) script system before end new after =
+      (outcome : Result (List ℕ) Failure) × (mid : S) × step system (ReadsText path outcome) mid
+      × EndsBehindText (judged outcome) path script mid before end new after
+  EndsGuarded is_meant image script system before end new after =
+      EndsFromImage image script system before end new after
+
+  abbrev pub EndsGuardedByWord : Option WordFault → Bool → List (List ℕ) → S → R → Option Failure → S → R → Type 0
+  EndsGuardedByWord (Some fault) is_meant words system before end new after =
+      (new ≡ system) × Tells CommandLine before end after
+  EndsGuardedByWord None is_meant words system before end new after =
+      ((new ≡ system) × Tells Memory before end after)
+      ⊎ EndsGuarded is_meant (image_in words) (script_in words) system before end new after
+
+  -- A program that judges its image: on these words, behind the option that says that the image is meant, it ends as any
+  -- program does, but that an image is judged before it is opened.
+  abbrev pub GuardedEnds : List (List ℕ) → S → R → Option Failure → S → R → Type 0
+  GuardedEnds words system before end new after =
+      EndsGuardedByWord (word_fault (behind_option words)) (means_image words) (behind_option words) system before end
+      new after

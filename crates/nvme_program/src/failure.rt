@@ -6,7 +6,7 @@ ghost use Rattle.std.specs.declared.io.ErrorKind.TheVariants.{OutOfMemory};
 ghost use Rattle.nvme_medium.specs.declared.open.FileFault.TheVariants.{NoMemory as NoFileMemory};
 ghost use Rattle.std.specs.Result.{result_err};
 ghost use Rattle.nvme_program.specs.Statuses.{end_status, exit_status};
-ghost use Rattle.nvme_program.specs.Programs.{IsOfFile};
+ghost use Rattle.nvme_program.specs.Failures.{IsOfFile};
 ghost use Rattle.nvme_program.specs.FailureTexts.{failure_text};
 ghost use Rattle.nvme_program.specs.declared.failure.Failure.TheVariants.{File as FileRefused, Memory as MemoryRefused};
 

@@ -2,7 +2,8 @@
 
 ghost use Rattle.std.specs.Prelude.{◌≡◌, List, ℕ, Result};
 ghost use Rattle.nvme_grammar.specs.Beginnings.{begins_script};
-ghost use Rattle.nvme_program.specs.Programs.{AsText, IsJudgement};
+ghost use Rattle.nvme_program.specs.Programs.{IsJudgement};
+ghost use Rattle.nvme_program.specs.SystemCalls.{ReadsText};
 ghost use Rattle.nvme_program.specs.declared.failure.Failure.{Failure as AFailure};
 
 use crate::failure::Failure;
@@ -17,7 +18,7 @@ use std::alloc::Global;
 ///
 /// `File`, and `IsScript` as the cause, where it begins so; what the system refused where it can't be read.
 pub fn judge_image<S: System>(alloc: Global, system: &mut S, path: &str) -> Result<(), Unopened>
-    ensures { (outcome : Result (List ℕ) AFailure) × S.step system.old (AsText path.now outcome) system.new
+    ensures { (outcome : Result (List ℕ) AFailure) × S.step system.old (ReadsText path.now outcome) system.new
         × IsJudgement outcome result }
 {
     let text = system.text_of(alloc, path)?;

@@ -1,49 +1,19 @@
 //! A program from its command line to its end: it opens the files that are named, in their order, and runs over them.
 
-ghost use Rattle.std.specs.Prelude.{◌≡◌, None, Some, map, option_map};
+ghost use Rattle.std.specs.Prelude.{◌≡◌, None, Some, Ok, map, option_map};
 ghost use Rattle.std.specs.String.{string_bytes};
 ghost use Rattle.std.specs.Result.{result_err};
-ghost use Rattle.nvme_program.specs.Programs.{EndsFromImage, EndsFromScript, EndsGuarded, GuardedEnds, IsOfRun, ProgramEnds};
+ghost use Rattle.nvme_program.specs.Programs.{EndsBehindImage, EndsFromImage, EndsFromScript, EndsGuarded, GuardedEnds, ProgramEnds};
 
 use crate::command_line::{Paths, behind_option, means_image, paths_of};
 use crate::failure::Failure;
 use crate::judging::judge_image;
 use crate::media::{behind_cache, scratch};
-use crate::reason::Reason;
+use crate::running::{Ran, Runner};
 use crate::system::{System, Unopened};
-use crate::telling::{AS_IMAGE, AS_SCRIPT, Program, reason_of};
-use nvme_medium::Medium;
+use crate::telling::{AS_IMAGE, AS_SCRIPT, reason_of};
+use nvme_medium::{Cached, Medium};
 use std::alloc::Global;
-use std::io::Read;
-
-/// What a program runs once its files are open, and where it tells why it ends.
-pub trait Runner {
-    /// The program, as it calls itself.
-    fn program(&self) -> Program;
-
-    /// Runs over a medium, with the script that the command line names.
-    fn run<T: Read, M: Medium + Drop>(
-        &mut self,
-        alloc: Global,
-        paths: Paths<'_>,
-        script: &mut T,
-        medium: M,
-    ) -> Result<(), Failure>
-        ensures { IsOfRun (result_err result) };
-
-    /// Runs over a medium where no script is named.
-    fn run_unnamed<M: Medium + Drop>(
-        &mut self,
-        alloc: Global,
-        paths: Paths<'_>,
-        medium: M,
-    ) -> Result<(), Failure>
-        ensures { IsOfRun (result_err result) };
-
-    /// Tells why the program ends, with the reason where there is one.
-    fn tell(&mut self, failure: Failure, reason: Option<Reason<'_, '_>>) -> Failure
-        ensures { result ≡ failure };
-}
 
 /// Tells why a file can't be opened for this purpose.
 fn refuse_file<R: Runner>(
@@ -52,7 +22,9 @@ fn refuse_file<R: Runner>(
     path: &str,
     purpose: &'static str,
 ) -> Failure
-    ensures { result ≡ unopened.now.failure }
+    ensures same { result ≡ unopened.now.failure }
+    ensures tells { R.tells runner.old runner.new }
+    ensures links { R.links runner.new ≡ R.links runner.old }
 {
     runner.tell(unopened.failure, reason_of(&unopened.cause, path, purpose))
 }
@@ -64,34 +36,68 @@ fn refuse_words<R: Runner>(
     words: &[String],
     options: usize,
 ) -> Failure
-    ensures { result ≡ failure }
+    ensures same { result ≡ failure }
+    ensures tells { R.tells runner.old runner.new }
+    ensures links { R.links runner.new ≡ R.links runner.old }
 {
     let program = runner.program();
     runner.tell(failure, program.word_reason(words, options))
 }
 
 /// Opens the script that the command line names, if it names one, and runs over a medium.
-#[tactic(auto, using(crate::proofs::ProgramEnds::script_is_none, crate::proofs::ProgramEnds::script_fails, crate::proofs::ProgramEnds::script_runs))]
 fn run_named<S: System, R: Runner, M: Medium + Drop>(
     alloc: Global,
     system: &mut S,
     runner: &mut R,
     paths: Paths<'_>,
     medium: M,
-) -> Result<(), Failure>
-    ensures { EndsFromScript S.step system.old (option_map (λ path. path.now) paths.entry.script) (result_err result) system.new }
+) -> Ran<M>
+    ensures ends { EndsFromScript S.step S.Image.Medium ⟦<Cached<S::Image> as Medium>⟧
+        S.Script.remaining R.Runner M.Medium
+        (option_map (λ path. path.now) paths.entry.script) medium result.medium system.old runner.old
+        (result_err result.outcome) system.new runner.new }
+    ensures links { R.links runner.new ≡ R.links runner.old }
 {
     let Some(path) = paths.script else {
         return runner.run_unnamed(alloc, paths, medium);
     };
     match system.open_script(path) {
         Ok(mut script) => runner.run(alloc, paths, &mut script, medium),
-        Err(unopened) => Err(refuse_file(runner, &unopened, path, AS_SCRIPT)),
+        Err(unopened) => Ran {
+            medium,
+            outcome: Err(refuse_file(runner, &unopened, path, AS_SCRIPT)),
+        },
+    }
+}
+
+/// Runs over an image that was opened, behind a cache, and closes it.
+fn run_open_image<S: System, R: Runner>(
+    alloc: Global,
+    system: &mut S,
+    runner: &mut R,
+    image: S::Image,
+    paths: Paths<'_>,
+) -> Result<(), Failure>
+    ensures ends { EndsBehindImage S.step S.Image.Medium ⟦<Cached<S::Image> as Medium>⟧
+        S.Script.remaining R.Runner (Ok image)
+        (option_map (λ path. path.now) paths.entry.script) system.old runner.old (result_err result) system.new
+        runner.new }
+    ensures links { R.links runner.new ≡ R.links runner.old }
+{
+    match behind_cache(alloc, image) {
+        Ok(cached) => {
+            let Ran { medium, outcome } = run_named(alloc, system, runner, paths, cached);
+            system.close_image(medium.into_inner());
+            outcome
+        }
+        Err((image, failure)) => {
+            system.close_image(image);
+            Err(runner.tell(failure, None))
+        }
     }
 }
 
 /// Opens an image, and runs over it: its blocks are read and written in place.
-#[tactic(auto, using(crate::proofs::ProgramEnds::image_fails, crate::proofs::ProgramEnds::image_has_no_room, crate::proofs::ProgramEnds::image_opens))]
 fn run_image<S: System, R: Runner>(
     alloc: Global,
     system: &mut S,
@@ -99,30 +105,33 @@ fn run_image<S: System, R: Runner>(
     image: &str,
     paths: Paths<'_>,
 ) -> Result<(), Failure>
-    ensures { EndsFromImage S.step system.old (Some image.now) (option_map (λ path. path.now) paths.entry.script) (result_err result) system.new }
+    ensures ends { EndsFromImage S.step S.Image.Medium ⟦<Cached<S::Image> as Medium>⟧
+        S.Script.remaining R.Runner (Some image.now)
+        (option_map (λ path. path.now) paths.entry.script) system.old runner.old (result_err result) system.new
+        runner.new }
+    ensures links { R.links runner.new ≡ R.links runner.old }
 {
-    let file = match system.open_image(image) {
-        Ok(file) => file,
-        Err(unopened) => return Err(refuse_file(runner, &unopened, image, AS_IMAGE)),
-    };
-    match behind_cache(alloc, file) {
-        Ok(medium) => run_named(alloc, system, runner, paths, medium),
-        Err(failure) => Err(runner.tell(failure, None)),
+    match system.open_image(image) {
+        Ok(opened) => run_open_image(alloc, system, runner, opened, paths),
+        Err(unopened) => Err(refuse_file(runner, &unopened, image, AS_IMAGE)),
     }
 }
 
 /// Runs over zeros in memory.
-#[tactic(auto, using(crate::proofs::ProgramEnds::image_is_none, crate::proofs::ProgramEnds::memory_is_none))]
 fn run_scratch<S: System, R: Runner>(
     alloc: Global,
     system: &mut S,
     runner: &mut R,
     paths: Paths<'_>,
 ) -> Result<(), Failure>
-    ensures { EndsFromImage S.step system.old None (option_map (λ path. path.now) paths.entry.script) (result_err result) system.new }
+    ensures ends { EndsFromImage S.step S.Image.Medium ⟦<Cached<S::Image> as Medium>⟧
+        S.Script.remaining R.Runner None
+        (option_map (λ path. path.now) paths.entry.script) system.old runner.old (result_err result) system.new
+        runner.new }
+    ensures links { R.links runner.new ≡ R.links runner.old }
 {
     match scratch(alloc) {
-        Ok(medium) => run_named(alloc, system, runner, paths, medium),
+        Ok(medium) => run_named(alloc, system, runner, paths, medium).outcome,
         Err(failure) => Err(runner.tell(failure, None)),
     }
 }
@@ -132,14 +141,16 @@ fn run_scratch<S: System, R: Runner>(
 /// # Errors
 ///
 /// What ended the run, or that there was none, since a word is refused, a file can't be opened, or memory is refused.
-#[tactic(auto, using(crate::proofs::ProgramEnds::words_are_refused, crate::proofs::ProgramEnds::words_get_no_memory, crate::proofs::ProgramEnds::words_are_taken))]
 pub fn launch<S: System, R: Runner>(
     alloc: Global,
     system: &mut S,
     runner: &mut R,
     words: &[String],
 ) -> Result<(), Failure>
-    ensures { ProgramEnds S.step system.old (map string_bytes words.now) (result_err result) system.new }
+    ensures ends { ProgramEnds S.step S.Image.Medium ⟦<Cached<S::Image> as Medium>⟧
+        S.Script.remaining R.Runner (map string_bytes words.now) system.old
+        runner.old (result_err result) system.new runner.new }
+    ensures links { R.links runner.new ≡ R.links runner.old }
 {
     let paths = match paths_of(alloc, runner.program().name, words) {
         Ok(paths) => paths,
@@ -153,7 +164,6 @@ pub fn launch<S: System, R: Runner>(
 
 /// Runs over an image, or over zeros in memory. An image is judged by its text first, unless a word says that it is
 /// meant.
-#[tactic(auto, using(crate::proofs::Guarded::meant_image, crate::proofs::Guarded::no_image, crate::proofs::Guarded::refused_image, crate::proofs::Guarded::judged_image))]
 fn run_guarded<S: System, R: Runner>(
     alloc: Global,
     system: &mut S,
@@ -161,8 +171,11 @@ fn run_guarded<S: System, R: Runner>(
     is_meant: bool,
     paths: Paths<'_>,
 ) -> Result<(), Failure>
-    ensures { EndsGuarded S.step is_meant system.old (option_map (λ path. path.now) paths.entry.image)
-        (option_map (λ path. path.now) paths.entry.script) (result_err result) system.new }
+    ensures ends { EndsGuarded S.step S.Image.Medium ⟦<Cached<S::Image> as Medium>⟧
+        S.Script.remaining R.Runner is_meant
+        (option_map (λ path. path.now) paths.entry.image) (option_map (λ path. path.now) paths.entry.script) system.old
+        runner.old (result_err result) system.new runner.new }
+    ensures links { R.links runner.new ≡ R.links runner.old }
 {
     let Some(image) = paths.image else {
         return run_scratch(alloc, system, runner, paths);
@@ -189,7 +202,10 @@ pub fn launch_guarded<S: System, R: Runner>(
     runner: &mut R,
     words: &[String],
 ) -> Result<(), Failure>
-    ensures { GuardedEnds S.step system.old (map string_bytes words.now) (result_err result) system.new }
+    ensures ends { GuardedEnds S.step S.Image.Medium ⟦<Cached<S::Image> as Medium>⟧
+        S.Script.remaining R.Runner (map string_bytes words.now) system.old
+        runner.old (result_err result) system.new runner.new }
+    ensures links { R.links runner.new ≡ R.links runner.old }
 {
     let is_meant = means_image(words);
     let behind = behind_option(words);

@@ -1,7 +1,7 @@
 //! The media of a program: an image behind a cache, and zeros in memory.
 
-ghost use Rattle.std.specs.Prelude.{◌≡◌, IfOk, IfErr};
-ghost use Rattle.nvme_medium.specs.Caches.{inner_of, capacity_of};
+ghost use Rattle.std.specs.Prelude.{◌≡◌, [], IfOk, IfErr};
+ghost use Rattle.nvme_medium.specs.Caches.{inner_of, blocks_kept, capacity_of};
 ghost use Rattle.nvme_medium.specs.Memory.{memory_bytes};
 ghost use Rattle.nvme_program.specs.Media.{zero_blocks};
 ghost use Rattle.nvme_program.specs.declared.failure.Failure.TheVariants as failed;
@@ -33,21 +33,23 @@ pub fn scratch(alloc: Global) -> Result<MemMedium, Failure>
     }
 }
 
-/// The medium of an image: its blocks, behind a cache of 256 of them.
+/// The medium of an image: its blocks, behind a cache of 256 of them, which keeps none yet.
 ///
 /// # Errors
 ///
-/// `Memory` where memory is refused.
-pub fn behind_cache<M: Medium + Drop>(alloc: Global, image: M) -> Result<Cached<M>, Failure>
+/// `Memory` where memory is refused; the image is handed back.
+pub fn behind_cache<M: Medium>(alloc: Global, image: M) -> Result<Cached<M>, (M, Failure)>
     ensures inner { IfOk result (λ cached. inner_of cached ≡ image) }
+    ensures empty { IfOk result (λ cached. blocks_kept cached ≡ []) }
     ensures capacity { IfOk result (λ cached. capacity_of cached ≡ 256) }
     ensures device { IfOk result (λ cached. ⟦<Cached<M> as Medium>⟧.device cached ≡ M.device image) }
     ensures size { IfOk result (λ cached. ⟦<Cached<M> as Medium>⟧.size cached ≡ M.size image) }
-    ensures memory { IfErr result (λ failure. failure ≡ failed.Memory) }
+    ensures memory { IfErr result (λ e. e.1 ≡ failed.Memory) }
+    ensures back { IfErr result (λ e. e.0 ≡ image) }
 {
     let kept = NonZeroUsize::new(KEPT_BLOCKS).unwrap();
     match Cached::new(alloc, image, kept) {
         Ok(medium) => Ok(medium),
-        Err((_, NoMemory)) => Err(Failure::Memory),
+        Err((image, NoMemory)) => Err((image, Failure::Memory)),
     }
 }

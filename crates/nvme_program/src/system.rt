@@ -1,8 +1,8 @@
 //! Where a program finds its files: what it opens, by which path.
 
-ghost use Rattle.std.specs.Prelude.{IfErr, MatchResult, Ok, Err, option_map};
-ghost use Rattle.std.specs.Result.{result_err};
-ghost use Rattle.nvme_program.specs.Programs.{Opening, AsImage, AsScript, AsText, IsOfFile};
+ghost use Rattle.std.specs.Prelude.{IfErr, MatchResult, Ok, Err};
+ghost use Rattle.nvme_program.specs.Failures.{IsOfFile};
+ghost use Rattle.nvme_program.specs.SystemCalls.{SystemCall, OpensImage, OpensScript, ReadsText, ClosesImage};
 
 use crate::failure::Failure;
 use nvme_medium::{FileFault, FileMedium, HostFile, Medium};
@@ -47,8 +47,8 @@ impl Unopened {
     }
 }
 
-/// What a program opens its files in. For contracts it tells by `step` which states may follow an opening, with its
-/// failure: so a system that can tell what it opened says here how.
+/// What a program opens its files in. For contracts it tells by `step` which states may follow a call, with its answer: so
+/// a system that can tell what it opened, and what becomes of an image that is closed, says here how.
 pub trait System {
     /// An open image.
     type Image: Medium + Drop;
@@ -56,24 +56,30 @@ pub trait System {
     /// An open script.
     type Script: Read + Drop;
 
-    ghost step: { Self → Opening → Self → Type 0 };
+    ghost step: { Self → SystemCall Self.Image Self.Script → Self → Type 0 };
 
     /// The text of what is named as an image, from the path; an empty one where it has more bytes than a script may have.
     /// Nothing is written there.
     fn text_of(&mut self, alloc: Global, path: &str) -> Result<Vec<u8>, Unopened>
-        ensures step { MatchResult result (λ text. step self.old (AsText path.now (Ok text.items)) self.new)
-            (λ e. step self.old (AsText path.now (Err e.failure)) self.new) }
+        ensures step { MatchResult result (λ text. step self.old (ReadsText path.now (Ok text.items)) self.new)
+            (λ e. step self.old (ReadsText path.now (Err e.failure)) self.new) }
         ensures failure { IfErr result (λ e. IsOfFile e.failure) };
 
     /// Opens the image at a path, to read and write it in place.
     fn open_image(&mut self, path: &str) -> Result<Self::Image, Unopened>
-        ensures step { step self.old (AsImage path.now (option_map (λ e. e.failure) (result_err result))) self.new }
+        ensures step { MatchResult result (λ image. step self.old (OpensImage path.now (Ok image)) self.new)
+            (λ e. step self.old (OpensImage path.now (Err e.failure)) self.new) }
         ensures failure { IfErr result (λ e. IsOfFile e.failure) };
 
     /// Opens the script at a path, to read it.
     fn open_script(&mut self, path: &str) -> Result<Self::Script, Unopened>
-        ensures step { step self.old (AsScript path.now (option_map (λ e. e.failure) (result_err result))) self.new }
+        ensures step { MatchResult result (λ script. step self.old (OpensScript path.now (Ok script)) self.new)
+            (λ e. step self.old (OpensScript path.now (Err e.failure)) self.new) }
         ensures failure { IfErr result (λ e. IsOfFile e.failure) };
+
+    /// Closes an image, which keeps what was written to it.
+    fn close_image(&mut self, image: Self::Image)
+        ensures step { step self.old (ClosesImage image) self.new };
 }
 
 /// The files of the system. Nobody can know what they hold, so it tells nothing.
@@ -117,6 +123,8 @@ impl<R: Files<File = File>> System for HostFiles<'_, R> {
             Err(error) => Err(Unopened::of(error)),
         }
     }
+
+    fn close_image(&mut self, _image: FileMedium<HostFile>) {}
 }
 
 /// Refuses what is no regular file.
