@@ -7,3 +7,5 @@ pub mod Preparing
 pub mod Ending
 pub mod Alone
 pub mod Mailboxes
+pub mod Buffering
+pub mod Launching

@@ -13,3 +13,5 @@ pub mod Faults
 pub mod ScriptCalls
 pub mod ScriptWrites
 pub mod RunLaws
+pub mod Buffering
+pub mod ProgramRuns

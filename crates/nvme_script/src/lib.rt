@@ -1,9 +1,11 @@
 //! Scripts: what hosts do to a subsystem, line by line, and the transcript of what it answers.
 #![tactic(auto)]
 
+mod buffered;
 pub mod laws;
 mod program;
 mod run;
+mod transcribing;
 
 pub use nvme_program::{BrokenRule, ConfigReason, Failure, ScriptFault, SetupLine};
 pub use program::{run_in, run_program};

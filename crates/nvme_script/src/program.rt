@@ -4,21 +4,22 @@ ghost use Rattle.std.specs.Prelude.{◌≡◌, ◌≢◌, ◌≤◌, None, map};
 ghost use Rattle.std.specs.String.{string_bytes};
 ghost use Rattle.std.specs.Result.{result_err};
 ghost use Rattle.nvme_program.specs.CommandLines.{word_fault};
-ghost use Rattle.nvme_program.specs.Programs.{IsOfRun, ProgramEnds};
-ghost use Rattle.nvme_program.specs.declared.failure.Failure.TheVariants as failed;
+ghost use Rattle.nvme_program.specs.Failures.{IsOfRun};
+ghost use Rattle.nvme_script.specs.ProgramRuns.{RunsOver, ScriptProgramEnds};
 
-use crate::run::run_text;
+use crate::transcribing::run_through;
 use nvme_grammar::{Buffers, fault_at, parse};
-use nvme_medium::Medium;
+use nvme_medium::{Cached, Medium};
 use nvme_program::{
-    ConfigReason, Failure, HostFiles, Paths, PlacedFault, PlacedRule, Program, Reason, Runner,
+    ConfigReason, Failure, HostFiles, Paths, PlacedFault, PlacedRule, Program, Ran, Reason, Runner,
     ScriptFault, System, USAGE, launch, status_of,
 };
 use nvme_spec::ConfigFault;
 use script_text::read_text;
 use std::alloc::Global;
 use std::fs::File;
-use std::io::{BufWriter, Read, Write};
+use std::io::{Read, Write};
+use std::marker::Model;
 use std::rt::Files;
 
 /// The program, as it calls itself.
@@ -84,48 +85,55 @@ fn refused<E: Write>(
     errors: &mut E,
     paths: Paths<'_>,
     text: &[u8],
-    fault: ScriptFault,
+    failure: Failure,
     blocks: u64,
 ) -> Failure
-    ensures { result ≡ failed.Script fault }
+    ensures { result ≡ failure }
 {
-    let reason = match fault {
-        ScriptFault::Syntax(number) => line_reason(alloc, text, number, paths),
-        ScriptFault::Config(_, fault) => configuration_reason(alloc, text, fault, blocks, paths),
-        ScriptFault::TooLong => Some(Reason::TooLong { path: paths.script }),
-        ScriptFault::Read => Some(Reason::Unread { path: paths.script }),
-        ScriptFault::Write => Some(Reason::Unwritten),
-        ScriptFault::NoMemory => None,
+    let reason = match failure {
+        Failure::Script(ScriptFault::Syntax(number)) => line_reason(alloc, text, number, paths),
+        Failure::Script(ScriptFault::Config(_, fault)) => {
+            configuration_reason(alloc, text, fault, blocks, paths)
+        }
+        Failure::Script(ScriptFault::TooLong) => Some(Reason::TooLong { path: paths.script }),
+        Failure::Script(ScriptFault::Read) => Some(Reason::Unread { path: paths.script }),
+        Failure::Script(ScriptFault::Write) => Some(Reason::Unwritten),
+        _ => None,
     };
-    NVMESIM.tell(errors, Failure::Script(fault), reason)
+    NVMESIM.tell(errors, failure, reason)
 }
 
 /// Runs a script over a medium, and writes its transcript through a buffer. Its text is read first, and kept: where it
 /// is refused, the reason stands in it.
-fn run_over<I: Read, O: Write, E: Write, M: Medium + Drop>(
+fn run_over<I: Read, O: Write, E: Write, M: Medium>(
     alloc: Global,
     paths: Paths<'_>,
     input: &mut I,
     output: &mut O,
     errors: &mut E,
     medium: M,
-) -> Result<(), Failure>
-    ensures { IsOfRun (result_err result) }
+) -> Ran<M>
+    ensures end { IsOfRun (result_err result.outcome) }
+    ensures ran { RunsOver I.remaining M.Medium O.contents input.old input.new medium result.medium output.old
+        (result_err result.outcome) output.new }
 {
     let text = match read_text(alloc, input) {
         Ok(text) => text,
-        Err(fault) => return Err(refused(alloc, errors, paths, &[], ScriptFault::from(fault), 0)),
+        Err(fault) => {
+            let failure = Failure::Script(ScriptFault::from(fault));
+            let outcome = Err(refused(alloc, errors, paths, &[], failure, 0));
+            return Ran { medium, outcome };
+        }
     };
-    let mut buffered = match BufWriter::new(alloc, output) {
-        Ok(buffered) => buffered,
-        Err(error) => return Err(NVMESIM.tell(errors, Failure::from(&error), None)),
-    };
-    if let Err((fault, medium)) = run_text(alloc, text.as_slice(), &mut buffered, medium) {
-        return Err(refused(alloc, errors, paths, &text, fault, medium.blocks()));
-    }
-    match buffered.flush() {
-        Ok(()) => Ok(()),
-        Err(_) => Err(refused(alloc, errors, paths, &text, ScriptFault::Write, 0)),
+    match run_through(alloc, text.as_slice(), output, medium) {
+        Ok(medium) => Ran {
+            medium,
+            outcome: Ok(()),
+        },
+        Err((failure, medium)) => {
+            let outcome = Err(refused(alloc, errors, paths, &text, failure, medium.blocks()));
+            Ran { medium, outcome }
+        }
     }
 }
 
@@ -137,8 +145,26 @@ struct Streams<'i, 'o, 'e, I, O, E> {
     errors: &'e mut E,
 }
 
+impl<'i, 'o, 'e, I, O, E> Model for Streams<'i, 'o, 'e, I, O, E> {
+    ghost use Rattle.nvme_program.specs.Streams.{Streams, streams};
+
+    ghost Value = { Streams I O };
+
+    ghost view = { λ s. streams s.input s.output s.input.now s.output.now };
+}
+
 /// Without a named script it is the input.
 impl<I: Read, O: Write, E: Write> Runner for Streams<'_, '_, '_, I, O, E> {
+    ghost use Rattle.nvme_script.specs.ProgramRuns.{runs_scripts};
+
+    ghost links = { (runs_scripts I.remaining O.contents).links };
+
+    ghost ran = { (runs_scripts I.remaining O.contents).ran };
+
+    ghost ran_unnamed = { (runs_scripts I.remaining O.contents).ran_unnamed };
+
+    ghost tells = { (runs_scripts I.remaining O.contents).tells };
+
     fn program(&self) -> Program {
         NVMESIM
     }
@@ -149,7 +175,7 @@ impl<I: Read, O: Write, E: Write> Runner for Streams<'_, '_, '_, I, O, E> {
         paths: Paths<'_>,
         script: &mut T,
         medium: M,
-    ) -> Result<(), Failure> {
+    ) -> Ran<M> {
         run_over(alloc, paths, script, self.output, self.errors, medium)
     }
 
@@ -158,13 +184,28 @@ impl<I: Read, O: Write, E: Write> Runner for Streams<'_, '_, '_, I, O, E> {
         alloc: Global,
         paths: Paths<'_>,
         medium: M,
-    ) -> Result<(), Failure> {
+    ) -> Ran<M> {
         run_over(alloc, paths, self.input, self.output, self.errors, medium)
     }
 
     fn tell(&mut self, failure: Failure, reason: Option<Reason<'_, '_>>) -> Failure {
         NVMESIM.tell(self.errors, failure, reason)
     }
+}
+
+/// The program in a system, over its streams.
+fn launch_over<S: System, I: Read, O: Write, E: Write>(
+    alloc: Global,
+    system: &mut S,
+    streams: &mut Streams<'_, '_, '_, I, O, E>,
+    words: &[String],
+) -> Result<(), Failure>
+    ensures ends { ScriptProgramEnds S.step S.Image.Medium ⟦<Cached<S::Image> as Medium>⟧ S.Script.remaining
+        I.remaining O.contents (map string_bytes words.now) system.old streams.old.input streams.old.output
+        (result_err result) system.new streams.new.output }
+    ensures output { streams.new.output_name ≡ streams.old.output_name }
+{
+    launch(alloc, system, streams, words)
 }
 
 /// The program in any system: which files it opens, in which order, and what ends it. Its words are those of
@@ -178,20 +219,28 @@ pub fn run_in<S: System, I: Read, O: Write, E: Write>(
     output: &mut O,
     errors: &mut E,
 ) -> Result<(), Failure>
-    ensures { ProgramEnds S.step system.old (map string_bytes words.now) (result_err result) system.new }
+    ensures { ScriptProgramEnds S.step S.Image.Medium ⟦<Cached<S::Image> as Medium>⟧ S.Script.remaining I.remaining
+        O.contents (map string_bytes words.now) system.old input.old output.old (result_err result) system.new
+        output.new }
 {
     let mut streams = Streams {
         input,
         output,
         errors,
     };
-    launch(alloc, system, &mut streams, words)
+    let outcome = launch_over(alloc, system, &mut streams, words);
+    // Taken apart, so that what it leaves of the output is known.
+    let Streams {
+        output: _output,
+        ..
+    } = streams;
+    outcome
 }
 
 /// The program over the streams that it is handed: its words, the first of which is its name, its standard input,
 /// output and error. The answer is its exit status: 0 done; 1 a fault of the script; 2 a file or stream that can't be
 /// opened, read or written; 3 a refused command line; 4 want of memory.
-#[tactic(auto, using(nvme_program::proofs::ProgramEnds::refused_status, nvme_program::proofs::ProgramEnds::taken_status))]
+#[tactic(auto, using(crate::proofs::Launching::refused_status, crate::proofs::Launching::taken_status))]
 pub fn run_program<R: Files<File = File> + AllocGlobal, I: Read, O: Write, E: Write>(
     rt: &R,
     words: &[String],

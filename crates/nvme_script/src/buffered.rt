@@ -1,0 +1,98 @@
+//! A buffer before the output of a program.
+
+ghost use Rattle.std.specs.Prelude.{◌≡◌, ◌≤◌, [], length, take, drop, OnOk};
+ghost use Rattle.std.specs.Io.KnownBytes.{Appends, Keeps};
+
+use script_text::Sink;
+use std::io;
+use std::io::{ErrorKind, Write};
+use std::marker::Model;
+
+/// What is written to an output by way of a buffer. What the buffer has no room for is written to the output first, from
+/// the first byte on; so is what is left in the end, by `flush`, and nothing behind a write that fails.
+#[derive(Drop)]
+pub(crate) struct Buffered<'o, 'h, O> {
+    pub(crate) output: &'o mut O,
+    pub(crate) held: &'h mut Vec<u8>,
+}
+
+impl<'o, 'h, O> Model for Buffered<'o, 'h, O> {
+    ghost use Rattle.nvme_script.specs.Buffering.{Buffer};
+
+    ghost Value = { Buffer O };
+
+    ghost view = { λ b. record { output = b.output.now; held = b.held.now.items; name = b.output.ghost_name } };
+}
+
+/// Writes bytes until all are written or a write fails, and says how many were.
+fn write_front<O: Write>(output: &mut O, bytes: &[u8]) -> (usize, io::Result<()>)
+    ensures bound { result.0 ≤ length bytes.now }
+    ensures all { OnOk result.1 (result.0 ≡ length bytes.now) }
+    ensures written { Appends (O.contents output.old) (O.contents output.new) (take result.0 bytes.now) }
+{
+    let mut written = 0;
+    while written < bytes.len() {
+        match output.write(&bytes[written..]) {
+            Ok(0) => return (written, Err(io::Error::from(ErrorKind::WriteZero))),
+            Ok(count) => written += count,
+            Err(error) => return (written, Err(error)),
+        }
+    }
+    (written, Ok(()))
+}
+
+/// Takes the first bytes away.
+fn remove_front(held: &mut Vec<u8>, count: usize)
+    requires { count ≤ length held.old.items }
+    ensures { held.new.items ≡ drop count held.old.items }
+{
+    let len = held.len();
+    held.as_mut_slice().copy_within(count..len, 0);
+    held.truncate(len - count);
+}
+
+impl<O: Write> Buffered<'_, '_, O> {
+    ghost use Rattle.nvme_script.specs.Buffering.{buffer_contents};
+
+    /// Writes what is held back to the output. What could not be written stays.
+    fn pass_on(&mut self) -> io::Result<()>
+        ensures name { self.new.name ≡ self.old.name }
+        ensures bytes { Keeps (buffer_contents O.contents self.old) (buffer_contents O.contents self.new) }
+        ensures ok { OnOk result (self.new.held ≡ []) }
+    {
+        let (written, outcome) = write_front(self.output, self.held.as_slice());
+        remove_front(self.held, written);
+        outcome
+    }
+
+    /// Writes what is held back to the output, and flushes that.
+    pub(crate) fn flush(&mut self) -> io::Result<()>
+        ensures name { self.new.name ≡ self.old.name }
+        ensures bytes { Keeps (buffer_contents O.contents self.old) (buffer_contents O.contents self.new) }
+        ensures ok { OnOk result (self.new.held ≡ []) }
+    {
+        self.pass_on()?;
+        self.output.flush()
+    }
+}
+
+impl<O: Write> Sink for Buffered<'_, '_, O> {
+    ghost use Rattle.nvme_script.specs.Buffering.{buffer_contents, StepsBuffer};
+
+    ghost contents = { buffer_contents O.contents };
+
+    ghost step = { StepsBuffer O.contents };
+
+    fn give_some(&mut self, part: &[u8]) -> io::Result<usize> {
+        if part.len() > self.held.capacity() - self.held.len() {
+            self.pass_on()?;
+            if part.len() > self.held.capacity() {
+                return self.output.write(part);
+            }
+        }
+        match self.held.extend_from_slice(part) {
+            Ok(()) => Ok(part.len()),
+            Err(_) => Err(io::Error::from(ErrorKind::OutOfMemory)),
+        }
+    }
+}
