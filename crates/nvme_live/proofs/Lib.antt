@@ -15,3 +15,5 @@ pub mod InBytes
 pub mod StreamExamples
 pub mod SessionLaws
 pub mod OnLiterals
+pub mod KnownLines
+pub mod Launching

@@ -27,3 +27,4 @@ pub mod Keeping
 pub mod SessionScripts
 pub mod SessionLaws
 pub mod SetUpLaws
+pub mod ProgramLives

@@ -10,6 +10,7 @@ mod opening;
 mod program;
 mod reading;
 mod rooms;
+mod running;
 mod saying;
 mod session;
 mod setting;

@@ -1,20 +1,21 @@
 //! The program: `nvmelive [--image] [IMAGE [SCRIPT]]` over streams that are handed in.
 
-ghost use Rattle.std.specs.Prelude.{◌≡◌, ◌≢◌, ◌≤◌, None, Some, map};
+ghost use Rattle.std.specs.Prelude.{◌≡◌, ◌≢◌, ◌≤◌, None, map};
 ghost use Rattle.std.specs.String.{string_bytes};
 ghost use Rattle.std.specs.Result.{result_err};
 ghost use Rattle.nvme_program.specs.CommandLines.{behind_option, word_fault};
-ghost use Rattle.nvme_program.specs.Programs.{GuardedEnds, IsOfRun};
+ghost use Rattle.nvme_live.specs.ProgramLives.{SessionProgramEnds};
 
-use crate::session::run_live;
-use nvme_medium::Medium;
+use crate::running::live_over;
+use nvme_medium::{Cached, Medium};
 use nvme_program::{
-    Failure, HostFiles, Paths, Program, Reason, Runner, ScriptFault, System, launch_guarded,
+    Failure, HostFiles, Paths, Program, Ran, Reason, Runner, ScriptFault, System, launch_guarded,
     status_of,
 };
 use std::alloc::Global;
 use std::fs::File;
-use std::io::{BufReader, Read, Write};
+use std::io::{Read, Write};
+use std::marker::Model;
 use std::rt::Files;
 
 /// The program, as it calls itself.
@@ -24,16 +25,16 @@ const NVMELIVE: Program = Program {
 };
 
 /// Tells why a session ended before its input did. Where a line was answered by it, that says the reason.
-fn refused<E: Write>(errors: &mut E, paths: Paths<'_>, fault: ScriptFault) -> Failure
-    ensures { IsOfRun (Some result) }
+fn refused<E: Write>(errors: &mut E, paths: Paths<'_>, failure: Failure) -> Failure
+    ensures { result ≡ failure }
 {
-    let reason = match fault {
-        ScriptFault::TooLong => Some(Reason::TooLong { path: paths.script }),
-        ScriptFault::Read => Some(Reason::Unread { path: paths.script }),
-        ScriptFault::Write => Some(Reason::Unwritten),
-        ScriptFault::Syntax(_) | ScriptFault::Config(_, _) | ScriptFault::NoMemory => None,
+    let reason = match failure {
+        Failure::Script(ScriptFault::TooLong) => Some(Reason::TooLong { path: paths.script }),
+        Failure::Script(ScriptFault::Read) => Some(Reason::Unread { path: paths.script }),
+        Failure::Script(ScriptFault::Write) => Some(Reason::Unwritten),
+        _ => None,
     };
-    NVMELIVE.tell(errors, Failure::Script(fault), reason)
+    NVMELIVE.tell(errors, failure, reason)
 }
 
 /// The streams of the program.
@@ -44,8 +45,26 @@ struct Streams<'i, 'o, 'e, I, O, E> {
     errors: &'e mut E,
 }
 
+impl<'i, 'o, 'e, I, O, E> Model for Streams<'i, 'o, 'e, I, O, E> {
+    ghost use Rattle.nvme_program.specs.Streams.{Streams, streams};
+
+    ghost Value = { Streams I O };
+
+    ghost view = { λ s. streams s.input s.output s.input.now s.output.now };
+}
+
 /// A session behind a script; without a named one behind none.
 impl<I: Read, O: Write, E: Write> Runner for Streams<'_, '_, '_, I, O, E> {
+    ghost use Rattle.nvme_live.specs.ProgramLives.{lives_behind_scripts};
+
+    ghost links = { (lives_behind_scripts I.remaining O.contents).links };
+
+    ghost ran = { (lives_behind_scripts I.remaining O.contents).ran };
+
+    ghost ran_unnamed = { (lives_behind_scripts I.remaining O.contents).ran_unnamed };
+
+    ghost tells = { (lives_behind_scripts I.remaining O.contents).tells };
+
     fn program(&self) -> Program {
         NVMELIVE
     }
@@ -56,14 +75,16 @@ impl<I: Read, O: Write, E: Write> Runner for Streams<'_, '_, '_, I, O, E> {
         paths: Paths<'_>,
         script: &mut T,
         medium: M,
-    ) -> Result<(), Failure> {
-        let mut reader = match BufReader::new(alloc, &mut *self.input) {
-            Ok(reader) => reader,
-            Err(error) => return Err(NVMELIVE.tell(self.errors, Failure::from(&error), None)),
-        };
-        match run_live(alloc, script, &mut reader, self.output, medium) {
-            Ok(_) => Ok(()),
-            Err((fault, _)) => Err(refused(self.errors, paths, fault)),
+    ) -> Ran<M> {
+        match live_over(alloc, script, self.input, self.output, medium) {
+            Ok(medium) => Ran {
+                medium,
+                outcome: Ok(()),
+            },
+            Err((failure, medium)) => Ran {
+                medium,
+                outcome: Err(refused(self.errors, paths, failure)),
+            },
         }
     }
 
@@ -72,7 +93,7 @@ impl<I: Read, O: Write, E: Write> Runner for Streams<'_, '_, '_, I, O, E> {
         alloc: Global,
         paths: Paths<'_>,
         medium: M,
-    ) -> Result<(), Failure> {
+    ) -> Ran<M> {
         let mut nothing = b"".as_slice();
         self.run(alloc, paths, &mut nothing, medium)
     }
@@ -80,6 +101,21 @@ impl<I: Read, O: Write, E: Write> Runner for Streams<'_, '_, '_, I, O, E> {
     fn tell(&mut self, failure: Failure, reason: Option<Reason<'_, '_>>) -> Failure {
         NVMELIVE.tell(self.errors, failure, reason)
     }
+}
+
+/// The program in a system, over its streams.
+fn launch_over<S: System, I: Read, O: Write, E: Write>(
+    alloc: Global,
+    system: &mut S,
+    streams: &mut Streams<'_, '_, '_, I, O, E>,
+    words: &[String],
+) -> Result<(), Failure>
+    ensures ends { SessionProgramEnds S.step S.Image.Medium ⟦<Cached<S::Image> as Medium>⟧ S.Script.remaining
+        I.remaining O.contents (map string_bytes words.now) system.old streams.old.input streams.old.output
+        (result_err result) system.new streams.new.output }
+    ensures output { streams.new.output_name ≡ streams.old.output_name }
+{
+    launch_guarded(alloc, system, streams, words)
 }
 
 /// The program in any system: which files it opens, in which order, and what ends it. Its words are those of
@@ -93,21 +129,29 @@ pub fn run_in<S: System, I: Read, O: Write, E: Write>(
     output: &mut O,
     errors: &mut E,
 ) -> Result<(), Failure>
-    ensures { GuardedEnds S.step system.old (map string_bytes words.now) (result_err result) system.new }
+    ensures { SessionProgramEnds S.step S.Image.Medium ⟦<Cached<S::Image> as Medium>⟧ S.Script.remaining I.remaining
+        O.contents (map string_bytes words.now) system.old input.old output.old (result_err result) system.new
+        output.new }
 {
     let mut streams = Streams {
         input,
         output,
         errors,
     };
-    launch_guarded(alloc, system, &mut streams, words)
+    let outcome = launch_over(alloc, system, &mut streams, words);
+    // Taken apart, so that what it leaves of the output is known.
+    let Streams {
+        output: _output,
+        ..
+    } = streams;
+    outcome
 }
 
 /// The program over the streams that it is handed: its words, the first of which is its name, its standard input,
 /// output and error. A word `--image` before the image says that it is meant as one, whatever it holds. The answer is
 /// its exit status: 0 at the end of the input; 1 a fault of the script, or a refused configuration; 2 a file or stream
 /// that can't be opened, read or written; 3 a refused command line; 4 out of memory.
-#[tactic(auto, using(nvme_program::proofs::Guarded::refused_status, nvme_program::proofs::Guarded::taken_status))]
+#[tactic(auto, using(crate::proofs::Launching::refused_status, crate::proofs::Launching::taken_status))]
 pub fn run_program<R: Files<File = File> + AllocGlobal, I: Read, O: Write, E: Write>(
     rt: &R,
     words: &[String],

@@ -1,0 +1,16 @@
+use Rattle.std.proofs.Common.{List, [], ◌∷◌, ap, refl}
+use Rattle.std.specs.Borrow.{GName}
+use Rattle.nvme_live.specs.ProgramLives.{SessionProgramEnds}
+use Rattle.nvme_live.proofs.program.launch_over.Goals as goal
+
+abbrev second : GName → List GName → GName
+second other [] = other
+second other (name ∷ []) = other
+second other (name ∷ next ∷ names) = next
+
+pub returns-clause-ends : goal.returns-clause-ends
+unfolding SessionProgramEnds
+returns-clause-ends g c = (c.args.streams.now, c.launch_guarded.new.runner, refl, refl, refl, c.launch_guarded.ensures.ends)
+
+pub returns-clause-output : goal.returns-clause-output
+returns-clause-output g c = ap (second c.args.streams.now.output_name) c.launch_guarded.ensures.links

@@ -1,0 +1,35 @@
+use Rattle.std.proofs.Common.{◌≡◌, Bool, ℕ, List, Option, MutBor, Global, ap, ◌∙◌}
+use Rattle.std.specs.Io.Buffered.{reader_remaining}
+use Rattle.std.specs.Io.KnownBytes.{Keeps}
+use Rattle.std.specs.declared.io.buffered.BufReader.{BufReader}
+use Rattle.script_text.specs.Streams.{ReadsSome, WritesSome}
+use Rattle.nvme_live.specs.Streams.{LineCall, ReadsBy, TakesKnown}
+use Rattle.nvme_live.proofs.KnownLines.{fails-reading-known, lives-on-known, nothing-ahead}
+use Rattle.nvme_live.proofs.running.live_over.Goals as goal
+
+pub returns-in-Ok-run_live-clause-ok : goal.returns-in-Ok-run_live-clause-ok
+returns-in-Ok-run_live-clause-ok g c =
+    let h = c.in-Ok-run_live.ensures.ok in
+    let known : BufReader (MutBor g.row.I.Denot) Global → Option (List ℕ) = reader_remaining (λ s. g.I.Read.remaining s.now) in
+    let from = nothing-ahead (λ (s : MutBor g.row.I.Denot). g.I.Read.remaining s.now) c.in-Ok.reader c.in-Ok.ensures.empty c.in-Ok.ensures.capacity
+    ∙ ap (λ (s : MutBor g.row.I.Denot). g.I.Read.remaining s.now) c.in-Ok.ensures.inner in (
+      h.0,
+      known c.run_live.new.reader,
+      h.1,
+      lives-on-known (ReadsBy (λ u call v. TakesKnown (known u) call (known v)) known) known (λ u call v r. r.1)
+          g.M.Medium.step g.M.Medium.tells g.M.Medium.device (WritesSome g.O.Write.contents) (λ (w : g.row.O.Denot) (done : Bool) (z : g.row.O.Denot). Keeps (g.O.Write.contents w) (g.O.Write.contents z)) g.O.Write.contents
+          (g.M.Medium.size c.args.medium) c.in-Ok.reader c.run_live.new.reader c.args.output.now c.run_live.new.writer c.args.medium c.in-Ok-run_live.medium
+          (g.I.Read.remaining c.args.input.now) from h.0 h.2,
+    )
+
+pub returns-in-Err-clause-fault : goal.returns-in-Err-clause-fault
+returns-in-Err-clause-fault g c =
+    let known : BufReader (MutBor g.row.I.Denot) Global → Option (List ℕ) = reader_remaining (λ s. g.I.Read.remaining s.now) in
+    let from = nothing-ahead (λ (s : MutBor g.row.I.Denot). g.I.Read.remaining s.now) c.in-Ok.reader c.in-Ok.ensures.empty c.in-Ok.ensures.capacity
+    ∙ ap (λ (s : MutBor g.row.I.Denot). g.I.Read.remaining s.now) c.in-Ok.ensures.inner in (
+      known c.run_live.new.reader,
+      fails-reading-known (ReadsBy (λ u call v. TakesKnown (known u) call (known v)) known) known (λ u call v r. r.1)
+          g.M.Medium.step g.M.Medium.tells g.M.Medium.device (WritesSome g.O.Write.contents) (λ (w : g.row.O.Denot) (done : Bool) (z : g.row.O.Denot). Keeps (g.O.Write.contents w) (g.O.Write.contents z)) g.O.Write.contents
+          (g.M.Medium.size c.args.medium) c.in-Ok.reader c.run_live.new.reader c.args.output.now c.run_live.new.writer c.args.medium c.in-Err.medium
+          (g.I.Read.remaining c.args.input.now) from (ReadsSome g.T.Read.remaining) g.T.Read.remaining c.args.script.now c.run_live.new.script c.in-Err.fault c.in-Err.ensures.fault,
+    )

@@ -1,0 +1,62 @@
+-- What the program's session comes to: behind a script, over its medium, and over its input and output.
+use Rattle.std.specs.Prelude.{◌≡◌, ℕ, List, [], ◌∷◌, Option, None, Some, Ok}
+use Rattle.std.specs.Borrow.{Bor}
+use Rattle.std.specs.Io.KnownBytes.{Keeps}
+use Rattle.nvme_medium.specs.declared.medium.Medium as medium
+use Rattle.nvme_medium.specs.declared.cached.Cached.{Cached}
+use Rattle.script_text.specs.Reading.{IsRead}
+use Rattle.script_text.specs.Streams.{ReadsSome, WritesSome}
+use Rattle.nvme_program.specs.Programs.{GuardedEnds}
+use Rattle.nvme_program.specs.Streams.{Streams}
+use Rattle.nvme_program.specs.SystemCalls.{SystemCall}
+use Rattle.nvme_program.specs.declared.failure.Failure.{Failure}
+use Rattle.nvme_program.specs.declared.failure.Failure.TheVariants as failed
+use Rattle.nvme_program.specs.declared.running.Runner as runner
+use Rattle.nvme_live.specs.Lives.{Fails, FailsBehindReading, LivesOn, surroundings}
+use Rattle.nvme_live.specs.Streams.{TakesKnown}
+
+-- A script was read, by its reads and no others, and a session went on behind it, over a medium, which it left so. Its
+-- lines are those of the input, whose bytes are read ahead: of these some were not taken, which are left. Or a fault ended
+-- it; or there was no memory to read ahead, and nothing was called.
+abbrev pub LivesOver : {T M I O : Type 0} → (T → Option (List ℕ)) → medium.Ghosts M → (I → Option (List ℕ))
+    → (O → Option (List ℕ)) → T → T → M → M → I → O → Option Failure → O → Type 0
+LivesOver remaining calls unread contents script read old new input before None after =
+    (text : List ℕ) × (left : Option (List ℕ)) × IsRead (ReadsSome remaining) remaining script (Ok text) read
+    × LivesOn calls.step calls.tells calls.device TakesKnown (WritesSome contents)
+    (λ w done z. Keeps (contents w) (contents z)) contents (calls.size old) text
+    (surroundings (unread input) before old) (surroundings left after new)
+LivesOver remaining calls unread contents script read old new input before (Some (failed.Script fault)) after =
+    (left : Option (List ℕ)) × FailsBehindReading (ReadsSome remaining) remaining script read fault
+    (surroundings (unread input) before old) (surroundings left after new) (λ text.
+    Fails calls.step calls.tells calls.device TakesKnown (WritesSome contents)
+    (λ w done z. Keeps (contents w) (contents z)) contents (calls.size old) text fault
+    (surroundings (unread input) before old) (surroundings left after new))
+LivesOver remaining calls unread contents script read old new input before (Some failed.Memory) after =
+    (read ≡ script) × (new ≡ old) × (after ≡ before)
+LivesOver remaining calls unread contents script read old new input before (Some failed.File) after = ⊥
+LivesOver remaining calls unread contents script read old new input before (Some failed.CommandLine) after = ⊥
+
+-- The program over its streams: its session stands behind the script that is named, or else behind an empty one. Telling a
+-- failure leaves both streams as they are.
+abbrev pub lives_behind_scripts : {I O : Type 0} → (I → Option (List ℕ)) → (O → Option (List ℕ))
+    → runner.Ghosts (Streams I O)
+lives_behind_scripts unread contents = record {
+  links = λ s. s.input_name ∷ s.output_name ∷ [];
+  ran = λ T M remaining calls script read old new before end after.
+      LivesOver remaining calls unread contents script read old new before.input before.output end after.output;
+  ran_unnamed = λ M calls old new before end after.
+      (script : Bor (List ℕ)) × (read : Bor (List ℕ)) × (script.now ≡ [])
+      × LivesOver (λ s. Some s.now) calls unread contents script read old new before.input before.output end
+      after.output;
+  tells = λ before after. (after.input ≡ before.input) × (after.output ≡ before.output);
+}
+
+-- The program in a system, on these words, over its input and its output: how it ends, and what it leaves of the system and
+-- of the output.
+unfoldable pub SessionProgramEnds : {S I T In Out : Type 0} → (S → SystemCall I T → S → Type 0)
+    → (image : medium.Ghosts I) → medium.Ghosts (Cached I image) → (T → Option (List ℕ)) → (In → Option (List ℕ))
+    → (Out → Option (List ℕ)) → List (List ℕ) → S → In → Out → Option Failure → S → Out → Type 0
+SessionProgramEnds {In = In} {Out = Out} step image behind_cache remaining unread contents words system input output end new written =
+    (before : Streams In Out) × (after : Streams In Out) × (before.input ≡ input) × (before.output ≡ output)
+    × (after.output ≡ written)
+    × GuardedEnds step image behind_cache remaining (lives_behind_scripts unread contents) words system before end new after
