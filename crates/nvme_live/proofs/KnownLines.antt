@@ -1,6 +1,6 @@
 -- A session whose lines are read, by what is known of the bytes that are left to be read.
 use Rattle.std.proofs.Common.{◌≡◌, ℕ, Bool, List, [], ◌∷◌, Option, None, Some, Ok, Err, inl, inr, refl, ap, subst}
-use Rattle.std.specs.Prelude.{◌⊎◌, Result, MatchResult}
+use Rattle.std.specs.Prelude.{◌⊎◌, ◌==◌, if◌then◌else◌, Result, MatchResult}
 use Rattle.std.specs.Io.KnownBytes.{prepend_known}
 use Rattle.std.specs.Io.Buffered.{reader_buffer, reader_capacity, reader_inner, reader_remaining}
 use Rattle.std.specs.declared.io.buffered.BufReader.{BufReader}
@@ -22,9 +22,12 @@ prepend-nothing : (x : Option (List ℕ)) → prepend_known [] x ≡ x
 prepend-nothing None = refl
 prepend-nothing (Some xs) = refl
 
+known-ahead : (room : ℕ) (ahead : List ℕ) (x : Option (List ℕ)) → ahead ≡ [] → room ≡ 8192 → (if room == 0 then None else prepend_known ahead x) ≡ x
+known-ahead room ahead x none is = rw (is, none) (prepend-nothing x)
+
 pub nothing-ahead : {T A : Type 0} (remaining : T → Option (List ℕ)) (r : BufReader T A) → reader_buffer r ≡ [] → reader_capacity r ≡ 8192
     → reader_remaining remaining r ≡ remaining (reader_inner r)
-nothing-ahead remaining r none room = rw (room, none) (prepend-nothing (remaining (reader_inner r)))
+nothing-ahead remaining r none room = known-ahead (reader_capacity r) (reader_buffer r) (remaining (reader_inner r)) none room
 
 module _ {R : Type 0} (Reads : R → LineCall → R → Type 0) (known : R → Option (List ℕ)) (by : (u : R) (call : LineCall) (v : R) → Reads u call v → TakesKnown (known u) call (known v)) where
   lines-known : (lines : List (List ℕ)) (u v : R) → ReadsLines Reads u lines v → ReadsLines TakesKnown (known u) lines (known v)
@@ -95,11 +98,11 @@ module _ {R : Type 0} (Reads : R → LineCall → R → Type 0) (known : R → O
       (unread left : R) (before after : W) (medium new : M) where
     behind : (text : List ℕ) (Ended Known : OverMedium Standing M → W → OverMedium Standing M → Type 0) → ((first : OverMedium Standing M) (told : W) (last : OverMedium Standing M) → Ended first told last → Known first told last)
         → Lives step tells device write flush contents blocks text medium before new Ended → Lives step tells device write flush contents blocks text medium before new Known
-    behind text Ended Known then h = record {
+    behind text Ended Known lifts h = record {
       first = h.first;
       told = h.told;
       opened = h.opened;
-      rests = record { last = h.rests.last; ended = then h.first h.told h.rests.last h.rests.ended; medium = h.rests.medium; rests = h.rests.rests };
+      rests = record { last = h.rests.last; ended = lifts h.first h.told h.rests.last h.rests.ended; medium = h.rests.medium; rests = h.rests.rests };
     }
 
     pub lives-on-known : (from : Option (List ℕ)) → known unread ≡ from → (text : List ℕ) → LivesOn step tells device Reads write flush contents blocks text (surroundings unread before medium) (surroundings left after new)

@@ -22,8 +22,8 @@ returns-in-Ok-run_live-clause-ok g c =
           (g.I.Read.remaining c.args.input.now) from h.0 h.2,
     )
 
-pub returns-in-Err-clause-fault : goal.returns-in-Err-clause-fault
-returns-in-Err-clause-fault g c =
+pub returns-clause-fault : goal.returns-clause-fault
+returns-clause-fault g c =
     let known : BufReader (MutBor g.row.I.Denot) Global → Option (List ℕ) = reader_remaining (λ s. g.I.Read.remaining s.now) in
     let from = nothing-ahead (λ (s : MutBor g.row.I.Denot). g.I.Read.remaining s.now) c.in-Ok.reader c.in-Ok.ensures.empty c.in-Ok.ensures.capacity
     ∙ ap (λ (s : MutBor g.row.I.Denot). g.I.Read.remaining s.now) c.in-Ok.ensures.inner in (
