@@ -1,7 +1,8 @@
 //! A buffer before the output of a program.
 
 ghost use Rattle.std.specs.Prelude.{◌≡◌, ◌≤◌, [], length, take, drop, OnOk};
-ghost use Rattle.std.specs.Io.KnownBytes.{Appends, Keeps};
+ghost use Rattle.std.specs.Io.{WritesAtMost};
+ghost use Rattle.std.specs.Io.KnownBytes.{Appends, Keeps, WriteAppends};
 
 use script_text::Sink;
 use std::io;
@@ -24,6 +25,24 @@ impl<'o, 'h, O> Model for Buffered<'o, 'h, O> {
     ghost view = { λ b. record { output = b.output.now; held = b.held.now.items; name = b.output.ghost_name } };
 }
 
+/// One write, made again where a signal interrupts it.
+fn write_some<O: Write>(output: &mut O, bytes: &[u8]) -> io::Result<usize>
+    ensures bound { WritesAtMost result bytes.now }
+    ensures bytes { WriteAppends (O.contents output.old) (O.contents output.new) result bytes.now }
+{
+    for _ in 0..u64::MAX {
+        match output.write(bytes) {
+            Ok(count) => return Ok(count),
+            Err(error) => {
+                if error.kind() != ErrorKind::Interrupted {
+                    return Err(error);
+                }
+            }
+        }
+    }
+    Err(io::Error::from(ErrorKind::Interrupted))
+}
+
 /// Writes bytes until all are written or a write fails, and says how many were.
 fn write_front<O: Write>(output: &mut O, bytes: &[u8]) -> (usize, io::Result<()>)
     ensures bound { result.0 ≤ length bytes.now }
@@ -32,7 +51,7 @@ fn write_front<O: Write>(output: &mut O, bytes: &[u8]) -> (usize, io::Result<()>
 {
     let mut written = 0;
     while written < bytes.len() {
-        match output.write(&bytes[written..]) {
+        match write_some(output, &bytes[written..]) {
             Ok(0) => return (written, Err(io::Error::from(ErrorKind::WriteZero))),
             Ok(count) => written += count,
             Err(error) => return (written, Err(error)),
