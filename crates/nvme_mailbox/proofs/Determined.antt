@@ -1,6 +1,6 @@
 -- Without a fault of the medium there is one run over each list of events.
-use Rattle.nvme_mailbox.proofs.Words.{◌≡◌, ℕ, ◌-◌, ◌^◌, ◌<◌, ◌≤◌, Bool, true, ◌==◌, [], ◌∷◌, Option, None, Some, refl, sym, ap, subst, ◌∙◌, arith, slice_get, Command, Verdict, Allowed, Denied, Lane, Admin, Io, Asked, FetchedCommand, Executed, Posted, Controller, QueuePair, queues_of, open_pair, after_completion, Setting, FinishesOne, FinishesOver, scene_in, CommandComesTo, CommandExecution, FleetEvent, Execute, Reply, FetchedItem, Mailbox, lane_of, plain, Site, RequestExecution, scene_at, IsServed, IoRequestComesTo, RequestComesToAs, RequestComesTo, io_verdict, bytes_with, command_entry, WithDriver, Raw, Fleet, Is, Step, host_at, settled, after_execution, after_raw, ExecutesItem, ExecutesRaw, ExecutesAt, setting_of, served, performance_of, io_request_execution, request_execution_as, request_execution, executing_item, RawExecution, raw_over, raw_one, executing, fault_free_step, fault_free_replies, fault_free_left, failures_in, FailuresNeverFall, RunIsUnique}
-use Rattle.nvme_mailbox.proofs.Existing.{admin-calm}
+use Rattle.nvme_mailbox.proofs.Words.{◌≡◌, ℕ, ◌-◌, ◌^◌, ◌<◌, ◌≤◌, Bool, true, ◌==◌, [], ◌∷◌, Option, None, Some, refl, sym, ap, subst, ◌∙◌, arith, slice_get, Command, Verdict, Allowed, Denied, Lane, Admin, Io, Asked, FetchedCommand, Executed, Posted, Controller, QueuePair, queues_of, open_pair, after_completion, Setting, FinishesOne, FinishesOver, scene_in, CommandComesTo, CommandExecution, FleetEvent, Execute, Reply, FetchedItem, Mailbox, lane_of, plain, Site, RequestExecution, scene_at, IsServed, IoRequestComesTo, RequestComesToAs, RequestComesTo, io_verdict, bytes_with, command_entry, WithDriver, Raw, Fleet, Is, Step, host_at, settled, after_execution, after_raw, ExecutesItem, ExecutesRaw, ExecutesAt, setting_of, served, performance_of, io_request_execution, request_execution_as, request_execution, executing_item, RawExecution, raw_over, raw_one, executing, fault_free_step, fault_free_replies, fault_free_left, failures_in, FailuresNeverFall, RunIsUnique, Device}
+use Rattle.nvme_mailbox.proofs.Existing.{admin-leaves}
 use Rattle.nvme_mailbox.proofs.Sites.{Leaves, AsItWas, ByRequest, ByCommand, PowerLost, leaves}
 use Rattle.nvme_mailbox.specs.Fleets.{Host}
 use Rattle.nvme_spec.proofs.FaultFree as spec
@@ -17,7 +17,7 @@ io-counts (Allowed plan) tells k a s r h =
 
 execution-counts : (lane : Lane) (tells : Bool) (k : ℕ) (a : Asked) (marked : Bool) (s : Site) (r : RequestExecution)
     → RequestComesToAs lane tells k a marked s r → s.device.failures ≤ r.left.device.failures
-execution-counts Admin tells k a marked s r h = let e = ap (λ (x : RequestExecution). x.left.device.failures) h ∙ admin-calm s k a in omega (arith, e)
+execution-counts Admin tells k a marked s r h = let e = ap (λ (x : RequestExecution). x.left.device.failures) h ∙ ap (λ (d : Device). d.failures) (admin-leaves s k a).device in omega (arith, e)
 execution-counts Io tells k a marked s r h = io-counts (io_verdict s.world k a marked) tells k a s r h
 
 site-counts : (tells : Bool) (old new : Fleet) (event : FleetEvent) → Leaves tells old new event → failures_in old ≤ failures_in new

@@ -1,5 +1,5 @@
 -- Without a fault there is a run over each list of events, from each fleet whose namespaces lie on its medium.
-use Rattle.nvme_mailbox.proofs.Words.{◌≡◌, ℕ, ◌*◌, ◌≤◌, ◌==◌, Bool, true, List, [], ◌∷◌, length, Option, None, Some, Ok, refl, sym, ap, ◌∙◌, arith, length-append, length-drop, slice_get, replicate, opcode, Command, WriteZeroes, AdminCommand, Verdict, Allowed, Denied, with_bytes, Judgement, action_rule, medium_block, IsLaidOut, extent_of, HasPassed, planned, passes, cycle_keeps_places, Lane, Admin, Io, Asked, FetchedCommand, Controller, QueuePair, queues_of, open_pair, Setting, FinishesOne, FinishesOver, scene_in, CommandComesTo, command-becomes, still, answer-extents, answer-size, FleetEvent, BringUp, Place, Ring, Fetch, Execute, Poll, Reset, RawStore, RawWrite32, PowerCycle, FleetSeen, FetchedItem, Mailbox, lane_of, MailboxReaction, Site, RequestExecution, scene_at, IsServed, IoRequestComesTo, RequestComesToAs, RequestComesTo, action_of, io_judgement, io_verdict, admin_judgement, admin_request_execution_by, admin_request_execution, command_entry, WithDriver, Raw, Fleet, Moment, Step, host_at, with_host, power_cycled, settled, called_at, raw_at, fetched_at, ExecutesItem, ExecutesAt, setting_of, served, performance_of, io_request_execution, request_execution_as, request_execution, executing_item, raw_over, raw_one, raw_execution, executing, fault_free_step, failures_in, RunExists}
+use Rattle.nvme_mailbox.proofs.Words.{◌≡◌, ℕ, ◌*◌, ◌≤◌, ◌==◌, Bool, true, List, [], ◌∷◌, length, Option, None, Some, Ok, refl, sym, ap, ◌∙◌, arith, length-append, length-drop, slice_get, replicate, opcode, Command, WriteZeroes, AdminCommand, Verdict, Allowed, Denied, with_bytes, Judgement, action_rule, medium_block, IsLaidOut, extent_of, HasPassed, planned, passes, cycle_keeps_places, Lane, Admin, Io, Asked, FetchedCommand, Controller, QueuePair, queues_of, open_pair, Setting, FinishesOne, FinishesOver, scene_in, CommandComesTo, command-becomes, still, answer-extents, answer-size, FleetEvent, BringUp, Place, Ring, Fetch, Execute, Poll, Reset, RawStore, RawWrite32, PowerCycle, FleetSeen, FetchedItem, Mailbox, lane_of, MailboxReaction, Site, RequestExecution, scene_at, IsServed, IoRequestComesTo, RequestComesToAs, RequestComesTo, action_of, io_judgement, io_verdict, admin_judgement, admin_request_execution_by, admin_request_execution, command_entry, WithDriver, Raw, Fleet, Moment, Step, host_at, with_host, power_cycled, settled, called_at, raw_at, fetched_at, ExecutesItem, ExecutesAt, setting_of, served, performance_of, io_request_execution, request_execution_as, request_execution, executing_item, raw_over, raw_one, raw_execution, executing, fault_free_step, failures_in, RunExists, Device, HasSameReservations, same-reservations}
 use Rattle.nvme_spec.specs.declared.command.Command.TheVariants.{Write}
 use Rattle.nvme_spec.specs.declared.verdict.Plan.{Plan}
 use Rattle.nvme_spec.specs.Commands as io_commands
@@ -11,13 +11,18 @@ use Rattle.nvme_machine.proofs.Determined as machine_proofs
 use Rattle.nvme_mailbox.specs.Fleets.{Host}
 use Rattle.std.proofs.lemmas.List.{length-take}
 
-admin-by-calm : (j : Judgement) (command : Option AdminCommand) (s : Site) (k : ℕ) (a : Asked) → (admin_request_execution_by j command s k a).left.device.failures ≡ s.device.failures
-admin-by-calm (Ok u) (Some command) s k a = refl
-admin-by-calm j command s k a = refl
+-- what an admin command leaves
+pub record AdminLeaves (s left : Site) : Type 0 where
+  pub device : left.device ≡ s.device
+  pub reservations : HasSameReservations s.world left.world
 
-pub admin-calm : (s : Site) (k : ℕ) (a : Asked) → (admin_request_execution s k a).left.device.failures ≡ s.device.failures
+pub admin-leaves : (s : Site) (k : ℕ) (a : Asked) → AdminLeaves s (admin_request_execution s k a).left
 unfolding admin_request_execution
-admin-calm s k a = admin-by-calm (admin_judgement s.world k a) (admin_commands.command_of (opcode (command_entry a))) s k a
+admin-leaves s k a = by (admin_judgement s.world k a) (admin_commands.command_of (opcode (command_entry a)))
+  where
+    by : (j : Judgement) (command : Option AdminCommand) → AdminLeaves s (admin_request_execution_by j command s k a).left
+    by (Ok u) (Some command) = record { device = refl; reservations = still s.world _ (command-becomes s.world (command_entry a) a.sent command) }
+    by j command = record { device = refl; reservations = same-reservations s.world s.world refl }
 
 -- The namespaces lie on the medium as before, which is at least as long.
 pub record StillLies (old new : Site) : Type 0 where
@@ -88,18 +93,11 @@ io-responds (Allowed plan) k a marked s laid is =
     let p = allowed-passes s k a marked plan is in
     (served-is plan.kind k a s laid p, served-lies plan.kind k a s laid p, refl)
 
-admin-by-lies : (j : Judgement) (command : Option AdminCommand) (s : Site) (k : ℕ) (a : Asked) → StillLies s (admin_request_execution_by j command s k a).left
-admin-by-lies (Ok u) (Some command) s k a =
-    record { extents = (still s.world _ (command-becomes s.world (command_entry a) a.sent command)).extents.extents; size = omega arith }
-admin-by-lies j command s k a = lies-same s s refl
-
-admin-lies : (s : Site) (k : ℕ) (a : Asked) → StillLies s (admin_request_execution s k a).left
-unfolding admin_request_execution
-admin-lies s k a = admin-by-lies (admin_judgement s.world k a) (admin_commands.command_of (opcode (command_entry a))) s k a
-
 responds : (lane : Lane) (k : ℕ) (a : Asked) (marked : Bool) (s : Site) → IsLaidOut s.world s.device.content
     → Responds lane k a marked s (request_execution_as lane k a marked s)
-responds Admin k a marked s laid = record { comes_to = refl; lies = admin-lies s k a; calm = admin-calm s k a }
+responds Admin k a marked s laid =
+    let h = admin-leaves s k a in
+    record { comes_to = refl; lies = record { extents = h.reservations.extents.extents; size = omega (arith, ap (λ (d : Device). length d.content) h.device) }; calm = ap (λ (d : Device). d.failures) h.device }
 responds Io k a marked s laid =
     let r = io-responds (io_verdict s.world k a marked) k a marked s laid refl in
     record { comes_to = r.0; lies = r.1; calm = r.2 }
@@ -201,23 +199,16 @@ other-elsewhere f PowerCycle s h = absurd h
 pub other-site : (f : Fleet) (event : FleetEvent) → IsOther event → (fault_free_step f event).fleet.site ≡ f.site
 other-site f event h = ap (λ (m : Moment). m.fleet.site) (other-elsewhere f event f.site h)
 
-other-steps : (f : Fleet) (event : FleetEvent) → IsOther event → Step true f event (fault_free_step f event).reply (fault_free_step f event).fleet → Steps f event
-other-steps f event other step =
-    let e = other-site f event other in
-    record { step = step; lies = lies-same f.site (fault_free_step f event).fleet.site e; calm = ap (λ (s : Site). s.device.failures) e }
-
-cycled-lies : (f : Fleet) → StillLies f.site (power_cycled f).site
-unfolding power_cycled
-cycled-lies f = let places = cycle_keeps_places f.site.world in record { extents = places.extents; size = omega arith }
-
 cycled-steps : (f : Fleet) → Steps f PowerCycle
 unfolding power_cycled
-cycled-steps f = record { step = (refl, refl); lies = cycled-lies f; calm = refl }
+cycled-steps f = let places = cycle_keeps_places f.site.world in record { step = (refl, refl); lies = record { extents = places.extents; size = omega arith }; calm = refl }
 
 steps : (f : Fleet) (event : FleetEvent) → IsLaidOut f.site.world f.site.device.content → Steps f event
 steps f (Execute k i) laid = executes (host_at f k) f k i laid
 steps f PowerCycle laid = cycled-steps f
-steps f event laid = other-steps f event tt (refl, refl)
+steps f event laid =
+    let e = other-site f event tt in
+    record { step = (refl, refl); lies = lies-same f.site (fault_free_step f event).fleet.site e; calm = ap (λ (s : Site). s.device.failures) e }
 
 pub run_exists : RunExists
 run_exists old [] laid = (refl, refl)

@@ -22,13 +22,10 @@ unfolding host_at with_host
 own-set f k g h at = replaced-here f.hosts k g h at
 
 -- a host behind a power cycle
-cycled-numbered : (hs : List Host) (k : ℕ) → numbered (map host_cycled hs) k ≡ option_map host_cycled (numbered hs k)
-cycled-numbered hs zero = refl
-cycled-numbered hs (suc i) = slice_get-map host_cycled hs i
-
 pub cycled-at : (f : Fleet) (k : ℕ) → host_at (power_cycled f) k ≡ option_map host_cycled (host_at f k)
 unfolding host_at power_cycled
-cycled-at f k = cycled-numbered f.hosts k
+cycled-at f zero = refl
+cycled-at f (suc i) = slice_get-map host_cycled f.hosts i
 
 -- an event of another host
 

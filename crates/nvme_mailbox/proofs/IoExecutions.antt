@@ -6,16 +6,16 @@ use Rattle.nvme_spec.specs.IoData as spec
 use Rattle.nvme_event.specs.declared.seen.FleetSeen.TheVariants.{Executed as ExecutedSeen}
 use Rattle.nvme_mailbox.specs.IoCommands.{asked_in, command_at}
 use Rattle.nvme_mailbox.proofs.Sites.{Leaves, AsItWas, ByRequest, ByCommand, PowerLost, leaves}
+use Rattle.nvme_mailbox.proofs.Existing.{admin-leaves}
 
 -- An answer is what the rules say.
 
-pub site_left : Scene → Site
+abbrev pub site_left : Scene → Site
 site_left s = record { world = s.world; device = s.device }
 
 -- host memory plays no part in what a command does
 unseen : (tells : Bool) (command : Command) (k : ℕ) (e sent : List ℕ) (old new : Scene) (answer : Status) (returned : List ℕ) → Performs tells command k e sent old new answer returned
     → Performs tells command k e sent (scene_at (site_left old)) (scene_at (site_left new)) answer returned
-unfolding site_left
 unseen tells ReservationReport k e sent old new answer returned h = record { answered = h.answered; world = h.world; device = h.device; data_back = h.data_back }
 unseen tells ReservationRegister k e sent old new answer returned h = record { answered = h.answered; world = h.world; device = h.device; data_back = h.data_back }
 unseen tells ReservationAcquire k e sent old new answer returned h = record { answered = h.answered; world = h.world; device = h.device; data_back = h.data_back }
@@ -30,7 +30,6 @@ request-as (Allowed plan) tells k y s r h = record { returned = h.returned; effe
 command-as : (v : Verdict) (tells : Bool) (c : Controller) (t : FetchedCommand) (s : Site) (left : Scene) (outcome : Outcome)
     → ExecutesBy v tells c.cntlid t.entry (record { world = s.world; window = c.window; device = s.device }) left outcome
     → IsExecutedBy v tells c.cntlid (raw_command s.world c t) s outcome (site_left left)
-unfolding site_left
 command-as (Denied number why) tells c t s left outcome h = (h.1, ap site_left h.0)
 command-as (Allowed plan) tells c t s left outcome h = record {
   returned = h.returned;
@@ -42,7 +41,7 @@ command-as (Allowed plan) tells c t s left outcome h = record {
 
 -- The execution of one command.
 
-Does : Bool → Fleet → ℕ → IoCommand → Outcome → Fleet → Type 0
+abbrev Does : Bool → Fleet → ℕ → IoCommand → Outcome → Fleet → Type 0
 Does tells old k x outcome new = IsExecutedBy (verdict_on x) tells k x old.site outcome new.site
 
 same-outcome : (a b : Outcome) → plain (ExecutedSeen (Posted a)) ≡ plain (ExecutedSeen (Posted b)) → b ≡ a
@@ -52,7 +51,6 @@ posted-alone : (executed : Executed) (outcome : Outcome) → plain (ExecutedSeen
 posted-alone executed outcome h = let e = ap (λ (r : Reply). r.seen) h in cc
 
 moved : (tells : Bool) (old new : Fleet) (k : ℕ) (x y : IoCommand) (a b : Outcome) (left : Site) → y ≡ x → a ≡ b → new.site ≡ left → IsExecutedBy (verdict_on y) tells k y old.site a left → Does tells old k x b new
-unfolding Does
 moved tells old new k x y a b left same gives leaves h =
     subst (λ s. IsExecutedBy (verdict_on x) tells k x old.site b s) (sym leaves)
     (subst (λ o. IsExecutedBy (verdict_on x) tells k x old.site o left) gives (subst (λ z. IsExecutedBy (verdict_on z) tells k z old.site a left) same h))
@@ -77,7 +75,6 @@ is-io false x y h = (refl, same_Some _ _ h)
 
 over-does : (o : Option QueuePair) (tells : Bool) (old new : Fleet) (c : Controller) (i : ℕ) (t : FetchedCommand) (executed : Executed) (left : Setting) (x : IoCommand) (outcome : Outcome)
     → FinishesOver o tells i t (setting_of old c) executed left → executed ≡ Posted outcome → new.site ≡ site_of left → sent_by old.site.world c (Some t) ≡ Some x → Does tells old c.cntlid x outcome new
-unfolding site_left
 over-does None tells old new c i t executed left x outcome h posted leaves found = let e = sym h.0 ∙ posted in absurd cc
 over-does (Some p) tells old new c i t executed left x outcome h posted leaves found =
     let io = is-io (t.queue == 0) x (raw_command old.site.world c t) found in
@@ -95,21 +92,17 @@ one-does None tells old new c i executed left x outcome h posted leaves found = 
 one-does (Some t) tells old new c i executed left x outcome h posted leaves found =
     over-does (open_pair c t) tells old new c i t executed left x outcome h posted leaves found
 
-raw-does : (tells : Bool) (old new : Fleet) (k : ℕ) (c : Controller) (i : ℕ) (x : IoCommand) (outcome : Outcome)
-    → ExecutesRaw tells old k c i (plain (ExecutedSeen (Posted outcome))) new → sent_by old.site.world c (slice_get c.fetched i) ≡ Some x → Does tells old c.cntlid x outcome new
-unfolding settled
-raw-does tells old new k c i x outcome h found =
-    one-does (slice_get c.fetched i) tells old new c i h.executed h.left x outcome h.executes (posted-alone h.executed outcome h.gives) (ap (λ (f : Fleet). f.site) h.leaves) found
-
 executes-does : (o : Option Host) (tells : Bool) (old new : Fleet) (k i : ℕ) (x : IoCommand) (outcome : Outcome) → AreNumbered old → host_at old k ≡ o
     → ExecutesAt o tells old k i (plain (ExecutedSeen (Posted outcome))) new → command_in o old.site.world k i ≡ Some x → Does tells old k x outcome new
+unfolding settled
 executes-does None tells old new k i x outcome all at h found = absurd (none-some _ found)
 executes-does (Some (WithDriver m)) tells old new k i x outcome all at h found = item-does (slice_get m.fetched i) tells old new k m i x outcome h found
 executes-does (Some (Raw c)) tells old new k i x outcome all at h found =
-    subst (λ n. Does tells old n x outcome new) (all k (Raw c) at) (raw-does tells old new k c i x outcome h found)
+    subst (λ n. Does tells old n x outcome new) (all k (Raw c) at)
+    (one-does (slice_get c.fetched i) tells old new c i h.executed h.left x outcome h.executes (posted-alone h.executed outcome h.gives) (ap (λ (f : Fleet). f.site) h.leaves) found)
 
 pub executed_as_the_policy_allows : ExecutedAsThePolicyAllows
-unfolding command_at Does
+unfolding command_at
 executed_as_the_policy_allows tells old new k i x outcome all step found = executes-does (host_at old k) tells old new k i x outcome all refl step found
 
 -- What it leaves of the reservations: they stay, or a reservation command that all rules let pass has acted on its own.
@@ -141,24 +134,6 @@ pub data Acts (old new : Fleet) (event : FleetEvent) : Type 0 where
   Reserves : (k i number : ℕ) → event ≡ Execute k i → (x : IoCommand) → command_at old k i ≡ Some x → (AreNumbered old → number ≡ k) → ActsOn number x old.site.world new.site.world → Acts old new event
   Loses : event ≡ PowerCycle → new.site.world ≡ cycled_world old.site.world → Acts old new event
 
-request-at : (f : Fleet) (k i : ℕ) (m : Mailbox) (x : FetchedItem) → host_at f k ≡ Some (WithDriver m) → slice_get m.fetched i ≡ Some x
-    → command_at f k i ≡ asked_in (lane_of x.item) f.site.world k x
-unfolding command_at
-request-at f k i m x at found = ap (λ o. command_in o f.site.world k i) at ∙ ap (λ o. asked_by f.site.world k o) found
-
-raw-at : (f : Fleet) (k i : ℕ) (c : Controller) (t : FetchedCommand) → host_at f k ≡ Some (Raw c) → slice_get c.fetched i ≡ Some t
-    → command_at f k i ≡ sent_by f.site.world c (Some t)
-unfolding command_at
-raw-at f k i c t at found = ap (λ o. command_in o f.site.world k i) at ∙ ap (λ o. sent_by f.site.world c o) found
-
-admin-by : (j : Judgement) (command : Option AdminCommand) (s : Site) (k : ℕ) (a : Asked) → HasSameReservations s.world (admin_request_execution_by j command s k a).left.world
-admin-by (Ok u) (Some command) s k a = still s.world _ (command-becomes s.world (command_entry a) a.sent command)
-admin-by j command s k a = same-reservations s.world s.world refl
-
-admin-left : (s : Site) (k : ℕ) (a : Asked) → HasSameReservations s.world (admin_request_execution s k a).left.world
-unfolding admin_request_execution
-admin-left s k a = admin-by (admin_judgement s.world k a) (admin_commands.command_of (opcode (command_entry a))) s k a
-
 rests : (old new : Fleet) (event : FleetEvent) (left : World) → new.site.world ≡ left → HasSameReservations old.site.world left → Acts old new event
 rests old new event left leaves h = Rests (subst (HasSameReservations old.site.world) (sym leaves) h)
 
@@ -171,7 +146,7 @@ reserves old new event k i number x left is found numbered leaves (inr h) =
 by-lane : (lane : Lane) (tells : Bool) (old new : Fleet) (event : FleetEvent) (k i : ℕ) (y : FetchedItem) (r : RequestExecution) → event ≡ Execute k i → command_at old k i ≡ asked_in lane old.site.world k y
     → RequestComesToAs lane tells k y.item.asked y.marked old.site r → new.site ≡ r.left → Acts old new event
 by-lane Admin tells old new event k i y r is found h leaves =
-    rests old new event r.left.world (ap (λ (s : Site). s.world) leaves) (subst (λ (z : RequestExecution). HasSameReservations old.site.world z.left.world) (sym h) (admin-left old.site k y.item.asked))
+    rests old new event r.left.world (ap (λ (s : Site). s.world) leaves) (subst (λ (z : RequestExecution). HasSameReservations old.site.world z.left.world) (sym h) (admin-leaves old.site k y.item.asked).reservations)
 by-lane Io tells old new event k i y r is found h leaves =
     let x : IoCommand = asked_command old.site.world k y in
     reserves old new event k i k x r.left.world is found (λ all. refl) (ap (λ (s : Site). s.world) leaves)
@@ -180,7 +155,6 @@ by-lane Io tells old new event k i y r is found h leaves =
 by-queue : (admin : Bool) (tells : Bool) (old new : Fleet) (event : FleetEvent) (k i : ℕ) (c : Controller) (t : FetchedCommand) (a : CommandExecution) → event ≡ Execute k i
     → command_at old k i ≡ (if admin then None else Some (raw_command old.site.world c t)) → host_at old k ≡ Some (Raw c)
     → CommandComesToAs admin tells (queues_of c) c.cntlid t (scene_in (setting_of old c)) a → new.site ≡ record { world = a.left.world; device = a.left.device } → Acts old new event
-unfolding site_left
 by-queue true tells old new event k i c t a is found at h leaves =
     rests old new event a.left.world (ap (λ (s : Site). s.world) leaves)
     (subst (λ (z : CommandExecution). HasSameReservations old.site.world z.left.world) (sym h) (let r = admin-keeps old.site.world (queues_of c) c.cntlid c.window t.entry in r))
@@ -190,8 +164,8 @@ by-queue false tells old new event k i c t a is found at h leaves =
     (world-left (verdict_on x) tells c.cntlid x old.site (site_left a.left) a.outcome refl (command-as (verdict_on x) tells c t old.site a.left a.outcome h.1))
 
 pub acts : (tells : Bool) (old new : Fleet) (event : FleetEvent) → Leaves tells old new event → Acts old new event
-unfolding RequestComesTo CommandComesTo
+unfolding RequestComesTo CommandComesTo command_at
 acts tells old new event (AsItWas e) = Rests (same-reservations old.site.world new.site.world (ap (λ (s : Site). s.world) e))
-acts tells old new event (ByRequest k i is m y r at found h leaves) = by-lane (lane_of y.item) tells old new event k i y r is (request-at old k i m y at found) h leaves
-acts tells old new event (ByCommand k i is c t a at found h leaves) = by-queue (t.queue == 0) tells old new event k i c t a is (raw-at old k i c t at found) at h leaves
+acts tells old new event (ByRequest k i is m y r at found h leaves) = by-lane (lane_of y.item) tells old new event k i y r is (ap (λ o. command_in o old.site.world k i) at ∙ ap (λ o. asked_by old.site.world k o) found) h leaves
+acts tells old new event (ByCommand k i is c t a at found h leaves) = by-queue (t.queue == 0) tells old new event k i c t a is (ap (λ o. command_in o old.site.world k i) at ∙ ap (λ o. sent_by old.site.world c o) found) at h leaves
 acts tells old new event (PowerLost is e) = Loses is (ap (λ (s : Site). s.world) e)

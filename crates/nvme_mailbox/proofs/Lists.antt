@@ -41,3 +41,9 @@ pub got-back : {A : Type 0} (xs : List A) (i : ℕ) (x : A) → slice_get xs i �
 got-back [] i x at = absurd (cc)
 got-back (y ∷ xs) zero x at = ap (λ z. z ∷ xs) (sym (same_Some y x at))
 got-back (y ∷ xs) (suc i) x at = ap (λ ys. y ∷ ys) (got-back xs i x at)
+
+-- what stands in a list that was mapped
+pub from-map : {A B : Type 0} (f : A → B) (xs : List A) (i : ℕ) (y : B) → slice_get (map f xs) i ≡ Some y → (x : A) × (slice_get xs i ≡ Some x) × (y ≡ f x)
+from-map f [] i y h = absurd (cc)
+from-map f (x ∷ xs) zero y h = (x, refl, sym (same_Some _ _ h))
+from-map f (x ∷ xs) (suc i) y h = from-map f xs i y h

@@ -38,30 +38,22 @@ record IsJudged (w : World) (k : ℕ) (x : IoCommand) : Type 0 where
   later : List Rule
   by_all : x.judgement ≡ first_failing (access_rules w k x.entry x.marked ++ later)
 
-asked-judged : (w : World) (k : ℕ) (y : FetchedItem) → IsJudged w k (asked_command w k y)
-unfolding io_judgement
-asked-judged w k y = record { later = spec.action_rule (action_of w k y.item.asked) ∷ []; by_all = refl }
-
-raw-judged : (w : World) (c : Controller) (t : FetchedCommand) → IsJudged w c.cntlid (raw_command w c t)
-unfolding spec.io_judgement
-raw-judged w c t = record {
-  later = pointer_rule (data_length_of (command_of (opcode t.entry)) t.entry) c.window t.entry
-      ∷ spec.action_rule (spec.reservation_outcome w c.cntlid t.entry (spec.data_of c.window t.entry)) ∷ [];
-  by_all = refl;
-}
-
 in-lane : (lane : Lane) (w : World) (k : ℕ) (y : FetchedItem) (x : IoCommand) → asked_in lane w k y ≡ Some x → IsJudged w k x
+unfolding io_judgement
 in-lane Admin w k y x found = absurd (none-some _ found)
-in-lane Io w k y x found = subst (IsJudged w k) (same_Some _ _ found) (asked-judged w k y)
+in-lane Io w k y x found = subst (IsJudged w k) (same_Some _ _ found) (record { later = spec.action_rule (action_of w k y.item.asked) ∷ []; by_all = refl })
 
 by-item : (o : Option FetchedItem) (w : World) (k : ℕ) (x : IoCommand) → asked_by w k o ≡ Some x → IsJudged w k x
 by-item None w k x found = absurd (none-some _ found)
 by-item (Some y) w k x found = in-lane (lane_of y.item) w k y x found
 
 by-raw : (o : Option FetchedCommand) (w : World) (k : ℕ) (c : Controller) (x : IoCommand) → c.cntlid ≡ k → sent_by w c o ≡ Some x → IsJudged w k x
+unfolding spec.io_judgement
 by-raw None w k c x is found = absurd (none-some _ found)
 by-raw (Some t) w k c x is found =
-    subst (λ n. IsJudged w n x) is (subst (IsJudged w c.cntlid) (is-io (t.queue == 0) x (raw_command w c t) found).1 (raw-judged w c t))
+    let io = is-io (t.queue == 0) x (raw_command w c t) found in
+    let later : List Rule = pointer_rule (data_length_of (command_of (opcode t.entry)) t.entry) c.window t.entry ∷ spec.action_rule (spec.reservation_outcome w c.cntlid t.entry (spec.data_of c.window t.entry)) ∷ [] in
+    subst (λ n. IsJudged w n x) is (subst (IsJudged w c.cntlid) io.1 (record { later = later; by_all = refl }))
 
 judged : (o : Option Host) (f : Fleet) (k i : ℕ) (x : IoCommand) → AreNumbered f → host_at f k ≡ o → command_in o f.site.world k i ≡ Some x → IsJudged f.site.world k x
 judged None f k i x all at found = absurd (none-some _ found)

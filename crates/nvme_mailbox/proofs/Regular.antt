@@ -6,7 +6,7 @@ use Rattle.nvme_spec.specs.AdminCommands as admin_commands
 use Rattle.nvme_spec.proofs.Openings.{opening_is_laid_out}
 use Rattle.nvme_driver.specs.declared.request.Request.TheVariants as request
 use Rattle.nvme_driver.proofs.Moving.{whole}
-use Rattle.nvme_mailbox.proofs.Existing.{allowed-passes, lies-still}
+use Rattle.nvme_mailbox.proofs.Existing.{admin-leaves, allowed-passes, lies-still}
 use Rattle.nvme_mailbox.proofs.Fenced.{extents-stay, step-acts}
 use Rattle.nvme_mailbox.proofs.Numbered as numbered
 use Rattle.nvme_mailbox.proofs.Sites.{AsItWas, ByCommand, ByRequest, Leaves, PowerLost, leaves}
@@ -56,14 +56,6 @@ taken-brings i h = subst BringsItsOwn (sym h.2) (brings-own h.0 h.1)
 abbrev SameSize : Site → Site → Type 0
 SameSize old new = length new.device.content ≡ length old.device.content
 
-admin-by-device : (j : Judgement) (command : Option AdminCommand) (s : Site) (k : ℕ) (a : Asked) → (admin_request_execution_by j command s k a).left.device ≡ s.device
-admin-by-device (Ok u) (Some command) s k a = refl
-admin-by-device j command s k a = refl
-
-pub admin-device : (s : Site) (k : ℕ) (a : Asked) → (admin_request_execution s k a).left.device ≡ s.device
-unfolding admin_request_execution
-admin-device s k a = admin-by-device (admin_judgement s.world k a) (admin_commands.command_of (opcode (command_entry a))) s k a
-
 io-size : (v : Verdict) (k : ℕ) (a : Asked) (marked : Bool) (s : Site) (r : RequestExecution) → io_verdict s.world k a marked ≡ v → IsLaidOut s.world s.device.content → BringsItsOwn a → IoRequestComesTo v true k a s r → SameSize s r.left
 io-size (Denied number why) k a marked s r is laid brings h = ap (λ (x : RequestExecution). length x.left.device.content) h
 io-size (Allowed plan) k a marked s r is laid brings h =
@@ -71,7 +63,7 @@ io-size (Allowed plan) k a marked s r is laid brings h =
     performed-size (scene_at s) k (command_entry a) a.sent plan.kind (scene_at r.left) r.outcome.status h.returned laid p (brings plan.kind p.named) h.effect
 
 lane-size : (lane : Lane) (k : ℕ) (a : Asked) (marked : Bool) (s : Site) (r : RequestExecution) → IsLaidOut s.world s.device.content → BringsItsOwn a → RequestComesToAs lane true k a marked s r → SameSize s r.left
-lane-size Admin k a marked s r laid brings h = ap (λ (x : RequestExecution). length x.left.device.content) h ∙ ap (λ (d : Device). length d.content) (admin-device s k a)
+lane-size Admin k a marked s r laid brings h = ap (λ (x : RequestExecution). length x.left.device.content) h ∙ ap (λ (d : Device). length d.content) (admin-leaves s k a).device
 lane-size Io k a marked s r laid brings h = io-size (io_verdict s.world k a marked) k a marked s r refl laid brings h
 
 size-left : (old new : Fleet) (event : FleetEvent) → IsRegular old → Leaves true old new event → SameSize old.site new.site

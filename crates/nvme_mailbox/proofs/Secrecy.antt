@@ -5,9 +5,9 @@ use Rattle.nvme_spec.specs.AdminCommands as admin_commands
 use Rattle.nvme_mailbox.specs.IoCommands.{command_at}
 use Rattle.nvme_mailbox.specs.Secrecy.{over}
 use Rattle.nvme_mailbox.proofs.Determined.{run_is_unique}
-use Rattle.nvme_mailbox.proofs.Existing.{IsOther, allowed-passes, other-elsewhere, other-site}
+use Rattle.nvme_mailbox.proofs.Existing.{admin-leaves, IsOther, allowed-passes, other-elsewhere, other-site}
 use Rattle.nvme_mailbox.proofs.Fenced.{extents-stay, plainly, reading-stays, step-acts}
-use Rattle.nvme_mailbox.proofs.Regular.{BringsItsOwn, admin-device, step-regular, taken-brings}
+use Rattle.nvme_mailbox.proofs.Regular.{BringsItsOwn, step-regular, taken-brings}
 use Rattle.nvme_mailbox.proofs.Taken.{at-place}
 
 -- what holds of the hosts of events in one world holds of them in the next
@@ -49,7 +49,7 @@ lane-over : (lane : Lane) (n k : ℕ) (a : Asked) (marked : Bool) (s : Site) (r 
     → may_read s.world k n ≡ false → BringsItsOwn a → RequestComesToAs lane true k a marked s r
     → Mirrors n s.world r.left.device (λ x. RequestComesToAs lane true k a marked (site_over d s) (request_execution_over x r))
 lane-over Admin n k a marked s r d laid differ fenced brings h =
-    (d, ap (request_execution_over d) h ∙ admin-over s k a d, same-device n s.world s.device r.left.device d differ (ap (λ (x : RequestExecution). x.left.device) h ∙ admin-device s k a))
+    (d, ap (request_execution_over d) h ∙ admin-over s k a d, same-device n s.world s.device r.left.device d differ (ap (λ (x : RequestExecution). x.left.device) h ∙ (admin-leaves s k a).device))
 lane-over Io n k a marked s r d laid differ fenced brings h = io-over (io_verdict s.world k a marked) n k a marked s r d refl laid differ fenced brings h
 
 -- Events that do not reach the medium.

@@ -1,12 +1,13 @@
 -- Tickets are given in order, and go once.
 use Rattle.nvme_mailbox.proofs.Words.{◌≡◌, inl, inr, ℕ, zero, suc, ◌+◌, ◌≤◌, Bool, true, false, List, [], ◌∷◌, ◌++◌, map, Some, refl, sym, ap, subst, ◌∙◌, arith, if◌then◌else◌, slice_get, slice_get-map, option_map, common_steps, length-map, ControllerConfig, new_controller, Lane, Admin, Io, FleetEvent, Reply, concerns, LaneBox, Mailbox, with_box, lane_of, new_mailbox, Site, WithDriver, Raw, Fleet, Run, host_at, after_answer, new_host, numbered, opening, HasMailbox, MailboxStep, given_in, given, done, aborted, along, held_tickets, waiting_tickets, answered_tickets, Balance, counting, TicketsAreConsecutive, is_ticket, times, below, GoesOnce, EachTicketGoesOnce, EachIsHeldOnce, NewHoldsEachOnce, OpeningHasDrivers, OpeningIsNew, TicketsOfAnOpeningGoOnce, HeldAreCounted, waiting, posted_answers}
-use Rattle.std.proofs.lemmas.List.{length-append}
 use Rattle.nvme_mailbox.proofs.MailboxMarks.{DiffersInMarks, others-differ}
 use Rattle.nvme_mailbox.proofs.Moves.{Move, Stay, Rise, Take, RingBoth, FetchFirst, HandUp, Free, Clear, Answer, May, moved, reply_of, own-moved}
 use Rattle.nvme_mailbox.specs.Tickets.{executed}
 use Rattle.nvme_mailbox.proofs.Totals.{total-append}
 use Rattle.nvme_mailbox.proofs.Apart.{hosts_are_apart}
 use Rattle.nvme_mailbox.proofs.TicketRuns.{one-host, one-mailbox, drivers_stay, tickets_balance}
+use Rattle.nvme_mailbox.proofs.Lists.{from-map}
+use Rattle.std.proofs.lemmas.List.{length-append}
 
 -- The next tickets.
 
@@ -131,18 +132,10 @@ opened : (k : ControllerConfig) (b : Bool) (m : Mailbox) → Some (if b then Raw
 opened k true m h = absurd (cc)
 opened k false m h = sym (one-host (new_mailbox 1) m h)
 
-opened-at : (xs : List ControllerConfig) (i : ℕ) (m : Mailbox) → slice_get (map new_host xs) i ≡ Some (WithDriver m) → m ≡ new_mailbox 1
-opened-at [] i m h = absurd (cc)
-opened-at (x ∷ xs) zero m h = opened x x.raw m h
-opened-at (x ∷ xs) (suc i) m h = opened-at xs i m h
-
-opened-numbered : (xs : List ControllerConfig) (k : ℕ) (m : Mailbox) → numbered (map new_host xs) k ≡ Some (WithDriver m) → m ≡ new_mailbox 1
-opened-numbered xs zero m h = absurd (cc)
-opened-numbered xs (suc i) m h = opened-at xs i m h
-
 pub opening_is_new : OpeningIsNew
 unfolding host_at opening
-opening_is_new c d k m h = opened-numbered c.controllers k m h
+opening_is_new c d zero m h = absurd (cc)
+opening_is_new c d (suc i) m h = let k = from-map new_host c.controllers i (WithDriver m) h in opened k.0 k.0.raw m (ap Some (sym k.2))
 
 new-driver : (k : ControllerConfig) (b : Bool) → b ≡ false → (if b then Raw (new_controller k.cntlid) else WithDriver (new_mailbox 1)) ≡ WithDriver (new_mailbox 1)
 new-driver k true h = absurd (cc)
