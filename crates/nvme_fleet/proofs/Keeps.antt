@@ -9,12 +9,6 @@ pub record Keeps (w w' : List ℕ) (p m : ℕ) : Type 0 where
   pub commands : (k : ℕ) → k < 8 → eqb k p ≡ false → command_at w' k ≡ command_at w k
   pub completions : (n : ℕ) → eqb (n % 32) m ≡ false → completion_bytes w' n ≡ completion_bytes w n
 
-apart-entries : (k p n : ℕ) → eqb k p ≡ false → n ≤ 64 → (64 * k + 64 ≤ 64 * p) ⊎ (64 * p + n ≤ 64 * k)
-apart-entries k p n q h = elim (cases_lt k p) [ inl l ↦ inl (omega (arith, l)) | inr g ↦ inr (let e = eqb-false k p q in omega (arith, g, e, h)) ]
-
-apart-16 : (base k s : ℕ) → eqb k s ≡ false → (base + 16 * k + 16 ≤ base + 16 * s) ⊎ (base + 16 * s + 16 ≤ base + 16 * k)
-apart-16 base k s q = elim (cases_lt k s) [ inl l ↦ inl (omega (arith, l)) | inr g ↦ inr (let e = eqb-false k s q in omega (arith, g, e)) ]
-
 -- a new submission entry
 pub record Enters (w w' : List ℕ) (p : ℕ) (entry : List ℕ) : Type 0 where
   pub keeps : Keeps w w' p 32
@@ -27,8 +21,8 @@ enters w entry p l h b =
       keeps =
           record {
             size = length-with_bytes w (64 * p) entry i;
-            commands = λ k g q. stored-apart w entry (64 * p) (64 * k) 64 i (apart-entries k p (length entry) q (omega (arith, b)));
-            completions = λ n q. stored-apart w entry (64 * p) (4096 + 16 * (n % 32)) 16 i (inr (omega (arith, h, b)));
+            commands = λ k g q. stored-apart w entry (64 * p) (64 * k) 64 i (omega (arith, b, eqb-false k p q));
+            completions = λ n q. stored-apart w entry (64 * p) (4096 + 16 * (n % 32)) 16 i (omega (arith, h, b));
           };
       last = subst (λ n. take n (drop (64 * p) (with_bytes w (64 * p) entry)) ≡ entry) b (stored-in w entry (64 * p) (omega (arith, l, h)));
     }
@@ -45,8 +39,8 @@ answered w entry m l h b =
       keeps =
           record {
             size = length-with_bytes w (4096 + 16 * m) entry i;
-            commands = λ k g q. stored-apart w entry (4096 + 16 * m) (64 * k) 64 i (inl (omega (arith, g)));
-            completions = λ n q. stored-apart w entry (4096 + 16 * m) (4096 + 16 * (n % 32)) 16 i (subst (λ x. (4096 + 16 * (n % 32) + 16 ≤ 4096 + 16 * m) ⊎ (4096 + 16 * m + x ≤ 4096 + 16 * (n % 32))) (sym b) (apart-16 4096 (n % 32) m q));
+            commands = λ k g q. stored-apart w entry (4096 + 16 * m) (64 * k) 64 i (omega (arith, g));
+            completions = λ n q. stored-apart w entry (4096 + 16 * m) (4096 + 16 * (n % 32)) 16 i (omega (arith, b, eqb-false (n % 32) m q));
           };
       last = subst (λ n. take n (drop (4096 + 16 * m) (with_bytes w (4096 + 16 * m) entry)) ≡ entry) b (stored-in w entry (4096 + 16 * m) (omega (arith, l, h)));
     }

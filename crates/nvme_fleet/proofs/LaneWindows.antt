@@ -32,11 +32,11 @@ pub record Same (w w' : List ℕ) (k : ℕ) : Type 0 where
 pub same-both : (w v u : List ℕ) (k : ℕ) → Same w v k → Same v u k → Same w u k
 same-both w v u k a b = record { areas = b.areas ∙ a.areas; lists = b.lists ∙ a.lists }
 
-area-apart : (w bytes : List ℕ) (at k : ℕ) → at + length bytes ≤ length w → (data_area k + most_bytes ≤ at) ⊎ (at + length bytes ≤ data_area k) → area (with_bytes w at bytes) k ≡ area w k
+area-apart : (w bytes : List ℕ) (at k : ℕ) → at + length bytes ≤ length w → (at < data_area k + most_bytes → at + length bytes ≤ data_area k) → area (with_bytes w at bytes) k ≡ area w k
 unfolding area
 area-apart w bytes at k i h = stored-apart w bytes at (data_area k) most_bytes i h
 
-list-apart : (w bytes : List ℕ) (at k : ℕ) → at + length bytes ≤ length w → (list_page k + 4096 ≤ at) ⊎ (at + length bytes ≤ list_page k) → listed (with_bytes w at bytes) k ≡ listed w k
+list-apart : (w bytes : List ℕ) (at k : ℕ) → at + length bytes ≤ length w → (at < list_page k + 4096 → at + length bytes ≤ list_page k) → listed (with_bytes w at bytes) k ≡ listed w k
 unfolding listed
 list-apart w bytes at k i h = stored-apart w bytes at (list_page k) 4096 i h
 
@@ -44,21 +44,15 @@ pub queue-low : (lane : Lane) → submission_queue lane ≤ 8192
 queue-low Admin = omega arith
 queue-low Io = omega arith
 
-pages-apart : (lane : Lane) (w bytes : List ℕ) (at : ℕ) → at + length bytes ≤ length w → (submission_queue lane + 8192 ≤ at) ⊎ (at + length bytes ≤ submission_queue lane) → pages_of lane (with_bytes w at bytes) ≡ pages_of lane w
+pages-apart : (lane : Lane) (w bytes : List ℕ) (at : ℕ) → at + length bytes ≤ length w → (at < submission_queue lane + 8192 → at + length bytes ≤ submission_queue lane) → pages_of lane (with_bytes w at bytes) ≡ pages_of lane w
 unfolding pages_of
 pages-apart lane w bytes at i h = stored-apart w bytes at (submission_queue lane) 8192 i h
 
-apart-data : (base k s n : ℕ) → eqb k s ≡ false → n ≤ most_bytes → (base + most_bytes * k + most_bytes ≤ base + most_bytes * s) ⊎ (base + most_bytes * s + n ≤ base + most_bytes * k)
-apart-data base k s n q h = elim (cases_lt k s) [ inl l ↦ inl (omega (arith, l)) | inr g ↦ inr (let e = eqb-false k s q in omega (arith, g, e, h)) ]
-
-apart-list : (base k s n : ℕ) → eqb k s ≡ false → n ≤ 4096 → (base + 4096 * k + 4096 ≤ base + 4096 * s) ⊎ (base + 4096 * s + n ≤ base + 4096 * k)
-apart-list base k s n q h = elim (cases_lt k s) [ inl l ↦ inl (omega (arith, l)) | inr g ↦ inr (let e = eqb-false k s q in omega (arith, g, e, h)) ]
-
 pub lists-data : (w bytes : List ℕ) (s : ℕ) → length w ≡ 4194304 → s < 24 → length bytes ≤ most_bytes → listed (with_bytes w (data_area s) bytes) s ≡ listed w s
-lists-data w bytes s l h b = list-apart w bytes (data_area s) s (omega (arith, l, h, b)) (inl (omega (arith, h)))
+lists-data w bytes s l h b = list-apart w bytes (data_area s) s (omega (arith, l, h, b)) (omega (arith, h))
 
 pub areas-list : (w bytes : List ℕ) (s : ℕ) → length w ≡ 4194304 → s < 24 → length bytes ≤ 4096 → area (with_bytes w (list_page s) bytes) s ≡ area w s
-areas-list w bytes s l h b = area-apart w bytes (list_page s) s (omega (arith, l, h, b)) (inr (omega (arith, h, b)))
+areas-list w bytes s l h b = area-apart w bytes (list_page s) s (omega (arith, l, h, b)) (omega (arith, h, b))
 
 page-here : (b n : ℕ) (w bytes : List ℕ) (at : ℕ) → at + length bytes ≤ n → b + n ≤ length w → take n (drop b (with_bytes w (b + at) bytes)) ≡ with_bytes (take n (drop b w)) at bytes
 page-here b n w bytes at within fits = same_lists _ _ (search (rules, places)) (λ k d h. grind (arith, places))
@@ -68,14 +62,14 @@ unfolding pages_of
 here-of lane w bytes at p q = page-here (submission_queue lane) 8192 w bytes at p q
 
 there-of : (lane : Lane) (w bytes : List ℕ) (at : ℕ) → at + length bytes ≤ 8192 → length w ≡ 4194304 → pages_of (other lane) (with_bytes w (submission_queue lane + at) bytes) ≡ pages_of (other lane) w
-there-of Admin w bytes at p q = pages-apart Io w bytes (0 + at) (omega (arith, p, q)) (inr (omega (arith, p)))
-there-of Io w bytes at p q = pages-apart Admin w bytes (8192 + at) (omega (arith, p, q)) (inl (omega arith))
+there-of Admin w bytes at p q = pages-apart Io w bytes (0 + at) (omega (arith, p, q)) (omega (arith, p))
+there-of Io w bytes at p q = pages-apart Admin w bytes (8192 + at) (omega (arith, p, q)) (omega arith)
 
 -- a store in a lane's pages leaves each slot
 pub slot-apart : (lane : Lane) (w bytes : List ℕ) (at k : ℕ) → length w ≡ 4194304 → at + length bytes ≤ 8192 → k < 24 → Same w (with_bytes w (submission_queue lane + at) bytes) k
 slot-apart lane w bytes at k l p g =
     let i : submission_queue lane + at + length bytes ≤ length w = omega (arith, queue-low lane, l, p) in
-    record { areas = area-apart w bytes (submission_queue lane + at) k i (inr (omega (arith, queue-low lane, p))); lists = list-apart w bytes (submission_queue lane + at) k i (inr (omega (arith, queue-low lane, p))) }
+    record { areas = area-apart w bytes (submission_queue lane + at) k i (omega (arith, queue-low lane, p)); lists = list-apart w bytes (submission_queue lane + at) k i (omega (arith, queue-low lane, p)) }
 
 -- What stores leave of a window: all slots but one, and each lane's pages as this makes them.
 pub record Stored (w w' : List ℕ) (s : ℕ) (f : Lane → List ℕ → List ℕ) : Type 0 where
@@ -92,8 +86,8 @@ data-stored w v s f bytes m h b =
     let i : data_area s + length bytes ≤ length v = omega (arith, m.size, h, b) in
     record {
       size = length-with_bytes v (data_area s) bytes i ∙ m.size;
-      slots = λ k g q. same-both w v _ k (m.slots k g q) (record { areas = area-apart v bytes (data_area s) k i (apart-data 1048576 k s (length bytes) q b); lists = list-apart v bytes (data_area s) k i (inl (omega (arith, g))) });
-      pages = λ lane. pages-apart lane v bytes (data_area s) i (inl (omega (arith, queue-low lane))) ∙ m.pages lane;
+      slots = λ k g q. same-both w v _ k (m.slots k g q) (record { areas = area-apart v bytes (data_area s) k i (omega (arith, b, eqb-false k s q)); lists = list-apart v bytes (data_area s) k i (omega (arith, g)) });
+      pages = λ lane. pages-apart lane v bytes (data_area s) i (omega (arith, queue-low lane)) ∙ m.pages lane;
     }
 
 pub list-stored : (w v : List ℕ) (s : ℕ) (f : Lane → List ℕ → List ℕ) (bytes : List ℕ) → Stored w v s f → s < 24 → length bytes ≤ 4096 → Stored w (with_bytes v (list_page s) bytes) s f
@@ -101,8 +95,8 @@ list-stored w v s f bytes m h b =
     let i : list_page s + length bytes ≤ length v = omega (arith, m.size, h, b) in
     record {
       size = length-with_bytes v (list_page s) bytes i ∙ m.size;
-      slots = λ k g q. same-both w v _ k (m.slots k g q) (record { areas = area-apart v bytes (list_page s) k i (inr (omega (arith, h, b))); lists = list-apart v bytes (list_page s) k i (apart-list 65536 k s (length bytes) q b) });
-      pages = λ lane. pages-apart lane v bytes (list_page s) i (inl (omega (arith, queue-low lane))) ∙ m.pages lane;
+      slots = λ k g q. same-both w v _ k (m.slots k g q) (record { areas = area-apart v bytes (list_page s) k i (omega (arith, h, b)); lists = list-apart v bytes (list_page s) k i (omega (arith, b, eqb-false k s q)) });
+      pages = λ lane. pages-apart lane v bytes (list_page s) i (omega (arith, queue-low lane)) ∙ m.pages lane;
     }
 
 pub page-stored : (lane : Lane) (w v : List ℕ) (s : ℕ) (f : Lane → List ℕ → List ℕ) (bytes : List ℕ) (at : ℕ) → Stored w v s f → at + length bytes ≤ 8192 →
