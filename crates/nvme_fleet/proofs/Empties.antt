@@ -1,5 +1,5 @@
 -- A slot that no live request holds may be emptied: the lane holds as before, and its mailbox is the same.
-use Rattle.nvme_fleet.proofs.Words.{◌≡◌, ℕ, ◌<◌, ◌≤◌, List, [], ◌∷◌, length, refl, ap, sym, subst, ◌∙◌, arith, zero, suc, inl, inr, slice_set, length-set, cases_Bool, State, Slot, empty, off, in_flight, commands, commands_of, live_at, live_in, total, AgeIn, Carried, Running, Resting, Holds, Host}
+use Rattle.nvme_fleet.proofs.Words.{◌≡◌, ℕ, ◌<◌, ◌≤◌, List, [], ◌∷◌, length, refl, ap, sym, subst, ◌∙◌, arith, zero, suc, inl, inr, slice_set, length-set, cases_Bool, State, Slot, empty, off, in_flight, commands, commands_of, live_at, live_in, total, AgeIn, Carried, Running, Resting, Holds, Host, Suited}
 use Rattle.nvme_fleet.proofs.Totals.{each-all}
 use Rattle.nvme_fleet.proofs.Slots.{bare-odd}
 use Rattle.nvme_fleet.proofs.Queues.{Bare, bare-all}
@@ -16,35 +16,17 @@ total-kept (x ∷ xs) (suc i) l = omega (arith, total-kept xs i l)
 
 pub emptied-running : (d : Host) (c : State) (i : ℕ) → live_at d.slots i ≡ 0 → Running d c → Running (emptied d i) c
 emptied-running d c i l s =
-    record {
-      ready = s.ready;
-      window = s.window;
-      slots = length-set d.slots i empty ∙ s.slots;
-      put = s.put;
-      fetched = s.fetched;
-      consumed = s.consumed;
-      posted = s.posted;
-      waiting = s.waiting;
-      unheard = s.unheard;
-      room = s.room;
-      of_lane = s.of_lane;
-      phases = s.phases;
-      carried = λ k. s.carried k ∙ sym (each-all (λ k (o : Slot). live_in o ≡ live_at d.slots k) d.slots i empty (sym l) (λ k. refl) k);
-      held = s.held ∙ sym (total-kept d.slots i l);
-      suited = bare-odd d c i empty (bare d c i s l) ∙ s.suited;
-    }
+    let slots = length-set d.slots i empty ∙ s.slots in
+    let carried : Carried (emptied d i) c = λ k. s.carried k ∙ sym (each-all (λ k (o : Slot). live_in o ≡ live_at d.slots k) d.slots i empty (sym l) (λ k. refl) k) in
+    let held = s.held ∙ sym (total-kept d.slots i l) in
+    let suited : Suited (emptied d i) c = bare-odd d c i empty (bare d c i s l) ∙ s.suited in
+    search (s.phases, carried)
 
 pub emptied-resting : (d : Host) (c : State) (i : ℕ) → live_at d.slots i ≡ 0 → Resting d c → Resting (emptied d i) c
 emptied-resting d c i l s =
-    record {
-      window = s.window;
-      slots = length-set d.slots i empty ∙ s.slots;
-      put = s.put;
-      unheard = s.unheard;
-      consumed = s.consumed;
-      off = s.off;
-      idle = each-all (λ k (o : Slot). live_in o ≡ 0) d.slots i empty refl s.idle;
-    }
+    let slots = length-set d.slots i empty ∙ s.slots in
+    let idle : (k : ℕ) → live_at (slice_set d.slots i empty) k ≡ 0 = each-all (λ k (o : Slot). live_in o ≡ 0) d.slots i empty refl s.idle in
+    search idle
 
 pub emptied-holds : (first : ℕ) (d : Host) (c : State) (i : ℕ) → live_at d.slots i ≡ 0 → Holds first d c → Holds first (emptied d i) c
 emptied-holds first d c i l s =

@@ -91,18 +91,9 @@ taken-at lane d c h =
     ∙ ap (λ ys. commands_in lane c.fetched ++ ys) (one-here lane (head_entry c (submission_as lane (counts lane c))) ∙ ap (λ y. y ∷ []) h.entry) in
     let there = commands-append (other lane) c.fetched (new_command lane c ∷ [])
     ∙ ap (λ ys. commands_in (other lane) c.fetched ++ ys) (one-there lane (head_entry c (submission_as lane (counts lane c)))) ∙ append-nil (commands_in (other lane) c.fetched) in
-    record {
-      up = refl;
-      next = refl;
-      later = omega arith;
-      window = refl;
-      slots = refl;
-      host_here = refl;
-      host_there = refl;
-      state_here = k.here
-          ∙ (λ i. record (state lane c) { fetched = ((state lane c).fetched + 1) % 8; waiting = (state lane c).waiting - 1; taken = here i });
-      state_there = k.there ∙ (λ i. record (state (other lane) c) { taken = there i });
-    }
+    let state_here = k.here ∙ (λ i. record (state lane c) { fetched = ((state lane c).fetched + 1) % 8; waiting = (state lane c).waiting - 1; taken = here i }) in
+    let state_there = k.there ∙ (λ i. record (state (other lane) c) { taken = there i }) in
+    search arith
 
 taken-sound : (lane : Lane) (d : Driver) (c : Controller) → Waits lane d c → Sound d (taken_in lane c)
 taken-sound lane d c h =
@@ -181,14 +172,12 @@ far-queue c p n =
     let e : submission_at c (suc (suc n)) ≡ None = ap (λ l. slice_index_or l (suc (suc n)) None) p.submission ∙ other-queue (Some (submission_as Admin p.admin)) (Some (submission_as Io p.io)) n in
     grind (arith, common_steps, p.ready, e)
 
-no-lane : (n : ℕ) → lane_at (suc (suc n)) ≡ None
-no-lane n = rw (ne_eqb (suc (suc n)) 0 (λ e. omega (arith, e)), ne_eqb (suc (suc n)) 1 (λ e. omega (arith, e))) refl
-
 pub fetch_is_a_step : FetchIsAStep
 fetch_is_a_step d c zero s = lane-step Admin d c s
 fetch_is_a_step d c (suc zero) s = lane-step Io d c s
 fetch_is_a_step d c (suc (suc n)) s =
-    let same : fetched (suc (suc n)) (mailbox d c) ≡ mailbox_reaction (mailbox d c) (Fetched Idle) = ap (λ o. fetched_of o (mailbox d c)) (no-lane n) in
+    let none : lane_at (suc (suc n)) ≡ None = rw (ne_eqb (suc (suc n)) 0 (λ e. omega (arith, e)), ne_eqb (suc (suc n)) 1 (λ e. omega (arith, e))) refl in
+    let same : fetched (suc (suc n)) (mailbox d c) ≡ mailbox_reaction (mailbox d c) (Fetched Idle) = ap (λ o. fetched_of o (mailbox d c)) none in
     elim (cases_Bool (is_up d.state)) [
       | inl u ↦ idle-step d c (suc (suc n)) s (far-queue c (s.up u) n) same
       | inr u ↦ idle-step d c (suc (suc n)) s (off-queue c (suc (suc n)) (s.down u)) same

@@ -1,5 +1,5 @@
 -- Ring and Fetch in one lane: what was placed is rung, and the first that is rung is fetched.
-use Rattle.nvme_fleet.proofs.Words.{◌≡◌, ℕ, ◌+◌, ◌-◌, ◌%◌, ◌<◌, ◌≤◌, List, [], ◌∷◌, ◌++◌, map, refl, ap, ◌∙◌, arith, zero, suc, true, length-append, map-append, Completion, Item, command_at, State, box, in_flight, commands, item, Running, Holds, holds, total, odd, bears, AllByRecursion, IsOf, queue_id, last_head, heard, unread, since, Host}
+use Rattle.nvme_fleet.proofs.Words.{◌≡◌, ℕ, ◌+◌, ◌-◌, ◌%◌, ◌<◌, ◌≤◌, List, [], ◌∷◌, ◌++◌, map, refl, ap, ◌∙◌, arith, zero, suc, true, length-append, map-append, Completion, Item, command_at, State, box, in_flight, commands, item, Running, Holds, holds, total, odd, bears, AllByRecursion, IsOf, queue_id, last_head, heard, unread, since, Host, Carried, Suited}
 use Rattle.nvme_fleet.specs.Views.{after_fetch, rung}
 use Rattle.nvme_mailbox.proofs.Totals.{total-append}
 use Rattle.nvme_fleet.proofs.Queues.{same-box, flight-parts, rung-part, placed-part}
@@ -54,24 +54,7 @@ ring-box d c s =
 
 -- a lane with another next ticket, and with so many entries waiting
 pub still-running : (d : Host) (c : State) (next waiting : ℕ) → waiting ≤ in_flight d c → Running d c → Running (record d { next = next }) (record c { waiting = waiting })
-still-running d c next waiting few s =
-    record {
-      ready = s.ready;
-      window = s.window;
-      slots = s.slots;
-      put = s.put;
-      fetched = s.fetched;
-      consumed = s.consumed;
-      posted = s.posted;
-      waiting = few;
-      unheard = s.unheard;
-      room = s.room;
-      of_lane = s.of_lane;
-      phases = s.phases;
-      carried = s.carried;
-      held = s.held;
-      suited = s.suited;
-    }
+still-running d c next waiting few s = search (s.phases, s.carried)
 
 pub ring-running : (d : Host) (c : State) → Running d c → Running d (rung d c)
 ring-running d c s = still-running d c d.next (in_flight d c) (omega arith) s
@@ -91,20 +74,6 @@ moved-fetch f d c s p =
 
 pub fetch-running : (d : Host) (c : State) → Running d c → 0 < c.waiting → Running d (after_fetch c)
 fetch-running d c s p =
-    record {
-      ready = s.ready;
-      window = s.window;
-      slots = s.slots;
-      put = s.put;
-      fetched = omega arith;
-      consumed = s.consumed;
-      posted = s.posted;
-      waiting = omega (arith, fewer d c s p, p, s.waiting);
-      unheard = omega (arith, fewer d c s p, more d c s p, s.unheard, p, s.waiting);
-      room = s.room;
-      of_lane = s.of_lane;
-      phases = s.phases;
-      carried = λ slot. omega (arith, s.carried slot, moved-fetch (bears slot) d c s p);
-      held = omega (arith, fewer d c s p, s.held, p, s.waiting, length-append c.taken (command_at c.window c.fetched ∷ []));
-      suited = moved-fetch (odd (holds d)) d c s p ∙ s.suited;
-    }
+    let carried : Carried d (after_fetch c) = λ slot. omega (arith, s.carried slot, moved-fetch (bears slot) d c s p) in
+    let suited : Suited d (after_fetch c) = moved-fetch (odd (holds d)) d c s p ∙ s.suited in
+    search (arith, s.phases, carried, fewer d c s p, more d c s p, length-append c.taken (command_at c.window c.fetched ∷ []))

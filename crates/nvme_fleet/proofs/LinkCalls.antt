@@ -83,11 +83,6 @@ put-twice a i c f there =
     ap (λ x. with_controller_at (with_controller_at a i c) i (f x)) (get_or-set_same a.controllers i c (new_controller 0) there)
     ∙ ap (λ cs. (let s : Subsystem = record a { controllers = cs } in s)) (set-set a.controllers i c (f c))
 
-plain-leaves : (tells : Bool) (call : Call) (a b : Subsystem) (i : ℕ) → IsPlain (call ∷ []) → i < length a.controllers → CallStep tells (i + 1) a call b → b ≡ with_controller_at a i (after_call call (controller_in a i))
-plain-leaves tells call a b i plain there s =
-    let h = plain-there tells call a b i plain there s in
-    h.others ∙ ap (with_setting a i) (calls-are tells (call ∷ []) (setting_in a i) (setting_in b i) plain (setting_in b i, h.step, refl))
-
 pub calls-made : {M : Type 0} (step : M → MediumCall → M → Type 0) (tells : Bool) (calls : List Call) (p q : OverMedium Linked M) → IsPlain calls → p.state.place < length p.state.subsystem.controllers
     → Calls (CallOverMedium step tells) p calls q → AreMade tells calls p q
 calls-made {M} step tells [] p q plain there h = record {
@@ -103,7 +98,9 @@ calls-made step tells (call ∷ calls) p q plain there (mid, one, rest) =
     let c : Controller = after_call call (controller_in a i) in
     let own = one.over.step in
     let at = one.over.place in
-    let here = plain-leaves tells call a mid.state.subsystem i two.0 there own in
+    let now : Setting = setting_in mid.state.subsystem i in
+    let only = plain-there tells call a mid.state.subsystem i two.0 there own in
+    let here : mid.state.subsystem ≡ with_controller_at a i c = only.others ∙ ap (with_setting a i) (calls-are tells (call ∷ []) (setting_in a i) now two.0 (now, only.step, refl)) in
     let long : length mid.state.subsystem.controllers ≡ length a.controllers = ap (λ (s : Subsystem). length s.controllers) here ∙ length-set a.controllers i c in
     let later = calls-made step tells calls mid q two.1 (omega (arith, long, at, there)) rest in
     let ran = subst (λ n. Ran tells mid.state.subsystem (events_of_calls (n + 1) calls) q.state.subsystem) at later.ran in
@@ -187,10 +184,4 @@ fresh-call step tells p call x y f h =
     )
 
 pub fresh-start : {M : Type 0} (p : OverMedium Linked M) → Reaches p.state → AreAdmin (linked_controller p.state) → IsFresh p p
-fresh-start p at admin = record {
-  reaches = at;
-  admin = admin;
-  others = same-put p.state.subsystem p.state.place;
-  place = refl;
-  medium = refl;
-}
+fresh-start p at admin = let others = same-put p.state.subsystem p.state.place in search

@@ -27,22 +27,12 @@ pub record Changed (lane : Lane) (d d' : Driver) (e : Ends) (n : ℕ) (xs : List
   pub fits : EndsFit e → ((l : Lane) → EndsFit (ends l d)) → (l : Lane) → EndsFit (ends l d')
 
 pub changed : (lane : Lane) (d : Driver) (e : Ends) (n : ℕ) (xs : List (Option Waiting)) → Changed lane d (with_ends lane e (record d { next = n; slots = xs })) e n xs
-changed Admin d e n xs = record {
-  state = refl;
-  next = refl;
-  slots = refl;
-  here = λ w. refl;
-  there = λ w. refl;
-  fits = λ f g. each-lane Admin (λ l. EndsFit (ends l (with_ends Admin e (record d { next = n; slots = xs })))) f (g Io);
-}
-changed Io d e n xs = record {
-  state = refl;
-  next = refl;
-  slots = refl;
-  here = λ w. refl;
-  there = λ w. refl;
-  fits = λ f g. each-lane Io (λ l. EndsFit (ends l (with_ends Io e (record d { next = n; slots = xs })))) f (g Admin);
-}
+changed Admin d e n xs =
+    let fits : EndsFit e → ((l : Lane) → EndsFit (ends l d)) → (l : Lane) → EndsFit (ends l (with_ends Admin e (record d { next = n; slots = xs }))) = λ f g. each-lane Admin (λ l. EndsFit (ends l (with_ends Admin e (record d { next = n; slots = xs })))) f (g Io) in
+    search fits
+changed Io d e n xs =
+    let fits : EndsFit e → ((l : Lane) → EndsFit (ends l d)) → (l : Lane) → EndsFit (ends l (with_ends Io e (record d { next = n; slots = xs }))) = λ f g. each-lane Io (λ l. EndsFit (ends l (with_ends Io e (record d { next = n; slots = xs })))) f (g Admin) in
+    search fits
 
 pub size-set : (slots : List (Option Waiting)) (i k : ℕ) (o : Option Waiting) → received_in o ≤ most_bytes → ((j : ℕ) → received_in (waiting_at slots j) ≤ most_bytes) → received_in (waiting_at (slice_set slots i o) k) ≤ most_bytes
 size-set [] i k o h g = g k

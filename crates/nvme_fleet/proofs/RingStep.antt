@@ -29,19 +29,7 @@ rung-so lane d c s u =
     (same-completion lane c p) p.fetched refl
 
 rung-at : (lane : Lane) (d : Driver) (c : Controller) → Sound d c → is_up d.state ≡ true → AtLane lane d d c (rung_one lane d c) d.next (host lane d c.window) (rung_state (host lane d c.window) (state lane c))
-rung-at lane d c s u =
-    let k = rung-so lane d c s u in
-    record {
-      up = refl;
-      next = refl;
-      later = omega arith;
-      window = refl;
-      slots = refl;
-      host_here = refl;
-      host_there = refl;
-      state_here = k.here;
-      state_there = k.there;
-    }
+rung-at lane d c s u = let k = rung-so lane d c s u in search arith
 
 record IsRung (lane : Lane) (d : Driver) (c c' : Controller) : Type 0 where
   sound : Sound d c'
@@ -58,9 +46,6 @@ is-rung lane d c s u =
           ∙ ap (λ x. with_box lane x (mailbox d c)) (ring-box _ _ r ∙ ap ring_lane (sym (box-is lane d c)));
     }
 
-tail-small : (n : ℕ) → n % 8 < 2 ^ 16
-tail-small n = omega arith
-
 -- the step of a ring, by whether the driver is up
 abbrev Rings : Bool → Driver → Controller → Type 0
 Rings t d c =
@@ -73,8 +58,8 @@ up-step d c s u =
     let two = is-rung Io d (rung_one Admin d c) one.sound u in
     let p = s.up u in
     let q = one.sound.up u in
-    let e = ap (after_write32 (tail_doorbell Io) (tail_of d.io)) (tail-written Admin c (tail_of d.admin) p.enabled p.ready (tail-small d.admin.tail.put))
-    ∙ tail-written Io (rung_one Admin d c) (tail_of d.io) q.enabled q.ready (tail-small d.io.tail.put) in
+    let e = ap (after_write32 (tail_doorbell Io) (tail_of d.io)) (tail-written Admin c (tail_of d.admin) p.enabled p.ready (omega arith))
+    ∙ tail-written Io (rung_one Admin d c) (tail_of d.io) q.enabled q.ready (omega arith) in
     record {
       sound = subst (Sound d) (sym e) two.sound;
       mail = sym (ap (mailbox d) e ∙ two.mail ∙ ap (λ (x : Mailbox). with_box Io (ring_lane (box_at Io x)) x) one.mail);

@@ -53,42 +53,18 @@ quiet-running d c s =
       suited = omega (arith, ap (total (odd (holds d))) s.taken, ap (total (odd (holds d))) e);
     }
 
--- what an own command and its completion store, and the phases behind them
-record Own (w w' : List ℕ) (n : ℕ) : Type 0 where
-  size : length w' ≡ length w
-  phases : Phases w' ((n + 1) % 64) 0
-
-owns : (w entry completion : List ℕ) (p n : ℕ) → length w ≡ 8192 → p < 8 → n < 64 → length entry ≡ 64 → length completion ≡ 16 → (completion_of completion).phase ≡ phase_of n → Phases w n 0 →
-    Own w (with_bytes (with_bytes w (64 * p) entry) (4096 + 16 * (n % 32)) completion) n
-owns w entry completion p n l a b e f tag h =
-    let one = enters w entry p l a e in
-    let two = answered (with_bytes w (64 * p) entry) completion (n % 32) (one.keeps.size ∙ l) (omega arith) f in
-    record {
-      size = two.keeps.size ∙ one.keeps.size;
-      phases = phases-consumed _ n 1 (omega arith) (omega arith) (phases-posted _ _ completion n 0 n two (omega (arith, b)) (omega arith) tag (phases-kept w _ p n 0 one.keeps h));
-    }
-
 -- one more of the driver's own commands leaves the lane quiet
 pub own-quiet : (d : Host) (c : State) (entry completion : List ℕ) → Quiet d c → length entry ≡ 64 → length completion ≡ 16 → (completion_of completion).phase ≡ phase_of c.posted →
     Quiet (own_host d) (own_state c entry completion)
 own-quiet d c entry completion s e f p =
     let h : Phases c.window c.posted 0 = subst (λ n. Phases c.window n 0) (sym s.posted) (subst (Phases c.window d.consumed) s.unread s.phases) in
-    let o = owns c.window entry completion c.fetched c.posted s.window (omega (arith, s.fetched, s.put)) (omega (arith, s.posted, s.consumed)) e f p h in
-    record {
-      ready = s.ready;
-      window = o.size ∙ s.window;
-      slots = s.slots;
-      put = omega arith;
-      fetched = omega (arith, s.fetched);
-      consumed = omega arith;
-      posted = omega (arith, s.posted);
-      waiting = s.waiting;
-      unread = s.unread;
-      unheard = s.unheard;
-      taken = s.taken;
-      phases = subst (λ n. Phases (own_state c entry completion).window ((n + 1) % 64) c.unread) s.posted (subst (Phases (own_state c entry completion).window ((c.posted + 1) % 64)) (sym s.unread) o.phases);
-      idle = s.idle;
-    }
+    let one = enters c.window entry c.fetched s.window (omega (arith, s.fetched, s.put)) e in
+    let two = answered (with_bytes c.window (64 * c.fetched) entry) completion (c.posted % 32) (one.keeps.size ∙ s.window) (omega arith) f in
+    let later : Phases (own_state c entry completion).window ((c.posted + 1) % 64) 0 =
+    phases-consumed _ c.posted 1 (omega arith) (omega arith) (phases-posted _ _ completion c.posted 0 c.posted two (omega (arith, s.posted, s.consumed)) (omega arith) p (phases-kept c.window _ c.fetched c.posted 0 one.keeps h)) in
+    let window = two.keeps.size ∙ one.keeps.size ∙ s.window in
+    let phases = subst (λ n. Phases (own_state c entry completion).window ((n + 1) % 64) c.unread) s.posted (subst (Phases (own_state c entry completion).window ((c.posted + 1) % 64)) (sym s.unread) later) in
+    search (arith, phases, s.idle)
 
 -- a page of zeros
 pub record Zeros (z : List ℕ) : Type 0 where
@@ -98,9 +74,6 @@ pub record Zeros (z : List ℕ) : Type 0 where
 pub zeros-are : Zeros zeros
 unfolding zeros
 zeros-are = record { long = length-replicate {A = ℕ} 4096 0; each = λ i d h. get_or-replicate 4096 i 0 d h }
-
-byte-of : (w : List ℕ) (at i n d : ℕ) → i < n → get_or (take n (drop at w)) i d ≡ get_or w (at + i) d
-byte-of w at i n d p = get_or-take n (drop at w) i d p ∙ get_or-drop at w i d
 
 -- 16 zeros are a completion whose phase tag is clear
 no-phase : phase (replicate 16 0) ≡ false
@@ -114,7 +87,7 @@ zero-entry w j l h =
     stored-part w zeros 4096 j 16 (omega (arith, l)) (omega (arith, zeros-are.long, h)) ∙
     same_lists _ _ (n ∙ sym (length-replicate {A = ℕ} 16 0)) (λ k x inside.
     let b : k < 16 = omega (arith, inside, n) in
-    byte-of zeros j k 16 x b ∙ zeros-are.each (j + k) x (omega (arith, h, b)) ∙ sym (get_or-replicate 16 k 0 x b))
+    get_or-take 16 (drop j zeros) k x b ∙ get_or-drop j zeros k x ∙ zeros-are.each (j + k) x (omega (arith, h, b)) ∙ sym (get_or-replicate 16 k 0 x b))
 
 turn-of : (k : ℕ) → k < 32 → phase_of (0 + k) ≡ true
 turn-of k h = grind (arith, common_steps)
@@ -128,21 +101,8 @@ fresh-phases d c w k q =
 pub fresh-quiet : (d : Host) (c : State) → Resting d c → Quiet (fresh_host d) (fresh_state c)
 fresh-quiet d c r =
     let a : length (with_bytes c.window 0 zeros) ≡ length c.window = length-with_bytes c.window 0 zeros (omega (arith, r.window, zeros-are.long)) in
-    record {
-      ready = refl;
-      window = length-with_bytes (with_bytes c.window 0 zeros) 4096 zeros (omega (arith, a, r.window, zeros-are.long)) ∙ a ∙ r.window;
-      slots = r.slots;
-      put = omega arith;
-      fetched = refl;
-      consumed = omega arith;
-      posted = refl;
-      waiting = refl;
-      unread = refl;
-      unheard = refl;
-      taken = refl;
-      phases = fresh-phases d c r.window;
-      idle = r.idle;
-    }
+    let window = length-with_bytes (with_bytes c.window 0 zeros) 4096 zeros (omega (arith, a, r.window, zeros-are.long)) ∙ a ∙ r.window in
+    search (arith, fresh-phases d c r.window, r.idle)
 
 -- a lane that has come up holds
 pub risen-holds : (first : ℕ) (d d' : Host) (c c' : State) → Holds first d c → Resting d c → d'.up ≡ true → d'.failed ≡ d.failed → d'.next ≡ d.next → d'.slots ≡ d.slots → Quiet d' c' → Holds d.next d' c'
