@@ -32,34 +32,19 @@ or-parts : (p q : Bool) → (p || q) ≡ true → (p ≡ true) ⊎ (q ≡ true)
 or-parts true q h = inl refl
 or-parts false q h = inr h
 
-feature-is : (x : List ℕ) → (bits (cdw10 x) 7 0 == write_protection) ≡ true → fid x ≡ write_protection
-unfolding fid
-feature-is x h = eqb-true (bits (cdw10 x) 7 0) write_protection h
+named-so : (command : AdminCommand) (received moved : ℕ) (x : List ℕ) → (opcode x == opcode_of command) ≡ true → IsAsked command → MovesAs command received moved x → IsPlainAdmin received moved x
+named-so command received moved x e a m = record { command = command; named = opcode-names command (opcode x) (eqb-true _ _ e); asked = a; moves = m }
 
 pub plain-admin : (s : Slot) (x : List ℕ) → lane_in s.waiting ≡ Admin → is_plain (asked_in s x) ≡ true → IsPlainAdmin (asked_in s x).received (asked_in s x).moved x
-unfolding is_plain
+unfolding is_plain fid
 plain-admin s x l h =
     elim (or-parts _ _ (sym (ap (λ lane. is_plain_in lane (asked_in s x)) l) ∙ h)) [
-      | inl p ↦ (
-          let e = and_parts _ _ p in
-          record { command = admin.Identify; named = opcode-names admin.Identify (opcode x) (eqb-true _ _ e.0); asked = tt; moves = eqb-true _ _ e.1 }
-          )
+      | inl p ↦ (let e = and_parts _ _ p in named-so admin.Identify _ _ x e.0 tt (eqb-true _ _ e.1))
       | inr others ↦ elim (or-parts _ _ others) [
-        | inl p ↦ (
-            let e = and_parts _ _ p in
-            let f = and_parts _ _ e.1 in
-            record { command = admin.SetFeatures; named = opcode-names admin.SetFeatures (opcode x) (eqb-true _ _ e.0); asked = tt; moves = eqb-true _ _ f.1 }
-            )
+        | inl p ↦ (let e = and_parts _ _ p in named-so admin.SetFeatures _ _ x e.0 tt (eqb-true _ _ (and_parts _ _ e.1).1))
         | inr rest ↦ elim (or-parts _ _ rest) [
-          | inl p ↦ (
-              let e = and_parts _ _ p in
-              let f = and_parts _ _ e.1 in
-              record { command = admin.GetFeatures; named = opcode-names admin.GetFeatures (opcode x) (eqb-true _ _ e.0); asked = tt; moves = (eqb-true _ _ f.1, feature-is x f.0) }
-              )
-          | inr p ↦ (
-              let e = and_parts _ _ p in
-              record { command = admin.NamespaceAttachment; named = opcode-names admin.NamespaceAttachment (opcode x) (eqb-true _ _ e.0); asked = tt; moves = eqb-true _ _ e.1 }
-              )
+          | inl p ↦ (let e = and_parts _ _ p in let f = and_parts _ _ e.1 in named-so admin.GetFeatures _ _ x e.0 tt (eqb-true _ _ f.1, eqb-true _ _ f.0))
+          | inr p ↦ (let e = and_parts _ _ p in named-so admin.NamespaceAttachment _ _ x e.0 tt (eqb-true _ _ e.1))
         ]
       ]
     ]

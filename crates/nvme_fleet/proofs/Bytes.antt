@@ -1,6 +1,6 @@
 -- Bytes of namespaces change only by executions, which are one event of the subsystem each; and windows of other hosts
 -- stay over every event.
-use Rattle.nvme_fleet.proofs.Words.{fault_free_step, ◌≡◌, ◌≢◌, ◌⊎◌, inl, inr, ℕ, Bool, true, false, List, [], ◌∷◌, ◌++◌, Option, None, Some, Result, Ok, Err, refl, sym, ap, subst, ◌∙◌, option_map, AllByRecursion, Device, IsLaidOut, bytes_of, may_write, World, UpFault, Call, Turns, Driver, stores_of, Rises, IsMapped, rises-mapped, Event, Seen, Cycled, Controller, with_marks, Subsystem, controller_at, FleetEvent, BringUp, Place, Ring, Fetch, Execute, Poll, Reset, RawStore, RawWrite32, PowerCycle, FleetSeen, OfItsHost, Reply, DriverCall, FencedEventsWriteNothing, LayoutStays, OthersWindowsStay, RunsOfMailboxes, is_laid_out, namespace_bytes, CallStep, Does, DoesIfAny, events_of, events_of_calls, reset_events, ring_events, window_at, window_of, Site, Fleet, Is, Moment, Layers, fleet_in, Applies, AppliesRaw, CallsAt, Cycles, driver_at, polled}
+use Rattle.nvme_fleet.proofs.Words.{fault_free_step, ◌≡◌, ◌≢◌, ◌⊎◌, inl, inr, ℕ, Bool, true, false, List, [], ◌∷◌, ◌++◌, Option, None, Some, Result, Ok, Err, refl, sym, ap, subst, ◌∙◌, option_map, AllByRecursion, Device, IsLaidOut, bytes_of, may_write, World, UpFault, Call, Turns, Driver, stores_of, Rises, IsMapped, rises-mapped, Event, Seen, Cycled, Controller, with_marks, Subsystem, controller_at, FleetEvent, BringUp, Place, Ring, Fetch, Execute, Poll, Reset, RawStore, RawWrite32, PowerCycle, FleetSeen, OfItsHost, Reply, DriverCall, FencedEventsWriteNothing, LayoutStays, OthersWindowsStay, RunsOfMailboxes, is_laid_out, namespace_bytes, CallStep, Does, DoesIfAny, events_of, events_of_calls, reset_events, ring_events, window_at, window_of, Site, Fleet, Is, Moment, Layers, fleet_in, Applies, AppliesRaw, CallsAt, Cycles, driver_at, polled, all-joined}
 use Rattle.nvme_machine.specs.declared.event.Event.TheVariants as event
 use Rattle.nvme_machine.specs.Controllers.{power_cycled}
 use Rattle.nvme_machine.specs.Runs.{IsMarkedBy}
@@ -19,9 +19,6 @@ pub runs_of_mailboxes : RunsOfMailboxes
 runs_of_mailboxes tells old new [] [] run = ap fleet_in run
 runs_of_mailboxes tells old new (e ∷ events) (reply ∷ later) run = (let s = run.1 in (fleet_in run.0, s.mailboxes, runs_of_mailboxes tells run.0 new events later run.2))
 runs_of_mailboxes tells old new events later run = absurd run
-
-abbrev content-of : Device → List ℕ
-content-of d = d.content
 
 -- All events but executions and power cycles leave access state and medium.
 
@@ -45,7 +42,7 @@ by-event tells old new event reply P s alone executes cycles = alone (same-site 
 pub fenced_events_write_nothing : FencedEventsWriteNothing
 fenced_events_write_nothing old new e reply n laid step may =
     by-event true old new e reply (namespace_bytes new n ≡ namespace_bytes old n) step
-    (λ same. let w = same.world in let d = same.device in (ap (λ x. bytes_of x new.subsystem.device.content n) w ∙ ap (λ x. bytes_of old.subsystem.world (content-of x) n) d))
+    (λ same. let w = same.world in let d = same.device in (ap (λ x. bytes_of x new.subsystem.device.content n) w ∙ ap (λ (x : Device). bytes_of old.subsystem.world x.content n) d))
     (λ k i is given one.
     layouts.fenced_events_write_nothing old.subsystem new.subsystem (event.Execute k i) given n laid one
     (subst (OfItsHost (λ j. may_write old.subsystem.world j n ≡ false)) is may))
@@ -54,7 +51,7 @@ fenced_events_write_nothing old new e reply n laid step may =
 pub layout_stays : LayoutStays
 layout_stays old new e reply laid step =
     by-event true old new e reply (is_laid_out new) step
-    (λ same. let w = same.world in let d = same.device in subst (λ x. IsLaidOut x new.subsystem.device.content) (sym w) (subst (λ x. IsLaidOut old.subsystem.world (content-of x)) (sym d) laid))
+    (λ same. let w = same.world in let d = same.device in subst (λ x. IsLaidOut x new.subsystem.device.content) (sym w) (subst (λ (x : Device). IsLaidOut old.subsystem.world x.content) (sym d) laid))
     (λ k i is given one. layouts.layout_stays old.subsystem new.subsystem (event.Execute k i) given laid one)
     (λ is one. layouts.layout_stays old.subsystem new.subsystem event.PowerCycle Cycled laid one)
 
@@ -109,70 +106,51 @@ of-call : (k : ℕ) (one : Call) → AreOf k (events_of k one)
 of-call k Turns = (refl, (refl, tt))
 of-call k one = (refl, tt)
 
-of-both : (k : ℕ) (es fs : List Event) → AreOf k es → AreOf k fs → AreOf k (es ++ fs)
-of-both k [] fs h g = g
-of-both k (e ∷ es) fs h g = (h.0, of-both k es fs h.1 g)
-
 of-calls : (k : ℕ) (calls : List Call) → AreOf k (events_of_calls k calls)
 of-calls k [] = tt
-of-calls k (one ∷ calls) = of-both k (events_of k one) (events_of_calls k calls) (of-call k one) (of-calls k calls)
-
-call-window : (tells : Bool) (k j : ℕ) (one : Call) (old new : Subsystem) → j ≢ k → CallStep tells k old one new → window_at new j ≡ window_at old j
-call-window tells k j one old new other h = ran-window tells k j (events_of k one) h.given old new other (of-call k one) h.run
+of-calls k (one ∷ calls) = all-joined (λ e. machine.controller_of e ≡ k) (events_of k one) (events_of_calls k calls) (of-call k one) (of-calls k calls)
 
 rises-window : (tells : Bool) (k j : ℕ) (d d' : Driver) (old new : Subsystem) (result : Result (Unit {0}) UpFault) → j ≢ k → Rises (CallStep tells k) (λ s. window_at s k) d old result d' new → window_at new j ≡ window_at old j
 rises-window tells k j d d' old new result other h =
     let m : IsMapped (λ (s : Subsystem). s) (CallStep tells k) (CallStep tells k) (λ s. window_at s k) (λ s. window_at s k) (λ s. window_at s j ≡ window_at old j) = record {
-      call = λ one p q fact over. (over, call-window tells k j one p q other over ∙ fact);
+      call = λ one p q fact over. (over, ran-window tells k j (events_of k one) over.given p q other (of-call k one) over.run ∙ fact);
       same = λ p fact. refl;
     } in
     let r = rises-mapped (λ (s : Subsystem). s) (CallStep tells k) (CallStep tells k) (λ s. window_at s k) (λ s. window_at s k) (λ s. window_at s j ≡ window_at old j) m d d' old new result refl h in
     r.1
 
-same-window : (j : ℕ) (old new : Subsystem) → new ≡ old → window_at new j ≡ window_at old j
-same-window j old new e = ap (λ s. window_at s j) e
-
 does-window : (tells : Bool) (k j : ℕ) (what : DriverCall) (d d' : Driver) (old new : Subsystem) (x : FleetSeen) → j ≢ k → Does tells k what d old x d' new → window_at new j ≡ window_at old j
 does-window tells k j call.BringUp d d' old new x other (Ok u, is, h) = rises-window tells k j d d' old new (Ok u) other h
-does-window tells k j call.BringUp d d' old new x other (Err fault, is, h) = same-window j old new h.1
+does-window tells k j call.BringUp d d' old new x other (Err fault, is, h) = ap (λ s. window_at s j) h.1
 does-window tells k j (call.Place request) d d' old new x other (Ok ticket, is, (slot, free, made, ran)) = ran-window tells k j (events_of_calls k (stores_of d request slot)) ran.0 old new other (of-calls k (stores_of d request slot)) ran.1
-does-window tells k j (call.Place request) d d' old new x other (Err why, is, h) = same-window j old new h.1
+does-window tells k j (call.Place request) d d' old new x other (Err why, is, h) = ap (λ s. window_at s j) h.1
 does-window tells k j call.Ring d d' old new x other (Ok u, is, (same, ran)) = ran-window tells k j (ring_events k d) ran.0 old new other (refl, (refl, tt)) ran.1
-does-window tells k j call.Ring d d' old new x other (Err why, is, h) = same-window j old new h.1
+does-window tells k j call.Ring d d' old new x other (Err why, is, h) = ap (λ s. window_at s j) h.1
 does-window tells k j call.Poll d d' old new x other (result, is, h) =
     (let r = h.ran in ran-window tells k j (events_of_calls k (polled d h.oldest (window_at old k)).calls) r.0 old new other (of-calls k (polled d h.oldest (window_at old k)).calls) r.1)
 does-window tells k j call.Reset d d' old new x other (is, h) = (let r = h.1 in ran-window tells k j (reset_events k) r.0 old new other (refl, tt) r.1)
 
 any-window : (tells : Bool) (k j : ℕ) (what : DriverCall) (o e : Option Driver) (old new : Subsystem) (x : FleetSeen) → j ≢ k → DoesIfAny tells k what o old x e new → window_at new j ≡ window_at old j
-any-window tells k j what None e old new x other h = same-window j old new h.2
+any-window tells k j what None e old new x other h = ap (λ s. window_at s j) h.2
 any-window tells k j what (Some d) e old new x other (d', is, h) = does-window tells k j what d d' old new x other h
 
-same-layers : (j : ℕ) (old new : Layers) → new ≡ old → window_at new.subsystem j ≡ window_at old.subsystem j
-same-layers j old new e = ap (λ (l : Layers). window_at l.subsystem j) e
-
 calls-window : (o : Option (Option Driver)) (tells : Bool) (old new : Layers) (k j : ℕ) (what : DriverCall) (x : FleetSeen) → j ≢ k → CallsAt o tells old k what x new → window_at new.subsystem j ≡ window_at old.subsystem j
-calls-window None tells old new k j what x other h = same-layers j old new h.1
+calls-window None tells old new k j what x other h = ap (λ (l : Layers). window_at l.subsystem j) h.1
 calls-window (Some d) tells old new k j what x other (e, is, h) = any-window tells k j what d e old.subsystem new.subsystem x other h
 
-applies-window : (tells : Bool) (old new : Layers) (e : Event) (x : FleetSeen) (j : ℕ) → j ≢ machine.controller_of e → Applies tells old e x new → window_at new.subsystem j ≡ window_at old.subsystem j
-applies-window tells old new e x j other h = step-window tells old.subsystem new.subsystem e h.given j h.step other
-
 raw-window : (o : Option (Option Driver)) (tells : Bool) (old new : Layers) (e : Event) (x : FleetSeen) (j : ℕ) → j ≢ machine.controller_of e → AppliesRaw o tells old e x new → window_at new.subsystem j ≡ window_at old.subsystem j
-raw-window None tells old new e x j other h = same-layers j old new h.1
-raw-window (Some None) tells old new e x j other h = applies-window tells old new e x j other h
-raw-window (Some (Some d)) tells old new e x j other h = same-layers j old new h.1
-
-cycles-window : (tells : Bool) (old new : Layers) (x : FleetSeen) (j : ℕ) → Cycles tells old x new → window_at new.subsystem j ≡ window_at old.subsystem j
-cycles-window tells old new x j h = ap window_of (cycled-at old.subsystem new.subsystem j h.cycled) ∙ cycled-window (controller_at old.subsystem j)
+raw-window None tells old new e x j other h = ap (λ (l : Layers). window_at l.subsystem j) h.1
+raw-window (Some None) tells old new e x j other h = step-window tells old.subsystem new.subsystem e h.given j h.step other
+raw-window (Some (Some d)) tells old new e x j other h = ap (λ (l : Layers). window_at l.subsystem j) h.1
 
 pub others_windows_stay : OthersWindowsStay
 others_windows_stay tells old new (BringUp k) reply s j other = calls-window (driver_at old.drivers k) tells old new k j call.BringUp reply.seen other s.below
 others_windows_stay tells old new (Place k request) reply s j other = calls-window (driver_at old.drivers k) tells old new k j (call.Place request) reply.seen other s.below
 others_windows_stay tells old new (Ring k) reply s j other = calls-window (driver_at old.drivers k) tells old new k j call.Ring reply.seen other s.below
-others_windows_stay tells old new (Fetch k q) reply s j other = applies-window tells old new (event.Fetch k q) reply.seen j other s.below
-others_windows_stay tells old new (Execute k i) reply s j other = applies-window tells old new (event.Execute k i) reply.seen j other s.below
+others_windows_stay tells old new (Fetch k q) reply s j other = step-window tells old.subsystem new.subsystem (event.Fetch k q) s.below.given j s.below.step other
+others_windows_stay tells old new (Execute k i) reply s j other = step-window tells old.subsystem new.subsystem (event.Execute k i) s.below.given j s.below.step other
 others_windows_stay tells old new (Poll k) reply s j other = calls-window (driver_at old.drivers k) tells old new k j call.Poll reply.seen other s.below
 others_windows_stay tells old new (Reset k) reply s j other = calls-window (driver_at old.drivers k) tells old new k j call.Reset reply.seen other s.below
 others_windows_stay tells old new (RawStore k address bytes) reply s j other = raw-window (driver_at old.drivers k) tells old new (event.Store k address bytes) reply.seen j other s.below
 others_windows_stay tells old new (RawWrite32 k offset v) reply s j other = raw-window (driver_at old.drivers k) tells old new (event.Write32 k offset v) reply.seen j other s.below
-others_windows_stay tells old new PowerCycle reply s j other = cycles-window tells old new reply.seen j s.below
+others_windows_stay tells old new PowerCycle reply s j other = ap window_of (cycled-at old.subsystem new.subsystem j s.below.cycled) ∙ cycled-window (controller_at old.subsystem j)

@@ -80,20 +80,16 @@ fits-entry s x h k =
       cdw15 = omega arith;
     }
 
-fits-command : (s : Slot) (x : List ℕ) → IsSuited s x → cid x < 24 → FitsSqeFields (command_fields (asked_in s x))
-fits-command s x h k =
-    let f = fits-entry s x h k in
-    record { opcode = f.opcode; cid = omega arith; nsid = f.nsid; prp1 = omega arith; prp2 = omega arith; cdw10 = f.cdw10; cdw11 = f.cdw11; cdw12 = f.cdw12; cdw13 = omega arith; cdw14 = omega arith; cdw15 = omega arith }
-
 pub read-so : (s : Slot) (x : List ℕ) → IsSuited s x → cid x < 24 → submission_of x ≡ entry_fields (asked_in s x) (cid x)
 read-so s x h k = ap submission_of h.spelled ∙ submission_is_read_back (entry_fields (asked_in s x) (cid x)) (fits-entry s x h k)
 
 pub same-fields : (s : Slot) (x : List ℕ) → IsSuited s x → cid x < 24 → SameFields x (command_entry (asked_in s x))
 unfolding command_entry
 same-fields s x h k =
-    let g = fits-command s x h k in
+    let f = fits-entry s x h k in
+    let g : FitsSqeFields (command_fields (asked_in s x)) = record { opcode = f.opcode; cid = omega arith; nsid = f.nsid; prp1 = omega arith; prp2 = omega arith; cdw10 = f.cdw10; cdw11 = f.cdw11; cdw12 = f.cdw12; cdw13 = omega arith; cdw14 = omega arith; cdw15 = omega arith } in
     let b = submission_is_read_back (command_fields (asked_in s x)) g in
-    let p = submission_is_plain (entry_fields (asked_in s x) (cid x)) (fits-entry s x h k) in
+    let p = submission_is_plain (entry_fields (asked_in s x) (cid x)) f in
     let q = submission_is_plain (command_fields (asked_in s x)) g in
     record {
       opcode = ap (λ (z : SqeFields). z.opcode) b;

@@ -14,20 +14,14 @@ executes-zero : (v : Verdict) (tells : Bool) (k : ℕ) (x : List ℕ) (old new :
 executes-zero (Denied number why) tells k x old new o h = ap (λ z. z.dw0) h.1
 executes-zero (Allowed plan) tells k x old new o h = h.dw0
 
--- Of the queue's head.
-
-pair-head : (d : Driver) (c : Controller) (i : ℕ) (t : FetchedCommand) (p : QueuePair) → Sound d c → slice_get c.fetched i ≡ Some t → open_pair c t ≡ Some p → p.submission.head.fetched < 8
-pair-head d c i t p s g e =
-    let k = known d c i t s g in
-    let same : p ≡ pair_in (lane_of_queue t.queue) c = same_Some p (pair_in (lane_of_queue t.queue) c) (sym e ∙ open-is (lane_of_queue t.queue) d c i t k) in
-    subst (λ (z : QueuePair). z.submission.head.fetched < 8) (sym same) (running (lane_of_queue t.queue) d c s k.up).fetched
-
 pub completion-fits : (lane : Lane) (d : Driver) (c : Controller) (i : ℕ) (t : FetchedCommand) (p : QueuePair) (a : CommandExecution) → Sound d c → slice_get c.fetched i ≡ Some t → t.queue ≡ queue_id lane
     → open_pair c t ≡ Some p → Fits a.outcome.status × (a.outcome.dw0 < 2 ^ 32) → FitsCompletion (fields_of t p a)
 completion-fits lane d c i t p a s g q e f =
+    let k = known d c i t s g in
+    let same : p ≡ pair_in (lane_of_queue t.queue) c = same_Some p (pair_in (lane_of_queue t.queue) c) (sym e ∙ open-is (lane_of_queue t.queue) d c i t k) in
     record {
       dw0 = f.1;
-      sq_head = omega (arith, pair-head d c i t p s g e);
+      sq_head = omega (arith, ap (λ (z : QueuePair). z.submission.head.fetched) same, (running (lane_of_queue t.queue) d c s k.up).fetched);
       sq_id = omega (arith, q, queue-small lane);
       cid = omega (arith, (held-known lane d c i t s g (ap lane_of_queue q ∙ lane-back lane)).within);
       sct = f.0.0;
@@ -42,10 +36,11 @@ completion-fits lane d c i t p a s g q e f =
     lane-back Admin = refl
     lane-back Io = refl
 
-io-answers : (tells : Bool) (d : Driver) (t : FetchedCommand) (old : Setting) (a : CommandExecution) → t.queue ≡ 1
-    → CommandComesTo tells (queues_of old.controller) old.controller.cntlid t (scene_in old) a → IoCommandComesTo tells old.controller.cntlid t (scene_in old) a
+-- what a command of this queue comes to
+of-queue : (n : ℕ) (tells : Bool) (t : FetchedCommand) (old : Setting) (a : CommandExecution) → t.queue ≡ n → CommandComesTo tells (queues_of old.controller) old.controller.cntlid t (scene_in old) a
+    → CommandComesToAs (n == 0) tells (queues_of old.controller) old.controller.cntlid t (scene_in old) a
 unfolding CommandComesTo
-io-answers tells d t old a q h = subst (λ n. CommandComesToAs (n == 0) tells (queues_of old.controller) old.controller.cntlid t (scene_in old) a) q h
+of-queue n tells t old a q h = subst (λ n. CommandComesToAs (n == 0) tells (queues_of old.controller) old.controller.cntlid t (scene_in old) a) q h
 
 -- an answer that is in its slot, and fits its completion
 pub record IsPostable (tells : Bool) (d : Driver) (t : FetchedCommand) (p : QueuePair) (old : Setting) (x : FetchedItem) (a : CommandExecution) : Type 0 where
@@ -82,7 +77,7 @@ finishes tells d i t old executed new s g h =
 io-postable : (tells : Bool) (d : Driver) (i : ℕ) (t : FetchedCommand) (p : QueuePair) (old : Setting) (a : CommandExecution) → Sound d old.controller → slice_get old.controller.fetched i ≡ Some t → t.queue ≡ 1
     → open_pair old.controller t ≡ Some p → CommandComesTo tells (queues_of old.controller) old.controller.cntlid t (scene_in old) a → IsPostable tells d t p old (item_at d old.controller t) a
 io-postable tells d i t p old a s g q e h =
-    let n = io-answers tells d t old a q h in
+    let n = of-queue 1 tells t old a q h in
     let f = found-at d old.controller i t g in
     let small = execution_fits tells old.controller.cntlid t.entry t.marked (scene_in old) a.left a.outcome n.1 in
     let zero = executes-zero (spec.io_verdict old.world old.controller.cntlid t.entry t.marked old.controller.window) tells old.controller.cntlid t.entry (scene_in old) a.left a.outcome n.1 in
@@ -99,15 +94,10 @@ io_execution_is_a_step tells d i t old executed new s g q h =
 
 -- Of the admin lane.
 
-admin-answers : (tells : Bool) (t : FetchedCommand) (old : Setting) (a : CommandExecution) → t.queue ≡ 0 → CommandComesTo tells (queues_of old.controller) old.controller.cntlid t (scene_in old) a
-    → a ≡ admin_command_execution (scene_in old) (admin_execution old.world (queues_of old.controller) old.controller.cntlid t.entry old.controller.window)
-unfolding CommandComesTo
-admin-answers tells t old a q h = subst (λ n. CommandComesToAs (n == 0) tells (queues_of old.controller) old.controller.cntlid t (scene_in old) a) q h
-
 admin-postable : (tells : Bool) (d : Driver) (i : ℕ) (t : FetchedCommand) (p : QueuePair) (old : Setting) (a : CommandExecution) → Sound d old.controller → slice_get old.controller.fetched i ≡ Some t → t.queue ≡ 0
     → open_pair old.controller t ≡ Some p → CommandComesTo tells (queues_of old.controller) old.controller.cntlid t (scene_in old) a → IsPostable tells d t p old (item_at d old.controller t) a
 admin-postable tells d i t p old a s g q e h =
-    let n = admin-answers tells t old a q h in
+    let n = of-queue 0 tells t old a q h in
     let f = found-at d old.controller i t g in
     let y = admin_answers_its_request tells d old.controller i t (item_at d old.controller t) old.world old.device old.controller.cntlid a s g f q n in
     record {

@@ -31,16 +31,13 @@ pub record Fetched (d : Host) (c : State) (i : ℕ) (x : List ℕ) : Type 0 wher
   pub room : c.unread < 24
   pub bare : Bare d (record c { taken = remove c.taken i }) (cid x)
 
-odd-suits : (b : Bool) (n m : ℕ) → cond b 0 1 + n ≡ m → m ≡ 0 → b ≡ true
-odd-suits b n m h z = grind (arith, common_steps, h, z)
-
 pub fetched : (d : Host) (c : State) (i : ℕ) (x : List ℕ) → Running d c → slice_get c.taken i ≡ Some x → Fetched d c i x
 fetched d c i x s g =
     let b : bears (cid x) x ≡ 1 = ap (λ b. cond b 1 0) (eq-eqb (cid x) (cid x) refl) in
     let r : bears (cid x) x + commands_of (cid x) (remove c.taken i) ≡ commands_of (cid x) c.taken = total-removed (bears (cid x)) c.taken i x g in
     let l : live_at d.slots (cid x) ≡ 1 = omega (arith, s.carried (cid x), b, r, live-small (slot_at d.slots (cid x))) in
     let z : total (odd (holds d)) c.taken ≡ 0 = omega (arith, s.suited) in
-    let t : suits (holds d (cid x)) x ≡ true = odd-suits (suits (holds d (cid x)) x) (total (odd (holds d)) (remove c.taken i)) (total (odd (holds d)) c.taken) (total-removed (odd (holds d)) c.taken i x g) z in
+    let t : suits (holds d (cid x)) x ≡ true = grind (arith, common_steps, total-removed (odd (holds d)) c.taken i x g, z) in
     record {
       running = s;
       there = g;
@@ -60,10 +57,6 @@ pub record Executes (d : Host) (c : State) (ans : Effect) (i : ℕ) (x bytes : L
   pub fits : answer_len (received_in (slot_at d.slots (cid x)).waiting) ans.status ≤ length ans.bytes
   pub gets : take (length ans.bytes) bytes ≡ ans.bytes
 
--- the slot keeps its request, and gets the data
-here : (d : Host) (x bytes : List ℕ) → cid x < length d.slots → holds (executed d x bytes) (cid x) ≡ record (slot_at d.slots (cid x)) { bytes = bytes }
-here d x bytes l = slot-same d.slots (cid x) (record (slot_at d.slots (cid x)) { bytes = bytes }) l
-
 -- the answer that a command is given
 abbrev pub given : Host → State → Effect → List ℕ → PostedAnswer
 given d c ans x = record {
@@ -73,9 +66,6 @@ given d c ans x = record {
   bytes = take (answer_len (received_in (slot_at d.slots (cid x)).waiting) ans.status) ans.bytes;
   step = since d c;
 }
-
-front-of : (n m : ℕ) (bytes front : List ℕ) → n ≤ m → take m bytes ≡ front → take n bytes ≡ take n front
-front-of n m bytes front h e = sym (take-take n m bytes h) ∙ ap (take n) e
 
 -- the slots keep their requests
 pending-done : (d : Host) (x bytes : List ℕ) (k : ℕ) → (holds (executed d x bytes) k).waiting ≡ (slot_at d.slots k).waiting
@@ -105,8 +95,10 @@ module _ (d : Host) (c : State) (ans : Effect) (i : ℕ) (x bytes : List ℕ) (h
   -- the answer that is posted
   given-is : answer (holds (executed d x bytes)) (last_head (heard d) (unread d c)) (finished c ans x) ≡ given d c ans x
   given-is =
-      let k = here d x bytes (omega (arith, (h.fetched).within, ((h.fetched).running).slots)) in
-      rw (k, front-of (answer_len (received_in (slot_at d.slots (cid x)).waiting) ans.status) (length ans.bytes) bytes ans.bytes h.fits h.gets) refl
+      let k = slot-same d.slots (cid x) (record (slot_at d.slots (cid x)) { bytes = bytes }) (omega (arith, (h.fetched).within, ((h.fetched).running).slots)) in
+      let n : ℕ = answer_len (received_in (slot_at d.slots (cid x)).waiting) ans.status in
+      let f : take n bytes ≡ take n ans.bytes = sym (take-take n (length ans.bytes) bytes h.fits) ∙ ap (take n) h.gets in
+      rw (k, f) refl
 
   since-done : since (executed d x bytes) (executed_state c i x ans) ≡ 0
   since-done =

@@ -1,14 +1,10 @@
 -- An opened fleet keeps what a fleet keeps, and is the fleet that its configuration opens as.
-use Rattle.nvme_fleet.proofs.Words.{◌≡◌, ℕ, zero, suc, ◌∷◌, ◌∙◌, Bool, true, false, List, [], length, map, Option, None, Some, refl, sym, ap, subst, arith, slice_get, replicate, if◌then◌else◌, length-map, length-replicate, same_Some, most_bytes, ControllerConfig, Device, Configuration, World, opening_world, Driver, new_driver, Controller, new_controller, Subsystem, new_mailbox, WithDriver, Raw, new_host, opening, FleetState, SoundBy, IsSoundFleet, host_by, hosts_of, opening_driver, fleet_in, fleet_of}
+use Rattle.nvme_fleet.proofs.Words.{◌≡◌, ℕ, zero, suc, ◌∷◌, ◌∙◌, Bool, true, false, List, [], length, map, Option, None, Some, refl, sym, ap, subst, arith, slice_get, replicate, if◌then◌else◌, length-map, length-replicate, same_Some, most_bytes, ControllerConfig, Device, Configuration, World, opening_world, Driver, new_driver, Controller, new_controller, Subsystem, new_mailbox, WithDriver, Raw, new_host, opening, FleetState, SoundBy, IsSoundFleet, host_by, hosts_of, opening_driver, fleet_in, fleet_of, Fleet}
 use Rattle.nvme_machine.specs.Subsystems as machine
 use Rattle.nvme_fleet.proofs.SoundOpening.{opening_is_sound}
 
-abbrev pub opening-controllers : List ControllerConfig → List Controller
+abbrev opening-controllers : List ControllerConfig → List Controller
 opening-controllers ks = map (λ (k : ControllerConfig). new_controller k.cntlid) ks
-
-abbrev pub opened-state : World → Device → List Controller → List (Option Driver) → List ℕ → FleetState
-opened-state w v cs ds buffer =
-    record { subsystem = record { world = w; device = v; controllers = cs }; drivers = ds; buffer = buffer; filled = 0 }
 
 sound-one : (raw : Bool) (n : ℕ) → SoundBy (if raw then None else Some (new_driver 1)) (new_controller n)
 sound-one true n = tt
@@ -20,16 +16,6 @@ sound-each (k ∷ ks) zero d c h g =
     subst (λ p. SoundBy p c) (same_Some _ _ h) (subst (SoundBy (opening_driver k)) (same_Some _ _ g) (sound-one k.raw k.cntlid))
 sound-each (k ∷ ks) (suc i) d c h g = sound-each ks i d c h g
 
-pub opened-sound : (w : World) (v : Device) (ks : List ControllerConfig) (cs : List Controller) (ds : List (Option Driver)) (buffer : List ℕ) → cs ≡ opening-controllers ks → ds ≡ map opening_driver ks → buffer ≡ replicate most_bytes 0
-    → IsSoundFleet (opened-state w v cs ds buffer)
-opened-sound w v ks cs ds buffer made driven room = record {
-  pairs = ap length driven ∙ length-map ks opening_driver ∙ sym (ap length made ∙ length-map ks (λ (k : ControllerConfig). new_controller k.cntlid));
-  sound = subst (λ ys. (i : ℕ) (d : Option Driver) (c : Controller) → slice_get ys i ≡ Some d → slice_get cs i ≡ Some c → SoundBy d c) (sym driven)
-      (subst (λ xs. (i : ℕ) (d : Option Driver) (c : Controller) → slice_get (map opening_driver ks) i ≡ Some d → slice_get xs i ≡ Some c → SoundBy d c) (sym made) (sound-each ks));
-  room = ap length room ∙ length-replicate {A = ℕ} most_bytes 0;
-  fits = omega arith;
-}
-
 host-one : (raw : Bool) (n : ℕ) → host_by (if raw then None else Some (new_driver 1)) (new_controller n) ≡ (if raw then Raw (new_controller n) else WithDriver (new_mailbox 1))
 host-one true n = refl
 host-one false n = let o = opening_is_sound 1 n in ap WithDriver o.mail
@@ -39,23 +25,21 @@ hosts-each [] = refl
 hosts-each (k ∷ ks) =
     λ j. (host-one k.raw k.cntlid) j ∷ (hosts-each ks) j
 
-pub opened-fleet : (c : Configuration) (w : World) (v : Device) (cs : List Controller) (ds : List (Option Driver)) (buffer : List ℕ) → w ≡ opening_world c → cs ≡ opening-controllers c.controllers → ds ≡ map opening_driver c.controllers
-    → fleet_of (opened-state w v cs ds buffer) ≡ opening c v
-unfolding fleet_in opening
-opened-fleet c w v cs ds buffer opened made driven =
-    let hosts : hosts_of ds cs ≡ map new_host c.controllers = ap (λ xs. hosts_of ds xs) made ∙ ap (λ ys. hosts_of ys (opening-controllers c.controllers)) driven ∙ hosts-each c.controllers in
-    λ j. record { site = record { world = opened j; device = v }; hosts = hosts j }
-
 -- over a subsystem that was opened
 pub opened-over : (c : Configuration) (v : Device) (s : Subsystem) (ds : List (Option Driver)) (buffer : List ℕ) → s ≡ machine.opening c v → ds ≡ map opening_driver c.controllers → buffer ≡ replicate most_bytes 0
     → IsSoundFleet (record { subsystem = s; drivers = ds; buffer = buffer; filled = 0 })
 unfolding machine.opening
 opened-over c v s ds buffer opened driven room =
-    subst (λ x. IsSoundFleet (record { subsystem = x; drivers = ds; buffer = buffer; filled = 0 })) (sym opened)
-    (opened-sound (opening_world c) v c.controllers (opening-controllers c.controllers) ds buffer refl driven room)
+    subst (λ x. IsSoundFleet (record { subsystem = x; drivers = ds; buffer = buffer; filled = 0 })) (sym opened) (record {
+      pairs = ap length driven ∙ length-map c.controllers opening_driver ∙ sym (length-map c.controllers (λ (k : ControllerConfig). new_controller k.cntlid));
+      sound = subst (λ ys. (i : ℕ) (d : Option Driver) (x : Controller) → slice_get ys i ≡ Some d → slice_get (opening-controllers c.controllers) i ≡ Some x → SoundBy d x) (sym driven) (sound-each c.controllers);
+      room = ap length room ∙ length-replicate {A = ℕ} most_bytes 0;
+      fits = omega arith;
+    })
 
 pub opened-mailboxes : (c : Configuration) (v : Device) (s : Subsystem) (ds : List (Option Driver)) (buffer : List ℕ) → s ≡ machine.opening c v → ds ≡ map opening_driver c.controllers
     → fleet_of (record { subsystem = s; drivers = ds; buffer = buffer; filled = 0 }) ≡ opening c v
-unfolding machine.opening
+unfolding machine.opening fleet_in opening
 opened-mailboxes c v s ds buffer opened driven =
-    ap (λ x. fleet_of (record { subsystem = x; drivers = ds; buffer = buffer; filled = 0 })) opened ∙ opened-fleet c (opening_world c) v (opening-controllers c.controllers) ds buffer refl refl driven
+    ap (λ x. fleet_of (record { subsystem = x; drivers = ds; buffer = buffer; filled = 0 })) opened
+    ∙ ap (λ hs. (let f : Fleet = record { site = record { world = opening_world c; device = v }; hosts = hs } in f)) (ap (λ ys. hosts_of ys (opening-controllers c.controllers)) driven ∙ hosts-each c.controllers)

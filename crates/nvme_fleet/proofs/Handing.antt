@@ -9,26 +9,20 @@ counted (Stay what) m q = q.bytes
 counted (Clear what) m q = q.bytes
 counted other m q = refl
 
-poll-counted : (m : Mailbox) → data_len (polled m).reply.seen ≡ length (polled m).reply.bytes
-poll-counted m =
-    let v = polls (λ v. Unit {0}) (λ v p. tt) (λ lane first rest. tt) m in
-    subst (λ (r : MailboxReaction). data_len r.reply.seen ≡ length r.reply.bytes) (sym v.is) (counted v.move m v.may)
-
 -- so many bytes as it says
 handed-count : (m : Mailbox) (d : Driver) (c : Controller) (result : Result (Option Answer) PollFault) → IsStep (polled m) d c (record { seen = Polled result; bytes = (polled m).reply.bytes })
     → data_len (Polled result) ≡ length (polled m).reply.bytes
-handed-count m d c result s = sym (ap (λ (r : Reply). data_len r.seen) s.gives) ∙ poll-counted m
+handed-count m d c result s =
+    let v = polls (λ v. Unit {0}) (λ v p. tt) (λ lane first rest. tt) m in
+    sym (ap (λ (r : Reply). data_len r.seen) s.gives) ∙ subst (λ (r : MailboxReaction). data_len r.reply.seen ≡ length r.reply.bytes) (sym v.is) (counted v.move m v.may)
 
 pub handed-step : (m : Mailbox) (d : Driver) (c : Controller) (result : Result (Option Answer) PollFault) (buffer : List ℕ) → IsStep (polled m) d c (record { seen = Polled result; bytes = (polled m).reply.bytes })
     → take (length (polled m).reply.bytes) buffer ≡ (polled m).reply.bytes → IsStep (polled m) d c (reply_in (Polled result) buffer)
 handed-step m d c result buffer s front =
     subst (λ xs. IsStep (polled m) d c (record { seen = Polled result; bytes = xs })) (sym (ap (λ n. take n buffer) (handed-count m d c result s) ∙ front)) s
 
-long-enough : (n : ℕ) (xs ys : List ℕ) → n ≡ length ys → take n xs ≡ ys → n ≤ length xs
-long-enough n xs ys count front = omega (arith, length-take n xs, ap length front, count)
-
 pub handed-fits : (m : Mailbox) (d : Driver) (c : Controller) (result : Result (Option Answer) PollFault) (buffer : List ℕ) → IsStep (polled m) d c (record { seen = Polled result; bytes = (polled m).reply.bytes })
     → take (length (polled m).reply.bytes) buffer ≡ (polled m).reply.bytes → data_len (Polled result) ≤ length buffer
 handed-fits m d c result buffer s front =
     let n = handed-count m d c result s in
-    long-enough (data_len (Polled result)) buffer (polled m).reply.bytes n (ap (λ k. take k buffer) n ∙ front)
+    omega (arith, length-take (data_len (Polled result)) buffer, ap length (ap (λ k. take k buffer) n ∙ front), n)

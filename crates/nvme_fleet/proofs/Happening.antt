@@ -1,5 +1,5 @@
 -- What each event leaves of both layers of a fleet.
-use Rattle.nvme_fleet.proofs.Words.{AppliesRaw, Bool, CallsAt, Controller, DoesIfAny, Driver, DriverCall, Event, Executed, ExecutesItem, ExecutesOne, FetchedCommand, Fleet, FleetSeen, FleetState, Idle, IfNone, IfSome, Is, IsCalled, IsOfHost, IsSome, IsSoundFleet, IsThere, KeepsOthers, List, NoSuch, None, Option, Raw, Reaction, ReactsAs, Reply, Seen, Setting, Some, SoundBy, Store, SubmissionQueue, Subsystem, Took, WithDriver, Write32, [], after_fetch, after_store, after_write32, ap, arith, at-place, called, controller_at, controller_in, controller_of, data_len, driver_at, executed-back, false, fetchable, fetched_at, fetched_from, fleet_in, fleet_of, get_or, host_at, host_by, hosts_of, if◌then◌else◌, is_some, layers_of, length, mailbox, marks_after, marks_in, nat_le, none-some, plain, raw_fetch, raw_moment, reaction, reaction_to, refl, reply_in, same_Some, setting_of, settled, site_of, slice_get, slice_get_read, slice_get_within, slice_set, stored_seen, subst, suc, sym, told, true, window_size, with_bytes, with_driver, with_host, wrote, zero, ℕ, ◌+◌, ◌-◌, ◌<◌, ◌∙◌, ◌∷◌, ◌≡◌, ◌≤◌, drop, refill-all, take, ◌++◌, new_controller, Layers}
+use Rattle.nvme_fleet.proofs.Words.{AppliesRaw, Bool, CallsAt, Controller, DoesIfAny, Driver, DriverCall, Event, Executed, ExecutesItem, ExecutesOne, FetchedCommand, Fleet, FleetSeen, FleetState, Idle, IfNone, IfSome, Is, IsCalled, IsOfHost, IsSome, IsSoundFleet, IsThere, KeepsOthers, List, NoSuch, None, Option, Raw, Reaction, ReactsAs, Reply, Seen, Setting, Some, SoundBy, Store, SubmissionQueue, Subsystem, Took, WithDriver, Write32, [], after_fetch, after_store, after_write32, ap, arith, at-place, called, controller_at, controller_in, controller_of, data_len, driver_at, executed-back, false, fetchable, fetched_at, fetched_from, fleet_in, fleet_of, get_or, host_at, host_by, hosts_of, if◌then◌else◌, is_some, layers_of, length, mailbox, marks_after, marks_in, nat_le, none-some, plain, raw_fetch, raw_moment, reaction, reaction_to, refl, reply_in, same_Some, setting_of, settled, site_of, slice_get, slice_get_read, slice_get_within, slice_set, stored_seen, subst, suc, sym, told, true, window_size, with_bytes, with_driver, with_host, wrote, zero, ℕ, ◌+◌, ◌-◌, ◌<◌, ◌∙◌, ◌∷◌, ◌≡◌, ◌≤◌, drop, refill-all, take, ◌++◌, new_controller, Layers, common_steps}
 use Rattle.nvme_machine.specs.declared.seen.Seen.TheVariants as given
 use Rattle.nvme_machine.specs.Subsystems.{Step, ExecutesAt, with_controller}
 use Rattle.nvme_subsys.proofs.Numbers as numbers
@@ -72,16 +72,6 @@ is-some-there None s k there h = absurd (none-some _ (sym h ∙ found-there s k 
 pub lent-there : {A : Type 0} (f : A → Controller) (o : Option A) (x : A) (s : Subsystem) (k : ℕ) → o ≡ Some x → IfSome o (λ y. controller_at s k ≡ Some (f y)) → controller_in s (k - 1) ≡ f x
 lent-there f o x s k is h = controller-is-in s k (f x) (subst (λ p. IfSome p (λ y. controller_at s k ≡ Some (f y))) is h)
 
-driver-is : (ds : List (Option Driver)) (k i : ℕ) → k ≡ i + 1 → driver_at ds k ≡ slice_get ds i
-driver-is ds k i h = let next : k ≡ suc i = omega (arith, h) in ap (driver_at ds) next
-
-put-is : (ds : List (Option Driver)) (k i : ℕ) (d : Option Driver) → k ≡ i + 1 → slice_set ds i d ≡ with_driver ds k d
-put-is ds k i d h = let next : suc i ≡ k = omega (arith, h) in ap (λ n. with_driver ds n d) next
-
-driver-there : (a : FleetState) (k : ℕ) (d : Option Driver) → IsSoundFleet a → IsThere a.subsystem k → d ≡ get_or a.drivers (k - 1) d → driver_at a.drivers k ≡ Some d
-driver-there a k d s there is =
-    driver-is a.drivers k (k - 1) (place-is k there.0) ∙ slice_get_read a.drivers (length a.drivers) (k - 1) d refl (omega (arith, s.pairs, there.0, there.1)) is
-
 -- the driver that is lent from the place of a controller
 pub record IsFound (a : FleetState) (k : ℕ) (d : Option Driver) : Type 0 where
   pub there : IsThere a.subsystem k
@@ -91,7 +81,9 @@ pub record IsFound (a : FleetState) (k : ℕ) (d : Option Driver) : Type 0 where
 pub found-at : (a old : FleetState) (k n : ℕ) (d : Option Driver) → a ≡ old → IsSoundFleet a → (n ≡ k - 1) × IsThere old.subsystem k → d ≡ get_or a.drivers n d → IsFound a k d
 found-at a old k n d same s some is =
     let there : IsThere a.subsystem k = subst (λ (t : FleetState). IsThere t.subsystem k) (sym same) some.1 in
-    let at = driver-there a k d s there (subst (λ m. d ≡ get_or a.drivers m d) some.0 is) in
+    let next : k ≡ suc (k - 1) = omega (arith, there.0) in
+    let read = slice_get_read a.drivers (length a.drivers) (k - 1) d refl (omega (arith, s.pairs, there.0, there.1)) (subst (λ m. d ≡ get_or a.drivers m d) some.0 is) in
+    let at : driver_at a.drivers k ≡ Some d = ap (driver_at a.drivers) next ∙ read in
     record { there = there; driver = at; seat = seat a k d (controller_in a.subsystem (k - 1)) s at (found-there a.subsystem k there) }
 
 -- What one event of the subsystem leaves of the fleet.
@@ -200,18 +192,9 @@ executed-there tells a new k n x s there named h =
 
 -- An event of a raw host.
 
-stored-if : (b : Bool) (address : ℕ) (bytes : List ℕ) (c : Controller)
-    → told (let r : Reaction = (if b then reaction (record c { window = with_bytes c.window address bytes }) given.Stored else reaction c given.Outside) in r.seen) ≡ (if b then seen.Stored else seen.Outside)
-stored-if true address bytes c = refl
-stored-if false address bytes c = refl
-
 stored-gives : (address : ℕ) (bytes : List ℕ) (c : Controller) → told (let r : Reaction = after_store address bytes c in r.seen) ≡ stored_seen address bytes
 unfolding after_store
-stored-gives address bytes c = stored-if (nat_le (address + length bytes) window_size) address bytes c
-
-none-is : (d : Option Driver) → is_some d ≡ false → d ≡ None
-none-is None h = refl
-none-is (Some d) h = absurd (cc)
+stored-gives address bytes c = grind (arith, common_steps)
 
 changes : (a : FleetState) (new : Subsystem) (k : ℕ) (d : Option Driver) (f : Controller → Reaction) (what : FleetSeen) (x : Seen) → IsSoundFleet a → IsThere a.subsystem k → IsSeat a k d (controller_in a.subsystem (k - 1)) → is_some d ≡ false
     → ((c : Controller) → told (f c).seen ≡ what) → ReactsAs (controller_at a.subsystem k) a.subsystem k f x new
@@ -219,7 +202,7 @@ changes : (a : FleetState) (new : Subsystem) (k : ℕ) (d : Option Driver) (f : 
 changes a new k d f what x s there held none gives h =
     let c : Controller = controller_in a.subsystem (k - 1) in
     let b : FleetState = with-subsystem a new in
-    let t : IsSeat a k None c = subst (λ e. IsSeat a k e c) (none-is d none) held in
+    let t : IsSeat a k None c = subst (λ e. IsSeat a k e c) (grind (arith, common_steps, none)) held in
     let r = subst (λ o. ReactsAs o a.subsystem k f x new) (found-there a.subsystem k there) h in
     let p = reseated a b k None (f c).controller s tt (sym t.kept) r.1 refl refl in
     has-applied _ a new x (subst (λ o. Is (mailboxes.raw_at o (fleet_of a) k (λ y. (f y).controller) what) (plain (told x)) (fleet_of b)) (sym t.host) (ap plain (ap told r.0 ∙ gives c), p.fleet)) p.sound
@@ -295,7 +278,8 @@ delivered tells a b k d e call what s at drivers calls world device others long 
     let t = at.seat in
     let h = has-called (fleet_of a) (fleet_of b) k d e (controller_in a.subsystem i) x call (reply_in what b.buffer) t.sound calls in
     let set = numbers.replaced-at a.subsystem.controllers k i x is in
-    let put = drivers ∙ put-is a.drivers k i e is in
+    let next : suc i ≡ k = omega (arith, is) in
+    let put = drivers ∙ ap (λ n. with_driver a.drivers n e) next in
     let r = reseated a b k e x s h.sound put (others ∙ (λ j. record { world = world j; device = device j; controllers = sym set j })) long filled in
     record {
       step = subst (λ o. Is (mailboxes.called_at o (fleet_of a) k (reaction_to call)) (reply_in what b.buffer) (fleet_of b)) (sym t.host) (h.step t.host r.fleet);

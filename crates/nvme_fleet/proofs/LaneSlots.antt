@@ -1,5 +1,5 @@
 -- The slots of the window as each lane sees them: where one changes, all others stay in both lanes.
-use Rattle.nvme_fleet.proofs.Words.{waiting_at, cid, Waiting, ◌≡◌, ℕ, ◌+◌, ◌<◌, ◌≤◌, List, [], ◌∷◌, length, map, refl, ap, sym, ◌∙◌, arith, zero, suc, true, false, cond, eqb, Option, Some, None, slice_set, inl, inr, cases_Bool, ne_eqb, Slot, empty, slot_at, live_in, live_waiting, item, commands_of, Lane, Admin, Io, same, other, FetchedCommand, lane_of_queue, whole, slot_in, slots_in, commands_in, fetched_by, common_steps}
+use Rattle.nvme_fleet.proofs.Words.{waiting_at, cid, Waiting, ◌≡◌, ℕ, ◌+◌, ◌<◌, ◌≤◌, List, [], ◌∷◌, length, map, refl, ap, sym, ◌∙◌, arith, zero, suc, true, false, cond, eqb, Option, Some, None, slice_set, inl, inr, cases_Bool, ne_eqb, Slot, empty, slot_at, live_in, live_waiting, item, commands_of, Lane, Admin, Io, same, other, FetchedCommand, lane_of_queue, whole, slot_in, slots_in, commands_in, fetched_by, common_steps, item_in}
 use Rattle.std.specs.Option.{option_flatten}
 use Rattle.std.proofs.lemmas.Option.{slice_get-get_or}
 use Rattle.nvme_mailbox.proofs.Lists.{got-back}
@@ -77,23 +77,22 @@ pub record Own (lane : Lane) (o : Option Waiting) : Type 0 where
   pub slot : (w : List ℕ) (n : ℕ) → slot_in lane w n o ≡ whole w n waiting
   pub absent : (w : List ℕ) (n : ℕ) → slot_in (other lane) w n o ≡ empty
 
-own-by : (lane : Lane) (x : Waiting) → x.lane ≡ lane → x.live ≡ true → Own lane (Some x)
-own-by lane x s v = record {
-  waiting = x;
-  is = refl;
-  of_lane = s;
-  live = v;
-  counts = ap (λ b. cond {A = ℕ} b 1 0) v;
-  slot = λ w n. ap (λ b. cond b (whole w n x) empty) (ap (λ l. same l lane) s ∙ same-self lane);
-  absent = λ w n. ap (λ b. cond b (whole w n x) empty) (ap (λ l. same l (other lane)) s ∙ same-other lane);
-}
-
 own-is : (lane : Lane) (w : List ℕ) (n : ℕ) (o : Option Waiting) → live_in (slot_in lane w n o) ≡ 1 → Own lane o
 own-is lane w n None l = let z : ⊥ = omega (arith, l) in absurd z
 own-is lane w n (Some x) l =
     elim (cases_Bool (same x.lane lane)) [
       | inl s ↦
-          own-by lane x (same-is x.lane lane s) (cond-one x.live (rw s at l))
+          let own = same-is x.lane lane s in
+          let live = cond-one x.live (rw s at l) in
+          record {
+            waiting = x;
+            is = refl;
+            of_lane = own;
+            live = live;
+            counts = ap (λ b. cond {A = ℕ} b 1 0) live;
+            slot = λ w n. ap (λ b. cond b (whole w n x) empty) s;
+            absent = λ w n. ap (λ b. cond b (whole w n x) empty) (ap (λ l. same l (other lane)) own ∙ same-other lane);
+          }
       | inr s ↦ let m : 0 ≡ 1 = rw s at l in let z : ⊥ = omega (arith, m) in absurd z
     ]
 
@@ -112,13 +111,10 @@ own-zero Io x i us h = cond-zero (eqb (cid x) i) (commands_of i us) h
 pub rest-fewer : (lane : Lane) (t : FetchedCommand) (ts : List FetchedCommand) (i : ℕ) → commands_of i (commands_in lane ts) ≤ commands_of i (commands_in lane (t ∷ ts))
 rest-fewer lane t ts i = grind (arith, common_steps)
 
-same-item : (f g : ℕ → Slot) (x : List ℕ) → g (cid x) ≡ f (cid x) → item g x ≡ item f x
-same-item f g x h = rw h refl
-
 -- what was fetched stays, where a slot changes that no command bears
 pub same-fetched : (f g : Lane → ℕ → Slot) (i : ℕ) → ((l : Lane) → Apart i (f l) (g l)) →
     (ts : List FetchedCommand) → ((l : Lane) → commands_of i (commands_in l ts) ≡ 0) → map (fetched_by g) ts ≡ map (fetched_by f) ts
 same-fetched f g i a [] z = refl
 same-fetched f g i a (t ∷ ts) z =
     let p = own-zero (lane_of_queue t.queue) t.entry i (commands_in (lane_of_queue t.queue) ts) (z (lane_of_queue t.queue)) in
-    rw (same-item (f (lane_of_queue t.queue)) (g (lane_of_queue t.queue)) t.entry (a (lane_of_queue t.queue) (cid t.entry) p), same-fetched f g i a ts (λ l. omega (arith, z l, rest-fewer l t ts i))) refl
+    rw (ap (λ s. item_in s t.entry) (a (lane_of_queue t.queue) (cid t.entry) p), same-fetched f g i a ts (λ l. omega (arith, z l, rest-fewer l t ts i))) refl

@@ -113,12 +113,6 @@ resets step tells d e p q s at name is calls =
 
 -- Bringing up.
 
-already-up : (m : Mailbox) → m.up ≡ true → mail.brought_up m ≡ record { mailbox = m; reply = mail.plain (seen.Up (Err AlreadyUp)) }
-already-up m h = rw h refl
-
-reply-up : (m : Mailbox) → m.up ≡ false → (mail.brought_up m).reply ≡ mail.plain (seen.Up (Ok tt))
-reply-up m h = rw h refl
-
 -- what it has come to
 abbrev HasRisen : {M : Type 0} → Bool → Driver → Driver → OverMedium Linked M → OverMedium Linked M → Result (Unit {0}) UpFault → Type 0
 HasRisen tells d e p q result =
@@ -127,7 +121,8 @@ HasRisen tells d e p q result =
 stays-up : {M : Type 0} (step : M → MediumCall → M → Type 0) (tells : Bool) (d e : Driver) (p q : OverMedium Linked M) (result : Result (Unit {0}) UpFault) → Sound d (linked_controller p.state) → Reaches p.state → IsSameName p q
     → is_up d.state ≡ true → result ≡ Err AlreadyUp → e ≡ d → q ≡ p → HasRisen tells d e p q result
 stays-up step tells d e p q result s at name up is same h =
-    let still = already-up (mailbox d (linked_controller p.state)) up in
+    let m : Mailbox = mailbox d (linked_controller p.state) in
+    let still : mail.brought_up m ≡ record { mailbox = m; reply = mail.plain (seen.Up (Err AlreadyUp)) } = rw up refl in
     let made = calls-made step tells [] p q tt at.0 h in
     done tells [] _ d e p q (mail.plain (seen.Up (Err AlreadyUp))) _ _ at.0 name made
     (record { sound = s; mail = ap (λ (x : MailboxReaction). x.mailbox) still; gives = ap (λ (x : MailboxReaction). x.reply) still }) same (ap (λ r. mail.plain (seen.Up r)) is)
@@ -154,8 +149,9 @@ comes-up {M} step tells d e p q result s at name down h =
     let one = rises-mapped setting (CallOverMedium step tells) (LinkStep tells) window_over window_in (IsFresh p) there d e p q result fresh h in
     let two = rises-mapped subsystem (CallOverMedium step tells) (CallStep tells k) window_over (λ z. window_at z k) (IsFresh p) below d e p q result fresh h in
     let r = bring_up_is_a_step tells d e (linked_setting p.state) (linked_setting q.state) result s down one.0 in
+    let says : (mail.brought_up (mailbox d (linked_controller p.state))).reply ≡ mail.plain (seen.Up (Ok tt)) = rw (ap is_up down) refl in
     record {
-      step = record { sound = r.sound; mail = r.mail; gives = reply-up (mailbox d (linked_controller p.state)) (ap is_up down) ∙ ap (λ x. mail.plain (seen.Up x)) (sym r.answered) };
+      step = record { sound = r.sound; mail = r.mail; gives = says ∙ ap (λ x. mail.plain (seen.Up x)) (sym r.answered) };
       site = record { cntlid = r.cntlid; world = r.world; device = r.device; others = one.1.others; place = one.1.place; name = cc (name) };
       below = subst (λ x. ComesUp tells k d p.state.subsystem x e q.state.subsystem) (sym r.answered)
           (subst (λ x. Rises (CallStep tells k) (λ z. window_at z k) d p.state.subsystem x e q.state.subsystem) r.answered two.0);

@@ -1,5 +1,5 @@
 -- Marks reach the mailbox where they reach its controller.
-use Rattle.nvme_fleet.proofs.Words.{◌≡◌, ℕ, suc, ◌==◌, ◌&&◌, not, Bool, true, false, List, [], ◌∷◌, map, Some, refl, sym, ap, ◌∙◌, slice_get, if◌then◌else◌, AllByRecursion, nsid, Lane, Admin, Io, Driver, FetchedCommand, Controller, lane_of, is_io, item_in, box, Both, commands_in, host, state, held_by, fetched_by, Sound, IsOfLane, mailbox, lane_of_queue, MarksAreSteps, common_steps, arith}
+use Rattle.nvme_fleet.proofs.Words.{◌≡◌, ℕ, suc, ◌==◌, ◌&&◌, not, Bool, true, false, List, [], ◌∷◌, map, Some, refl, sym, ap, ◌∙◌, slice_get, if◌then◌else◌, AllByRecursion, nsid, Lane, Admin, Io, Driver, FetchedCommand, Controller, lane_of, is_io, item_in, box, Both, commands_in, host, state, held_by, fetched_by, Sound, IsOfLane, mailbox, lane_of_queue, MarksAreSteps, common_steps, arith, subst}
 use Rattle.nvme_machine.specs.Controllers as machine
 use Rattle.nvme_mailbox.specs.Mailboxes as mail
 use Rattle.nvme_fleet.proofs.OneLane.{same-holds}
@@ -15,22 +15,16 @@ same-but n t = elim (machine.names n t) as (λ b. (if b then record t { marked =
   | false ↦ refl
 ]
 
-queue-same : (n : ℕ) (t : FetchedCommand) → (marked n t).queue ≡ t.queue
-queue-same n t = ap (λ (x : FetchedCommand). x.queue) (same-but n t)
-
-entry-same : (n : ℕ) (t : FetchedCommand) → (marked n t).entry ≡ t.entry
-entry-same n t = ap (λ (x : FetchedCommand). x.entry) (same-but n t)
-
 lanes-same : (lane : Lane) (n : ℕ) (ts : List FetchedCommand) → commands_in lane (map (marked n) ts) ≡ commands_in lane ts
 lanes-same lane n [] = refl
-lanes-same lane n (t ∷ ts) = rw (queue-same n t, entry-same n t, lanes-same lane n ts) refl
+lanes-same lane n (t ∷ ts) = rw (same-but n t, lanes-same lane n ts) refl
 
 state-same : (lane : Lane) (n : ℕ) (c : Controller) → state lane (machine.with_marks n c) ≡ state lane c
 state-same lane n c = ap (λ ts. record (state lane c) { taken = ts }) (lanes-same lane n c.fetched)
 
 all-marked : (n : ℕ) (ts : List FetchedCommand) → AllByRecursion IsOfLane ts → AllByRecursion IsOfLane (map (marked n) ts)
 all-marked n [] a = tt
-all-marked n (t ∷ ts) a = (rw (queue-same n t) a.0, all-marked n ts a.1)
+all-marked n (t ∷ ts) a = (subst IsOfLane (sym (same-but n t)) a.0, all-marked n ts a.1)
 
 -- the request of a marked command is marked
 record Reaches (d : Driver) (c : Controller) (t : FetchedCommand) : Type 0 where

@@ -28,18 +28,14 @@ unfolding with_controller
 react-over None p q k f x m h = (h.0, ap (over m) h.1)
 react-over (Some c) p q k f x m h = (h.0, ap (over m) h.1)
 
-cycle-over : (p q : Subsystem) (m : Device) (x : Seen) → Step true p event.PowerCycle x q → Step true (over m p) event.PowerCycle x (over m q)
-unfolding after_power_cycle
-cycle-over p q m x h = (h.0, ap (over m) h.1)
-
 pub quiet-over : (tells : Bool) (e : Event) (p q : Subsystem) (x : Seen) (m : Device) → IsQuiet e → Step tells p e x q → Step tells (over m p) e x (over m q)
-unfolding controller_at
+unfolding controller_at after_power_cycle
 quiet-over tells (event.Store k address bytes) p q x m quiet h = react-over (controller_at p k) p q k _ x m h
 quiet-over tells (event.Write32 k offset v) p q x m quiet h = react-over (controller_at p k) p q k _ x m h
 quiet-over tells (event.Read32 k offset) p q x m quiet h = react-over (controller_at p k) p q k _ x m h
 quiet-over tells (event.Fetch k n) p q x m quiet h = react-over (controller_at p k) p q k _ x m h
 quiet-over tells (event.Execute k i) p q x m quiet h = absurd quiet
-quiet-over tells event.PowerCycle p q x m quiet h = cycle-over p q m x h
+quiet-over tells event.PowerCycle p q x m quiet h = (h.0, ap (over m) h.1)
 
 pub quiet-run : (tells : Bool) (events : List Event) (given : List Seen) (p q : Subsystem) (m : Device) → AreQuiet events → Run tells p events given q → Run tells (over m p) events given (over m q)
 quiet-run tells [] [] p q m quiet run = ap (over m) run
@@ -128,33 +124,23 @@ switched-on c (inr off) = by (register.is_enabled c.registers.cc) (register.can_
     by false true off = inl (enabled-admin (register.admin_queues (record c.registers { cc = enabling; state = register.ready_state enabling })) (record c { registers = record c.registers { cc = enabling; state = register.ready_state enabling } }))
     by false false off = inr refl
 
-value-status : (r : Registers) → register.value_at r 0x1c ≡ register.status_of r.state
-unfolding register.value_at
-value-status r = refl
-
 read-on : (o : Option Controller) (k v : ℕ) (p q : Subsystem) (x : Seen) (got : List Seen) → controller_at p k ≡ o → got ≡ x ∷ [] → got ≡ given.Value v ∷ [] → ReactsAs o p k (has_read csts) x q → At IsOn k p
     → At AreAdmin k p ⊎ (is_ready v ≡ false)
+unfolding register.value_at
 read-on None k v p q x got at a b h known = absurd (cc (a, b, h.0))
 read-on (Some c) k v p q x got at a b h known = by (known c at)
   where
     by : IsOn c → At AreAdmin k p ⊎ (is_ready v ≡ false)
     by (inl admin) = inl (λ d there. subst AreAdmin (same_Some _ _ (sym at ∙ there)) admin)
-    by (inr failed) = inr (ap is_ready (value-is x v (register.value_at c.registers csts) got a b h.0 ∙ value-status c.registers ∙ ap register.status_of failed))
-
-abbrev Any : Controller → Type 0
-Any c = Unit {0}
-
--- a call between disabling and enabling
-kept-off : (tells : Bool) (one : Call) (k : ℕ) (p q : Subsystem) → IsPlain (one ∷ []) → ((c : Controller) → IsOff c → IsOff (after_call one c)) → CallStep tells k p one q → At IsOff k p → At IsOff k q
-kept-off tells one k p q plain moves h known = call-at IsOff IsOff tells one k p q plain moves h known
+    by (inr failed) = inr (ap is_ready (value-is x v (register.value_at c.registers csts) got a b h.0 ∙ ap register.status_of failed))
 
 pub start-leaves : (tells : Bool) (k value : ℕ) (p on : Subsystem) → Calls (CallStep tells k) p (start_calls value) on → At AreAdmin k on ⊎ (is_ready value ≡ false)
 start-leaves tells k value p on (s1, h1, (s2, h2, (s3, h3, (s4, h4, (s5, h5, (s6, h6, (s7, h7, (s8, h8, (s9, h9, (s10, h10, (s11, h11, (s12, h12, last)))))))))))) =
-    let a1 = call-at Any IsOff tells _ k p s1 tt (λ c t. switched-off c) h1 (λ c at. tt) in
-    let a5 = kept-off tells _ k s4 s5 tt (store-off _ _) h5 (kept-off tells _ k s3 s4 tt (store-off _ _) h4 (kept-off tells _ k s2 s3 tt (store-off _ _) h3 (kept-off tells _ k s1 s2 tt (store-off _ _) h2 a1))) in
-    let a7 = kept-off tells _ k s6 s7 tt (λ c t. write-off asq_low _ c refl t) h7 (kept-off tells _ k s5 s6 tt (λ c t. write-off aqa _ c refl t) h6 a5) in
-    let a9 = kept-off tells _ k s8 s9 tt (λ c t. write-off acq_low _ c refl t) h9 (kept-off tells _ k s7 s8 tt (λ c t. write-off asq_high _ c refl t) h8 a7) in
-    let a11 = call-at IsOff IsOn tells _ k s10 s11 tt switched-on h11 (kept-off tells _ k s9 s10 tt (λ c t. write-off acq_high _ c refl t) h10 a9) in
+    let a1 = call-at (λ c. Unit {0}) IsOff tells _ k p s1 tt (λ c t. switched-off c) h1 (λ c at. tt) in
+    let a5 = call-at IsOff IsOff tells _ k s4 s5 tt (store-off _ _) h5 (call-at IsOff IsOff tells _ k s3 s4 tt (store-off _ _) h4 (call-at IsOff IsOff tells _ k s2 s3 tt (store-off _ _) h3 (call-at IsOff IsOff tells _ k s1 s2 tt (store-off _ _) h2 a1))) in
+    let a7 = call-at IsOff IsOff tells _ k s6 s7 tt (λ c t. write-off asq_low _ c refl t) h7 (call-at IsOff IsOff tells _ k s5 s6 tt (λ c t. write-off aqa _ c refl t) h6 a5) in
+    let a9 = call-at IsOff IsOff tells _ k s8 s9 tt (λ c t. write-off acq_low _ c refl t) h9 (call-at IsOff IsOff tells _ k s7 s8 tt (λ c t. write-off asq_high _ c refl t) h8 a7) in
+    let a11 = call-at IsOff IsOn tells _ k s10 s11 tt switched-on h11 (call-at IsOff IsOff tells _ k s9 s10 tt (λ c t. write-off acq_high _ c refl t) h10 a9) in
     let one = one-ran tells s11 s12 (event.Read32 k csts) h12.given h12.run in
     elim (read-on (controller_at s11 k) k value s11 s12 one.gives h12.given refl one.alone h12.answers one.step a11) [
       | inl admin ↦ inl (λ c there. call-at AreAdmin AreAdmin tells (Reads csts value) k s11 s12 tt (λ d is. is) h12 admin c (ap (λ s. controller_at s k) (sym last) ∙ there))
@@ -169,15 +155,6 @@ answer-over queues k t s a m is h =
     let e = subst (λ b. CommandComesToAs b true queues k t s a) is h in
     subst (λ b. CommandComesToAs b true queues k t (scene_over m s) (command_execution_over m a)) (sym is) (ap (command_execution_over m) e)
 
-answer-quiet : (queues : Queues) (k : ℕ) (t : FetchedCommand) (s : Scene) (a : CommandExecution) → IsAdmin t → CommandComesTo true queues k t s a → a.outcome.marks ≡ no_marks
-unfolding CommandComesTo
-answer-quiet queues k t s a is h =
-    ap (λ (y : CommandExecution). y.outcome.marks) (subst (λ b. CommandComesToAs b true queues k t s a) is h)
-
-answer-admin : (t : FetchedCommand) (p : QueuePair) (a : CommandExecution) (c : Controller) → AreAdmin c → AreAdmin (after_completion 0 t p a c)
-unfolding after_completion after_posting
-answer-admin t p a c h = change-admin a.change (after_posting 0 t p a.outcome.status a.outcome.dw0 (record c { window = a.left.window })) (all-removed IsAdmin c.fetched 0 h)
-
 completes-over : (p q : Subsystem) (k : ℕ) (c : Controller) (t : FetchedCommand) (pair : QueuePair) (x : Seen) (m : Device) → IsAdmin t → Completes true p k c 0 t pair x q → Completes true (over m p) k c 0 t pair x (over m q)
 unfolding after_execution after_completion
 completes-over p q k c t pair x m is h = record {
@@ -191,14 +168,14 @@ completes-over p q k c t pair x m is h = record {
     same a = refl
 
 completes-admin : (p q : Subsystem) (k : ℕ) (c : Controller) (t : FetchedCommand) (pair : QueuePair) (x : Seen) → IsAdmin t → AreAdmin c → controller_at p k ≡ Some c → Completes true p k c 0 t pair x q → At AreAdmin k q
-unfolding after_execution controller_at
+unfolding after_execution controller_at CommandComesTo after_completion after_posting
 completes-admin p q k c t pair x is all at h d there =
     let a : CommandExecution = h.execution in
-    let none = answer-quiet (queues_of c) k t (scene_of p c) a is h.comes_to in
+    let none = ap (λ (y : CommandExecution). y.outcome.marks) (subst (λ b. CommandComesToAs b true (queues_of c) k t (scene_of p c) a) is h.comes_to) in
     let cs : q.controllers ≡ replaced p.controllers k (after_completion 0 t pair a c) =
     ap (λ (s : Subsystem). s.controllers) h.leaves ∙ ap (λ w. marked_from a.left.world w 1 (replaced p.controllers k (after_completion 0 t pair a c))) none
     ∙ unmarked a.left.world 1 (replaced p.controllers k (after_completion 0 t pair a c)) in
-    subst AreAdmin (same_Some _ _ (sym (replaced-same p.controllers k c (after_completion 0 t pair a c) at) ∙ ap (λ l. numbered l k) (sym cs) ∙ there)) (answer-admin t pair a c all)
+    subst AreAdmin (same_Some _ _ (sym (replaced-same p.controllers k c (after_completion 0 t pair a c) at) ∙ ap (λ l. numbered l k) (sym cs) ∙ there)) (change-admin a.change (after_posting 0 t pair a.outcome.status a.outcome.dw0 (record c { window = a.left.window })) (all-removed IsAdmin c.fetched 0 all))
 
 stays-at : (p q : Subsystem) (k : ℕ) → q ≡ p → At AreAdmin k p → At AreAdmin k q
 stays-at p q k e all c there = all c (ap (λ s. controller_at s k) (sym e) ∙ there)

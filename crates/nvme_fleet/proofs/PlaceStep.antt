@@ -16,9 +16,6 @@ use Rattle.nvme_fleet.proofs.Placing.{free-some, free-same}
 
 -- The tests of a placing see the same in a mailbox and in its driver.
 
-full-is : (u : ℕ) → u < 8 → (u == 7) ≡ (8 - 1 - u == 0)
-full-is u h = grind (arith, common_steps, h)
-
 abbrev tests : Bool → Bool → Bool → Bool → Bool → Option PlaceRefusal
 tests u bad full ring more =
     if not u then Some NotReady
@@ -31,17 +28,15 @@ same-tests : (u bad a a' b b' more : Bool) → (u ≡ true → (a ≡ a') × (b 
 same-tests true bad a a' b b' more h = let e = h refl in rw (e.0, e.1) refl
 same-tests false bad a a' b b' more h = refl
 
-unheard-is : (lane : Lane) (d : Driver) (c : Controller) → (box_at lane (mailbox d c)).unheard ≡ (ends lane d).tail.unheard
-unfolding box
-unheard-is lane d c = ap (λ (b : LaneBox). b.unheard) (box-is lane d c)
-
 refusal-is : (d : Driver) (c : Controller) (request : Request) → Sound d c → refusal (mailbox d c) request ≡ place_refusal d request
+unfolding box
 refusal-is d c request s =
     same-tests (is_up d.state) (is_bad request) _ _ _ _ (nat_lt d.next ticket_count) (λ u.
-    let r = running (lane_of request) d c s u in (
+    let r = running (lane_of request) d c s u in
+    let full : ((ends (lane_of request) d).tail.unheard == 7) ≡ (8 - 1 - (ends (lane_of request) d).tail.unheard == 0) = grind (arith, common_steps, r.room) in (
       free-same d c s.both u,
-      ap (λ n. n == 7) (unheard-is (lane_of request) d c)
-          ∙ full-is (ends (lane_of request) d).tail.unheard r.room
+      ap (λ (b : LaneBox). b.unheard == 7) (box-is (lane_of request) d c)
+          ∙ full
           ∙ ap (λ n. n - 1 - (ends (lane_of request) d).tail.unheard == 0) (sym (s.fits (lane_of request)).tail),
     ))
 
@@ -59,9 +54,6 @@ record Passed (u bad ring : Bool) : Type 0 where
 passes : (u bad full ring more : Bool) → tests u bad full ring more ≡ None → Passed u bad ring
 passes true false false false more h = record { up = refl; good = refl; room = refl }
 passes u bad full ring more h = absurd (cc (h))
-
-below-seven : (u : ℕ) → u < 8 → (8 - 1 - u == 0) ≡ false → u < 7
-below-seven u h e = grind (arith, common_steps, h, e)
 
 -- A command suits a slot whose request it spells, and whose list is there.
 same-bytes : (xs ys : List ℕ) → xs ≡ ys → bytes_eq xs ys ≡ true
@@ -117,12 +109,13 @@ known d c request slot s h f say =
     let g = s.fits (lane_of request) in
     let r = running (lane_of request) d c s p.up in
     let a = free-some d.slots slot f in
+    let some : (8 - 1 - (ends (lane_of request) d).tail.unheard == 0) ≡ false = ap (λ n. n - 1 - (ends (lane_of request) d).tail.unheard == 0) (sym g.tail) ∙ p.room in
     record {
       sound = s;
       up = p.up;
       good = p.good;
       put = r.put;
-      room = below-seven (ends (lane_of request) d).tail.unheard r.room (ap (λ n. n - 1 - (ends (lane_of request) d).tail.unheard == 0) (sym g.tail) ∙ p.room);
+      room = grind (arith, common_steps, r.room, some);
       within = omega (arith, a.0, s.both.slots);
       free = a.1;
       says = say;

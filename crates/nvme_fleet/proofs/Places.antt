@@ -81,11 +81,6 @@ module _ (d : Host) (c : State) (x : List ℕ) (w : Waiting) (slot : ℕ) (bytes
       ap (commands (placed_state d c x).window ((c.fetched + c.waiting) % 8)) n ∙
       stretch ((c.fetched + c.waiting) % 8) (in_flight d c - c.waiting) (omega arith) e
 
-  rung-same : rung-part (placed_state d c x) ≡ rung-part c
-  rung-same =
-      let s : Running d c = h.running in
-      commands-kept c.window (placed_state d c x).window d.put 32 c.fetched c.waiting entered.keeps s.put s.fetched s.waiting
-
   -- Place appends the request to those that are placed
   pub place-box : box (placed d w slot bytes list) (placed_state d c x) ≡ record (box d c) { placed = (box d c).placed ++ item_in (filled w bytes list) x ∷ []; unheard = (box d c).unheard + 1 }
   unfolding box
@@ -96,7 +91,7 @@ module _ (d : Host) (c : State) (x : List ℕ) (w : Waiting) (slot : ℕ) (bytes
       let b = bare-box d c slot (filled w bytes list) (bare d c slot h.running h.free) in
       same-box _ _ _ _ _ _ _ _ _ _
       (ap (map (item f)) placed-more ∙ map-append (item f) (placed-part d c) (x ∷ []))
-      (ap (map (item f)) rung-same)
+      (ap (map (item f)) (commands-kept c.window (placed_state d c x).window d.put 32 c.fetched c.waiting entered.keeps (h.running).put (h.running).fetched (h.running).waiting))
       (λ i. answers f (n i) (u i))
       refl
       (λ i. (c.fetched + 8 - last_head (n i) (u i)) % 8)
@@ -123,14 +118,12 @@ module _ (d : Host) (c : State) (x : List ℕ) (w : Waiting) (slot : ℕ) (bytes
       (omega (arith, s.carried slot, h.free, flight-more (bears slot), ap (answers_of slot) u, new-bears x slot slot true h.named (eq-eqb slot slot refl), new-live w bytes list h.live))
       (λ k q. omega (arith, s.carried k, flight-more (bears k), ap (answers_of k) u, new-bears x slot k false h.named (eqb-sym k slot q)))
 
-  new-suits : odd (holds (placed d w slot bytes list)) x ≡ 0
-  new-suits = ap (λ s. cond (suits s x) 0 1) here ∙ ap (λ b. cond b 0 1) h.suits_it
-
   pub place-running : Running (placed d w slot bytes list) (placed_state d c x)
   place-running =
       let s : Running d c = h.running in
       let m = more-flight in
       let k = entered in
+      let new : odd (holds (placed d w slot bytes list)) x ≡ 0 = ap (λ s. cond (suits s x) 0 1) here ∙ ap (λ b. cond b 0 1) h.suits_it in
       record {
         ready = s.ready;
         window = k.keeps.size ∙ s.window;
@@ -151,7 +144,7 @@ module _ (d : Host) (c : State) (x : List ℕ) (w : Waiting) (slot : ℕ) (bytes
           s.suited,
           flight-more (odd (holds (placed d w slot bytes list))),
           bare-odd d c slot (filled w bytes list) (bare d c slot s h.free),
-          new-suits,
+          new,
         );
       }
 

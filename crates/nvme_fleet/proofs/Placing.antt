@@ -1,5 +1,5 @@
 -- A mailbox holds a request for each slot that is not free: so many live ones in both lanes, so many that were aborted.
-use Rattle.nvme_fleet.proofs.Words.{held, ranked, Waiting, ◌≡◌, ℕ, ◌+◌, ◌<◌, ◌≤◌, List, [], ◌∷◌, length, refl, ap, sym, ◌∙◌, arith, true, false, cond, eqb, Option, Some, None, inl, inr, suc, length-map, lt-ltb, le-ltb, cases_lt, common_steps, position, position_or_len, is_none, waiting_at, Running, live_in, live_waiting, total, Lane, Admin, Io, same, Driver, is_up, FetchedCommand, Controller, lane_of_queue, Both, slots_in, commands_in, host, state, fetched_by, held_by, ranked_too, in_order, aborted_number, mailbox}
+use Rattle.nvme_fleet.proofs.Words.{held, ranked, Waiting, ◌≡◌, ℕ, ◌+◌, ◌<◌, ◌≤◌, List, [], ◌∷◌, length, refl, ap, sym, ◌∙◌, arith, true, false, cond, eqb, Option, Some, None, inl, inr, suc, length-map, lt-ltb, le-ltb, cases_lt, common_steps, position, position_or_len, is_none, waiting_at, Running, live_in, live_waiting, total, Lane, Admin, Io, same, Driver, is_up, FetchedCommand, Controller, lane_of_queue, Both, slots_in, commands_in, host, state, fetched_by, held_by, ranked_too, in_order, aborted_number, mailbox, FetchedItem}
 use Rattle.nvme_fleet.proofs.Queues.{box-live}
 use Rattle.nvme_fleet.proofs.LaneSlots.{live-of}
 use Rattle.std.proofs.lemmas.List.Quantifiers.{position-Some}
@@ -51,38 +51,20 @@ ranked-length : (t : ℕ) (us : List ℕ) → length (ranked t us) ≡ length us
 ranked-length t [] = omega arith
 ranked-length t (u ∷ us) = grind (arith, common_steps, ranked-length t us)
 
-abbrev aborted : List (Option Waiting) → List ℕ
-aborted slots = in_order aborted_number slots
-
--- one slot more
-split-one : (p : Waiting) (us : List ℕ) → live_waiting (Some p) + length (ranked_too (aborted_number (Some p)) us) ≡ length us + 1
-split-one p us = grind (arith, common_steps, ranked-length p.ticket.0 us)
-
 split : (w : List ℕ) (k : ℕ) (slots : List (Option Waiting)) →
-    total live_in (slots_in Admin w k slots) + total live_in (slots_in Io w k slots) + length (aborted slots) ≡ total filled slots
+    total live_in (slots_in Admin w k slots) + total live_in (slots_in Io w k slots) + length (in_order aborted_number slots) ≡ total filled slots
 split w k [] = omega arith
 split w k (None ∷ xs) = omega (arith, split w (suc k) xs)
-split w k (Some t ∷ xs) = omega (arith, split w (suc k) xs, live-of w k t.lane t, split-one t (aborted xs))
-
-length-by : (l : Lane) (x : List ℕ) (us vs : List (List ℕ)) → length (cond (same l Admin) (x ∷ us) us) + length (cond (same l Io) (x ∷ vs) vs) ≡ length us + length vs + 1
-length-by Admin x us vs = omega arith
-length-by Io x us vs = omega arith
+split w k (Some t ∷ xs) = grind (arith, common_steps, split w (suc k) xs, live-of w k t.lane t, ranked-length t.ticket.0 (in_order aborted_number xs))
 
 pub length-taken : (ts : List FetchedCommand) → length ts ≡ length (commands_in Admin ts) + length (commands_in Io ts)
 length-taken [] = omega arith
-length-taken (t ∷ ts) = omega (arith, length-taken ts, length-by (lane_of_queue t.queue) t.entry (commands_in Admin ts) (commands_in Io ts))
+length-taken (t ∷ ts) = grind (arith, common_steps, length-taken ts)
 
 -- a mailbox holds a request for each slot that is not free
 held-filled : (d : Driver) (c : Controller) → Running (host Admin d c.window) (state Admin c) → Running (host Io d c.window) (state Io c) → held (mailbox d c) ≡ total filled d.slots
 held-filled d c a b =
-    omega (
-      arith,
-      box-live (host Admin d c.window) (state Admin c) a,
-      box-live (host Io d c.window) (state Io c) b,
-      length-map c.fetched (fetched_by (held_by d c.window)),
-      length-taken c.fetched,
-      split c.window 0 d.slots,
-    )
+    omega (arith, box-live (host Admin d c.window) (state Admin c) a, box-live (host Io d c.window) (state Io c) b, length-map {A = FetchedCommand} {B = FetchedItem}, length-taken, split c.window 0 d.slots)
 
 -- a slot is free just where a mailbox holds fewer than 24 requests
 pub free-same : (d : Driver) (c : Controller) → Both d c → is_up d.state ≡ true → eqb (held (mailbox d c)) 24 ≡ is_none (position is_none d.slots)

@@ -38,13 +38,6 @@ new-is : (lane : Lane) (d : Driver) (w : List ℕ) → (ends lane d).head.consum
     → poll.new_in lane (ends lane d) w ≡ (if is_next lane d w then Some (completion_bytes (pages_of lane w) (ends lane d).head.consumed) else None)
 new-is lane d w h = rw (bytes-in lane w (ends lane d).head.consumed, tag-is (ends lane d).head.consumed h) refl
 
-new-none : (lane : Lane) (d : Driver) (w : List ℕ) → (ends lane d).head.consumed < 64 → next_completion (host lane d w) (pages_of lane w) ≡ None → poll.new_in lane (ends lane d) w ≡ None
-new-none lane d w h e = grind (arith, common_steps, new-is lane d w h, e)
-
-new-some : (lane : Lane) (d : Driver) (w : List ℕ) (x : Completion) → (ends lane d).head.consumed < 64 → next_completion (host lane d w) (pages_of lane w) ≡ Some x
-    → poll.new_in lane (ends lane d) w ≡ Some (completion_bytes (pages_of lane w) (ends lane d).head.consumed)
-new-some lane d w x h e = grind (arith, common_steps, new-is lane d w h, e)
-
 -- Aborted requests.
 
 number-is : (o : Option Waiting) → aborted_number o ≡ option_map (λ (t : Ticket). t.0) (poll.aborted_ticket o)
@@ -147,10 +140,6 @@ heads lane d c s u p =
     hear-is : (lane : Lane) (d : Driver) (w : List ℕ) (head : ℕ) → EndsFit (ends lane d) → can_be_heard (ends lane d).tail head ≡ can_hear (host lane d w) head
     hear-is lane d w head f = rw (f.tail, same-ahead (ends lane d).tail.put head) refl
 
-own-live : (lane : Lane) (w : Waiting) → w.lane ≡ lane → w.live ≡ true → poll.live_in lane (Some w) ≡ Some w
-own-live lane w a b =
-    ap (λ t. if t && w.live then Some w else None) (eq-eqb _ _ (ap queue_id a)) ∙ ap (λ t. if t then Some w else None) b
-
 abbrev answer_at : (lane : Lane) (d : Driver) (c : Controller) → Heads lane d c → poll.Poll
 answer_at lane d c h = poll.answered_poll d c.window lane (entry_at lane d c) (Some (h.own).waiting)
 
@@ -177,14 +166,6 @@ head_then lane d = ((ends lane d).head.consumed + 1) % 64 % 32
 
 fewer : (n k p : ℕ) → n < 64 → 0 < k → k < 32 → p ≡ (n + k) % 64 → (32 + p % 32 - (n + 1) % 64 % 32) % 32 ≡ k - 1
 fewer n k p a b e f = omega arith
-
--- an answer is as long as the request says where it succeeded
-len-small : (received : ℕ) (why : Status) → received ≤ most_bytes → poll.answer_len received why ≤ most_bytes
-len-small received why h = grind (arith, common_steps, h)
-
-place-small : (w : List ℕ) (k n : ℕ) → length w ≡ 4194304 → k < 24 → n ≤ most_bytes → length (take n (drop (data_area k) w)) ≡ n
-place-small w k n l h g =
-    length-take-le n (drop (data_area k) w) (omega (arith, length-drop (data_area k) w, l, h, g))
 
 -- what the answer gives, in the driver and in the mailbox
 abbrev poll_reply : poll.Poll → Reply
@@ -223,11 +204,11 @@ has lane d c s u =
     elim (cases_lt 0 (state lane c).unread) [
       | inl some ↦ inl (record {
         heads = heads lane d c s u some;
-        found = new-some lane d c.window _ r.consumed (next-some (host lane d c.window) (state lane c) r some);
+        found = grind (arith, common_steps, new-is lane d c.window r.consumed, next-some (host lane d c.window) (state lane c) r some);
         posted = b ∙ poll-posted (host lane d c.window) (state lane c) r some;
       })
       | inr over ↦ (let z : (state lane c).unread ≡ 0 = omega (arith, over) in inr (record {
-        found = new-none lane d c.window r.consumed (next-none (host lane d c.window) (state lane c) r z);
+        found = grind (arith, common_steps, new-is lane d c.window r.consumed, next-none (host lane d c.window) (state lane c) r z);
         posted = b ∙ none-posted (host lane d c.window) (state lane c) z;
       }))
     ]
@@ -240,7 +221,8 @@ module _ (lane : Lane) (d : Driver) (c : Controller) (h : Heads lane d c) where
       ap (λ t. if t && can_be_heard (ends lane d).tail (sq_head (entry_at lane d c)) then poll.live_in lane (waiting_at d.slots (cid (entry_at lane d c))) else None) a
       ∙ ap (λ t. if t then poll.live_in lane (waiting_at d.slots (cid (entry_at lane d c))) else None) h.heard
       ∙ ap (poll.live_in lane) (h.own).is
-      ∙ own-live lane (h.own).waiting (h.own).of_lane (h.own).live
+      ∙ ap (λ t. if t && (h.own).waiting.live then Some (h.own).waiting else None) (eq-eqb _ _ (ap queue_id (h.own).of_lane))
+      ∙ ap (λ t. if t then Some (h.own).waiting else None) (h.own).live
 
   told-so : Counted lane c (told_one lane c (head_then lane d)) (told_counts lane c)
   told-so =
@@ -302,11 +284,11 @@ module _ (lane : Lane) (d : Driver) (c : Controller) (h : Heads lane d c) where
   answer-is : answer_reply (first_answer lane d c) ≡ poll_reply (answer_at lane d c h)
   answer-is =
       let small : ((h.own).waiting).received ≤ most_bytes = subst (λ o. received_in o ≤ most_bytes) (h.own).is (h.sound.sizes (cid (entry_at lane d c))) in
-      let g = len-small ((h.own).waiting).received (status (entry_at lane d c)) small in
+      let g : poll.answer_len ((h.own).waiting).received (status (entry_at lane d c)) ≤ most_bytes = grind (arith, common_steps, small) in
       let e = slot-in lane c.window d.slots (cid (entry_at lane d c)) ∙ (h.own).slot c.window (cid (entry_at lane d c)) in
       let t = area-data c.window (cid (entry_at lane d c)) (poll.answer_len ((h.own).waiting).received (status (entry_at lane d c))) g in
       let l = ap length (t ∙ range-is c.window (data_area (cid (entry_at lane d c))) (poll.answer_len ((h.own).waiting).received (status (entry_at lane d c))))
-      ∙ place-small c.window (cid (entry_at lane d c)) (poll.answer_len ((h.own).waiting).received (status (entry_at lane d c))) h.sound.both.window h.within g in
+      ∙ length-take-le _ (drop (data_area (cid (entry_at lane d c))) c.window) (omega (arith, length-drop (data_area (cid (entry_at lane d c))) c.window, h.sound.both.window, h.within, g)) in
       ap (λ (z : Slot). answer_reply (record { ticket = ticket_in z.waiting; status = status (entry_at lane d c); dw0 = dw0 (entry_at lane d c); bytes = take (poll.answer_len (received_in z.waiting) (status (entry_at lane d c))) z.bytes; step = (first_answer lane d c).step })) e
       ∙ (λ i. record { seen = Polled (Ok (Some (Done ((h.own).waiting).ticket (status (entry_at lane d c)) (dw0 (entry_at lane d c)) (l i)))); bytes = t i })
 

@@ -28,13 +28,6 @@ unread-first w n (suc k) p = let e : suc k - 1 ≡ k = omega arith in rw e refl
 front-first : (d : Host) (c : State) → 0 < c.unread → unread d c ≡ front d c ∷ rest-of d c
 front-first d c p = unread-first c.window d.consumed c.unread p
 
--- what a heard head leaves unheard, and that this head is then the last one heard
-left-is : (p u h : ℕ) → p < 8 → u < 8 → h < 8 → (h + 8 - (p + 8 - u) % 8) % 8 ≤ u → (p + 8 - h) % 8 ≡ u - (h + 8 - (p + 8 - u) % 8) % 8
-left-is p u h a b e f = omega arith
-
-heard-is : (p u h : ℕ) → p < 8 → u < 8 → h < 8 → (p + 8 - (p + 8 - h) % 8) % 8 ≡ h
-heard-is p u h a b e = omega arith
-
 -- the numbers of a poll that consumes the front completion
 abbrev step-of : Host → State → ℕ
 step-of d c = ((front d c).sq_head + 8 - heard d) % 8
@@ -59,7 +52,7 @@ module _ (d : Host) (c : State) (s : Running d c) (p : 0 < c.unread) where
   front-of = subst (AllByRecursion (IsOf (queue_id c.lane))) (front-first d c p) s.of_lane
 
   left-over : left_after d (front d c).sq_head ≡ d.unheard - step-of d c
-  left-over = left-is d.put d.unheard (front d c).sq_head s.put s.room front-of.0.1 (omega (arith, ap (steps (heard d)) (front-first d c p), s.unheard))
+  left-over = omega (arith, s.put, s.room, front-of.0.1, ap (steps (heard d)) (front-first d c p), s.unheard)
 
   pub hears : can_hear d (front d c).sq_head ≡ true
   hears = grind (arith, common_steps, front-of.0.1, left-over)
@@ -74,7 +67,7 @@ module _ (d : Host) (c : State) (s : Running d c) (p : 0 < c.unread) where
       (omega (arith, s.carried (front d c).cid, front-live, front-answers d c (front d c).cid true p (eq-eqb (front d c).cid (front d c).cid refl)))
 
   heard-front : heard (consumed d (front d c)) ≡ (front d c).sq_head
-  heard-front = heard-is d.put d.unheard (front d c).sq_head s.put s.room front-of.0.1
+  heard-front = omega (arith, s.put, front-of.0.1)
 
   since-front : since (consumed d (front d c)) (less c) ≡ since d c
   since-front =
@@ -99,9 +92,6 @@ module _ (d : Host) (c : State) (s : Running d c) (p : 0 < c.unread) where
       let f = freed-box in
       same-box _ _ _ _ _ _ _ _ _ _ (ap (λ (b : LaneBox). b.placed) f) (ap (λ (b : LaneBox). b.rung) f) refl left-over since-front
 
-  unheard-front : steps (heard (consumed d (front d c))) (rest-of d c) + since (consumed d (front d c)) (less c) + in_flight d c ≡ left_after d (front d c).sq_head
-  unheard-front = omega (arith, ap (λ h. steps h (rest-of d c)) heard-front, since-front, left-over, ap (steps (heard d)) (front-first d c p), s.unheard)
-
   carried-front : Carried (consumed d (front d c)) (less c)
   carried-front =
       let n : ℕ = (front d c).cid in
@@ -109,12 +99,6 @@ module _ (d : Host) (c : State) (s : Running d c) (p : 0 < c.unread) where
       d.slots n empty (live-within d.slots n front-live)
       (omega (arith, s.carried n, front-answers d c n true p (eq-eqb n n refl), live-small (slot_at d.slots n)))
       (λ k q. omega (arith, s.carried k, front-answers d c k false p (eqb-sym k n q)))
-
-  -- one live slot fewer, and one answer
-  held-front : length c.taken + in_flight d c + (c.unread - 1) ≡ total live_in (slice_set d.slots (front d c).cid empty)
-  held-front =
-      let l : live_at d.slots (front d c).cid ≡ 1 = front-live in
-      omega (arith, s.held, p, l, live-set d.slots (front d c).cid empty (live-within d.slots (front d c).cid l))
 
   pub poll-running : Running (consumed d (front d c)) (less c)
   poll-running =
@@ -127,12 +111,12 @@ module _ (d : Host) (c : State) (s : Running d c) (p : 0 < c.unread) where
         consumed = omega arith;
         posted = omega (arith, s.posted, p);
         waiting = s.waiting;
-        unheard = unheard-front;
+        unheard = omega (arith, ap (λ h. steps h (rest-of d c)) heard-front, since-front, left-over, ap (steps (heard d)) (front-first d c p), s.unheard);
         room = omega arith;
         of_lane = front-of.1;
         phases = phases-consumed c.window d.consumed c.unread p (omega (arith, few d c s)) s.phases;
         carried = carried-front;
-        held = held-front;
+        held = omega (arith, s.held, p, front-live, live-set d.slots (front d c).cid empty (live-within d.slots (front d c).cid front-live));
         suited = bare-odd (popped d (front d c)) (less c) (front d c).cid empty bare ∙ s.suited;
       }
 

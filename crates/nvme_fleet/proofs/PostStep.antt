@@ -162,25 +162,16 @@ finished-is : (lane : Lane) (c : Controller) (t : FetchedCommand) (a : CommandEx
     → fields_of t (pair_in lane c) a ≡ finished (state lane c) (effect_of a bytes) t.entry
 finished-is lane c t a bytes q h = rw (q, tag-is (state lane c).posted h) refl
 
-bytes-are : (lane : Lane) (c : Controller) (t : FetchedCommand) (a : CommandExecution) (bytes : List ℕ) → t.queue ≡ queue_id lane → (state lane c).posted < 64
-    → completion_entry (fields_of t (pair_in lane c) a) ≡ finished_bytes (state lane c) (effect_of a bytes) t.entry
-unfolding finished_bytes
-bytes-are lane c t a bytes q h = ap completion_entry (finished-is lane c t a bytes q h)
-
 place-is : (lane : Lane) (n : ℕ) → completion_queue lane + 16 * (n % 32) ≡ submission_queue lane + (4096 + 16 * (n % 32))
 place-is lane n = omega arith
-
-window-is : (lane : Lane) (c : Controller) (i : ℕ) (t : FetchedCommand) (a : CommandExecution) (bytes : List ℕ) → completion_entry (fields_of t (pair_in lane c) a) ≡ finished_bytes (state lane c) (effect_of a bytes) t.entry
-    → a.left.window ≡ with_bytes c.window (data_area (cid t.entry)) bytes → (posted_then lane c i t a).window ≡ window_then lane c t a bytes
-unfolding after_posting
-window-is lane c i t a bytes b w = λ j. with_bytes (w j) (place-is lane (state lane c).posted j) (b j)
 
 answers : (lane : Lane) (d : Driver) (c : Controller) (i : ℕ) (t : FetchedCommand) (a : CommandExecution) (bytes : List ℕ) → Known lane d c i t → FitsCompletion (fields_of t (pair_in lane c) a)
     → a.left.window ≡ with_bytes c.window (data_area (cid t.entry)) bytes → length bytes ≤ most_bytes → answer_len (received_in (waiting_at d.slots (cid t.entry))) a.outcome.status ≤ length bytes
     → Answers lane d c i t a bytes
+unfolding finished_bytes after_posting
 answers lane d c i t a bytes k f w few whole =
     let small : (state lane c).posted < 64 = omega (arith, (running lane d c k.sound k.up).posted) in
-    let b = bytes-are lane c t a bytes k.queue small in
+    let b : completion_entry (fields_of t (pair_in lane c) a) ≡ finished_bytes (state lane c) (effect_of a bytes) t.entry = ap completion_entry (finished-is lane c t a bytes k.queue small) in
     let z : length (finished_bytes (state lane c) (effect_of a bytes) t.entry) ≡ 16 = sym (ap length b) ∙ length-completion (fields_of t (pair_in lane c) a) in
     record {
       known = k;
@@ -188,7 +179,7 @@ answers lane d c i t a bytes k f w few whole =
       reads = sym (ap completion_of b) ∙ completion_is_read_back (fields_of t (pair_in lane c) a) f ∙ finished-is lane c t a bytes k.queue small;
       fits = subst (λ n. answer_len n a.outcome.status ≤ length bytes) (sym (seen lane d c i t k).received) whole;
       wrote = stores lane c.window bytes (finished_bytes (state lane c) (effect_of a bytes) t.entry) (cid t.entry) (4096 + 16 * ((state lane c).posted % 32)) k.sound.both.window (k.one).within few (omega (arith, z));
-      window = window-is lane c i t a bytes b w;
+      window = λ j. with_bytes (w j) (place-is lane (state lane c).posted j) (b j);
     }
 
 -- What becomes of the lane.
@@ -232,12 +223,6 @@ bare-then lane d c i t k =
     (ap (commands_of (cid t.entry)) (removed-here lane d c i t k) ∙ ((k.one).bare).taken)
     (ap (commands_of (cid t.entry)) (still-there lane d c i t k)
     ∙ (bare-of b.first _ _ (cid t.entry) (b.each (other lane)) (ap live_in (slot-in (other lane) c.window d.slots (cid t.entry) ∙ o.absent c.window (cid t.entry)))).taken)
-
--- the controller, where the queues stay
-kept : (c : Controller) (i : ℕ) (t : FetchedCommand) (p : QueuePair) (a : CommandExecution) → a.change ≡ Keep
-    → after_completion i t p a c ≡ after_posting i t p a.outcome.status a.outcome.dw0 (record c { window = a.left.window })
-unfolding after_completion after_queue_change
-kept c i t p a e = rw e refl
 
 -- What such an answer leaves.
 module _ (lane : Lane) (d : Driver) (c : Controller) (i : ℕ) (t : FetchedCommand) (a : CommandExecution) (bytes : List ℕ) (h : Answers lane d c i t a bytes) where
@@ -303,11 +288,12 @@ module _ (lane : Lane) (d : Driver) (c : Controller) (i : ℕ) (t : FetchedComma
       (execute-holds _ _ (effect_of a bytes) (rank lane c.fetched i) t.entry _ executes-so b.first (b.each lane) k.up) s.fits s.sizes (posted-so lane c i t a (s.up k.up)).paired
 
 pub posting_is_a_step : PostingIsAStep
+unfolding after_completion after_queue_change
 posting_is_a_step d c i t p a s g queues h =
     let k = known d c i t s g in
     let q : p ≡ pair_in (lane_of_queue t.queue) c = same_Some p (pair_in (lane_of_queue t.queue) c) (sym queues ∙ open-is (lane_of_queue t.queue) d c i t k) in
-    let result : after_completion i t p a c ≡ posted_then (lane_of_queue t.queue) c i t a =
-    kept c i t p a h.queues ∙ ap (λ x. after_posting i t x a.outcome.status a.outcome.dw0 (record c { window = a.left.window })) q in
+    let kept : after_completion i t p a c ≡ after_posting i t p a.outcome.status a.outcome.dw0 (record c { window = a.left.window }) = rw h.queues refl in
+    let result : after_completion i t p a c ≡ posted_then (lane_of_queue t.queue) c i t a = kept ∙ ap (λ x. after_posting i t x a.outcome.status a.outcome.dw0 (record c { window = a.left.window })) q in
     let r = answers (lane_of_queue t.queue) d c i t a h.bytes k (subst (λ x. FitsCompletion (fields_of t x a)) q h.fits) h.window h.few h.whole in
     record {
       item = item_at d c t;

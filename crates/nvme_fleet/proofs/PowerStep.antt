@@ -12,6 +12,7 @@ use Rattle.nvme_fleet.proofs.Resetting.{reset-sound, reset-mail}
 use Rattle.nvme_fleet.proofs.Seats.{AllSound}
 use Rattle.nvme_fleet.proofs.LinkCalls.{calls-made}
 use Rattle.std.proofs.lemmas.Option.{slice_get-get_or}
+use Rattle.nvme_mailbox.proofs.Lists.{from-map}
 
 -- One host.
 
@@ -47,16 +48,10 @@ hosts-so (d ∷ ds) [] s = refl
 hosts-so (d ∷ ds) (c ∷ cs) s =
     λ i. (host-so d c (s 0 d c refl refl) i) ∷ (hosts-so ds cs (λ j e k at there. s (suc j) e k at there) i)
 
--- who stands at a place behind the power cycle stood there before
-before : {A : Type 0} (f : A → A) (xs : List A) (i : ℕ) (y : A) → slice_get (map f xs) i ≡ Some y → (x : A) × (slice_get xs i ≡ Some x) × (y ≡ f x)
-before f [] i y h = absurd (cc)
-before f (x ∷ xs) zero y h = (x, refl, sym (same_Some _ _ h))
-before f (x ∷ xs) (suc i) y h = before f xs i y h
-
 all-sound : (ds : List (Option Driver)) (cs : List Controller) → AllSound ds cs → AllSound (map (option_map after_reset) ds) (map power_cycled cs)
 all-sound ds cs s i e x at there =
-    let d = before (option_map after_reset) ds i e at in
-    let c = before power_cycled cs i x there in
+    let d = from-map (option_map after_reset) ds i e at in
+    let c = from-map power_cycled cs i x there in
     subst (λ f. SoundBy f x) (sym d.2) (subst (λ y. SoundBy (option_map after_reset d.0) y) (sym c.2) (sound-by d.0 c.0 (s i d.0 c.0 d.1 c.1)))
 
 -- The subsystem.
@@ -67,7 +62,7 @@ are-cycled s k c at = by k at
   where
     by : (k : ℕ) → numbered (map power_cycled s.controllers) k ≡ Some c → c ≡ power_cycled c
     by zero at = absurd (cc)
-    by (suc i) at = let b = before power_cycled s.controllers i c at in b.2 ∙ ap power_cycled (sym b.2)
+    by (suc i) at = let b = from-map power_cycled s.controllers i c at in b.2 ∙ ap power_cycled (sym b.2)
 
 -- a reset changes nothing at a controller that was not enabled since
 written : (c : Controller) → after_write32 driver.cc 0 (power_cycled c) ≡ power_cycled c

@@ -32,23 +32,11 @@ pub length-answers : (f : ℕ → Slot) (h : ℕ) (es : List Completion) → len
 length-answers f h [] = refl
 length-answers f h (e ∷ es) = omega (arith, length-answers f e.sq_head es)
 
-length-items : (f : List ℕ → Item) (w : List ℕ) (s n : ℕ) → length (map f (commands w s n)) ≡ n
-length-items f w s n = length-map (commands w s n) f ∙ length-commands w s n
-
 -- a lane of a mailbox, with what was fetched, holds a request for each live slot
 pub box-live : (d : Host) (c : State) → Running d c →
     length (box d c).placed + length (box d c).rung + length c.taken + length (box d c).posted ≡ total live_in d.slots
 unfolding box
-box-live d c s =
-    omega (
-      arith,
-      s.held,
-      s.waiting,
-      length-items (item (holds d)) c.window ((c.fetched + c.waiting) % 8) (in_flight d c - c.waiting),
-      length-items (item (holds d)) c.window c.fetched c.waiting,
-      length-answers (holds d) (heard d) (unread d c),
-      length-completions c.window d.consumed c.unread,
-    )
+box-live d c s = omega (arith, s.held, s.waiting, length-map {A = List ℕ} {B = Item}, length-commands, length-answers, length-completions)
 
 -- the commands in flight: those that are rung, and behind them those that are placed
 abbrev pub rung-part : State → List (List ℕ)

@@ -1,6 +1,6 @@
 -- A reset over both lanes: all that is open is aborted, by rising tickets.
 use Rattle.nvme_fleet.proofs.Words.{item_in, rising, waiting_at, empty_box, open_tickets, tickets_in, FetchedItem, cid, abort, Waiting, most_bytes, ◌≡◌, ℕ, ◌+◌, ◌≤◌, List, [], ◌∷◌, ◌++◌, length, map, refl, ap, sym, ◌∙◌, arith, zero, suc, false, cond, eqb, Option, Some, None, map-append, length-map, Completion, Slot, empty, slot_at, box, abort_slot, off, ticket_in, received_in, live_at as live_slot, commands_of, answers_of, unread, AgeIn, Ages as AgesOne, Lane, Admin, Io, same, Driver, ends, after_reset, FetchedCommand, Controller, lane_of_queue, Both, whole, slots_in, commands_in, host, state, fetched_by, held_by, in_order, aborted_number, Sound, EndsFit, IsOff, mailbox, eq-eqb, bears, common_steps, subst, inl, inr, cases_Bool, Off, is_up, reset_calls, without_queues, ResetIsAStep, after_calls}
-use Rattle.nvme_fleet.proofs.LaneWindows.{same-self}
+use Rattle.nvme_fleet.proofs.LaneWindows.{same-self, each-lane}
 use Rattle.nvme_mailbox.specs.Deliveries as mail
 use Rattle.nvme_fleet.specs.Views.{reset as reset_one}
 use Rattle.nvme_fleet.proofs.Totals.{live-small}
@@ -31,10 +31,6 @@ abort-size : (o : Option Waiting) → received_in o ≤ most_bytes → received_
 abort-size None h = h
 abort-size (Some w) h = h
 
-fits : (d : Driver) (lane : Lane) → EndsFit (ends lane (after_reset d))
-fits d Admin = record { tail = refl; head = refl }
-fits d Io = record { tail = refl; head = refl }
-
 pub reset-sound : (d : Driver) (c c' : Controller) → Sound d c → IsOff c' → c'.window ≡ c.window → Sound (after_reset d) c'
 reset-sound d c c' s o w =
     let b : Both d c = s.both in
@@ -45,7 +41,7 @@ reset-sound d c c' s o w =
         slots = length-map d.slots abort ∙ b.slots;
         each = λ l. same-holds d.next _ _ _ _ (reset-holds b.first _ _ (b.each l)) (ap (host l (after_reset d)) w ∙ host-reset l d c.window) (state-off l c c' o w);
       };
-      fits = fits d;
+      fits = each-lane Admin (λ l. EndsFit (ends l (after_reset d))) (record { tail = refl; head = refl }) (record { tail = refl; head = refl });
       sizes = λ k. rw (pending-abort d.slots k) (abort-size (waiting_at d.slots k) (s.sizes k));
       up = λ u. absurd (no-way false refl u);
       down = λ u. o;
@@ -85,14 +81,9 @@ abbrev slots_taken : List FetchedCommand → List ℕ
 slots_taken [] = []
 slots_taken (t ∷ ts) = cid t.entry ∷ slots_taken ts
 
-one-lane : (l : Lane) (x : List ℕ) (i : ℕ) (us vs : List (List ℕ)) →
-    commands_of i (cond (same l Admin) (x ∷ us) us) + commands_of i (cond (same l Io) (x ∷ vs) vs) ≡ cond (eqb (cid x) i) 1 0 + (commands_of i us + commands_of i vs)
-one-lane Admin x i us vs = omega arith
-one-lane Io x i us vs = omega arith
-
 times-taken : (i : ℕ) (ts : List FetchedCommand) → times i (slots_taken ts) ≡ commands_of i (commands_in Admin ts) + commands_of i (commands_in Io ts)
 times-taken i [] = omega arith
-times-taken i (t ∷ ts) = omega (arith, times-taken i ts, one-lane (lane_of_queue t.queue) t.entry i (commands_in Admin ts) (commands_in Io ts))
+times-taken i (t ∷ ts) = grind (arith, common_steps, times-taken i ts)
 
 -- a command's lane holds its slot
 own-more : (t : FetchedCommand) (ts : List FetchedCommand) (n : ℕ) → n ≡ cid t.entry → commands_of n (commands_in (lane_of_queue t.queue) (t ∷ ts)) ≡ 1 + commands_of n (commands_in (lane_of_queue t.queue) ts)
@@ -138,24 +129,10 @@ all_named d c = named_in Admin d c ++ named_in Io d c ++ slots_taken c.fetched
 map-three : (f : ℕ → ℕ) (a b c : List ℕ) → map f a ++ map f b ++ map f c ≡ map f (a ++ b ++ c)
 map-three f a b c = rw (map-append f (a ++ b) c, map-append f a b) refl
 
-times-three : (i : ℕ) (a b c : List ℕ) → times i (a ++ b ++ c) ≡ times i a + times i b + times i c
-times-three i a b c = omega (arith, times-append i (a ++ b) c, times-append i a b)
-
 lane-times : (lane : Lane) (d : Driver) (c : Controller) (i : ℕ) → WholeIn lane d c →
     times i (named_in lane d c) + commands_of i (commands_in lane c.fetched) ≡ live_slot (slots_in lane c.window 0 d.slots) i
 lane-times lane d c i w =
-    let p = placed-part (host lane d c.window) (state lane c) in
-    let r = rung-part (state lane c) in
-    let u = unread (host lane d c.window) (state lane c) in
-    omega (
-      arith,
-      times-three i (slots_of p) (slots_of r) (cids_of u),
-      times-slots i p,
-      times-slots i r,
-      times-cids i u,
-      w.carried i,
-      flight-total (bears i) (host lane d c.window) (state lane c) w.fetched w.waiting,
-    )
+    omega (arith, times-append, times-slots, times-cids, w.carried i, flight-total (bears i) (host lane d c.window) (state lane c) w.fetched w.waiting)
 
 lane-named : (lane : Lane) (d : Driver) (c : Controller) → WholeIn lane d c → tickets_in (box (host lane d c.window) (state lane c)) ≡ map (ticket_at d.slots) (named_in lane d c)
 lane-named lane d c w =
@@ -170,14 +147,7 @@ outstanding-named d c w =
 
 named-times : (d : Driver) (c : Controller) → ((l : Lane) → WholeIn l d c) → (i : ℕ) → times i (all_named d c) ≡ live_at d.slots i
 named-times d c w i =
-    omega (
-      arith,
-      times-three i (named_in Admin d c) (named_in Io d c) (slots_taken c.fetched),
-      lane-times Admin d c i (w Admin),
-      lane-times Io d c i (w Io),
-      times-taken i c.fetched,
-      live-forget c.window 0 d.slots i,
-    )
+    omega (arith, times-append, lane-times Admin d c i (w Admin), lane-times Io d c i (w Io), times-taken i c.fetched, live-forget c.window 0 d.slots i)
 
 reset-empty : (l : Lane) (d : Driver) (c c' : Controller) → IsOff c' → c'.window ≡ c.window → box (host l (after_reset d) c'.window) (state l c') ≡ empty_box
 reset-empty l d c c' o w = (λ i. box ((ap (host l (after_reset d)) w ∙ host-reset l d c.window) i) (state-off l c c' o w i)) ∙ reset-box (host l d c.window) (state l c)
@@ -195,8 +165,6 @@ reset-mail d c c' b o w =
     let none = ap (map (fetched_by (held_by (after_reset d) c'.window))) o.fetched in
     λ i. record { up = false; next = d.next; admin = admin i; io = io i; fetched = none i; aborted = e i }
 
--- That a reset of a driver and its controller is a step of the mailbox.
-
 -- A reset is a step of the mailbox.
 
 -- the controller once it was disabled
@@ -206,15 +174,10 @@ off_now c = without_queues (record c { registers = record c.registers { cc = 0; 
 is-off : (c : Controller) → IsOff (off_now c)
 is-off c = record { submission = refl; completion = refl; fetched = refl; off = refl; disabled = refl }
 
--- one that was off already
-same-off : (c : Controller) (o : IsOff c) → record c { registers = record c.registers { cc = 0 } } ≡ off_now c
-same-off c o =
-    λ i. record c { registers = record c.registers { cc = 0; state = o.off i }; submission = o.submission i; completion = o.completion i; fetched = o.fetched i }
-
 written : (d : Driver) (c : Controller) → Sound d c → after_calls reset_calls c ≡ off_now c
 written d c s = elim (cases_Bool (is_up d.state)) [
   | inl u ↦ let p = s.up u in disabled c p.enabled
-  | inr u ↦ let o = s.down u in disabled-off c o.disabled ∙ same-off c o
+  | inr u ↦ let o = s.down u in disabled-off c o.disabled ∙ λ i. record c { registers = record c.registers { cc = 0; state = o.off i }; submission = o.submission i; completion = o.completion i; fetched = o.fetched i }
 ]
 
 pub reset_is_a_step : ResetIsAStep

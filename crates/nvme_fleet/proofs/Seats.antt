@@ -1,12 +1,13 @@
 -- Hosts by their numbers: a driver and a controller of a fleet, what they stand for, and a fleet where they have become
 -- others.
-use Rattle.nvme_fleet.proofs.Words.{Bool, Controller, CqFull, Driver, Executed, Fleet, FleetState, IsSoundFleet, List, Marks, NoSuch, Option, Posted, Setting, Some, SoundBy, World, [], ap, arith, controller_at, driver_at, fleet_in, fleet_of, host_at, host_by, host_of, hosts_of, if◌then◌else◌, is_host_among, length, length-after, length-set, marked, marked_from, marks_after, marks_in, no_marks, none-some, refl, same_Some, settled, site_of, slice_get, slice_set, subst, sym, with_driver, with_host, with_marks, ℕ, ◌+◌, ◌∙◌, ◌∷◌, ◌≡◌, Subsystem, false, suc, true, zero, None, WithDriver}
+use Rattle.nvme_fleet.proofs.Words.{Bool, Controller, CqFull, Driver, Executed, Fleet, FleetState, IsSoundFleet, List, Marks, NoSuch, Option, Posted, Setting, Some, SoundBy, World, [], ap, arith, controller_at, driver_at, fleet_in, fleet_of, host_at, host_by, host_of, hosts_of, if◌then◌else◌, is_host_among, length, length-after, length-set, marked, marked_from, marks_after, marks_in, no_marks, none-some, refl, same_Some, settled, site_of, slice_get, slice_set, subst, sym, with_driver, with_host, with_marks, ℕ, ◌+◌, ◌∙◌, ◌∷◌, ◌≡◌, Subsystem, false, suc, true, zero, None, WithDriver, get_or, slice_get_within}
 use Rattle.nvme_mailbox.proofs.Lists.{got-back}
 use Rattle.nvme_machine.specs.Subsystems as machine
 use Rattle.nvme_machine.proofs.Denials.{not_one}
 use Rattle.nvme_mailbox.specs.Fleets as mailboxes
 use Rattle.nvme_mailbox.specs.Fleets.{Host}
 use Rattle.nvme_fleet.proofs.MarkStep.{marks_are_steps}
+use Rattle.std.proofs.lemmas.Option.{slice_get-get_or}
 
 -- Hosts by their places: those of a list of drivers beside a list of controllers.
 
@@ -92,17 +93,10 @@ seat a (suc i) d c s h g = record {
 }
 
 -- there is a driver's place beside each controller
-driver-beside : (ds : List (Option Driver)) (cs : List Controller) (i : ℕ) (c : Controller) → length ds ≡ length cs → slice_get cs i ≡ Some c → (d : Option Driver) × (slice_get ds i ≡ Some d)
-driver-beside [] [] i c long g = absurd (cc)
-driver-beside [] (z ∷ cs) i c long g = absurd (omega (arith, long))
-driver-beside (y ∷ ds) [] i c long g = absurd (cc)
-driver-beside (y ∷ ds) (z ∷ cs) zero c long g = (y, refl)
-driver-beside (y ∷ ds) (z ∷ cs) (suc i) c long g = driver-beside ds cs i c (omega (arith, long)) g
-
 pub has-driver : (a : FleetState) (k : ℕ) (c : Controller) → IsSoundFleet a → controller_at a.subsystem k ≡ Some c → (d : Option Driver) × (driver_at a.drivers k ≡ Some d)
 unfolding controller_at
 has-driver a zero c s h = absurd (none-some _ h)
-has-driver a (suc i) c s h = driver-beside a.drivers a.subsystem.controllers i c s.pairs h
+has-driver a (suc i) c s h = (get_or a.drivers i None, slice_get-get_or a.drivers i None (omega (arith, s.pairs, slice_get_within a.subsystem.controllers i c h)))
 
 -- A fleet where they have become others.
 pub record IsReseated (a b : FleetState) (k : ℕ) (e : Option Driver) (x : Controller) : Type 0 where
@@ -128,12 +122,7 @@ reseated a b k e x s n ds subsystem long same =
 pub host-same : (f : Fleet) (k : ℕ) (h : Host) → host_at f k ≡ Some h → with_host f k h ≡ f
 unfolding host_at with_host
 host-same f zero h at = refl
-host-same f (suc i) h at = ap (λ hs. (let g : Fleet = record f { hosts = hs } in g)) (by f.hosts i at)
-  where
-    by : (hs : List Host) (j : ℕ) → slice_get hs j ≡ Some h → slice_set hs j h ≡ hs
-    by [] j here = refl
-    by (x ∷ hs) zero here = ap (λ y. y ∷ hs) (sym (same_Some _ _ here))
-    by (x ∷ hs) (suc j) here = ap (λ ys. x ∷ ys) (by hs j here)
+host-same f (suc i) h at = ap (λ hs. (let g : Fleet = record f { hosts = hs } in g)) (got-back f.hosts i h at)
 
 -- Marks.
 

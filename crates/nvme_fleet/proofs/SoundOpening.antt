@@ -29,16 +29,13 @@ rests first k l =
     let e = no-ends first l in
     record {
       window = pages-long l zeros (omega (arith, queue-low l)) length-zeros;
-      slots = no-slots l;
+      slots = refl;
       put = ap (λ (x : Ends). x.tail.put) e;
       unheard = ap (λ (x : Ends). x.tail.unheard) e;
       consumed = ap (λ (x : Ends). x.head.consumed) e;
       off = state-off l (new_controller k) (new_controller k) (is-off k) refl;
       idle = λ slot. ap live_in (slot-empty l zeros 0 24 slot);
     }
-  where
-    no-slots : (l : Lane) → length (slots_in l zeros 0 (replicate 24 None)) ≡ 24
-    no-slots l = refl
 
 holds : (first k : ℕ) (l : Lane) → Holds first (host l (new_driver first) zeros) (state l (new_controller k))
 holds first k l = record {
@@ -48,9 +45,6 @@ holds first k l = record {
   up = λ u. absurd (no-way false refl u);
   down = λ u. rests first k l;
 }
-
-both : (first k : ℕ) → Both (new_driver first) (new_controller k)
-both first k = record { first = first; window = length-zeros; slots = refl; each = holds first k }
 
 none-waits : (n k : ℕ) → waiting_at (replicate n None) k ≡ None
 none-waits zero k = refl
@@ -63,7 +57,7 @@ opening_is_sound first k =
     let io = resting-box _ _ (rests first k Io) in
     record {
       sound = record {
-        both = both first k;
+        both = record { first = first; window = length-zeros; slots = refl; each = holds first k };
         fits = λ l. subst EndsFit (sym (no-ends first l)) (record { tail = refl; head = refl });
         sizes = λ slot. subst (λ w. received_in w ≤ most_bytes) (sym (none-waits 24 slot)) (omega arith);
         up = λ u. absurd (no-way false refl u);

@@ -4,10 +4,9 @@ use Rattle.nvme_fleet.proofs.PlainCalls.{IsPlain, plain-first}
 use Rattle.nvme_fleet.proofs.Ups.{zeros-are}
 
 call-is : (tells : Bool) (call : Call) (old new : Setting) → IsPlain (call ∷ []) → LinkStep tells old call new → new ≡ with_controller old (after_call call old.controller)
-call-is tells (Stores address bytes) old new p h = h
-call-is tells (Writes offset v) old new p h = h
 call-is tells (Reads offset v) old new p h = h.1
 call-is tells Turns old new p h = absurd p
+call-is tells call old new p h = h
 
 pub calls-are : (tells : Bool) (calls : List Call) (old new : Setting) → IsPlain calls → Calls (LinkStep tells) old calls new
     → new ≡ with_controller old (after_calls calls old.controller)
@@ -20,8 +19,7 @@ calls-are tells (call ∷ calls) old new p (mid, step, rest) =
 call-id : (call : Call) (c : Controller) → (after_call call c).cntlid ≡ c.cntlid
 call-id (Stores address bytes) c = store-id address bytes c
 call-id (Writes offset v) c = write-id offset v c
-call-id (Reads offset v) c = refl
-call-id Turns c = refl
+call-id call c = refl
 
 pub calls-id : (calls : List Call) (c : Controller) → (after_calls calls c).cntlid ≡ c.cntlid
 calls-id [] c = refl
@@ -45,10 +43,6 @@ off_with k configuration sizes asq acq w = record {
   fetched = [];
   window = w;
 }
-
-off-is : (c : Controller) (o : IsOff c) → c ≡ off_with c.cntlid c.registers.cc c.registers.aqa c.registers.asq c.registers.acq c.window
-off-is c o =
-    λ i. record c { registers = record c.registers { state = o.off i }; submission = o.submission i; completion = o.completion i; fetched = o.fetched i }
 
 -- One that is enabled with the admin queues of a driver, which have counted so many commands; and these queues for I/O.
 abbrev pub running : ℕ → ℕ → ℕ → Option SubmissionQueue → Option CompletionQueue → ℕ → List ℕ → Controller
@@ -98,14 +92,8 @@ setting_calls =
     ∷ Writes cc enabling
     ∷ []
 
-abbrev zeroed_by : List ℕ → List ℕ
-zeroed_by w = with_bytes (with_bytes (with_bytes (with_bytes w 0 zero_page) 0x1000 zero_page) 0x2000 zero_page) 0x3000 zero_page
-
 abbrev pub zeroed_all : List ℕ → List ℕ
 zeroed_all w = with_bytes (with_bytes (with_bytes (with_bytes w 0 zeros) 0x1000 zeros) 0x2000 zeros) 0x3000 zeros
-
-zeroed-is : (w : List ℕ) → zeroed_by w ≡ zeroed_all w
-zeroed-is w = ap (λ z. with_bytes (with_bytes (with_bytes (with_bytes w 0 z) 0x1000 z) 0x2000 z) 0x3000 z) page-is
 
 page-at : (address : ℕ) (k configuration sizes asq acq : ℕ) (w : List ℕ) → address ≤ 0x3000
     → (after_store address zero_page (off_with k configuration sizes asq acq w)).controller ≡ off_with k configuration sizes asq acq (with_bytes w address zero_page)
@@ -131,14 +119,14 @@ started-is c o =
     let a : ℕ = c.registers.asq in
     let b : ℕ = c.registers.acq in
     let go : List Call → Controller → Controller = after_calls in
-    ap (after_calls setting_calls) (off-is c o)
+    (λ i. go setting_calls (record c { registers = record c.registers { state = o.off i }; submission = o.submission i; completion = o.completion i; fetched = o.fetched i }))
     ∙ ap (go (Stores 0 zero_page ∷ Stores 0x1000 zero_page ∷ Stores 0x2000 zero_page ∷ Stores 0x3000 zero_page ∷ last_calls)) (disabled k c.registers.cc s a b w o.disabled)
     ∙ ap (go (Stores 0x1000 zero_page ∷ Stores 0x2000 zero_page ∷ Stores 0x3000 zero_page ∷ last_calls)) (page-at 0 k 0 s a b w (omega arith))
     ∙ ap (go (Stores 0x2000 zero_page ∷ Stores 0x3000 zero_page ∷ last_calls)) (page-at 0x1000 k 0 s a b _ (omega arith))
     ∙ ap (go (Stores 0x3000 zero_page ∷ last_calls)) (page-at 0x2000 k 0 s a b _ (omega arith))
     ∙ ap (go last_calls) (page-at 0x3000 k 0 s a b _ (omega arith))
-    ∙ registers-set k s a b (zeroed_by w)
-    ∙ ap (running k 0 0 None None 0) (zeroed-is w)
+    ∙ registers-set k s a b _
+    ∙ ap (λ z. running k 0 0 None None 0 (with_bytes (with_bytes (with_bytes (with_bytes w 0 z) 0x1000 z) 0x2000 z) 0x3000 z)) page-is
 
 pub ready-value : (k n waiting unread : ℕ) (s : Option SubmissionQueue) (x : Option CompletionQueue) (w : List ℕ) → value_at (running k n waiting s x unread w).registers csts ≡ 1
 unfolding value_at

@@ -49,11 +49,9 @@ some-data window k x n whole fits some most there a b =
       scatters = λ returned h. ap (λ y. with_scattered window (take (length returned) (addresses (pieces_of y))) returned) t ∙ one.scattering returned h;
     }
 
-some-not : (n : ℕ) → 1 ≤ n → nat_le n 0 ≡ false
-some-not n h = grind (arith, common_steps, h)
-
 pub moved : (window : List ℕ) (k : ℕ) (x : List ℕ) (n : ℕ) → length window ≡ window_size → k < 24 → n ≤ most_bytes
     → take (length (stored_list k n)) (listed window k) ≡ stored_list k n → prp1 x ≡ first_entry k n → prp2 x ≡ second_entry k n → IsMoved window k x n
 moved window k x zero whole fits most there a b = no-data window k x
 moved window k x (suc n) whole fits most there a b =
-    some-data window k x (suc n) whole fits (omega arith) most there (a ∙ ap (λ t. if t then 0 else data_area k) (some-not (suc n) (omega arith))) b
+    let some : nat_le (suc n) 0 ≡ false = grind (arith, common_steps) in
+    some-data window k x (suc n) whole fits (omega arith) most there (a ∙ ap (λ t. if t then 0 else data_area k) some) b

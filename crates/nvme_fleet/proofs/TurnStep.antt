@@ -15,12 +15,6 @@ rung k n v s x w = record (running k n 0 s x 0 w) {
   submission = Some (record { base = 0; cqid = 0; head = after_tail_doorbell (record { size = 8; fetched = n; waiting = 0 }) v }) ∷ s ∷ None ∷ None ∷ None ∷ [];
 }
 
-send-is : (k n v : ℕ) (s : Option SubmissionQueue) (x : Option CompletionQueue) (w e : List ℕ) → command_place Admin n + length e ≤ 4194304 → v < 2 ^ 16
-    → after_calls (Stores (command_place Admin n) e ∷ Writes (tail_doorbell Admin) v ∷ []) (running k n 0 s x 0 w) ≡ rung k n v s x (with_bytes w (command_place Admin n) e)
-send-is k n v s x w e fits small =
-    ap (after_write32 (tail_doorbell Admin) v) (stored-at (command_place Admin n) e (running k n 0 s x 0 w) fits)
-    ∙ tail-written Admin (running k n 0 s x 0 (with_bytes w (command_place Admin n) e)) v refl refl small
-
 -- It is fetched and executed.
 
 -- the entry at the head of the queue
@@ -101,21 +95,16 @@ says-own n e h i =
 abbrev pub ends_put : ℕ → Ends
 ends_put n = put_ends (ends_at n)
 
-found-as : (n : ℕ) (b found : List ℕ) → n < 32 → SaysOwn n b → found ≡ b
-    → own_of (ends_put n) (if is_new (ends_put n) found then Some found else None) ≡ Some b
-found-as n b found h says is =
-    let new : is_new (ends_put n) b ≡ true = rw (says.phase, own-phase n h) refl in
-    let own : answers_own (ends_put n) b ≡ true = rw (says.queue, says.command, says.head) (eq-eqb ((n + 1) % 8) (slot_of 8 ((n + 1) % 8)) (omega arith)) in
-    ap (λ f. own_of (ends_put n) (if is_new (ends_put n) f then Some f else None)) is
-    ∙ ap (λ t. own_of (ends_put n) (if t then Some b else None)) new
-    ∙ ap (λ t. if t then Some b else None) own
-
 found-is : (n : ℕ) (w e : List ℕ) → n < 32 → length w ≡ 4194304 → command_cid e ≡ 24
     → own_answer (ends_put n) (with_bytes w (0x1000 + 16 * (n % 32)) (completion_entry (own_completion n e))) ≡ Some (completion_entry (own_completion n e))
 found-is n w e h size i =
     let b : List ℕ = completion_entry (own_completion n e) in
-    found-as n b (next_entry Admin (ends_put n) (with_bytes w (0x1000 + 16 * (n % 32)) b)) h (says-own n e h i)
-    (part-there w b (0x1000 + 16 * (n % 32)) 16 (length-completion (own_completion n e)) (omega (arith, size)))
+    let says = says-own n e h i in
+    let new : is_new (ends_put n) b ≡ true = rw (says.phase, own-phase n h) refl in
+    let own : answers_own (ends_put n) b ≡ true = rw (says.queue, says.command, says.head) (eq-eqb ((n + 1) % 8) (slot_of 8 ((n + 1) % 8)) (omega arith)) in
+    ap (λ f. own_of (ends_put n) (if is_new (ends_put n) f then Some f else None)) (part-there w b (0x1000 + 16 * (n % 32)) 16 (length-completion (own_completion n e)) (omega (arith, size)))
+    ∙ ap (λ t. own_of (ends_put n) (if t then Some b else None)) new
+    ∙ ap (λ t. if t then Some b else None) own
 
 -- one turn is enough
 one-turn : {S A : Type 0} (step : S → Call → S → Type 0) (look : S → Option A) (old new : S) (answer : Option A) (found : A) (P : S → Type 0)
@@ -134,10 +123,6 @@ abbrev pub heard_by : ℕ → ℕ → Option SubmissionQueue → Option Completi
 heard_by k n s x w e = record (answered_by k n s x w e) {
   completion = Some (record { base = 0x1000; tail = after_head_doorbell (record { size = 32; posted = (n + 1) % 64; unread = 1 }) (slot_of 32 ((n + 1) % 64)) }) ∷ x ∷ None ∷ None ∷ None ∷ [];
 }
-
-head-is : (k n : ℕ) (s : Option SubmissionQueue) (x : Option CompletionQueue) (w e : List ℕ)
-    → after_write32 (head_doorbell Admin) (slot_of 32 ((n + 1) % 64)) (answered_by k n s x w e) ≡ heard_by k n s x w e
-head-is k n s x w e = head-written Admin (answered_by k n s x w e) (slot_of 32 ((n + 1) % 64)) refl refl (omega arith)
 
 -- the driver, with these ends of its admin lane
 abbrev pub with_admin : Ends → Driver → Driver
@@ -174,7 +159,8 @@ round tells n k s s' x x' w world device f change d d' new result small long siz
     let b : List ℕ = completion_entry (own_completion n (submission_entry f)) in
     let a : put ≡ setting (running k n 1 s x 0 (put_window n w (submission_entry f))) world device =
     calls-are tells (send_calls (ends_at n) f) _ put tt sends
-    ∙ ap (λ c. setting c world device) (send-is k n (tail_of (ends_put n)) s x w (submission_entry f) (omega (arith, small, size)) (omega arith) ∙ ready) in
+    ∙ ap (λ c. setting c world device) (ap (after_write32 (tail_doorbell Admin) (tail_of (ends_put n))) (stored-at (command_place Admin n) e (running k n 0 s x 0 w) (omega (arith, small, size)))
+    ∙ tail-written Admin (running k n 0 s x 0 v) (tail_of (ends_put n)) refl refl (omega arith) ∙ ready) in
     let awaited = subst (λ p. Awaits (LinkStep tells) (λ p. own_answer (ends_put n) (window_in p)) 4 p answer seen) a awaits in
     let turned = one-turn (LinkStep tells) (λ p. own_answer (ends_put n) (window_in p)) _ seen answer b
     (λ m. m ≡ setting (answered_by k n s' x' (put_window n w (submission_entry f)) (submission_entry f)) world device) awaited
@@ -191,5 +177,5 @@ round tells n k s s' x x' w world device f change d d' new result small long siz
       driver = r.1 ∙ ap (λ h. with_admin (consumed_ends (ends_put n) h) d) says.head;
       setting_is = calls-are tells (heard_calls (ends_put n) b) seen new tt r.2
           ∙ ap (λ q. with_controller q (after_calls (heard_calls (ends_put n) b) q.controller)) turned.1
-          ∙ ap (λ c. setting c world device) (head-is k n s' x' v e);
+          ∙ ap (λ c. setting c world device) (head-written Admin (answered_by k n s' x' v e) (slot_of 32 ((n + 1) % 64)) refl refl (omega arith));
     }

@@ -17,6 +17,7 @@ use Rattle.nvme_fleet.proofs.Mirrored.{AreQuiet, IsQuiet}
 use Rattle.nvme_fleet.proofs.Orders.{pending-other}
 use Rattle.nvme_fleet.proofs.PlainCalls.{IsPlain, plain-polled}
 use Rattle.nvme_mailbox.proofs.Determined.{failures_never_fall, step-alone, step-counts}
+use Rattle.nvme_mailbox.proofs.Lists.{from-map}
 
 -- Tickets stand in one slot at most.
 
@@ -81,17 +82,15 @@ raw-once None tells old new e x h all = subst HaveTicketsOnce (sym h.1) all
 raw-once (Some None) tells old new e x h all = applies-once tells old new e x h all
 raw-once (Some (Some d)) tells old new e x h all = subst HaveTicketsOnce (sym h.1) all
 
--- a driver of a list where each was reset
-reset-get : (xs : List (Option Driver)) (i : ℕ) (d : Driver) → slice_get (map (option_map after_reset) xs) i ≡ Some (Some d) → (c : Driver) × (slice_get xs i ≡ Some (Some c)) × (d ≡ after_reset c)
-reset-get [] i d h = absurd (none-some _ h)
-reset-get (None ∷ xs) zero d h = absurd (none-some _ (same_Some _ _ h))
-reset-get (Some c ∷ xs) zero d h = (c, refl, sym (same_Some _ _ (same_Some _ _ h)))
-reset-get (x ∷ xs) (suc i) d h = reset-get xs i d h
-
 cycles-once : (tells : Bool) (old new : Layers) (x : FleetSeen) → Cycles tells old x new → HaveTicketsOnce old → HaveTicketsOnce new
-cycles-once tells old new x h all i d found =
-    let r = reset-get old.drivers i d (ap (λ ds. slice_get ds i) (sym h.drivers) ∙ found) in
-    keeps-once once.Resets r.0 d r.2 (all i r.0 r.1)
+cycles-once tells old new x h all i d found = by r.0 r.1 r.2
+  where
+    r : (o : Option Driver) × (slice_get old.drivers i ≡ Some o) × (Some d ≡ option_map after_reset o)
+    r = from-map (option_map after_reset) old.drivers i (Some d) (ap (λ ds. slice_get ds i) (sym h.drivers) ∙ found)
+
+    by : (o : Option Driver) → slice_get old.drivers i ≡ Some o → Some d ≡ option_map after_reset o → HasTicketsOnce d
+    by None at is = absurd (none-some _ (sym is))
+    by (Some c) at is = keeps-once once.Resets c d (same_Some _ _ is) (all i c at)
 
 pub happens-once : (tells : Bool) (old new : Layers) (e : FleetEvent) (x : FleetSeen) → Happens tells old e x new → HaveTicketsOnce old → HaveTicketsOnce new
 happens-once tells old new (BringUp k) x h all = calls-once (driver_at old.drivers k) tells old new k call.BringUp x refl h all
@@ -116,23 +115,12 @@ none-borne : (t n : ℕ) → borne t (replicate n None) ≡ 0
 none-borne t zero = refl
 none-borne t (suc n) = let h = none-borne t n in omega (arith, h)
 
-at-most-one : (b : Bool) → (if b then 0 else 1) ≤ 1
-at-most-one b = grind (arith, common_steps)
-
-new-once : (first : ℕ) → HasTicketsOnce (new_driver first)
-new-once first t = let none = none-borne t 24 in let few = at-most-one (nat_lt t first) in omega (arith, none, few)
-
 opened-one : (raw : Bool) (d : Driver) → (if raw then None else Some (new_driver 1)) ≡ Some d → HasTicketsOnce d
 opened-one true d h = absurd (none-some _ h)
-opened-one false d h = subst HasTicketsOnce (same_Some _ _ h) (new-once 1)
-
-opened-each : (ks : List ControllerConfig) (i : ℕ) (d : Driver) → slice_get (map opening_driver ks) i ≡ Some (Some d) → HasTicketsOnce d
-opened-each [] i d h = absurd (none-some _ h)
-opened-each (k ∷ ks) zero d h = opened-one k.raw d (same_Some _ _ h)
-opened-each (k ∷ ks) (suc i) d h = opened-each ks i d h
+opened-one false d h = subst HasTicketsOnce (same_Some _ _ h) (λ t. grind (arith, common_steps, none-borne t 24))
 
 pub opening_has_tickets_once : OpeningHasTicketsOnce
-opening_has_tickets_once c v i d found = opened-each c.controllers i d found
+opening_has_tickets_once c v i d found = let k = from-map opening_driver c.controllers i (Some d) found in opened-one k.0.raw d (sym k.2)
 
 -- The oldest aborted request is one.
 
@@ -191,9 +179,6 @@ pub record IsCarried (g : Subsystem → Subsystem) : Type 0 where
   pub step : (e : Event) (p q : Subsystem) (x : Seen) → IsQuiet e → machine_specs.Step true p e x q → machine_specs.Step true (g p) e x (g q)
   pub run : (events : List Event) (given : List Seen) (p q : Subsystem) → AreQuiet events → machine_specs.Run true p events given q → machine_specs.Run true (g p) events given (g q)
   pub rises : (k : ℕ) (d d' : Driver) (p q : Subsystem) (result : Result (Unit {0}) UpFault) → Rises (CallStep true k) (λ s. window_at s k) d p result d' q → Rises (CallStep true k) (λ s. window_at s k) d (g p) result d' (g q)
-
-itself : IsCarried (λ s. s)
-itself = record { window = λ s k. refl; step = λ e p q x quiet h. h; run = λ events given p q quiet h. h; rises = λ k d d' p q result h. h }
 
 quiet-calls : (k : ℕ) (calls : List Call) → IsPlain calls → AreQuiet (events_of_calls k calls)
 quiet-calls k [] plain = tt
@@ -304,7 +289,9 @@ happens-alike g c old new other PowerCycle x seen calm all h also =
     together g new other (also.cycled ∙ sym (c.step event.PowerCycle old.subsystem new.subsystem given.Cycled tt (refl, h.cycled)).1) (also.drivers ∙ sym h.drivers)
 
 pub happens-alone : (old new other : Layers) (e : FleetEvent) (x : FleetSeen) → AreCalm old.subsystem new.subsystem other.subsystem → HaveTicketsOnce old → Happens true old e x new → Happens true old e x other → other ≡ new
-happens-alone old new other e x calm all h also = happens-alike (λ s. s) itself old new other e x (λ k i is y s. s) calm all h also
+happens-alone old new other e x calm all h also =
+    let itself : IsCarried (λ s. s) = record { window = λ s k. refl; step = λ e p q x quiet h. h; run = λ events given p q quiet h. h; rises = λ k d d' p q result h. h } in
+    happens-alike (λ s. s) itself old new other e x (λ k i is y s. s) calm all h also
 
 -- One event.
 
