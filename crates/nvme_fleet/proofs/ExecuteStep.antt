@@ -1,5 +1,5 @@
 -- An execution of a command of either lane is the step of the mailbox.
-use Rattle.nvme_fleet.proofs.Words.{same_Some, ◌≡◌, ℕ, ◌^◌, ◌<◌, ◌==◌, Bool, List, Some, refl, sym, ap, subst, ◌∙◌, arith, slice_get, FitsCompletion, Outcome, Verdict, Allowed, Denied, Keep, admin_execution, Scene, ExecutesBy, Fits, execution_fits, Lane, Admin, Io, queue_id, Driver, FetchedCommand, Executed, Controller, QueuePair, open_pair, queues_of, CommandExecution, admin_command_execution, CommandComesToAs, CommandComesTo, IoCommandComesTo, Setting, ExecutesNth, Finishes, FinishesOver, FinishesOne, scene_in, FetchedItem, RequestComesTo, Sound, mailbox, lane_of_queue, IsAnsweredInItsSlot, IsExecuted, request_execution_with, IoExecutionIsAStep, AdminExecutionIsAStep, ExecutionIsAStep, None, plain, Fleet, WithDriver, Completes, ExecutesItem, ExecutesAt, settled, site_of, setting_of, marks_in, ExecutionIsAFleetStep, NoExecutionIsAFleetStep}
+use Rattle.nvme_fleet.proofs.Words.{same_Some, ◌≡◌, ℕ, ◌^◌, ◌<◌, ◌==◌, Bool, List, Some, refl, sym, ap, subst, ◌∙◌, arith, slice_get, FitsCompletion, Outcome, Verdict, Allowed, Denied, Keep, admin_execution, Scene, ExecutesBy, Fits, execution_fits, Lane, Admin, Io, queue_id, Driver, FetchedCommand, Executed, Controller, QueuePair, open_pair, queues_of, CommandExecution, admin_command_execution, CommandComesToAs, CommandComesTo, IoCommandComesTo, Setting, ExecutesNth, Finishes, FinishesOver, FinishesOne, scene_in, FetchedItem, RequestComesTo, Sound, mailbox, lane_of_queue, IsAnsweredInItsSlot, IsExecuted, request_execution_with, IoExecutionIsAStep, AdminExecutionIsAStep, ExecutionIsAStep, None, plain, Fleet, WithDriver, Completes, ExecutesItem, ExecutesAt, settled, site_of, setting_of, marks_in, ExecutionIsAFleetStep, NoExecutionIsAFleetStep, common_steps}
 use Rattle.nvme_fleet.proofs.OneLane.{running}
 use Rattle.nvme_spec.specs.IoData as spec
 use Rattle.nvme_fleet.proofs.PostStep.{known, open-is, pair_in, fields_of, item_at, found-at, posting_has_room, posting_is_a_step, nothing_to_execute}
@@ -29,12 +29,10 @@ completion-fits lane d c i t p a s g q e f =
     }
   where
     queue-small : (l : Lane) → queue_id l < 2
-    queue-small Admin = omega arith
-    queue-small Io = omega arith
+    queue-small l = grind (arith, common_steps)
 
     lane-back : (l : Lane) → lane_of_queue (queue_id l) ≡ l
-    lane-back Admin = refl
-    lane-back Io = refl
+    lane-back l = grind (arith, common_steps)
 
 -- what a command of this queue comes to
 of-queue : (n : ℕ) (tells : Bool) (t : FetchedCommand) (old : Setting) (a : CommandExecution) → t.queue ≡ n → CommandComesTo tells (queues_of old.controller) old.controller.cntlid t (scene_in old) a

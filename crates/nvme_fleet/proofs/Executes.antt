@@ -38,15 +38,10 @@ fetched d c i x s g =
     let l : live_at d.slots (cid x) ≡ 1 = omega (arith, s.carried (cid x), b, r, live-small (slot_at d.slots (cid x))) in
     let z : total (odd (holds d)) c.taken ≡ 0 = omega (arith, s.suited) in
     let t : suits (holds d (cid x)) x ≡ true = grind (arith, common_steps, total-removed (odd (holds d)) c.taken i x g, z) in
-    record {
-      running = s;
-      there = g;
-      live = l;
-      within = omega (arith, live-within d.slots (cid x) l, s.slots);
-      suits_it = t;
-      room = omega (arith, few d c s, length-remove c.taken i (slice_get_within c.taken i x g));
-      bare = bare-all d (record c { taken = remove c.taken i }) (cid x) s.fetched s.waiting (omega (arith, s.carried (cid x), b, r, l));
-    }
+    let within : cid x < 24 = omega (arith, live-within d.slots (cid x) l, s.slots) in
+    let room : c.unread < 24 = omega (arith, few d c s, length-remove c.taken i (slice_get_within c.taken i x g)) in
+    let bare = bare-all d (record c { taken = remove c.taken i }) (cid x) s.fetched s.waiting (omega (arith, s.carried (cid x), b, r, l)) in
+    search
 
 -- what holds where it is executed with this answer, whose data stand at the front of the slot's data, by a completion of
 -- 16 bytes that is read back

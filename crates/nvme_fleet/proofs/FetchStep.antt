@@ -62,16 +62,13 @@ commands-append lane [] ys = refl
 commands-append lane (x ∷ xs) ys = grind (arith, common_steps, commands-append lane xs ys)
 
 one-here : (lane : Lane) (x : List ℕ) → commands_in lane (record { entry = x; queue = queue_id lane; marked = false } ∷ []) ≡ x ∷ []
-one-here Admin x = refl
-one-here Io x = refl
+one-here lane x = grind (arith, common_steps)
 
 one-there : (lane : Lane) (x : List ℕ) → commands_in (other lane) (record { entry = x; queue = queue_id lane; marked = false } ∷ []) ≡ []
-one-there Admin x = refl
-one-there Io x = refl
+one-there lane x = grind (arith, common_steps)
 
 one-item : (lane : Lane) (d : Driver) (w x : List ℕ) → fetched_by (held_by d w) (record { entry = x; queue = queue_id lane; marked = false }) ≡ record { item = item (held_by d w lane) x; marked = false }
-one-item Admin d w x = refl
-one-item Io d w x = refl
+one-item lane d w x = grind (arith, common_steps)
 
 -- a fetch in a lane where one waits
 record Waits (lane : Lane) (d : Driver) (c : Controller) : Type 0 where
@@ -124,8 +121,7 @@ abbrev Fetches : Lane → Driver → Controller → Type 0
 Fetches lane d c = IsStep (fetched (queue_id lane) (mailbox d c)) d (after_fetch_of (queue_id lane) c).controller (plain (Fetched (raw_fetch c (queue_id lane))))
 
 lane-is : (lane : Lane) → lane_at (queue_id lane) ≡ Some lane
-lane-is Admin = refl
-lane-is Io = refl
+lane-is lane = grind (arith, common_steps)
 
 -- what was rung decides
 rung-is : (lane : Lane) (d : Driver) (c : Controller) (xs : List Item) → (box (host lane d c.window) (state lane c)).rung ≡ xs → fetched (queue_id lane) (mailbox d c) ≡ fetched_first lane xs (mailbox d c)

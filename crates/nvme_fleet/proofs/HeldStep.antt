@@ -22,15 +22,10 @@ held lane d c i t k =
     let r = read-so (slot_seen lane d c t) t.entry h (k.one).within in
     let there : take (length (stored_list (cid t.entry) (asked_in (slot_seen lane d c t) t.entry).moved)) (listed c.window (cid t.entry)) ≡ stored_list (cid t.entry) (asked_in (slot_seen lane d c t) t.entry).moved =
     sym (ap (λ (z : Slot). take (length (stored_list (cid t.entry) (asked_in (slot_seen lane d c t) t.entry).moved)) z.list) e) ∙ h.there in
-    record {
-      suited = h;
-      within = (k.one).within;
-      of_lane = w.of_lane;
-      received = w.received;
-      bytes = ap (λ (z : Slot). z.bytes) e;
-      same = same-fields (slot_seen lane d c t) t.entry h (k.one).within;
-      moves = moved c.window (cid t.entry) t.entry (asked_in (slot_seen lane d c t) t.entry).moved k.sound.both.window (k.one).within h.most there (ap (λ (z : SqeFields). z.prp1) r) (ap (λ (z : SqeFields). z.prp2) r);
-    }
+    let bytes = ap (λ (z : Slot). z.bytes) e in
+    let same = same-fields (slot_seen lane d c t) t.entry h (k.one).within in
+    let moves = moved c.window (cid t.entry) t.entry (asked_in (slot_seen lane d c t) t.entry).moved k.sound.both.window (k.one).within h.most there (ap (λ (z : SqeFields). z.prp1) r) (ap (λ (z : SqeFields). z.prp2) r) in
+    search moves
 
 -- the rule on the pointer passes
 pub pointer-passes : (window : List ℕ) (k : ℕ) (x : List ℕ) (n : ℕ) → IsMoved window k x n → judgement_by (pointer_rule n window x) ≡ Ok tt

@@ -1,5 +1,5 @@
 -- Windows that differ in one slot or in the queue pages of one lane, and stores that leave such windows.
-use Rattle.nvme_fleet.proofs.Words.{list_page, data_area, ◌≡◌, ℕ, ◌+◌, ◌*◌, ◌<◌, ◌≤◌, List, length, refl, ap, ◌∙◌, arith, true, false, cond, eqb, take, drop, ◌⊎◌, inl, inr, take-take, cases_lt, eqb-false, most_bytes, with_bytes, Lane, Admin, Io, same, other, submission_queue, pages_of, area, listed}
+use Rattle.nvme_fleet.proofs.Words.{list_page, data_area, ◌≡◌, ℕ, ◌+◌, ◌*◌, ◌<◌, ◌≤◌, List, length, refl, ap, ◌∙◌, arith, true, false, cond, eqb, take, drop, ◌⊎◌, inl, inr, take-take, cases_lt, eqb-false, most_bytes, with_bytes, Lane, Admin, Io, same, other, submission_queue, pages_of, area, listed, common_steps}
 use Rattle.nvme_fleet.proofs.Windows.{stored-apart, stored-in}
 use Rattle.std.proofs.Common.{rules}
 use Rattle.std.proofs.lemmas.List.{places, same_lists}
@@ -13,16 +13,13 @@ each-lane Io P a b Admin = b
 each-lane Io P a b Io = a
 
 pub same-self : (l : Lane) → same l l ≡ true
-same-self Admin = refl
-same-self Io = refl
+same-self l = grind (arith, common_steps)
 
 pub same-other : (l : Lane) → same l (other l) ≡ false
-same-other Admin = refl
-same-other Io = refl
+same-other l = grind (arith, common_steps)
 
 pub other-same : (l : Lane) → same (other l) l ≡ false
-other-same Admin = refl
-other-same Io = refl
+other-same l = grind (arith, common_steps)
 
 -- a slot whose area and list two windows share
 pub record Same (w w' : List ℕ) (k : ℕ) : Type 0 where
@@ -41,8 +38,7 @@ unfolding listed
 list-apart w bytes at k i h = stored-apart w bytes at (list_page k) 4096 i h
 
 pub queue-low : (lane : Lane) → submission_queue lane ≤ 8192
-queue-low Admin = omega arith
-queue-low Io = omega arith
+queue-low lane = grind (arith, common_steps)
 
 pages-apart : (lane : Lane) (w bytes : List ℕ) (at : ℕ) → at + length bytes ≤ length w → (at < submission_queue lane + 8192 → at + length bytes ≤ submission_queue lane) → pages_of lane (with_bytes w at bytes) ≡ pages_of lane w
 unfolding pages_of

@@ -1,5 +1,5 @@
 -- A controller that its driver has brought up, lane by lane.
-use Rattle.nvme_fleet.proofs.Words.{◌≡◌, ℕ, ◌+◌, ◌-◌, ◌*◌, ◌%◌, ◌<◌, ◌≤◌, List, take, drop, Some, refl, ap, sym, ◌∙◌, arith, slice_range, slice_set, take-take, drop-drop, drop-take, AllByRecursion, Lane, Admin, Io, queue_id, submission_queue, Controller, submission_at, completion_at, command_at, DeviceEnds, other, pages_of, commands_in, state, IsOfLane, IsPaired, submission_as, completion_as}
+use Rattle.nvme_fleet.proofs.Words.{◌≡◌, ℕ, ◌+◌, ◌-◌, ◌*◌, ◌%◌, ◌<◌, ◌≤◌, List, take, drop, Some, refl, ap, sym, ◌∙◌, arith, slice_range, slice_set, take-take, drop-drop, drop-take, AllByRecursion, Lane, Admin, Io, queue_id, submission_queue, Controller, submission_at, completion_at, command_at, DeviceEnds, other, pages_of, commands_in, state, IsOfLane, IsPaired, submission_as, completion_as, common_steps}
 
 -- the counts of one lane
 abbrev pub counts : Lane → Controller → DeviceEnds
@@ -11,21 +11,17 @@ counts lane c = record {
 }
 
 pub submission-is : (lane : Lane) (c : Controller) → IsPaired c → submission_at c (queue_id lane) ≡ Some (submission_as lane (counts lane c))
-submission-is Admin c p = rw p.submission refl
-submission-is Io c p = rw p.submission refl
+submission-is lane c p = grind (arith, common_steps, p.submission)
 
 pub completion-is : (lane : Lane) (c : Controller) → IsPaired c → completion_at c (queue_id lane) ≡ Some (completion_as lane (counts lane c))
-completion-is Admin c p = rw p.completion refl
-completion-is Io c p = rw p.completion refl
+completion-is lane c p = grind (arith, common_steps, p.completion)
 
 -- its queues of a lane as they are
 pub same-submission : (lane : Lane) (c : Controller) → IsPaired c → c.submission ≡ slice_set c.submission (queue_id lane) (Some (submission_as lane (counts lane c)))
-same-submission Admin c p = rw p.submission refl
-same-submission Io c p = rw p.submission refl
+same-submission lane c p = grind (arith, common_steps, p.submission)
 
 pub same-completion : (lane : Lane) (c : Controller) → IsPaired c → c.completion ≡ slice_set c.completion (queue_id lane) (Some (completion_as lane (counts lane c)))
-same-completion Admin c p = rw p.completion refl
-same-completion Io c p = rw p.completion refl
+same-completion lane c p = grind (arith, common_steps, p.completion)
 
 -- one whose queues of a lane have other counts
 pub record Counted (lane : Lane) (c c' : Controller) (q : DeviceEnds) : Type 0 where

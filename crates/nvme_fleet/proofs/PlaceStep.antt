@@ -110,17 +110,10 @@ known d c request slot s h f say =
     let r = running (lane_of request) d c s p.up in
     let a = free-some d.slots slot f in
     let some : (8 - 1 - (ends (lane_of request) d).tail.unheard == 0) ≡ false = ap (λ n. n - 1 - (ends (lane_of request) d).tail.unheard == 0) (sym g.tail) ∙ p.room in
-    record {
-      sound = s;
-      up = p.up;
-      good = p.good;
-      put = r.put;
-      room = grind (arith, common_steps, r.room, some);
-      within = omega (arith, a.0, s.both.slots);
-      free = a.1;
-      says = say;
-      sized = sizes request p.good;
-    }
+    let room : (ends (lane_of request) d).tail.unheard < 7 = grind (arith, common_steps, r.room, some) in
+    let within : slot < 24 = omega (arith, a.0, s.both.slots) in
+    let sized = sizes request p.good in
+    search
 
 -- What becomes of the lane.
 abbrev host_then : Driver → Controller → Request → ℕ → Host

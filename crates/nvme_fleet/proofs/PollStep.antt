@@ -128,14 +128,9 @@ heads : (lane : Lane) (d : Driver) (c : Controller) → Sound d c → is_up d.st
 heads lane d c s u p =
     let r = running lane d c s u in
     let o = own-at lane c.window d.slots (cid (entry_at lane d c)) (front-live (host lane d c.window) (state lane c) r p) in
-    record {
-      sound = s;
-      up = u;
-      some = p;
-      own = o;
-      within = omega (arith, within-of d.slots (cid (entry_at lane d c)) (λ z. none-some o.waiting (sym z ∙ o.is)), s.both.slots);
-      heard = hear-is lane d c.window (sq_head (entry_at lane d c)) (s.fits lane) ∙ hears (host lane d c.window) (state lane c) r p;
-    }
+    let within : cid (entry_at lane d c) < 24 = omega (arith, within-of d.slots (cid (entry_at lane d c)) (λ z. none-some o.waiting (sym z ∙ o.is)), s.both.slots) in
+    let heard = hear-is lane d c.window (sq_head (entry_at lane d c)) (s.fits lane) ∙ hears (host lane d c.window) (state lane c) r p in
+    search
   where
     hear-is : (lane : Lane) (d : Driver) (w : List ℕ) (head : ℕ) → EndsFit (ends lane d) → can_be_heard (ends lane d).tail head ≡ can_hear (host lane d w) head
     hear-is lane d w head f = rw (f.tail, same-ahead (ends lane d).tail.put head) refl
@@ -243,18 +238,10 @@ module _ (lane : Lane) (d : Driver) (c : Controller) (h : Heads lane d c) where
       let q = consumed-is (ends lane d) (sq_head (entry_at lane d c)) (h.sound.fits lane) h.heard in
       let here = slots-here lane c.window c.window d.slots (cid (entry_at lane d c)) None b.slots h.within (λ k g e. record { areas = refl; lists = refl }) in
       let there = slots-there (other lane) c.window c.window d.slots (cid (entry_at lane d c)) None b.slots h.within (λ k g e. record { areas = refl; lists = refl }) ((h.own).absent c.window (cid (entry_at lane d c))) refl in
-      record {
-        up = x.state;
-        next = x.next;
-        later = omega arith;
-        window = refl;
-        slots = ap length x.slots ∙ length-set d.slots (cid (entry_at lane d c)) None;
-        host_here = x.here c.window
-            ∙ (λ i. record (host lane d c.window) { slots = here i; put = (q i).tail.put; unheard = (q i).tail.unheard; consumed = (q i).head.consumed });
-        host_there = x.there c.window ∙ (λ i. record (host (other lane) d c.window) { slots = there i });
-        state_here = t.here;
-        state_there = t.there;
-      }
+      let slots = ap length x.slots ∙ length-set d.slots (cid (entry_at lane d c)) None in
+      let host_here = x.here c.window ∙ (λ i. record (host lane d c.window) { slots = here i; put = (q i).tail.put; unheard = (q i).tail.unheard; consumed = (q i).head.consumed }) in
+      let host_there = x.there c.window ∙ (λ i. record (host (other lane) d c.window) { slots = there i }) in
+      search arith
 
   polled-sound : Sound (poll.consumed d lane (entry_at lane d c)) (told_one lane c (head_then lane d))
   polled-sound =

@@ -102,23 +102,15 @@ module _ (d : Host) (c : State) (s : Running d c) (p : 0 < c.unread) where
 
   pub poll-running : Running (consumed d (front d c)) (less c)
   poll-running =
-      record {
-        ready = s.ready;
-        window = s.window;
-        slots = length-set d.slots (front d c).cid empty ∙ s.slots;
-        put = s.put;
-        fetched = s.fetched;
-        consumed = omega arith;
-        posted = omega (arith, s.posted, p);
-        waiting = s.waiting;
-        unheard = omega (arith, ap (λ h. steps h (rest-of d c)) heard-front, since-front, left-over, ap (steps (heard d)) (front-first d c p), s.unheard);
-        room = omega arith;
-        of_lane = front-of.1;
-        phases = phases-consumed c.window d.consumed c.unread p (omega (arith, few d c s)) s.phases;
-        carried = carried-front;
-        held = omega (arith, s.held, p, front-live, live-set d.slots (front d c).cid empty (live-within d.slots (front d c).cid front-live));
-        suited = bare-odd (popped d (front d c)) (less c) (front d c).cid empty bare ∙ s.suited;
-      }
+      let slots = length-set d.slots (front d c).cid empty ∙ s.slots in
+      let unheard : steps (heard (consumed d (front d c))) (rest-of d c) + since (consumed d (front d c)) (less c) + in_flight d c ≡ left_after d (front d c).sq_head =
+      omega (arith, ap (λ h. steps h (rest-of d c)) heard-front, since-front, left-over, ap (steps (heard d)) (front-first d c p), s.unheard) in
+      let of_lane = front-of.1 in
+      let phases = phases-consumed c.window d.consumed c.unread p (omega (arith, few d c s)) s.phases in
+      let held : length c.taken + in_flight d c + (c.unread - 1) ≡ total live_in (slice_set d.slots (front d c).cid empty) =
+      omega (arith, s.held, p, front-live, live-set d.slots (front d c).cid empty (live-within d.slots (front d c).cid front-live)) in
+      let suited = bare-odd (popped d (front d c)) (less c) (front d c).cid empty bare ∙ s.suited in
+      search (arith, phases, carried-front)
 
 -- the lane that was polled holds
 pub poll-holds : (first : ℕ) (d : Host) (c : State) → Holds first d c → d.up ≡ true → 0 < c.unread → Holds first (consumed d (front d c)) (less c)

@@ -61,15 +61,9 @@ known d c i t s g =
     let u = up-of d c i t s g in
     let r = ranked-in (lane_of_queue t.queue) c.fetched i t g (same-self (lane_of_queue t.queue)) in
     let o = fetched_one (host (lane_of_queue t.queue) d c.window) (state (lane_of_queue t.queue) c) (rank (lane_of_queue t.queue) c.fetched i) t.entry (running (lane_of_queue t.queue) d c s u) r.there in
-    record {
-      sound = s;
-      there = g;
-      of_lane = refl;
-      queue = queue-is t (all-get IsOfLane c.fetched i t g (s.up u).fetched);
-      up = u;
-      one = o;
-      own = own-at (lane_of_queue t.queue) c.window d.slots (cid t.entry) o.live;
-    }
+    let queue = queue-is t (all-get IsOfLane c.fetched i t g (s.up u).fetched) in
+    let own = own-at (lane_of_queue t.queue) c.window d.slots (cid t.entry) o.live in
+    search
 
 pub open-is : (lane : Lane) (d : Driver) (c : Controller) (i : ℕ) (t : FetchedCommand) → Known lane d c i t → open_pair c t ≡ Some (pair_in lane c)
 unfolding open_pair
@@ -253,18 +247,13 @@ module _ (lane : Lane) (d : Driver) (c : Controller) (i : ℕ) (t : FetchedComma
       let at = 4096 + 16 * ((state lane c).posted % 32) in
       let pages = ap (pages_of lane) v ∙ w.stored.pages lane ∙ ap (λ x. cond x (with_bytes (pages_of lane c.window) at new) (pages_of lane c.window)) (same-self lane) in
       let others = ap (pages_of (other lane)) v ∙ w.stored.pages (other lane) ∙ ap (λ x. cond x (with_bytes (pages_of (other lane) c.window) at new) (pages_of (other lane) c.window)) (other-same lane) in
-      record {
-        up = refl;
-        next = refl;
-        later = omega arith;
-        window = ap length v ∙ w.stored.size ∙ sym b.window;
-        slots = refl;
-        host_here = ap (host lane d) v ∙ (λ j. record (host lane d c.window) { slots = here j });
-        host_there = ap (host (other lane) d) v ∙ (λ j. record (host (other lane) d c.window) { slots = there j });
-        state_here = q.here
-            ∙ (λ j. record (state lane c) { window = pages j; posted = ((state lane c).posted + 1) % 64; unread = (state lane c).unread + 1; taken = taken j });
-        state_there = q.there ∙ (λ j. record (state (other lane) c) { window = others j; taken = (still-there lane d c i t k) j });
-      }
+      let size = ap length v ∙ w.stored.size ∙ sym b.window in
+      let host_here = ap (host lane d) v ∙ (λ j. record (host lane d c.window) { slots = here j }) in
+      let host_there = ap (host (other lane) d) v ∙ (λ j. record (host (other lane) d c.window) { slots = there j }) in
+      let state_here = q.here
+      ∙ (λ j. record (state lane c) { window = pages j; posted = ((state lane c).posted + 1) % 64; unread = (state lane c).unread + 1; taken = taken j }) in
+      let state_there = q.there ∙ (λ j. record (state (other lane) c) { window = others j; taken = (still-there lane d c i t k) j }) in
+      search arith
 
   posted-mail : mailbox d (posted_then lane c i t a) ≡ after_answer i (item_at d c t) (request_execution_with d t a bytes) (mailbox d c)
   unfolding after_posting

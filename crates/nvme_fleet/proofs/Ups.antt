@@ -1,5 +1,5 @@
 -- Bringing up in one lane: nothing is on its way behind each of the driver's own commands, and it holds at the end.
-use Rattle.nvme_fleet.proofs.Words.{◌≡◌, ℕ, ◌+◌, ◌-◌, ◌*◌, ◌%◌, ◌<◌, ◌≤◌, List, [], ◌∷◌, length, refl, ap, sym, ◌∙◌, arith, suc, true, false, take, drop, get_or, subst, length-drop, get_or-take, get_or-drop, get_or-replicate, length-replicate, length-take-le, same_lists, le-ltb, common_steps, replicate, with_bytes, queue_id, completion_of, phase, AllByRecursion, IsOf, phase_of, State, Slot, slot_at, zeros, fresh_host, fresh_state, own_host, own_state, in_flight, commands, completions, commands_of, answers_of, unread, heard, steps, since, last_head, total, odd, holds, live_in, live_at, Phases, Running, Resting, Holds, box, Host}
+use Rattle.nvme_fleet.proofs.Words.{◌≡◌, ℕ, ◌+◌, ◌-◌, ◌*◌, ◌%◌, ◌<◌, ◌≤◌, List, [], ◌∷◌, length, refl, ap, sym, ◌∙◌, arith, suc, true, false, take, drop, get_or, subst, length-drop, get_or-take, get_or-drop, get_or-replicate, length-replicate, length-take-le, same_lists, le-ltb, common_steps, replicate, with_bytes, queue_id, completion_of, phase, AllByRecursion, IsOf, phase_of, State, Slot, slot_at, zeros, fresh_host, fresh_state, own_host, own_state, in_flight, commands, completions, commands_of, answers_of, unread, heard, steps, since, last_head, total, odd, holds, live_in, live_at, Phases, Running, Resting, Holds, box, Host, Carried}
 use Rattle.nvme_fleet.proofs.Phases.{phases-kept, phases-posted, phases-consumed}
 use Rattle.nvme_fleet.proofs.Windows.{stored-part}
 use Rattle.nvme_fleet.proofs.Keeps.{enters, answered}
@@ -35,23 +35,12 @@ quiet-running d c s =
     let e : commands c.window c.fetched (in_flight d c) ≡ [] = ap (λ k. commands c.window c.fetched k) f in
     let h : heard d ≡ d.put = omega (arith, s.unheard, s.put) in
     let n : since d c ≡ 0 = omega (arith, ap (last_head (heard d)) u, h, s.fetched, s.put) in
-    record {
-      ready = s.ready;
-      window = s.window;
-      slots = s.slots;
-      put = s.put;
-      fetched = omega (arith, s.fetched, s.put);
-      consumed = s.consumed;
-      posted = omega (arith, s.posted, s.unread, s.consumed);
-      waiting = omega (arith, s.waiting);
-      unheard = omega (arith, ap (steps (heard d)) u, n, f, s.unheard);
-      room = omega (arith, s.unheard);
-      of_lane = subst (AllByRecursion (IsOf (queue_id c.lane))) (sym u) tt;
-      phases = s.phases;
-      carried = λ k. omega (arith, ap (commands_of k) s.taken, ap (commands_of k) e, ap (answers_of k) u, s.idle k);
-      held = omega (arith, ap length s.taken, f, s.unread, idle-total d.slots s.idle);
-      suited = omega (arith, ap (total (odd (holds d))) s.taken, ap (total (odd (holds d))) e);
-    }
+    let unheard : steps (heard d) (unread d c) + since d c + in_flight d c ≡ d.unheard = omega (arith, ap (steps (heard d)) u, n, f, s.unheard) in
+    let of_lane = subst (AllByRecursion (IsOf (queue_id c.lane))) (sym u) tt in
+    let carried : Carried d c = λ k. omega (arith, ap (commands_of k) s.taken, ap (commands_of k) e, ap (answers_of k) u, s.idle k) in
+    let held : length c.taken + in_flight d c + c.unread ≡ total live_in d.slots = omega (arith, ap length s.taken, f, s.unread, idle-total d.slots s.idle) in
+    let suited : Suited d c = omega (arith, ap (total (odd (holds d))) s.taken, ap (total (odd (holds d))) e) in
+    search (arith, s.phases, carried)
 
 -- one more of the driver's own commands leaves the lane quiet
 pub own-quiet : (d : Host) (c : State) (entry completion : List ℕ) → Quiet d c → length entry ≡ 64 → length completion ≡ 16 → (completion_of completion).phase ≡ phase_of c.posted →

@@ -1,5 +1,5 @@
 -- A driver that is down waits for nothing, from an opening on.
-use Rattle.nvme_mailbox.proofs.Words.{true≢false, ◌≡◌, ℕ, ◌+◌, true, false, List, [], ◌∷◌, map, refl, sym, ap, subst, ◌∙◌, slice_get, none-some, Lane, Admin, Io, LaneBox, empty_box, Mailbox, box_at, lane_of, with_box, with_mark, WithDriver, after_answer, opening, IsClear, posted_answers, waiting, Device, Configuration, Raw, marked}
+use Rattle.nvme_mailbox.proofs.Words.{true≢false, ◌≡◌, ℕ, ◌+◌, true, false, List, [], ◌∷◌, map, refl, sym, ap, subst, ◌∙◌, slice_get, none-some, Lane, Admin, Io, LaneBox, empty_box, Mailbox, box_at, lane_of, with_box, with_mark, WithDriver, after_answer, opening, IsClear, posted_answers, waiting, Device, Configuration, Raw, marked, arith, common_steps}
 use Rattle.nvme_mailbox.specs.SinceUp.{DoneSinceItCameUp, DownIsClear}
 use Rattle.nvme_mailbox.proofs.Answered.{done_is_its_execution}
 use Rattle.nvme_mailbox.proofs.TicketCounts.{opening_is_new}
@@ -35,8 +35,7 @@ up-rests m up down = absurd (true≢false (sym up ∙ down))
 -- Each move.
 
 box-up : (lane : Lane) (b : LaneBox) (m : Mailbox) → (with_box lane b m).up ≡ m.up
-box-up Admin b m = refl
-box-up Io b m = refl
+box-up lane b m = grind (arith, common_steps)
 
 lane-empty : (lane : Lane) (m : Mailbox) → IsIdle m → IsEmpty (box_at lane m)
 lane-empty Admin m i = i.admin

@@ -34,8 +34,7 @@ gives-on l m n xs ys a b =
     )
 
 box-next : (l : Lane) (b : LaneBox) (m : Mailbox) → (with_box l b m).next ≡ m.next
-box-next Admin b m = refl
-box-next Io b m = refl
+box-next l b m = grind (arith, common_steps)
 
 gives : (v : Move) (m : Mailbox) → May v m → Gives m (moved v m) (given_in (reply_of v m).seen)
 unfolding after_answer
