@@ -1,15 +1,228 @@
 -- An admin command is judged as its request, and what it is answered is what its request is answered.
-use Rattle.nvme_fleet.proofs.Words.{◌≡◌, ℕ, ◌^◌, ◌<◌, ◌≤◌, Bool, List, [], ◌∷◌, ◌++◌, length, take, Some, Ok, Err, refl, sym, ap, subst, ◌∙◌, arith, slice_get, take_all, cid, opcode, AdminCommand, Queues, Keep, Device, World, Judgement, judgement_by, first_failing, pointer_rule, data_in, data_addresses, with_scattered, with_bytes, admin_execution, execution_by, performance, data_out, scene, no_marks, Fits, JudgementRefuses, admin_execution_fits, Admin, data_area, Driver, Asked, FetchedCommand, CommandExecution, admin_command_execution, Controller, queues_of, FetchedItem, lane_of, Site, RequestExecution, command_entry, queue_pairs, admin_judgement, admin_served, admin_request_execution_by, admin_request_execution, RequestComesToAs, RequestComesTo, Sound, mailbox, lane_of_queue, IsAnsweredInItsSlot, AdminJudgedAsItsRequest, AdminAnswersItsRequest, request_execution_with, entry_length}
+use Rattle.nvme_fleet.proofs.Words.{◌≡◌, ℕ, ◌^◌, ◌<◌, ◌≤◌, Bool, List, [], ◌∷◌, ◌++◌, length, take, Some, Ok, Err, refl, sym, ap, subst, ◌∙◌, arith, slice_get, take_all, cid, opcode, AdminCommand, Queues, Keep, Device, World, Judgement, judgement_by, first_failing, pointer_rule, data_in, data_addresses, with_scattered, with_bytes, admin_execution, execution_by, performance, data_out, scene, no_marks, Fits, JudgementRefuses, admin_execution_fits, Admin, data_area, Driver, Asked, FetchedCommand, CommandExecution, admin_command_execution, Controller, queues_of, FetchedItem, lane_of, Site, RequestExecution, command_entry, queue_pairs, admin_judgement, admin_served, admin_request_execution_by, admin_request_execution, RequestComesToAs, RequestComesTo, Sound, mailbox, lane_of_queue, IsAnsweredInItsSlot, AdminJudgedAsItsRequest, AdminAnswersItsRequest, request_execution_with, entry_length, ◌⊎◌, ◌==◌, true, false, ◌||◌, Option, None, inl, inr, and_parts, eqb-true, if◌then◌else◌, nsid, cdw10, Open, Namespace, namespace_of, opcode_of, state_of, fid, number_of_queues, write_protection, protection_value, double_word_0, queue_change, Slot, asked_in, is_plain, is_plain_in, lane_in, form_rule, cns, sv, nsqr, ncqr, wps, exhid, sel, ◌+◌, ◌*◌, nat_lt, ◌&&◌, filter, length-append, length-replicate, flat_map, AllByRecursion, range_with_len, is_attached, namespace_structure, controller_structure, identify_data, common_steps}
 use Rattle.nvme_spec.specs.AdminCommands.{command_of, data_length, data_length_of}
 use Rattle.nvme_spec.specs.AdminRules as rules
 use Rattle.nvme_spec.specs.Statuses as status
 use Rattle.nvme_spec.proofs.AdminDenials.{admin-refuses}
 use Rattle.nvme_fleet.proofs.Windows.{stored-none}
-use Rattle.nvme_fleet.proofs.AdminJudging.{IsAsked, admin-access-same, list-same, dw0-same, data-out-same, world-same}
-use Rattle.nvme_fleet.proofs.AdminKinds.{dw0-small, MovesAs, IsPlainAdmin, asked_by, plain-admin, length-out, keeps-queues, list-matters, world-matters}
-use Rattle.nvme_fleet.proofs.HeldStep.{IsHeld, held-known, pointer-passes, without-pointer, data-same, asked-at, lane-at}
+use Rattle.nvme_fleet.proofs.HeldStep.{IsHeld, held-known, pointer-passes, without-pointer, data-same, asked-at, lane-at, SameFields}
 use Rattle.nvme_fleet.proofs.AnswerStep.{unsuccessful, denied-with}
 use Rattle.nvme_fleet.proofs.PostStep.{up-of, slot_seen}
+use Rattle.nvme_wire.specs.Entry.{bits}
+use Rattle.nvme_spec.specs.declared.access.Protection.{Protection}
+use Rattle.nvme_spec.specs.declared.command.AdminCommand.TheVariants as admin
+use Rattle.nvme_spec.specs.AdminEffects.{world_after}
+use Rattle.std.specs.Int.{w32, to_le_bytes}
+use Rattle.nvme_spec.specs.Identify.{Field, with_fields, no_fields, namespace_fields, controller_fields, identify_namespace, identify_controller, namespace_list, identify_attached}
+use Rattle.nvme_spec.proofs.Splices.{length-with_bytes}
+
+-- How long the data are that an admin command gives back.
+
+abbrev LiesIn : ℕ → Field → Type 0
+LiesIn n f = f.offset + length f.bytes ≤ n
+
+length-with_fields : (n : ℕ) (fs : List Field) (old : List ℕ) → AllByRecursion (LiesIn n) fs → length old ≡ n → length (with_fields old fs) ≡ n
+length-with_fields n [] old a e = e
+length-with_fields n (f ∷ fs) old (one, rest) e =
+    length-with_fields n fs _ rest ((length-with_bytes old f.offset f.bytes (omega (arith, one, e))) ∙ e)
+
+length-no_fields : length no_fields ≡ 4096
+length-no_fields = length-replicate {A = ℕ} 4096 0
+
+length-namespace : (n : Namespace) → length (identify_namespace n) ≡ 4096
+unfolding identify_namespace
+length-namespace n =
+    length-with_fields 4096 (namespace_fields n) no_fields
+    (omega arith, (omega arith, (omega arith, (omega arith, (omega arith, (omega arith, (omega arith, tt)))))))
+    length-no_fields
+
+length-controller : (k : ℕ) → length (identify_controller k) ≡ 4096
+unfolding identify_controller
+length-controller k =
+    length-with_fields 4096 (controller_fields k) no_fields
+    (omega arith, (omega arith, (omega arith, (omega arith, (omega arith, (omega arith, (omega arith, (omega arith, (omega arith, (omega arith, (omega arith, (omega arith, (omega arith, (omega arith, (omega arith, (omega arith, tt))))))))))))))))
+    length-no_fields
+
+-- four bytes for each namespace
+length-spelled : (xs : List ℕ) → length (flat_map (to_le_bytes w32) xs) ≡ 4 * length xs
+length-spelled [] = refl
+length-spelled (x ∷ xs) =
+    omega (arith, length-spelled xs, length-append (to_le_bytes w32 x) (flat_map (to_le_bytes w32) xs))
+
+few-filter : (p : ℕ → Bool) (xs : List ℕ) → length (filter p xs) ≤ length xs
+few-filter p [] = omega arith
+few-filter p (x ∷ xs) = grind (arith, common_steps, few-filter p xs)
+
+length-list : (p : ℕ → Bool) → length (namespace_list (filter p (range_with_len 1 8))) ≡ 4096
+unfolding namespace_list
+length-list p =
+    let long = length-spelled (filter p (range_with_len 1 8)) in
+    let z = length-no_fields in
+    length-with_bytes no_fields 0 (flat_map (to_le_bytes w32) (filter p (range_with_len 1 8))) (omega (arith, few-filter p (range_with_len 1 8), long, z)) ∙ z
+
+length-shown : (w : World) (k n : ℕ) (o : Option Namespace) (attached : Bool) → namespace_of w n ≡ o → is_attached w k n ≡ attached → length (identify_attached w k n) ≡ 4096
+length-shown w k n None attached e f = rw e length-no_fields
+length-shown w k n (Some space) true e f = rw (e, f) (length-namespace space)
+length-shown w k n (Some space) false e f = rw (e, f) length-no_fields
+
+length-if : (b : Bool) (x y : List ℕ) (n : ℕ) → length x ≡ n → length y ≡ n → length (if b then x else y) ≡ n
+length-if true x y n e f = e
+length-if false x y n e f = f
+
+pub length-identify_data : (w : World) (k : ℕ) (e : List ℕ) → length (identify_data w k e) ≡ 4096
+length-identify_data w k e =
+    length-if (cns e == namespace_structure) _ _ 4096 (length-shown w k (nsid e) (namespace_of w (nsid e)) (is_attached w k (nsid e)) refl refl)
+    (length-if (cns e == controller_structure) _ _ 4096 (length-controller k) (length-list (λ n. nat_lt (nsid e) n && is_attached w k n)))
+
+-- Admin commands with the same fields are judged alike and do the same. The creation of queues is left out, since it reads
+-- the data pointer; it is none of a driver's requests.
+
+-- The commands that a driver's requests ask for.
+abbrev pub IsAsked : AdminCommand → Type 0
+IsAsked admin.Identify = Unit {0}
+IsAsked admin.SetFeatures = Unit {0}
+IsAsked admin.GetFeatures = Unit {0}
+IsAsked admin.NamespaceAttachment = Unit {0}
+IsAsked command = ⊥
+
+same-field : (command : AdminCommand) (queues : Queues) (n : Option Namespace) (x y : List ℕ) → IsAsked command → SameFields x y
+    → rules.field_rule (Some command) queues n y ≡ rules.field_rule (Some command) queues n x
+unfolding rules.identify_rule rules.set_features_rule rules.get_features_rule rules.selection_rule cns fid sv nsqr ncqr wps exhid sel
+same-field admin.Identify queues n x y k h = rw h.cdw10 refl
+same-field admin.SetFeatures queues n x y k h = rw (h.cdw10, h.cdw11) refl
+same-field admin.GetFeatures queues n x y k h = rw (h.cdw10, h.cdw11) refl
+same-field admin.NamespaceAttachment queues n x y k h = rw h.cdw10 refl
+same-field command queues n x y k h = absurd k
+
+-- the rules before those that look at the data
+pub admin-access-same : (w : World) (queues : Queues) (k : ℕ) (x y : List ℕ) (command : AdminCommand) → IsAsked command → command_of (opcode x) ≡ Some command → SameFields x y
+    → rules.admin_access_rules w queues k y ≡ rules.admin_access_rules w queues k x
+unfolding form_rule rules.nsid_rule rules.attachment_rule cns fid
+admin-access-same w queues k x y command a o h =
+    rw (h.opcode, o, same-field command queues (namespace_of w (nsid y)) x y a h, h.nsid, h.fuse, h.psdt, h.cdw10) refl
+
+-- the rule that looks at a list of controllers
+pub list-same : (w : World) (x y sent : List ℕ) (command : AdminCommand) → IsAsked command → SameFields x y
+    → rules.list_rule (Some command) w y sent ≡ rules.list_rule (Some command) w x sent
+unfolding rules.list_rule sel
+list-same w x y sent admin.NamespaceAttachment a h = rw (h.nsid, h.cdw10) refl
+list-same w x y sent command a h = refl
+
+-- double word 0, the data that go to the host, and what becomes of the world
+pub dw0-same : (w : World) (x y : List ℕ) (command : AdminCommand) → IsAsked command → SameFields x y → double_word_0 w command y ≡ double_word_0 w command x
+unfolding double_word_0 fid
+dw0-same w x y admin.SetFeatures a h = rw h.cdw10 refl
+dw0-same w x y admin.GetFeatures a h = rw (h.nsid, h.cdw10) refl
+dw0-same w x y command a h = refl
+
+pub data-out-same : (w : World) (k : ℕ) (x y : List ℕ) (command : AdminCommand) → IsAsked command → SameFields x y → data_out w k command y ≡ data_out w k command x
+unfolding data_out cns fid
+data-out-same w k x y admin.Identify a h = rw (h.nsid, h.cdw10) refl
+data-out-same w k x y admin.GetFeatures a h = rw h.cdw10 refl
+data-out-same w k x y command a h = refl
+
+pub world-same : (w : World) (x y sent : List ℕ) (command : AdminCommand) → IsAsked command → SameFields x y → world_after w command y sent ≡ world_after w command x sent
+unfolding world_after fid wps sel
+world-same w x y sent admin.SetFeatures a h = rw (h.nsid, h.cdw10, h.cdw11) refl
+world-same w x y sent admin.NamespaceAttachment a h = rw (h.nsid, h.cdw10) refl
+world-same w x y sent command a h = refl
+
+-- Identify gives back all that it moves, the others nothing.
+abbrev pub MovesAs : AdminCommand → ℕ → ℕ → List ℕ → Type 0
+MovesAs admin.Identify received moved x = received ≡ moved
+MovesAs admin.GetFeatures received moved x = (received ≡ 0) × (fid x ≡ write_protection)
+MovesAs command received moved x = received ≡ 0
+
+-- the command of a plain request
+pub record IsPlainAdmin (received moved : ℕ) (x : List ℕ) : Type 0 where
+  pub command : AdminCommand
+  pub named : command_of (opcode x) ≡ Some command
+  pub asked : IsAsked command
+  pub moves : MovesAs command received moved x
+
+opcode-names : (command : AdminCommand) (n : ℕ) → n ≡ opcode_of command → command_of n ≡ Some command
+unfolding command_of
+opcode-names admin.Identify n e = rw e refl
+opcode-names command n e = rw e refl
+
+or-parts : (p q : Bool) → (p || q) ≡ true → (p ≡ true) ⊎ (q ≡ true)
+or-parts true q h = inl refl
+or-parts false q h = inr h
+
+named-so : (command : AdminCommand) (received moved : ℕ) (x : List ℕ) → (opcode x == opcode_of command) ≡ true → IsAsked command → MovesAs command received moved x → IsPlainAdmin received moved x
+named-so command received moved x e a m = record { command = command; named = opcode-names command (opcode x) (eqb-true _ _ e); asked = a; moves = m }
+
+pub plain-admin : (s : Slot) (x : List ℕ) → lane_in s.waiting ≡ Admin → is_plain (asked_in s x) ≡ true → IsPlainAdmin (asked_in s x).received (asked_in s x).moved x
+unfolding is_plain fid
+plain-admin s x l h =
+    elim (or-parts _ _ (sym (ap (λ lane. is_plain_in lane (asked_in s x)) l) ∙ h)) [
+      | inl p ↦ (let e = and_parts _ _ p in named-so admin.Identify _ _ x e.0 tt (eqb-true _ _ e.1))
+      | inr others ↦ elim (or-parts _ _ others) [
+        | inl p ↦ (let e = and_parts _ _ p in named-so admin.SetFeatures _ _ x e.0 tt (eqb-true _ _ (and_parts _ _ e.1).1))
+        | inr rest ↦ elim (or-parts _ _ rest) [
+          | inl p ↦ (let e = and_parts _ _ p in let f = and_parts _ _ e.1 in named-so admin.GetFeatures _ _ x e.0 tt (eqb-true _ _ f.1, eqb-true _ _ f.0))
+          | inr p ↦ (let e = and_parts _ _ p in named-so admin.NamespaceAttachment _ _ x e.0 tt (eqb-true _ _ e.1))
+        ]
+      ]
+    ]
+
+-- What such a command does.
+
+-- it gives back as many bytes as its request receives
+pub length-out : (w : World) (k : ℕ) (x : List ℕ) (command : AdminCommand) (received moved : ℕ) → IsAsked command → moved ≡ data_length command x → MovesAs command received moved x
+    → length (data_out w k command x) ≡ received
+unfolding data_out
+length-out w k x admin.Identify received moved a e m = length-identify_data w k x ∙ sym e ∙ sym m
+length-out w k x admin.GetFeatures received moved a e m = rw m.1 (sym m.0)
+length-out w k x command received moved a e m = sym m
+
+-- the queues stay
+pub keeps-queues : (x : List ℕ) (command : AdminCommand) → IsAsked command → queue_change command x ≡ Keep
+unfolding queue_change
+keeps-queues x admin.DeleteSubmissionQueue a = absurd a
+keeps-queues x admin.CreateSubmissionQueue a = absurd a
+keeps-queues x admin.DeleteCompletionQueue a = absurd a
+keeps-queues x admin.CreateCompletionQueue a = absurd a
+keeps-queues x command a = refl
+
+-- the data are the request's, where the command looks at them
+pub list-matters : (w : World) (x data_there sent : List ℕ) (command : AdminCommand) (received moved : ℕ) → MovesAs command received moved x → (received ≡ 0 → data_there ≡ sent)
+    → rules.list_rule (Some command) w x data_there ≡ rules.list_rule (Some command) w x sent
+unfolding rules.list_rule
+list-matters w x data_there sent admin.NamespaceAttachment received moved m h = rw (h m) refl
+list-matters w x data_there sent command received moved m h = refl
+
+pub world-matters : (w : World) (x data_there sent : List ℕ) (command : AdminCommand) (received moved : ℕ) → MovesAs command received moved x → (received ≡ 0 → data_there ≡ sent)
+    → world_after w command x data_there ≡ world_after w command x sent
+unfolding world_after
+world-matters w x data_there sent admin.NamespaceAttachment received moved m h = rw (h m) refl
+world-matters w x data_there sent command received moved m h = refl
+
+-- double word 0 is within its width
+if-below : (b : Bool) (x y n : ℕ) → x < n → y < n → (if b then x else y) < n
+if-below true x y n f g = f
+if-below false x y n f g = g
+
+state-small : (p : Protection) → state_of p < 2 ^ 32
+state-small Open = omega arith
+state-small p = omega arith
+
+protection-small : (o : Option Namespace) → protection_value o < 2 ^ 32
+protection-small None = omega arith
+protection-small (Some n) = state-small n.protection
+
+pub dw0-small : (w : World) (x : List ℕ) (command : AdminCommand) → double_word_0 w command x < 2 ^ 32
+unfolding double_word_0
+dw0-small w x admin.SetFeatures = if-below (fid x == number_of_queues) _ _ _ (omega arith) (omega arith)
+dw0-small w x admin.GetFeatures =
+    if-below (fid x == number_of_queues) _ _ _ (omega arith) (if-below (fid x == write_protection) _ _ _ (protection-small (namespace_of w (nsid x))) (omega arith))
+dw0-small w x command = omega arith
+
+-- The command of the admin lane.
+
+-- the request of a command, as it is read off its slot
+abbrev pub asked_by : Driver → Controller → FetchedCommand → Asked
+asked_by d c t = asked_in (slot_seen Admin d c t) t.entry
 
 -- What is known of an admin command, its request and its slot.
 record IsAdmin (d : Driver) (c : Controller) (t : FetchedCommand) : Type 0 where

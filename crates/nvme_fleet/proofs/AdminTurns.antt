@@ -3,7 +3,7 @@ use Rattle.nvme_fleet.proofs.Words.{all-filter, all-joined, ◌≡◌, ℕ, ◌+
 use Rattle.nvme_mailbox.proofs.Lists.{all-get, all-removed}
 use Rattle.nvme_spec.specs.Registers as register
 use Rattle.nvme_machine.specs.Subsystems.{marked_from}
-use Rattle.nvme_mailbox.proofs.Comings.{one-id}
+use Rattle.nvme_mailbox.proofs.EachHost.{one-id}
 use Rattle.nvme_fleet.proofs.PlainCalls.{IsPlain}
 use Rattle.nvme_fleet.proofs.StartStep.{calls-are, calls-id}
 

@@ -1,7 +1,6 @@
 -- A slot that no live request holds may be emptied: the lane holds as before, and its mailbox is the same.
 use Rattle.nvme_fleet.proofs.Words.{◌≡◌, ℕ, ◌<◌, ◌≤◌, List, [], ◌∷◌, length, refl, ap, sym, subst, ◌∙◌, arith, zero, suc, inl, inr, slice_set, length-set, cases_Bool, State, Slot, empty, off, in_flight, commands, commands_of, live_at, live_in, total, AgeIn, Carried, Running, Resting, Holds, Host, Suited}
-use Rattle.nvme_fleet.proofs.Totals.{each-all}
-use Rattle.nvme_fleet.proofs.Slots.{bare-odd}
+use Rattle.nvme_fleet.proofs.Slots.{bare-odd, each-all}
 use Rattle.nvme_fleet.proofs.Queues.{Bare, bare-all}
 use Rattle.nvme_fleet.proofs.Places.{bare}
 

@@ -6,7 +6,7 @@ use Rattle.nvme_mailbox.specs.Deliveries.{with_rest}
 use Rattle.nvme_fleet.specs.Views.{after_fetch}
 use Rattle.nvme_fleet.proofs.Slots.{few}
 use Rattle.nvme_fleet.proofs.Fetches.{fetch-rung, fetch-box, fetch-running, idle-rung, same-up}
-use Rattle.nvme_fleet.proofs.Placing.{length-taken}
+use Rattle.nvme_fleet.proofs.PlaceStep.{length-taken}
 use Rattle.nvme_fleet.proofs.OneLane.{running, box-is, AtLane, sound-at, mail-at}
 use Rattle.nvme_fleet.proofs.Linking.{counts, submission-is, same-completion, Counted, counted, entry-in}
 use Rattle.nvme_fleet.proofs.Resetting.{state-off}

@@ -1,6 +1,6 @@
 -- A run goes on by one event, and what an event gives fits its room.
 use Rattle.nvme_fleet.proofs.Words.{◌≡◌, ℕ, ◌+◌, ◌<◌, ◌≤◌, get_or, Bool, List, [], ◌∷◌, ◌++◌, ◌∙◌, length, take, refl, sym, ap, arith, Result, Ok, Err, is_ok, IsOk, if◌then◌else◌, take_more, append-nil, append_assoc, most_bytes, FleetEvent, Poll, Reply, Fleet, Step, FleetState, Layers, layers_of, MediumCall, MakesCalls, OverMedium, AreCallsOfStep, RunsBehind, data_behind, room_for, inl, inr, ◌⊎◌}
-use Rattle.nvme_mailbox.proofs.Comings.{IsPoll, polls-alone}
+use Rattle.nvme_mailbox.proofs.EachHost.{IsPoll, polls-alone}
 use Rattle.nvme_fleet.specs.FleetStates.{data_in}
 use Rattle.nvme_fleet.proofs.LayerCalls.{calls-more, layer_calls_are_of_a_run}
 

@@ -1,8 +1,165 @@
 -- A fetched command of a lane, its slot, and the request that the mailbox has in its place.
-use Rattle.nvme_fleet.proofs.Words.{same_Some, ◌≡◌, ℕ, ◌-◌, ◌<◌, List, [], ◌∷◌, ◌++◌, length, take, drop, Some, Ok, refl, sym, ap, subst, ◌∙◌, arith, slice_get, take-take, SqeFields, cid, most_bytes, Rule, judgement_by, else_by, first_failing, pointer_rule, data_in, first_failing-append, Lane, data_area, stored_list, waiting_at, Driver, FetchedCommand, Controller, FetchedItem, command_entry, Slot, Asked, lane_of, asked_in, item_in, lane_in, received_in, area, listed, Sound, mailbox, lane_of_queue}
-use Rattle.nvme_fleet.proofs.Commands.{IsSuited, is-suited, SameFields, same-fields, read-so}
-use Rattle.nvme_fleet.proofs.Transferring.{IsMoved, moved}
+use Rattle.nvme_fleet.proofs.Words.{same_Some, ◌≡◌, ℕ, ◌-◌, ◌<◌, List, [], ◌∷◌, ◌++◌, length, take, drop, Some, Ok, refl, sym, ap, subst, ◌∙◌, arith, slice_get, take-take, SqeFields, cid, most_bytes, Rule, judgement_by, else_by, first_failing, pointer_rule, data_in, first_failing-append, Lane, data_area, stored_list, waiting_at, Driver, FetchedCommand, Controller, FetchedItem, command_entry, Slot, Asked, lane_of, asked_in, item_in, lane_in, received_in, area, listed, Sound, mailbox, lane_of_queue, zero, suc, ◌+◌, ◌*◌, ◌≤◌, false, None, ne_eqb, common_steps, nat_le, if◌then◌else◌, prp1, prp2, with_bytes, window_size, gathered_bytes, addresses, pieces_of, with_scattered, data_transfer, data_addresses, data_fault, list_page, first_entry, second_entry, listed_pages, pages_behind, page_entries, HasList, IsRequest, slot_transfer, length-stored_list, ◌^◌, true, and_parts, bytes_eq-Decides, bytes_eq, leb-true, submission_entry, submission_of, opcode, fuse, psdt, nsid, cdw10, cdw11, cdw12, FitsSqeFields, submission_is_read_back, submission_is_plain, entry_fields, suits, is_plain, command_fields}
 use Rattle.nvme_fleet.proofs.PostStep.{Known, known, slot_seen, seen-is, seen, item_at, found-at}
+use Rattle.nvme_spec.specs.Pointer.{transfer, pointer_fault}
+use Rattle.nvme_spec.proofs.Contents.{length-data_in}
+use Rattle.nvme_driver.proofs.SlotPointers.{slots_are_contiguous, slots_move_one_run}
+use Rattle.nvme_driver.proofs.PageEntries.{length-page_entries}
+use Rattle.nvme_fleet.proofs.Windows.{stored-none}
+use Rattle.std.proofs.lemmas.List.{nil_from_length}
+
+-- A command that suits its slot: its fields, and the same command as its request is judged by.
+
+-- what suits says
+pub record IsSuited (s : Slot) (x : List ℕ) : Type 0 where
+  pub spelled : x ≡ submission_entry (entry_fields (asked_in s x) (cid x))
+  pub most : (asked_in s x).moved ≤ most_bytes
+  pub less : (asked_in s x).received ≤ (asked_in s x).moved
+  pub there : take (length (stored_list (cid x) (asked_in s x).moved)) s.list ≡ stored_list (cid x) (asked_in s x).moved
+  pub plain : is_plain (asked_in s x) ≡ true
+
+equal : (xs ys : List ℕ) → bytes_eq xs ys ≡ true → xs ≡ ys
+equal xs ys e = let d = bytes_eq-Decides xs ys in d.0 e
+
+pub is-suited : (s : Slot) (x : List ℕ) → suits s x ≡ true → IsSuited s x
+unfolding suits
+is-suited s x h =
+    let a = and_parts _ _ h in
+    let b = and_parts _ _ a.1 in
+    let c = and_parts _ _ b.1 in
+    let d = and_parts _ _ c.1 in
+    record {
+      spelled = equal _ _ a.0;
+      most = leb-true _ _ b.0;
+      less = leb-true _ _ c.0;
+      there = equal _ _ d.0;
+      plain = d.1;
+    }
+
+-- fields that were read are within their width
+opcode-small : (x : List ℕ) → opcode x < 2 ^ 8
+unfolding opcode
+opcode-small x = omega arith
+
+cid-small : (x : List ℕ) → cid x < 2 ^ 16
+unfolding cid
+cid-small x = omega arith
+
+record WordsFit (x : List ℕ) : Type 0 where
+  nsid : nsid x < 2 ^ 32
+  cdw10 : cdw10 x < 2 ^ 32
+  cdw11 : cdw11 x < 2 ^ 32
+  cdw12 : cdw12 x < 2 ^ 32
+
+words-fit : (f : SqeFields) → WordsFit (submission_entry f)
+unfolding nsid cdw10 cdw11 cdw12 submission_entry
+words-fit f = record { nsid = omega arith; cdw10 = omega arith; cdw11 = omega arith; cdw12 = omega arith }
+
+-- the same fields
+pub record SameFields (x y : List ℕ) : Type 0 where
+  pub opcode : opcode y ≡ opcode x
+  pub fuse : fuse y ≡ fuse x
+  pub psdt : psdt y ≡ psdt x
+  pub nsid : nsid y ≡ nsid x
+  pub cdw10 : cdw10 y ≡ cdw10 x
+  pub cdw11 : cdw11 y ≡ cdw11 x
+  pub cdw12 : cdw12 y ≡ cdw12 x
+
+first-small : (slot n : ℕ) → slot < 24 → first_entry slot n < 2 ^ 64
+first-small slot n h = grind (arith, common_steps)
+
+second-small : (slot n : ℕ) → slot < 24 → second_entry slot n < 2 ^ 64
+second-small slot n h = grind (arith, common_steps)
+
+-- the fields of a suited command fit, and so do those of the same command as it is judged
+fits-entry : (s : Slot) (x : List ℕ) → IsSuited s x → cid x < 24 → FitsSqeFields (entry_fields (asked_in s x) (cid x))
+fits-entry s x h k =
+    let w : WordsFit x = subst WordsFit (sym h.spelled) (words-fit (entry_fields (asked_in s x) (cid x))) in
+    record {
+      opcode = opcode-small x;
+      cid = cid-small x;
+      nsid = w.nsid;
+      prp1 = first-small (cid x) (asked_in s x).moved k;
+      prp2 = second-small (cid x) (asked_in s x).moved k;
+      cdw10 = w.cdw10;
+      cdw11 = w.cdw11;
+      cdw12 = w.cdw12;
+      cdw13 = omega arith;
+      cdw14 = omega arith;
+      cdw15 = omega arith;
+    }
+
+pub read-so : (s : Slot) (x : List ℕ) → IsSuited s x → cid x < 24 → submission_of x ≡ entry_fields (asked_in s x) (cid x)
+read-so s x h k = ap submission_of h.spelled ∙ submission_is_read_back (entry_fields (asked_in s x) (cid x)) (fits-entry s x h k)
+
+pub same-fields : (s : Slot) (x : List ℕ) → IsSuited s x → cid x < 24 → SameFields x (command_entry (asked_in s x))
+unfolding command_entry
+same-fields s x h k =
+    let f = fits-entry s x h k in
+    let g : FitsSqeFields (command_fields (asked_in s x)) = record { opcode = f.opcode; cid = omega arith; nsid = f.nsid; prp1 = omega arith; prp2 = omega arith; cdw10 = f.cdw10; cdw11 = f.cdw11; cdw12 = f.cdw12; cdw13 = omega arith; cdw14 = omega arith; cdw15 = omega arith } in
+    let b = submission_is_read_back (command_fields (asked_in s x)) g in
+    let p = submission_is_plain (entry_fields (asked_in s x) (cid x)) f in
+    let q = submission_is_plain (command_fields (asked_in s x)) g in
+    record {
+      opcode = ap (λ (z : SqeFields). z.opcode) b;
+      fuse = q.0 ∙ sym (ap fuse h.spelled ∙ p.0);
+      psdt = q.1 ∙ sym (ap psdt h.spelled ∙ p.1);
+      nsid = ap (λ (z : SqeFields). z.nsid) b;
+      cdw10 = ap (λ (z : SqeFields). z.cdw10) b;
+      cdw11 = ap (λ (z : SqeFields). z.cdw11) b;
+      cdw12 = ap (λ (z : SqeFields). z.cdw12) b;
+    }
+
+-- The data of a command that suits its slot: its pointer has no fault, what it gathers is what lies at the slot's place, and
+-- what is scattered over it is stored there.
+
+pub record IsMoved (window : List ℕ) (k : ℕ) (x : List ℕ) (n : ℕ) : Type 0 where
+  pub fault : data_fault n window x ≡ None
+  pub gathers : data_in n window x ≡ take n (drop (data_area k) window)
+  pub scatters : (returned : List ℕ) → length returned ≤ n
+      → with_scattered window (take (length returned) (data_addresses n window x)) returned ≡ with_bytes window (data_area k) returned
+
+no-data : (window : List ℕ) (k : ℕ) (x : List ℕ) → IsMoved window k x 0
+unfolding with_scattered
+no-data window k x = record {
+  fault = refl;
+  gathers = nil_from_length (data_in 0 window x) (length-data_in 0 window x);
+  scatters = λ returned h. (let e = nil_from_length returned (omega (arith, h)) in rw e (sym (stored-none window (data_area k))));
+}
+
+-- the list of a slot is there
+has-list : (window : List ℕ) (k n : ℕ) → n ≤ most_bytes → take (length (stored_list k n)) (listed window k) ≡ stored_list k n → HasList window k n
+unfolding listed
+has-list window k n most there long =
+    let t : nat_le n (2 * 4096) ≡ false = grind (arith, common_steps, long) in
+    let e : listed_pages n ≡ pages_behind n = ap (λ b. if b then 0 else pages_behind n) t in
+    (ap (λ m. take m (drop (list_page k) window)) (omega arith))
+    ∙ ap (λ m. take m (drop (list_page k) window)) (sym (length-page_entries (data_area k + 4096) (listed_pages n) ∙ ap (λ m. 8 * m) e))
+    ∙ sym (take-take (length (stored_list k n)) 4096 (drop (list_page k) window) (omega (arith, length-stored_list k n most)))
+    ∙ there
+    ∙ (ap (page_entries (data_area k + 4096)) e)
+
+some-data : (window : List ℕ) (k : ℕ) (x : List ℕ) (n : ℕ) → length window ≡ window_size → k < 24 → 1 ≤ n → n ≤ most_bytes
+    → take (length (stored_list k n)) (listed window k) ≡ stored_list k n → prp1 x ≡ data_area k → prp2 x ≡ second_entry k n → IsMoved window k x n
+unfolding data_addresses
+some-data window k x n whole fits some most there a b =
+    let r : IsRequest window k n = record { whole = whole; slot_fits = fits; some = some; most = most } in
+    let list = has-list window k n most there in
+    let one = slots_move_one_run window k n r list in
+    let sound = slots_are_contiguous window k n r list in
+    let t : data_transfer n window x ≡ slot_transfer window k n = λ i. transfer window (a i) (b i) n in
+    record {
+      fault = ap (λ y. if y then None else pointer_fault (data_transfer n window x)) (ne_eqb n 0 (λ e. omega (arith, e, some))) ∙ ap pointer_fault t ∙ sound.sound;
+      gathers = ap (λ y. gathered_bytes window (addresses (pieces_of y))) t ∙ one.gathering ∙ ap (λ m. take m (drop (data_area k) window)) (omega arith);
+      scatters = λ returned h. ap (λ y. with_scattered window (take (length returned) (addresses (pieces_of y))) returned) t ∙ one.scattering returned h;
+    }
+
+pub moved : (window : List ℕ) (k : ℕ) (x : List ℕ) (n : ℕ) → length window ≡ window_size → k < 24 → n ≤ most_bytes
+    → take (length (stored_list k n)) (listed window k) ≡ stored_list k n → prp1 x ≡ first_entry k n → prp2 x ≡ second_entry k n → IsMoved window k x n
+moved window k x zero whole fits most there a b = no-data window k x
+moved window k x (suc n) whole fits most there a b =
+    let some : nat_le (suc n) 0 ≡ false = grind (arith, common_steps) in
+    some-data window k x (suc n) whole fits (omega arith) most there (a ∙ ap (λ t. if t then 0 else data_area k) some) b
 
 -- What is known of a command of a lane and its slot.
 pub record IsHeld (lane : Lane) (d : Driver) (c : Controller) (t : FetchedCommand) : Type 0 where

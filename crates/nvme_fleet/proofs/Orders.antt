@@ -2,8 +2,7 @@
 use Rattle.nvme_fleet.proofs.Words.{◌≡◌, ℕ, ◌+◌, ◌<◌, ◌≤◌, List, [], ◌∷◌, ◌++◌, map, refl, ap, sym, ◌∙◌, arith, zero, suc, true, false, cond, eqb, Bool, Option, Some, None, inl, inr, slice_set, cases_Bool, eqb-true, common_steps, nat_le, ticket_in, live_waiting, AgeIn, aborted_number, ranked_too, in_order, ranked, rising, Waiting, waiting_at, abort, eq-eqb, eqb-false}
 use Rattle.std.specs.Option.{option_flatten}
 use Rattle.nvme_mailbox.proofs.Lists.{got-other}
-use Rattle.nvme_fleet.proofs.Totals.{waiting-small}
-use Rattle.nvme_fleet.proofs.Slots.{cond-zero}
+use Rattle.nvme_fleet.proofs.Slots.{cond-zero, waiting-small}
 
 -- a number that is not below this one
 abbrev pub NotBelow : ℕ → Option ℕ → Type 0

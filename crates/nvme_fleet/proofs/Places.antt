@@ -1,11 +1,9 @@
 -- Placing in one lane: a request in a slot that nobody bears joins those that were placed.
 use Rattle.nvme_fleet.proofs.Words.{◌≡◌, ℕ, ◌+◌, ◌-◌, ◌%◌, ◌<◌, ◌≤◌, List, [], ◌∷◌, ◌++◌, length, map, refl, ap, ◌∙◌, arith, true, false, cond, eqb, Option, Some, None, Bool, map-append, length-set, common_steps, Waiting, cid, live_in, suits, Slot, item_in, State, filled, placed_state, in_flight, commands, item, box, Running, Holds, Ages, AgeIn, last_head, heard, unread, commands_of, answers_of, live_at, slot_at, answers, holds, total, odd, bears, Carried, Host, eq-eqb}
 use Rattle.nvme_fleet.specs.Views.{placed}
-use Rattle.nvme_fleet.proofs.Totals.{live-set, slot-same, each-set, each-all}
 use Rattle.nvme_mailbox.proofs.Totals.{total-append}
-use Rattle.nvme_fleet.proofs.Slots.{bare-box, bare-odd}
-use Rattle.nvme_fleet.proofs.Keeps.{Enters, enters, commands-kept, completions-same}
-use Rattle.nvme_fleet.proofs.Phases.{phases-kept}
+use Rattle.nvme_fleet.proofs.Slots.{bare-box, bare-odd, live-set, slot-same, each-set, each-all}
+use Rattle.nvme_fleet.proofs.Phases.{phases-kept, Enters, enters, commands-kept, completions-same}
 use Rattle.nvme_fleet.proofs.Queues.{commands-append, Bare, bare-all, placed-part, rung-part, same-box, eqb-sym}
 
 -- what holds where a request is placed in a slot that is not live, by this command

@@ -12,8 +12,7 @@ use Rattle.nvme_fleet.proofs.Polls.{poll-posted, poll-box, poll-holds, none-post
 use Rattle.nvme_fleet.proofs.Queues.{Bare}
 use Rattle.nvme_fleet.proofs.Empties.{emptied, emptied-holds, bare-of}
 use Rattle.nvme_fleet.proofs.Orders.{NotBelow, oldest-first, empty-order, live-freed}
-use Rattle.nvme_fleet.proofs.LaneSlots.{Own, own-at, slot-in, slots-here, slots-there, same-fetched}
-use Rattle.nvme_fleet.proofs.OneLane.{same-holds, running, box-is, Changed, changed, AtLane, size-set, sound-at, fetched-at, mail-at}
+use Rattle.nvme_fleet.proofs.OneLane.{same-holds, running, box-is, Changed, changed, AtLane, size-set, sound-at, fetched-at, mail-at, Own, own-at, slot-in, slots-here, slots-there, same-fetched}
 use Rattle.nvme_fleet.proofs.Linking.{counts, completion-is, same-submission, Counted, counted, part-in, range-is}
 use Rattle.nvme_fleet.proofs.Registering.{head-written}
 use Rattle.nvme_fleet.proofs.RingStep.{same-ahead}

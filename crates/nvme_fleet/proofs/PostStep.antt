@@ -1,18 +1,48 @@
 -- An answer that is posted stands at the end of its lane in the mailbox, and the other lane stays.
-use Rattle.nvme_fleet.proofs.Words.{none-some, same_Some, ◌≡◌, ℕ, ◌+◌, ◌-◌, ◌*◌, ◌%◌, ◌<◌, ◌≤◌, true, List, [], ◌∷◌, ◌++◌, cond, length, take, Some, refl, sym, ap, subst, ◌∙◌, arith, inl, inr, slice_get, slice_set, cases_Bool, lt-ltb, slice_get-map, cid, Completion, completion_entry, completion_of, FitsCompletion, completion_is_read_back, Keep, with_bytes, most_bytes, phase_tag, Lane, queue_id, submission_queue, completion_queue, data_area, Driver, is_up, waiting_at, answer_len, FetchedCommand, Controller, QueuePair, pair_with, open_pair, after_posting, after_queue_change, CommandExecution, after_completion, FetchedItem, box_at, with_box, lane_of, after_answer, with_posted, Effect, Host, State, Slot, DeviceEnds, slot_at, item_in, finished, finished_bytes, received_in, lane_in, live_in, commands_of, box, executed as executed_one, executed_state, Both, same, other, host, state, pages_of, area, listed, slots_in, commands_in, whole, held_by, fetched_by, lane_of_queue, Sound, IsPaired, IsOfLane, mailbox, submission_as, completion_as, PostingIsAStep, PostingHasRoom, NothingToExecute, request_execution_with}
+use Rattle.nvme_fleet.proofs.Words.{none-some, same_Some, ◌≡◌, ℕ, ◌+◌, ◌-◌, ◌*◌, ◌%◌, ◌<◌, ◌≤◌, true, List, [], ◌∷◌, ◌++◌, cond, length, take, Some, refl, sym, ap, subst, ◌∙◌, arith, inl, inr, slice_get, slice_set, cases_Bool, lt-ltb, slice_get-map, cid, Completion, completion_entry, completion_of, FitsCompletion, completion_is_read_back, Keep, with_bytes, most_bytes, phase_tag, Lane, queue_id, submission_queue, completion_queue, data_area, Driver, is_up, waiting_at, answer_len, FetchedCommand, Controller, QueuePair, pair_with, open_pair, after_posting, after_queue_change, CommandExecution, after_completion, FetchedItem, box_at, with_box, lane_of, after_answer, with_posted, Effect, Host, State, Slot, DeviceEnds, slot_at, item_in, finished, finished_bytes, received_in, lane_in, live_in, commands_of, box, executed as executed_one, executed_state, Both, same, other, host, state, pages_of, area, listed, slots_in, commands_in, whole, held_by, fetched_by, lane_of_queue, Sound, IsPaired, IsOfLane, mailbox, submission_as, completion_as, PostingIsAStep, PostingHasRoom, NothingToExecute, request_execution_with, zero, suc, false, common_steps}
 use Rattle.std.proofs.Common.{remove}
 use Rattle.nvme_mailbox.proofs.Lists.{all-get, all-removed}
 use Rattle.std.specs.Option.{option_map}
 use Rattle.nvme_fleet.proofs.PollStep.{tag-is}
-use Rattle.nvme_fleet.proofs.Totals.{map-removed}
+use Rattle.nvme_fleet.proofs.Slots.{map-removed}
 use Rattle.nvme_fleet.proofs.Empties.{bare-of}
 use Rattle.nvme_fleet.proofs.Executes.{Fetched as FetchedOne, fetched as fetched_one, Executes, given, execute-box, execute-holds}
 use Rattle.nvme_fleet.proofs.LaneWindows.{same-self, same-other, other-same, each-lane, Stored, none-stored, data-stored, page-stored, slot-apart, lists-data, area-front}
-use Rattle.nvme_fleet.proofs.LaneSlots.{Own, own-at, slot-in, slots-here, slots-there, set-waiting}
-use Rattle.nvme_fleet.proofs.Ranks.{rank, ranked-in, removed-there}
-use Rattle.nvme_fleet.proofs.OneLane.{running, box-is, AtLane, sound-at, fetched-at, mail-at}
+use Rattle.nvme_fleet.proofs.OneLane.{running, box-is, AtLane, sound-at, fetched-at, mail-at, Own, own-at, slot-in, slots-here, slots-there, set-waiting}
 use Rattle.nvme_fleet.proofs.Linking.{counts, submission-is, completion-is, same-submission, Counted, counted}
 use Rattle.nvme_fleet.proofs.OwnCommands.{length-completion}
+
+-- Which of its own lane's commands a fetched command is.
+
+-- how many of a lane's commands stand before the i-th
+abbrev pub rank : Lane → List FetchedCommand → ℕ → ℕ
+rank lane [] i = 0
+rank lane (x ∷ xs) zero = 0
+rank lane (x ∷ xs) (suc i) = cond (same (lane_of_queue x.queue) lane) (suc (rank lane xs i)) (rank lane xs i)
+
+-- the i-th command is its lane's command of that rank, and is taken out of it there
+pub record Ranked (lane : Lane) (ts : List FetchedCommand) (i : ℕ) (x : List ℕ) : Type 0 where
+  pub there : slice_get (commands_in lane ts) (rank lane ts i) ≡ Some x
+  pub removed : commands_in lane (remove ts i) ≡ remove (commands_in lane ts) (rank lane ts i)
+
+pub ranked-in : (lane : Lane) (ts : List FetchedCommand) (i : ℕ) (t : FetchedCommand) → slice_get ts i ≡ Some t → same (lane_of_queue t.queue) lane ≡ true → Ranked lane ts i t.entry
+ranked-in lane [] i t h e = absurd (none-some _ h)
+ranked-in lane (x ∷ xs) zero t h e =
+    let q : x ≡ t = same_Some x t h in
+    record { there = rw (q, e) refl; removed = rw (q, e) refl }
+ranked-in lane (x ∷ xs) (suc i) t h e =
+    let r = ranked-in lane xs i t h e in
+    elim (cases_Bool (same (lane_of_queue x.queue) lane)) [
+      | inl f ↦ record { there = rw f r.there; removed = rw f (ap (λ l. x.entry ∷ l) r.removed) }
+      | inr f ↦ record { there = rw f r.there; removed = rw f r.removed }
+    ]
+
+-- the other lane stays
+pub removed-there : (lane : Lane) (ts : List FetchedCommand) (i : ℕ) (t : FetchedCommand) → slice_get ts i ≡ Some t → same (lane_of_queue t.queue) lane ≡ false → commands_in lane (remove ts i) ≡ commands_in lane ts
+removed-there lane [] i t h e = absurd (none-some _ h)
+removed-there lane (x ∷ xs) zero t h e =
+    rw (same_Some x t h, e) refl
+removed-there lane (x ∷ xs) (suc i) t h e = grind (arith, common_steps, removed-there lane xs i t h e)
 
 -- what an execution stores: data in the slot, the completion entry in its lane's pages
 record Stores (lane : Lane) (w w' : List ℕ) (s at : ℕ) (bytes entry : List ℕ) : Type 0 where

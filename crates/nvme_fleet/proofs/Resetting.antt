@@ -1,16 +1,80 @@
 -- A reset over both lanes: all that is open is aborted, by rising tickets.
-use Rattle.nvme_fleet.proofs.Words.{item_in, rising, waiting_at, empty_box, open_tickets, tickets_in, FetchedItem, cid, abort, Waiting, most_bytes, ◌≡◌, ℕ, ◌+◌, ◌≤◌, List, [], ◌∷◌, ◌++◌, length, map, refl, ap, sym, ◌∙◌, arith, zero, suc, false, cond, eqb, Option, Some, None, map-append, length-map, Completion, Slot, empty, slot_at, box, abort_slot, off, ticket_in, received_in, live_at as live_slot, commands_of, answers_of, unread, AgeIn, Ages as AgesOne, Lane, Admin, Io, same, Driver, ends, after_reset, FetchedCommand, Controller, lane_of_queue, Both, whole, slots_in, commands_in, host, state, fetched_by, held_by, in_order, aborted_number, Sound, EndsFit, IsOff, mailbox, eq-eqb, bears, common_steps, subst, inl, inr, cases_Bool, Off, is_up, reset_calls, without_queues, ResetIsAStep, after_calls}
+use Rattle.nvme_fleet.proofs.Words.{item_in, rising, waiting_at, empty_box, open_tickets, tickets_in, FetchedItem, cid, abort, Waiting, most_bytes, ◌≡◌, ℕ, ◌+◌, ◌≤◌, List, [], ◌∷◌, ◌++◌, length, map, refl, ap, sym, ◌∙◌, arith, zero, suc, false, cond, eqb, Option, Some, None, map-append, length-map, Completion, Slot, empty, slot_at, box, abort_slot, off, ticket_in, received_in, live_at as live_slot, commands_of, answers_of, unread, AgeIn, Ages as AgesOne, Lane, Admin, Io, same, Driver, ends, after_reset, FetchedCommand, Controller, lane_of_queue, Both, whole, slots_in, commands_in, host, state, fetched_by, held_by, in_order, aborted_number, Sound, EndsFit, IsOff, mailbox, eq-eqb, bears, common_steps, subst, inl, inr, cases_Bool, Off, is_up, reset_calls, without_queues, ResetIsAStep, after_calls, Item, PostedAnswer, State, item, answers, Holds, Host}
 use Rattle.nvme_fleet.proofs.LaneWindows.{same-self, each-lane}
 use Rattle.nvme_mailbox.specs.Deliveries as mail
-use Rattle.nvme_fleet.specs.Views.{reset as reset_one}
-use Rattle.nvme_fleet.proofs.Totals.{live-small}
+use Rattle.nvme_fleet.specs.Views.{reset as reset_one, reset}
+use Rattle.nvme_fleet.proofs.Slots.{live-small}
 use Rattle.nvme_fleet.proofs.Places.{no-way}
-use Rattle.nvme_fleet.proofs.Resets.{reset-holds, reset-box, Whole, whole-of, placed-part, rung-part, slots_of, cids_of, ticket_slot, placed-tickets, rung-tickets, posted-tickets}
-use Rattle.nvme_fleet.proofs.LaneSlots.{rest-fewer, slot-in, own-at, live-of}
-use Rattle.nvme_fleet.proofs.Orders.{live_at, ticket_at, Ages, times, rising-slots, abort-all, pending-abort}
-use Rattle.nvme_fleet.proofs.OneLane.{same-holds}
+use Rattle.nvme_fleet.proofs.Orders.{live_at, ticket_at, Ages, times, rising-slots, abort-all, pending-abort, abort-idle, abort-age}
+use Rattle.nvme_fleet.proofs.OneLane.{same-holds, rest-fewer, slot-in, own-at, live-of}
 use Rattle.nvme_fleet.proofs.Queues.{flight-total}
 use Rattle.nvme_fleet.proofs.Registering.{disabled, disabled-off}
+pub use Rattle.nvme_fleet.proofs.Queues.{placed-part, rung-part}
+pub use Rattle.nvme_fleet.proofs.Empties.{Whole, whole-of}
+
+-- A reset in one lane: it rests, its mailbox is empty, and the tickets of what was open are those of its slots.
+
+slot-abort : (slots : List Slot) (k : ℕ) → slot_at (map abort_slot slots) k ≡ abort_slot (slot_at slots k)
+slot-abort [] k = refl
+slot-abort (x ∷ xs) zero = refl
+slot-abort (x ∷ xs) (suc k) = slot-abort xs k
+
+-- a lane that was reset rests
+pub reset-holds : (first : ℕ) (d : Host) (c : State) → Holds first d c → Holds d.next (reset d) (off c)
+reset-holds first d c s =
+    record {
+      failed = refl;
+      begun = omega arith;
+      ages = λ k. rw (slot-abort d.slots k) (abort-age first d.next (slot_at d.slots k).waiting (s.ages k));
+      up = λ u. absurd (no-way false refl u);
+      down =
+          λ u. record {
+            window = (whole-of first d c s).window;
+            slots = length-map d.slots abort_slot ∙ (whole-of first d c s).slots;
+            put = refl;
+            unheard = refl;
+            consumed = refl;
+            off = refl;
+            idle = λ k. rw (slot-abort d.slots k) (abort-idle (slot_at d.slots k).waiting);
+          };
+    }
+
+pub reset-box : (d : Host) (c : State) → box (reset d) (off c) ≡ record { placed = []; rung = []; posted = []; unheard = 0; since = 0 }
+unfolding box
+reset-box d c = refl
+
+abbrev pub slots_of : List (List ℕ) → List ℕ
+slots_of [] = []
+slots_of (x ∷ xs) = cid x ∷ slots_of xs
+
+abbrev pub cids_of : List Completion → List ℕ
+cids_of [] = []
+cids_of (e ∷ es) = e.cid ∷ cids_of es
+
+abbrev pub ticket_slot : List Slot → ℕ → ℕ
+ticket_slot slots k = ticket_in (slot_at slots k).waiting
+
+pub item-tickets : (slots : List Slot) (xs : List (List ℕ)) → map (λ (i : Item). i.ticket) (map (item (slot_at slots)) xs) ≡ map (ticket_slot slots) (slots_of xs)
+unfolding item_in
+item-tickets slots [] = refl
+item-tickets slots (x ∷ xs) = ap (λ ts. ticket_slot slots (cid x) ∷ ts) (item-tickets slots xs)
+
+pub answer-tickets : (slots : List Slot) (h : ℕ) (es : List Completion) → map (λ (p : PostedAnswer). p.ticket) (answers (slot_at slots) h es) ≡ map (ticket_slot slots) (cids_of es)
+answer-tickets slots h [] = refl
+answer-tickets slots h (e ∷ es) = ap (λ ts. ticket_slot slots e.cid ∷ ts) (answer-tickets slots e.sq_head es)
+
+-- the tickets of a lane of the mailbox
+pub placed-tickets : (d : Host) (c : State) → map (λ (i : Item). i.ticket) (box d c).placed ≡ map (ticket_slot d.slots) (slots_of (placed-part d c))
+unfolding box
+placed-tickets d c = item-tickets d.slots (placed-part d c)
+
+pub rung-tickets : (d : Host) (c : State) → map (λ (i : Item). i.ticket) (box d c).rung ≡ map (ticket_slot d.slots) (slots_of (rung-part c))
+unfolding box
+rung-tickets d c = item-tickets d.slots (rung-part c)
+
+pub posted-tickets : (d : Host) (c : State) → map (λ (p : PostedAnswer). p.ticket) (box d c).posted ≡ map (ticket_slot d.slots) (cids_of (unread d c))
+unfolding box
+posted-tickets d c = answer-tickets d.slots _ (unread d c)
 
 -- Reset of both lanes is Reset of each
 slots-reset : (lane : Lane) (w : List ℕ) (k : ℕ) (slots : List (Option Waiting)) → slots_in lane w k (map abort slots) ≡ map abort_slot (slots_in lane w k slots)

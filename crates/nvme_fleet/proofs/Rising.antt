@@ -2,7 +2,7 @@
 use Rattle.nvme_fleet.proofs.Words.{completion_of, ◌≡◌, ℕ, ◌+◌, ◌*◌, List, length, map, Option, Some, refl, ap, sym, ◌∙◌, arith, ne_eqb, true, with_bytes, State, zeros, zeroed, fresh_host, fresh_state, own_host, own_state, Resting, Holds, box, recounted, Lane, Admin, Io, Down, Up, submission_queue, Driver, is_up, started, Controller, SubmissionQueue, CompletionQueue, Both, is_failed, pages_of, slots_in, host, state, fetched_by, held_by, Sound, mailbox, Host}
 use Rattle.nvme_fleet.proofs.Ups.{Quiet, own-quiet, fresh-quiet, zeros-are, risen-holds, resting-box, quiet-box}
 use Rattle.nvme_fleet.proofs.LaneWindows.{each-lane, Stored, none-stored, page-stored}
-use Rattle.nvme_fleet.proofs.LaneSlots.{slots-apart}
+use Rattle.nvme_fleet.proofs.OneLane.{slots-apart}
 use Rattle.nvme_fleet.proofs.StartStep.{running, zeroed_all}
 use Rattle.nvme_fleet.proofs.TurnStep.{with_admin, ends_at}
 

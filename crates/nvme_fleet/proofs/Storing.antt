@@ -1,7 +1,7 @@
 -- A store that fits stores.
 use Rattle.nvme_fleet.proofs.Words.{◌≡◌, ℕ, ◌+◌, ◌-◌, ◌≤◌, List, length, ap, ◌∙◌, with_bytes, window_size, Seen, Controller, after_store, new_controller, Subsystem, Reacts, IsThere, controller_in}
 use Rattle.nvme_fleet.proofs.Happening.{place-below, place-is}
-use Rattle.nvme_fleet.proofs.Reaching.{reacted-as}
+use Rattle.nvme_fleet.proofs.LinkCalls.{reacted-as}
 use Rattle.nvme_fleet.proofs.StartStep.{stored-at}
 use Rattle.std.proofs.lemmas.List.{get_or-set_same}
 

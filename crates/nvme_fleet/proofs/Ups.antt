@@ -1,8 +1,7 @@
 -- Bringing up in one lane: nothing is on its way behind each of the driver's own commands, and it holds at the end.
-use Rattle.nvme_fleet.proofs.Words.{◌≡◌, ℕ, ◌+◌, ◌-◌, ◌*◌, ◌%◌, ◌<◌, ◌≤◌, List, [], ◌∷◌, length, refl, ap, sym, ◌∙◌, arith, suc, true, false, take, drop, get_or, subst, length-drop, get_or-take, get_or-drop, get_or-replicate, length-replicate, length-take-le, same_lists, le-ltb, common_steps, replicate, with_bytes, queue_id, completion_of, phase, AllByRecursion, IsOf, phase_of, State, Slot, slot_at, zeros, fresh_host, fresh_state, own_host, own_state, in_flight, commands, completions, commands_of, answers_of, unread, heard, steps, since, last_head, total, odd, holds, live_in, live_at, Phases, Running, Resting, Holds, box, Host, Carried}
-use Rattle.nvme_fleet.proofs.Phases.{phases-kept, phases-posted, phases-consumed}
+use Rattle.nvme_fleet.proofs.Words.{◌≡◌, ℕ, ◌+◌, ◌-◌, ◌*◌, ◌%◌, ◌<◌, ◌≤◌, List, [], ◌∷◌, length, refl, ap, sym, ◌∙◌, arith, suc, true, false, take, drop, get_or, subst, length-drop, get_or-take, get_or-drop, get_or-replicate, length-replicate, length-take-le, same_lists, le-ltb, common_steps, replicate, with_bytes, queue_id, completion_of, phase, AllByRecursion, IsOf, phase_of, State, Slot, slot_at, zeros, fresh_host, fresh_state, own_host, own_state, in_flight, commands, completions, commands_of, answers_of, unread, heard, steps, since, last_head, total, odd, holds, live_in, live_at, Phases, Running, Resting, Holds, box, Host, Carried, Suited}
+use Rattle.nvme_fleet.proofs.Phases.{phases-kept, phases-posted, phases-consumed, enters, answered}
 use Rattle.nvme_fleet.proofs.Windows.{stored-part}
-use Rattle.nvme_fleet.proofs.Keeps.{enters, answered}
 use Rattle.nvme_fleet.proofs.Queues.{since-zero}
 use Rattle.nvme_fleet.proofs.Places.{up-holds}
 use Rattle.nvme_fleet.proofs.Orders.{idle-age}

@@ -110,7 +110,7 @@ pub fn bringing_up_is_a_step()
 /// the request's data, whatever a fault of the medium chooses; and what it may be answered, its request may be
 /// answered. An admin command is answered what its request is answered, and the queues stay. So an execution of a
 /// command of either lane is the step of the mailbox.
-#[tactic(auto, using(crate::proofs::ServeStep::allowed_serves_its_request, crate::proofs::AnswerStep::answers_its_request, crate::proofs::PostStep::nothing_to_execute, crate::proofs::PostStep::posting_is_a_step, crate::proofs::ExecuteStep::io_execution_is_a_step, crate::proofs::ExecuteStep::admin_execution_is_a_step))]
+#[tactic(auto, using(crate::proofs::AnswerStep::allowed_serves_its_request, crate::proofs::AnswerStep::answers_its_request, crate::proofs::PostStep::nothing_to_execute, crate::proofs::PostStep::posting_is_a_step, crate::proofs::ExecuteStep::io_execution_is_a_step, crate::proofs::ExecuteStep::admin_execution_is_a_step))]
 pub fn postings_are_steps()
     ensures judged { JudgedAsItsRequest }
     ensures serves { AllowedServesItsRequest }

@@ -4,9 +4,8 @@ use Rattle.nvme_mailbox.proofs.Lists.{all-left, all-right, all-over, all-get, al
 use Rattle.nvme_mailbox.specs.Deliveries.{polled}
 use Rattle.nvme_driver.specs.declared.ticket.Ticket.{Ticket}
 use Rattle.nvme_event.specs.declared.seen.FleetSeen.TheVariants as seen
-use Rattle.nvme_mailbox.proofs.MailboxMarks.{DiffersInMarks, others-differ}
 use Rattle.nvme_mailbox.specs.Answered.{Places, Happens}
-use Rattle.nvme_mailbox.proofs.Apart.{same-is, hosts_are_apart}
+use Rattle.nvme_mailbox.proofs.Apart.{same-is, hosts_are_apart, DiffersInMarks, others-differ}
 use Rattle.nvme_mailbox.proofs.Moves.{Move, Stay, Take, RingBoth, FetchFirst, HandUp, Clear, Answer, May, IsOf, moved, reply_of, own-moved}
 
 -- What is known of each request that waits, and of each answer.

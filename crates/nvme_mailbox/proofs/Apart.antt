@@ -1,9 +1,96 @@
 -- A host's mailbox goes by its own events, but for the marks of others' executions.
-use Rattle.nvme_mailbox.proofs.Words.{◌≡◌, ◌≢◌, ℕ, ◌==◌, Bool, true, false, Option, None, Some, refl, sym, ap, subst, ◌∙◌, arith, slice_get, common_steps, Marks, Executed, Posted, NoSuch, Controller, FleetEvent, BringUp, Place, Ring, Fetch, Execute, Poll, Reset, RawStore, RawWrite32, PowerCycle, FleetSeen, NotRaw, Reply, concerns, FetchedItem, Mailbox, MailboxReaction, plain, fetched, reset, Site, RequestComesTo, WithDriver, Raw, Fleet, Moment, Is, Completes, ExecutesItem, ExecutesAt, host_at, with_host, power_cycled, called_at, raw_at, fetched_at, settled, after_answer, site_of, marks_in, replaced, numbered, HasMailbox, Becomes, Posts, ExecutesOwn, OwnStep, OthersStep, MailboxStep, MovesOn, HostsAreApart, marks_seen, marked_by, host_cycled, option_map}
+use Rattle.nvme_mailbox.proofs.Words.{◌≡◌, ◌≢◌, ℕ, ◌==◌, Bool, true, false, Option, None, Some, refl, sym, ap, subst, ◌∙◌, arith, slice_get, common_steps, Marks, Executed, Posted, NoSuch, Controller, FleetEvent, BringUp, Place, Ring, Fetch, Execute, Poll, Reset, RawStore, RawWrite32, PowerCycle, FleetSeen, NotRaw, Reply, concerns, FetchedItem, Mailbox, MailboxReaction, plain, fetched, reset, Site, RequestComesTo, WithDriver, Raw, Fleet, Moment, Is, Completes, ExecutesItem, ExecutesAt, host_at, with_host, power_cycled, called_at, raw_at, fetched_at, settled, after_answer, site_of, marks_in, replaced, numbered, HasMailbox, Becomes, Posts, ExecutesOwn, OwnStep, OthersStep, MailboxStep, MovesOn, HostsAreApart, marks_seen, marked_by, host_cycled, option_map, same_Some, zero, suc, ◌+◌, List, [], ◌∷◌, if◌then◌else◌, map, slice_get-map, World, host_of, is_host_among, marked, marked_from, ◌⊎◌, inl, inr, no_marks}
 use Rattle.nvme_mailbox.specs.Fleets.{Host}
 use Rattle.nvme_event.specs.declared.seen.FleetSeen.TheVariants.{Executed as ExecutedSeen, NoController, Cycled}
-use Rattle.nvme_mailbox.proofs.MailboxMarks.{spared}
-use Rattle.nvme_mailbox.proofs.HostPlaces.{cycled-at, replaced-other, replaced-here, own-set, called-other, raw-other, fetched-other, marks-numbered}
+use Rattle.nvme_mailbox.proofs.Lists.{got-other, got-here}
+use Rattle.nvme_mailbox.specs.Mailboxes.{with_marks}
+use Rattle.nvme_machine.proofs.Denials.{not_one}
+
+-- A mailbox whose fetched requests may have been marked.
+
+-- the second is the first, or the first with what it has fetched on one namespace marked
+abbrev pub DiffersInMarks : Mailbox → Mailbox → Type 0
+DiffersInMarks m n = (n ≡ m) ⊎ ((namespace : ℕ) × (n ≡ with_marks namespace m))
+
+pub differs : (t : Marks) (w : World) (k : ℕ) (m n : Mailbox) → n ≡ marked_by t w k m → DiffersInMarks m n
+differs t w k m n e = by (is_host_among t.hosts.items (host_of w k)) e
+  where
+    by : (b : Bool) → n ≡ (if b then with_marks t.nsid m else m) → DiffersInMarks m n
+    by true e = inr (t.nsid, e)
+    by false e = inl e
+
+pub others-differ : (event : FleetEvent) (k : ℕ) (m : Mailbox) (reply : Reply) (left : Site) (n : Mailbox) → OthersStep event k m reply left n → DiffersInMarks m n
+others-differ (Execute j i) k m reply left n h = differs (marks_seen reply.seen) left.world k m n h
+others-differ event k m reply left n h = inl h
+
+-- no marks leave it as it is
+unmarked : (w : World) (k : ℕ) (m : Mailbox) → marked_by no_marks w k m ≡ m
+unmarked w k m = ap (λ b. if b then with_marks 0 m else m) (not_one (host_of w k))
+
+pub spared : (w : World) (k : ℕ) (m : Mailbox) (reply : Reply) (what : FleetSeen) → reply ≡ plain what → marks_seen what ≡ no_marks → m ≡ marked_by (marks_seen reply.seen) w k m
+spared w k m reply what gives none =
+    sym (ap (λ (r : Reply). marked_by (marks_seen r.seen) w k m) gives ∙ ap (λ t. marked_by t w k m) none ∙ unmarked w k m)
+
+-- What an event leaves at the place of one host.
+
+pub replaced-other : (hs : List Host) (j k : ℕ) (h : Host) → j ≢ k → numbered (replaced hs j h) k ≡ numbered hs k
+replaced-other hs (suc j) (suc k) h other = got-other hs j h k (λ e. other (ap suc (sym e)))
+replaced-other hs j k h other = refl
+
+pub replaced-here : (hs : List Host) (k : ℕ) (g h : Host) → numbered hs k ≡ Some g → numbered (replaced hs k h) k ≡ Some h
+replaced-here hs zero g h at = absurd (cc)
+replaced-here hs (suc k) g h at = got-here hs k g h at
+
+-- a host other than this one has become another
+pub other-set : (f : Fleet) (j k : ℕ) (h : Host) → j ≢ k → host_at (with_host f j h) k ≡ host_at f k
+unfolding host_at with_host
+other-set f j k h other = replaced-other f.hosts j k h other
+
+pub own-set : (f : Fleet) (k : ℕ) (g h : Host) → host_at f k ≡ Some g → host_at (with_host f k h) k ≡ Some h
+unfolding host_at with_host
+own-set f k g h at = replaced-here f.hosts k g h at
+
+-- a host behind a power cycle
+pub cycled-at : (f : Fleet) (k : ℕ) → host_at (power_cycled f) k ≡ option_map host_cycled (host_at f k)
+unfolding host_at power_cycled
+cycled-at f zero = refl
+cycled-at f (suc i) = slice_get-map host_cycled f.hosts i
+
+-- an event of another host
+
+pub called-other : (o : Option Host) (f : Fleet) (j k : ℕ) (call : Mailbox → MailboxReaction) → j ≢ k → host_at (called_at o f j call).fleet k ≡ host_at f k
+called-other (Some (WithDriver m)) f j k call other = other-set f j k _ other
+called-other o f j k call other = refl
+
+pub raw-other : (o : Option Host) (f : Fleet) (j k : ℕ) (change : Controller → Controller) (what : FleetSeen) → j ≢ k → host_at (raw_at o f j change what).fleet k ≡ host_at f k
+raw-other (Some (Raw c)) f j k change what other = other-set f j k _ other
+raw-other o f j k change what other = refl
+
+pub fetched-other : (o : Option Host) (f : Fleet) (j k q : ℕ) → j ≢ k → host_at (fetched_at o f j q).fleet k ≡ host_at f k
+fetched-other None f j k q other = refl
+fetched-other (Some (WithDriver m)) f j k q other = other-set f j k _ other
+fetched-other (Some (Raw c)) f j k q other = other-set f j k _ other
+
+-- Marks.
+
+marked-by : (n : ℕ) (m : Mailbox) (b : Bool) → Some (if b then marked n (WithDriver m) else WithDriver m) ≡ Some (WithDriver (if b then with_marks n m else m))
+marked-by n m true = refl
+marked-by n m false = refl
+
+marks-place : (w : World) (t : Marks) (j k : ℕ) (hs : List Host) (i : ℕ) (m : Mailbox) → j + i ≡ k → slice_get hs i ≡ Some (WithDriver m)
+    → slice_get (marked_from w t j hs) i ≡ Some (WithDriver (marked_by t w k m))
+marks-place w t j k [] i m place at = absurd (cc)
+marks-place w t j k (h ∷ hs) zero m place at =
+    ap (λ x. Some (if is_host_among t.hosts.items (host_of w j) then marked t.nsid x else x)) (same_Some h (WithDriver m) at)
+    ∙ marked-by t.nsid m (is_host_among t.hosts.items (host_of w j))
+    ∙ ap (λ n. Some (WithDriver (marked_by t w n m))) (omega (arith, place))
+marks-place w t j k (h ∷ hs) (suc i) m place at = marks-place w t (j + 1) k hs i m (omega (arith, place)) at
+
+-- controller k's host is marked as the execution says
+pub marks-numbered : (w : World) (t : Marks) (hs : List Host) (k : ℕ) (m : Mailbox) → numbered hs k ≡ Some (WithDriver m)
+    → numbered (marked_from w t 1 hs) k ≡ Some (WithDriver (marked_by t w k m))
+marks-numbered w t hs zero m at = absurd (cc)
+marks-numbered w t hs (suc k) m at = marks-place w t 1 (suc k) hs k m (omega arith) at
 
 pub is-same : (j k : ℕ) → (j == k) ≡ true → j ≡ k
 is-same j k h = grind (arith, common_steps, h)

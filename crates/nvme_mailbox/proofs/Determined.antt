@@ -1,7 +1,7 @@
 -- Without a fault of the medium there is one run over each list of events.
 use Rattle.nvme_mailbox.proofs.Words.{◌≡◌, ℕ, ◌-◌, ◌^◌, ◌<◌, ◌≤◌, Bool, true, ◌==◌, [], ◌∷◌, Option, None, Some, refl, sym, ap, subst, ◌∙◌, arith, slice_get, Command, Verdict, Allowed, Denied, Lane, Admin, Io, Asked, FetchedCommand, Executed, Posted, Controller, QueuePair, queues_of, open_pair, after_completion, Setting, FinishesOne, FinishesOver, scene_in, CommandComesTo, CommandExecution, FleetEvent, Execute, Reply, FetchedItem, Mailbox, lane_of, plain, Site, RequestExecution, scene_at, IsServed, IoRequestComesTo, RequestComesToAs, RequestComesTo, io_verdict, bytes_with, command_entry, WithDriver, Raw, Fleet, Is, Step, host_at, settled, after_execution, after_raw, ExecutesItem, ExecutesRaw, ExecutesAt, setting_of, served, performance_of, io_request_execution, request_execution_as, request_execution, executing_item, RawExecution, raw_over, raw_one, executing, fault_free_step, fault_free_replies, fault_free_left, failures_in, FailuresNeverFall, RunIsUnique, Device}
 use Rattle.nvme_mailbox.proofs.Existing.{admin-leaves}
-use Rattle.nvme_mailbox.proofs.Sites.{Leaves, AsItWas, ByRequest, ByCommand, PowerLost, leaves}
+use Rattle.nvme_mailbox.proofs.IoExecutions.{Leaves, AsItWas, ByRequest, ByCommand, PowerLost, leaves}
 use Rattle.nvme_mailbox.specs.Fleets.{Host}
 use Rattle.nvme_spec.proofs.FaultFree as spec
 use Rattle.nvme_machine.proofs.Determined as machine_proofs

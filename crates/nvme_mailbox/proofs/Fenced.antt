@@ -3,8 +3,7 @@ use Rattle.nvme_mailbox.proofs.Words.{◌≡◌, ◌⊎◌, inl, inr, ℕ, ◌==
 use Rattle.nvme_machine.specs.declared.event.Event.TheVariants as machine_event
 use Rattle.nvme_machine.proofs.Fencing.{may-still, read-still}
 use Rattle.nvme_machine.proofs.Layouts as machine
-use Rattle.nvme_mailbox.proofs.IoExecutions.{ActsOn, Acts, Rests, Reserves, Loses, acts}
-use Rattle.nvme_mailbox.proofs.Sites.{leaves}
+use Rattle.nvme_mailbox.proofs.IoExecutions.{ActsOn, Acts, Rests, Reserves, Loses, acts, leaves}
 
 -- what a reservation command leaves of a world: all but its own reservation
 pub reserved : (w v : World) (x : IoCommand) (k : ℕ) → ActsOn k x w v → IsReserved (nsid x.entry) w v

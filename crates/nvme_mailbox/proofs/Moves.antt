@@ -3,8 +3,7 @@ use Rattle.nvme_mailbox.proofs.Words.{◌≡◌, inl, ℕ, Bool, true, false, Li
 use Rattle.nvme_mailbox.specs.Deliveries.{polled}
 use Rattle.nvme_driver.specs.declared.faults.PollFault.TheVariants as poll_fault
 use Rattle.nvme_event.specs.declared.seen.FleetSeen.TheVariants as seen
-use Rattle.nvme_mailbox.proofs.Apart.{is-same}
-use Rattle.nvme_mailbox.proofs.MailboxMarks.{DiffersInMarks, differs}
+use Rattle.nvme_mailbox.proofs.Apart.{is-same, DiffersInMarks, differs}
 
 -- What is seen of no ticket, no data and no trouble.
 pub record IsQuiet (what : FleetSeen) : Type 0 where

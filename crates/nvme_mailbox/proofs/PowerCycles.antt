@@ -6,7 +6,7 @@ use Rattle.nvme_mailbox.proofs.Apart.{hosts_are_apart}
 use Rattle.nvme_mailbox.proofs.Fenced.{only_allowed_actions_reserve}
 use Rattle.nvme_mailbox.proofs.Refused as refused
 use Rattle.nvme_mailbox.proofs.Secrecy.{fenced_reading, fenced_reading_is_same}
-use Rattle.nvme_mailbox.proofs.TicketFlows.{held-weigh, resets}
+use Rattle.nvme_mailbox.proofs.TicketRuns.{held-weigh, resets}
 use Rattle.nvme_mailbox.specs.PowerCycles.{DoneSincePower, FencingOutlastsPower, IsAborted, PersistenceLasts, PowerAborts, RepliesOutlastPower, SecrecyOutlastsPower}
 use Rattle.nvme_machine.proofs.PowerCycles.{persists-still}
 

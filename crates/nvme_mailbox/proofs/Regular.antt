@@ -9,7 +9,7 @@ use Rattle.nvme_driver.proofs.Moving.{whole}
 use Rattle.nvme_mailbox.proofs.Existing.{admin-leaves, allowed-passes, lies-still}
 use Rattle.nvme_mailbox.proofs.Fenced.{extents-stay, step-acts}
 use Rattle.nvme_mailbox.proofs.Numbered as numbered
-use Rattle.nvme_mailbox.proofs.Sites.{AsItWas, ByCommand, ByRequest, Leaves, PowerLost, leaves}
+use Rattle.nvme_mailbox.proofs.IoExecutions.{AsItWas, ByCommand, ByRequest, Leaves, PowerLost, leaves}
 use Rattle.nvme_mailbox.proofs.Taken as taken
 
 -- A request that was taken brings its data.

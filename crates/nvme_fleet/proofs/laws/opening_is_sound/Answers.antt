@@ -1,4 +1,4 @@
-use Rattle.nvme_fleet.proofs.SoundOpening.{opening_is_sound}
+use Rattle.nvme_fleet.proofs.FleetOpening.{opening_is_sound}
 use Rattle.nvme_fleet.proofs.laws.opening_is_sound.Goals as goal
 
 pub returns : goal.returns

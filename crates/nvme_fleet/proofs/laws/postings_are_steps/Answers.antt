@@ -1,5 +1,5 @@
 use Rattle.nvme_fleet.proofs.AdminStep.{admin_judged_as_its_request, admin_answers_its_request}
-use Rattle.nvme_fleet.proofs.JudgeStep.{judged_as_its_request}
+use Rattle.nvme_fleet.proofs.AnswerStep.{judged_as_its_request}
 use Rattle.nvme_fleet.proofs.PostStep.{posting_has_room}
 use Rattle.nvme_fleet.proofs.laws.postings_are_steps.Goals as goal
 

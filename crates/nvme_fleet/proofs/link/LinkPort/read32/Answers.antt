@@ -4,7 +4,7 @@ use Rattle.nvme_machine.specs.declared.bare.BareSeen.TheVariants as bare
 use Rattle.nvme_machine.specs.declared.seen.Seen.TheVariants as given
 use Rattle.nvme_fleet.proofs.Happening.{place-below, place-is}
 use Rattle.nvme_fleet.proofs.Links.{there-after}
-use Rattle.nvme_fleet.proofs.Reaching.{reacted-as}
+use Rattle.nvme_fleet.proofs.LinkCalls.{reacted-as}
 use Rattle.nvme_fleet.proofs.link.LinkPort.read32.Goals as goal
 
 -- a register's value is told as one
