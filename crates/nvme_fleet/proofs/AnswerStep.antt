@@ -14,8 +14,6 @@ use Rattle.nvme_fleet.proofs.PostStep.{slot_seen}
 use Rattle.nvme_spec.specs.Commands as io_commands
 use Rattle.nvme_spec.specs.IoRules as rules
 
--- What an allowed I/O command does is what its request does.
-
 -- A fetched I/O command is judged as the request that the mailbox has in its place.
 
 -- Commands with the same fields are judged alike.
@@ -126,6 +124,8 @@ judged_as_its_request d c i t x w cntlid s g f q =
     ∙ ap (λ a. io_judgement w cntlid a t.marked) (sym (asked-in Io d c t (ap lane_of_queue q)))
     ∙ ap (λ (y : FetchedItem). io_judgement w cntlid y.item.asked y.marked) (sym (item-is d c i t x g f))
 
+-- What an allowed I/O command does is what its request does.
+
 same-block : (w : World) (x y : List ℕ) → SameFields x y → medium_block w x ≡ medium_block w y
 same-block w x y h = sym (λ i. start_of (namespace_of w (h.nsid i)) + same-lba x y h i)
 
@@ -229,11 +229,9 @@ record IsAllowed (d : Driver) (c : Controller) (t : FetchedCommand) (kind : Comm
 allowed : (d : Driver) (c : Controller) (t : FetchedCommand) (w : World) (cntlid : ℕ) (kind : Command) → IsIo d c t → HasPassed w cntlid t.entry kind → IsAllowed d c t kind
 allowed d c t w cntlid kind h p =
     let q = plain-io (asked_by d c t) h.of_lane h.suited.plain in
-    record {
-      known = h;
-      moved = length-is d c t h ∙ ap (λ o. data_length_of o t.entry) p.named;
-      received = q.1 ∙ ap (λ o. if is_one_of o (io.Read ∷ io.ReservationReport ∷ []) then (asked_by d c t).moved else 0) p.named;
-    }
+    let moved = length-is d c t h ∙ ap (λ o. data_length_of o t.entry) p.named in
+    let received = q.1 ∙ ap (λ o. if is_one_of o (io.Read ∷ io.ReservationReport ∷ []) then (asked_by d c t).moved else 0) p.named in
+    search
 
 pub allowed_serves_its_request : AllowedServesItsRequest
 allowed_serves_its_request tells d c i t x w device cntlid plan a s g f q is h =

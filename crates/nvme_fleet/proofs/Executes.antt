@@ -1,5 +1,5 @@
 -- An execution in one lane: a request goes from those that were fetched to the answers that were posted.
-use Rattle.nvme_fleet.proofs.Words.{◌≡◌, ℕ, ◌+◌, ◌-◌, ◌%◌, ◌<◌, ◌≤◌, List, [], ◌∷◌, ◌++◌, length, map, refl, ap, sym, ◌∙◌, arith, true, cond, Bool, Some, take, slice_get, take-take, length-set, length-remove, slice_get_within, cid, Completion, completion_of, queue_id, answer_len, PostedAnswer, Effect, State, Slot, finished, finished_bytes, executed, executed_state, completion_bytes, ticket_in, received_in, IsOf, all-joined, in_flight, commands, completions, item, answer, box, Running, Holds, last_head, heard, unread, since, steps, commands_of, answers_of, live_at, slot_at, answers, holds, total, odd, suits, bears, replies, Carried, Host, eq-eqb, common_steps}
+use Rattle.nvme_fleet.proofs.Words.{◌≡◌, ℕ, ◌+◌, ◌-◌, ◌%◌, ◌<◌, ◌≤◌, List, [], ◌∷◌, ◌++◌, length, map, refl, ap, sym, ◌∙◌, arith, true, cond, Bool, Some, take, slice_get, take-take, length-set, length-remove, slice_get_within, cid, Completion, completion_of, queue_id, answer_len, PostedAnswer, Effect, State, Slot, finished, finished_bytes, executed, executed_state, completion_bytes, ticket_in, received_in, IsOf, all-joined, in_flight, commands, completions, item, answer, box, Running, Holds, last_head, heard, unread, since, steps, commands_of, answers_of, live_at, slot_at, answers, holds, total, odd, suits, bears, replies, Carried, Host, eq-eqb, common_steps, AllByRecursion, Suited, live_in}
 use Rattle.std.proofs.Common.{remove}
 use Rattle.nvme_mailbox.proofs.Totals.{total-append, total-removed}
 use Rattle.nvme_fleet.proofs.Slots.{few, bare-box, bare-odd, live-within, live-small, live-set, slot-same, each-all}
@@ -130,34 +130,18 @@ module _ (d : Host) (c : State) (ans : Effect) (i : ℕ) (x bytes : List ℕ) (h
       let w = written in
       let u : steps (heard d) (unread (executed d x bytes) (executed_state c i x ans)) ≡ steps (heard d) (unread d c) + since d c =
       ap (steps (heard d)) unread-more ∙ steps-more (heard d) (unread d c) (finished c ans x) in
-      record {
-        ready = s.ready;
-        window = w.keeps.size ∙ s.window;
-        slots = length-set d.slots (cid x) (record (slot_at d.slots (cid x)) { bytes = bytes }) ∙ s.slots;
-        put = s.put;
-        fetched = s.fetched;
-        consumed = s.consumed;
-        posted = omega (arith, s.posted);
-        waiting = s.waiting;
-        unheard = omega (arith, u, since-done, s.unheard);
-        room = s.room;
-        of_lane = rw unread-more (all-joined (IsOf (queue_id c.lane)) (unread d c) (finished c ans x ∷ []) s.of_lane ((refl, s.fetched), tt));
-        phases = phases-posted c.window _ _ d.consumed c.unread c.posted w s.posted (omega (arith, (h.fetched).room)) (ap (λ (e : Completion). e.phase) h.reads) s.phases;
-        carried = carried-done;
-        held = omega (
-          arith,
-          s.held,
-          length-remove c.taken i (slice_get_within c.taken i x (h.fetched).there),
-          live-set d.slots (cid x) (record (slot_at d.slots (cid x)) { bytes = bytes }) (omega (arith, (h.fetched).within, s.slots)),
-        );
-        suited = omega (
-          arith,
-          s.suited,
-          execute-total (odd (holds d)),
-          bare-odd d (record c { taken = remove c.taken i }) (cid x) (record (slot_at d.slots (cid x)) { bytes = bytes }) (h.fetched).bare,
-          ap (total (odd (holds (executed d x bytes)))) (flight-same c.fetched (in_flight d c) s.fetched),
-        );
-      }
+      let window = w.keeps.size ∙ s.window in
+      let slots = length-set d.slots (cid x) (record (slot_at d.slots (cid x)) { bytes = bytes }) ∙ s.slots in
+      let unheard : steps (heard d) (unread (executed d x bytes) (executed_state c i x ans)) + since (executed d x bytes) (executed_state c i x ans) + in_flight d c ≡ d.unheard = omega (arith, u, since-done, s.unheard) in
+      let of_lane : AllByRecursion (IsOf (queue_id c.lane)) (unread (executed d x bytes) (executed_state c i x ans)) =
+      rw unread-more (all-joined (IsOf (queue_id c.lane)) (unread d c) (finished c ans x ∷ []) s.of_lane ((refl, s.fetched), tt)) in
+      let phases = phases-posted c.window _ _ d.consumed c.unread c.posted w s.posted (omega (arith, (h.fetched).room)) (ap (λ (e : Completion). e.phase) h.reads) s.phases in
+      let held : length (remove c.taken i) + in_flight d c + (c.unread + 1) ≡ total live_in (executed d x bytes).slots =
+      omega (arith, s.held, length-remove c.taken i (slice_get_within c.taken i x (h.fetched).there), live-set d.slots (cid x) (record (slot_at d.slots (cid x)) { bytes = bytes }) (omega (arith, (h.fetched).within, s.slots))) in
+      let same = ap (total (odd (holds (executed d x bytes)))) (flight-same c.fetched (in_flight d c) s.fetched) in
+      let suited : Suited (executed d x bytes) (executed_state c i x ans) =
+      omega (arith, s.suited, execute-total (odd (holds d)), bare-odd d (record c { taken = remove c.taken i }) (cid x) (record (slot_at d.slots (cid x)) { bytes = bytes }) (h.fetched).bare, same) in
+      search (arith, phases, carried-done)
 
   -- the lane whose command was executed holds
   pub execute-holds : (first : ℕ) → Holds first d c → d.up ≡ true → Holds first (executed d x bytes) (executed_state c i x ans)

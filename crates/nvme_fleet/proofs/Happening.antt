@@ -14,12 +14,10 @@ use Rattle.std.proofs.lemmas.Option.{slice_get-get_or}
 
 -- What an event of the subsystem gives brings no data.
 told-plain : (x : Seen) (buffer : List ℕ) → reply_in (told x) buffer ≡ plain (told x)
-told-plain given.Stored buffer = refl
-told-plain x buffer = refl
+told-plain x buffer = grind (arith, common_steps)
 
 told-short : (x : Seen) → data_len (told x) ≡ 0
-told-short given.Stored = refl
-told-short x = refl
+told-short x = grind (arith, common_steps)
 
 -- Where no controller is, no host is, and no driver.
 
@@ -111,13 +109,9 @@ still P a new x y e same s step = same-given P a new x y e (subst (λ n. HasAppl
 
 -- A fetch.
 
-seen-from : (q : ℕ) (c : Controller) (o : Option SubmissionQueue) → (fetched_from q c o).seen ≡ given.Fetched (if is_some o then Took else Idle)
-seen-from q c None = refl
-seen-from q c (Some s) = refl
-
 fetch-gives : (q : ℕ) (c : Controller) → (after_fetch q c).seen ≡ given.Fetched (raw_fetch c q)
 unfolding after_fetch
-fetch-gives q c = seen-from q c (fetchable c q)
+fetch-gives q c = grind (arith, common_steps)
 
 -- it is the step of the host, and leaves its driver sound
 record HasFetched (f g : Fleet) (k q : ℕ) (d : Option Driver) (c : Controller) : Type 0 where

@@ -254,11 +254,6 @@ pub record IsFresh {M : Type 0} (p x : OverMedium Linked M) : Type 0 where
   pub place : x.state.place ≡ p.state.place
   pub medium : x.medium ≡ p.medium
 
-others-both : (i : ℕ) (a b c : Subsystem) → KeepsOthers i a b → KeepsOthers i b c → KeepsOthers i a c
-others-both i a b c h g =
-    g ∙ ap (λ (s : Subsystem). with_setting s i (setting_in c i)) h
-    ∙ ap (λ cs. (let s : Subsystem = record { world = c.world; device = c.device; controllers = cs } in s)) (set-set a.controllers i (controller_in b i) (controller_in c i))
-
 call-there : (tells : Bool) (call : Call) (a b : Subsystem) (i : ℕ) → AreAdmin (controller_in a i) → i < length a.controllers → (controller_in a i).cntlid ≡ i + 1 → CallStep tells (i + 1) a call b → IsStepThere tells call a b i
 call-there tells Turns a b i admin there named h = turns-there tells a b i admin there named h
 call-there tells call a b i admin there named h = plain-there tells call a b i tt there h
@@ -273,12 +268,15 @@ fresh-call step tells p call x y f h =
     let at = f.reaches in
     let there = call-there tells call a b i f.admin at.0 at.1 h.over.step in
     let one : LinkStep tells (setting_in a i) call (linked_setting y.state) = subst (λ n. LinkStep tells (setting_in a i) call (setting_in b n)) (sym place) there.step in
+    let n : ℕ = p.state.place in
+    let others : KeepsOthers n p.state.subsystem b = subst (λ n. KeepsOthers n a b) f.place there.others ∙ ap (λ (s : Subsystem). with_setting s n (setting_in b n)) f.others
+    ∙ ap (λ cs. (let s : Subsystem = record { world = b.world; device = b.device; controllers = cs } in s)) (set-set p.state.subsystem.controllers n (controller_in a n) (controller_in b n)) in
     let long : length b.controllers ≡ length a.controllers = ap (λ (s : Subsystem). length s.controllers) there.others ∙ length-set a.controllers i (controller_in b i) in (
       one,
       record {
         reaches = (omega (arith, long, at.0, place), call-named tells call (setting_in a i) (linked_setting y.state) one ∙ at.1 ∙ ap (λ n. n + 1) (sym place));
         admin = call-admin tells call (setting_in a i) (linked_setting y.state) one f.admin;
-        others = others-both p.state.place p.state.subsystem a b f.others (subst (λ n. KeepsOthers n a b) f.place there.others);
+        others = others;
         place = place ∙ f.place;
         medium = kept-admin step tells call i a b x.medium y.medium f.admin at.0 h.medium ∙ f.medium;
       },

@@ -36,14 +36,12 @@ unfolding item_in
 reaches d c i t s g =
     record { lane = lane-of-item (lane_of_queue t.queue) d c t refl (seen (lane_of_queue t.queue) d c i t (known d c i t s g)); space = refl }
 
-io-is : (q : ℕ) → is_io (lane_of_queue q) ≡ not (q == 0)
-io-is q = grind (arith, common_steps)
-
 names-same : (d : Driver) (c : Controller) (n : ℕ) (t : FetchedCommand) → Reaches d c t → mail.names n (item_at d c t) ≡ machine.names n t
 names-same d c n t r =
+    let io : is_io (lane_of_queue t.queue) ≡ not (t.queue == 0) = grind (arith, common_steps) in
     ap (λ l. is_io l && ((item_at d c t).item.asked.command.nsid == n)) r.lane
     ∙ ap (λ m. is_io (lane_of_queue t.queue) && (m == n)) r.space
-    ∙ ap (λ b. b && (nsid t.entry == n)) (io-is t.queue)
+    ∙ ap (λ b. b && (nsid t.entry == n)) io
 
 item-marked : (d : Driver) (c : Controller) (n : ℕ) (t : FetchedCommand) → Reaches d c t → fetched_by (held_by d c.window) (marked n t) ≡ mail.with_mark n (item_at d c t)
 item-marked d c n t r =

@@ -283,17 +283,8 @@ module _ (d : Driver) (c : Controller) (request : Request) (slot : ℕ) (k : Kno
       let f = filled-so in
       let z = k.sized in
       let named : cid (entry_of request slot) ≡ slot = ap (λ (x : SqeFields). x.cid) k.says in
-      record {
-        running = running (lane_of request) d c k.sound k.up;
-        free = idle-in (lane_of request);
-        within = k.within;
-        room = k.room;
-        size = length-entry (entry_fields (asked_of request) slot);
-        named = named;
-        live = refl;
-        ticket = refl;
-        suits_it = suits-by (whole (window_then d c request slot) slot (waiting_of d request)) (entry_of request slot) (asked_of request) slot asked-so named refl z.most z.received f.list_in (plain_request request);
-      }
+      let suits_it = suits-by (whole (window_then d c request slot) slot (waiting_of d request)) (entry_of request slot) (asked_of request) slot asked-so named refl z.most z.received f.list_in (plain_request request) in
+      search (running (lane_of request) d c k.sound k.up, idle-in (lane_of request), length-entry (entry_fields (asked_of request) slot), k.room, k.within, named, suits_it)
 
   stores-so : after_calls (stores_of d request slot) c ≡ controller_then d c request slot
   stores-so =

@@ -1,5 +1,5 @@
 -- Placing in one lane: a request in a slot that nobody bears joins those that were placed.
-use Rattle.nvme_fleet.proofs.Words.{◌≡◌, ℕ, ◌+◌, ◌-◌, ◌%◌, ◌<◌, ◌≤◌, List, [], ◌∷◌, ◌++◌, length, map, refl, ap, ◌∙◌, arith, true, false, cond, eqb, Option, Some, None, Bool, map-append, length-set, common_steps, Waiting, cid, live_in, suits, Slot, item_in, State, filled, placed_state, in_flight, commands, item, box, Running, Holds, Ages, AgeIn, last_head, heard, unread, commands_of, answers_of, live_at, slot_at, answers, holds, total, odd, bears, Carried, Host, eq-eqb}
+use Rattle.nvme_fleet.proofs.Words.{◌≡◌, ℕ, ◌+◌, ◌-◌, ◌%◌, ◌<◌, ◌≤◌, List, [], ◌∷◌, ◌++◌, length, map, refl, ap, ◌∙◌, arith, true, false, cond, eqb, Option, Some, None, Bool, map-append, length-set, common_steps, Waiting, cid, live_in, suits, Slot, item_in, State, filled, placed_state, in_flight, commands, item, box, Running, Holds, Ages, AgeIn, last_head, heard, unread, commands_of, answers_of, live_at, slot_at, answers, holds, total, odd, bears, Carried, Host, eq-eqb, steps, since, AllByRecursion, IsOf, queue_id, Suited, slice_set}
 use Rattle.nvme_fleet.specs.Views.{placed}
 use Rattle.nvme_mailbox.proofs.Totals.{total-append}
 use Rattle.nvme_fleet.proofs.Slots.{bare-box, bare-odd, live-set, slot-same, each-set, each-all}
@@ -122,29 +122,17 @@ module _ (d : Host) (c : State) (x : List ℕ) (w : Waiting) (slot : ℕ) (bytes
       let m = more-flight in
       let k = entered in
       let new : odd (holds (placed d w slot bytes list)) x ≡ 0 = ap (λ s. cond (suits s x) 0 1) here ∙ ap (λ b. cond b 0 1) h.suits_it in
-      record {
-        ready = s.ready;
-        window = k.keeps.size ∙ s.window;
-        slots = length-set d.slots slot (filled w bytes list) ∙ s.slots;
-        put = omega arith;
-        fetched = s.fetched;
-        consumed = s.consumed;
-        posted = s.posted;
-        waiting = omega (arith, m, s.waiting);
-        unheard = rw (heard-placed d.put d.unheard s.put h.room, same-unread) (omega (arith, m, s.unheard));
-        room = omega (arith, h.room);
-        of_lane = rw same-unread s.of_lane;
-        phases = phases-kept c.window _ d.put d.consumed c.unread k.keeps s.phases;
-        carried = carried-place;
-        held = omega (arith, m, s.held, live-set d.slots slot (filled w bytes list) (omega (arith, h.within, s.slots)), h.free, new-live w bytes list h.live);
-        suited = omega (
-          arith,
-          s.suited,
-          flight-more (odd (holds (placed d w slot bytes list))),
-          bare-odd d c slot (filled w bytes list) (bare d c slot s h.free),
-          new,
-        );
-      }
+      let window = k.keeps.size ∙ s.window in
+      let slots = length-set d.slots slot (filled w bytes list) ∙ s.slots in
+      let unheard : steps (heard (placed d w slot bytes list)) (unread (placed d w slot bytes list) (placed_state d c x)) + since (placed d w slot bytes list) (placed_state d c x) + in_flight (placed d w slot bytes list) (placed_state d c x) ≡ d.unheard + 1 =
+      rw (heard-placed d.put d.unheard s.put h.room, same-unread) (omega (arith, m, s.unheard)) in
+      let of_lane : AllByRecursion (IsOf (queue_id c.lane)) (unread (placed d w slot bytes list) (placed_state d c x)) = rw same-unread s.of_lane in
+      let phases = phases-kept c.window _ d.put d.consumed c.unread k.keeps s.phases in
+      let held : length c.taken + in_flight (placed d w slot bytes list) (placed_state d c x) + c.unread ≡ total live_in (slice_set d.slots slot (filled w bytes list)) =
+      omega (arith, m, s.held, live-set d.slots slot (filled w bytes list) (omega (arith, h.within, s.slots)), h.free, new-live w bytes list h.live) in
+      let suited : Suited (placed d w slot bytes list) (placed_state d c x) =
+      omega (arith, s.suited, flight-more (odd (holds (placed d w slot bytes list))), bare-odd d c slot (filled w bytes list) (bare d c slot s h.free), new) in
+      search (arith, phases, carried-place, m, h.room)
 
   pub place-holds : (first : ℕ) → Holds first d c → d.up ≡ true → Holds first (placed d w slot bytes list) (placed_state d c x)
   place-holds first s u =

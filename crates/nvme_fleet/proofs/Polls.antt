@@ -8,14 +8,11 @@ use Rattle.nvme_fleet.proofs.Phases.{first-phase, phases-consumed}
 abbrev rest-of : Host → State → List Completion
 rest-of d c = completions c.window ((d.consumed + 1) % 64) (c.unread - 1)
 
--- what the phase of the first completion tells
-tag-tells : (new b x : Bool) → x ≡ cond new b (not b) → cond x b (not b) ≡ new
-tag-tells new b x e = grind (arith, common_steps, e)
-
 next-is : (d : Host) (c : State) (new : Bool) → Running d c → nat_lt 0 c.unread ≡ new → next_completion d c.window ≡ cond new (Some (front d c)) None
 next-is d c new s e =
     let h = first-phase c.window d.consumed c.unread s.phases ∙ ap (λ b. cond b (phase_of d.consumed) (not (phase_of d.consumed))) e in
-    ap (λ b. cond b (Some (front d c)) None) (tag-tells new (phase_of d.consumed) (front d c).phase h)
+    let tells : cond (front d c).phase (phase_of d.consumed) (not (phase_of d.consumed)) ≡ new = grind (arith, common_steps, h) in
+    ap (λ b. cond b (Some (front d c)) None) tells
 
 pub next-none : (d : Host) (c : State) → Running d c → c.unread ≡ 0 → next_completion d c.window ≡ None
 next-none d c s z = next-is d c false s (le-ltb 0 c.unread (omega (arith, z)))

@@ -22,21 +22,15 @@ slot-abort (x ∷ xs) (suc k) = slot-abort xs k
 -- a lane that was reset rests
 pub reset-holds : (first : ℕ) (d : Host) (c : State) → Holds first d c → Holds d.next (reset d) (off c)
 reset-holds first d c s =
+    let whole = whole-of first d c s in
+    let slots = length-map d.slots abort_slot ∙ whole.slots in
+    let idle : (k : ℕ) → live_slot (map abort_slot d.slots) k ≡ 0 = λ k. rw (slot-abort d.slots k) (abort-idle (slot_at d.slots k).waiting) in
     record {
       failed = refl;
       begun = omega arith;
       ages = λ k. rw (slot-abort d.slots k) (abort-age first d.next (slot_at d.slots k).waiting (s.ages k));
       up = λ u. absurd (no-way false refl u);
-      down =
-          λ u. record {
-            window = (whole-of first d c s).window;
-            slots = length-map d.slots abort_slot ∙ (whole-of first d c s).slots;
-            put = refl;
-            unheard = refl;
-            consumed = refl;
-            off = refl;
-            idle = λ k. rw (slot-abort d.slots k) (abort-idle (slot_at d.slots k).waiting);
-          };
+      down = λ u. search (whole.window, idle);
     }
 
 pub reset-box : (d : Host) (c : State) → box (reset d) (off c) ≡ record { placed = []; rung = []; posted = []; unheard = 0; since = 0 }

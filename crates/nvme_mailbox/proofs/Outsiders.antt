@@ -59,9 +59,7 @@ unregister-out r by ignores key host h =
     either (KeepsOut host) (is_registered r.registrants by && (ignores || is_registered_with r.registrants by key)) _ _ (filtered-out (λ x. not (x.host == by)) r.registrants host h) tt
 
 acquire-out : (r : Reservation) (by type key host : ℕ) → IsOut host r → KeepsOut host (resv.acquire r by type key)
-acquire-out r by type key host h =
-    either (KeepsOut host) (not (is_registered_with r.registrants by key)) _ _ tt
-    (either (KeepsOut host) (is_free r.hold) _ _ h (either (KeepsOut host) (is_of_type r.hold type && is_holder r by) _ _ h tt))
+acquire-out r by type key host h = grind (arith, common_steps, h)
 
 preempt-out : (r : Reservation) (by type key victim host : ℕ) → IsOut host r → KeepsOut host (resv.preempt r by type key victim)
 preempt-out r by type key victim host h =
@@ -71,9 +69,7 @@ preempt-out r by type key victim host h =
     (either (KeepsOut host) (is_holders_key r victim) _ _ (gone _) (either (KeepsOut host) (is_key_in_use r.registrants victim) _ _ (gone _) tt)))
 
 release-out : (r : Reservation) (by type key host : ℕ) → IsOut host r → KeepsOut host (resv.release r by type key)
-release-out r by type key host h =
-    either (KeepsOut host) (not (is_registered_with r.registrants by key)) _ _ tt
-    (either (KeepsOut host) (not (is_holder r by)) _ _ h (either (KeepsOut host) (is_of_type r.hold type) _ _ h tt))
+release-out r by type key host h = grind (arith, common_steps, h)
 
 clear-out : (r : Reservation) (by key host : ℕ) → KeepsOut host (resv.clear r by key)
 clear-out r by key host = either (KeepsOut host) (is_registered_with r.registrants by key) _ _ refl tt

@@ -78,14 +78,12 @@ tickets_are_consecutive tells old new events replies run k m n at end = walk k m
 below-small : (t a : ℕ) → below t a ≤ 1
 below-small t a = grind (arith, common_steps)
 
-next-below : (t a : ℕ) → is_ticket t a + below t a ≡ below t (a + 1)
-next-below t a = grind (arith, common_steps)
-
 times-counting : (t a c : ℕ) → times t (counting a c) + below t a ≡ below t (a + c)
 times-counting t a zero = let g : a ≡ a + zero = omega arith in omega (arith, ap (below t) g)
 times-counting t a (suc c) =
     let g : a + 1 + c ≡ a + suc c = omega arith in
-    omega (arith, times-counting t (a + 1) c, next-below t a, ap (below t) g)
+    let next : is_ticket t a + below t a ≡ below t (a + 1) = grind (arith, common_steps) in
+    omega (arith, times-counting t (a + 1) c, next, ap (below t) g)
 
 -- what is held and what was given, of one ticket, is at most what was given at all
 held-after : (t : ℕ) (m n : Mailbox) (given executed done aborted : List ℕ) → Balance (is_ticket t) m n given executed done aborted → Gives m n given → times t (held_tickets m) ≤ below t m.next
