@@ -1,5 +1,5 @@
 -- An admin command is judged as its request, and what it is answered is what its request is answered.
-use Rattle.nvme_fleet.proofs.Words.{◌≡◌, ℕ, ◌^◌, ◌<◌, ◌≤◌, Bool, List, [], ◌∷◌, ◌++◌, length, take, Some, Ok, Err, refl, sym, ap, subst, ◌∙◌, arith, slice_get, take_all, cid, opcode, AdminCommand, Queues, Keep, Device, World, Judgement, judgement_by, first_failing, pointer_rule, data_in, data_addresses, with_scattered, with_bytes, admin_execution, execution_by, performance, data_out, scene, no_marks, Fits, JudgementRefuses, admin_execution_fits, Admin, data_area, Driver, Asked, FetchedCommand, CommandExecution, admin_command_execution, Controller, queues_of, FetchedItem, lane_of, Site, RequestExecution, command_entry, queue_pairs, admin_judgement, admin_served, admin_request_execution_by, admin_request_execution, RequestComesToAs, RequestComesTo, Sound, mailbox, lane_of_queue, IsAnsweredInItsSlot, AdminJudgedAsItsRequest, AdminAnswersItsRequest, request_execution_with, entry_length, ◌⊎◌, ◌==◌, true, false, ◌||◌, Option, None, inl, inr, and_parts, eqb-true, if◌then◌else◌, nsid, cdw10, Open, Namespace, namespace_of, opcode_of, state_of, fid, number_of_queues, write_protection, protection_value, double_word_0, queue_change, Slot, asked_in, is_plain, is_plain_in, lane_in, form_rule, cns, sv, nsqr, ncqr, wps, exhid, sel, ◌+◌, ◌*◌, nat_lt, ◌&&◌, filter, length-append, length-replicate, flat_map, AllByRecursion, range_with_len, is_attached, namespace_structure, controller_structure, identify_data, common_steps}
+use Rattle.nvme_fleet.proofs.Words.{◌≡◌, ℕ, ◌^◌, ◌<◌, ◌≤◌, Bool, List, [], ◌∷◌, ◌++◌, length, take, Some, Ok, Err, refl, sym, ap, subst, ◌∙◌, arith, slice_get, take_all, cid, opcode, AdminCommand, Queues, Keep, Device, World, Judgement, judgement_by, first_failing, pointer_rule, data_in, data_addresses, with_scattered, with_bytes, admin_execution, execution_by, performance, data_out, scene, no_marks, Fits, JudgementRefuses, admin_execution_fits, Admin, data_area, Driver, Asked, FetchedCommand, CommandExecution, admin_command_execution, Controller, queues_of, FetchedItem, lane_of, Site, RequestExecution, command_entry, queue_pairs, admin_judgement, admin_served, admin_request_execution_by, admin_request_execution, RequestComesToAs, RequestComesTo, Sound, mailbox, lane_of_queue, IsAnsweredInItsSlot, AdminJudgedAsItsRequest, AdminAnswersItsRequest, request_execution_with, entry_length, ◌⊎◌, ◌==◌, true, false, ◌||◌, Option, None, inl, inr, and_parts, eqb-true, if◌then◌else◌, nsid, Open, Namespace, namespace_of, opcode_of, state_of, fid, number_of_queues, write_protection, protection_value, double_word_0, queue_change, Slot, asked_in, is_plain, is_plain_in, lane_in, form_rule, cns, sv, nsqr, ncqr, wps, exhid, sel, ◌+◌, ◌*◌, nat_lt, ◌&&◌, filter, length-append, length-replicate, flat_map, AllByRecursion, range_with_len, is_attached, namespace_structure, controller_structure, identify_data, common_steps}
 use Rattle.nvme_spec.specs.AdminCommands.{command_of, data_length, data_length_of}
 use Rattle.nvme_spec.specs.AdminRules as rules
 use Rattle.nvme_spec.specs.Statuses as status
@@ -8,7 +8,6 @@ use Rattle.nvme_fleet.proofs.Windows.{stored-none}
 use Rattle.nvme_fleet.proofs.HeldStep.{IsHeld, held-known, pointer-passes, without-pointer, data-same, asked-at, lane-at, SameFields}
 use Rattle.nvme_fleet.proofs.AnswerStep.{unsuccessful, denied-with}
 use Rattle.nvme_fleet.proofs.PostStep.{up-of, slot_seen}
-use Rattle.nvme_wire.specs.Entry.{bits}
 use Rattle.nvme_spec.specs.declared.access.Protection.{Protection}
 use Rattle.nvme_spec.specs.declared.command.AdminCommand.TheVariants as admin
 use Rattle.nvme_spec.specs.AdminEffects.{world_after}

@@ -1,6 +1,6 @@
 -- Bytes of namespaces change only by executions, which are one event of the subsystem each; and windows of other hosts
 -- stay over every event.
-use Rattle.nvme_fleet.proofs.Words.{fault_free_step, ◌≡◌, ◌≢◌, ◌⊎◌, inl, inr, ℕ, Bool, true, false, List, [], ◌∷◌, ◌++◌, Option, None, Some, Result, Ok, Err, refl, sym, ap, subst, ◌∙◌, option_map, AllByRecursion, Device, IsLaidOut, bytes_of, may_write, World, UpFault, Call, Turns, Driver, stores_of, Rises, IsMapped, rises-mapped, Event, Seen, Cycled, Controller, with_marks, Subsystem, controller_at, FleetEvent, BringUp, Place, Ring, Fetch, Execute, Poll, Reset, RawStore, RawWrite32, PowerCycle, FleetSeen, OfItsHost, Reply, DriverCall, FencedEventsWriteNothing, LayoutStays, OthersWindowsStay, RunsOfMailboxes, is_laid_out, namespace_bytes, CallStep, Does, DoesIfAny, events_of, events_of_calls, reset_events, ring_events, window_at, window_of, Site, Fleet, Is, Moment, Layers, fleet_in, Applies, AppliesRaw, CallsAt, Cycles, driver_at, polled, all-joined}
+use Rattle.nvme_fleet.proofs.Words.{fault_free_step, ◌≡◌, ◌≢◌, ◌⊎◌, inl, inr, ℕ, Bool, true, false, List, [], ◌∷◌, Option, None, Some, Result, Ok, Err, refl, sym, ap, subst, ◌∙◌, option_map, AllByRecursion, Device, IsLaidOut, bytes_of, may_write, World, UpFault, Call, Turns, Driver, stores_of, Rises, IsMapped, rises-mapped, Event, Seen, Cycled, Controller, with_marks, Subsystem, controller_at, FleetEvent, BringUp, Place, Ring, Fetch, Execute, Poll, Reset, RawStore, RawWrite32, PowerCycle, FleetSeen, OfItsHost, Reply, DriverCall, FencedEventsWriteNothing, LayoutStays, OthersWindowsStay, RunsOfMailboxes, is_laid_out, namespace_bytes, CallStep, Does, DoesIfAny, events_of, events_of_calls, reset_events, ring_events, window_at, window_of, Site, Fleet, Is, Moment, Layers, fleet_in, AppliesRaw, CallsAt, driver_at, polled, all-joined}
 use Rattle.nvme_machine.specs.declared.event.Event.TheVariants as event
 use Rattle.nvme_machine.specs.Controllers.{power_cycled}
 use Rattle.nvme_machine.specs.Runs.{IsMarkedBy}

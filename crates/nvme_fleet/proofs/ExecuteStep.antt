@@ -1,5 +1,5 @@
 -- An execution of a command of either lane is the step of the mailbox.
-use Rattle.nvme_fleet.proofs.Words.{same_Some, ◌≡◌, ℕ, ◌^◌, ◌<◌, ◌==◌, Bool, List, Some, refl, sym, ap, subst, ◌∙◌, arith, slice_get, FitsCompletion, Outcome, Verdict, Allowed, Denied, Keep, admin_execution, Scene, ExecutesBy, Fits, execution_fits, Lane, Admin, Io, queue_id, Driver, FetchedCommand, Executed, Controller, QueuePair, open_pair, queues_of, CommandExecution, admin_command_execution, CommandComesToAs, CommandComesTo, IoCommandComesTo, Setting, ExecutesNth, Finishes, FinishesOver, FinishesOne, scene_in, FetchedItem, RequestComesTo, Sound, mailbox, lane_of_queue, IsAnsweredInItsSlot, IsExecuted, request_execution_with, IoExecutionIsAStep, AdminExecutionIsAStep, ExecutionIsAStep, None, plain, Fleet, WithDriver, Completes, ExecutesItem, ExecutesAt, settled, site_of, setting_of, marks_in, ExecutionIsAFleetStep, NoExecutionIsAFleetStep, common_steps}
+use Rattle.nvme_fleet.proofs.Words.{same_Some, ◌≡◌, ℕ, ◌^◌, ◌<◌, ◌==◌, Bool, List, Some, refl, sym, ap, subst, ◌∙◌, arith, slice_get, FitsCompletion, Outcome, Verdict, Allowed, Denied, Keep, Scene, ExecutesBy, Fits, execution_fits, Lane, Admin, Io, queue_id, Driver, FetchedCommand, Executed, Controller, QueuePair, open_pair, queues_of, CommandExecution, CommandComesToAs, CommandComesTo, Setting, ExecutesNth, Finishes, FinishesOver, FinishesOne, scene_in, FetchedItem, RequestComesTo, Sound, mailbox, lane_of_queue, IsAnsweredInItsSlot, IsExecuted, request_execution_with, IoExecutionIsAStep, AdminExecutionIsAStep, ExecutionIsAStep, None, plain, Fleet, WithDriver, Completes, ExecutesItem, ExecutesAt, settled, site_of, setting_of, marks_in, ExecutionIsAFleetStep, NoExecutionIsAFleetStep, common_steps}
 use Rattle.nvme_fleet.proofs.OneLane.{running}
 use Rattle.nvme_spec.specs.IoData as spec
 use Rattle.nvme_fleet.proofs.PostStep.{known, open-is, pair_in, fields_of, item_at, found-at, posting_has_room, posting_is_a_step, nothing_to_execute}

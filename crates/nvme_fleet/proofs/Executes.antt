@@ -1,5 +1,5 @@
 -- An execution in one lane: a request goes from those that were fetched to the answers that were posted.
-use Rattle.nvme_fleet.proofs.Words.{◌≡◌, ℕ, ◌+◌, ◌-◌, ◌%◌, ◌<◌, ◌≤◌, List, [], ◌∷◌, ◌++◌, length, map, refl, ap, sym, ◌∙◌, arith, true, cond, Bool, Some, take, slice_get, take-take, length-set, length-remove, slice_get_within, cid, Completion, completion_of, queue_id, answer_len, PostedAnswer, Effect, State, Slot, finished, finished_bytes, executed, executed_state, completion_bytes, ticket_in, received_in, IsOf, all-joined, in_flight, commands, completions, item, answer, box, Running, Holds, last_head, heard, unread, since, steps, commands_of, answers_of, live_at, slot_at, answers, holds, total, odd, suits, bears, replies, Carried, Host, eq-eqb, common_steps, AllByRecursion, Suited, live_in}
+use Rattle.nvme_fleet.proofs.Words.{◌≡◌, ℕ, ◌+◌, ◌-◌, ◌%◌, ◌<◌, ◌≤◌, List, [], ◌∷◌, ◌++◌, length, map, refl, ap, sym, ◌∙◌, arith, true, cond, Some, take, slice_get, take-take, length-set, length-remove, slice_get_within, cid, Completion, completion_of, queue_id, answer_len, PostedAnswer, Effect, State, Slot, finished, finished_bytes, executed, executed_state, completion_bytes, ticket_in, received_in, IsOf, all-joined, in_flight, commands, completions, item, answer, box, Running, Holds, last_head, heard, unread, since, steps, commands_of, answers_of, live_at, slot_at, answers, holds, total, odd, suits, bears, replies, Carried, Host, eq-eqb, common_steps, AllByRecursion, Suited, live_in}
 use Rattle.std.proofs.Common.{remove}
 use Rattle.nvme_mailbox.proofs.Totals.{total-append, total-removed}
 use Rattle.nvme_fleet.proofs.Slots.{few, bare-box, bare-odd, live-within, live-small, live-set, slot-same, each-all}

@@ -1,5 +1,5 @@
 -- An opened fleet keeps what a fleet keeps, and is the fleet that its configuration opens as.
-use Rattle.nvme_fleet.proofs.Words.{◌≡◌, ℕ, zero, suc, ◌∷◌, ◌∙◌, Bool, true, false, List, [], length, map, Option, None, Some, refl, sym, ap, subst, arith, slice_get, replicate, if◌then◌else◌, length-map, length-replicate, same_Some, most_bytes, ControllerConfig, Device, Configuration, World, opening_world, Driver, new_driver, Controller, new_controller, Subsystem, new_mailbox, WithDriver, Raw, new_host, opening, FleetState, SoundBy, IsSoundFleet, host_by, hosts_of, opening_driver, fleet_in, fleet_of, Fleet, ◌≤◌, drop, length-drop, length-take-le, window_size, Lane, Admin, Io, Ends, ends, waiting_at, empty, slot_at, live_in, received_in, AgeIn, Resting, Holds, Both, submission_queue, pages_of, slots_in, host, state, IsOff, EndsFit, OpeningIsSound}
+use Rattle.nvme_fleet.proofs.Words.{◌≡◌, ℕ, zero, suc, ◌∷◌, ◌∙◌, Bool, true, false, List, [], length, map, Option, None, Some, refl, sym, ap, subst, arith, slice_get, replicate, if◌then◌else◌, length-map, length-replicate, same_Some, most_bytes, ControllerConfig, Device, Configuration, opening_world, Driver, new_driver, Controller, new_controller, Subsystem, new_mailbox, WithDriver, Raw, new_host, opening, SoundBy, IsSoundFleet, host_by, hosts_of, opening_driver, fleet_in, fleet_of, Fleet, ◌≤◌, drop, length-drop, length-take-le, window_size, Lane, Admin, Io, Ends, ends, waiting_at, empty, slot_at, live_in, received_in, AgeIn, Resting, Holds, submission_queue, pages_of, slots_in, host, state, IsOff, EndsFit, OpeningIsSound}
 use Rattle.nvme_machine.specs.Subsystems as machine
 use Rattle.nvme_spec.specs.Memory.{zeros}
 use Rattle.nvme_machine.proofs.Windows.{length-zeros}

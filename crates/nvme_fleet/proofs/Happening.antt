@@ -1,5 +1,5 @@
 -- What each event leaves of both layers of a fleet.
-use Rattle.nvme_fleet.proofs.Words.{AppliesRaw, Bool, CallsAt, Controller, DoesIfAny, Driver, DriverCall, Event, Executed, ExecutesItem, ExecutesOne, FetchedCommand, Fleet, FleetSeen, FleetState, Idle, IfNone, IfSome, Is, IsCalled, IsOfHost, IsSome, IsSoundFleet, IsThere, KeepsOthers, List, NoSuch, None, Option, Raw, Reaction, ReactsAs, Reply, Seen, Setting, Some, SoundBy, Store, SubmissionQueue, Subsystem, Took, WithDriver, Write32, [], after_fetch, after_store, after_write32, ap, arith, at-place, called, controller_at, controller_in, controller_of, data_len, driver_at, executed-back, false, fetchable, fetched_at, fetched_from, fleet_in, fleet_of, get_or, host_at, host_by, hosts_of, if◌then◌else◌, is_some, layers_of, length, mailbox, marks_after, marks_in, nat_le, none-some, plain, raw_fetch, raw_moment, reaction, reaction_to, refl, reply_in, same_Some, setting_of, settled, site_of, slice_get, slice_get_read, slice_get_within, slice_set, stored_seen, subst, suc, sym, told, true, window_size, with_bytes, with_driver, with_host, wrote, zero, ℕ, ◌+◌, ◌-◌, ◌<◌, ◌∙◌, ◌∷◌, ◌≡◌, ◌≤◌, drop, refill-all, take, ◌++◌, new_controller, Layers, common_steps}
+use Rattle.nvme_fleet.proofs.Words.{AppliesRaw, Bool, CallsAt, Controller, DoesIfAny, Driver, DriverCall, Event, Executed, ExecutesItem, ExecutesOne, FetchedCommand, Fleet, FleetSeen, FleetState, IfNone, IfSome, Is, IsCalled, IsOfHost, IsSome, IsSoundFleet, IsThere, KeepsOthers, List, NoSuch, None, Option, Raw, Reaction, ReactsAs, Reply, Seen, Setting, Some, SoundBy, Store, Subsystem, WithDriver, Write32, [], after_fetch, after_store, after_write32, ap, arith, at-place, called, controller_at, controller_in, controller_of, data_len, driver_at, executed-back, false, fetched_at, fleet_in, fleet_of, get_or, host_at, host_by, hosts_of, is_some, layers_of, length, mailbox, marks_after, marks_in, none-some, plain, raw_fetch, raw_moment, reaction_to, refl, reply_in, same_Some, setting_of, settled, site_of, slice_get, slice_get_read, slice_get_within, slice_set, stored_seen, subst, suc, sym, told, true, with_driver, with_host, wrote, zero, ℕ, ◌+◌, ◌-◌, ◌<◌, ◌∙◌, ◌∷◌, ◌≡◌, ◌≤◌, drop, refill-all, take, ◌++◌, new_controller, Layers, common_steps}
 use Rattle.nvme_machine.specs.declared.seen.Seen.TheVariants as given
 use Rattle.nvme_machine.specs.Subsystems.{Step, ExecutesAt, with_controller}
 use Rattle.nvme_subsys.proofs.Numbers as numbers

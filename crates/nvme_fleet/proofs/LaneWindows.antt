@@ -1,5 +1,5 @@
 -- Windows that differ in one slot or in the queue pages of one lane, and stores that leave such windows.
-use Rattle.nvme_fleet.proofs.Words.{list_page, data_area, ◌≡◌, ℕ, ◌+◌, ◌*◌, ◌<◌, ◌≤◌, List, length, refl, ap, ◌∙◌, arith, true, false, cond, eqb, take, drop, ◌⊎◌, inl, inr, take-take, cases_lt, eqb-false, most_bytes, with_bytes, Lane, Admin, Io, same, other, submission_queue, pages_of, area, listed, common_steps}
+use Rattle.nvme_fleet.proofs.Words.{list_page, data_area, ◌≡◌, ℕ, ◌+◌, ◌<◌, ◌≤◌, List, length, refl, ap, ◌∙◌, arith, true, false, cond, eqb, take, drop, take-take, eqb-false, most_bytes, with_bytes, Lane, Admin, Io, same, other, submission_queue, pages_of, area, listed, common_steps}
 use Rattle.nvme_fleet.proofs.Windows.{stored-apart, stored-in}
 use Rattle.std.proofs.Common.{rules}
 use Rattle.std.proofs.lemmas.List.{places, same_lists}

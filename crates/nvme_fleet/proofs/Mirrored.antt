@@ -1,6 +1,6 @@
 -- What calls of a driver make of a subsystem, they make of it over another medium: events that execute nothing do not
 -- look at it, and a driver that comes up has admin commands alone executed.
-use Rattle.nvme_fleet.proofs.Words.{◌≡◌, ◌⊎◌, inl, inr, ℕ, ◌+◌, ◌==◌, length, Bool, true, false, List, [], ◌∷◌, Option, None, Some, Result, refl, sym, ap, subst, ◌∙◌, slice_get, if◌then◌else◌, nat_le, none-some, same_Some, RegEffect, Nothing, Enable, Disable, Off, AdminQueues, Queues, Scene, Registers, Written, Device, with_bytes, no_marks, window_size, UpFault, Call, Stores, Writes, Reads, Turns, Calls, Driver, CreatesBoth, Rises, acq_high, acq_low, aqa, asq_high, asq_low, csts, enabling, is_ready, start_calls, started, IsMapped, both-mapped, Event, FetchedCommand, Seen, CommandComesTo, CommandComesToAs, CommandExecution, Controller, QueuePair, Reaction, after_posting, after_store, after_write32, has_read, open_pair, queues_of, reaction, taking_effect, with_admin_queues, over, ExecutesOne, ExecutesOver, ReactsAs, Subsystem, after_completion, after_power_cycle, controller_at, scene_of, unmarked, command_execution_over, scene_over, CallStep, events_of, window_at, after_call}
+use Rattle.nvme_fleet.proofs.Words.{◌≡◌, ◌⊎◌, inl, inr, ℕ, ◌+◌, ◌==◌, length, Bool, true, false, List, [], ◌∷◌, Option, None, Some, Result, refl, sym, ap, subst, ◌∙◌, slice_get, if◌then◌else◌, nat_le, none-some, same_Some, RegEffect, Nothing, Enable, Disable, Off, AdminQueues, Queues, Scene, Registers, Written, Device, with_bytes, window_size, UpFault, Call, Stores, Writes, Reads, Turns, Calls, Driver, CreatesBoth, Rises, acq_high, acq_low, aqa, asq_high, asq_low, csts, enabling, is_ready, start_calls, started, IsMapped, both-mapped, Event, FetchedCommand, Seen, CommandComesTo, CommandComesToAs, CommandExecution, Controller, QueuePair, Reaction, after_posting, after_store, after_write32, has_read, open_pair, queues_of, reaction, taking_effect, with_admin_queues, over, ExecutesOne, ExecutesOver, ReactsAs, Subsystem, after_completion, after_power_cycle, controller_at, scene_of, unmarked, command_execution_over, scene_over, CallStep, events_of, window_at, after_call}
 use Rattle.nvme_mailbox.proofs.Lists.{all-get, all-removed}
 use Rattle.nvme_spec.specs.declared.registers.ControllerState.TheVariants.{Failed}
 use Rattle.nvme_spec.specs.Registers as register

@@ -1,9 +1,9 @@
 -- A call at one lane of a driver and its controller: from what becomes of that lane, what holds of both, and the mailbox.
-use Rattle.nvme_fleet.proofs.Words.{◌≡◌, ℕ, zero, suc, ◌≤◌, true, List, [], ◌∷◌, length, map, Option, refl, sym, ap, ◌∙◌, arith, slice_set, Waiting, waiting_at, most_bytes, Lane, Admin, Io, Driver, Ends, ends, with_ends, is_up, FetchedCommand, Controller, FetchedItem, box_at, with_box, Host, State, Slot, box, slot_at, holds, commands_of, received_in, Running, Holds, Both, other, host, state, slots_in, commands_in, fetched_by, held_by, in_order, aborted_number, Sound, EndsFit, IsPaired, mailbox, cid, ◌+◌, ◌<◌, false, cond, eqb, Some, None, inl, inr, cases_Bool, ne_eqb, empty, live_in, live_waiting, item, same, lane_of_queue, whole, slot_in, common_steps, item_in}
+use Rattle.nvme_fleet.proofs.Words.{◌≡◌, ℕ, zero, suc, ◌≤◌, true, List, [], ◌∷◌, length, map, Option, refl, sym, ap, ◌∙◌, arith, slice_set, Waiting, waiting_at, most_bytes, Lane, Admin, Io, Driver, Ends, ends, with_ends, is_up, FetchedCommand, Controller, FetchedItem, box_at, with_box, Host, State, Slot, box, slot_at, holds, commands_of, received_in, Running, Holds, Both, other, host, state, slots_in, commands_in, fetched_by, held_by, in_order, aborted_number, Sound, EndsFit, IsPaired, mailbox, cid, ◌+◌, ◌<◌, false, cond, eqb, Some, None, inl, inr, cases_Bool, ne_eqb, empty, live_in, live_waiting, same, lane_of_queue, whole, slot_in, common_steps, item_in}
 use Rattle.nvme_fleet.proofs.Slots.{Apart, apart-set, cond-zero}
 use Rattle.nvme_fleet.proofs.Fetches.{still-running}
 use Rattle.nvme_fleet.proofs.Places.{age-later, no-way}
-use Rattle.nvme_fleet.proofs.LaneWindows.{each-lane, Same, same-self, same-other}
+use Rattle.nvme_fleet.proofs.LaneWindows.{each-lane, Same, same-other}
 use Rattle.std.specs.Option.{option_flatten}
 use Rattle.std.proofs.lemmas.Option.{slice_get-get_or}
 use Rattle.nvme_mailbox.proofs.Lists.{got-back}

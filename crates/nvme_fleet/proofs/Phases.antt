@@ -1,6 +1,6 @@
 -- The phase tags of a completion queue: what a new submission entry, a new completion and a completion that is consumed
 -- make of them.
-use Rattle.nvme_fleet.proofs.Words.{◌≡◌, ℕ, ◌+◌, ◌-◌, ◌%◌, ◌<◌, List, refl, ap, sym, ◌∙◌, arith, true, false, not, cond, Bool, inl, inr, lt-ltb, le-ltb, cases_lt, cases_eq, ne_eqb, common_steps, nat_lt, completion_of, completion_bytes, phase_of, Phases, ◌*◌, ◌≤◌, length, zero, suc, eqb, take, drop, ◌⊎◌, subst, eqb-false, with_bytes, command_at, commands, completions}
+use Rattle.nvme_fleet.proofs.Words.{◌≡◌, ℕ, ◌+◌, ◌-◌, ◌%◌, ◌<◌, List, refl, ap, sym, ◌∙◌, arith, true, false, not, cond, Bool, inl, inr, lt-ltb, le-ltb, cases_lt, cases_eq, ne_eqb, common_steps, nat_lt, completion_of, completion_bytes, phase_of, Phases, ◌*◌, ◌≤◌, length, zero, suc, eqb, take, drop, subst, eqb-false, with_bytes, command_at, commands, completions}
 use Rattle.nvme_fleet.proofs.Queues.{same-entry, same-turn}
 use Rattle.nvme_fleet.proofs.Windows.{stored-apart, stored-in}
 use Rattle.nvme_spec.proofs.Splices.{length-with_bytes}

@@ -1,5 +1,5 @@
 -- A placing is a step of the mailbox: the lane of the request takes it, and the other lane sees the next ticket alone.
-use Rattle.nvme_fleet.proofs.Words.{◌≡◌, ℕ, zero, suc, ◌+◌, ◌-◌, ◌*◌, ◌%◌, ◌<◌, ◌≤◌, ◌==◌, nat_lt, Bool, true, false, not, ◌&&◌, cond, List, [], ◌∷◌, length, take, Option, None, Some, refl, sym, ap, subst, ◌∙◌, arith, le-leb, bytes_eq-Decides, bytes_eq, slice_set, length-set, if◌then◌else◌, nat_le, SqeFields, submission_entry, submission_of, cid, with_bytes, most_bytes, Lane, Waiting, Request, PlaceRefusal, NotReady, BadRequest, NoSlot, RingFull, TicketsExhausted, list_page, data_area, submission_queue, stored_list, Asked, asked_of, is_bad, Driver, is_up, ends, entry_of, entry_fields, entry_length, free_slot, place_refusal, put_ends, ticket_count, stores_of, waiting_of, waiting_at, length-stored_list, entries_move_their_data, Controller, after_store, LaneBox, box_at, with_box, MailboxReaction, refusal, placed_by, new_item, with_placed, Host, State, Slot, empty, box, live_in, live_at, asked_in, is_plain, suits, item_in, received_in, placed_state, Both, same, other, host, state, slot_in, slots_in, whole, area, listed, pages_of, in_order, aborted_number, ranked_too, Sound, mailbox, PlaceIsAStep, RefusalIsAStep, after_calls, common_steps, held, ranked, eqb, inl, inr, length-map, lt-ltb, le-ltb, cases_lt, position, position_or_len, is_none, Running, live_waiting, total, Admin, Io, FetchedCommand, lane_of_queue, commands_in, fetched_by, held_by, FetchedItem}
+use Rattle.nvme_fleet.proofs.Words.{◌≡◌, ℕ, zero, suc, ◌+◌, ◌-◌, ◌*◌, ◌%◌, ◌<◌, ◌≤◌, ◌==◌, nat_lt, Bool, true, false, not, ◌&&◌, cond, List, [], ◌∷◌, length, take, Option, None, Some, refl, sym, ap, subst, ◌∙◌, arith, le-leb, bytes_eq-Decides, bytes_eq, slice_set, length-set, if◌then◌else◌, nat_le, SqeFields, submission_entry, submission_of, cid, with_bytes, most_bytes, Lane, Waiting, Request, PlaceRefusal, NotReady, BadRequest, NoSlot, RingFull, TicketsExhausted, list_page, data_area, submission_queue, stored_list, Asked, asked_of, is_bad, Driver, is_up, ends, entry_of, entry_fields, entry_length, free_slot, place_refusal, put_ends, ticket_count, stores_of, waiting_of, waiting_at, length-stored_list, entries_move_their_data, Controller, after_store, LaneBox, box_at, with_box, MailboxReaction, refusal, placed_by, new_item, with_placed, Host, State, Slot, empty, box, live_in, live_at, asked_in, is_plain, suits, item_in, received_in, placed_state, Both, same, other, host, state, slot_in, slots_in, whole, area, listed, pages_of, in_order, aborted_number, ranked_too, Sound, mailbox, PlaceIsAStep, RefusalIsAStep, after_calls, common_steps, held, ranked, eqb, inl, inr, length-map, lt-ltb, le-ltb, cases_lt, position, position_or_len, is_none, Running, total, Admin, Io, FetchedCommand, commands_in, FetchedItem}
 use Rattle.nvme_driver.specs.Drivers as driver
 use Rattle.nvme_driver.specs.Drivers.{lane_of}
 use Rattle.nvme_driver.proofs.Placing.{length-entry}

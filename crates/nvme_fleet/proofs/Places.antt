@@ -4,7 +4,7 @@ use Rattle.nvme_fleet.specs.Views.{placed}
 use Rattle.nvme_mailbox.proofs.Totals.{total-append}
 use Rattle.nvme_fleet.proofs.Slots.{bare-box, bare-odd, live-set, slot-same, each-set, each-all}
 use Rattle.nvme_fleet.proofs.Phases.{phases-kept, Enters, enters, commands-kept, completions-same}
-use Rattle.nvme_fleet.proofs.Queues.{commands-append, Bare, bare-all, placed-part, rung-part, same-box, eqb-sym}
+use Rattle.nvme_fleet.proofs.Queues.{commands-append, Bare, bare-all, placed-part, same-box, eqb-sym}
 
 -- what holds where a request is placed in a slot that is not live, by this command
 pub record Places (d : Host) (c : State) (x : List ℕ) (w : Waiting) (slot : ℕ) (bytes list : List ℕ) : Type 0 where

@@ -1,5 +1,5 @@
 -- Poll in one lane: the completion at its head is the first answer that was posted, and its slot is freed.
-use Rattle.nvme_fleet.proofs.Words.{◌≡◌, ℕ, ◌+◌, ◌-◌, ◌%◌, ◌<◌, ◌≤◌, List, [], ◌∷◌, length, refl, ap, sym, subst, ◌∙◌, arith, zero, suc, true, false, not, cond, eqb, Bool, Some, None, slice_set, length-set, lt-ltb, le-ltb, common_steps, nat_lt, Completion, LaneBox, completion_of, queue_id, completion_bytes, phase_of, AllByRecursion, IsOf, State, Slot, empty, slot_at, box, answer, front, left_after, can_hear, next_completion, consumed, less, in_flight, commands, completions, Running, last_head, heard, unread, since, steps, commands_of, answers_of, live_at, live_in, answers, holds, total, Carried, AgeIn, Holds, Host, eq-eqb}
+use Rattle.nvme_fleet.proofs.Words.{◌≡◌, ℕ, ◌+◌, ◌-◌, ◌%◌, ◌<◌, List, [], ◌∷◌, length, refl, ap, sym, subst, ◌∙◌, arith, zero, suc, true, false, not, cond, eqb, Bool, Some, None, slice_set, length-set, lt-ltb, le-ltb, common_steps, nat_lt, Completion, LaneBox, completion_of, queue_id, completion_bytes, phase_of, AllByRecursion, IsOf, State, Slot, empty, slot_at, box, answer, front, left_after, can_hear, next_completion, consumed, less, in_flight, commands, completions, Running, last_head, heard, unread, since, steps, commands_of, answers_of, live_at, live_in, answers, holds, total, Carried, AgeIn, Holds, Host, eq-eqb}
 use Rattle.nvme_fleet.proofs.Queues.{same-box, eqb-sym, Bare, bare-all}
 use Rattle.nvme_fleet.proofs.Slots.{few, bare-box, bare-odd, live-small, live-within, live-set, each-set, each-all}
 use Rattle.nvme_fleet.proofs.Places.{up-holds}

@@ -1,5 +1,5 @@
 -- An answer that is posted stands at the end of its lane in the mailbox, and the other lane stays.
-use Rattle.nvme_fleet.proofs.Words.{none-some, same_Some, ◌≡◌, ℕ, ◌+◌, ◌-◌, ◌*◌, ◌%◌, ◌<◌, ◌≤◌, true, List, [], ◌∷◌, ◌++◌, cond, length, take, Some, refl, sym, ap, subst, ◌∙◌, arith, inl, inr, slice_get, slice_set, cases_Bool, lt-ltb, slice_get-map, cid, Completion, completion_entry, completion_of, FitsCompletion, completion_is_read_back, Keep, with_bytes, most_bytes, phase_tag, Lane, queue_id, submission_queue, completion_queue, data_area, Driver, is_up, waiting_at, answer_len, FetchedCommand, Controller, QueuePair, pair_with, open_pair, after_posting, after_queue_change, CommandExecution, after_completion, FetchedItem, box_at, with_box, lane_of, after_answer, with_posted, Effect, Host, State, Slot, DeviceEnds, slot_at, item_in, finished, finished_bytes, received_in, lane_in, live_in, commands_of, box, executed as executed_one, executed_state, Both, same, other, host, state, pages_of, area, listed, slots_in, commands_in, whole, held_by, fetched_by, lane_of_queue, Sound, IsPaired, IsOfLane, mailbox, submission_as, completion_as, PostingIsAStep, PostingHasRoom, NothingToExecute, request_execution_with, zero, suc, false, common_steps}
+use Rattle.nvme_fleet.proofs.Words.{none-some, same_Some, ◌≡◌, ℕ, ◌+◌, ◌-◌, ◌*◌, ◌%◌, ◌<◌, ◌≤◌, true, List, [], ◌∷◌, ◌++◌, cond, length, take, Some, refl, sym, ap, subst, ◌∙◌, arith, inl, inr, slice_get, slice_set, cases_Bool, lt-ltb, slice_get-map, cid, Completion, completion_entry, completion_of, FitsCompletion, completion_is_read_back, with_bytes, most_bytes, phase_tag, Lane, queue_id, submission_queue, completion_queue, data_area, Driver, is_up, waiting_at, answer_len, FetchedCommand, Controller, QueuePair, pair_with, open_pair, after_posting, after_queue_change, CommandExecution, after_completion, FetchedItem, box_at, with_box, lane_of, after_answer, with_posted, Effect, Host, State, Slot, DeviceEnds, slot_at, item_in, finished, finished_bytes, received_in, lane_in, live_in, commands_of, box, executed as executed_one, executed_state, Both, same, other, host, state, pages_of, area, listed, slots_in, commands_in, whole, held_by, fetched_by, lane_of_queue, Sound, IsPaired, IsOfLane, mailbox, submission_as, completion_as, PostingIsAStep, PostingHasRoom, NothingToExecute, request_execution_with, zero, suc, false, common_steps}
 use Rattle.std.proofs.Common.{remove}
 use Rattle.nvme_mailbox.proofs.Lists.{all-get, all-removed}
 use Rattle.std.specs.Option.{option_map}

@@ -1,5 +1,5 @@
 -- A power cycle is a step of each mailbox, and of the fleet.
-use Rattle.nvme_fleet.proofs.Words.{◌≡◌, ◌+◌, ◌++◌, ℕ, zero, suc, Bool, List, [], ◌∷◌, drop, length, map, refill-all, take, Option, None, Some, refl, sym, ap, subst, ◌∙◌, slice_get, option_map, length-map, same_Some, Driver, after_reset, Seen, Cycled, Wrote, NoController, Controller, after_write32, wrote, Subsystem, ReactsAs, controller_at, after_power_cycle, Ran, FleetState, IsSoundFleet, SoundBy, fleet_in, fleet_of, host_by, hosts_of, layers_of, WithDriver, Fleet, host_cycled, Cycles, resets_from, AreCycled, Sound, IsOff, mailbox, ◌<◌, Calls, reset_calls, MediumCall, OverMedium, Linked, controller_in, with_controller_at, CallOverMedium, new_controller}
+use Rattle.nvme_fleet.proofs.Words.{◌≡◌, ◌+◌, ◌++◌, ℕ, zero, suc, Bool, List, [], ◌∷◌, drop, length, map, refill-all, take, Option, None, Some, refl, sym, ap, subst, ◌∙◌, option_map, length-map, Driver, after_reset, Seen, Cycled, Wrote, NoController, Controller, after_write32, wrote, Subsystem, ReactsAs, controller_at, after_power_cycle, Ran, FleetState, IsSoundFleet, SoundBy, fleet_in, fleet_of, host_by, hosts_of, layers_of, WithDriver, Fleet, host_cycled, Cycles, resets_from, AreCycled, Sound, IsOff, mailbox, ◌<◌, Calls, reset_calls, MediumCall, OverMedium, Linked, controller_in, with_controller_at, CallOverMedium, new_controller}
 use Rattle.nvme_driver.specs.Drivers as driver
 use Rattle.nvme_machine.specs.Controllers.{power_cycled}
 use Rattle.nvme_machine.specs.Subsystems.{numbered, replaced, with_controller}

@@ -1,5 +1,5 @@
 -- Stretches of entries in the queues of a lane: joined, counted, and with the requests that they bear.
-use Rattle.nvme_fleet.proofs.Words.{◌≡◌, ℕ, ◌+◌, ◌-◌, ◌%◌, ◌<◌, List, [], ◌∷◌, ◌++◌, length, map, refl, ap, ◌∙◌, arith, zero, suc, false, eqb, take, drop, ◌*◌, nat_lt, length-map, common_steps, Completion, Item, PostedAnswer, LaneBox, completion_of, command_at, completion_bytes, phase_of, State, Slot, in_flight, commands, completions, item, answers, box, Running, holds, heard, unread, total, live_in, Host, ◌≤◌, bears, commands_of, answers_of}
+use Rattle.nvme_fleet.proofs.Words.{◌≡◌, ℕ, ◌+◌, ◌-◌, ◌%◌, ◌<◌, List, [], ◌∷◌, ◌++◌, length, refl, ap, ◌∙◌, arith, zero, suc, false, eqb, take, drop, ◌*◌, nat_lt, length-map, common_steps, Completion, Item, PostedAnswer, LaneBox, completion_of, command_at, completion_bytes, phase_of, State, Slot, in_flight, commands, completions, answers, box, Running, unread, total, live_in, Host, ◌≤◌, bears, commands_of, answers_of}
 use Rattle.nvme_mailbox.proofs.Totals.{total-append}
 
 -- a step round the ring

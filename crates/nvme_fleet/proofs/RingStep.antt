@@ -1,5 +1,5 @@
 -- A ring is a step of the mailbox: of one lane, and then of the other.
-use Rattle.nvme_fleet.proofs.Words.{◌≡◌, ℕ, ◌+◌, ◌-◌, ◌%◌, ◌^◌, ◌<◌, true, Bool, [], ◌∷◌, Some, refl, sym, ap, subst, ◌∙◌, arith, inl, inr, cases_Bool, lt-ltb, slice_set, option_map, if◌then◌else◌, Ok, Err, Lane, Admin, Io, queue_id, tail_doorbell, Driver, is_up, ends, tail_of, Writes, Controller, with_tail, submission_at, after_write32, Rung, Mailbox, mailbox_reaction, box_at, with_box, ring_lane, in_flight, DeviceEnds, Both, host, state, Sound, submission_as, mailbox, IsStep, RingIsAStep, after_calls, rung_reply}
+use Rattle.nvme_fleet.proofs.Words.{◌≡◌, ℕ, ◌+◌, ◌-◌, ◌%◌, true, Bool, [], ◌∷◌, Some, refl, sym, ap, subst, ◌∙◌, arith, inl, inr, cases_Bool, lt-ltb, slice_set, option_map, if◌then◌else◌, Ok, Err, Lane, Admin, Io, queue_id, tail_doorbell, Driver, is_up, ends, tail_of, Writes, Controller, with_tail, submission_at, after_write32, Rung, Mailbox, mailbox_reaction, box_at, with_box, ring_lane, in_flight, DeviceEnds, Both, host, state, Sound, submission_as, mailbox, IsStep, RingIsAStep, after_calls, rung_reply}
 use Rattle.nvme_fleet.specs.Views.{rung as rung_state}
 use Rattle.nvme_fleet.proofs.Fetches.{ring-box, ring-running, same-up}
 use Rattle.nvme_fleet.proofs.Registering.{tail-written}

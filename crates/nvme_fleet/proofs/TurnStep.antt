@@ -1,6 +1,6 @@
 -- A driver's own command, at a controller that it is bringing up: put and rung, fetched and executed in one turn, found and
 -- heard.
-use Rattle.nvme_fleet.proofs.Words.{◌≡◌, ℕ, ◌+◌, ◌*◌, ◌%◌, ◌/◌, ◌^◌, ◌<◌, ◌≤◌, Bool, true, false, List, [], ◌∷◌, length, Option, None, Some, refl, sym, ap, subst, ◌∙◌, arith, slice_range, MatchOption, if◌then◌else◌, eq-eqb, SqeFields, Status, submission_entry, cid as command_cid, Completion, completion_entry, FitsCompletion, sq_head, sq_id, phase, status, completion_is_read_back, QueueChange, with_bytes, Device, World, phase_tag, slot_of, after_tail_doorbell, after_head_doorbell, Scene, admin_execution, Admin, Call, Stores, Writes, Turns, Awaits, command_place, tail_doorbell, head_doorbell, Ends, Driver, put_ends, tail_of, consumed_ends, next_entry, is_new, sent, send_calls, heard_calls, own_answer, own_of, answers_own, Creates, Hears, FetchedCommand, Controller, SubmissionQueue, CompletionQueue, QueuePair, queues_of, after_write32, after_fetch, fetchable, open_pair, after_posting, after_queue_change, CommandExecution, CommandComesTo, admin_command_execution, after_completion, Setting, setting, part-there, after_calls, LinkStep, with_controller, window_in}
+use Rattle.nvme_fleet.proofs.Words.{◌≡◌, ℕ, ◌+◌, ◌*◌, ◌%◌, ◌/◌, ◌<◌, Bool, true, false, List, [], ◌∷◌, length, Option, None, Some, refl, sym, ap, subst, ◌∙◌, arith, slice_range, MatchOption, if◌then◌else◌, eq-eqb, SqeFields, Status, submission_entry, cid as command_cid, Completion, completion_entry, FitsCompletion, sq_head, sq_id, phase, status, completion_is_read_back, QueueChange, with_bytes, Device, World, phase_tag, slot_of, after_tail_doorbell, after_head_doorbell, Scene, admin_execution, Admin, Call, Turns, Awaits, command_place, tail_doorbell, Ends, Driver, put_ends, tail_of, consumed_ends, is_new, sent, send_calls, heard_calls, own_answer, own_of, answers_own, Creates, Hears, FetchedCommand, Controller, SubmissionQueue, CompletionQueue, QueuePair, queues_of, after_write32, after_fetch, fetchable, open_pair, after_posting, after_queue_change, CommandExecution, CommandComesTo, admin_command_execution, after_completion, Setting, setting, part-there, after_calls, LinkStep, with_controller, window_in}
 use Rattle.nvme_wire.specs.Completion.{cid}
 use Rattle.nvme_spec.specs.Statuses as done
 use Rattle.nvme_fleet.proofs.Registering.{tail-written, head-written}

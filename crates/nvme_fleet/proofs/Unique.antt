@@ -1,5 +1,5 @@
 -- Without a fault of the medium there is one run of both layers over each list of events.
-use Rattle.nvme_fleet.proofs.Words.{◌≡◌, ◌⊎◌, inl, inr, ◌<◌, ◌≤◌, ℕ, zero, suc, ◌-◌, ◌^◌, nat_lt, Bool, true, false, List, [], ◌∷◌, map, Option, None, Some, Result, Ok, Err, refl, sym, ap, subst, ◌∙◌, arith, option_map, slice_get, slice_set, if◌then◌else◌, replicate, cases_Bool, eqb-true, none-some, same_Some, ControllerConfig, Answer, NotUp, PlaceRefusal, PollFault, UpFault, Request, Waiting, Ticket, Driver, after_reset, new_driver, stores_of, IsNotBelow, IsOldest, aborted_at, waiting_at, Event, Subsystem, FleetEvent, BringUp, Place, Ring, Fetch, Execute, Poll, Reset, RawStore, RawWrite32, PowerCycle, FleetSeen, Reply, DriverCall, CallStep, ComesUp, Does, DoesIfAny, Places, Polls, Ran, Rings, events_of, events_of_calls, reset_events, ring_events, window_at, Layers, fleet_in, opening_driver, Applies, AppliesRaw, CallsAt, Cycles, Happens, driver_at, with_driver, HasTicketsOnce, HaveTicketsOnce, LayersRunIsUnique, OpeningHasTicketsOnce, TicketsStayOnce, polled, Call, Rises, Seen, Turns, eqb, common_steps}
+use Rattle.nvme_fleet.proofs.Words.{◌≡◌, ◌⊎◌, inl, inr, ◌<◌, ◌≤◌, ℕ, zero, suc, ◌-◌, ◌^◌, Bool, true, false, List, [], ◌∷◌, Option, None, Some, Result, Ok, Err, refl, sym, ap, subst, ◌∙◌, arith, option_map, slice_get, slice_set, if◌then◌else◌, replicate, cases_Bool, eqb-true, none-some, same_Some, Answer, NotUp, PlaceRefusal, PollFault, UpFault, Request, Waiting, Ticket, Driver, after_reset, new_driver, stores_of, IsNotBelow, IsOldest, aborted_at, waiting_at, Event, Subsystem, FleetEvent, BringUp, Place, Ring, Fetch, Execute, Poll, Reset, RawStore, RawWrite32, PowerCycle, FleetSeen, Reply, DriverCall, CallStep, ComesUp, Does, DoesIfAny, Places, Polls, Ran, Rings, events_of, events_of_calls, reset_events, ring_events, window_at, Layers, fleet_in, opening_driver, Applies, AppliesRaw, CallsAt, Cycles, Happens, driver_at, with_driver, HasTicketsOnce, HaveTicketsOnce, LayersRunIsUnique, OpeningHasTicketsOnce, TicketsStayOnce, polled, Call, Rises, Seen, Turns, eqb, common_steps}
 use Rattle.nvme_driver.specs.Drivers.{placed}
 use Rattle.nvme_driver.specs.Once as once
 use Rattle.nvme_driver.specs.Once.{bears, borne}

@@ -1,5 +1,5 @@
 -- What a store leaves of a list of bytes: in its place, and before and behind it.
-use Rattle.nvme_fleet.proofs.Words.{◌≡◌, ℕ, ◌+◌, ◌≤◌, List, [], length, arith, take, drop, ◌⊎◌, inl, inr, same_lists, with_bytes, ◌<◌, cases_lt}
+use Rattle.nvme_fleet.proofs.Words.{◌≡◌, ℕ, ◌+◌, ◌≤◌, List, [], length, arith, take, drop, inl, inr, same_lists, with_bytes, ◌<◌, cases_lt}
 use Rattle.std.proofs.Common.{rules}
 use Rattle.std.proofs.lemmas.List.{places}
 

@@ -1,5 +1,5 @@
 -- A host's mailbox goes by its own events, but for the marks of others' executions.
-use Rattle.nvme_mailbox.proofs.Words.{◌≡◌, ◌≢◌, ℕ, ◌==◌, Bool, true, false, Option, None, Some, refl, sym, ap, subst, ◌∙◌, arith, slice_get, common_steps, Marks, Executed, Posted, NoSuch, Controller, FleetEvent, BringUp, Place, Ring, Fetch, Execute, Poll, Reset, RawStore, RawWrite32, PowerCycle, FleetSeen, NotRaw, Reply, concerns, FetchedItem, Mailbox, MailboxReaction, plain, fetched, reset, Site, RequestComesTo, WithDriver, Raw, Fleet, Moment, Is, Completes, ExecutesItem, ExecutesAt, host_at, with_host, power_cycled, called_at, raw_at, fetched_at, settled, after_answer, site_of, marks_in, replaced, numbered, HasMailbox, Becomes, Posts, ExecutesOwn, OwnStep, OthersStep, MailboxStep, MovesOn, HostsAreApart, marks_seen, marked_by, host_cycled, option_map, same_Some, zero, suc, ◌+◌, List, [], ◌∷◌, if◌then◌else◌, map, slice_get-map, World, host_of, is_host_among, marked, marked_from, ◌⊎◌, inl, inr, no_marks}
+use Rattle.nvme_mailbox.proofs.Words.{◌≡◌, ◌≢◌, ℕ, ◌==◌, Bool, true, false, Option, None, Some, refl, sym, ap, subst, ◌∙◌, arith, slice_get, common_steps, Marks, Executed, Posted, NoSuch, Controller, FleetEvent, BringUp, Place, Ring, Fetch, Execute, Poll, Reset, RawStore, RawWrite32, PowerCycle, FleetSeen, NotRaw, Reply, concerns, FetchedItem, Mailbox, MailboxReaction, plain, fetched, reset, Site, RequestComesTo, WithDriver, Raw, Fleet, Moment, Is, Completes, ExecutesItem, ExecutesAt, host_at, with_host, power_cycled, called_at, raw_at, fetched_at, settled, after_answer, site_of, marks_in, replaced, numbered, HasMailbox, Becomes, Posts, ExecutesOwn, OwnStep, OthersStep, MailboxStep, MovesOn, HostsAreApart, marks_seen, marked_by, host_cycled, option_map, same_Some, zero, suc, ◌+◌, List, [], ◌∷◌, if◌then◌else◌, slice_get-map, World, host_of, is_host_among, marked, marked_from, ◌⊎◌, inl, inr, no_marks}
 use Rattle.nvme_mailbox.specs.Fleets.{Host}
 use Rattle.nvme_event.specs.declared.seen.FleetSeen.TheVariants.{Executed as ExecutedSeen, NoController, Cycled}
 use Rattle.nvme_mailbox.proofs.Lists.{got-other, got-here}

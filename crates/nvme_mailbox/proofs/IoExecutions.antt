@@ -1,7 +1,6 @@
 -- An I/O command of a fleet is executed as its rules say, and what this leaves of the reservations.
-use Rattle.nvme_mailbox.proofs.Words.{◌≡◌, ◌⊎◌, inl, inr, ℕ, ◌==◌, Bool, true, false, List, Option, None, Some, Ok, refl, sym, ap, subst, ◌∙◌, slice_get, if◌then◌else◌, none-some, same_Some, opcode, nsid, Status, AdminCommand, Command, ReservationRegister, ReservationReport, ReservationAcquire, ReservationRelease, Outcome, Verdict, Allowed, Denied, command_of, is_one_of, reserving, Scene, ExecutesBy, Performs, world_after, cycled_world, Judgement, World, planned, Lane, Admin, Io, Asked, FetchedCommand, Executed, Posted, Controller, QueuePair, queues_of, open_pair, CommandComesTo, CommandComesToAs, CommandExecution, Setting, FinishesOne, FinishesOver, scene_in, HasSameReservations, same-reservations, admin-keeps, command-becomes, still, io-answer, FleetEvent, Execute, PowerCycle, Reply, FetchedItem, Mailbox, lane_of, plain, Site, RequestExecution, scene_at, RequestComesTo, RequestComesToAs, IoRequestComesTo, io_verdict, admin_judgement, admin_request_execution_by, admin_request_execution, command_entry, WithDriver, Raw, Fleet, host_at, settled, site_of, setting_of, ExecutesItem, ExecutesRaw, ExecutesAt, IoCommand, asked_command, raw_command, asked_by, sent_by, command_in, AreNumbered, IsExecutedBy, verdict_on, ExecutedAsThePolicyAllows, Step, power_cycled}
+use Rattle.nvme_mailbox.proofs.Words.{◌≡◌, ◌⊎◌, inl, inr, ℕ, ◌==◌, Bool, true, false, List, Option, None, Some, Ok, refl, sym, ap, subst, ◌∙◌, slice_get, if◌then◌else◌, none-some, same_Some, opcode, nsid, Status, Command, ReservationRegister, ReservationReport, ReservationAcquire, ReservationRelease, Outcome, Verdict, Allowed, Denied, command_of, is_one_of, reserving, Scene, ExecutesBy, Performs, world_after, cycled_world, World, planned, Lane, Admin, Io, FetchedCommand, Executed, Posted, Controller, QueuePair, queues_of, open_pair, CommandComesTo, CommandComesToAs, CommandExecution, Setting, FinishesOne, FinishesOver, scene_in, HasSameReservations, same-reservations, admin-keeps, io-answer, FleetEvent, Execute, PowerCycle, Reply, FetchedItem, Mailbox, lane_of, plain, Site, RequestExecution, scene_at, RequestComesTo, RequestComesToAs, IoRequestComesTo, io_verdict, WithDriver, Raw, Fleet, host_at, settled, site_of, setting_of, ExecutesItem, ExecutesRaw, ExecutesAt, IoCommand, asked_command, raw_command, asked_by, sent_by, command_in, AreNumbered, IsExecutedBy, verdict_on, ExecutedAsThePolicyAllows, Step, power_cycled}
 use Rattle.nvme_mailbox.specs.Fleets.{Host}
-use Rattle.nvme_spec.specs.AdminCommands as admin_commands
 use Rattle.nvme_spec.specs.IoData as spec
 use Rattle.nvme_event.specs.declared.seen.FleetSeen.TheVariants.{Executed as ExecutedSeen}
 use Rattle.nvme_mailbox.specs.IoCommands.{asked_in, command_at}

@@ -1,5 +1,5 @@
 -- Each raw host's controller bears the number of its place.
-use Rattle.nvme_mailbox.proofs.Words.{◌≡◌, ℕ, zero, suc, arith, Bool, true, false, List, [], ◌∷◌, Some, refl, subst, ◌∙◌, map, slice_get, if◌then◌else◌, none-some, same_Some, ControllerConfig, new_controller, FleetEvent, Reply, new_mailbox, WithDriver, Raw, Fleet, Step, new_host, opening, host_at, marked, BearsItsNumber, AreNumbered, OpeningIsNumbered, NumbersStay, sym}
+use Rattle.nvme_mailbox.proofs.Words.{◌≡◌, ℕ, zero, suc, arith, Bool, true, false, subst, ◌∙◌, if◌then◌else◌, none-some, ControllerConfig, new_controller, FleetEvent, Reply, new_mailbox, WithDriver, Raw, Fleet, Step, new_host, opening, host_at, marked, BearsItsNumber, AreNumbered, OpeningIsNumbered, NumbersStay, sym}
 use Rattle.nvme_mailbox.specs.Fleets.{Host}
 use Rattle.nvme_machine.proofs.Numbers.{numbered-at}
 use Rattle.nvme_mailbox.proofs.EachHost.{Keeps, step-keeps, run-keeps}

@@ -1,5 +1,5 @@
 -- Hosts that have no key for a namespace: what any reservation command makes of them.
-use Rattle.nvme_mailbox.proofs.Words.{◌≡◌, ◌≢◌, inl, inr, ℕ, ◌==◌, ◌||◌, ◌&&◌, ◌++◌, Bool, true, false, cond, not, nat_lt, List, [], ◌∷◌, filter, Option, None, Some, Ok, Err, refl, sym, ap, subst, ◌∙◌, find, option_map, if◌then◌else◌, list_any, or_parts, eqb-true, eqb-false, ne_eqb, cases_Bool, none-some, same_Some, Write as Writing, Command, ReservationRegister, ReservationAcquire, ReservationRelease, action, cptpl, iekey, rtype, world_after, removed_by, current_key, other_key, key_outcome, action_outcome, outcome_in, permits_group, reservation_of, Reservation, ActionOutcome, is_registered, is_registered_with, is_key_in_use, is_holders_key, is_holder, is_of_type, is_of_all, is_free, with_key, removed_hosts, World, Namespace, namespace_of, with_namespace, with_reservation, others-reserved, IsOutside, common_steps, arith}
+use Rattle.nvme_mailbox.proofs.Words.{◌≡◌, ◌≢◌, inl, inr, ℕ, ◌==◌, ◌||◌, ◌&&◌, ◌++◌, Bool, true, false, cond, not, nat_lt, List, [], ◌∷◌, filter, Option, None, Some, Ok, Err, refl, sym, ap, subst, ◌∙◌, find, option_map, if◌then◌else◌, list_any, or_parts, eqb-true, eqb-false, ne_eqb, cases_Bool, none-some, same_Some, Write as Writing, Command, ReservationRegister, ReservationAcquire, ReservationRelease, action, cptpl, iekey, rtype, world_after, removed_by, current_key, other_key, key_outcome, action_outcome, outcome_in, permits_group, reservation_of, Reservation, ActionOutcome, is_registered, is_registered_with, is_key_in_use, is_holders_key, is_of_all, is_free, with_key, removed_hosts, World, Namespace, namespace_of, with_namespace, with_reservation, others-reserved, IsOutside, common_steps, arith}
 use Rattle.nvme_spec.specs.declared.access.Registrant.{Registrant}
 use Rattle.nvme_spec.specs.declared.access.Hold.{Hold}
 use Rattle.nvme_spec.specs.declared.access.Hold.TheVariants.{Free, One, All}

@@ -1,5 +1,5 @@
 -- A fenced write is denied.
-use Rattle.nvme_mailbox.proofs.Words.{◌≡◌, ℕ, ◌==◌, ◌&&◌, ◌++◌, Bool, true, false, not, List, [], ◌∷◌, take, Option, None, Some, Ok, Err, refl, ap, subst, ◌∙◌, slice_get, none-some, same_Some, opcode, nsid, Read as Reading, Write as Writing, Outcome, command_of, data_length_of, is_one_of, readers, writers, pointer_rule, denial_outcome, access_rules, permits_group, reservation_rule, protection_rule, range_rule, may_write, Judgement, Rule, judgement_by, else_by, first_failing, World, host_of, namespace_of, first_failing-append, Lane, Admin, Io, FetchedCommand, Posted, Controller, denied-verdict, Execute, FetchedItem, lane_of, plain, io_judgement, action_of, WithDriver, Raw, Fleet, Step, host_at, IoCommand, asked_command, raw_command, asked_by, sent_by, command_in, AreNumbered, IsExecutedBy, IsOn, LeavesReservation, conflict_unless, fenced, FencedWritesAreDenied, FencingHolds}
+use Rattle.nvme_mailbox.proofs.Words.{◌≡◌, ℕ, ◌==◌, ◌&&◌, ◌++◌, Bool, true, false, not, List, [], ◌∷◌, take, Option, None, Some, Ok, Err, refl, ap, subst, ◌∙◌, slice_get, none-some, same_Some, opcode, nsid, Read as Reading, Write as Writing, Outcome, command_of, data_length_of, is_one_of, readers, writers, pointer_rule, denial_outcome, access_rules, permits_group, reservation_rule, protection_rule, range_rule, may_write, Judgement, Rule, judgement_by, else_by, first_failing, World, host_of, namespace_of, first_failing-append, Lane, Admin, Io, FetchedCommand, Posted, Controller, denied-verdict, Execute, FetchedItem, lane_of, plain, io_judgement, action_of, WithDriver, Raw, Fleet, Step, host_at, IoCommand, raw_command, asked_by, sent_by, command_in, AreNumbered, IsExecutedBy, IsOn, LeavesReservation, conflict_unless, fenced, FencedWritesAreDenied, FencingHolds}
 use Rattle.nvme_mailbox.specs.Fleets.{Host}
 use Rattle.nvme_spec.specs.IoData as spec
 use Rattle.nvme_spec.specs.Statuses as status

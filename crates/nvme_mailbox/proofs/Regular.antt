@@ -1,8 +1,7 @@
 -- An opening is regular, and a fleet stays so.
-use Rattle.nvme_mailbox.proofs.Words.{false≢true, ◌≡◌, ℕ, ◌==◌, ◌≤◌, ◌<◌, ◌-◌, ◌^◌, ◌*◌, ◌%◌, ◌/◌, Bool, true, false, [], ◌∷◌, length, Option, Some, Ok, refl, sym, ap, subst, ◌∙◌, arith, submission_entry, opcode, cdw12, most_bytes, Command, Compare, AdminCommand, Verdict, Allowed, Denied, Device, block_count, command_of, data_length_of, is_one_of, IsLaidOut, Judgement, Lane, Admin, Io, Request, Asked, asked_of, is_bad, CommandComesTo, queues_of, scene_in, answer-size, BringsItsData, performed-size, FleetEvent, Reply, Item, lane_of, RequestComesTo, RequestComesToAs, IoRequestComesTo, RequestExecution, Site, admin_judgement, admin_request_execution, admin_request_execution_by, command_entry, io_verdict, scene_at, Fleet, Step, opening, setting_of, IsRegular, OpeningIsRegular, RegularityStays, WasTaken}
+use Rattle.nvme_mailbox.proofs.Words.{false≢true, ◌≡◌, ℕ, ◌==◌, ◌≤◌, ◌<◌, ◌-◌, ◌^◌, ◌*◌, ◌%◌, ◌/◌, Bool, true, false, [], ◌∷◌, length, Option, Some, refl, sym, ap, subst, ◌∙◌, arith, submission_entry, opcode, cdw12, most_bytes, Command, Compare, Verdict, Allowed, Denied, Device, block_count, command_of, data_length_of, is_one_of, IsLaidOut, Lane, Admin, Io, Request, Asked, asked_of, is_bad, CommandComesTo, queues_of, scene_in, answer-size, BringsItsData, performed-size, FleetEvent, Reply, Item, lane_of, RequestComesTo, RequestComesToAs, IoRequestComesTo, RequestExecution, Site, command_entry, io_verdict, scene_at, Fleet, Step, opening, setting_of, IsRegular, OpeningIsRegular, RegularityStays, WasTaken}
 use Rattle.std.proofs.lemmas.Nat.{from_le_bytes-to_le_bytes_4}
 use Rattle.nvme_spec.specs.declared.command.Command.TheVariants.{Write}
-use Rattle.nvme_spec.specs.AdminCommands as admin_commands
 use Rattle.nvme_spec.proofs.Openings.{opening_is_laid_out}
 use Rattle.nvme_driver.specs.declared.request.Request.TheVariants as request
 use Rattle.nvme_driver.proofs.Moving.{whole}

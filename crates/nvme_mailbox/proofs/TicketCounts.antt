@@ -1,5 +1,5 @@
 -- Tickets are given in order, and go once.
-use Rattle.nvme_mailbox.proofs.Words.{◌≡◌, inl, inr, ℕ, zero, suc, ◌+◌, ◌≤◌, Bool, true, false, List, [], ◌∷◌, ◌++◌, map, Some, refl, sym, ap, subst, ◌∙◌, arith, if◌then◌else◌, slice_get, slice_get-map, option_map, common_steps, length-map, ControllerConfig, new_controller, Lane, Admin, Io, FleetEvent, Reply, concerns, LaneBox, Mailbox, with_box, lane_of, new_mailbox, Site, WithDriver, Raw, Fleet, Run, host_at, after_answer, new_host, numbered, opening, HasMailbox, MailboxStep, given_in, given, done, aborted, along, held_tickets, waiting_tickets, answered_tickets, Balance, counting, TicketsAreConsecutive, is_ticket, times, below, GoesOnce, EachTicketGoesOnce, EachIsHeldOnce, NewHoldsEachOnce, OpeningHasDrivers, OpeningIsNew, TicketsOfAnOpeningGoOnce, HeldAreCounted, waiting, posted_answers}
+use Rattle.nvme_mailbox.proofs.Words.{◌≡◌, inl, inr, ℕ, zero, suc, ◌+◌, ◌≤◌, Bool, true, false, List, [], ◌∷◌, ◌++◌, map, Some, refl, sym, ap, subst, ◌∙◌, arith, if◌then◌else◌, slice_get, slice_get-map, option_map, common_steps, length-map, ControllerConfig, new_controller, Lane, FleetEvent, Reply, concerns, LaneBox, Mailbox, with_box, lane_of, new_mailbox, Site, WithDriver, Raw, Fleet, Run, host_at, after_answer, new_host, numbered, opening, HasMailbox, MailboxStep, given_in, given, done, aborted, along, held_tickets, waiting_tickets, answered_tickets, Balance, counting, TicketsAreConsecutive, is_ticket, times, below, GoesOnce, EachTicketGoesOnce, EachIsHeldOnce, NewHoldsEachOnce, OpeningHasDrivers, OpeningIsNew, TicketsOfAnOpeningGoOnce, HeldAreCounted, waiting, posted_answers}
 use Rattle.nvme_mailbox.proofs.Moves.{Move, Stay, Rise, Take, RingBoth, FetchFirst, HandUp, Free, Clear, Answer, May, moved, reply_of, own-moved}
 use Rattle.nvme_mailbox.specs.Tickets.{executed}
 use Rattle.nvme_mailbox.proofs.Totals.{total-append}
