@@ -1,5 +1,5 @@
 -- A slot that no live request holds may be emptied: the lane holds as before, and its mailbox is the same.
-use Rattle.nvme_fleet.proofs.Words.{◌≡◌, ℕ, ◌<◌, ◌≤◌, List, [], ◌∷◌, length, refl, ap, sym, subst, ◌∙◌, arith, zero, suc, inl, inr, slice_set, length-set, cases_Bool, State, Slot, empty, off, in_flight, commands, commands_of, live_at, live_in, total, AgeIn, Carried, Running, Resting, Holds, Host, Suited}
+use Rattle.nvme_fleet.proofs.Words.{◌≡◌, ℕ, ◌<◌, ◌≤◌, List, [], ◌∷◌, length, refl, ap, sym, subst, ◌∙◌, arith, zero, suc, inl, inr, slice_set, length-set, cases_Bool, State, Slot, empty, off, in_flight, commands, commands_of, live_at, live_in, total, AgeIn, Carried, Running, Resting, Holds, Host, Suited, Ages, true, false}
 use Rattle.nvme_fleet.proofs.Slots.{bare-odd, each-all}
 use Rattle.nvme_fleet.proofs.Queues.{Bare, bare-all}
 use Rattle.nvme_fleet.proofs.Places.{bare}
@@ -29,13 +29,10 @@ emptied-resting d c i l s =
 
 pub emptied-holds : (first : ℕ) (d : Host) (c : State) (i : ℕ) → live_at d.slots i ≡ 0 → Holds first d c → Holds first (emptied d i) c
 emptied-holds first d c i l s =
-    record {
-      failed = s.failed;
-      begun = s.begun;
-      ages = each-all (λ k (o : Slot). AgeIn first d.next o.waiting) d.slots i empty tt s.ages;
-      up = λ u. emptied-running d c i l (s.up u);
-      down = λ u. emptied-resting d c i l (s.down u);
-    }
+    let ages : Ages first d.next (slice_set d.slots i empty) = each-all (λ k (o : Slot). AgeIn first d.next o.waiting) d.slots i empty tt s.ages in
+    let up : d.up ≡ true → Running (emptied d i) c = λ u. emptied-running d c i l (s.up u) in
+    let down : d.up ≡ false → Resting (emptied d i) c = λ u. emptied-resting d c i l (s.down u) in
+    search (ages, up, down)
 
 -- what holds of the queues of a driver, up or down
 pub record Whole (d : Host) (c : State) : Type 0 where
@@ -48,13 +45,8 @@ pub record Whole (d : Host) (c : State) : Type 0 where
 whole-off : (d : Host) (c : State) → Resting d c → Whole d c
 whole-off d c r =
     let n : in_flight d (off c) ≡ 0 = omega (arith, r.put) in
-    subst (Whole d) (sym r.off) (record {
-      window = r.window;
-      slots = r.slots;
-      fetched = omega arith;
-      waiting = omega arith;
-      carried = λ k. omega (arith, ap (λ n. commands_of k (commands c.window 0 n)) n, r.idle k);
-    })
+    let carried : Carried d (off c) = λ k. omega (arith, ap (λ n. commands_of k (commands c.window 0 n)) n, r.idle k) in
+    subst (Whole d) (sym r.off) (search (arith, carried))
 
 pub whole-of : (first : ℕ) (d : Host) (c : State) → Holds first d c → Whole d c
 whole-of first d c s = elim (cases_Bool d.up) [

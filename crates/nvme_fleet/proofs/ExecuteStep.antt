@@ -19,14 +19,8 @@ pub completion-fits : (lane : Lane) (d : Driver) (c : Controller) (i : ℕ) (t :
 completion-fits lane d c i t p a s g q e f =
     let k = known d c i t s g in
     let same : p ≡ pair_in (lane_of_queue t.queue) c = same_Some p (pair_in (lane_of_queue t.queue) c) (sym e ∙ open-is (lane_of_queue t.queue) d c i t k) in
-    record {
-      dw0 = f.1;
-      sq_head = omega (arith, ap (λ (z : QueuePair). z.submission.head.fetched) same, (running (lane_of_queue t.queue) d c s k.up).fetched);
-      sq_id = omega (arith, q, queue-small lane);
-      cid = omega (arith, (held-known lane d c i t s g (ap lane_of_queue q ∙ lane-back lane)).within);
-      sct = f.0.0;
-      sc = f.0.1;
-    }
+    let within = (held-known lane d c i t s g (ap lane_of_queue q ∙ lane-back lane)).within in
+    search (arith, f, q, queue-small lane, within, ap (λ (z : QueuePair). z.submission.head.fetched) same, (running (lane_of_queue t.queue) d c s k.up).fetched)
   where
     queue-small : (l : Lane) → queue_id l < 2
     queue-small l = grind (arith, common_steps)

@@ -75,19 +75,7 @@ second-small slot n h = grind (arith, common_steps)
 fits-entry : (s : Slot) (x : List ℕ) → IsSuited s x → cid x < 24 → FitsSqeFields (entry_fields (asked_in s x) (cid x))
 fits-entry s x h k =
     let w : WordsFit x = subst WordsFit (sym h.spelled) (words-fit (entry_fields (asked_in s x) (cid x))) in
-    record {
-      opcode = opcode-small x;
-      cid = cid-small x;
-      nsid = w.nsid;
-      prp1 = first-small (cid x) (asked_in s x).moved k;
-      prp2 = second-small (cid x) (asked_in s x).moved k;
-      cdw10 = w.cdw10;
-      cdw11 = w.cdw11;
-      cdw12 = w.cdw12;
-      cdw13 = omega arith;
-      cdw14 = omega arith;
-      cdw15 = omega arith;
-    }
+    search (arith, opcode-small x, cid-small x, first-small (cid x) (asked_in s x).moved k, second-small (cid x) (asked_in s x).moved k)
 
 pub read-so : (s : Slot) (x : List ℕ) → IsSuited s x → cid x < 24 → submission_of x ≡ entry_fields (asked_in s x) (cid x)
 read-so s x h k = ap submission_of h.spelled ∙ submission_is_read_back (entry_fields (asked_in s x) (cid x)) (fits-entry s x h k)

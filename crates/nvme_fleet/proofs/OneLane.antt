@@ -105,8 +105,7 @@ own-at lane w xs n l = own-is lane w n (waiting_at xs n) (sym (ap live_in (slot-
 
 -- a request is live in its own lane
 pub live-of : (w : List ℕ) (k : ℕ) (l : Lane) (p : Waiting) → live_waiting (Some p) ≡ live_in (cond (same l Admin) (whole w k p) empty) + live_in (cond (same l Io) (whole w k p) empty)
-live-of w k Admin p = omega arith
-live-of w k Io p = omega arith
+live-of w k l p = grind (arith, common_steps)
 
 own-zero : (l : Lane) (x : List ℕ) (i : ℕ) (us : List (List ℕ)) → commands_of i (cond (same l l) (x ∷ us) us) ≡ 0 → eqb (cid x) i ≡ false
 own-zero Admin x i us h = cond-zero (eqb (cid x) i) (commands_of i us) h

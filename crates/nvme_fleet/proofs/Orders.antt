@@ -193,8 +193,7 @@ pending-abort (x ∷ xs) (suc k) = pending-abort xs k
 pending-abort xs k = refl
 
 pub abort-idle : (o : Option Waiting) → live_waiting (abort o) ≡ 0
-abort-idle None = refl
-abort-idle (Some p) = refl
+abort-idle o = grind (arith, common_steps)
 
 pub abort-age : (first next : ℕ) (o : Option Waiting) → AgeIn first next o → AgeIn next next (abort o)
 abort-age first next None h = tt

@@ -23,8 +23,7 @@ filled None = 0
 filled (Some w) = 1
 
 filled-small : (o : Option Waiting) → filled o ≤ 1
-filled-small None = omega arith
-filled-small (Some w) = omega arith
+filled-small o = grind (arith, common_steps)
 
 few-filled : (slots : List (Option Waiting)) → total filled slots ≤ length slots
 few-filled [] = omega arith

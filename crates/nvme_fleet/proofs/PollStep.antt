@@ -40,8 +40,7 @@ new-is lane d w h = rw (bytes-in lane w (ends lane d).head.consumed, tag-is (end
 -- Aborted requests.
 
 number-is : (o : Option Waiting) → aborted_number o ≡ option_map (λ (t : Ticket). t.0) (poll.aborted_ticket o)
-number-is None = refl
-number-is (Some w) = grind (arith, common_steps)
+number-is o = grind (arith, common_steps)
 
 below-is : (t : Ticket) (o : Option Ticket) → poll.IsNotBelow t o → NotBelow t.0 (option_map (λ (u : Ticket). u.0) o)
 below-is t None h = tt

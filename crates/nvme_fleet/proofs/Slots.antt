@@ -1,5 +1,5 @@
 -- A slot that no command and no completion bears may change; at most 24 are borne.
-use Rattle.nvme_fleet.proofs.Words.{◌≡◌, ℕ, ◌+◌, ◌≤◌, List, [], ◌∷◌, length, map, refl, arith, false, cond, eqb, Bool, slice_set, cid, Completion, State, Slot, slot_at, item, answers, total, odd, commands_of, answers_of, Running, in_flight, Host, box, heard, holds, commands, common_steps, ◌<◌, sym, ap, subst, zero, suc, inl, inr, cases_Bool, eqb-true, Option, Some, None, Waiting, live_waiting, live_in, live_at, remove, eqb-false}
+use Rattle.nvme_fleet.proofs.Words.{◌≡◌, ℕ, ◌+◌, ◌≤◌, List, [], ◌∷◌, length, map, refl, arith, false, cond, eqb, Bool, slice_set, cid, Completion, State, Slot, slot_at, item, answers, total, odd, commands_of, answers_of, Running, in_flight, Host, box, heard, holds, commands, common_steps, ◌<◌, sym, ap, subst, zero, suc, inl, inr, cases_Bool, eqb-true, Option, Waiting, live_waiting, live_in, live_at, remove, eqb-false}
 use Rattle.nvme_fleet.proofs.Queues.{Bare, same-box}
 use Rattle.nvme_fleet.specs.Views.{the_slot, empty}
 use Rattle.std.proofs.lemmas.Option.{slice_get-get_or}
@@ -15,8 +15,7 @@ map-removed g [] zero = refl
 
 -- the live slots
 pub waiting-small : (o : Option Waiting) → live_waiting o ≤ 1
-waiting-small None = omega arith
-waiting-small (Some p) = grind (arith, common_steps)
+waiting-small o = grind (arith, common_steps)
 
 pub live-small : (s : Slot) → live_in s ≤ 1
 live-small s = waiting-small s.waiting

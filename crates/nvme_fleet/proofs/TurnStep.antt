@@ -60,14 +60,7 @@ abbrev pub ends_at : ℕ → Ends
 ends_at n = record { tail = record { size = 8; put = n; unheard = 0 }; head = record { size = 32; consumed = n } }
 
 own-fits : (n : ℕ) (e : List ℕ) → command_cid e ≡ 24 → FitsCompletion (own_completion n e)
-own-fits n e h = record {
-  dw0 = omega arith;
-  sq_head = omega arith;
-  sq_id = omega arith;
-  cid = omega (arith, h);
-  sct = omega arith;
-  sc = omega arith;
-}
+own-fits n e h = omega (arith, h)
 
 own-phase : (n : ℕ) → n < 32 → phase_tag 32 n ≡ true
 own-phase n h = let e : n / 32 % 2 ≡ 0 = omega (arith, h) in rw e refl

@@ -96,12 +96,7 @@ goes-once : (t : ℕ) (m n : Mailbox) (given executed done aborted : List ℕ) �
 goes-once t m n given executed done aborted b g h =
     let a = held-after t m n given executed done aborted b g h in
     let d = below-small t n.next in
-    let y = total-append (is_ticket t) (waiting_tickets m) (answered_tickets m) in record {
-      given_once = omega (arith, a, d);
-      executed_once = omega (arith, b.waits, a, d, total-append (is_ticket t) (waiting_tickets m ++ answered_tickets m) m.aborted, y);
-      handed_up_once = omega (arith, b.held, a, d);
-      kept = omega (arith, b.held);
-    }
+    omega (arith, a, d, b.waits, b.held, total-append (is_ticket t) (waiting_tickets m ++ answered_tickets m) m.aborted, total-append (is_ticket t) (waiting_tickets m) (answered_tickets m))
 
 pub each_ticket_goes_once : EachTicketGoesOnce
 each_ticket_goes_once tells old new events replies run k m n at end once t =

@@ -225,11 +225,7 @@ one-mailbox f k m n a b = one-host m n (sym a ∙ b)
 
 balance : (w : ℕ → ℕ) (m n : Mailbox) (given executed done aborted : List ℕ) → Flow w m n (total w given) (total w executed) (total w done) (total w aborted) → Balance w m n given executed done aborted
 balance w m n given executed done aborted f =
-    record {
-      held = omega (arith, f.waits, f.answered, f.aborts, held-weigh w m, held-weigh w n);
-      waits = omega (arith, f.waits, waits-weigh w m, waits-weigh w n);
-      answered = omega (arith, f.answered, posts-weigh w m, posts-weigh w n);
-    }
+    omega (arith, f.waits, f.answered, f.aborts, held-weigh w m, held-weigh w n, waits-weigh w m, waits-weigh w n, posts-weigh w m, posts-weigh w n)
 
 pub tickets_balance : TicketsBalance
 tickets_balance tells old new events replies run k m n at end w =
