@@ -6,7 +6,7 @@ pub mod LawLemmas
 pub mod OnLiterals
 pub mod ReadingLemmas
 mod ScriptLemmas
-mod BriefLemmas
+mod EventLemmas
 mod FaultLemmas
 mod TieLemmas
 mod TieKeywords

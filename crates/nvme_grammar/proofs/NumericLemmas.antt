@@ -8,7 +8,7 @@ use Rattle.nvme_event.specs.declared.event.FleetEvent.{FleetEvent}
 use Rattle.script_text.specs.Front.{begins_number}
 use Rattle.script_text.specs.Numbers.{number, below, number_at}
 use Rattle.nvme_grammar.specs.Arity.{◌>>=◌}
-use Rattle.nvme_grammar.specs.Brief.{Numbers, have_bits, place_bits, is_short, is_one}
+use Rattle.nvme_grammar.specs.Reader.{Numbers, have_bits, place_bits, is_short, is_one}
 use Rattle.nvme_grammar.specs.Events.{event_by}
 use Rattle.nvme_grammar.specs.Keywords.{places_of, behind_of, sets_up}
 use Rattle.nvme_grammar.specs.Line.{sentence_by, event_line}

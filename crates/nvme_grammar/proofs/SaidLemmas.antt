@@ -12,14 +12,14 @@ use Rattle.script_text.specs.Numbers.{number_at}
 use Rattle.script_text.specs.Words.{line_words, is_line_text, starts_apart}
 use Rattle.script_text.proofs.WordLemmas.{some_words}
 use Rattle.nvme_grammar.specs.Arity.{◌>>=◌}
-use Rattle.nvme_grammar.specs.Brief.{Numbers, SaysEvent, IsTransfer, IsStoreLine, have_bits, bits_of, place_bits, is_short, is_numeric, ends, lists, said, said_by, says_event, stored_line, transfer_line}
+use Rattle.nvme_grammar.specs.Reader.{Numbers, SaysEvent, IsTransfer, IsStoreLine, have_bits, bits_of, place_bits, is_short, is_numeric, ends, lists, said, said_by, says_event, stored_line, transfer_line}
 use Rattle.nvme_grammar.specs.Keywords.{keyword_of, places_of, behind_of, sets_up}
 use Rattle.nvme_grammar.specs.Line.{attached, is_comment, line_at, sentence, sentence_by, event_line}
 use Rattle.nvme_grammar.specs.Lists.{line_numbers}
 use Rattle.nvme_grammar.specs.Reading.{line_aside}
 use Rattle.nvme_grammar.specs.Requests.{numbers_at, list_request}
-use Rattle.nvme_grammar.specs.declared.brief.Transfer.{Transfer}
-use Rattle.nvme_grammar.specs.declared.brief.StoreLine.{StoreLine}
+use Rattle.nvme_grammar.specs.declared.reader.Transfer.{Transfer}
+use Rattle.nvme_grammar.specs.declared.reader.StoreLine.{StoreLine}
 use Rattle.nvme_grammar.specs.declared.keyword.Keyword.{Keyword}
 use Rattle.nvme_grammar.specs.declared.keyword.Keyword.TheVariants as keyword
 use Rattle.nvme_grammar.specs.declared.line.Line.{Line}
@@ -29,7 +29,7 @@ use Rattle.nvme_grammar.specs.declared.place.Place.{Place}
 use Rattle.nvme_grammar.specs.declared.place.Place.TheVariants.{Number}
 use Rattle.nvme_grammar.specs.declared.place.Behind.{Behind}
 use Rattle.nvme_grammar.specs.declared.place.Behind.TheVariants as behind
-use Rattle.nvme_grammar.proofs.BriefLemmas.{narrow, nothing, says_write, says_compare, says_store}
+use Rattle.nvme_grammar.proofs.EventLemmas.{narrow, nothing, says_write, says_compare, says_store}
 use Rattle.nvme_grammar.proofs.NumericLemmas.{none_of, numbers-unfit, others-unfit, front-unfit, behind-unfit, event-sentence, unfit-none}
 use Rattle.nvme_grammar.proofs.TieLemmas.{fine, two-fine, bound}
 

@@ -1,6 +1,6 @@
 pub mod Arity
 pub mod Beginnings
-pub mod Brief
+pub mod Reader
 pub mod Lent
 pub mod Requests
 pub mod Events

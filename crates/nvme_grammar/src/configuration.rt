@@ -1,7 +1,7 @@
 //! The lines before `start`, and `start`: how a subsystem is set up.
 
 ghost use Rattle.std.specs.Prelude.{◌≡◌, map, option_map, true};
-ghost use Rattle.nvme_grammar.specs.Brief.{said_by, sets_up_by_words};
+ghost use Rattle.nvme_grammar.specs.Reader.{said_by, sets_up_by_words};
 ghost use Rattle.nvme_grammar.specs.Lent.{line_by_value};
 ghost use Rattle.nvme_grammar.specs.Line.{rawness, controller, namespace, start, sharing};
 ghost use Rattle.nvme_grammar.specs.declared.keyword.Keyword.TheVariants.{Attached};

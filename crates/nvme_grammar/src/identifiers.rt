@@ -2,7 +2,7 @@
 
 ghost use Rattle.std.specs.Prelude.{◌≡◌, ◌≤◌, length, take, true, option_map, IfSome};
 ghost use Rattle.script_text.specs.Words.{starts_apart, most_words};
-ghost use Rattle.nvme_grammar.specs.Brief.{lists, said_by};
+ghost use Rattle.nvme_grammar.specs.Reader.{lists, said_by};
 ghost use Rattle.nvme_grammar.specs.Lent.{line_by_value, request_by_value};
 ghost use Rattle.nvme_grammar.specs.Lists.{line_numbers};
 ghost use Rattle.nvme_grammar.specs.Requests.{list_request};

@@ -3,7 +3,6 @@
 #![tactic(auto)]
 
 mod beginning;
-mod brief;
 mod buffers;
 mod configuration;
 mod examples;
@@ -18,6 +17,7 @@ mod line;
 mod near;
 mod numbers;
 mod place;
+mod reader;
 mod script;
 
 pub use beginning::begins_script;

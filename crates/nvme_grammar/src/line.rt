@@ -7,7 +7,7 @@ ghost use Rattle.nvme_grammar.specs.Line.{is_comment, line_at};
 ghost use Rattle.nvme_grammar.specs.Reading.{line_aside};
 ghost use Rattle.nvme_grammar.specs.Room.{HasBytesRoom};
 
-use super::brief::{judged_by, keyword_in, line_by};
+use super::reader::{judged_by, keyword_in, line_by};
 use nvme_event::FleetEvent;
 use nvme_spec::{ControllerConfig, NsConfig};
 use script_text::behind_separators;

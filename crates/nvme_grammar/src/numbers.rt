@@ -3,7 +3,7 @@
 ghost use Rattle.std.specs.Prelude.{◌≡◌, ◌<◌, ◌≤◌, ◌^◌, ◌&&◌, ◌∷◌, [], List, ℕ, true, false, drop, length, IfSome, IsNone, Some};
 ghost use Rattle.script_text.specs.Front.{begins_number};
 ghost use Rattle.script_text.specs.Words.{is_line_text, line_words, starts_apart};
-ghost use Rattle.nvme_grammar.specs.Brief.{Numbers, SaysEvent, have_bits, bits_of, is_numeric, asks, has_operands, reserves};
+ghost use Rattle.nvme_grammar.specs.Reader.{Numbers, SaysEvent, have_bits, bits_of, is_numeric, asks, has_operands, reserves};
 ghost use Rattle.nvme_grammar.specs.Lent.{request_by_value};
 ghost use Rattle.nvme_grammar.specs.Requests.{request_by};
 

@@ -2,7 +2,7 @@ use Rattle.std.proofs.Common.{◌≡◌, false, length, ap, ◌∙◌, rules}
 use Rattle.std.specs.Prelude.{option_map}
 use Rattle.nvme_grammar.specs.Reading.{line_aside}
 use Rattle.nvme_grammar.specs.Line.{is_comment}
-use Rattle.nvme_grammar.proofs.BriefLemmas.{blank_line}
+use Rattle.nvme_grammar.proofs.EventLemmas.{blank_line}
 use Rattle.nvme_grammar.proofs.SaidLemmas.{line-said, said-blank}
 use Rattle.nvme_grammar.proofs.line.judged_line.Goals as goal
 

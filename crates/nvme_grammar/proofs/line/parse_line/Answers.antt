@@ -1,6 +1,6 @@
 use Rattle.std.proofs.Common.{◌≡◌, false, length, ◌∙◌, rules}
 use Rattle.nvme_grammar.specs.Line.{is_comment}
-use Rattle.nvme_grammar.proofs.BriefLemmas.{blank_line}
+use Rattle.nvme_grammar.proofs.EventLemmas.{blank_line}
 use Rattle.nvme_grammar.proofs.SaidLemmas.{line-said, said-blank}
 use Rattle.nvme_grammar.proofs.line.parse_line.Goals as goal
 

@@ -1,6 +1,6 @@
 use Rattle.std.proofs.Common.{refl}
 use Rattle.nvme_grammar.specs.Lent.{request_by_value}
-use Rattle.nvme_grammar.proofs.BriefLemmas.{places, front_bits}
+use Rattle.nvme_grammar.proofs.EventLemmas.{places, front_bits}
 use Rattle.nvme_grammar.proofs.numbers.asked_in.Goals as goal
 
 pub returns-in_err-cntlid-clause-none : goal.returns-in_err-cntlid-clause-none

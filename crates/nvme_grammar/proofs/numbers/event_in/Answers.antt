@@ -1,5 +1,5 @@
 use Rattle.std.proofs.Common.{◌≡◌, rules}
-use Rattle.nvme_grammar.proofs.BriefLemmas.{says_up, says_ring, says_poll, says_reset, says_fetch, says_execute, says_identify, says_write32, says_power_cycle}
+use Rattle.nvme_grammar.proofs.EventLemmas.{says_up, says_ring, says_poll, says_reset, says_fetch, says_execute, says_identify, says_write32, says_power_cycle}
 use Rattle.nvme_grammar.proofs.numbers.event_in.Goals as goal
 
 pub returns-in_ok-alone_in-in-Up-clause-some : goal.returns-in_ok-alone_in-in-Up-clause-some

@@ -1,7 +1,7 @@
 use Rattle.std.proofs.Common.{◌∙◌, arith}
 use Rattle.std.proofs.lemmas.Grind.{common_steps}
 use Rattle.script_text.specs.Words.{line_words}
-use Rattle.nvme_grammar.proofs.BriefLemmas.{Numbers-more}
+use Rattle.nvme_grammar.proofs.EventLemmas.{Numbers-more}
 use Rattle.nvme_grammar.proofs.numbers.numbers_in.Goals as goal
 
 pub loop-numbers-preserved : goal.loop-numbers-preserved

@@ -1,6 +1,6 @@
 use Rattle.std.proofs.Common.{◌≡◌, ◌≤◌, length, true}
 use Rattle.script_text.specs.Words.{line_words, is_line_text, starts_apart}
-use Rattle.nvme_grammar.specs.Brief.{Numbers}
+use Rattle.nvme_grammar.specs.Reader.{Numbers}
 use Rattle.nvme_grammar.proofs.numbers.numbers_in.Given as goal
 
 abbrev pub invariant-loop-numbers : goal.invariant-loop-numbers

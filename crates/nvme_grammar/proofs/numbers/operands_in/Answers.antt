@@ -1,4 +1,4 @@
-use Rattle.nvme_grammar.proofs.BriefLemmas.{asks_protect, asks_report}
+use Rattle.nvme_grammar.proofs.EventLemmas.{asks_protect, asks_report}
 use Rattle.nvme_grammar.proofs.numbers.operands_in.Goals as goal
 
 pub returns-in_ok-state-in-Protect-clause-some : goal.returns-in_ok-state-in-Protect-clause-some

@@ -1,4 +1,4 @@
-use Rattle.nvme_grammar.proofs.BriefLemmas.{says_read, says_zeroes, says_flush, says_protection}
+use Rattle.nvme_grammar.proofs.EventLemmas.{says_read, says_zeroes, says_flush, says_protection}
 use Rattle.nvme_grammar.proofs.numbers.place_in.Goals as goal
 
 pub returns-in_ok-cntlid-in-Read-clause-some : goal.returns-in_ok-cntlid-in-Read-clause-some

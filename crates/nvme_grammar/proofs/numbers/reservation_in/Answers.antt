@@ -1,5 +1,5 @@
 use Rattle.std.proofs.Common.{sym}
-use Rattle.nvme_grammar.proofs.BriefLemmas.{asks_register, asks_acquire, asks_release}
+use Rattle.nvme_grammar.proofs.EventLemmas.{asks_register, asks_acquire, asks_release}
 use Rattle.nvme_grammar.proofs.numbers.reservation_in.Goals as goal
 
 pub returns-in_ok-iekey-in-Register-clause-some : goal.returns-in_ok-iekey-in-Register-clause-some

@@ -6,7 +6,7 @@ use Rattle.nvme_grammar.specs.Arity.{◌>>=◌}
 use Rattle.nvme_grammar.specs.Kept.{first_event}
 use Rattle.nvme_grammar.specs.Lent.{event_by_value}
 use Rattle.nvme_grammar.specs.Script.{event_in}
-use Rattle.nvme_grammar.proofs.BriefLemmas.{blank_line}
+use Rattle.nvme_grammar.proofs.EventLemmas.{blank_line}
 use Rattle.script_text.specs.Lines.{longest_line}
 use Rattle.script_text.proofs.LineLengths.{longest-drop}
 use Rattle.nvme_grammar.proofs.kept.KeptEvent.event.Goals as goal

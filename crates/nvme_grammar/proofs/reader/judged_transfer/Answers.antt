@@ -3,7 +3,7 @@ use Rattle.std.specs.Prelude.{option_map, is_some}
 use Rattle.script_text.specs.Data.{data_at}
 use Rattle.nvme_grammar.specs.Reading.{line_aside}
 use Rattle.nvme_grammar.proofs.SaidLemmas.{aside-some, aside-none, said-write, said-compare}
-use Rattle.nvme_grammar.proofs.brief.judged_transfer.Goals as goal
+use Rattle.nvme_grammar.proofs.reader.judged_transfer.Goals as goal
 
 pub returns-then-is_data-clause-write : goal.returns-then-is_data-clause-write
 returns-then-is_data-clause-write c =

@@ -1,6 +1,6 @@
 use Rattle.std.proofs.Common.{sym, rules}
 use Rattle.nvme_grammar.proofs.SaidLemmas.{said-store}
-use Rattle.nvme_grammar.proofs.brief.store_line.Goals as goal
+use Rattle.nvme_grammar.proofs.reader.store_line.Goals as goal
 
 pub returns-in_err-bytes : goal.returns-in_err-bytes
 returns-in_err-bytes c =

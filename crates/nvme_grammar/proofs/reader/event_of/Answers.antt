@@ -1,7 +1,7 @@
 use Rattle.std.proofs.Common.{◌≡◌, ◌<◌, None, Some, length, arith, rules}
 use Rattle.std.proofs.lemmas.Grind.{common_steps}
 use Rattle.nvme_grammar.proofs.SaidLemmas.{others-none, numbers-said}
-use Rattle.nvme_grammar.proofs.brief.event_of.Goals as goal
+use Rattle.nvme_grammar.proofs.reader.event_of.Goals as goal
 
 pub returns-then-not-is_empty : goal.returns-then-not-is_empty
 returns-then-not-is_empty c =

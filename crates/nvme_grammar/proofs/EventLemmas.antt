@@ -1,4 +1,4 @@
--- Lines of a keyword and numbers.
+-- The events that a keyword and the numbers behind it say.
 use Rattle.std.proofs.Common.{◌≡◌, ℕ, ◌<◌, ◌^◌, Bool, true, false, List, [], ◌∷◌, ◌++◌, length, drop, Option, Some, None, refl, sym, ap, ◌∙◌, arith}
 use Rattle.std.specs.Prelude.{◌&&◌, if◌then◌else◌, is_some, unwrap_or, option_map}
 use Rattle.std.proofs.lemmas.Bool.{false≢true, lt-ltb, ltb-true}
@@ -10,7 +10,7 @@ use Rattle.script_text.specs.Words.{line_words, is_line_text}
 use Rattle.script_text.specs.Data.{bytes_at, data_at}
 use Rattle.script_text.specs.Front.{BeginsWith}
 use Rattle.nvme_grammar.specs.Arity.{◌>>=◌}
-use Rattle.nvme_grammar.specs.Brief.{Numbers, has_operands, have_bits, bits_of}
+use Rattle.nvme_grammar.specs.Reader.{Numbers, has_operands, have_bits, bits_of}
 use Rattle.nvme_grammar.specs.Lent.{lent}
 use Rattle.nvme_grammar.specs.Requests.{request_by, bit_of}
 use Rattle.nvme_grammar.specs.Events.{event_by, place}

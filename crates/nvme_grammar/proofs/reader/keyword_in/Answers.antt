@@ -1,6 +1,6 @@
 use Rattle.std.proofs.Common.{None, Some, sym}
 use Rattle.nvme_grammar.proofs.SaidLemmas.{said-keyword}
-use Rattle.nvme_grammar.proofs.brief.keyword_in.Goals as goal
+use Rattle.nvme_grammar.proofs.reader.keyword_in.Goals as goal
 
 pub returns-in_err-first_of-clause-none : goal.returns-in_err-first_of-clause-none
 returns-in_err-first_of-clause-none c =

@@ -22,8 +22,8 @@ use Rattle.nvme_grammar.specs.declared.place.Behind.{Behind}
 use Rattle.nvme_grammar.specs.declared.place.Behind.TheVariants as behind
 use Rattle.nvme_grammar.specs.declared.line.Line.{Line}
 use Rattle.nvme_grammar.specs.declared.line.Line.TheVariants as line
-use Rattle.nvme_grammar.specs.declared.brief.Transfer.{Transfer}
-use Rattle.nvme_grammar.specs.declared.brief.StoreLine.{StoreLine}
+use Rattle.nvme_grammar.specs.declared.reader.Transfer.{Transfer}
+use Rattle.nvme_grammar.specs.declared.reader.StoreLine.{StoreLine}
 
 -- words that spell numbers of at most 64 bits, one after the other, and the words behind them
 abbrev pub Numbers : List ℕ → List (List ℕ) → List (List ℕ) → Type 0

@@ -3,7 +3,7 @@ use Rattle.nvme_grammar.specs.Keywords.{places_of}
 use Rattle.nvme_grammar.specs.declared.keyword.Keyword.TheVariants.{Store}
 use Rattle.nvme_grammar.specs.declared.place.Place.TheVariants.{Bytes}
 use Rattle.nvme_grammar.proofs.SaidLemmas.{front-none}
-use Rattle.nvme_grammar.proofs.brief.stored_in.Goals as goal
+use Rattle.nvme_grammar.proofs.reader.stored_in.Goals as goal
 
 pub returns-in_err-cntlid-clause-none : goal.returns-in_err-cntlid-clause-none
 returns-in_err-cntlid-clause-none c =

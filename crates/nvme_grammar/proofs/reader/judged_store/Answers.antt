@@ -1,6 +1,6 @@
 use Rattle.std.proofs.Common.{sym, rules}
 use Rattle.nvme_grammar.proofs.SaidLemmas.{said-store}
-use Rattle.nvme_grammar.proofs.brief.judged_store.Goals as goal
+use Rattle.nvme_grammar.proofs.reader.judged_store.Goals as goal
 
 pub returns : goal.returns
 returns c =

@@ -3,7 +3,7 @@
 ghost use Rattle.std.specs.Prelude.{◌≡◌, ◌<◌, ◌≤◌, ◌*◌, ◌∷◌, [], true, false, None, length, option_map, IfSome, IsNone};
 ghost use Rattle.nvme_spec.specs.Limits.{most_bytes};
 ghost use Rattle.script_text.specs.Words.{is_line_text, line_words, most_words, starts_apart};
-ghost use Rattle.nvme_grammar.specs.Brief.{IsStoreLine, IsTransfer, is_numeric, is_one, is_other, said, said_by};
+ghost use Rattle.nvme_grammar.specs.Reader.{IsStoreLine, IsTransfer, is_numeric, is_one, is_other, said, said_by};
 ghost use Rattle.nvme_grammar.specs.Lent.{line_by_value};
 ghost use Rattle.nvme_grammar.specs.Reading.{line_aside};
 ghost use Rattle.nvme_grammar.specs.declared.keyword.Keyword.TheVariants.{Write as WriteWord, Compare as CompareWord, Store as StoreWord};
