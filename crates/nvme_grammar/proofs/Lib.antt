@@ -11,4 +11,4 @@ mod FaultLemmas
 mod TieLemmas
 mod TieKeywords
 mod NumericLemmas
-mod SaidLemmas
+mod SentenceLemmas

@@ -113,12 +113,12 @@ abbrev pub says_event : FleetEvent → Line
 says_event event = line.Event (event_by_value event)
 
 -- what a text says
-abbrev pub said : List ℕ → Option Line
-said line = if is_line_text line then sentence (line_words line) else None
+abbrev pub sentence_in : List ℕ → Option Line
+sentence_in line = if is_line_text line then sentence (line_words line) else None
 
 -- what it says behind its keyword
-abbrev pub said_by : Keyword → List ℕ → Option Line
-said_by k behind = if is_line_text behind then sentence_by k (line_words behind) else None
+abbrev pub sentence_behind : Keyword → List ℕ → Option Line
+sentence_behind k behind = if is_line_text behind then sentence_by k (line_words behind) else None
 
 -- one word and no other
 abbrev pub is_one : List (List ℕ) → Bool

@@ -1,7 +1,7 @@
 //! The lines before `start`, and `start`: how a subsystem is set up.
 
 ghost use Rattle.std.specs.Prelude.{◌≡◌, map, option_map, true};
-ghost use Rattle.nvme_grammar.specs.Reader.{said_by, sets_up_by_words};
+ghost use Rattle.nvme_grammar.specs.Reader.{sentence_behind, sets_up_by_words};
 ghost use Rattle.nvme_grammar.specs.Lent.{line_by_value};
 ghost use Rattle.nvme_grammar.specs.Line.{rawness, controller, namespace, start, sharing};
 ghost use Rattle.nvme_grammar.specs.declared.keyword.Keyword.TheVariants.{Attached};
@@ -77,7 +77,7 @@ fn namespace_of(words: &[&[u8]]) -> Option<Line<'static>>
 /// `attached C N`, without its first word.
 pub fn attached_in(line: &[u8]) -> Option<Line<'static>>
     requires apart { starts_apart line.now ≡ true }
-    ensures { option_map line_by_value result ≡ said_by Attached line.now }
+    ensures { option_map line_by_value result ≡ sentence_behind Attached line.now }
 {
     let mut numbers = ArrayVec::new();
     let rest = numbers_in(line, 2, &mut numbers);
@@ -103,7 +103,7 @@ fn start_of(words: &[&[u8]]) -> Option<Line<'static>>
 /// What a line says behind one of the other keywords of lines before `start`, or behind `start`.
 pub fn setup_of(keyword: Keyword, line: &[u8]) -> Option<Line<'static>>
     requires { sets_up_by_words keyword ≡ true }
-    ensures { option_map line_by_value result ≡ said_by keyword line.now }
+    ensures { option_map line_by_value result ≡ sentence_behind keyword line.now }
 {
     let front = words_of(line)?;
     if !front.rest.is_empty() {

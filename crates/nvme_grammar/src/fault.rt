@@ -182,7 +182,7 @@ fn keyword_fault_of<'a>(
 
 /// The fault of a line, if it has one.
 #[tactic(auto, unfolding(crate::specs::LineFaults::fault_of))]
-fn judged<'a>(line: &'a [u8], started: bool, bytes: &mut [u8]) -> Option<LineFault<'a>>
+fn fault_of<'a>(line: &'a [u8], started: bool, bytes: &mut [u8]) -> Option<LineFault<'a>>
     requires bytes_room { HasBytesRoom line.now bytes.old }
     ensures { option_map fault_by_value result ≡ fault_of started line.now }
 {
@@ -218,7 +218,7 @@ pub fn line_fault<'a>(line: &'a [u8], started: bool, bytes: &mut [u8]) -> Option
     ensures fault { option_map fault_by_value result ≡ fault_of started line.now }
     ensures exact { IsNone result ↔ IsAllowed started line.now }
 {
-    judged(line, started, bytes)
+    fault_of(line, started, bytes)
 }
 
 /// Whether a line is `start`.

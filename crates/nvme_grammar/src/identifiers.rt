@@ -2,7 +2,7 @@
 
 ghost use Rattle.std.specs.Prelude.{◌≡◌, ◌≤◌, length, take, true, option_map, IfSome};
 ghost use Rattle.script_text.specs.Words.{starts_apart, most_words};
-ghost use Rattle.nvme_grammar.specs.Reader.{lists, said_by};
+ghost use Rattle.nvme_grammar.specs.Reader.{lists, sentence_behind};
 ghost use Rattle.nvme_grammar.specs.Lent.{line_by_value, request_by_value};
 ghost use Rattle.nvme_grammar.specs.Lists.{line_numbers};
 ghost use Rattle.nvme_grammar.specs.Requests.{list_request};
@@ -50,7 +50,7 @@ pub fn list_line<'a>(keyword: Keyword, line: &[u8], identifiers: &'a mut [u16]) 
     requires list { lists keyword ≡ true }
     requires apart { starts_apart line.now ≡ true }
     requires room { most_words line.now ≤ length identifiers.old }
-    ensures { option_map line_by_value result ≡ said_by keyword line.now }
+    ensures { option_map line_by_value result ≡ sentence_behind keyword line.now }
 {
     let mut numbers = ArrayVec::new();
     let rest = numbers_in(line, 2, &mut numbers);

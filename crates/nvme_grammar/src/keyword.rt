@@ -272,7 +272,7 @@ impl Keyword {
 
     /// The keyword that a word is. `None` where it is none of those that stand behind `start` most.
     #[inline(always)]
-    pub(crate) fn told(word: &[u8]) -> Option<Keyword>
+    pub(crate) fn frequent_of(word: &[u8]) -> Option<Keyword>
         ensures { IfSome result (λ keyword. word.now ≡ keyword_text keyword) }
     {
         match word {
@@ -321,7 +321,7 @@ impl Keyword {
     pub(crate) fn first_of(word: &[u8]) -> Option<Keyword>
         ensures { result ≡ keyword_of word.now }
     {
-        match Keyword::told(word) {
+        match Keyword::frequent_of(word) {
             Some(keyword) => Some(keyword),
             None => Keyword::of(word),
         }

@@ -3,7 +3,7 @@
 ghost use Rattle.std.specs.Prelude.{◌≡◌, ◌<◌, ◌≤◌, ◌*◌, ◌∷◌, [], true, false, None, length, option_map, IfSome, IsNone};
 ghost use Rattle.nvme_spec.specs.Limits.{most_bytes};
 ghost use Rattle.script_text.specs.Words.{is_line_text, line_words, most_words, starts_apart};
-ghost use Rattle.nvme_grammar.specs.Reader.{IsStoreLine, IsTransfer, is_numeric, is_one, is_other, said, said_by};
+ghost use Rattle.nvme_grammar.specs.Reader.{IsStoreLine, IsTransfer, is_numeric, is_one, is_other, sentence_behind, sentence_in};
 ghost use Rattle.nvme_grammar.specs.Lent.{line_by_value};
 ghost use Rattle.nvme_grammar.specs.Reading.{line_aside};
 ghost use Rattle.nvme_grammar.specs.declared.keyword.Keyword.TheVariants.{Write as WriteWord, Compare as CompareWord, Store as StoreWord};
@@ -63,8 +63,8 @@ fn transfer_in(line: &[u8]) -> Option<Transfer<'_>>
     ensures text { IfSome result (λ _. is_line_text line.now ≡ true) }
     ensures words { IfSome result (IsTransfer (line_words line.now)) }
     ensures within { IfSome result (λ transfer. length transfer.word.now ≤ length line.now) }
-    ensures write { IsNone result → said_by WriteWord line.now ≡ None }
-    ensures compare { IsNone result → said_by CompareWord line.now ≡ None }
+    ensures write { IsNone result → sentence_behind WriteWord line.now ≡ None }
+    ensures compare { IsNone result → sentence_behind CompareWord line.now ≡ None }
 {
     let mut numbers = ArrayVec::new();
     let rest = numbers_in(line, 4, &mut numbers);
@@ -85,7 +85,7 @@ fn stored_in(line: &[u8]) -> Option<StoreLine<'_>>
     ensures text { IfSome result (λ _. is_line_text line.now ≡ true) }
     ensures words { IfSome result (IsStoreLine (line_words line.now)) }
     ensures within { IfSome result (λ stored. length stored.word.now ≤ length line.now) }
-    ensures none { IsNone result → said_by StoreWord line.now ≡ None }
+    ensures none { IsNone result → sentence_behind StoreWord line.now ≡ None }
 {
     let mut numbers = ArrayVec::new();
     let rest = numbers_in(line, 2, &mut numbers);
@@ -102,7 +102,7 @@ fn write_line<'a>(line: &[u8], bytes: &'a mut [u8]) -> Option<Line<'a>>
     requires apart { starts_apart line.now ≡ true }
     requires data_room { most_bytes ≤ length bytes.old }
     requires digits_room { length line.now ≤ 2 * length bytes.old }
-    ensures { option_map line_by_value result ≡ said_by WriteWord line.now }
+    ensures { option_map line_by_value result ≡ sentence_behind WriteWord line.now }
 {
     let transfer = transfer_in(line)?;
     let bytes = data_in(transfer.word, transfer.blocks, bytes)?;
@@ -116,7 +116,7 @@ fn compare_line<'a>(line: &[u8], bytes: &'a mut [u8]) -> Option<Line<'a>>
     requires apart { starts_apart line.now ≡ true }
     requires data_room { most_bytes ≤ length bytes.old }
     requires digits_room { length line.now ≤ 2 * length bytes.old }
-    ensures { option_map line_by_value result ≡ said_by CompareWord line.now }
+    ensures { option_map line_by_value result ≡ sentence_behind CompareWord line.now }
 {
     let transfer = transfer_in(line)?;
     let bytes = data_in(transfer.word, transfer.blocks, bytes)?;
@@ -129,7 +129,7 @@ fn compare_line<'a>(line: &[u8], bytes: &'a mut [u8]) -> Option<Line<'a>>
 fn store_line<'a>(line: &[u8], bytes: &'a mut [u8]) -> Option<Line<'a>>
     requires apart { starts_apart line.now ≡ true }
     requires digits_room { length line.now ≤ 2 * length bytes.old }
-    ensures { option_map line_by_value result ≡ said_by StoreWord line.now }
+    ensures { option_map line_by_value result ≡ sentence_behind StoreWord line.now }
 {
     let stored = stored_in(line)?;
     let bytes = bytes_in(stored.word, bytes)?;
@@ -143,8 +143,8 @@ fn store_line<'a>(line: &[u8], bytes: &'a mut [u8]) -> Option<Line<'a>>
 fn judged_transfer<'a>(line: &[u8], bytes: &mut [u8]) -> Option<Line<'a>>
     requires apart { starts_apart line.now ≡ true }
     requires digits_room { length line.now ≤ 2 * length bytes.old }
-    ensures write { option_map line_aside result ≡ option_map line_aside (said_by WriteWord line.now) }
-    ensures compare { option_map line_aside result ≡ option_map line_aside (said_by CompareWord line.now) }
+    ensures write { option_map line_aside result ≡ option_map line_aside (sentence_behind WriteWord line.now) }
+    ensures compare { option_map line_aside result ≡ option_map line_aside (sentence_behind CompareWord line.now) }
 {
     let transfer = transfer_in(line)?;
     if is_data(transfer.word, transfer.blocks, bytes) {
@@ -159,7 +159,7 @@ fn judged_transfer<'a>(line: &[u8], bytes: &mut [u8]) -> Option<Line<'a>>
 fn judged_store<'a>(line: &[u8], bytes: &mut [u8]) -> Option<Line<'a>>
     requires apart { starts_apart line.now ≡ true }
     requires digits_room { length line.now ≤ 2 * length bytes.old }
-    ensures { option_map line_aside result ≡ option_map line_aside (said_by StoreWord line.now) }
+    ensures { option_map line_aside result ≡ option_map line_aside (sentence_behind StoreWord line.now) }
 {
     let stored = stored_in(line)?;
     bytes_in(stored.word, bytes)?;
@@ -172,7 +172,7 @@ fn other_line<'a>(keyword: Keyword, line: &[u8], identifiers: &'a mut [u16]) -> 
     requires other { is_other keyword ≡ true }
     requires apart { starts_apart line.now ≡ true }
     requires room { most_words line.now ≤ length identifiers.old }
-    ensures { option_map line_by_value result ≡ said_by keyword line.now }
+    ensures { option_map line_by_value result ≡ sentence_behind keyword line.now }
 {
     match keyword {
         Keyword::Attach | Keyword::Detach => list_line(keyword, line, identifiers),
@@ -186,7 +186,7 @@ fn other_line<'a>(keyword: Keyword, line: &[u8], identifiers: &'a mut [u16]) -> 
 fn event_of(keyword: Keyword, line: &[u8]) -> Option<Line<'static>>
     requires apart { starts_apart line.now ≡ true }
     requires numeric { is_numeric keyword ≡ true }
-    ensures { option_map line_by_value result ≡ said_by keyword line.now }
+    ensures { option_map line_by_value result ≡ sentence_behind keyword line.now }
 {
     let mut numbers = ArrayVec::new();
     let rest = numbers_in(line, MOST_NUMBERS, &mut numbers);
@@ -208,7 +208,7 @@ pub fn line_by<'a>(
     requires data_room { most_bytes ≤ length bytes.old }
     requires digits_room { length line.now ≤ 2 * length bytes.old }
     requires list_room { most_words line.now ≤ length identifiers.old }
-    ensures { option_map line_by_value result ≡ said_by keyword line.now }
+    ensures { option_map line_by_value result ≡ sentence_behind keyword line.now }
 {
     match keyword {
         Keyword::Write => write_line(line, bytes),
@@ -233,7 +233,7 @@ pub fn judged_by<'a>(
     requires apart { starts_apart line.now ≡ true }
     requires digits_room { length line.now ≤ 2 * length bytes.old }
     requires list_room { most_words line.now ≤ length identifiers.old }
-    ensures { option_map line_aside result ≡ option_map line_aside (said_by keyword line.now) }
+    ensures { option_map line_aside result ≡ option_map line_aside (sentence_behind keyword line.now) }
 {
     match keyword {
         Keyword::Write | Keyword::Compare => judged_transfer(line, bytes),
@@ -251,11 +251,11 @@ pub fn judged_by<'a>(
 pub fn keyword_in(line: &[u8]) -> Option<(Keyword, &[u8])>
     requires apart { starts_apart line.now ≡ true }
     requires some { 0 < length line.now }
-    ensures said { IfSome result (λ front. said_by front.0 front.1.now ≡ said line.now) }
+    ensures sentence { IfSome result (λ front. sentence_behind front.0 front.1.now ≡ sentence_in line.now) }
     ensures apart { IfSome result (λ front. starts_apart front.1.now ≡ true) }
     ensures within { IfSome result (λ front. length front.1.now ≤ length line.now) }
     ensures room { IfSome result (λ front. most_words front.1.now ≤ most_words line.now) }
-    ensures none { IsNone result → said line.now ≡ None }
+    ensures none { IsNone result → sentence_in line.now ≡ None }
 {
     let first = first_word(line)?;
     Some((Keyword::first_of(first.word)?, first.behind))

@@ -98,7 +98,7 @@ impl Script {
     }
 
     /// The script, once all lines were read: without a start nothing is set up.
-    fn finished(self) -> Script
+    fn finish(self) -> Script
         ensures says { (lines : List Line) → Reads self lines → Says lines result }
         ensures events { result.events.items ≡ self.events.items }
     {
@@ -155,5 +155,5 @@ pub fn parse(
         script.take(before, place, line)?;
         rest = behind;
     }
-    Ok(script.finished())
+    Ok(script.finish())
 }

@@ -2,7 +2,7 @@ use Rattle.std.proofs.Common.{◌≡◌, None, Some, take, refl, rules}
 use Rattle.nvme_grammar.specs.Lent.{request_by_value}
 use Rattle.nvme_grammar.specs.Lists.{line_numbers}
 use Rattle.nvme_grammar.specs.Requests.{list_request}
-use Rattle.nvme_grammar.proofs.SaidLemmas.{list-none, list-said}
+use Rattle.nvme_grammar.proofs.SentenceLemmas.{list-none, list-sentence}
 use Rattle.nvme_grammar.proofs.identifiers.list_line.Goals as goal
 
 pub returns-in_err-cntlid : goal.returns-in_err-cntlid
@@ -23,4 +23,4 @@ returns c =
     let list = take c.in_ok-count.count c.identifiers_behind.new.buffer in
     let numbers : line_numbers read.result.now ≡ Some list = search rules in
     let asked : Some (request_by_value c.in_ok-request.request) ≡ list_request c.args.keyword named.nsid list = search rules in
-    list-said c.args.keyword c.args.line.now read.result.now read.new.numbers.items named.cntlid named.nsid list (request_by_value c.in_ok-request.request) c.requires.list is.text is.words (rw same at two.0) two.1 two.2 numbers asked
+    list-sentence c.args.keyword c.args.line.now read.result.now read.new.numbers.items named.cntlid named.nsid list (request_by_value c.in_ok-request.request) c.requires.list is.text is.words (rw same at two.0) two.1 two.2 numbers asked

@@ -3,7 +3,7 @@ use Rattle.std.specs.Prelude.{option_map}
 use Rattle.nvme_grammar.specs.Reading.{line_aside}
 use Rattle.nvme_grammar.specs.Line.{is_comment}
 use Rattle.nvme_grammar.proofs.EventLemmas.{blank_line}
-use Rattle.nvme_grammar.proofs.SaidLemmas.{line-said, said-blank}
+use Rattle.nvme_grammar.proofs.SentenceLemmas.{line-sentence, sentence-blank}
 use Rattle.nvme_grammar.proofs.line.judged_line.Goals as goal
 
 pub returns-then-is_empty : goal.returns-then-is_empty
@@ -14,4 +14,4 @@ returns-then-is_empty-2 c =
     let start = c.behind_separators-start in
     let none : length start.result.now ≡ 0 = search rules in
     let comment : is_comment c.args.line.now ≡ false = search rules in
-    record { line = ap (option_map line_aside) (said-blank c.args.line.now start.result.now start.ensures.words start.ensures.text none ∙ line-said c.args.line.now comment) }
+    record { line = ap (option_map line_aside) (sentence-blank c.args.line.now start.result.now start.ensures.words start.ensures.text none ∙ line-sentence c.args.line.now comment) }

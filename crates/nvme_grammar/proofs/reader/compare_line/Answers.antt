@@ -1,15 +1,15 @@
 use Rattle.std.proofs.Common.{sym, rules}
-use Rattle.nvme_grammar.proofs.SaidLemmas.{said-compare}
+use Rattle.nvme_grammar.proofs.SentenceLemmas.{sentence-compare}
 use Rattle.nvme_grammar.proofs.reader.compare_line.Goals as goal
 
 pub returns-in_err-bytes : goal.returns-in_err-bytes
 returns-in_err-bytes c =
     let read = c.in_ok-transfer.transfer in
     let is = c.in_ok-transfer.ensures in
-    rw (sym (said-compare c.args.line.now read is.text is.words)) (search rules)
+    rw (sym (sentence-compare c.args.line.now read is.text is.words)) (search rules)
 
 pub returns : goal.returns
 returns c =
     let read = c.in_ok-transfer.transfer in
     let is = c.in_ok-transfer.ensures in
-    rw (sym (said-compare c.args.line.now read is.text is.words)) (search rules)
+    rw (sym (sentence-compare c.args.line.now read is.text is.words)) (search rules)

@@ -1,15 +1,15 @@
 use Rattle.std.proofs.Common.{None, Some, sym}
-use Rattle.nvme_grammar.proofs.SaidLemmas.{said-keyword}
+use Rattle.nvme_grammar.proofs.SentenceLemmas.{sentence-keyword}
 use Rattle.nvme_grammar.proofs.reader.keyword_in.Goals as goal
 
 pub returns-in_err-first_of-clause-none : goal.returns-in_err-first_of-clause-none
 returns-in_err-first_of-clause-none c =
     let first = c.in_ok-first.first in
     let is = c.in_ok-first.ensures in
-    λ none. sym (said-keyword c.args.line.now first.behind.now first.word.now None (sym c.in_err-first_of.ensures) is.text is.words)
+    λ none. sym (sentence-keyword c.args.line.now first.behind.now first.word.now None (sym c.in_err-first_of.ensures) is.text is.words)
 
-pub returns-clause-said : goal.returns-clause-said
-returns-clause-said c =
+pub returns-clause-sentence : goal.returns-clause-sentence
+returns-clause-sentence c =
     let first = c.in_ok-first.first in
     let is = c.in_ok-first.ensures in
-    said-keyword c.args.line.now first.behind.now first.word.now (Some c.in_ok-first_of.field-0) (sym c.in_ok-first_of.ensures) is.text is.words
+    sentence-keyword c.args.line.now first.behind.now first.word.now (Some c.in_ok-first_of.field-0) (sym c.in_ok-first_of.ensures) is.text is.words

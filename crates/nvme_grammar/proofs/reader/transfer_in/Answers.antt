@@ -2,7 +2,7 @@ use Rattle.std.proofs.Common.{◌≡◌, ◌∷◌, [], refl, sym, take}
 use Rattle.nvme_grammar.specs.Keywords.{places_of}
 use Rattle.nvme_grammar.specs.declared.keyword.Keyword.TheVariants.{Write, Compare}
 use Rattle.nvme_grammar.specs.declared.place.Place.TheVariants.{Data}
-use Rattle.nvme_grammar.proofs.SaidLemmas.{front-none}
+use Rattle.nvme_grammar.proofs.SentenceLemmas.{front-none}
 use Rattle.nvme_grammar.proofs.reader.transfer_in.Goals as goal
 
 pub returns-in_err-cntlid-clause-write : goal.returns-in_err-cntlid-clause-write

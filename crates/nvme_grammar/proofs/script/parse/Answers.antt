@@ -81,11 +81,11 @@ returns-clause-says c =
     let raw = text_lines c.args.text.now in
     let none : c.loop-rest.rest ≡ None = search rules in
     let whole = all_read raw c.loop-rest.before (rw none at c.loop-rest.invariant.left) in
-    c.finished.ensures.says _ (subst (λ (t : List (List ℕ)). Reads c.loop-rest.script (said t)) whole c.loop-rest.invariant.read)
+    c.finish.ensures.says _ (subst (λ (t : List (List ℕ)). Reads c.loop-rest.script (said t)) whole c.loop-rest.invariant.read)
 
 pub returns-clause-events : goal.returns-clause-events
 returns-clause-events c =
     let raw = text_lines c.args.text.now in
     let none : c.loop-rest.rest ≡ None = search rules in
     let whole = all_read raw c.loop-rest.before (rw none at c.loop-rest.invariant.left) in
-    ap (kept_events c.args.text.now) c.finished.ensures.events ∙ c.loop-rest.invariant.events ∙ ap events_of whole
+    ap (kept_events c.args.text.now) c.finish.ensures.events ∙ c.loop-rest.invariant.events ∙ ap events_of whole

@@ -1,6 +1,6 @@
 use Rattle.std.proofs.Common.{refl, sym, ◌∙◌}
 use Rattle.nvme_grammar.proofs.ReadingLemmas.{Says-started, Says-nothing}
-use Rattle.nvme_grammar.proofs.script.Script.finished.Goals as goal
+use Rattle.nvme_grammar.proofs.script.Script.finish.Goals as goal
 
 pub returns-then-is_some-clause-says : goal.returns-then-is_some-clause-says
 returns-then-is_some-clause-says c = λ lines h. Says-started c.args.self lines h (sym c.is_some.ensures ∙ c.if-is_some.true)

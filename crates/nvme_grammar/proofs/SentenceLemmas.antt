@@ -12,7 +12,7 @@ use Rattle.script_text.specs.Numbers.{number_at}
 use Rattle.script_text.specs.Words.{line_words, is_line_text, starts_apart}
 use Rattle.script_text.proofs.WordLemmas.{some_words}
 use Rattle.nvme_grammar.specs.Arity.{◌>>=◌}
-use Rattle.nvme_grammar.specs.Reader.{Numbers, SaysEvent, IsTransfer, IsStoreLine, have_bits, bits_of, place_bits, is_short, is_numeric, ends, lists, said, said_by, says_event, stored_line, transfer_line}
+use Rattle.nvme_grammar.specs.Reader.{Numbers, SaysEvent, IsTransfer, IsStoreLine, have_bits, bits_of, place_bits, is_short, is_numeric, ends, lists, sentence_in, sentence_behind, says_event, stored_line, transfer_line}
 use Rattle.nvme_grammar.specs.Keywords.{keyword_of, places_of, behind_of, sets_up}
 use Rattle.nvme_grammar.specs.Line.{attached, is_comment, line_at, sentence, sentence_by, event_line}
 use Rattle.nvme_grammar.specs.Lists.{line_numbers}
@@ -34,15 +34,15 @@ use Rattle.nvme_grammar.proofs.NumericLemmas.{none_of, numbers-unfit, others-unf
 use Rattle.nvme_grammar.proofs.TieLemmas.{fine, two-fine, bound}
 
 -- a text says what its words say, and no text says anything
-pub said-none : (k : Keyword) (line : List ℕ) → (is_line_text line ≡ true → sentence_by k (line_words line) ≡ None) → None ≡ said_by k line
-said-none k line h = by (is_line_text line) h
+pub sentence-none : (k : Keyword) (line : List ℕ) → (is_line_text line ≡ true → sentence_by k (line_words line) ≡ None) → None ≡ sentence_behind k line
+sentence-none k line h = by (is_line_text line) h
   where
     by : (t : Bool) → (t ≡ true → sentence_by k (line_words line) ≡ None) → None ≡ (if t then sentence_by k (line_words line) else None)
     by true h = sym (h refl)
     by false h = refl
 
-pub said-text : (k : Keyword) (line : List ℕ) (o : Option Line) → is_line_text line ≡ true → sentence_by k (line_words line) ≡ o → o ≡ said_by k line
-said-text k line o is e = rw is (sym e)
+pub sentence-text : (k : Keyword) (line : List ℕ) (o : Option Line) → is_line_text line ≡ true → sentence_by k (line_words line) ≡ o → o ≡ sentence_behind k line
+sentence-text k line o is e = rw is (sym e)
 
 -- lines of numbers alone
 not_true : (b : Bool) → not b ≡ true → b ≡ false
@@ -73,21 +73,21 @@ module _ (k : Keyword) (line rest : List ℕ) (ns : List ℕ) (same : is_line_te
     (words : is_line_text line ≡ true → Numbers ns (line_words line) (line_words rest)) where
   -- other words behind them
   pub others-none : is_numeric k ≡ true → starts_apart rest ≡ true → 0 < length rest
-      → (is_line_text line ≡ true → length ns < 7 → begins_number (line_words rest) ≡ false) → None ≡ said_by k line
+      → (is_line_text line ≡ true → length ns < 7 → begins_number (line_words rest) ≡ false) → None ≡ sentence_behind k line
   others-none h apart more all =
       let is = numeric k h in
-      said-none k line (λ text. numeric-none k (line_words line) is
+      sentence-none k line (λ text. numeric-none k (line_words line) is
       (others-unfit true [] (places_of k) ns (line_words line) (line_words rest) is.short (words text) (some_words rest apart more (same ∙ text))
       (λ less. all text (omega (arith, less, is.few)))))
 
   -- no other words
-  pub numbers-said : (o : Option FleetEvent) → is_numeric k ≡ true → length rest ≡ 0 → IfSome o (SaysEvent k ns)
-      → (IsNone o → (is_numeric k && have_bits (bits_of k) ns) ≡ false) → option_map says_event o ≡ said_by k line
-  numbers-said o h none some bad =
+  pub numbers-sentence : (o : Option FleetEvent) → is_numeric k ≡ true → length rest ≡ 0 → IfSome o (SaysEvent k ns)
+      → (IsNone o → (is_numeric k && have_bits (bits_of k) ns) ≡ false) → option_map says_event o ≡ sentence_behind k line
+  numbers-sentence o h none some bad =
       let end = nothing rest none in
       let text : is_line_text line ≡ true = sym same ∙ end.0 in
       let all : Numbers ns (line_words line) [] = rw end.1 at words text in
-      said-text k line _ text (by o some bad text all)
+      sentence-text k line _ text (by o some bad text all)
     where
       by : (o : Option FleetEvent) → IfSome o (SaysEvent k ns) → (IsNone o → (is_numeric k && have_bits (bits_of k) ns) ≡ false)
           → is_line_text line ≡ true → Numbers ns (line_words line) [] → sentence_by k (line_words line) ≡ option_map says_event o
@@ -98,30 +98,30 @@ module _ (k : Keyword) (line rest : List ℕ) (ns : List ℕ) (same : is_line_te
 
   -- other numbers in front of other places
   pub front-none : (ps ds : List Place) → places_of k ≡ ps ++ ds → sets_up k ≡ false → list_all is_short ps ≡ true → length ns ≤ length ps
-      → (is_line_text line ≡ true → length ns < length ps → begins_number (line_words rest) ≡ false) → have_bits (map place_bits ps) ns ≡ false → None ≡ said_by k line
+      → (is_line_text line ≡ true → length ns < length ps → begins_number (line_words rest) ≡ false) → have_bits (map place_bits ps) ns ≡ false → None ≡ sentence_behind k line
   front-none ps ds e event short few all bad =
-      said-none k line (λ text. unfit-none k (line_words line) event
+      sentence-none k line (λ text. unfit-none k (line_words line) event
       (rw e (front-unfit true [] ps ds (behind_of k) ns (line_words line) (line_words rest) short (words text) few (all text) bad)))
 
   -- what stands behind these numbers does not do
   pub behind-none : (ps ds : List Place) → places_of k ≡ ps ++ ds → sets_up k ≡ false → length ns ≡ length ps
-      → (is_line_text rest ≡ true → (last : List ℕ) → fine true last ds (behind_of k) (line_words rest) ≡ false) → None ≡ said_by k line
+      → (is_line_text rest ≡ true → (last : List ℕ) → fine true last ds (behind_of k) (line_words rest) ≡ false) → None ≡ sentence_behind k line
   behind-none ps ds e event full bad =
-      said-none k line (λ text. unfit-none k (line_words line) event
+      sentence-none k line (λ text. unfit-none k (line_words line) event
       (rw e (behind-unfit true [] ps ds (behind_of k) ns (line_words line) (line_words rest) (words text) full (bad (same ∙ text)))))
 
 -- Writes, Compares and stores
-pub said-write : (line : List ℕ) (t : Transfer) → is_line_text line ≡ true → IsTransfer (line_words line) t → transfer_line request.Write t ≡ said_by keyword.Write line
-said-write line t text is =
-    said-text keyword.Write line _ text (says_write t.cntlid t.nsid t.slba t.blocks is.cntlid is.nsid is.blocks t.word.now (line_words line) is.numbers)
+pub sentence-write : (line : List ℕ) (t : Transfer) → is_line_text line ≡ true → IsTransfer (line_words line) t → transfer_line request.Write t ≡ sentence_behind keyword.Write line
+sentence-write line t text is =
+    sentence-text keyword.Write line _ text (says_write t.cntlid t.nsid t.slba t.blocks is.cntlid is.nsid is.blocks t.word.now (line_words line) is.numbers)
 
-pub said-compare : (line : List ℕ) (t : Transfer) → is_line_text line ≡ true → IsTransfer (line_words line) t → transfer_line request.Compare t ≡ said_by keyword.Compare line
-said-compare line t text is =
-    said-text keyword.Compare line _ text (says_compare t.cntlid t.nsid t.slba t.blocks is.cntlid is.nsid is.blocks t.word.now (line_words line) is.numbers)
+pub sentence-compare : (line : List ℕ) (t : Transfer) → is_line_text line ≡ true → IsTransfer (line_words line) t → transfer_line request.Compare t ≡ sentence_behind keyword.Compare line
+sentence-compare line t text is =
+    sentence-text keyword.Compare line _ text (says_compare t.cntlid t.nsid t.slba t.blocks is.cntlid is.nsid is.blocks t.word.now (line_words line) is.numbers)
 
-pub said-store : (line : List ℕ) (s : StoreLine) → is_line_text line ≡ true → IsStoreLine (line_words line) s → stored_line s ≡ said_by keyword.Store line
-said-store line s text is =
-    said-text keyword.Store line _ text (says_store s.cntlid is.cntlid s.address s.word.now (line_words line) is.numbers)
+pub sentence-store : (line : List ℕ) (s : StoreLine) → is_line_text line ≡ true → IsStoreLine (line_words line) s → stored_line s ≡ sentence_behind keyword.Store line
+sentence-store line s text is =
+    sentence-text keyword.Store line _ text (says_store s.cntlid is.cntlid s.address s.word.now (line_words line) is.numbers)
 
 -- lists
 list-places : (k : Keyword) → lists k ≡ true → (places_of k ≡ take 2 (places_of keyword.Attach) ++ []) × (sets_up k ≡ false)
@@ -131,7 +131,7 @@ list-places k h = absurd (false≢true h)
 
 pub list-none : (k : Keyword) (line rest : List ℕ) (ns : List ℕ) → lists k ≡ true → is_line_text rest ≡ is_line_text line
     → (is_line_text line ≡ true → Numbers ns (line_words line) (line_words rest)) → length ns ≤ 2
-    → (is_line_text line ≡ true → length ns < 2 → begins_number (line_words rest) ≡ false) → have_bits (16 ∷ 32 ∷ []) ns ≡ false → None ≡ said_by k line
+    → (is_line_text line ≡ true → length ns < 2 → begins_number (line_words rest) ≡ false) → have_bits (16 ∷ 32 ∷ []) ns ≡ false → None ≡ sentence_behind k line
 list-none k line rest ns h same words few all bad =
     let e = list-places k h in
     front-none k line rest ns same words (take 2 (places_of keyword.Attach)) [] e.0 e.1 refl few all bad
@@ -151,13 +151,13 @@ listed keyword.Detach c n list r ws behind h cntlid nsid (w1, ws1, e1, k1, (w2, 
     rw (e1, e2, end, narrow 16 w1 c k1 cntlid, narrow 32 w2 n k2 nsid, all) (ap (λ o. event_line (o >>= (λ r. Some (PlaceOf c r)))) (sym asked))
 listed k c n list r ws behind h cntlid nsid all numbers asked = absurd (false≢true h)
 
-pub list-said : (k : Keyword) (line rest : List ℕ) (ns : List ℕ) (c n : ℕ) (list : List ℕ) (r : Request) → lists k ≡ true → is_line_text rest ≡ is_line_text line
+pub list-sentence : (k : Keyword) (line rest : List ℕ) (ns : List ℕ) (c n : ℕ) (list : List ℕ) (r : Request) → lists k ≡ true → is_line_text rest ≡ is_line_text line
     → (is_line_text line ≡ true → Numbers ns (line_words line) (line_words rest)) → ns ≡ c ∷ n ∷ [] → c < 2 ^ 16 → n < 2 ^ 32 → line_numbers rest ≡ Some list
-    → Some r ≡ list_request k n list → Some (Event (PlaceOf c r)) ≡ said_by k line
-list-said k line rest ns c n list r h same words two cntlid nsid numbers asked =
+    → Some r ≡ list_request k n list → Some (Event (PlaceOf c r)) ≡ sentence_behind k line
+list-sentence k line rest ns c n list r h same words two cntlid nsid numbers asked =
     let all = list_text rest list numbers in
     let text : is_line_text line ≡ true = sym same ∙ all.0 in
-    said-text k line _ text (listed k c n list r (line_words line) (line_words rest) h cntlid nsid (rw two at words text) all.1 asked)
+    sentence-text k line _ text (listed k c n list r (line_words line) (line_words rest) h cntlid nsid (rw two at words text) all.1 asked)
 
 -- `attached C N`
 attached-fine : (before : List ℕ) (ws : List (List ℕ)) → fine true before (places_of keyword.Attached) behind.Nothing ws ≡ is_some (attached ws)
@@ -170,14 +170,14 @@ attached-none ws bad = none_of (attached ws) (sym (attached-fine [] ws) ∙ bad)
 module _ (line rest : List ℕ) (ns : List ℕ) (same : is_line_text rest ≡ is_line_text line)
     (words : is_line_text line ≡ true → Numbers ns (line_words line) (line_words rest)) where
   pub attached-numbers : length ns ≤ 2 → (is_line_text line ≡ true → length ns < 2 → begins_number (line_words rest) ≡ false)
-      → have_bits (16 ∷ 32 ∷ []) ns ≡ false → None ≡ said_by keyword.Attached line
+      → have_bits (16 ∷ 32 ∷ []) ns ≡ false → None ≡ sentence_behind keyword.Attached line
   attached-numbers few all bad =
-      said-none keyword.Attached line (λ text. attached-none (line_words line)
+      sentence-none keyword.Attached line (λ text. attached-none (line_words line)
       (front-unfit true [] (places_of keyword.Attached) [] behind.Nothing ns (line_words line) (line_words rest) refl (words text) few (all text) bad))
 
-  pub attached-others : length ns ≡ 2 → starts_apart rest ≡ true → 0 < length rest → None ≡ said_by keyword.Attached line
+  pub attached-others : length ns ≡ 2 → starts_apart rest ≡ true → 0 < length rest → None ≡ sentence_behind keyword.Attached line
   attached-others two apart more =
-      said-none keyword.Attached line (λ text. attached-none (line_words line)
+      sentence-none keyword.Attached line (λ text. attached-none (line_words line)
       (behind-unfit true [] (places_of keyword.Attached) [] behind.Nothing ns (line_words line) (line_words rest) (words text) two
       (λ last. no_more last (line_words rest) (some_words rest apart more (same ∙ text)))))
     where
@@ -185,11 +185,11 @@ module _ (line rest : List ℕ) (ns : List ℕ) (same : is_line_text rest ≡ is
       no_more last [] some = absurd (omega (arith, some))
       no_more last (w ∷ ws) some = refl
 
-  pub attached-said : (c n : ℕ) → ns ≡ c ∷ n ∷ [] → c < 2 ^ 16 → n < 2 ^ 32 → length rest ≡ 0 → Some (Attached c n) ≡ said_by keyword.Attached line
-  attached-said c n two cntlid nsid none =
+  pub attached-sentence : (c n : ℕ) → ns ≡ c ∷ n ∷ [] → c < 2 ^ 16 → n < 2 ^ 32 → length rest ≡ 0 → Some (Attached c n) ≡ sentence_behind keyword.Attached line
+  attached-sentence c n two cntlid nsid none =
       let end = nothing rest none in
       let text : is_line_text line ≡ true = sym same ∙ end.0 in
-      said-text keyword.Attached line _ text (by (line_words line) (rw (two, end.1) at words text))
+      sentence-text keyword.Attached line _ text (by (line_words line) (rw (two, end.1) at words text))
     where
       by : (ws : List (List ℕ)) → Numbers (c ∷ n ∷ []) ws [] → attached ws ≡ Some (Attached c n)
       by ws (w1, ws1, e1, k1, (w2, ws2, e2, k2, e3)) = rw (e1, e2, e3, narrow 16 w1 c k1 cntlid, narrow 32 w2 n k2 nsid) refl
@@ -199,25 +199,25 @@ nothing_after : {A B : Type 0} (o : Option A) (f : A → Option B) → ((x : A) 
 nothing_after None f h = refl
 nothing_after (Some x) f h = h x
 
-pub said-keyword : (line behind word : List ℕ) (o : Option Keyword) → keyword_of word ≡ o → is_line_text behind ≡ is_line_text line
-    → (is_line_text line ≡ true → line_words line ≡ word ∷ line_words behind) → (o >>= (λ k. said_by k behind)) ≡ said line
+pub sentence-keyword : (line behind word : List ℕ) (o : Option Keyword) → keyword_of word ≡ o → is_line_text behind ≡ is_line_text line
+    → (is_line_text line ≡ true → line_words line ≡ word ∷ line_words behind) → (o >>= (λ k. sentence_behind k behind)) ≡ sentence_in line
 unfolding sentence
-said-keyword line behind word o e same words = sym (by (is_line_text line) same words)
+sentence-keyword line behind word o e same words = sym (by (is_line_text line) same words)
   where
     by : (t : Bool) → is_line_text behind ≡ t → (t ≡ true → line_words line ≡ word ∷ line_words behind)
         → (if t then sentence (line_words line) else None) ≡ (o >>= (λ k. if is_line_text behind then sentence_by k (line_words behind) else None))
     by true same h = rw (h refl, same, e) refl
     by false same h = rw same (nothing_after o _ (λ k. refl))
 
-pub said-blank : (line start : List ℕ) → line_words start ≡ line_words line → is_line_text start ≡ is_line_text line → length start ≡ 0 → Some Blank ≡ said line
+pub sentence-blank : (line start : List ℕ) → line_words start ≡ line_words line → is_line_text start ≡ is_line_text line → length start ≡ 0 → Some Blank ≡ sentence_in line
 unfolding sentence
-said-blank line start words text none =
+sentence-blank line start words text none =
     let end = nothing start none in
     rw (sym text ∙ end.0, sym words ∙ end.1) refl
 
-pub line-said : (line : List ℕ) → is_comment line ≡ false → said line ≡ line_at line
+pub line-sentence : (line : List ℕ) → is_comment line ≡ false → sentence_in line ≡ line_at line
 unfolding line_at
-line-said line comment = rw comment refl
+line-sentence line comment = rw comment refl
 
 -- a line of data that were judged
 module _ (f : List ℕ → Line) (any : (x : List ℕ) → line_aside (f x) ≡ Event PowerCycle) where
