@@ -16,6 +16,19 @@ use nvme_grammar::{Line, parse_line};
 use nvme_spec::{Config, ConfigFault, ControllerConfig, NsConfig};
 use script_text::front_line;
 
+/// The most controllers, namespaces and attachments that a configuration may have.
+const MAX_CONTROLLERS: usize = 16;
+
+const MAX_NAMESPACES: usize = 8;
+
+const MAX_ATTACHMENTS: usize = 128;
+
+/// The highest identifier that a namespace may have.
+const MAX_NSID: u32 = 8;
+
+/// The most blocks that a namespace may have.
+const MAX_BLOCKS: u64 = 65_536;
+
 /// A line before `start`, by its kind, and by its place among the lines of that kind, from 0.
 #[derive(Clone, Copy, Debug, PartialEq, Eq)]
 pub enum SetupLine {
@@ -67,14 +80,23 @@ fn at(line: SetupLine, rule: BrokenRule) -> Option<ConfigReason>
 fn one_too_many(config: &Config) -> Option<ConfigReason>
     ensures { result ≡ spec.one_too_many (configuration config.now) }
 {
-    if config.controllers.len() > 16 {
-        return at(SetupLine::Controller(16), BrokenRule::TooManyControllers);
+    if config.controllers.len() > MAX_CONTROLLERS {
+        return at(
+            SetupLine::Controller(MAX_CONTROLLERS),
+            BrokenRule::TooManyControllers,
+        );
     }
-    if config.namespaces.len() > 8 {
-        return at(SetupLine::Namespace(8), BrokenRule::TooManyNamespaces);
+    if config.namespaces.len() > MAX_NAMESPACES {
+        return at(
+            SetupLine::Namespace(MAX_NAMESPACES),
+            BrokenRule::TooManyNamespaces,
+        );
     }
-    if config.attached.len() > 128 {
-        return at(SetupLine::Attached(128), BrokenRule::TooManyAttachments);
+    if config.attached.len() > MAX_ATTACHMENTS {
+        return at(
+            SetupLine::Attached(MAX_ATTACHMENTS),
+            BrokenRule::TooManyAttachments,
+        );
     }
     None
 }
@@ -121,7 +143,7 @@ fn namespace_breaks(before: &[NsConfig], namespace: NsConfig) -> Option<BrokenRu
     ensures { result ≡ spec.namespace_breaks before.now namespace }
 {
     let nsid = namespace.nsid;
-    if nsid == 0 || nsid > 8 {
+    if nsid == 0 || nsid > MAX_NSID {
         return Some(BrokenRule::ForeignNsid(nsid));
     }
     if is_named(before, nsid) {
@@ -225,7 +247,7 @@ fn size_breaks(namespace: NsConfig) -> Option<BrokenRule>
     if blocks == 0 {
         return Some(BrokenRule::NoBlocks(nsid));
     }
-    if blocks > 65_536 {
+    if blocks > MAX_BLOCKS {
         return Some(BrokenRule::TooLarge(nsid, blocks));
     }
     None
@@ -260,7 +282,7 @@ fn does_not_fit(namespaces: &[NsConfig], medium_blocks: u64) -> Option<ConfigRea
 
 impl ConfigReason {
     /// Why a configuration is refused with this fault over a medium of so many blocks: a rule that it breaks and that
-    /// has this fault, and the first line that breaks it. `None` for want of memory.
+    /// has this fault, and the first line that breaks it. `None` for out of memory.
     #[tactic(auto, unfolding(crate::specs::Reasons::reason_of))]
     pub fn of(config: &Config, medium_blocks: u64, fault: ConfigFault) -> Option<ConfigReason>
         ensures { result ≡ spec.reason_of (configuration config.now) medium_blocks fault }
