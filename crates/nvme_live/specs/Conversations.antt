@@ -92,8 +92,8 @@ abbrev pub CanRun : {S : Type 0} → (ℕ → S → List ℕ → List ℕ → S 
 CanRun {S} Turns standing n old line =
     (answer : List ℕ) × (later : S) × Turns n old line answer later × (l : Layers) × (standing later ≡ Running l)
 
--- a line that can want memory, where a session stands so: `start`, if the session can run, or one that sets up, of too
--- many
+-- a line at which memory can run out, where a session stands so: `start`, if the session can run, or one that sets up,
+-- of too many
 abbrev pub CanStarve : Standing → Line → Type 0 → Type 0
 CanStarve (Setting s) line Runs = ((line ≡ Start) × Runs) ⊎ IsCrowded s line
 CanStarve (Running l) line Runs = ⊥

@@ -44,8 +44,8 @@ SetUpIsNumbered =
     (tells : Bool) (blocks : ℕ) (d : Device) (lines answers : List (List ℕ)) (s : SetUp)
     → Session tells blocks d 1 (Setting nothing_set_up) lines answers (Setting s) → IsNumbered lines s
 
--- A session can run behind its `start` exactly where what it has set up has no fault. So only there can it end for want of
--- memory at `start`.
+-- A session can run behind its `start` exactly where what it has set up has no fault. So only there can memory run
+-- out at `start`.
 abbrev pub RunsWhereAccepted : Type 0
 RunsWhereAccepted =
     (tells : Bool) (blocks : ℕ) (d : Device) (n : ℕ) (s : SetUp) (line : List ℕ) → asked line ≡ Sets Start

@@ -74,7 +74,7 @@ pub record HasSetUpRoom (config : Config) (numbers : LineNumbers) : Type 0 where
   pub of_namespaces : 9 ≤ vec_capacity numbers.namespaces
   pub of_attachments : 129 ≤ vec_capacity numbers.attached
 
--- There are more lines of this one's kind already than a configuration may have: only then can it want memory.
+-- There are more lines of this one's kind already than a configuration may have: only then can memory run out at it.
 abbrev pub IsCrowded : SetUp → Line → Type 0
 IsCrowded s Blank = ⊥
 IsCrowded s (Controller k) =

@@ -69,7 +69,7 @@ impl Program {
         writeln!(errors, "{name}: {reason}")
     }
 
-    /// Tells why the program ends: the text of the failure, and behind it a line with its reason. Want of memory has
+    /// Tells why the program ends: the text of the failure, and behind it a line with its reason. Out of memory has
     /// none.
     pub fn tell<E: Write>(
         self,

@@ -210,7 +210,7 @@ fn launch_over<S: System, I: Read, O: Write, E: Write>(
 
 /// The program in any system: which files it opens, in which order, and what ends it. Its words are those of
 /// `run_program`. For a failure one line goes to `errors`, and behind it a second, which gives the reason, for all but
-/// want of memory.
+/// out of memory.
 pub fn run_in<S: System, I: Read, O: Write, E: Write>(
     alloc: Global,
     system: &mut S,
@@ -239,7 +239,7 @@ pub fn run_in<S: System, I: Read, O: Write, E: Write>(
 
 /// The program over the streams that it is handed: its words, the first of which is its name, its standard input,
 /// output and error. The answer is its exit status: 0 done; 1 a fault of the script; 2 a file or stream that can't be
-/// opened, read or written; 3 a refused command line; 4 want of memory.
+/// opened, read or written; 3 a refused command line; 4 out of memory.
 #[tactic(auto, using(crate::proofs::Launching::refused_status, crate::proofs::Launching::taken_status))]
 pub fn run_program<R: Files<File = File> + AllocGlobal, I: Read, O: Write, E: Write>(
     rt: &R,

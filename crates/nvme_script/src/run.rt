@@ -51,7 +51,7 @@ fn prepare(alloc: Global, text: &[u8]) -> Result<Ready, ScriptFault>
     })
 }
 
-/// The fault of a script whose fleet was refused: its configuration's, at the line `start`, or want of memory.
+/// The fault of a script whose fleet was refused: its configuration's, at the line `start`, or out of memory.
 fn refused_at(start: Option<usize>, fault: ConfigFault) -> ScriptFault
     ensures { result ≡ of_opening start fault }
 {
