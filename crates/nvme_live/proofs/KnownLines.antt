@@ -1,19 +1,18 @@
 -- A session whose lines are read, by what is known of the bytes that are left to be read.
 use Rattle.std.proofs.Common.{◌≡◌, ℕ, Bool, List, [], ◌∷◌, Option, None, Some, Ok, Err, inl, inr, refl, ap, subst}
-use Rattle.std.specs.Prelude.{◌⊎◌, ◌==◌, if◌then◌else◌, Result, MatchResult}
+use Rattle.std.specs.Prelude.{◌==◌, if◌then◌else◌}
 use Rattle.std.specs.Io.KnownBytes.{prepend_known}
 use Rattle.std.specs.Io.Buffered.{reader_buffer, reader_capacity, reader_inner, reader_remaining}
 use Rattle.std.specs.declared.io.buffered.BufReader.{BufReader}
 use Rattle.nvme_spec.specs.Blocks.{Device}
 use Rattle.nvme_spec.specs.MediumCalls.{MediumCall}
 use Rattle.nvme_subsys.specs.OverMedium.{OverMedium}
-use Rattle.script_text.specs.Reading.{IsRead}
 use Rattle.script_text.specs.Streams.{ReadCall, WriteCall}
 use Rattle.nvme_program.specs.declared.fault.ScriptFault.{ScriptFault}
 use Rattle.nvme_program.specs.declared.fault.ScriptFault.TheVariants.{Syntax, Config, TooLong, NoMemory, Read, Write}
 use Rattle.nvme_live.specs.AnswerCalls.{TurnOver}
 use Rattle.nvme_live.specs.Conversations.{Converses, Ends, EndsBy, ReadsLines, Stops, standing_over}
-use Rattle.nvme_live.specs.Lives.{Fails, FailsBehindReading, Lives, LivesOn, Rests, surroundings}
+use Rattle.nvme_live.specs.Lives.{Fails, FailsBehindReading, Lives, LivesOn, surroundings}
 use Rattle.nvme_live.specs.Standings.{Standing}
 use Rattle.nvme_live.specs.Streams.{LineCall, Sending, SendsBy, TakesKnown}
 

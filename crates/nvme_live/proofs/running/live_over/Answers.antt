@@ -1,9 +1,9 @@
-use Rattle.std.proofs.Common.{◌≡◌, Bool, ℕ, List, Option, MutBor, Global, ap, ◌∙◌}
+use Rattle.std.proofs.Common.{Bool, ℕ, List, Option, MutBor, Global, ap, ◌∙◌}
 use Rattle.std.specs.Io.Buffered.{reader_remaining}
 use Rattle.std.specs.Io.KnownBytes.{Keeps}
 use Rattle.std.specs.declared.io.buffered.BufReader.{BufReader}
 use Rattle.script_text.specs.Streams.{ReadsSome, WritesSome}
-use Rattle.nvme_live.specs.Streams.{LineCall, ReadsBy, TakesKnown}
+use Rattle.nvme_live.specs.Streams.{ReadsBy, TakesKnown}
 use Rattle.nvme_live.proofs.KnownLines.{fails-reading-known, lives-on-known, nothing-ahead}
 use Rattle.nvme_live.proofs.running.live_over.Goals as goal
 
