@@ -9,8 +9,8 @@ ghost use Rattle.nvme_live.specs.ProgramLives.{SessionProgramEnds};
 use crate::running::live_over;
 use nvme_medium::{Cached, Medium};
 use nvme_program::{
-    Failure, HostFiles, Paths, Program, Ran, Reason, Runner, ScriptFault, System, launch_guarded,
-    status_of,
+    Failure, HostFiles, Lent, Paths, Program, Ran, Reason, Runner, ScriptFault, System,
+    launch_guarded, status_of,
 };
 use std::alloc::Global;
 use std::fs::File;
@@ -40,8 +40,8 @@ fn refused<E: Write>(errors: &mut E, paths: Paths<'_>, failure: Failure) -> Fail
 /// The streams of the program.
 #[derive(Drop)]
 struct Streams<'i, 'o, 'e, I, O, E> {
-    input: &'i mut I,
-    output: &'o mut O,
+    input: Lent<'i, I>,
+    output: Lent<'o, O>,
     errors: &'e mut E,
 }
 
@@ -50,7 +50,7 @@ impl<'i, 'o, 'e, I, O, E> Model for Streams<'i, 'o, 'e, I, O, E> {
 
     ghost Value = { Streams I O };
 
-    ghost view = { λ s. streams s.input s.output s.input.now s.output.now };
+    ghost view = { λ s. streams s.input s.output };
 }
 
 /// A session behind a script; without a named one behind none.
@@ -76,14 +76,19 @@ impl<I: Read, O: Write, E: Write> Runner for Streams<'_, '_, '_, I, O, E> {
         script: &mut T,
         medium: M,
     ) -> Ran<M> {
-        match live_over(alloc, script, self.input, self.output, medium) {
+        let Streams {
+            input,
+            output,
+            errors,
+        } = self;
+        match live_over(alloc, script, input.stream, output.stream, medium) {
             Ok(medium) => Ran {
                 medium,
                 outcome: Ok(()),
             },
             Err((failure, medium)) => Ran {
                 medium,
-                outcome: Err(refused(self.errors, paths, failure)),
+                outcome: Err(refused(errors, paths, failure)),
             },
         }
     }
@@ -112,7 +117,8 @@ fn launch_over<S: System, I: Read, O: Write, E: Write>(
 ) -> Result<(), Failure>
     ensures ends { SessionProgramEnds S.step S.Image.Medium ⟦<Cached<S::Image> as Medium>⟧ S.Script.remaining
         I.remaining O.contents (map string_bytes words.now) system.old streams.old.input streams.old.output
-        (result_err result) system.new streams.new.output }
+        (result_err result) system.new streams.new.input streams.new.output }
+    ensures input { streams.new.input_name ≡ streams.old.input_name }
     ensures output { streams.new.output_name ≡ streams.old.output_name }
 {
     launch_guarded(alloc, system, streams, words)
@@ -131,19 +137,18 @@ pub fn run_in<S: System, I: Read, O: Write, E: Write>(
 ) -> Result<(), Failure>
     ensures { SessionProgramEnds S.step S.Image.Medium ⟦<Cached<S::Image> as Medium>⟧ S.Script.remaining I.remaining
         O.contents (map string_bytes words.now) system.old input.old output.old (result_err result) system.new
-        output.new }
+        input.new output.new }
 {
     let mut streams = Streams {
-        input,
-        output,
+        input: Lent { stream: input },
+        output: Lent { stream: output },
         errors,
     };
     let outcome = launch_over(alloc, system, &mut streams, words);
-    // Taken apart, so that what it leaves of the output is known.
-    let Streams {
-        output: _output,
-        ..
-    } = streams;
+    // Taken apart, so that what it leaves of the input and the output is known.
+    let Streams { input, output, .. } = streams;
+    let Lent { stream: _input } = input;
+    let Lent { stream: _output } = output;
     outcome
 }
 

@@ -1,5 +1,10 @@
 -- The streams of a program, but for the one that takes its messages.
-use Rattle.std.specs.Borrow.{GName, MutBor}
+use Rattle.std.specs.Borrow.{GName}
+
+-- a stream that is borrowed, in the state that it has now, and which stream it is
+pub record Stream (T : Type 0) : Type 0 where
+  pub state : T
+  pub name : GName
 
 -- the input and the output, and which streams they are
 pub record Streams (I O : Type 0) : Type 0 where
@@ -8,11 +13,11 @@ pub record Streams (I O : Type 0) : Type 0 where
   pub input_name : GName
   pub output_name : GName
 
--- two streams that are borrowed, in the states that they have now
-abbrev pub streams : {I O : Type 0} → MutBor I → MutBor O → I → O → Streams I O
-streams input output i o = record {
-  input = i;
-  output = o;
-  input_name = input.ghost_name;
-  output_name = output.ghost_name;
+-- two streams that are borrowed
+abbrev pub streams : {I O : Type 0} → Stream I → Stream O → Streams I O
+streams input output = record {
+  input = input.state;
+  output = output.state;
+  input_name = input.name;
+  output_name = output.name;
 }

@@ -83,12 +83,12 @@ runs_scripts remaining contents = record {
   tells = λ before after. (after.input ≡ before.input) × (after.output ≡ before.output);
 }
 
--- The program in a system, on these words, over its input and its output: how it ends, and what it leaves of the system and
--- of the output.
+-- The program in a system, on these words, over its input and its output: how it ends, and what it leaves of the system, of
+-- the input and of the output.
 unfoldable pub ScriptProgramEnds : {S I T In Out : Type 0} → (S → SystemCall I T → S → Type 0)
     → (image : medium.Ghosts I) → medium.Ghosts (Cached I image) → (T → Option (List ℕ)) → (In → Option (List ℕ))
-    → (Out → Option (List ℕ)) → List (List ℕ) → S → In → Out → Option Failure → S → Out → Type 0
-ScriptProgramEnds {In = In} {Out = Out} step image behind_cache remaining unread contents words system input output end new written =
+    → (Out → Option (List ℕ)) → List (List ℕ) → S → In → Out → Option Failure → S → In → Out → Type 0
+ScriptProgramEnds {In = In} {Out = Out} step image behind_cache remaining unread contents words system input output end new left written =
     (before : Streams In Out) × (after : Streams In Out) × (before.input ≡ input) × (before.output ≡ output)
-    × (after.output ≡ written)
+    × (after.input ≡ left) × (after.output ≡ written)
     × ProgramEnds step image behind_cache remaining (runs_scripts unread contents) words system before end new after

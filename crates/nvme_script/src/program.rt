@@ -11,8 +11,8 @@ use crate::transcribing::run_through;
 use nvme_grammar::{Buffers, fault_at, parse};
 use nvme_medium::{Cached, Medium};
 use nvme_program::{
-    ConfigReason, Failure, HostFiles, Paths, PlacedFault, PlacedRule, Program, Ran, Reason, Runner,
-    ScriptFault, System, USAGE, launch, status_of,
+    ConfigReason, Failure, HostFiles, Lent, Paths, PlacedFault, PlacedRule, Program, Ran, Reason,
+    Runner, ScriptFault, System, USAGE, launch, status_of,
 };
 use nvme_spec::ConfigFault;
 use script_text::read_text;
@@ -140,8 +140,8 @@ fn run_over<I: Read, O: Write, E: Write, M: Medium>(
 /// The streams of the program.
 #[derive(Drop)]
 struct Streams<'i, 'o, 'e, I, O, E> {
-    input: &'i mut I,
-    output: &'o mut O,
+    input: Lent<'i, I>,
+    output: Lent<'o, O>,
     errors: &'e mut E,
 }
 
@@ -150,7 +150,7 @@ impl<'i, 'o, 'e, I, O, E> Model for Streams<'i, 'o, 'e, I, O, E> {
 
     ghost Value = { Streams I O };
 
-    ghost view = { λ s. streams s.input s.output s.input.now s.output.now };
+    ghost view = { λ s. streams s.input s.output };
 }
 
 /// Without a named script it is the input.
@@ -176,7 +176,14 @@ impl<I: Read, O: Write, E: Write> Runner for Streams<'_, '_, '_, I, O, E> {
         script: &mut T,
         medium: M,
     ) -> Ran<M> {
-        run_over(alloc, paths, script, self.output, self.errors, medium)
+        run_over(
+            alloc,
+            paths,
+            script,
+            self.output.stream,
+            self.errors,
+            medium,
+        )
     }
 
     fn run_unnamed<M: Medium + Drop>(
@@ -185,7 +192,12 @@ impl<I: Read, O: Write, E: Write> Runner for Streams<'_, '_, '_, I, O, E> {
         paths: Paths<'_>,
         medium: M,
     ) -> Ran<M> {
-        run_over(alloc, paths, self.input, self.output, self.errors, medium)
+        let Streams {
+            input,
+            output,
+            errors,
+        } = self;
+        run_over(alloc, paths, input.stream, output.stream, errors, medium)
     }
 
     fn tell(&mut self, failure: Failure, reason: Option<Reason<'_, '_>>) -> Failure {
@@ -202,7 +214,8 @@ fn launch_over<S: System, I: Read, O: Write, E: Write>(
 ) -> Result<(), Failure>
     ensures ends { ScriptProgramEnds S.step S.Image.Medium ⟦<Cached<S::Image> as Medium>⟧ S.Script.remaining
         I.remaining O.contents (map string_bytes words.now) system.old streams.old.input streams.old.output
-        (result_err result) system.new streams.new.output }
+        (result_err result) system.new streams.new.input streams.new.output }
+    ensures input { streams.new.input_name ≡ streams.old.input_name }
     ensures output { streams.new.output_name ≡ streams.old.output_name }
 {
     launch(alloc, system, streams, words)
@@ -221,19 +234,18 @@ pub fn run_in<S: System, I: Read, O: Write, E: Write>(
 ) -> Result<(), Failure>
     ensures { ScriptProgramEnds S.step S.Image.Medium ⟦<Cached<S::Image> as Medium>⟧ S.Script.remaining I.remaining
         O.contents (map string_bytes words.now) system.old input.old output.old (result_err result) system.new
-        output.new }
+        input.new output.new }
 {
     let mut streams = Streams {
-        input,
-        output,
+        input: Lent { stream: input },
+        output: Lent { stream: output },
         errors,
     };
     let outcome = launch_over(alloc, system, &mut streams, words);
-    // Taken apart, so that what it leaves of the output is known.
-    let Streams {
-        output: _output,
-        ..
-    } = streams;
+    // Taken apart, so that what it leaves of the input and the output is known.
+    let Streams { input, output, .. } = streams;
+    let Lent { stream: _input } = input;
+    let Lent { stream: _output } = output;
     outcome
 }
 

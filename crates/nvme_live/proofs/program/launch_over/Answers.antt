@@ -3,6 +3,10 @@ use Rattle.std.specs.Borrow.{GName}
 use Rattle.nvme_live.specs.ProgramLives.{SessionProgramEnds}
 use Rattle.nvme_live.proofs.program.launch_over.Goals as goal
 
+abbrev first : GName → List GName → GName
+first other [] = other
+first other (name ∷ names) = name
+
 abbrev second : GName → List GName → GName
 second other [] = other
 second other (name ∷ []) = other
@@ -10,7 +14,10 @@ second other (name ∷ next ∷ names) = next
 
 pub returns-clause-ends : goal.returns-clause-ends
 unfolding SessionProgramEnds
-returns-clause-ends g c = (c.args.streams.now, c.launch_guarded.new.runner, refl, refl, refl, c.launch_guarded.ensures.ends)
+returns-clause-ends g c = (c.args.streams.now, c.launch_guarded.new.runner, refl, refl, refl, refl, c.launch_guarded.ensures.ends)
+
+pub returns-clause-input : goal.returns-clause-input
+returns-clause-input g c = ap (first c.args.streams.now.input_name) c.launch_guarded.ensures.links
 
 pub returns-clause-output : goal.returns-clause-output
 returns-clause-output g c = ap (second c.args.streams.now.output_name) c.launch_guarded.ensures.links
