@@ -7,6 +7,7 @@ use Rattle.nvme_medium.specs.declared.cached.Cached.{Cached}
 use Rattle.script_text.specs.Reading.{IsRead}
 use Rattle.script_text.specs.Streams.{ReadsSome, WritesSome}
 use Rattle.nvme_program.specs.Programs.{GuardedEnds}
+use Rattle.nvme_program.specs.Statuses.{end_status}
 use Rattle.nvme_program.specs.Streams.{Streams}
 use Rattle.nvme_program.specs.SystemCalls.{SystemCall}
 use Rattle.nvme_program.specs.declared.failure.Failure.{Failure}
@@ -60,3 +61,11 @@ SessionProgramEnds {In = In} {Out = Out} step image behind_cache remaining unrea
     (before : Streams In Out) × (after : Streams In Out) × (before.input ≡ input) × (before.output ≡ output)
     × (after.input ≡ left) × (after.output ≡ written)
     × GuardedEnds step image behind_cache remaining (lives_behind_scripts unread contents) words system before end new after
+
+-- The program ends so in some system, and its exit status is that of its end.
+unfoldable pub SessionProgramExits : {S I T In Out : Type 0} → (S → SystemCall I T → S → Type 0)
+    → (image : medium.Ghosts I) → medium.Ghosts (Cached I image) → (T → Option (List ℕ)) → (In → Option (List ℕ))
+    → (Out → Option (List ℕ)) → List (List ℕ) → In → Out → ℕ → In → Out → Type 0
+SessionProgramExits {S = S} step image behind_cache remaining unread contents words input output status left written =
+    (system : S) × (end : Option Failure) × (new : S) × (status ≡ end_status end)
+    × SessionProgramEnds step image behind_cache remaining unread contents words system input output end new left written

@@ -4,10 +4,10 @@ ghost use Rattle.std.specs.Prelude.{◌≡◌, ◌≢◌, ◌≤◌, None, map};
 ghost use Rattle.std.specs.String.{string_bytes};
 ghost use Rattle.std.specs.Result.{result_err};
 ghost use Rattle.nvme_program.specs.CommandLines.{behind_option, word_fault};
-ghost use Rattle.nvme_live.specs.ProgramLives.{SessionProgramEnds};
+ghost use Rattle.nvme_live.specs.ProgramLives.{SessionProgramEnds, SessionProgramExits};
 
 use crate::running::live_over;
-use nvme_medium::{Cached, Medium};
+use nvme_medium::{Cached, FileMedium, HostFile, Medium};
 use nvme_program::{
     Failure, HostFiles, Lent, Paths, Program, Ran, Reason, Runner, ScriptFault, System,
     launch_guarded, status_of,
@@ -165,6 +165,9 @@ pub fn run_program<R: Files<File = File> + AllocGlobal, I: Read, O: Write, E: Wr
     errors: &mut E,
 ) -> u8
     ensures last { result ≤ 4 }
+    ensures run { SessionProgramExits ⟦<HostFiles<'static, R> as System>⟧.step ⟦<FileMedium<HostFile> as Medium>⟧
+        ⟦<Cached<FileMedium<HostFile>> as Medium>⟧ ⟦<File as Read>⟧.remaining I.remaining O.contents
+        (map string_bytes words.now) input.old output.old result input.new output.new }
     ensures refused { word_fault (behind_option (map string_bytes words.now)) ≢ None → result ≡ 3 }
     ensures taken { word_fault (behind_option (map string_bytes words.now)) ≡ None → result ≢ 3 }
 {

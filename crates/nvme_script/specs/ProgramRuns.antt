@@ -11,6 +11,7 @@ use Rattle.script_text.specs.Streams.{ReadsSome}
 use Rattle.script_text.specs.declared.reading.ReadFault.{ReadFault}
 use Rattle.nvme_program.specs.FaultKinds.{of_reading}
 use Rattle.nvme_program.specs.Programs.{ProgramEnds}
+use Rattle.nvme_program.specs.Statuses.{end_status}
 use Rattle.nvme_program.specs.Streams.{Streams}
 use Rattle.nvme_program.specs.SystemCalls.{SystemCall}
 use Rattle.nvme_program.specs.declared.failure.Failure.{Failure}
@@ -92,3 +93,11 @@ ScriptProgramEnds {In = In} {Out = Out} step image behind_cache remaining unread
     (before : Streams In Out) × (after : Streams In Out) × (before.input ≡ input) × (before.output ≡ output)
     × (after.input ≡ left) × (after.output ≡ written)
     × ProgramEnds step image behind_cache remaining (runs_scripts unread contents) words system before end new after
+
+-- The program ends so in some system, and its exit status is that of its end.
+unfoldable pub ScriptProgramExits : {S I T In Out : Type 0} → (S → SystemCall I T → S → Type 0)
+    → (image : medium.Ghosts I) → medium.Ghosts (Cached I image) → (T → Option (List ℕ)) → (In → Option (List ℕ))
+    → (Out → Option (List ℕ)) → List (List ℕ) → In → Out → ℕ → In → Out → Type 0
+ScriptProgramExits {S = S} step image behind_cache remaining unread contents words input output status left written =
+    (system : S) × (end : Option Failure) × (new : S) × (status ≡ end_status end)
+    × ScriptProgramEnds step image behind_cache remaining unread contents words system input output end new left written

@@ -5,11 +5,11 @@ ghost use Rattle.std.specs.String.{string_bytes};
 ghost use Rattle.std.specs.Result.{result_err};
 ghost use Rattle.nvme_program.specs.CommandLines.{word_fault};
 ghost use Rattle.nvme_program.specs.Failures.{IsOfRun};
-ghost use Rattle.nvme_script.specs.ProgramRuns.{RunsOver, ScriptProgramEnds};
+ghost use Rattle.nvme_script.specs.ProgramRuns.{RunsOver, ScriptProgramEnds, ScriptProgramExits};
 
 use crate::transcribing::run_through;
 use nvme_grammar::{Buffers, fault_at, parse};
-use nvme_medium::{Cached, Medium};
+use nvme_medium::{Cached, FileMedium, HostFile, Medium};
 use nvme_program::{
     ConfigReason, Failure, HostFiles, Lent, Paths, PlacedFault, PlacedRule, Program, Ran, Reason,
     Runner, ScriptFault, System, USAGE, launch, status_of,
@@ -261,6 +261,9 @@ pub fn run_program<R: Files<File = File> + AllocGlobal, I: Read, O: Write, E: Wr
     errors: &mut E,
 ) -> u8
     ensures last { result ≤ 4 }
+    ensures run { ScriptProgramExits ⟦<HostFiles<'static, R> as System>⟧.step ⟦<FileMedium<HostFile> as Medium>⟧
+        ⟦<Cached<FileMedium<HostFile>> as Medium>⟧ ⟦<File as Read>⟧.remaining I.remaining O.contents
+        (map string_bytes words.now) input.old output.old result input.new output.new }
     ensures refused { word_fault (map string_bytes words.now) ≢ None → result ≡ 3 }
     ensures taken { word_fault (map string_bytes words.now) ≡ None → result ≢ 3 }
 {
