@@ -176,14 +176,8 @@ impl<I: Read, O: Write, E: Write> Runner for Streams<'_, '_, '_, I, O, E> {
         script: &mut T,
         medium: M,
     ) -> Ran<M> {
-        run_over(
-            alloc,
-            paths,
-            script,
-            self.output.stream,
-            self.errors,
-            medium,
-        )
+        let Streams { output, errors, .. } = self;
+        run_over(alloc, paths, script, output.stream, errors, medium)
     }
 
     fn run_unnamed<M: Medium + Drop>(
