@@ -1,0 +1,66 @@
+// Tells which calls of the system the target makes for its files, into which it is loaded by LD_PRELOAD.
+//
+// CALLS_TOLD names a file that gets a line for each: `writes PLACE COUNT` before a pwrite and `wrote PLACE COUNT` behind
+// it, `syncs` before an fdatasync and `synced` behind it, `reserves MODE PLACE COUNT` before an fallocate.
+// CALLS_GATE may name a pipe. A pwrite waits there until it gets a byte.
+// CALLS_REFUSAL may be an errno, by which each fallocate is refused.
+#define _GNU_SOURCE
+#include <dlfcn.h>
+#include <errno.h>
+#include <fcntl.h>
+#include <stdio.h>
+#include <stdlib.h>
+#include <sys/types.h>
+#include <unistd.h>
+
+static int told = -1, gate = -1;
+
+__attribute__((constructor)) static void begin(void) {
+    if (getenv("CALLS_TOLD"))
+        told = open(getenv("CALLS_TOLD"), O_WRONLY | O_APPEND | O_CREAT | O_CLOEXEC, 0600);
+    if (getenv("CALLS_GATE"))
+        gate = open(getenv("CALLS_GATE"), O_RDWR | O_CLOEXEC);
+}
+
+static void tell(const char *what, long long first, long long second, long long third) {
+    char line[100];
+    int length = third >= 0    ? snprintf(line, sizeof line, "%s %lld %lld %lld\n", what, first, second, third)
+                 : second >= 0 ? snprintf(line, sizeof line, "%s %lld %lld\n", what, first, second)
+                               : snprintf(line, sizeof line, "%s\n", what);
+    if (told >= 0 && write(told, line, length) != length)
+        abort();
+}
+
+ssize_t pwrite64(int file, const void *bytes, size_t count, off64_t place) {
+    ssize_t (*next)(int, const void *, size_t, off64_t) = dlsym(RTLD_NEXT, "pwrite64");
+    char byte;
+    tell("writes", place, count, -1);
+    if (gate >= 0 && read(gate, &byte, 1) != 1)
+        abort();
+    ssize_t done = next(file, bytes, count, place);
+    tell("wrote", place, done, -1);
+    return done;
+}
+
+ssize_t pwrite(int file, const void *bytes, size_t count, off_t place) {
+    return pwrite64(file, bytes, count, place);
+}
+
+int fdatasync(int file) {
+    int (*next)(int) = dlsym(RTLD_NEXT, "fdatasync");
+    tell("syncs", -1, -1, -1);
+    int done = next(file);
+    tell("synced", -1, -1, -1);
+    return done;
+}
+
+int fallocate(int file, int mode, off_t place, off_t count) {
+    int (*next)(int, int, off_t, off_t) = dlsym(RTLD_NEXT, "fallocate");
+    const char *refusal = getenv("CALLS_REFUSAL");
+    tell("reserves", mode, place, count);
+    if (refusal) {
+        errno = atoi(refusal);
+        return -1;
+    }
+    return next(file, mode, place, count);
+}
