@@ -16,8 +16,8 @@ mod output;
 #[path = "../src/pdu.rs"]
 mod pdu;
 #[allow(dead_code, unsafe_code)]
-#[path = "../src/poll.rs"]
-mod poll;
+#[path = "../src/system.rs"]
+mod system;
 #[allow(dead_code)]
 #[path = "../src/window.rs"]
 mod window;
@@ -25,11 +25,11 @@ mod window;
 use bytes::{put, u16_at, u32_at, u64_at};
 use output::Output;
 use pdu::{Agreed, Layout};
-use poll::{Interest, Poll};
 use std::collections::HashMap;
 use std::convert::Infallible;
 use std::io::{Read, Result, Write};
 use std::net::{TcpListener, TcpStream};
+use system::{Interest, Poll};
 
 const PLAIN: Agreed = Agreed { header_digests: false, data_digests: false, alignment: 0 };
 const BYTES: usize = 32768 * 512;

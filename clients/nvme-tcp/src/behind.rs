@@ -5,18 +5,22 @@
 use std::io;
 use std::mem;
 use std::sync::mpsc::{self, Receiver, Sender, SyncSender};
-use std::sync::{Arc, Condvar, Mutex, PoisonError};
-use std::thread;
+use std::sync::{Arc, Condvar, Mutex, MutexGuard, PoisonError};
+use std::thread::{self, JoinHandle};
+use std::time::Duration;
 
 /// How many pieces are under way at most.
 const MOST: u64 = 4;
 /// A piece of fewer bytes is written at once, where no other is under way: that is quicker than to wake a thread.
 const SMALL: usize = 16 << 10;
+/// At the end it is looked so often, and with such a pause, whether the system has all pieces.
+const LOOKS: usize = 100;
+const PAUSE: Duration = Duration::from_millis(10);
 
 /// Bytes, and where they go.
 pub trait Piece: Default + Send + 'static {
-    /// The files that they go to.
-    type Files: Send + Sync + 'static;
+    /// The files that they go to. Whoever writes has them alone.
+    type Files: Send + 'static;
     /// What is made of them before they are written. It is kept, and what was made before is written over.
     type Made: Default + Send;
 
@@ -27,15 +31,20 @@ pub trait Piece: Default + Send + 'static {
     fn make(&self, made: &mut Self::Made);
 
     /// Hands all of them to the system, and leaves none.
-    fn write(&mut self, made: &Self::Made, files: &Self::Files) -> io::Result<()>;
+    fn write(&mut self, made: &Self::Made, files: &mut Self::Files) -> io::Result<()>;
+}
+
+/// The files, and whose turn it is to write.
+struct Turn<F> {
+    files: F,
+    /// How many pieces were written, unless one could not be.
+    written: Option<u64>,
 }
 
 /// The pieces that are on their way, and the files.
 struct Way<P: Piece> {
-    files: P::Files,
     given: Mutex<Receiver<(u64, P)>>,
-    /// How many pieces were written, unless one could not be.
-    turn: Mutex<Option<u64>>,
+    turn: Mutex<Turn<P::Files>>,
     has_turned: Condvar,
 }
 
@@ -45,17 +54,20 @@ impl<P: Piece> Way<P> {
         self.given.lock().ok()?.recv().ok()
     }
 
+    fn turn(&self) -> MutexGuard<'_, Turn<P::Files>> {
+        self.turn.lock().unwrap_or_else(PoisonError::into_inner)
+    }
+
     /// Makes a piece and has it written behind the others. None is written behind one that could not be.
     fn write(&self, number: u64, piece: &mut P, made: &mut P::Made) -> io::Result<()> {
         piece.make(made);
-        let turn = self.turn.lock().unwrap_or_else(PoisonError::into_inner);
-        let waited = self.has_turned.wait_while(turn, |turn| turn.map_or(false, |turn| turn != number));
+        let waited = self.has_turned.wait_while(self.turn(), |turn| turn.written.map_or(false, |it| it != number));
         let mut turn = waited.unwrap_or_else(PoisonError::into_inner);
-        let result = match *turn {
-            Some(_) => piece.write(made, &self.files),
+        let result = match turn.written {
+            Some(_) => piece.write(made, &mut turn.files),
             None => Err(io::ErrorKind::BrokenPipe.into()),
         };
-        *turn = if result.is_ok() { Some(number + 1) } else { None };
+        turn.written = if result.is_ok() { Some(number + 1) } else { None };
         drop(turn);
         self.has_turned.notify_all();
         result
@@ -76,8 +88,10 @@ impl<P: Piece> Way<P> {
 /// Files, and the pieces that are on their way to them.
 pub struct Behind<P: Piece> {
     way: Arc<Way<P>>,
+    threads: Vec<JoinHandle<()>>,
     made: P::Made,
-    pieces: SyncSender<(u64, P)>,
+    /// Until the end, or until one could not be written.
+    pieces: Option<SyncSender<(u64, P)>>,
     written: Receiver<io::Result<P>>,
     /// How many pieces were begun, and how many of them the system has.
     begun: u64,
@@ -90,18 +104,20 @@ impl<P: Piece> Behind<P> {
     /// Files that are written by so many threads with this name.
     pub fn new(name: &str, threads: usize, files: P::Files) -> io::Result<Self> {
         let ((pieces, given), (told, written)) = (mpsc::sync_channel(MOST as usize), mpsc::channel());
-        let (given, turn, has_turned) = (Mutex::new(given), Mutex::new(Some(0)), Condvar::new());
-        let way = Arc::new(Way { files, given, turn, has_turned });
-        for _ in 0..threads {
+        let (given, turn) = (Mutex::new(given), Mutex::new(Turn { files, written: Some(0) }));
+        let way = Arc::new(Way { given, turn, has_turned: Condvar::new() });
+        let begun = (0..threads).map(|_| {
             let (way, told) = (Arc::clone(&way), told.clone());
-            thread::Builder::new().name(name.to_owned()).spawn(move || way.serve(&told))?;
-        }
-        let (made, spare) = (P::Made::default(), Vec::new());
-        Ok(Behind { way, made, pieces, written, begun: 0, done: 0, spare })
+            thread::Builder::new().name(name.to_owned()).spawn(move || way.serve(&told))
+        });
+        let threads = begun.collect::<io::Result<Vec<_>>>()?;
+        let (made, pieces, spare) = (P::Made::default(), Some(pieces), Vec::new());
+        Ok(Behind { way, threads, made, pieces, written, begun: 0, done: 0, spare })
     }
 
-    pub fn files(&self) -> &P::Files {
-        &self.way.files
+    /// Does something with the files, behind the piece that is being written.
+    pub fn with_files<R>(&self, act: impl FnOnce(&mut P::Files) -> R) -> R {
+        act(&mut self.way.turn().files)
     }
 
     /// Has a piece written behind all others, and empties it: now, or a little later. It was written once so many pieces
@@ -109,14 +125,20 @@ impl<P: Piece> Behind<P> {
     pub fn begin(&mut self, piece: &mut P, is_awaited: bool) -> io::Result<()> {
         if (is_awaited || piece.size() < SMALL) && self.done()? == self.begun {
             piece.make(&mut self.made);
-            return piece.write(&self.made, &self.way.files);
+            return piece.write(&self.made, &mut self.way.turn().files);
         }
+        self.send(piece)
+    }
+
+    /// Has a piece written behind all others by a thread, and empties it.
+    pub fn send(&mut self, piece: &mut P) -> io::Result<()> {
         if self.begun - self.done == MOST {
             self.wait()?;
         }
         let piece = mem::replace(piece, self.spare.pop().unwrap_or_default());
         self.begun += 1;
-        self.pieces.send((self.begun - 1, piece)).map_err(|_| io::ErrorKind::BrokenPipe.into())
+        let sent = self.pieces.as_ref().map(|pieces| pieces.send((self.begun - 1, piece)));
+        sent.and_then(Result::ok).ok_or_else(|| io::ErrorKind::BrokenPipe.into())
     }
 
     /// How many pieces were begun.
@@ -147,9 +169,30 @@ impl<P: Piece> Behind<P> {
 
     /// A piece was written. Pieces are told out of their order, but all before one that is told were written too.
     fn count(&mut self, result: io::Result<P>) -> io::Result<()> {
-        self.spare.push(result?);
+        match result {
+            Ok(piece) => self.spare.push(piece),
+            Err(error) => {
+                self.pieces = None;
+                return Err(error);
+            }
+        }
         self.done += 1;
         Ok(())
+    }
+}
+
+impl<P: Piece> Drop for Behind<P> {
+    /// Closes the files, unless the system takes more than a second for what is under way.
+    fn drop(&mut self) {
+        let mut looks = 0..LOOKS;
+        while self.pieces.is_some() && self.done().map_or(false, |done| done != self.begun) {
+            if looks.next().is_none() {
+                return;
+            }
+            thread::sleep(PAUSE);
+        }
+        self.pieces = None;
+        self.threads.drain(..).for_each(|it| drop(it.join()));
     }
 }
 
@@ -172,7 +215,7 @@ mod tests {
             made.extend(self.iter().map(|byte| !byte));
         }
 
-        fn write(&mut self, made: &Vec<u8>, mut file: &File) -> io::Result<()> {
+        fn write(&mut self, made: &Vec<u8>, file: &mut File) -> io::Result<()> {
             file.write_all(made)?;
             self.clear();
             Ok(())
@@ -197,6 +240,38 @@ mod tests {
             assert!(fs::read(&path).unwrap() == wanted);
         }
         fs::remove_file(path).unwrap();
+    }
+
+    /// A piece whose files are a thing that is counted.
+    #[derive(Default)]
+    struct Counted;
+
+    impl Piece for Counted {
+        type Files = Arc<()>;
+        type Made = ();
+
+        fn size(&self) -> usize {
+            0
+        }
+
+        fn make(&self, (): &mut ()) {
+            thread::sleep(PAUSE / 5);
+        }
+
+        fn write(&mut self, (): &(), _: &mut Arc<()>) -> io::Result<()> {
+            Ok(())
+        }
+    }
+
+    #[test]
+    fn files_are_closed_at_the_end() {
+        for pieces in 0..10 {
+            let files = Arc::new(());
+            let mut behind = Behind::<Counted>::new("test", 2, Arc::clone(&files)).unwrap();
+            (0..pieces).for_each(|_| behind.send(&mut Counted).unwrap());
+            drop(behind);
+            assert_eq!(Arc::strong_count(&files), 1);
+        }
     }
 
     #[test]

@@ -62,7 +62,7 @@ impl Piece for Blocks {
 
     fn make(&self, (): &mut ()) {}
 
-    fn write(&mut self, (): &(), file: &File) -> io::Result<()> {
+    fn write(&mut self, (): &(), file: &mut File) -> io::Result<()> {
         let mut begin = 0;
         for (place, end) in self.runs.drain(..) {
             file.write_all_at(&self.bytes[begin..end], place)?;
@@ -176,6 +176,6 @@ impl Image {
     fn sync(&mut self) -> Outcome<()> {
         self.begin(true)?;
         while self.wait()? {}
-        self.file.files().sync_data().map_err(Fault::Image)
+        self.file.with_files(|file| file.sync_data()).map_err(Fault::Image)
     }
 }

@@ -99,6 +99,11 @@ impl<'a> Machine<'a> {
         self.script.as_mut().map_or(Ok(0), |it| it.begin(is_awaited))
     }
 
+    /// Is called ten times a second: a script to which nothing is added gives back the room that it has ahead.
+    pub fn rest_script(&mut self) -> Outcome<()> {
+        self.script.as_mut().map_or(Ok(()), Script::rest)
+    }
+
     /// How many pieces of the script are done.
     pub fn script_done(&mut self) -> Outcome<u64> {
         self.script.as_mut().map_or(Ok(0), Script::done)

@@ -6,6 +6,7 @@
 
 mod admin;
 mod answer;
+mod appended;
 mod association;
 mod behind;
 mod bytes;
@@ -29,12 +30,12 @@ mod options;
 mod output;
 mod pdu;
 mod pointer;
-#[allow(unsafe_code)]
-mod poll;
 mod restoring;
 mod script;
 mod server;
 mod status;
+#[allow(unsafe_code)]
+mod system;
 mod target;
 mod transfers;
 mod window;

@@ -19,7 +19,8 @@ CONFIG has the lines of a script before `start`: controllers with their hosts, n
   --allow HOSTID=ADDRESS       a host with this HOSTID, a UUID, may come from this address alone; may be repeated
   --advertise ADDRESS:PORT     the address that discovery tells, where hosts reach it by another one
   --state FOLDER               keep reservations, write protection and attachments there, over restarts
-  --script FILE                keep the run there as a script, and what it printed in FILE.out
+  --script FILE                keep the run there as a script, and what it printed in FILE.out; up to 64 MiB of the disk
+                               are reserved ahead of each, and given back where nothing is written for a second
   --control SOCKET             answer lines of control at this socket; its folder is its user's alone
   --trace                      tell on standard error what hosts do
   --help, -h                   print this

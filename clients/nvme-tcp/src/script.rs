@@ -1,17 +1,19 @@
 //! The run as a script: each event as a line of a script, and what it gave as a line of its transcript.
 
+use crate::appended::Appended;
 use crate::behind::{Behind, Piece};
 use crate::bytes::{push_number, put_hex};
 use crate::configuration::Configuration;
 use crate::fault::{Fault, Outcome};
 use crate::output::Output;
 use nvmesim::{Executed, Fetched};
-use std::fs::File;
-use std::io::{self, Write};
+use std::io;
 use std::path::Path;
 
 /// Lines of so many bytes are a piece, which goes to the file before the next are there.
 const PIECE: usize = 128 << 10;
+/// Behind so many calls of `rest` without a line the files give back the room that is left over.
+const QUIET: u32 = 10;
 
 /// A part of a line.
 #[derive(Clone, Copy)]
@@ -69,7 +71,7 @@ impl Text {
 struct Lines([Text; 2]);
 
 impl Piece for Lines {
-    type Files = [File; 2];
+    type Files = [Appended; 2];
     type Made = [Output; 2];
 
     fn size(&self) -> usize {
@@ -80,9 +82,14 @@ impl Piece for Lines {
         self.0.iter().zip(made).for_each(|(text, out)| text.spell(out));
     }
 
-    fn write(&mut self, made: &[Output; 2], files: &[File; 2]) -> io::Result<()> {
-        for (text, (out, mut file)) in self.0.iter_mut().zip(made.iter().zip(files)) {
-            file.write_all(out.waiting())?;
+    /// Without lines it has the files give back the room that is left over.
+    fn write(&mut self, made: &[Output; 2], files: &mut [Appended; 2]) -> io::Result<()> {
+        if self.size() == 0 {
+            files.iter_mut().for_each(Appended::give_back);
+            return Ok(());
+        }
+        for (text, (out, file)) in self.0.iter_mut().zip(made.iter().zip(files)) {
+            file.append(out.waiting())?;
             text.bytes.clear();
             text.digits.clear();
         }
@@ -95,6 +102,8 @@ pub struct Script {
     /// The lines that go to the files next.
     lines: Lines,
     files: Behind<Lines>,
+    /// How often `rest` was called since the last line, unless the files rest.
+    quiet: Option<u32>,
 }
 
 impl Script {
@@ -102,8 +111,8 @@ impl Script {
     pub fn new(path: &Path, configuration: &Configuration) -> io::Result<Script> {
         let mut beside = path.as_os_str().to_owned();
         beside.push(".out");
-        let files = Behind::new("script", 2, [File::create(path)?, File::create(&beside)?])?;
-        let mut script = Script { lines: Lines::default(), files };
+        let files = Behind::new("script", 2, [Appended::create(path)?, Appended::create(Path::new(&beside))?])?;
+        let mut script = Script { lines: Lines::default(), files, quiet: None };
         script.lines.0[0].push(&[Is(&configuration.lines()), Is("start")]);
         Ok(script)
     }
@@ -157,9 +166,20 @@ impl Script {
     /// nothing is done before.
     pub fn begin(&mut self, is_awaited: bool) -> Outcome<u64> {
         if self.lines.size() != 0 {
+            self.quiet = Some(0);
             self.files.begin(&mut self.lines, is_awaited).map_err(Fault::Script)?;
         }
         Ok(self.files.begun())
+    }
+
+    /// Has the files give back room where nothing was written for a while: this is called again and again.
+    pub fn rest(&mut self) -> Outcome<()> {
+        self.quiet = self.quiet.map(|quiet| quiet + 1);
+        if self.quiet.map_or(false, |quiet| quiet >= QUIET) && self.done()? == self.files.begun() {
+            self.quiet = None;
+            self.files.send(&mut Lines::default()).map_err(Fault::Script)?;
+        }
+        Ok(())
     }
 
     /// How many pieces are done.

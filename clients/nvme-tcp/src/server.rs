@@ -5,7 +5,7 @@ use crate::connection::{Connection, ROOM};
 use crate::control::Console;
 use crate::fault::{Fault, Outcome};
 use crate::input::Rooms;
-use crate::poll::{end_when_lost, Interest, Poll, Ready};
+use crate::system::{end_when_lost, Interest, Poll, Ready};
 use crate::target::{Effect, Handed, Target};
 use std::collections::{HashMap, VecDeque};
 use std::io;
@@ -120,6 +120,7 @@ impl<'a> Server<'a> {
         if now >= *look {
             *look = now + LOOK;
             self.close_late(now)?;
+            self.target.machine.rest_script()?;
         }
         Ok(())
     }

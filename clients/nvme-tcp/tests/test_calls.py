@@ -1,4 +1,6 @@
-"""What a target has the system do with its files: a Flush is answered when all blocks before it are synced."""
+"""What a target has the system do with its files: a Flush is answered when all blocks before it are synced, and a kept
+script has room ahead of it, which is given back."""
+import errno
 import os
 import shutil
 import struct
@@ -9,10 +11,13 @@ import unittest
 from pathlib import Path
 from unittest import mock
 
-from tests.host import BLOCK, CAPSULE, IN_CAPSULE, Queue, entry_of
-from tests.targets import BLOCKS, TargetTest
+from tests.host import BLOCK, CAPSULE, IN_CAPSULE, Host, Queue, entry_of
+from tests.targets import BLOCKS, Target, TargetTest
 
 FORCE_UNIT_ACCESS = 1 << 30
+MEBIBYTE = 1 << 20
+# A file may have so many bytes on the disk that are not of its content.
+SLACK = 128 << 10
 
 
 @unittest.skipUnless(shutil.which("cc"), "there is no cc")
@@ -85,6 +90,79 @@ class Syncs(CallsTest):
         os.write(self.gate, b"1" * 100)
         self.assertEqual([host.write(5, bytes(BLOCK)), host.flush()], [0, 0])
         self.assertEqual([words[0] for words in self.told()], ["writes", "wrote", "syncs", "synced"])
+
+
+class Rooms(CallsTest):
+    """A kept script, and the room on the disk that is reserved for it."""
+
+    def setUp(self) -> None:
+        self.refusal = None
+        room = tempfile.TemporaryDirectory()
+        self.addCleanup(room.cleanup)
+        self.script = Path(room.name, "kept.nvme")
+        self.options = ["--script", str(self.script)]
+        super().setUp()
+
+    def write(self, host: Host, count: int) -> None:
+        """Writes so many times 128 KiB, of which the script has twice as many bytes."""
+        for it in range(count):
+            self.assertEqual(host.write(256 * (it % 8), bytes([it + 1]) * 256 * BLOCK), 0)
+
+    def beyond(self) -> int:
+        """How many bytes of the disk the script has beyond its end."""
+        return self.script.stat().st_blocks * 512 - self.script.stat().st_size
+
+    def reserved(self) -> list:
+        """Where room was reserved, and how much, each time in such a way that the file's length stays."""
+        told = [words for words in self.told() if words[0] == "reserves"]
+        self.assertTrue(all(words[1] == "1" for words in told))
+        return [(int(place), int(count)) for _, _, place, count in told]
+
+    def test_it_grows_with_the_script(self) -> None:
+        host = self.host()
+        self.write(host, 2)
+        self.assertEqual(self.reserved(), [])
+        self.write(host, 40)
+        told = self.reserved()
+        self.assertEqual(len(told), 4)
+        for (place, count), (behind, _) in zip(told, told[1:]):
+            self.assertTrue(MEBIBYTE <= count <= place and place + count == behind, told)
+        self.assertGreater(sum(told[-1]), self.script.stat().st_size)
+
+    def test_a_script_that_rests(self) -> None:
+        host = self.host()
+        for _ in range(2):
+            self.write(host, 10)
+            self.wait_for(lambda: self.beyond() < SLACK)
+        self.assertEqual(len(self.reserved()), 3)
+        self.assertEqual(self.script.read_bytes().count(b"\nfetch 1 1\n"), 20)
+
+    def test_a_target_that_is_killed(self) -> None:
+        host = self.host()
+        self.write(host, 10)
+        self.target.kill()
+        content = self.script.read_bytes()
+        self.assertEqual(content.count(b"\nfetch 1 1\n"), 10)
+        self.assertNotIn(0, content)
+        self.target.start()
+
+    def test_a_refusal(self) -> None:
+        """The script of a target whose system refuses to reserve is the same, and it is not asked again."""
+        host = self.host()
+        self.write(host, 10)
+        with tempfile.TemporaryDirectory() as room:
+            kept, told = Path(room, "kept.nvme"), Path(room, "told")
+            refused = {"LD_PRELOAD": str(self.library), "CALLS_TOLD": str(told),
+                       "CALLS_REFUSAL": str(errno.EOPNOTSUPP)}
+            with mock.patch.dict(os.environ, refused):
+                other = Target(Path(room), self.config, options=["--script", str(kept)])
+            host = Host(other.port, 0xa1)
+            self.write(host, 10)
+            for end in ("", ".out"):
+                self.assertEqual(Path(f"{self.script}{end}").read_bytes(), Path(f"{kept}{end}").read_bytes())
+            self.assertEqual(len(told.read_text().splitlines()), 1)
+            host.close()
+            other.close()
 
 
 del CallsTest

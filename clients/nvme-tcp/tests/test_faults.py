@@ -13,10 +13,10 @@ from tests.targets import BLOCKS, PROGRAM, TWO_HOSTS
 LIMIT = 100 * BLOCK
 
 
-def limited() -> None:
+def limited(limit: int) -> None:
     """Of the target's process: a write behind the limit fails, and does not kill it."""
     signal.signal(signal.SIGXFSZ, signal.SIG_IGN)
-    resource.setrlimit(resource.RLIMIT_FSIZE, (LIMIT, LIMIT))
+    resource.setrlimit(resource.RLIMIT_FSIZE, (limit, limit))
 
 
 @unittest.skipUnless(PROGRAM, "NVMETCP names no program")
@@ -27,11 +27,11 @@ class Faults(unittest.TestCase):
         self.folder = Path(room.name)
         (self.folder / "config.nvme").write_text(TWO_HOSTS)
 
-    def host(self, *options: str) -> Host:
+    def host(self, *options: str, limit: int = LIMIT) -> Host:
         """A host of a target with these options."""
         words = [PROGRAM, "--listen", "127.0.0.1:0", *options, str(self.folder / "config.nvme")]
         self.process = subprocess.Popen(words, stdout=subprocess.PIPE, stderr=subprocess.PIPE, text=True,
-                                        preexec_fn=limited)
+                                        preexec_fn=lambda: limited(limit))
         self.addCleanup(self.process.communicate)
         self.addCleanup(self.process.kill)
         host = Host(int(self.process.stdout.readline().rsplit(":", 1)[1]), 0xa1)
@@ -67,3 +67,14 @@ class Faults(unittest.TestCase):
             for _ in range(20):
                 host.write(0, bytes(4096))
         self.ends("the script")
+
+    def test_a_script_that_has_room_ahead(self) -> None:
+        """The target has given it back when it has ended."""
+        script = self.folder / "kept.nvme"
+        host = self.host("--script", str(script), limit=3 << 20)
+        with self.assertRaises(Ended):
+            for _ in range(20):
+                host.write(0, bytes(256 * BLOCK))
+        self.ends("the script")
+        self.assertEqual(script.stat().st_size, 3 << 20)
+        self.assertLess(512 * script.stat().st_blocks, (3 << 20) + (128 << 10))

@@ -6,8 +6,8 @@ import unittest
 from pathlib import Path
 
 HERE = Path(__file__).resolve().parent.parent
-# The system's poll, and the library's calls.
-UNSAFE = [HERE / "src/poll.rs", HERE.parent / "rust/src/raw.rs"]
+# The calls of the system, and the library's.
+UNSAFE = [HERE / "src/system.rs", HERE.parent / "rust/src/raw.rs"]
 MOST_LINES = 149
 
 

@@ -1,10 +1,11 @@
-//! The system's poll, epoll(7), and its options of sockets: one of the two files where something is unsafe. The other is
-//! that of the library's calls, clients/rust/src/raw.rs.
+//! Calls of the system that the standard library has not: its poll, epoll(7), options of sockets, and room for files.
+//! One of the two files where something is unsafe. The other is that of the library's calls, clients/rust/src/raw.rs.
 //!
 //! What makes it safe: `Event` is laid out as the kernel's `struct epoll_event` on x86-64, which is packed; the arrays
 //! and values that the calls are given are as long as they are told; and a descriptor that a call has returned is owned
 //! by nobody else.
 
+use std::fs::File;
 use std::io;
 use std::os::unix::io::{AsRawFd, FromRawFd, OwnedFd, RawFd};
 
@@ -39,6 +40,8 @@ const READ: u32 = 0x001;
 const WRITE: u32 = 0x004;
 const FAULT: u32 = 0x008;
 const HANG_UP: u32 = 0x010;
+/// FALLOC_FL_KEEP_SIZE.
+const KEEP_LENGTH: i32 = 1;
 /// How many events one call gives.
 const MOST: usize = 64;
 
@@ -47,6 +50,7 @@ extern "C" {
     fn epoll_ctl(poll: i32, what: i32, descriptor: i32, event: *mut Event) -> i32;
     fn epoll_wait(poll: i32, events: *mut Event, most: i32, milliseconds: i32) -> i32;
     fn setsockopt(socket: i32, level: i32, option: i32, value: *const i32, size: u32) -> i32;
+    fn fallocate(file: i32, mode: i32, place: i64, count: i64) -> i32;
 }
 
 /// Options of sockets by their levels: SO_KEEPALIVE; the seconds without a byte behind which the system asks whether the
@@ -63,6 +67,14 @@ pub fn end_when_lost(socket: &impl AsRawFd) -> io::Result<()> {
             _ => Err(io::Error::last_os_error()),
         }
     })
+}
+
+/// Has the system take so many bytes of the disk for a file, from a place on. The file stays as long as it is.
+pub fn reserve(file: &File, place: u64, count: u64) -> io::Result<()> {
+    match unsafe { fallocate(file.as_raw_fd(), KEEP_LENGTH, place as i64, count as i64) } {
+        0 => Ok(()),
+        _ => Err(io::Error::last_os_error()),
+    }
 }
 
 /// The descriptors that are waited for.

@@ -1,0 +1,127 @@
+//! A file that is written from its beginning to its end. The system reserves room for it ahead, so that it need not find
+//! a place on the disk for each page as it is written: that takes less time. The file is never longer than what was
+//! written, and room that is left over is given back.
+
+use crate::system::reserve;
+use std::fs::File;
+use std::io::{self, Write};
+use std::path::Path;
+
+/// Room is reserved for as many bytes as a file has, but for these at most; and for none where it has fewer than those.
+const MOST: u64 = 64 << 20;
+const LEAST: u64 = 1 << 20;
+
+/// A file, and the room that it has.
+pub struct Appended {
+    file: File,
+    /// How many bytes were written.
+    length: u64,
+    /// Where the room ends that was reserved.
+    reserved: u64,
+    /// Whether more may be: no file that the system has refused it asks again.
+    takes_room: bool,
+}
+
+impl Appended {
+    /// Begins a file anew.
+    pub fn create(path: &Path) -> io::Result<Appended> {
+        let file = File::create(path)?;
+        let takes_room = file.metadata()?.is_file();
+        Ok(Appended { file, length: 0, reserved: 0, takes_room })
+    }
+
+    /// Writes bytes behind the others.
+    pub fn append(&mut self, bytes: &[u8]) -> io::Result<()> {
+        self.make_room(bytes.len() as u64);
+        self.file.write_all(bytes)?;
+        self.length += bytes.len() as u64;
+        Ok(())
+    }
+
+    /// Has room reserved, if it is time, for so many bytes and those behind them. Where the system refuses that, the file
+    /// does without.
+    fn make_room(&mut self, count: u64) {
+        let (place, room) = match wanted(self.length, count, self.reserved) {
+            Some(wanted) if self.takes_room => wanted,
+            _ => return,
+        };
+        self.reserved = place + room;
+        if reserve(&self.file, place, room).is_err() {
+            self.takes_room = false;
+            self.give_back();
+        }
+    }
+
+    /// Gives back the room that nothing was written to. Where the system refuses that, the file keeps it.
+    pub fn give_back(&mut self) {
+        if self.reserved > self.length {
+            let _ = self.file.metadata().and_then(|it| self.file.set_len(it.len()));
+            self.reserved = self.length;
+        }
+    }
+}
+
+impl Drop for Appended {
+    fn drop(&mut self) {
+        self.give_back();
+    }
+}
+
+/// Where room is to be reserved, and for how many bytes, before so many are written to a file of a length, whose room
+/// ends at a place.
+fn wanted(length: u64, count: u64, reserved: u64) -> Option<(u64, u64)> {
+    let place = length.max(reserved);
+    if length < LEAST || length + count <= place {
+        None
+    } else {
+        Some((place, length.min(MOST).max(length + count - place)))
+    }
+}
+
+#[cfg(test)]
+mod tests {
+    use super::*;
+    use std::fs;
+    use std::os::unix::fs::MetadataExt;
+
+    #[test]
+    fn room_grows_with_the_file() {
+        let (mut length, mut reserved, mut rooms) = (0, 0, Vec::new());
+        while length < 512 << 20 {
+            if let Some((place, room)) = wanted(length, 256 << 10, reserved) {
+                assert!(place == length && room <= length);
+                reserved = place + room;
+                rooms.push(room >> 20);
+            }
+            length += 256 << 10;
+            assert!(length <= LEAST || length <= reserved);
+        }
+        assert_eq!(rooms, [1, 2, 4, 8, 16, 32, 64, 64, 64, 64, 64, 64, 64]);
+        assert_eq!(wanted(LEAST, MOST + 1, 0), Some((LEAST, MOST + 1)));
+        assert_eq!(wanted(5 << 20, 2 << 20, 6 << 20), Some((6 << 20, 5 << 20)));
+    }
+
+    #[test]
+    fn room_that_is_left_over_is_given_back() {
+        let path = std::env::temp_dir().join(format!("nvmetcp-appended-{}", std::process::id()));
+        let mut file = Appended::create(&path).unwrap();
+        for count in [LEAST, 1, LEAST] {
+            file.append(&vec![7; count as usize]).unwrap();
+            file.give_back();
+            let there = fs::metadata(&path).unwrap();
+            assert!(there.len() == file.length && there.blocks() * 512 < file.length + LEAST / 2);
+        }
+        drop(file);
+        assert!(fs::read(&path).unwrap() == [7; 2 * LEAST as usize + 1]);
+        fs::remove_file(path).unwrap();
+    }
+
+    #[test]
+    fn what_is_no_file_gets_no_room() {
+        let mut file = Appended::create(Path::new("/dev/null")).unwrap();
+        for _ in 0..3 {
+            file.append(&vec![7; LEAST as usize]).unwrap();
+        }
+        assert_eq!(file.reserved, 0);
+    }
+}
