@@ -42,18 +42,17 @@ pub fn put_hex(room: &mut [u8], bytes: &[u8]) {
     }
 }
 
-/// Puts a number behind what stands in a text, in decimal digits.
-pub fn push_number(text: &mut Vec<u8>, number: u64) {
-    let (mut digits, mut at, mut rest) = ([0; 20], 20, number);
+/// A number in decimal digits, which stand at the end of the room.
+pub fn digits_of(number: u64, room: &mut [u8; 20]) -> &[u8] {
+    let (mut at, mut rest) = (room.len(), number);
     loop {
         at -= 1;
-        digits[at] = b'0' + (rest % 10) as u8;
+        room[at] = b'0' + (rest % 10) as u8;
         rest /= 10;
         if rest == 0 {
-            break;
+            return &room[at..];
         }
     }
-    text.extend_from_slice(&digits[at..]);
 }
 
 #[cfg(test)]
@@ -74,9 +73,7 @@ mod tests {
     #[test]
     fn numbers_have_their_digits() {
         for number in [0, 9, 10, 4095, 4_194_303, u64::MAX] {
-            let mut text = Vec::new();
-            push_number(&mut text, number);
-            assert_eq!(String::from_utf8(text).unwrap(), number.to_string());
+            assert_eq!(digits_of(number, &mut [0; 20]), number.to_string().as_bytes());
         }
     }
 }

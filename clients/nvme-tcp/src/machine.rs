@@ -26,7 +26,7 @@ impl<'a> Machine<'a> {
     pub fn write32(&mut self, cntlid: u16, offset: u64, value: u32) -> Outcome<()> {
         self.subsystem.write32(cntlid, offset, value)?;
         if let Some(script) = &mut self.script {
-            script.wrote(cntlid, offset, value);
+            script.wrote32(cntlid, offset, value);
         }
         Ok(())
     }

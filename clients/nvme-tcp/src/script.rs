@@ -1,108 +1,191 @@
-//! The run as a script: each event as a line of a script, and what it gave as a line of its transcript.
+//! The run as a script: each event as a line of a script, and what it gave as a line of its transcript. The target's
+//! thread notes the events, and those that write the files make lines of them.
 
 use crate::appended::Appended;
 use crate::behind::{Behind, Piece};
-use crate::bytes::{push_number, put_hex};
+use crate::bytes::{digits_of, put_hex};
 use crate::configuration::Configuration;
 use crate::fault::{Fault, Outcome};
 use crate::output::Output;
 use nvmesim::{Executed, Fetched};
 use std::io;
+use std::mem;
 use std::path::Path;
 
 /// Lines of so many bytes are a piece, which goes to the file before the next are there.
-const PIECE: usize = 128 << 10;
-/// Behind so many calls of `rest` without a line the files give back the room that is left over.
+const PIECE: usize = 256 << 10;
+/// How many bytes the line of an event has, about, without bytes that were stored.
+const LINE: usize = 20;
+/// Behind so many calls of `rest` without an event the files give back the room that is left over.
 const QUIET: u32 = 10;
 
-/// A part of a line.
+/// An event, and what it gave.
 #[derive(Clone, Copy)]
-enum Word<'w> {
-    /// This text.
-    Is(&'w str),
+enum Event {
+    /// So many bytes were stored from an address on.
+    Stored {
+        cntlid: u16,
+        address: u64,
+        count: usize,
+    },
+    Wrote32 {
+        cntlid: u16,
+        offset: u64,
+        value: u32,
+    },
+    Fetched {
+        cntlid: u16,
+        qid: u16,
+        fetched: Fetched,
+    },
+    Executed {
+        cntlid: u16,
+        i: usize,
+        executed: Executed,
+    },
+    PowerCycle,
+}
+
+/// The longest line has fewer bytes, without the digits of those that were stored.
+const MOST_OF_LINE: usize = 64;
+
+/// A line that is put together.
+struct Line {
+    bytes: [u8; MOST_OF_LINE],
+    length: usize,
+}
+
+impl Line {
+    #[inline]
+    fn new(text: &str) -> Line {
+        let mut line = Line { bytes: [0; MOST_OF_LINE], length: 0 };
+        line.text(text);
+        line
+    }
+
+    #[inline]
+    fn put(&mut self, part: &[u8]) -> &mut Line {
+        self.bytes[self.length..self.length + part.len()].copy_from_slice(part);
+        self.length += part.len();
+        self
+    }
+
+    #[inline]
+    fn text(&mut self, text: &str) -> &mut Line {
+        self.put(text.as_bytes())
+    }
+
     /// A number in decimal digits.
-    Number(u64),
-    /// Bytes in hexadecimal digits.
-    Hex(&'w [u8]),
+    #[inline]
+    fn number(&mut self, number: u64) -> &mut Line {
+        if number < 10 {
+            self.put(&[b'0' + number as u8])
+        } else {
+            self.put(digits_of(number, &mut [0; 20]))
+        }
+    }
+
+    fn bytes(&self) -> &[u8] {
+        &self.bytes[..self.length]
+    }
 }
 
-use Word::{Hex, Is, Number};
-
-/// A text of which some parts are bytes that it has as digits.
-#[derive(Default)]
-struct Text {
-    bytes: Vec<u8>,
-    /// Where such parts begin, and where they end.
-    digits: Vec<(usize, usize)>,
-}
-
-impl Text {
-    /// Puts a line behind others.
-    fn push(&mut self, words: &[Word<'_>]) {
-        for word in words {
-            match *word {
-                Is(text) => self.bytes.extend_from_slice(text.as_bytes()),
-                Number(number) => push_number(&mut self.bytes, number),
-                Hex(bytes) => {
-                    let begin = self.bytes.len();
-                    self.bytes.extend_from_slice(bytes);
-                    self.digits.push((begin, self.bytes.len()));
-                }
+impl Event {
+    /// Puts its line behind others, and behind others what it gave. `stored` begins with the bytes that it has stored, and
+    /// then no more.
+    fn put(&self, stored: &mut &[u8], [lines, gave]: &mut [Output; 2]) {
+        match *self {
+            Event::Stored { cntlid, address, count } => {
+                let (bytes, others) = mem::take(stored).split_at(count);
+                *stored = others;
+                lines.put(Line::new("store ").number(cntlid.into()).text(" ").number(address).text(" hex:").bytes());
+                put_hex(lines.room(2 * count), bytes);
+                lines.put(b"\n");
+                gave.put(Line::new("stored ").number(cntlid.into()).text("\n").bytes());
             }
+            Event::Wrote32 { cntlid, offset, value } => {
+                let mut line = Line::new("write32 ");
+                line.number(cntlid.into()).text(" ").number(offset).text(" ").number(value.into()).text("\n");
+                lines.put(line.bytes());
+                gave.put(Line::new("wrote32 ").number(cntlid.into()).text("\n").bytes());
+            }
+            Event::Fetched { cntlid, qid, fetched } => {
+                let mut line = Line::new("fetch ");
+                line.number(cntlid.into()).text(" ").number(qid.into());
+                gave.put(line.bytes());
+                gave.put(if fetched == Fetched::Took { b" took\n" } else { b" idle\n" });
+                lines.put(line.text("\n").bytes());
+            }
+            Event::Executed { cntlid, i, executed } => {
+                let mut line = Line::new("execute ");
+                line.number(cntlid.into()).text(" ").number(i as u64);
+                gave.put(line.bytes());
+                put_executed(gave, executed);
+                lines.put(line.text("\n").bytes());
+            }
+            Event::PowerCycle => [lines, gave].into_iter().for_each(|out| out.put(b"powercycle\n")),
         }
-        self.bytes.push(b'\n');
-    }
-
-    /// Puts the text in the place of another.
-    fn spell(&self, out: &mut Output) {
-        out.sent(out.len());
-        let mut at = 0;
-        for (begin, end) in self.digits.iter().copied() {
-            out.put(&self.bytes[at..begin]);
-            put_hex(out.room(2 * (end - begin)), &self.bytes[begin..end]);
-            at = end;
-        }
-        out.put(&self.bytes[at..]);
     }
 }
 
-/// Lines of a script, and what they have given. The transcript never has more than the script.
-#[derive(Default)]
-struct Lines([Text; 2]);
+/// Puts the end of the line of what an execution gave behind its beginning.
+fn put_executed(out: &mut Output, executed: Executed) {
+    match executed {
+        Executed::Posted(it) => {
+            let mut line = Line::new(" posted ");
+            // A Status Code Type has one digit.
+            line.number(it.sct.into()).text(":");
+            let mut sc = [0; 2];
+            put_hex(&mut sc, &[it.sc]);
+            out.put(line.put(&sc).text(" ").number(it.denied_by.unwrap_or(0).into()).text("\n").bytes());
+        }
+        Executed::CqFull => out.put(b" full\n"),
+        Executed::NoSuch => out.put(b" none\n"),
+    }
+}
 
-impl Piece for Lines {
+/// Events, and the bytes that were stored by them.
+#[derive(Default)]
+struct Events {
+    list: Vec<Event>,
+    stored: Vec<u8>,
+}
+
+impl Piece for Events {
+    /// The script and its transcript.
     type Files = [Appended; 2];
     type Made = [Output; 2];
 
+    /// How many bytes their lines have, about.
     fn size(&self) -> usize {
-        self.0[0].bytes.len()
+        2 * self.stored.len() + LINE * self.list.len()
     }
 
     fn make(&self, made: &mut [Output; 2]) {
-        self.0.iter().zip(made).for_each(|(text, out)| text.spell(out));
+        made.iter_mut().for_each(|out| out.sent(out.len()));
+        let mut stored = &self.stored[..];
+        self.list.iter().for_each(|event| event.put(&mut stored, made));
     }
 
-    /// Without lines it has the files give back the room that is left over.
+    /// Where there are none, the files give back the room that is left over. The transcript never has more than the script.
     fn write(&mut self, made: &[Output; 2], files: &mut [Appended; 2]) -> io::Result<()> {
-        if self.size() == 0 {
+        if self.list.is_empty() {
             files.iter_mut().for_each(Appended::give_back);
             return Ok(());
         }
-        for (text, (out, file)) in self.0.iter_mut().zip(made.iter().zip(files)) {
-            file.append(out.waiting())?;
-            text.bytes.clear();
-            text.digits.clear();
-        }
+        files.iter_mut().zip(made).try_for_each(|(file, out)| file.append(out.waiting()))?;
+        self.list.clear();
+        self.stored.clear();
         Ok(())
     }
 }
 
 /// A script that is being kept, and its transcript.
 pub struct Script {
-    /// The lines that go to the files next.
-    lines: Lines,
-    files: Behind<Lines>,
-    /// How often `rest` was called since the last line, unless the files rest.
+    /// What goes to the files next.
+    events: Events,
+    files: Behind<Events>,
+    /// How often `rest` was called since the last event, unless the files rest.
     quiet: Option<u32>,
 }
 
@@ -111,63 +194,42 @@ impl Script {
     pub fn new(path: &Path, configuration: &Configuration) -> io::Result<Script> {
         let mut beside = path.as_os_str().to_owned();
         beside.push(".out");
-        let files = Behind::new("script", 2, [Appended::create(path)?, Appended::create(Path::new(&beside))?])?;
-        let mut script = Script { lines: Lines::default(), files, quiet: None };
-        script.lines.0[0].push(&[Is(&configuration.lines()), Is("start")]);
-        Ok(script)
+        let mut files = [Appended::create(path)?, Appended::create(Path::new(&beside))?];
+        files[0].append(format!("{}start\n", configuration.lines()).as_bytes())?;
+        Ok(Script { events: Events::default(), files: Behind::new("script", 2, files)?, quiet: None })
     }
 
     pub fn stored(&mut self, cntlid: u16, address: u64, bytes: &[u8]) -> Outcome<()> {
-        let c = Number(cntlid.into());
-        self.lines.0[0].push(&[Is("store "), c, Is(" "), Number(address), Is(" hex:"), Hex(bytes)]);
-        self.lines.0[1].push(&[Is("stored "), c]);
-        if self.lines.size() >= PIECE {
+        self.events.list.push(Event::Stored { cntlid, address, count: bytes.len() });
+        self.events.stored.extend_from_slice(bytes);
+        if self.events.size() >= PIECE {
             self.begin(false)?;
         }
         Ok(())
     }
 
-    pub fn wrote(&mut self, cntlid: u16, offset: u64, value: u32) {
-        let c = Number(cntlid.into());
-        self.lines.0[0].push(&[Is("write32 "), c, Is(" "), Number(offset), Is(" "), Number(value.into())]);
-        self.lines.0[1].push(&[Is("wrote32 "), c]);
+    pub fn wrote32(&mut self, cntlid: u16, offset: u64, value: u32) {
+        self.events.list.push(Event::Wrote32 { cntlid, offset, value });
     }
 
     pub fn fetched(&mut self, cntlid: u16, qid: u16, fetched: Fetched) {
-        let line = [Is("fetch "), Number(cntlid.into()), Is(" "), Number(qid.into())];
-        self.lines.0[0].push(&line);
-        let [verb, c, blank, q] = line;
-        self.lines.0[1].push(&[verb, c, blank, q, Is(if fetched == Fetched::Took { " took" } else { " idle" })]);
+        self.events.list.push(Event::Fetched { cntlid, qid, fetched });
     }
 
     pub fn executed(&mut self, cntlid: u16, i: usize, executed: Executed) {
-        let line = [Is("execute "), Number(cntlid.into()), Is(" "), Number(i as u64)];
-        self.lines.0[0].push(&line);
-        let [verb, c, blank, i] = line;
-        match executed {
-            Executed::Posted(it) => {
-                // A Status Code Type has one digit.
-                let (sct, rule) = (Number(it.sct.into()), Number(it.denied_by.unwrap_or(0).into()));
-                let sc = [it.sc];
-                let [posted, colon, behind] = [" posted ", ":", " "].map(Is);
-                self.lines.0[1].push(&[verb, c, blank, i, posted, sct, colon, Hex(&sc), behind, rule]);
-            }
-            Executed::CqFull => self.lines.0[1].push(&[verb, c, blank, i, Is(" full")]),
-            Executed::NoSuch => self.lines.0[1].push(&[verb, c, blank, i, Is(" none")]),
-        }
+        self.events.list.push(Event::Executed { cntlid, i, executed });
     }
 
     pub fn cycled(&mut self) {
-        self.lines.0[0].push(&[Is("powercycle")]);
-        self.lines.0[1].push(&[Is("powercycle")]);
+        self.events.list.push(Event::PowerCycle);
     }
 
     /// Hands all lines to the system, or has that begun: so many pieces are done when it has them. `is_awaited` says that
     /// nothing is done before.
     pub fn begin(&mut self, is_awaited: bool) -> Outcome<u64> {
-        if self.lines.size() != 0 {
+        if !self.events.list.is_empty() {
             self.quiet = Some(0);
-            self.files.begin(&mut self.lines, is_awaited).map_err(Fault::Script)?;
+            self.files.begin(&mut self.events, is_awaited).map_err(Fault::Script)?;
         }
         Ok(self.files.begun())
     }
@@ -177,7 +239,7 @@ impl Script {
         self.quiet = self.quiet.map(|quiet| quiet + 1);
         if self.quiet.map_or(false, |quiet| quiet >= QUIET) && self.done()? == self.files.begun() {
             self.quiet = None;
-            self.files.send(&mut Lines::default()).map_err(Fault::Script)?;
+            self.files.send(&mut Events::default()).map_err(Fault::Script)?;
         }
         Ok(())
     }
@@ -190,5 +252,40 @@ impl Script {
     /// Waits until another piece is done; whether one was under way.
     pub fn wait(&mut self) -> Outcome<bool> {
         self.files.wait().map_err(Fault::Script)
+    }
+}
+
+#[cfg(test)]
+mod tests {
+    use super::*;
+    use nvmesim::Completion;
+
+    #[test]
+    fn events_have_their_lines() {
+        let denied = Completion { sct: 1, sc: 0x8f, dw0: 0, denied_by: Some(12) };
+        let (stored, most) = (vec![0, 0xaf, 7], u16::MAX);
+        let list = vec![
+            Event::Stored { cntlid: 1, address: u64::MAX, count: 2 },
+            Event::Stored { cntlid: most, address: 4096, count: 1 },
+            Event::Wrote32 { cntlid: most, offset: u64::MAX, value: u32::MAX },
+            Event::Fetched { cntlid: 2, qid: most, fetched: Fetched::Took },
+            Event::Fetched { cntlid: 10, qid: 0, fetched: Fetched::Idle },
+            Event::Executed { cntlid: 1, i: 9, executed: Executed::CqFull },
+            Event::Executed { cntlid: 1, i: 10, executed: Executed::NoSuch },
+            Event::Executed { cntlid: most, i: usize::MAX, executed: Executed::Posted(denied) },
+            Event::PowerCycle,
+        ];
+        let mut made = <[Output; 2]>::default();
+        for _ in 0..2 {
+            Events { list: list.clone(), stored: stored.clone() }.make(&mut made);
+        }
+        let [lines, gave] = made.map(|out| String::from_utf8(out.waiting().to_vec()).unwrap());
+        let each = "store 1 18446744073709551615 hex:00af\nstore 65535 4096 hex:07\n\
+                    write32 65535 18446744073709551615 4294967295\nfetch 2 65535\nfetch 10 0\n\
+                    execute 1 9\nexecute 1 10\nexecute 65535 18446744073709551615\npowercycle\n";
+        assert_eq!(lines, each);
+        let each = "stored 1\nstored 65535\nwrote32 65535\nfetch 2 65535 took\nfetch 10 0 idle\nexecute 1 9 full\n\
+                    execute 1 10 none\nexecute 65535 18446744073709551615 posted 1:8f 12\npowercycle\n";
+        assert_eq!(gave, each);
     }
 }
