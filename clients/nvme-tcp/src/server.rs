@@ -58,8 +58,10 @@ pub struct Server<'a> {
     rooms: Rooms,
     /// The connections that wait for script or image, in the order in which they have begun to.
     waiting: VecDeque<u64>,
-    /// Whether there is only one connection that can be served, and none that waits.
+    /// Whether there is only one connection that can be served, the same as before, and none that waits.
     is_alone: bool,
+    /// The connection that could be served last, if there was only one.
+    last: Option<u64>,
     consoles: HashMap<u64, Console>,
     next: u64,
 }
@@ -82,6 +84,7 @@ impl<'a> Server<'a> {
             rooms: Rooms::new(ROOM),
             waiting: VecDeque::new(),
             is_alone: true,
+            last: None,
             consoles: HashMap::new(),
             next: FIRST,
         })
@@ -102,7 +105,7 @@ impl<'a> Server<'a> {
     fn turn(&mut self, ready: &mut Vec<Ready>, look: &mut Instant) -> Outcome<()> {
         let patience = if self.waiting.is_empty() { LOOK } else { Duration::ZERO };
         self.poll.wait(patience.as_millis() as i32, ready).map_err(Fault::System)?;
-        self.is_alone = ready.len() == 1 && self.waiting.is_empty();
+        self.is_alone = self.is_only(ready);
         let mut is_idle = true;
         for it in ready.iter() {
             match it.name {
@@ -123,6 +126,18 @@ impl<'a> Server<'a> {
             self.target.machine.rest_script()?;
         }
         Ok(())
+    }
+
+    /// Whether one connection alone can be served, as before, so that it is likely that nothing comes of others. Where many
+    /// are served there are moments at which one of them can be.
+    fn is_only(&mut self, ready: &[Ready]) -> bool {
+        let before = self.last;
+        match ready {
+            [] => return false,
+            [it] if self.waiting.is_empty() => self.last = Some(it.name),
+            _ => self.last = None,
+        }
+        self.last.is_some() && self.last == before
     }
 
     fn accept_hosts(&mut self) -> Outcome<()> {
