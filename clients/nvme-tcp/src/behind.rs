@@ -2,9 +2,10 @@
 //! order: what a thread can do before, it does while another writes. Whoever has begun a piece learns when the system
 //! has it.
 
+use std::collections::{BTreeMap, VecDeque};
 use std::io;
 use std::mem;
-use std::sync::mpsc::{self, Receiver, Sender, SyncSender};
+use std::sync::mpsc::{self, Receiver, Sender};
 use std::sync::{Arc, Condvar, Mutex, MutexGuard, PoisonError};
 use std::thread::{self, JoinHandle};
 use std::time::Duration;
@@ -34,54 +35,103 @@ pub trait Piece: Default + Send + 'static {
     fn write(&mut self, made: &Self::Made, files: &mut Self::Files) -> io::Result<()>;
 }
 
-/// The files, and whose turn it is to write.
-struct Turn<F> {
-    files: F,
-    /// How many pieces were written, unless one could not be.
-    written: Option<u64>,
+/// The pieces that no thread has taken yet, by how many there were before, and whether there will be no more.
+struct Given<P> {
+    pieces: VecDeque<(u64, P)>,
+    is_over: bool,
+}
+
+/// The pieces that were made, and whether one is being written.
+struct Turn<P: Piece> {
+    /// By how many pieces there were before.
+    made: BTreeMap<u64, (P, P::Made)>,
+    /// How many pieces were written, or could not be.
+    count: u64,
+    /// Whether a thread writes. It writes the next ones too, if they were made by then.
+    is_writing: bool,
+    has_failed: bool,
+    /// Memory of what was written.
+    spare: Vec<P::Made>,
 }
 
 /// The pieces that are on their way, and the files.
 struct Way<P: Piece> {
-    given: Mutex<Receiver<(u64, P)>>,
-    turn: Mutex<Turn<P::Files>>,
-    has_turned: Condvar,
+    given: Mutex<Given<P>>,
+    has_more: Condvar,
+    turn: Mutex<Turn<P>>,
+    files: Mutex<P::Files>,
 }
 
 impl<P: Piece> Way<P> {
-    /// The next piece, and how many there were before. There is none when the target ends.
-    fn next(&self) -> Option<(u64, P)> {
-        self.given.lock().ok()?.recv().ok()
+    fn given(&self) -> MutexGuard<'_, Given<P>> {
+        self.given.lock().unwrap_or_else(PoisonError::into_inner)
     }
 
-    fn turn(&self) -> MutexGuard<'_, Turn<P::Files>> {
+    /// Has a thread take a piece.
+    fn give(&self, number: u64, piece: P) {
+        self.given().pieces.push_back((number, piece));
+        self.has_more.notify_one();
+    }
+
+    /// Has the threads end when all pieces were taken.
+    fn end(&self) {
+        self.given().is_over = true;
+        self.has_more.notify_all();
+    }
+
+    /// The next piece, and how many there were before. There is none when the target ends.
+    fn next(&self) -> Option<(u64, P)> {
+        let waited = self.has_more.wait_while(self.given(), |given| given.pieces.is_empty() && !given.is_over);
+        waited.unwrap_or_else(PoisonError::into_inner).pieces.pop_front()
+    }
+
+    fn turn(&self) -> MutexGuard<'_, Turn<P>> {
         self.turn.lock().unwrap_or_else(PoisonError::into_inner)
     }
 
-    /// Makes a piece and has it written behind the others. None is written behind one that could not be.
-    fn write(&self, number: u64, piece: &mut P, made: &mut P::Made) -> io::Result<()> {
-        piece.make(made);
-        let waited = self.has_turned.wait_while(self.turn(), |turn| turn.written.map_or(false, |it| it != number));
-        let mut turn = waited.unwrap_or_else(PoisonError::into_inner);
-        let result = match turn.written {
-            Some(_) => piece.write(made, &mut turn.files),
-            None => Err(io::ErrorKind::BrokenPipe.into()),
-        };
-        turn.written = if result.is_ok() { Some(number + 1) } else { None };
-        drop(turn);
-        self.has_turned.notify_all();
-        result
+    fn files(&self) -> MutexGuard<'_, P::Files> {
+        self.files.lock().unwrap_or_else(PoisonError::into_inner)
     }
 
-    /// Writes pieces until the target ends.
+    /// Takes pieces, makes them and has them written, until the target ends.
     fn serve(&self, told: &Sender<io::Result<P>>) {
-        let mut made = P::Made::default();
-        while let Some((number, mut piece)) = self.next() {
-            let result = self.write(number, &mut piece, &mut made);
-            if told.send(result.map(|()| piece)).is_err() {
-                break;
+        while let Some((number, piece)) = self.next() {
+            let mut made = self.turn().spare.pop().unwrap_or_default();
+            piece.make(&mut made);
+            let mut turn = self.turn();
+            turn.made.insert(number, (piece, made));
+            if !turn.is_writing {
+                self.write(turn, told);
             }
         }
+    }
+
+    /// Writes the pieces whose turn it is, and those that are made meanwhile. So a thread that makes pieces need not wait
+    /// for another that writes, and the one that writes goes on without being woken.
+    fn write<'w>(&'w self, mut turn: MutexGuard<'w, Turn<P>>, told: &Sender<io::Result<P>>) {
+        while let Some((mut piece, made)) = turn.next() {
+            // None is written behind one that could not be.
+            let has_failed = turn.has_failed;
+            turn.is_writing = true;
+            drop(turn);
+            let result =
+                if has_failed { Err(io::ErrorKind::BrokenPipe.into()) } else { piece.write(&made, &mut self.files()) };
+            let is_written = result.is_ok();
+            // Where nobody hears it the target has ended.
+            let _ = told.send(result.map(|()| piece));
+            turn = self.turn();
+            turn.has_failed |= !is_written;
+            turn.count += 1;
+            turn.spare.push(made);
+        }
+        turn.is_writing = false;
+    }
+}
+
+impl<P: Piece> Turn<P> {
+    /// The piece whose turn it is, if it was made.
+    fn next(&mut self) -> Option<(P, P::Made)> {
+        self.made.remove(&self.count)
     }
 }
 
@@ -90,9 +140,9 @@ pub struct Behind<P: Piece> {
     way: Arc<Way<P>>,
     threads: Vec<JoinHandle<()>>,
     made: P::Made,
-    /// Until the end, or until one could not be written.
-    pieces: Option<SyncSender<(u64, P)>>,
     written: Receiver<io::Result<P>>,
+    /// Whether a piece could not be written.
+    has_failed: bool,
     /// How many pieces were begun, and how many of them the system has.
     begun: u64,
     done: u64,
@@ -103,21 +153,23 @@ pub struct Behind<P: Piece> {
 impl<P: Piece> Behind<P> {
     /// Files that are written by so many threads with this name.
     pub fn new(name: &str, threads: usize, files: P::Files) -> io::Result<Self> {
-        let ((pieces, given), (told, written)) = (mpsc::sync_channel(MOST as usize), mpsc::channel());
-        let (given, turn) = (Mutex::new(given), Mutex::new(Turn { files, written: Some(0) }));
-        let way = Arc::new(Way { given, turn, has_turned: Condvar::new() });
+        let (told, written) = mpsc::channel();
+        let given = Mutex::new(Given { pieces: VecDeque::new(), is_over: false });
+        let turn = Turn { made: BTreeMap::new(), count: 0, is_writing: false, has_failed: false, spare: Vec::new() };
+        let (turn, files) = (Mutex::new(turn), Mutex::new(files));
+        let way = Arc::new(Way { given, has_more: Condvar::new(), turn, files });
         let begun = (0..threads).map(|_| {
             let (way, told) = (Arc::clone(&way), told.clone());
             thread::Builder::new().name(name.to_owned()).spawn(move || way.serve(&told))
         });
         let threads = begun.collect::<io::Result<Vec<_>>>()?;
-        let (made, pieces, spare) = (P::Made::default(), Some(pieces), Vec::new());
-        Ok(Behind { way, threads, made, pieces, written, begun: 0, done: 0, spare })
+        let (made, spare) = (P::Made::default(), Vec::new());
+        Ok(Behind { way, threads, made, written, has_failed: false, begun: 0, done: 0, spare })
     }
 
     /// Does something with the files, behind the piece that is being written.
     pub fn with_files<R>(&self, act: impl FnOnce(&mut P::Files) -> R) -> R {
-        act(&mut self.way.turn().files)
+        act(&mut self.way.files())
     }
 
     /// Has a piece written behind all others, and empties it: now, or a little later. It was written once so many pieces
@@ -125,7 +177,7 @@ impl<P: Piece> Behind<P> {
     pub fn begin(&mut self, piece: &mut P, is_awaited: bool) -> io::Result<()> {
         if (is_awaited || piece.size() < SMALL) && self.done()? == self.begun {
             piece.make(&mut self.made);
-            return piece.write(&self.made, &mut self.way.turn().files);
+            return piece.write(&self.made, &mut self.way.files());
         }
         self.send(piece)
     }
@@ -136,9 +188,9 @@ impl<P: Piece> Behind<P> {
             self.wait()?;
         }
         let piece = mem::replace(piece, self.spare.pop().unwrap_or_default());
+        self.way.give(self.begun, piece);
         self.begun += 1;
-        let sent = self.pieces.as_ref().map(|pieces| pieces.send((self.begun - 1, piece)));
-        sent.and_then(Result::ok).ok_or_else(|| io::ErrorKind::BrokenPipe.into())
+        Ok(())
     }
 
     /// How many pieces were begun.
@@ -172,7 +224,7 @@ impl<P: Piece> Behind<P> {
         match result {
             Ok(piece) => self.spare.push(piece),
             Err(error) => {
-                self.pieces = None;
+                self.has_failed = true;
                 return Err(error);
             }
         }
@@ -185,13 +237,13 @@ impl<P: Piece> Drop for Behind<P> {
     /// Closes the files, unless the system takes more than a second for what is under way.
     fn drop(&mut self) {
         let mut looks = 0..LOOKS;
-        while self.pieces.is_some() && self.done().map_or(false, |done| done != self.begun) {
+        while !self.has_failed && self.done().map_or(false, |done| done != self.begun) {
             if looks.next().is_none() {
                 return;
             }
             thread::sleep(PAUSE);
         }
-        self.pieces = None;
+        self.way.end();
         self.threads.drain(..).for_each(|it| drop(it.join()));
     }
 }
