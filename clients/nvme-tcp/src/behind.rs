@@ -294,33 +294,47 @@ mod tests {
         fs::remove_file(path).unwrap();
     }
 
-    /// A piece whose files are a thing that is counted.
+    /// A byte, which is put behind others. That of 7 can't be written.
     #[derive(Default)]
-    struct Counted;
+    struct Byte(u8);
 
-    impl Piece for Counted {
-        type Files = Arc<()>;
+    impl Piece for Byte {
+        type Files = Arc<Mutex<Vec<u8>>>;
         type Made = ();
 
         fn size(&self) -> usize {
-            0
+            1
         }
 
         fn make(&self, (): &mut ()) {
             thread::sleep(PAUSE / 5);
         }
 
-        fn write(&mut self, (): &(), _: &mut Arc<()>) -> io::Result<()> {
+        fn write(&mut self, (): &(), files: &mut Arc<Mutex<Vec<u8>>>) -> io::Result<()> {
+            if self.0 == 7 {
+                return Err(io::ErrorKind::Other.into());
+            }
+            files.lock().unwrap().push(self.0);
             Ok(())
         }
     }
 
     #[test]
+    fn nothing_is_written_behind_what_fails() {
+        let files = Arc::default();
+        let mut behind = Behind::<Byte>::new("test", 2, Arc::clone(&files)).unwrap();
+        (5..9).for_each(|it| behind.send(&mut Byte(it)).unwrap());
+        assert!((0..3).any(|_| behind.wait().is_err()));
+        drop(behind);
+        assert_eq!(*files.lock().unwrap(), [5, 6]);
+    }
+
+    #[test]
     fn files_are_closed_at_the_end() {
         for pieces in 0..10 {
-            let files = Arc::new(());
-            let mut behind = Behind::<Counted>::new("test", 2, Arc::clone(&files)).unwrap();
-            (0..pieces).for_each(|_| behind.send(&mut Counted).unwrap());
+            let files = Arc::default();
+            let mut behind = Behind::<Byte>::new("test", 2, Arc::clone(&files)).unwrap();
+            (0..pieces).for_each(|_| behind.send(&mut Byte(0)).unwrap());
             drop(behind);
             assert_eq!(Arc::strong_count(&files), 1);
         }
