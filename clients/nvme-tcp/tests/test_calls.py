@@ -8,6 +8,7 @@ import subprocess
 import tempfile
 import time
 import unittest
+from contextlib import closing
 from pathlib import Path
 from unittest import mock
 
@@ -156,13 +157,11 @@ class Rooms(CallsTest):
                        "CALLS_REFUSAL": str(errno.EOPNOTSUPP)}
             with mock.patch.dict(os.environ, refused):
                 other = Target(Path(room), self.config, options=["--script", str(kept)])
-            host = Host(other.port, 0xa1)
-            self.write(host, 10)
+            with closing(other), closing(Host(other.port, 0xa1)) as host:
+                self.write(host, 10)
             for end in ("", ".out"):
                 self.assertEqual(Path(f"{self.script}{end}").read_bytes(), Path(f"{kept}{end}").read_bytes())
             self.assertEqual(len(told.read_text().splitlines()), 1)
-            host.close()
-            other.close()
 
 
 del CallsTest
