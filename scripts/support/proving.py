@@ -6,6 +6,7 @@ import tempfile
 import threading
 import time
 from concurrent.futures import ThreadPoolExecutor
+from contextlib import contextmanager
 from pathlib import Path
 
 from support.proof_seconds import seconds_of
@@ -94,11 +95,25 @@ def build_program(rt, crate, flags):
     return not crate.run(flags, [], input=crate.stream("stdin") or b"", stdout=subprocess.PIPE, timeout=rt.rtlib.LIMIT)
 
 
-def jobs_of(rt, jobs):
-    """How many jobs a crate gets that may have so many: one for each processor where memory is free for them, though
-    other crates are proved beside it, since most of a crate's proof is often one function's, for which its other jobs
-    would wait."""
-    return max(jobs, min(rt.processors(), rt.free() // JOB_MEMORY))
+class Processors:
+    """The processors, of which crates that are proved side by side have some each."""
+
+    def __init__(self, rt):
+        self.rt, self.taken, self.counting = rt, 0, threading.Lock()
+
+    @contextmanager
+    def some(self, least):
+        """As many jobs as there are processors that no other crate has and that memory is free for, and so many at least. A
+        crate keeps those that it begins with. By two jobs a proof takes two fifths more of processors than by one."""
+        with self.counting:
+            idle = min(self.rt.processors() - self.taken, self.rt.free() // JOB_MEMORY)
+            jobs = max(least, idle)
+            self.taken += jobs
+        try:
+            yield jobs
+        finally:
+            with self.counting:
+                self.taken -= jobs
 
 
 def lowly(call):
@@ -115,13 +130,13 @@ def prove(rt, wanted, jobs, tell, log):
     program is built there; what the first one waits for comes before the rest."""
     crates = cone_of(wanted)
     lacking = [it for it in crates if it.is_program or not it.is_built()]
-    progress = Progress(len(lacking), tell)
+    progress, processors = Progress(len(lacking), tell), Processors(rt)
     first = {it.name for it in cone_of([it for it in wanted if it.is_program][:1] or wanted)}
 
-    def build(crate, jobs):
+    def build(crate, least):
         progress.begin(crate.name)
-        with tempfile.TemporaryFile("w+", errors="replace") as crate.out:
-            flags = ["--jobs", str(jobs_of(rt, jobs))]
+        with processors.some(least) as jobs, tempfile.TemporaryFile("w+", errors="replace") as crate.out:
+            flags = ["--jobs", str(jobs)]
             is_well = build_program(rt, crate, flags) if crate.is_program else not crate.build_rlib(flags, anew=False)
             crate.out.seek(0)
             with WRITING:
@@ -132,8 +147,8 @@ def prove(rt, wanted, jobs, tell, log):
         progress.end(crate.name, "NOT PROVED" if not is_well else "proved and built" if crate.is_program else "")
         return is_well
 
-    def build_in_turn(crate, jobs):
-        return (build if crate.name in first else lowly(build))(crate, jobs)
+    def build_in_turn(crate, least):
+        return (build if crate.name in first else lowly(build))(crate, least)
 
     held = rt.rtlib.lock(lacking)
     is_well = side_by_side(rt, (lacking, build_in_turn), first, jobs)
