@@ -6,9 +6,9 @@ use Rattle.nvme_subsys.proofs.Numbers as numbers
 use Rattle.nvme_event.specs.declared.seen.FleetSeen.TheVariants as seen
 use Rattle.nvme_mailbox.specs.Fleets as mailboxes
 use Rattle.nvme_mailbox.specs.Fleets.{Host}
-use Rattle.nvme_fleet.proofs.ExecuteStep.{execution_is_a_step, execution_is_a_fleet_step}
-use Rattle.nvme_fleet.proofs.FetchStep.{fetch_is_a_step}
-use Rattle.nvme_fleet.proofs.PostStep.{nothing_to_execute}
+use Rattle.nvme_refinement.proofs.ExecuteStep.{execution_is_a_step, execution_is_a_fleet_step}
+use Rattle.nvme_refinement.proofs.FetchStep.{fetch_is_a_step}
+use Rattle.nvme_refinement.proofs.PostStep.{nothing_to_execute}
 use Rattle.nvme_fleet.proofs.Seats.{IsSeat, has-driver, has-settled, host-same, reseated, seat}
 use Rattle.std.proofs.lemmas.Option.{slice_get-get_or}
 

@@ -9,8 +9,8 @@ use Rattle.nvme_machine.specs.EventCalls.{AreCallsOfRun}
 use Rattle.nvme_machine.specs.Subsystems.{Run, Step, ExecutesAt, with_controller as with_controller_of}
 use Rattle.nvme_subsys.proofs.Numbers as numbers
 use Rattle.nvme_fleet.proofs.AdminTurns.{AreAdmin, IsAdmin, call-admin, call-named, fetch-admin, fetched_by, one-quiet}
-use Rattle.nvme_fleet.proofs.PlainCalls.{IsPlain, plain-first}
-use Rattle.nvme_fleet.proofs.StartStep.{calls-are, calls-id}
+use Rattle.nvme_refinement.proofs.PlainCalls.{IsPlain, plain-first}
+use Rattle.nvme_refinement.proofs.StartStep.{calls-are, calls-id}
 use Rattle.std.proofs.lemmas.List.{get_or-set_same}
 use Rattle.std.proofs.lemmas.Option.{slice_get-get_or}
 use Rattle.nvme_machine.specs.declared.event.Event.TheVariants as event

@@ -9,13 +9,13 @@ use Rattle.nvme_event.specs.declared.seen.FleetSeen.TheVariants as seen
 use Rattle.nvme_mailbox.specs.Deliveries as mail
 use Rattle.nvme_fleet.proofs.AdminTurns.{IsAdmin}
 use Rattle.nvme_fleet.proofs.LinkCalls.{HasDone, IsFresh, IsSameName, calls-made, done, fresh-call, fresh-start, window-there}
-use Rattle.nvme_fleet.proofs.PlaceStep.{place_is_a_step, refusal_is_a_step}
-use Rattle.nvme_fleet.proofs.Places.{no-way}
-use Rattle.nvme_fleet.proofs.PlainCalls.{IsUndone, by-poll, plain-polled, plain-ring}
-use Rattle.nvme_fleet.proofs.PollStep.{poll_is_a_step}
-use Rattle.nvme_fleet.proofs.Resetting.{reset_is_a_step}
-use Rattle.nvme_fleet.proofs.RingStep.{ring_is_a_step}
-use Rattle.nvme_fleet.proofs.RiseStep.{bring_up_is_a_step}
+use Rattle.nvme_refinement.proofs.PlaceStep.{place_is_a_step, refusal_is_a_step}
+use Rattle.nvme_refinement.proofs.Places.{no-way}
+use Rattle.nvme_refinement.proofs.PlainCalls.{IsUndone, by-poll, plain-polled, plain-ring}
+use Rattle.nvme_refinement.proofs.PollStep.{poll_is_a_step}
+use Rattle.nvme_refinement.proofs.Resetting.{reset_is_a_step}
+use Rattle.nvme_refinement.proofs.RingStep.{ring_is_a_step}
+use Rattle.nvme_refinement.proofs.RiseStep.{bring_up_is_a_step}
 
 nothing-ran : (tells : Bool) (old new : Subsystem) → Ran tells old [] new → new ≡ old
 nothing-ran tells old new ([], h) = h

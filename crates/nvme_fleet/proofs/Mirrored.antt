@@ -9,7 +9,7 @@ use Rattle.nvme_machine.specs.declared.event.Event.TheVariants as event
 use Rattle.nvme_machine.specs.declared.seen.Seen.TheVariants as given
 use Rattle.nvme_machine.specs.Subsystems.{Completes, ExecutesAt, Run, Step, after_execution, marked_from, numbered, replaced, with_controller}
 use Rattle.nvme_machine.proofs.Staying.{replaced-same}
-use Rattle.nvme_fleet.proofs.PlainCalls.{IsPlain}
+use Rattle.nvme_refinement.proofs.PlainCalls.{IsPlain}
 use Rattle.nvme_fleet.proofs.LinkCalls.{one-ran, value-is}
 use Rattle.nvme_fleet.proofs.AdminTurns.{AreAdmin, IsAdmin, change-admin, enabled-admin, fetch-admin, store-admin, write-admin, kept-admin}
 

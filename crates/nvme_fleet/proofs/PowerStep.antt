@@ -7,8 +7,8 @@ use Rattle.nvme_subsys.proofs.Numbers as numbers
 use Rattle.nvme_mailbox.specs.Deliveries as mail
 use Rattle.nvme_mailbox.specs.Fleets as mailboxes
 use Rattle.nvme_event.specs.declared.seen.FleetSeen.TheVariants as seen
-use Rattle.nvme_fleet.proofs.Registering.{disabled-off}
-use Rattle.nvme_fleet.proofs.Resetting.{reset-sound, reset-mail}
+use Rattle.nvme_refinement.proofs.Registering.{disabled-off}
+use Rattle.nvme_refinement.proofs.Resetting.{reset-sound, reset-mail}
 use Rattle.nvme_fleet.proofs.Seats.{AllSound}
 use Rattle.nvme_fleet.proofs.LinkCalls.{calls-made}
 use Rattle.std.proofs.lemmas.Option.{slice_get-get_or}

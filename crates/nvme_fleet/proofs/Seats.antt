@@ -6,7 +6,7 @@ use Rattle.nvme_machine.specs.Subsystems as machine
 use Rattle.nvme_machine.proofs.Denials.{not_one}
 use Rattle.nvme_mailbox.specs.Fleets as mailboxes
 use Rattle.nvme_mailbox.specs.Fleets.{Host}
-use Rattle.nvme_fleet.proofs.MarkStep.{marks_are_steps}
+use Rattle.nvme_refinement.proofs.MarkStep.{marks_are_steps}
 use Rattle.std.proofs.lemmas.Option.{slice_get-get_or}
 
 -- Hosts by their places: those of a list of drivers beside a list of controllers.

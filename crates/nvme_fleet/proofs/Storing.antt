@@ -2,7 +2,7 @@
 use Rattle.nvme_fleet.proofs.Words.{◌≡◌, ℕ, ◌+◌, ◌-◌, ◌≤◌, List, length, ap, ◌∙◌, with_bytes, window_size, Seen, Controller, after_store, new_controller, Subsystem, Reacts, IsThere, controller_in}
 use Rattle.nvme_fleet.proofs.Happening.{place-below, place-is}
 use Rattle.nvme_fleet.proofs.LinkCalls.{reacted-as}
-use Rattle.nvme_fleet.proofs.StartStep.{stored-at}
+use Rattle.nvme_refinement.proofs.StartStep.{stored-at}
 use Rattle.std.proofs.lemmas.List.{get_or-set_same}
 
 pub stored-there : (old new : Subsystem) (k address : ℕ) (bytes : List ℕ) (given : Seen) → IsThere old k → Reacts old k (after_store address bytes) given new → address + length bytes ≤ window_size

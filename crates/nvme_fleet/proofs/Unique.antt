@@ -14,8 +14,8 @@ use Rattle.nvme_fleet.specs.Layers.{Run, Step}
 use Rattle.nvme_driver.specs.Polls.{Poll as PollOf}
 use Rattle.nvme_fleet.proofs.Bytes.{runs_of_mailboxes}
 use Rattle.nvme_fleet.proofs.Mirrored.{AreQuiet, IsQuiet}
-use Rattle.nvme_fleet.proofs.Orders.{pending-other}
-use Rattle.nvme_fleet.proofs.PlainCalls.{IsPlain, plain-polled}
+use Rattle.nvme_refinement.proofs.Orders.{pending-other}
+use Rattle.nvme_refinement.proofs.PlainCalls.{IsPlain, plain-polled}
 use Rattle.nvme_mailbox.proofs.Determined.{failures_never_fall, step-alone, step-counts}
 use Rattle.nvme_mailbox.proofs.Lists.{from-map}
 

@@ -1,53 +1,23 @@
--- The words that most proofs of this crate speak in: those that the proofs of mailboxes speak in too, and others, each
--- from where it is defined.
-pub use Rattle.nvme_mailbox.proofs.Words.{Aborted, Admin, AdminCommand, AllByRecursion, Allowed, AlreadyUp, Asked, BadRequest, Bool, BringUp, Command, CommandComesToAs, CommandExecution, Completes, Configuration, Controller, ControllerConfig, Cycled, Denied, Device, DifferIn, Done, Err, Execute, Executed, ExecutesAt, ExecutesBy, ExecutesItem, Fetch, FetchedCommand, FetchedItem, FinishesOne, FinishesOver, Fleet, FleetEvent, FleetSeen, HasPassed, HasSameExtents, Idle, Io, IoRequestComesTo, Is, IsLaidOut, IsRegular, IsServed, Item, Judgement, Keep, Lane, LaneBox, LeavesReservation, List, Mailbox, MailboxReaction, Marks, MayNotRead, Moment, Namespace, NoSuch, None, NotReady, OfItsHost, Ok, Option, Outcome, Performs, Place, PlaceRefusal, Poll, Posted, PostedAnswer, PowerCycle, QueueChange, QueuePair, Raw, RawStore, RawWrite32, Reply, Request, RequestComesToAs, RequestExecution, ReservesNothing, Reset, Ring, Rule, RunWhere, Scene, Setting, Site, Some, Status, Step, Subsystem, Took, Verdict, WithDriver, World, [], access_rules, action_of, action_rule, admin_request_execution_by, all-joined, answer_reply, ap, arith, asked_of, box_at, brought_up, bytes_with, cases_Bool, command_execution_over, common_steps, conclusion, cond, data_len, data_length_of, denial_outcome, differ-still, drop, else_by, eqb-false, eqb-true, extent_of, false, fault_free_step, fetch-id, fetched, fetched_at, fetched_first, fetched_of, filter, first_failing, first_failing-append, handed_up, host_cycled, host_of, if◌then◌else◌, inl, inr, io_verdict, is_bad, is_host_among, is_one_of, lane_at, lane_of, length, length-append, length-drop, length-map, length-take-le, mailbox_reaction, map, marked, marked_from, marks_in, may_read, medium_block, most_bytes, nat_le, nat_lt, ne_eqb, new_controller, new_host, new_item, new_mailbox, no_marks, none-some, not, option_map, outcome_in, placed_by, plain, plan_of, polled_aborted, polled_admin, polled_io, queues_of, ranked, recounted, refl, refusal, remove, removed_by, replicate, ring_lane, rising, rung, same_Some, scene_in, setting_of, site_of, slice_get, slice_get-map, slice_set, store-id, subst, suc, sym, take, tickets_in, total, true, with_box, with_bytes, with_placed, with_posted, world_after, write-id, zero, ℕ, ◌%◌, ◌&&◌, ◌*◌, ◌++◌, ◌+◌, ◌-◌, ◌/◌, ◌<◌, ◌==◌, ◌^◌, ◌||◌, ◌∙◌, ◌∷◌, ◌≡◌, ◌≢◌, ◌≤◌, ◌⊎◌}
-unfoldable pub use Rattle.nvme_mailbox.proofs.Words.{CommandComesTo, RequestComesTo, action, action_outcome, admin_judgement, admin_request_execution, after_answer, after_completion, after_posting, after_power_cycle, after_queue_change, block_count, cdw12, command_entry, command_of, cptpl, host_at, iekey, io_judgement, judgement_by, may_write, namespace_of, nsid, opcode, open_pair, open_tickets, opening, pointer_rule, reservation_of, reservation_outcome, rtype, settled, submission_entry, with_host}
-pub use Rattle.std.proofs.Common.{IfErr, IfNone, IfOk, IfSome, IsOk, IsSome, IsTrue, MatchOption, OnErr, OnOk, Result, eqb, flat_map, get_or, is_none, is_ok, is_some, slice_index_or, slice_range, vec_capacity, vec_len}
-pub use Rattle.std.proofs.lemmas.Bool.{and_parts, cases_eq, cases_lt, eq-eqb, le-leb, le-ltb, leb-true, lt-ltb, not-true}
-pub use Rattle.std.proofs.lemmas.List.{append-nil, append_assoc, drop-append-le, drop-drop, drop-take, drop_at, get_or-append-add, get_or-drop, get_or-replicate, get_or-take, length-replicate, length-set, map-append, same_lists, set-get_or, set-set, take-append-drop, take-append-le, take-take, take_all, take_at, take_more}
-pub use Rattle.std.proofs.lemmas.List.Edits.{length-remove, map_over_more}
-pub use Rattle.std.proofs.lemmas.Option.{slice_get_read, slice_get_within}
-pub use Rattle.std.proofs.lemmas.Slice.Eq.{bytes_eq-Decides}
-pub use Rattle.std.specs.List.{position, position_or_len, range_with_len}
-pub use Rattle.std.specs.Str.{bytes_eq}
-pub use Rattle.nvme_wire.proofs.Made.{completion_is_read_back, submission_is_plain, submission_is_read_back}
-pub use Rattle.nvme_wire.specs.Completion.{Completion, FitsCompletion, completion_of, dw0, sq_head, sq_id, status}
-unfoldable pub use Rattle.nvme_wire.specs.Completion.{completion_entry, phase}
-pub use Rattle.nvme_wire.specs.Submission.{FitsSqeFields, fuse, prp1, prp2, psdt, submission_of}
-unfoldable pub use Rattle.nvme_wire.specs.Submission.{cdw10, cdw11, cid}
-pub use Rattle.nvme_wire.specs.declared.sqe.fields.SqeFields.{SqeFields}
-pub use Rattle.nvme_spec.proofs.Denials.{JudgementRefuses, Refuses, VerdictRefuses, verdict-refuses}
-pub use Rattle.nvme_spec.proofs.Passing.{has-passed}
+-- The words that most proofs of this crate speak in: those that the proofs of a driver over its controller speak in too,
+-- and others, each from where it is defined.
+pub use Rattle.nvme_refinement.proofs.Words.{Admin, AllByRecursion, Answer, Asked, Bool, Call, Calls, CommandComesToAs, CommandExecution, Controller, CreatesBoth, Device, Down, Driver, Err, Executed, ExecutesItem, ExecutesNth, FetchedCommand, FinishesOne, FinishesOver, Fleet, Io, IsOff, IsStep, LinkStep, List, Mailbox, MailboxReaction, None, Off, Ok, Option, Outcome, PlaceRefusal, PollFault, Polled, QueueChange, QueuePair, Queues, Reads, Registers, Reply, Request, Result, Scene, Setting, Site, Some, Sound, Stores, SubmissionQueue, Ticket, Turns, Up, UpFault, Waiting, WithDriver, World, Writes, [], acq_high, acq_low, after_call, after_calls, after_reset, all-joined, ap, append-nil, aqa, arith, asked_of, asq_high, asq_low, cases_Bool, command_place, common_steps, consumed_ends, csts, data_area, drop, enabling, ends, entry_fields, eqb, eqb-true, false, fetched_from, get_or, host_of, if◌then◌else◌, inl, inr, is_failed, is_ready, is_some, is_up, length, length-map, length-replicate, length-set, list_page, mailbox, map, marks_in, most_bytes, nat_le, new_controller, new_driver, no_marks, none-some, option_map, plain, polled, put_ends, queues_of, raw_fetch, refl, replicate, reset_calls, rung_reply, same_Some, scene_in, setting, setting_of, site_of, slice_get, slice_get_within, slice_set, sq_head, start_calls, started, stored_list, stores_of, submission_of, subst, suc, sym, tail_doorbell, tail_of, take, true, waiting_at, window_in, window_size, with_bytes, with_controller, with_ends, zero, ℕ, ◌++◌, ◌+◌, ◌-◌, ◌<◌, ◌==◌, ◌^◌, ◌∙◌, ◌∷◌, ◌≡◌, ◌≤◌, ◌⊎◌}
+unfoldable pub use Rattle.nvme_refinement.proofs.Words.{CommandComesTo, Rises, after_completion, after_fetch, after_posting, after_queue_change, after_store, after_write32, fetchable, open_pair, settled, submission_entry, taking_effect}
+pub use Rattle.nvme_mailbox.proofs.Words.{AlreadyUp, BringUp, Configuration, ControllerConfig, Cycled, DifferIn, Execute, Fetch, FleetEvent, FleetSeen, HasSameExtents, Is, IsLaidOut, IsRegular, LeavesReservation, Marks, MayNotRead, Moment, NoSuch, OfItsHost, Place, Poll, Posted, PowerCycle, Raw, RawStore, RawWrite32, ReservesNothing, Reset, Ring, RunWhere, Step, Subsystem, command_execution_over, data_len, differ-still, extent_of, fault_free_step, fetch-id, fetched_at, host_cycled, is_host_among, marked, marked_from, may_read, new_host, new_mailbox, ◌≢◌}
+unfoldable pub use Rattle.nvme_mailbox.proofs.Words.{after_power_cycle, host_at, may_write, opening, reservation_of, with_host}
+pub use Rattle.std.proofs.Common.{IfErr, IfNone, IfOk, IfSome, IsOk, IsSome, IsTrue, OnErr, OnOk, is_ok, vec_capacity, vec_len}
+pub use Rattle.std.proofs.lemmas.List.{append_assoc, set-get_or, set-set, take_more}
+pub use Rattle.std.proofs.lemmas.List.Edits.{map_over_more}
+pub use Rattle.std.proofs.lemmas.Option.{slice_get_read}
 pub use Rattle.nvme_spec.proofs.Registrants.{all-filter}
-pub use Rattle.nvme_spec.proofs.StatusLaws.{admin_execution_fits, execution_fits, of-each}
-pub use Rattle.nvme_spec.specs.AdminCommands.{controller_structure, namespace_structure, number_of_queues, opcode_of, state_of, write_protection}
-unfoldable pub use Rattle.nvme_spec.specs.AdminCommands.{cns, exhid, fid, ncqr, nsqr, sel, sv, wps}
-pub use Rattle.nvme_spec.specs.AdminEffects.{AdminExecution, execution_by, identify_data, performance, protection_value}
-unfoldable pub use Rattle.nvme_spec.specs.AdminEffects.{admin_execution, data_out, double_word_0, queue_change}
-pub use Rattle.nvme_spec.specs.Commands.{data_length, ranged}
-unfoldable pub use Rattle.nvme_spec.specs.Commands.{eds, report_length, starting_lba}
-pub use Rattle.nvme_spec.specs.DataRules.{data_fault, data_in, data_transfer}
-unfoldable pub use Rattle.nvme_spec.specs.DataRules.{data_addresses}
-pub use Rattle.nvme_spec.specs.Execution.{marks_of, marks_on, report_of, scene, start_of}
-pub use Rattle.nvme_spec.specs.IoData.{data_of}
-unfoldable pub use Rattle.nvme_spec.specs.IoRules.{form_rule}
 pub use Rattle.nvme_spec.specs.Layout.{Extent, bytes_of}
 pub use Rattle.nvme_spec.specs.MediumCalls.{MakesCalls, MediumCall}
-pub use Rattle.nvme_spec.specs.Memory.{window_size}
-pub use Rattle.nvme_spec.specs.Queues.{after_head_doorbell, after_tail_doorbell, can_be_heard, phase_tag, slot_of}
-pub use Rattle.nvme_spec.specs.Registers.{Registers, Written, doorbell_value, is_enabled, with_high, with_low, written}
-unfoldable pub use Rattle.nvme_spec.specs.Registers.{after_write, can_enable, configured, doorbell, prepared, value_at}
-pub use Rattle.nvme_spec.specs.StatusLaws.{Fits, denials}
-pub use Rattle.nvme_spec.specs.Transfers.{addresses, gathered_bytes, pieces_of}
-unfoldable pub use Rattle.nvme_spec.specs.Transfers.{with_scattered}
-pub use Rattle.nvme_spec.specs.World.{is_attached, opening_world}
-pub use Rattle.nvme_spec.specs.declared.access.Protection.TheVariants.{Open, UntilCycle}
-pub use Rattle.nvme_spec.specs.declared.queues.QueueChange.TheVariants.{DropSq, MakeCq, MakeSq}
-pub use Rattle.nvme_spec.specs.declared.queues.Queues.{Queues}
+pub use Rattle.nvme_spec.specs.Registers.{Written}
+pub use Rattle.nvme_spec.specs.World.{opening_world}
+pub use Rattle.nvme_spec.specs.declared.access.Protection.TheVariants.{UntilCycle}
+pub use Rattle.nvme_spec.specs.declared.queues.QueueChange.TheVariants.{DropSq}
 pub use Rattle.nvme_spec.specs.declared.registers.AdminQueues.{AdminQueues}
-pub use Rattle.nvme_spec.specs.declared.registers.ControllerState.TheVariants.{Off, Ready}
 pub use Rattle.nvme_spec.specs.declared.registers.RegEffect.{RegEffect}
-pub use Rattle.nvme_spec.specs.declared.registers.RegEffect.TheVariants.{CqHead, Disable, Enable, Nothing, SqTail}
+pub use Rattle.nvme_spec.specs.declared.registers.RegEffect.TheVariants.{Disable, Enable, Nothing}
 pub use Rattle.nvme_machine.proofs.AdminWorlds.{same-extents}
 pub use Rattle.nvme_machine.proofs.AllowedCalls.{all-mapped, all-of-none, calls_are_allowed}
 pub use Rattle.nvme_machine.proofs.Denials.{unmarked}
@@ -55,11 +25,8 @@ pub use Rattle.nvme_machine.proofs.Layouts.{step-extents}
 pub use Rattle.nvme_machine.proofs.SecretCommands.{scene_over}
 pub use Rattle.nvme_machine.specs.AllowedCalls.{HaveTheirOwn, IsReading, KeepsOff}
 pub use Rattle.nvme_machine.specs.Bare.{seen_of}
-pub use Rattle.nvme_machine.specs.CommandExecutions.{IoCommandComesTo, admin_command_execution}
-pub use Rattle.nvme_machine.specs.Controllers.{CompletionQueue, Reaction, SubmissionQueue, completion_at, fetched_from, has_read, most_fetched, no_completion_queues, no_submission_queues, pair_with, reaction, submission_at, with_admin_queues, with_head, with_marks, with_tail, without_queues, wrote}
-unfoldable pub use Rattle.nvme_machine.specs.Controllers.{after_fetch, after_store, after_write32, fetchable, taking_effect}
+pub use Rattle.nvme_machine.specs.Controllers.{Reaction, has_read, reaction, with_admin_queues, with_marks, wrote}
 pub use Rattle.nvme_machine.specs.EventCalls.{CallingAt, CallingOne, CallingOver, ExecutesNothing}
-pub use Rattle.nvme_machine.specs.Executing.{ExecutesNth, Finishes, setting}
 pub use Rattle.nvme_machine.specs.Secrecy.{over}
 pub use Rattle.nvme_machine.specs.Subsystems.{ExecutesOne, ExecutesOver, Reacts, ReactsAs, controller_of, scene_of}
 unfoldable pub use Rattle.nvme_machine.specs.Subsystems.{controller_at}
@@ -75,50 +42,24 @@ pub use Rattle.nvme_subsys.proofs.Sound.{length-after}
 pub use Rattle.nvme_subsys.specs.Marked.{marks_after}
 pub use Rattle.nvme_subsys.specs.OverMedium.{OverMedium}
 pub use Rattle.nvme_driver.proofs.Mapped.{IsMapped, both-mapped, rises-mapped}
-pub use Rattle.nvme_driver.proofs.Moving.{entries_move_their_data, within}
-pub use Rattle.nvme_driver.proofs.PageLists.{length-stored_list, part-there}
-pub use Rattle.nvme_driver.specs.Calls.{Call, Calls, Reads, Stores, Turns, Writes}
-unfoldable pub use Rattle.nvme_driver.specs.Calls.{Awaits}
-pub use Rattle.nvme_driver.specs.Drivers.{Driver, Ends, abort, after_reset, cc, ends, entry_fields, entry_length, entry_of, free_slot, is_down, is_up, new_driver, place_refusal, put_ends, reset_calls, ring_calls, stores_of, tail_of, ticket_count, waiting_of, with_ends}
-pub use Rattle.nvme_driver.specs.Layout.{command_place, completion_place_in, completion_queue, data_area, head_doorbell, list_page, queue_id, submission_queue, tail_doorbell}
-pub use Rattle.nvme_driver.specs.Pointers.{HasList, IsRequest, first_entry, list_of_slot, listed_pages, page_entries, pages_behind, second_entry, slot_transfer, stored_list}
-pub use Rattle.nvme_driver.specs.Polls.{IsNotBelow, IsOldest, aborted_at, answer_len, answered, answered_poll, consumed_ends, found, found_poll, head_of, is_new, is_success, next_entry, polled, waiting_at, without_calls}
-pub use Rattle.nvme_driver.specs.Requests.{controller_list, key}
-pub use Rattle.nvme_driver.specs.Rises.{Concludes, CreatesBoth, CreatesSubmissions, Hears, acq_high, acq_low, admin_sizes, answers_own, aqa, asq_high, asq_low, create_completion_queue, create_submission_queue, csts, enabling, fault_of, heard_calls, is_ready, own_answer, own_of, send_calls, sent, start_calls, started}
-unfoldable pub use Rattle.nvme_driver.specs.Rises.{Creates, Rises, zero_page}
-pub use Rattle.nvme_driver.specs.declared.answer.Answer.{Answer}
+pub use Rattle.nvme_driver.specs.Drivers.{is_down, ring_calls}
+pub use Rattle.nvme_driver.specs.Polls.{IsNotBelow, IsOldest, aborted_at, head_of}
 pub use Rattle.nvme_driver.specs.declared.faults.NotUp.{NotUp}
-pub use Rattle.nvme_driver.specs.declared.faults.PlaceRefusal.TheVariants.{NoSlot, RingFull, TicketsExhausted}
-pub use Rattle.nvme_driver.specs.declared.faults.PollFault.{PollFault}
-pub use Rattle.nvme_driver.specs.declared.faults.UpFault.{UpFault}
-pub use Rattle.nvme_driver.specs.declared.found.Found.{Found}
-pub use Rattle.nvme_driver.specs.declared.slots.Waiting.{Waiting}
-pub use Rattle.nvme_driver.specs.declared.state.State.TheVariants.{Down, Failed, Up}
-pub use Rattle.nvme_driver.specs.declared.ticket.Ticket.{Ticket}
+pub use Rattle.nvme_driver.specs.declared.state.State.TheVariants.{Failed}
 pub use Rattle.nvme_event.specs.Bare.{seen_with}
-pub use Rattle.nvme_event.specs.declared.seen.FleetSeen.TheVariants.{Polled, Rung}
 pub use Rattle.nvme_fleet.specs.AllowedCalls.{CallsAreAllowed, CallsOfRunsAreAllowed, ComesFrom, FencedCommandsCallNothing, FencedHostsWriteNoBlock, MayCall}
 pub use Rattle.nvme_fleet.specs.Bytes.{FencedEventsWriteNothing, LayoutStays, OthersWindowsStay, RunsOfMailboxes, is_laid_out, namespace_bytes}
 pub use Rattle.nvme_fleet.specs.Deeds.{CallStep, ComesUp, Consumes, Does, DoesIfAny, Places, Polls, Ran, Resets, Rings, events_of, events_of_calls, reset_events, ring_events, window_at, window_of}
-pub use Rattle.nvme_mailbox.specs.Executions.{admin_served, command_fields, denied_request_execution, queue_pairs}
 pub use Rattle.nvme_fleet.specs.FleetStates.{FleetState, IsCalled, IsSoundFleet, Layers, SoundBy, fleet_of, host_by, hosts_of, layers_of, opening_driver, reaction_to, reply_in}
 unfoldable pub use Rattle.nvme_fleet.specs.FleetStates.{fleet_in}
-pub use Rattle.nvme_mailbox.specs.Fleets.{called, raw_fetch, stored_seen}
-pub use Rattle.nvme_fleet.specs.Lanes.{Both, aborted_number, commands_in, fetched_by, held_by, host, in_order, is_failed, lane_of_queue, other, ranked_too, same, slot_in, slots_in, state, waiting_count, whole}
-unfoldable pub use Rattle.nvme_fleet.specs.Lanes.{area, listed, pages_of}
+pub use Rattle.nvme_mailbox.specs.Fleets.{called, stored_seen}
 pub use Rattle.nvme_fleet.specs.LayerCalls.{AppliesCalling, AreCallsOfRun, AreCallsOfStep, HappensCalling, LayerCallsAreOfARun, LayerCallsAreOfAStep}
 pub use Rattle.nvme_fleet.specs.Layers.{Applies, AppliesRaw, CallsAt, Cycles, Happens, driver_at, resets_from, told, with_driver}
 pub use Rattle.nvme_fleet.specs.LinkCalls.{AreCallsOfTurn, CallOverMedium, ReachesMedium}
 pub use Rattle.nvme_fleet.specs.Linked.{IsThere, KeepsOthers, KeepsSite, Linked, Reaches, controller_in, linked_controller, linked_setting, setting_in, with_controller_at, with_setting}
-pub use Rattle.nvme_fleet.specs.Links.{BringUpIsAStep, LinkStep, window_in, with_controller}
-pub use Rattle.nvme_mailbox.specs.Mailboxes.{empty_box, held, is_io}
 pub use Rattle.nvme_fleet.specs.PowerReset.{AreCycled}
 pub use Rattle.nvme_fleet.specs.RawEvents.{IsOfHost, raw_moment}
 pub use Rattle.nvme_fleet.specs.Running.{RunsBehind, data_behind, room_for}
 pub use Rattle.nvme_fleet.specs.Secrecy.{LayersReadTheSame, layers_over}
-pub use Rattle.nvme_fleet.specs.Sound.{DeviceEnds, EndsFit, IsOfLane, IsOff, IsPaired, Sound, completion_as, mailbox, submission_as}
-pub use Rattle.nvme_fleet.specs.Steps.{AdminAnswersItsRequest, AdminExecutionIsAStep, AdminJudgedAsItsRequest, AllowedServesItsRequest, AnswersItsRequest, ExecutionIsAFleetStep, ExecutionIsAStep, FetchIsAStep, IoExecutionIsAStep, IsAnsweredInItsSlot, IsExecuted, IsServedInItsSlot, IsStep, JudgedAsItsRequest, MarksAreSteps, NoExecutionIsAFleetStep, NothingToExecute, OpeningIsSound, PlaceIsAStep, PollIsAStep, PostingHasRoom, PostingIsAStep, RefusalIsAStep, ResetIsAStep, RingIsAStep, after_call, after_calls, request_execution_with, rung_reply}
 pub use Rattle.nvme_fleet.specs.Unique.{HasTicketsOnce, HaveTicketsOnce, LayersRunIsUnique, OpeningHasTicketsOnce, TicketsStayOnce}
-pub use Rattle.nvme_fleet.specs.Views.{AgeIn, Ages, Carried, Effect, Holds, Host, IsOf, Phases, Resting, Running, Slot, State, Suited, abort_slot, answer, answers, answers_of, asked_in, bears, can_hear, command_at, commands, commands_of, completion_bytes, completions, consumed, empty, executed, executed_state, filled, finished, fresh_host, fresh_state, front, heard, holds, in_flight, is_plain_in, item, lane_in, last_head, left_after, less, live_at, live_in, live_waiting, next_completion, odd, off, own_host, own_state, phase_of, placed_state, received_by, received_in, replies, since, slot_at, steps, ticket_in, unread, zeroed}
-unfoldable pub use Rattle.nvme_fleet.specs.Views.{box, finished_bytes, is_plain, item_in, suits, zeros}
 pub use Rattle.nvme_fleet.specs.declared.delivery.DriverCall.{DriverCall}

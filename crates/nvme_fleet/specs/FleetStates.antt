@@ -18,8 +18,8 @@ use Rattle.nvme_mailbox.specs.Mailboxes.{Mailbox}
 use Rattle.nvme_mailbox.specs.Deliveries as mail
 use Rattle.nvme_mailbox.specs.Deliveries.{MailboxReaction, plain}
 use Rattle.nvme_mailbox.specs.Fleets.{Host, WithDriver, Raw, Fleet}
-use Rattle.nvme_fleet.specs.Sound.{Sound, mailbox}
-use Rattle.nvme_fleet.specs.Steps.{IsStep}
+use Rattle.nvme_refinement.specs.Sound.{Sound, mailbox}
+use Rattle.nvme_refinement.specs.Steps.{IsStep}
 
 -- The data lie at the front of the buffer.
 pub record FleetState : Type 0 where

@@ -1,9 +1,4 @@
 pub use Rattle.nvme_driver.specs.Requests
-pub mod Views
-pub mod Lanes
-pub mod Sound
-pub mod Steps
-pub mod Links
 pub mod Linked
 pub mod FleetStates
 pub mod Deeds

@@ -7,8 +7,8 @@ ghost use Rattle.nvme_event.specs.Replies.{data_len};
 ghost use Rattle.nvme_fleet.specs.Deeds.{Does, DoesIfAny};
 ghost use Rattle.nvme_fleet.specs.FleetStates.{IsCalled, SoundBy, reaction_to, reply_in};
 ghost use Rattle.nvme_fleet.specs.Linked.{IsThere, KeepsOthers, KeepsSite, Reaches, controller_in, linked_controller};
-ghost use Rattle.nvme_fleet.specs.Sound.{Sound, mailbox};
-ghost use Rattle.nvme_fleet.specs.Steps.{IsStep};
+ghost use Rattle.nvme_refinement.specs.Sound.{Sound, mailbox};
+ghost use Rattle.nvme_refinement.specs.Steps.{IsStep};
 
 use crate::link::Link;
 use crate::member;

@@ -5,8 +5,8 @@ ghost use Rattle.nvme_event.specs.declared.seen.FleetSeen.TheVariants.{Up, Rung,
 ghost use Rattle.nvme_fleet.specs.Deeds.{ComesUp, Rings, Resets};
 ghost use Rattle.nvme_mailbox.specs.Deliveries.{brought_up, rung, reset as reset_mailbox, plain};
 ghost use Rattle.nvme_fleet.specs.Linked.{KeepsSite, Reaches, linked_controller};
-ghost use Rattle.nvme_fleet.specs.Sound.{Sound, mailbox};
-ghost use Rattle.nvme_fleet.specs.Steps.{IsStep};
+ghost use Rattle.nvme_refinement.specs.Sound.{Sound, mailbox};
+ghost use Rattle.nvme_refinement.specs.Steps.{IsStep};
 
 use crate::link::Link;
 pub use crate::place::place;

@@ -6,8 +6,8 @@ ghost use Rattle.nvme_event.specs.declared.seen.FleetSeen.TheVariants.{Polled};
 ghost use Rattle.nvme_fleet.specs.Deeds.{Polls};
 ghost use Rattle.nvme_mailbox.specs.Deliveries.{polled};
 ghost use Rattle.nvme_fleet.specs.Linked.{KeepsSite, Reaches, linked_controller};
-ghost use Rattle.nvme_fleet.specs.Sound.{Sound, mailbox};
-ghost use Rattle.nvme_fleet.specs.Steps.{IsStep};
+ghost use Rattle.nvme_refinement.specs.Sound.{Sound, mailbox};
+ghost use Rattle.nvme_refinement.specs.Steps.{IsStep};
 
 use crate::link::Link;
 use nvme_driver::{Answer, Driver, PollFault};

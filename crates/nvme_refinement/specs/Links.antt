@@ -1,0 +1,46 @@
+-- A driver brings its controller up over their port: each call is an event of the controller, and a turn is a fetch
+-- from its admin queue and an execution of the first command that it has fetched.
+use Rattle.std.specs.Prelude.{◌≡◌, ℕ, Bool, List, Result, Ok}
+use Rattle.nvme_spec.specs.Registers.{value_at}
+use Rattle.nvme_driver.specs.declared.state.State.TheVariants.{Down}
+use Rattle.nvme_driver.specs.declared.faults.UpFault.{UpFault}
+use Rattle.nvme_driver.specs.Calls.{Call, Stores, Writes, Reads, Turns}
+use Rattle.nvme_driver.specs.Drivers.{Driver}
+use Rattle.nvme_driver.specs.Rises.{Rises}
+use Rattle.nvme_machine.specs.declared.seen.Executed.{Executed}
+use Rattle.nvme_machine.specs.Controllers.{Controller, after_store, after_write32, after_fetch}
+use Rattle.nvme_machine.specs.Executing.{Setting, ExecutesNth}
+use Rattle.nvme_mailbox.specs.Deliveries.{brought_up}
+use Rattle.nvme_refinement.specs.Sound.{Sound, mailbox}
+
+abbrev pub with_controller : Setting → Controller → Setting
+with_controller s c = record s { controller = c }
+
+-- what a call of the port makes of a controller, with the access state and the medium at hand
+abbrev pub LinkStep : Bool → Setting → Call → Setting → Type 0
+LinkStep tells old (Stores address bytes) new =
+    new ≡ with_controller old (after_store address bytes old.controller).controller
+LinkStep tells old (Writes offset v) new = new ≡ with_controller old (after_write32 offset v old.controller)
+LinkStep tells old (Reads offset v) new = (v ≡ value_at old.controller.registers offset) × (new ≡ old)
+LinkStep tells old Turns new =
+    (executed : Executed)
+    × ExecutesNth tells 0 (with_controller old (after_fetch 0 old.controller).controller) executed new
+
+abbrev pub window_in : Setting → List ℕ
+window_in s = s.controller.window
+
+-- It came up: the mailbox is up, it is the same controller, and access state and medium are as they were.
+pub record HasComeUp (d : Driver) (old : Setting) (result : Result (Unit {0}) UpFault) (d' : Driver)
+    (new : Setting) : Type 0 where
+  pub answered : result ≡ Ok tt
+  pub sound : Sound d' new.controller
+  pub mail : (brought_up (mailbox d old.controller)).mailbox ≡ mailbox d' new.controller
+  pub cntlid : new.controller.cntlid ≡ old.controller.cntlid
+  pub world : new.world ≡ old.world
+  pub device : new.device ≡ old.device
+
+-- A driver that is down always comes up, by a step of the mailbox.
+abbrev pub BringUpIsAStep : Type 0
+BringUpIsAStep =
+    (tells : Bool) (d d' : Driver) (old new : Setting) (result : Result (Unit {0}) UpFault) → Sound d old.controller
+    → d.state ≡ Down → Rises (LinkStep tells) window_in d old result d' new → HasComeUp d old result d' new
