@@ -2,7 +2,6 @@ pub mod Words
 pub mod Seats
 pub mod FleetOpening
 pub mod FleetRuns
-pub mod AdminTurns
 pub mod LinkDeeds
 pub mod LinkCalls
 pub mod LayerCalls

@@ -1,14 +1,14 @@
 -- What calls over a link come to: those that grant no turn, and those of a driver that comes up. They make none of the
 -- medium, since admin commands make none.
-use Rattle.nvme_fleet.proofs.Words.{Bool, Call, CallOverMedium, CallStep, CallingAt, CallingOne, CallingOver, Calls, Controller, Driver, Event, FetchedCommand, IsStep, KeepsOthers, KeepsSite, LinkStep, Linked, List, MailboxReaction, MediumCall, None, Option, OverMedium, QueuePair, Ran, Reaches, ReachesMedium, Reply, Seen, Setting, Some, Subsystem, Turns, [], after_call, after_calls, after_fetch, ap, arith, controller_at, controller_in, events_of, events_of_calls, length, length-set, linked_controller, linked_setting, new_controller, open_pair, refl, scene_of, set-get_or, set-set, setting_in, slice_get, subst, sym, with_controller, with_controller_at, with_setting, ℕ, ◌++◌, ◌+◌, ◌<◌, ◌∙◌, ◌∷◌, ◌≡◌, slice_set, Stores, Writes, Reads, Value, Reaction, after_store, wrote, has_read, setting, ExecutesNth, Reacts, ReactsAs, fetch-id, window_at, window_of}
+use Rattle.nvme_fleet.proofs.Words.{World, Executed, Posted, NoSuch, CqFull, marks_in, no_marks, marks_after, unmarked, Bool, Call, CallOverMedium, CallStep, CallingAt, CallingOne, CallingOver, Calls, Controller, Driver, Event, FetchedCommand, IsStep, KeepsOthers, KeepsSite, LinkStep, Linked, List, MailboxReaction, MediumCall, None, Option, OverMedium, QueuePair, Ran, Reaches, ReachesMedium, Reply, Seen, Setting, Some, Subsystem, Turns, [], after_call, after_calls, after_fetch, ap, arith, controller_at, controller_in, events_of, events_of_calls, length, length-set, linked_controller, linked_setting, new_controller, open_pair, refl, scene_of, set-get_or, set-set, setting_in, slice_get, subst, sym, with_controller, with_controller_at, with_setting, ℕ, ◌++◌, ◌+◌, ◌<◌, ◌∙◌, ◌∷◌, ◌≡◌, slice_set, Stores, Writes, Reads, Value, Reaction, after_store, wrote, has_read, setting, ExecutesNth, Reacts, ReactsAs, fetch-id, window_at, window_of}
 use Rattle.nvme_mailbox.proofs.Lists.{all-get}
 use Rattle.nvme_spec.specs.MediumCalls.{Calls as CallsMade}
 use Rattle.nvme_machine.specs.declared.event.Event.TheVariants.{Fetch, Execute}
 use Rattle.nvme_machine.specs.Calling.{AreCallsAs, AreCallsOfExecution}
 use Rattle.nvme_machine.specs.EventCalls.{AreCallsOfRun}
-use Rattle.nvme_machine.specs.Subsystems.{Run, Step, ExecutesAt, with_controller as with_controller_of}
+use Rattle.nvme_machine.specs.Subsystems.{Run, Step, ExecutesAt, marked_from, with_controller as with_controller_of}
 use Rattle.nvme_subsys.proofs.Numbers as numbers
-use Rattle.nvme_fleet.proofs.AdminTurns.{AreAdmin, IsAdmin, call-admin, call-named, fetch-admin, fetched_by, one-quiet}
+use Rattle.nvme_refinement.proofs.AdminTurns.{AreAdmin, IsAdmin, call-admin, call-named, fetch-admin, fetched_by, one-quiet}
 use Rattle.nvme_refinement.proofs.PlainCalls.{IsPlain, plain-first}
 use Rattle.nvme_refinement.proofs.StartStep.{calls-are, calls-id}
 use Rattle.std.proofs.lemmas.List.{get_or-set_same}
@@ -93,6 +93,12 @@ plain-there tells (Reads offset v) a b i plain there s =
     record { step = (value-is r.gives v _ s.given r.alone s.answers p.gives, q.setting_is); others = q.others }
 plain-there tells Turns a b i plain there s = absurd plain
 
+-- an execution that marks nothing leaves every controller
+none-marked : (w : World) (x : Executed) (cs : List Controller) → marks_in x ≡ no_marks → marks_after w x cs ≡ cs
+none-marked w (Posted o) cs h = ap (λ m. marked_from w m 1 cs) h ∙ unmarked w 1 cs
+none-marked w NoSuch cs h = refl
+none-marked w CqFull cs h = refl
+
 pub turns-there : (tells : Bool) (a b : Subsystem) (i : ℕ) → AreAdmin (controller_in a i) → i < length a.controllers → (controller_in a i).cntlid ≡ i + 1 → CallStep tells (i + 1) a Turns b
     → IsStepThere tells Turns a b i
 turns-there tells a b i admin there named s =
@@ -108,7 +114,7 @@ turns-there tells a b i admin there named s =
     let quiet = one-quiet (slice_get d.fetched 0) tells (setting d a.world a.device) e.executed left refl (fetch-admin c admin) e.executes in
     let is : b ≡ with_setting a i left =
     e.leaves ∙ ap (λ cs. (let x : Subsystem = record { world = left.world; device = left.device; controllers = cs } in x))
-    (quiet.marks left.world (slice_set mid.controllers i left.controller) ∙ set-set a.controllers i d left.controller) in
+    (none-marked left.world e.executed (slice_set mid.controllers i left.controller) quiet.marks ∙ set-set a.controllers i d left.controller) in
     let q = is-put a b i left there is in
     record { step = (e.executed, subst (ExecutesNth tells 0 (setting d a.world a.device) e.executed) (sym q.setting_is) e.executes); others = q.others }
 

@@ -7,7 +7,7 @@ use Rattle.nvme_driver.specs.Drivers as driver
 use Rattle.nvme_driver.specs.Polls as poll
 use Rattle.nvme_event.specs.declared.seen.FleetSeen.TheVariants as seen
 use Rattle.nvme_mailbox.specs.Deliveries as mail
-use Rattle.nvme_fleet.proofs.AdminTurns.{IsAdmin}
+use Rattle.nvme_refinement.proofs.AdminTurns.{IsAdmin}
 use Rattle.nvme_fleet.proofs.LinkCalls.{HasDone, IsFresh, IsSameName, calls-made, done, fresh-call, fresh-start, window-there}
 use Rattle.nvme_refinement.proofs.PlaceStep.{place_is_a_step, refusal_is_a_step}
 use Rattle.nvme_refinement.proofs.Places.{no-way}

@@ -11,7 +11,7 @@ use Rattle.nvme_machine.specs.Subsystems.{Completes, ExecutesAt, Run, Step, afte
 use Rattle.nvme_machine.proofs.Staying.{replaced-same}
 use Rattle.nvme_refinement.proofs.PlainCalls.{IsPlain}
 use Rattle.nvme_fleet.proofs.LinkCalls.{one-ran, value-is}
-use Rattle.nvme_fleet.proofs.AdminTurns.{AreAdmin, IsAdmin, change-admin, enabled-admin, fetch-admin, store-admin, write-admin, kept-admin}
+use Rattle.nvme_refinement.proofs.AdminTurns.{AreAdmin, IsAdmin, change-admin, enabled-admin, fetch-admin, store-admin, write-admin, kept-admin}
 
 -- Events that execute nothing.
 

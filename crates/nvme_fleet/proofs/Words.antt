@@ -1,23 +1,19 @@
 -- The words that most proofs of this crate speak in: those that the proofs of a driver over its controller speak in too,
 -- and others, each from where it is defined.
-pub use Rattle.nvme_refinement.proofs.Words.{Admin, AllByRecursion, Answer, Asked, Bool, Call, Calls, CommandComesToAs, CommandExecution, Controller, CreatesBoth, Device, Down, Driver, Err, Executed, ExecutesItem, ExecutesNth, FetchedCommand, FinishesOne, FinishesOver, Fleet, Io, IsOff, IsStep, LinkStep, List, Mailbox, MailboxReaction, None, Off, Ok, Option, Outcome, PlaceRefusal, PollFault, Polled, QueueChange, QueuePair, Queues, Reads, Registers, Reply, Request, Result, Scene, Setting, Site, Some, Sound, Stores, SubmissionQueue, Ticket, Turns, Up, UpFault, Waiting, WithDriver, World, Writes, [], acq_high, acq_low, after_call, after_calls, after_reset, all-joined, ap, append-nil, aqa, arith, asked_of, asq_high, asq_low, cases_Bool, command_place, common_steps, consumed_ends, csts, data_area, drop, enabling, ends, entry_fields, eqb, eqb-true, false, fetched_from, get_or, host_of, if◌then◌else◌, inl, inr, is_failed, is_ready, is_some, is_up, length, length-map, length-replicate, length-set, list_page, mailbox, map, marks_in, most_bytes, nat_le, new_controller, new_driver, no_marks, none-some, option_map, plain, polled, put_ends, queues_of, raw_fetch, refl, replicate, reset_calls, rung_reply, same_Some, scene_in, setting, setting_of, site_of, slice_get, slice_get_within, slice_set, sq_head, start_calls, started, stored_list, stores_of, submission_of, subst, suc, sym, tail_doorbell, tail_of, take, true, waiting_at, window_in, window_size, with_bytes, with_controller, with_ends, zero, ℕ, ◌++◌, ◌+◌, ◌-◌, ◌<◌, ◌==◌, ◌^◌, ◌∙◌, ◌∷◌, ◌≡◌, ◌≤◌, ◌⊎◌}
-unfoldable pub use Rattle.nvme_refinement.proofs.Words.{CommandComesTo, Rises, after_completion, after_fetch, after_posting, after_queue_change, after_store, after_write32, fetchable, open_pair, settled, submission_entry, taking_effect}
-pub use Rattle.nvme_mailbox.proofs.Words.{AlreadyUp, BringUp, Configuration, ControllerConfig, Cycled, DifferIn, Execute, Fetch, FleetEvent, FleetSeen, HasSameExtents, Is, IsLaidOut, IsRegular, LeavesReservation, Marks, MayNotRead, Moment, NoSuch, OfItsHost, Place, Poll, Posted, PowerCycle, Raw, RawStore, RawWrite32, ReservesNothing, Reset, Ring, RunWhere, Step, Subsystem, command_execution_over, data_len, differ-still, extent_of, fault_free_step, fetch-id, fetched_at, host_cycled, is_host_among, marked, marked_from, may_read, new_host, new_mailbox, ◌≢◌}
+pub use Rattle.nvme_refinement.proofs.Words.{Admin, AdminQueues, AllByRecursion, Answer, Asked, Bool, Call, Calls, CommandComesToAs, CommandExecution, Controller, CqFull, CreatesBoth, Device, Disable, Down, Driver, Enable, Err, Executed, ExecutesItem, ExecutesNth, FetchedCommand, Fleet, Io, IsOff, IsStep, LinkStep, List, Mailbox, MailboxReaction, NoSuch, None, Off, Ok, Option, Outcome, PlaceRefusal, PollFault, Polled, QueuePair, Queues, Reads, RegEffect, Registers, Reply, Request, Result, Scene, Setting, Site, Some, Sound, Stores, Ticket, Turns, Up, UpFault, Waiting, WithDriver, World, Writes, [], acq_high, acq_low, after_call, after_calls, after_reset, all-joined, ap, append-nil, aqa, arith, asked_of, asq_high, asq_low, cases_Bool, command_place, common_steps, consumed_ends, csts, data_area, drop, enabling, ends, entry_fields, eqb, eqb-true, false, fetch-id, get_or, host_of, if◌then◌else◌, inl, inr, is_failed, is_ready, is_some, is_up, length, length-map, length-replicate, length-set, list_page, mailbox, map, marks_in, most_bytes, nat_le, new_controller, new_driver, no_marks, none-some, option_map, plain, polled, put_ends, queues_of, raw_fetch, reaction, refl, replicate, reset_calls, rung_reply, same_Some, setting, setting_of, site_of, slice_get, slice_get_within, slice_set, sq_head, start_calls, started, stored_list, stores_of, submission_of, subst, suc, sym, tail_doorbell, tail_of, take, true, waiting_at, window_in, window_size, with_admin_queues, with_bytes, with_controller, with_ends, zero, ℕ, ◌++◌, ◌+◌, ◌-◌, ◌<◌, ◌==◌, ◌^◌, ◌∙◌, ◌∷◌, ◌≡◌, ◌≤◌, ◌⊎◌}
+unfoldable pub use Rattle.nvme_refinement.proofs.Words.{CommandComesTo, Rises, after_completion, after_fetch, after_posting, after_store, after_write32, open_pair, settled, submission_entry, taking_effect}
+pub use Rattle.nvme_mailbox.proofs.Words.{AlreadyUp, BringUp, Configuration, ControllerConfig, Cycled, DifferIn, Execute, Fetch, FleetEvent, FleetSeen, HasSameExtents, Is, IsLaidOut, IsRegular, LeavesReservation, Marks, MayNotRead, Moment, OfItsHost, Place, Poll, Posted, PowerCycle, Raw, RawStore, RawWrite32, ReservesNothing, Reset, Ring, RunWhere, Step, Subsystem, command_execution_over, data_len, differ-still, extent_of, fault_free_step, fetched_at, host_cycled, is_host_among, marked, marked_from, may_read, new_host, new_mailbox, ◌≢◌}
 unfoldable pub use Rattle.nvme_mailbox.proofs.Words.{after_power_cycle, host_at, may_write, opening, reservation_of, with_host}
 pub use Rattle.std.proofs.Common.{IfErr, IfNone, IfOk, IfSome, IsOk, IsSome, IsTrue, OnErr, OnOk, is_ok, vec_capacity, vec_len}
 pub use Rattle.std.proofs.lemmas.List.{append_assoc, set-get_or, set-set, take_more}
 pub use Rattle.std.proofs.lemmas.List.Edits.{map_over_more}
 pub use Rattle.std.proofs.lemmas.Option.{slice_get_read}
-pub use Rattle.nvme_spec.proofs.Registrants.{all-filter}
 pub use Rattle.nvme_spec.specs.Layout.{Extent, bytes_of}
 pub use Rattle.nvme_spec.specs.MediumCalls.{MakesCalls, MediumCall}
 pub use Rattle.nvme_spec.specs.Registers.{Written}
 pub use Rattle.nvme_spec.specs.World.{opening_world}
 pub use Rattle.nvme_spec.specs.declared.access.Protection.TheVariants.{UntilCycle}
-pub use Rattle.nvme_spec.specs.declared.queues.QueueChange.TheVariants.{DropSq}
-pub use Rattle.nvme_spec.specs.declared.registers.AdminQueues.{AdminQueues}
-pub use Rattle.nvme_spec.specs.declared.registers.RegEffect.{RegEffect}
-pub use Rattle.nvme_spec.specs.declared.registers.RegEffect.TheVariants.{Disable, Enable, Nothing}
+pub use Rattle.nvme_spec.specs.declared.registers.RegEffect.TheVariants.{Nothing}
 pub use Rattle.nvme_machine.proofs.AdminWorlds.{same-extents}
 pub use Rattle.nvme_machine.proofs.AllowedCalls.{all-mapped, all-of-none, calls_are_allowed}
 pub use Rattle.nvme_machine.proofs.Denials.{unmarked}
@@ -25,16 +21,15 @@ pub use Rattle.nvme_machine.proofs.Layouts.{step-extents}
 pub use Rattle.nvme_machine.proofs.SecretCommands.{scene_over}
 pub use Rattle.nvme_machine.specs.AllowedCalls.{HaveTheirOwn, IsReading, KeepsOff}
 pub use Rattle.nvme_machine.specs.Bare.{seen_of}
-pub use Rattle.nvme_machine.specs.Controllers.{Reaction, has_read, reaction, with_admin_queues, with_marks, wrote}
+pub use Rattle.nvme_machine.specs.Controllers.{Reaction, has_read, with_marks, wrote}
 pub use Rattle.nvme_machine.specs.EventCalls.{CallingAt, CallingOne, CallingOver, ExecutesNothing}
 pub use Rattle.nvme_machine.specs.Secrecy.{over}
 pub use Rattle.nvme_machine.specs.Subsystems.{ExecutesOne, ExecutesOver, Reacts, ReactsAs, controller_of, scene_of}
 unfoldable pub use Rattle.nvme_machine.specs.Subsystems.{controller_at}
 pub use Rattle.nvme_machine.specs.declared.event.Event.{Event}
 pub use Rattle.nvme_machine.specs.declared.event.Event.TheVariants.{Read32, Store, Write32}
-pub use Rattle.nvme_machine.specs.declared.seen.Executed.TheVariants.{CqFull}
 pub use Rattle.nvme_machine.specs.declared.seen.Seen.{Seen}
-pub use Rattle.nvme_machine.specs.declared.seen.Seen.TheVariants.{NoController, Outside, Stored, Value, Wrote}
+pub use Rattle.nvme_machine.specs.declared.seen.Seen.TheVariants.{NoController, Value, Wrote}
 pub use Rattle.nvme_subsys.proofs.Counts.{step-count}
 pub use Rattle.nvme_subsys.proofs.Numbers.{at-place, executed-back, misses, none-calling, none-executes, refill-all}
 pub use Rattle.nvme_subsys.proofs.OverMedium.{medium-is, state-is}

@@ -1,8 +1,7 @@
 -- A controller that fetches from its admin queue alone executes admin commands alone, and these mark nothing.
-use Rattle.nvme_fleet.proofs.Words.{all-filter, all-joined, ◌≡◌, ℕ, ◌+◌, ◌==◌, Bool, true, false, List, length, Option, None, Some, refl, sym, ap, subst, ◌∙◌, slice_get, nat_le, if◌then◌else◌, AllByRecursion, QueueChange, DropSq, AdminQueues, RegEffect, Enable, Disable, with_bytes, window_size, World, FetchedCommand, Executed, NoSuch, CqFull, Stored, Outside, CommandComesTo, CommandComesToAs, CommandExecution, Controller, SubmissionQueue, QueuePair, reaction, queues_of, open_pair, after_store, after_write32, after_fetch, fetched_from, fetchable, taking_effect, with_admin_queues, after_posting, after_queue_change, Setting, FinishesOne, FinishesOver, scene_in, after_completion, unmarked, Call, Stores, Writes, Turns, marks_after, fetch-id, LinkStep, with_controller, [], after_call, ◌∷◌}
+use Rattle.nvme_refinement.proofs.Words.{marks_in, no_marks, all-filter, all-joined, ◌≡◌, ℕ, ◌+◌, ◌==◌, Bool, true, false, List, length, Option, None, Some, refl, sym, ap, subst, ◌∙◌, slice_get, nat_le, if◌then◌else◌, AllByRecursion, QueueChange, DropSq, AdminQueues, RegEffect, Enable, Disable, with_bytes, window_size, FetchedCommand, Executed, NoSuch, CqFull, Stored, Outside, CommandComesTo, CommandComesToAs, CommandExecution, Controller, SubmissionQueue, QueuePair, reaction, queues_of, open_pair, after_store, after_write32, after_fetch, fetched_from, fetchable, taking_effect, with_admin_queues, after_posting, after_queue_change, Setting, FinishesOne, FinishesOver, scene_in, after_completion, Call, Stores, Writes, Turns, fetch-id, LinkStep, with_controller, [], after_call, ◌∷◌}
 use Rattle.nvme_mailbox.proofs.Lists.{all-get, all-removed}
 use Rattle.nvme_spec.specs.Registers as register
-use Rattle.nvme_machine.specs.Subsystems.{marked_from}
 use Rattle.nvme_mailbox.proofs.EachHost.{one-id}
 use Rattle.nvme_refinement.proofs.PlainCalls.{IsPlain}
 use Rattle.nvme_refinement.proofs.StartStep.{calls-are, calls-id}
@@ -53,29 +52,29 @@ change-admin change c h = h
 
 -- The execution of an admin command marks nothing.
 pub record IsQuiet (x : Executed) (left : Setting) : Type 0 where
-  pub marks : (w : World) (cs : List Controller) → marks_after w x cs ≡ cs
+  pub marks : marks_in x ≡ no_marks
   pub admin : AreAdmin left.controller
 
-left-alone : (old left : Setting) (x y : Executed) → x ≡ y → ((w : World) (cs : List Controller) → marks_after w y cs ≡ cs) → left ≡ old → AreAdmin old.controller → IsQuiet x left
+left-alone : (old left : Setting) (x y : Executed) → x ≡ y → marks_in y ≡ no_marks → left ≡ old → AreAdmin old.controller → IsQuiet x left
 left-alone old left x y is quiet same h = record {
-  marks = λ w cs. ap (λ z. marks_after w z cs) is ∙ quiet w cs;
+  marks = ap marks_in is ∙ quiet;
   admin = subst (λ (s : Setting). AreAdmin s.controller) (sym same) h;
 }
 
 over-quiet : (o : Option QueuePair) (tells : Bool) (t : FetchedCommand) (old : Setting) (x : Executed) (left : Setting) → IsAdmin t → AreAdmin old.controller → FinishesOver o tells 0 t old x left → IsQuiet x left
 unfolding CommandComesTo after_completion after_posting
-over-quiet None tells t old x left is h f = left-alone old left x CqFull f.0 (λ w cs. refl) f.1 h
+over-quiet None tells t old x left is h f = left-alone old left x CqFull f.0 refl f.1 h
 over-quiet (Some p) tells t old x left is h f =
     let a : CommandExecution = f.execution in
     let admin = subst (λ b. CommandComesToAs b tells (queues_of old.controller) old.controller.cntlid t (scene_in old) a) is f.comes_to in
     record {
-      marks = λ w cs. ap (λ z. marks_after w z cs) f.gives ∙ ap (λ m. marked_from w m 1 cs) (ap (λ (y : CommandExecution). y.outcome.marks) admin) ∙ unmarked w 1 cs;
+      marks = ap marks_in f.gives ∙ ap (λ (y : CommandExecution). y.outcome.marks) admin;
       admin = subst AreAdmin (sym f.controller)
           (change-admin a.change (after_posting 0 t p a.outcome.status a.outcome.dw0 (record old.controller { window = a.left.window })) (all-removed IsAdmin old.controller.fetched 0 h));
     }
 
 pub one-quiet : (o : Option FetchedCommand) (tells : Bool) (old : Setting) (x : Executed) (left : Setting) → slice_get old.controller.fetched 0 ≡ o → AreAdmin old.controller → FinishesOne o tells 0 old x left → IsQuiet x left
-one-quiet None tells old x left at h f = left-alone old left x NoSuch f.0 (λ w cs. refl) f.1 h
+one-quiet None tells old x left at h f = left-alone old left x NoSuch f.0 refl f.1 h
 one-quiet (Some t) tells old x left at h f = over-quiet (open_pair old.controller t) tells t old x left (all-get IsAdmin old.controller.fetched 0 t at h) h f
 
 -- Over calls of a link.

@@ -31,5 +31,6 @@ pub mod ExecuteStep
 pub mod PlainCalls
 pub mod StartStep
 pub mod OwnCommands
+pub mod AdminTurns
 pub mod TurnStep
 pub mod RiseStep

@@ -1,6 +1,6 @@
 -- The words that most proofs of this crate speak in: those that the proofs of mailboxes speak in too, and others, each
 -- from where it is defined.
-pub use Rattle.nvme_mailbox.proofs.Words.{Aborted, Admin, AdminCommand, AllByRecursion, Allowed, Asked, BadRequest, Bool, Command, CommandComesToAs, CommandExecution, Completes, Controller, Denied, Device, Done, Err, Executed, ExecutesAt, ExecutesBy, ExecutesItem, FetchedCommand, FetchedItem, FinishesOne, FinishesOver, Fleet, HasPassed, Idle, Io, IoRequestComesTo, IsServed, Item, Judgement, Keep, Lane, LaneBox, List, Mailbox, MailboxReaction, Namespace, None, NotReady, Ok, Option, Outcome, Performs, PlaceRefusal, PostedAnswer, QueueChange, QueuePair, Reply, Request, RequestComesToAs, RequestExecution, Rule, Scene, Setting, Site, Some, Status, Verdict, WithDriver, World, [], access_rules, action_of, action_rule, admin_request_execution_by, all-joined, answer_reply, ap, arith, asked_of, box_at, brought_up, bytes_with, cases_Bool, common_steps, conclusion, cond, data_length_of, denial_outcome, drop, else_by, eqb-false, eqb-true, false, fetched, fetched_first, fetched_of, filter, first_failing, first_failing-append, handed_up, host_of, if◌then◌else◌, inl, inr, io_verdict, is_bad, is_one_of, lane_at, lane_of, length, length-append, length-drop, length-map, length-take-le, mailbox_reaction, map, marks_in, medium_block, most_bytes, nat_le, nat_lt, ne_eqb, new_controller, new_item, no_marks, none-some, not, option_map, outcome_in, placed_by, plain, plan_of, polled_aborted, polled_admin, polled_io, queues_of, ranked, recounted, refl, refusal, remove, removed_by, replicate, ring_lane, rising, same_Some, scene_in, setting_of, site_of, slice_get, slice_get-map, slice_set, store-id, subst, suc, sym, take, tickets_in, total, true, with_box, with_bytes, with_placed, with_posted, world_after, write-id, zero, ℕ, ◌%◌, ◌&&◌, ◌*◌, ◌++◌, ◌+◌, ◌-◌, ◌/◌, ◌<◌, ◌==◌, ◌^◌, ◌||◌, ◌∙◌, ◌∷◌, ◌≡◌, ◌≤◌, ◌⊎◌}
+pub use Rattle.nvme_mailbox.proofs.Words.{Aborted, Admin, AdminCommand, AllByRecursion, Allowed, Asked, BadRequest, Bool, Command, CommandComesToAs, CommandExecution, Completes, Controller, Denied, Device, Done, Err, Executed, ExecutesAt, ExecutesBy, ExecutesItem, FetchedCommand, FetchedItem, FinishesOne, FinishesOver, Fleet, HasPassed, Idle, Io, IoRequestComesTo, IsServed, Item, Judgement, Keep, Lane, LaneBox, List, Mailbox, MailboxReaction, Namespace, NoSuch, None, NotReady, Ok, Option, Outcome, Performs, PlaceRefusal, PostedAnswer, QueueChange, QueuePair, Reply, Request, RequestComesToAs, RequestExecution, Rule, Scene, Setting, Site, Some, Status, Verdict, WithDriver, World, [], access_rules, action_of, action_rule, admin_request_execution_by, all-joined, answer_reply, ap, arith, asked_of, box_at, brought_up, bytes_with, cases_Bool, common_steps, conclusion, cond, data_length_of, denial_outcome, drop, else_by, eqb-false, eqb-true, false, fetch-id, fetched, fetched_first, fetched_of, filter, first_failing, first_failing-append, handed_up, host_of, if◌then◌else◌, inl, inr, io_verdict, is_bad, is_one_of, lane_at, lane_of, length, length-append, length-drop, length-map, length-take-le, mailbox_reaction, map, marks_in, medium_block, most_bytes, nat_le, nat_lt, ne_eqb, new_controller, new_item, no_marks, none-some, not, option_map, outcome_in, placed_by, plain, plan_of, polled_aborted, polled_admin, polled_io, queues_of, ranked, recounted, refl, refusal, remove, removed_by, replicate, ring_lane, rising, same_Some, scene_in, setting_of, site_of, slice_get, slice_get-map, slice_set, store-id, subst, suc, sym, take, tickets_in, total, true, with_box, with_bytes, with_placed, with_posted, world_after, write-id, zero, ℕ, ◌%◌, ◌&&◌, ◌*◌, ◌++◌, ◌+◌, ◌-◌, ◌/◌, ◌<◌, ◌==◌, ◌^◌, ◌||◌, ◌∙◌, ◌∷◌, ◌≡◌, ◌≤◌, ◌⊎◌}
 unfoldable pub use Rattle.nvme_mailbox.proofs.Words.{CommandComesTo, RequestComesTo, action, action_outcome, admin_judgement, admin_request_execution, after_answer, after_completion, after_posting, after_queue_change, block_count, cdw12, command_entry, command_of, cptpl, iekey, io_judgement, judgement_by, namespace_of, nsid, opcode, open_pair, open_tickets, pointer_rule, reservation_outcome, rtype, settled, submission_entry}
 pub use Rattle.std.proofs.Common.{MatchOption, Result, eqb, flat_map, get_or, is_none, is_some, slice_index_or, slice_range}
 pub use Rattle.std.proofs.lemmas.Bool.{and_parts, cases_eq, cases_lt, eq-eqb, le-leb, le-ltb, leb-true, lt-ltb, not-true}
@@ -18,6 +18,7 @@ unfoldable pub use Rattle.nvme_wire.specs.Submission.{cdw10, cdw11, cid}
 pub use Rattle.nvme_wire.specs.declared.sqe.fields.SqeFields.{SqeFields}
 pub use Rattle.nvme_spec.proofs.Denials.{JudgementRefuses, Refuses, VerdictRefuses, verdict-refuses}
 pub use Rattle.nvme_spec.proofs.Passing.{has-passed}
+pub use Rattle.nvme_spec.proofs.Registrants.{all-filter}
 pub use Rattle.nvme_spec.proofs.StatusLaws.{admin_execution_fits, execution_fits, of-each}
 pub use Rattle.nvme_spec.specs.AdminCommands.{controller_structure, namespace_structure, number_of_queues, opcode_of, state_of, write_protection}
 unfoldable pub use Rattle.nvme_spec.specs.AdminCommands.{cns, exhid, fid, ncqr, nsqr, sel, sv, wps}
@@ -39,14 +40,18 @@ pub use Rattle.nvme_spec.specs.Transfers.{addresses, gathered_bytes, pieces_of}
 unfoldable pub use Rattle.nvme_spec.specs.Transfers.{with_scattered}
 pub use Rattle.nvme_spec.specs.World.{is_attached}
 pub use Rattle.nvme_spec.specs.declared.access.Protection.TheVariants.{Open}
-pub use Rattle.nvme_spec.specs.declared.queues.QueueChange.TheVariants.{MakeCq, MakeSq}
+pub use Rattle.nvme_spec.specs.declared.queues.QueueChange.TheVariants.{DropSq, MakeCq, MakeSq}
 pub use Rattle.nvme_spec.specs.declared.queues.Queues.{Queues}
+pub use Rattle.nvme_spec.specs.declared.registers.AdminQueues.{AdminQueues}
 pub use Rattle.nvme_spec.specs.declared.registers.ControllerState.TheVariants.{Off, Ready}
-pub use Rattle.nvme_spec.specs.declared.registers.RegEffect.TheVariants.{CqHead, SqTail}
+pub use Rattle.nvme_spec.specs.declared.registers.RegEffect.{RegEffect}
+pub use Rattle.nvme_spec.specs.declared.registers.RegEffect.TheVariants.{CqHead, Disable, Enable, SqTail}
 pub use Rattle.nvme_machine.specs.CommandExecutions.{admin_command_execution}
-pub use Rattle.nvme_machine.specs.Controllers.{CompletionQueue, SubmissionQueue, completion_at, fetched_from, no_completion_queues, no_submission_queues, pair_with, submission_at, with_head, with_tail, without_queues}
+pub use Rattle.nvme_machine.specs.Controllers.{CompletionQueue, SubmissionQueue, completion_at, fetched_from, no_completion_queues, no_submission_queues, pair_with, reaction, submission_at, with_admin_queues, with_head, with_tail, without_queues}
 unfoldable pub use Rattle.nvme_machine.specs.Controllers.{after_fetch, after_store, after_write32, fetchable, taking_effect}
 pub use Rattle.nvme_machine.specs.Executing.{ExecutesNth, Finishes, setting}
+pub use Rattle.nvme_machine.specs.declared.seen.Executed.TheVariants.{CqFull}
+pub use Rattle.nvme_machine.specs.declared.seen.Seen.TheVariants.{Outside, Stored}
 pub use Rattle.nvme_driver.proofs.Moving.{entries_move_their_data, within}
 pub use Rattle.nvme_driver.proofs.PageLists.{length-stored_list, part-there}
 pub use Rattle.nvme_driver.specs.Calls.{Call, Calls, Reads, Stores, Turns, Writes}
