@@ -1,6 +1,6 @@
 -- What the program's run of a script comes to: over what it reads, over its medium, and over what it writes by way of a
 -- buffer.
-use Rattle.std.specs.Prelude.{◌≡◌, ◌⊎◌, ℕ, Bool, List, [], ◌∷◌, Option, None, Some, Result, MatchResult, Ok, Err}
+use Rattle.std.specs.Prelude.{◌≡◌, ◌≤◌, ◌<◌, ◌⊎◌, ℕ, Bool, List, [], ◌∷◌, ◌++◌, length, take, Option, None, Some, Result, MatchResult, Ok, Err}
 use Rattle.std.specs.Io.KnownBytes.{append_known}
 use Rattle.nvme_spec.specs.Blocks.{Device}
 use Rattle.nvme_spec.specs.MediumCalls.{MediumCall}
@@ -19,15 +19,25 @@ use Rattle.nvme_program.specs.declared.failure.Failure.TheVariants as failed
 use Rattle.nvme_program.specs.declared.fault.ScriptFault.{ScriptFault}
 use Rattle.nvme_program.specs.declared.fault.ScriptFault.TheVariants.{Write}
 use Rattle.nvme_program.specs.declared.running.Runner as runner
-use Rattle.nvme_script.specs.Faults.{IsScript, IsEarlyFault}
+use Rattle.nvme_transcript.specs.Transcript.{line_of, transcript}
+use Rattle.nvme_script.specs.Buffering.{most_held}
+use Rattle.nvme_script.specs.Faults.{IsScript, IsEarlyFault, events_in}
 use Rattle.nvme_script.specs.ScriptCalls.{RunsCalling, StopsCalling}
+
+-- A run stopped at a line, with which its transcript has more bytes than are held back: a write of its output failed.
+abbrev pub StopsBeyond : {M : Type 0} → (M → MediumCall → M → Type 0) → Bool → (M → Device) → List ℕ → M → M
+    → Option (List ℕ) → Option (List ℕ) → Type 0
+StopsBeyond step tells device text old new before after = (stop : StopsCalling step tells device text old new before after)
+    × (most_held < length (transcript (take stop.stopped.index (events_in text)) stop.stopped.told
+    ++ line_of stop.stopped.event stop.stopped.cut))
 
 -- A write of the transcript failed. The events up to the one whose line was not written whole have happened, or all; and
 -- of what was written the output holds all but the last bytes, which were held back.
 pub record StopsBuffered {M : Type 0} (step : M → MediumCall → M → Type 0) (tells : Bool) (device : M → Device)
     (text : List ℕ) (old new : M) (before after : Option (List ℕ)) : Type 0 where
   pub held : List ℕ
-  pub ran : StopsCalling step tells device text old new before (append_known after held)
+  pub few : length held ≤ most_held
+  pub ran : StopsBeyond step tells device text old new before (append_known after held)
       ⊎ RunsCalling step tells device text old new before (append_known after held)
 
 -- What a fault says of a text that was read. Each but one of the output comes before the first event, and then no call was

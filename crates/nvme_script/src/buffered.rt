@@ -1,9 +1,10 @@
 //! A buffer before the output of a program.
 
-ghost use Rattle.std.specs.Prelude.{◌≡◌, ◌≤◌, [], length, take, drop, OnOk};
+ghost use Rattle.std.specs.Prelude.{◌≡◌, ◌≤◌, [], length, take, OnOk};
 ghost use Rattle.std.specs.Io.{WritesAtMost};
 ghost use Rattle.std.specs.Io.KnownBytes.{Appends, Keeps, WriteAppends};
 
+use crate::held::{Held, MOST_HELD};
 use script_text::Sink;
 use std::io;
 use std::io::{ErrorKind, Write};
@@ -14,7 +15,7 @@ use std::marker::Model;
 #[derive(Drop)]
 pub(crate) struct Buffered<'o, 'h, O> {
     pub(crate) output: &'o mut O,
-    pub(crate) held: &'h mut Vec<u8>,
+    pub(crate) held: &'h mut Held,
 }
 
 impl<'o, 'h, O> Model for Buffered<'o, 'h, O> {
@@ -22,7 +23,7 @@ impl<'o, 'h, O> Model for Buffered<'o, 'h, O> {
 
     ghost Value = { Buffer O };
 
-    ghost view = { λ b. record { output = b.output.now; held = b.held.now.items; name = b.output.ghost_name } };
+    ghost view = { λ b. record { output = b.output.now; held = b.held.now; name = b.output.ghost_name } };
 }
 
 /// One write, made again where a signal interrupts it.
@@ -60,27 +61,18 @@ fn write_front<O: Write>(output: &mut O, bytes: &[u8]) -> (usize, io::Result<()>
     (written, Ok(()))
 }
 
-/// Takes the first bytes away.
-fn remove_front(held: &mut Vec<u8>, count: usize)
-    requires { count ≤ length held.old.items }
-    ensures { held.new.items ≡ drop count held.old.items }
-{
-    let len = held.len();
-    held.as_mut_slice().copy_within(count..len, 0);
-    held.truncate(len - count);
-}
-
 impl<O: Write> Buffered<'_, '_, O> {
-    ghost use Rattle.nvme_script.specs.Buffering.{buffer_contents};
+    ghost use Rattle.nvme_script.specs.Buffering.{buffer_contents, most_held};
 
     /// Writes what is held back to the output. What could not be written stays.
     fn pass_on(&mut self) -> io::Result<()>
         ensures name { self.new.name ≡ self.old.name }
         ensures bytes { Keeps (buffer_contents O.contents self.old) (buffer_contents O.contents self.new) }
+        ensures few { length self.new.held ≤ most_held }
         ensures ok { OnOk result (self.new.held ≡ []) }
     {
-        let (written, outcome) = write_front(self.output, self.held.as_slice());
-        remove_front(self.held, written);
+        let (written, outcome) = write_front(self.output, self.held.as_bytes());
+        self.held.remove_front(written);
         outcome
     }
 
@@ -88,6 +80,7 @@ impl<O: Write> Buffered<'_, '_, O> {
     pub(crate) fn flush(&mut self) -> io::Result<()>
         ensures name { self.new.name ≡ self.old.name }
         ensures bytes { Keeps (buffer_contents O.contents self.old) (buffer_contents O.contents self.new) }
+        ensures few { length self.new.held ≤ most_held }
         ensures ok { OnOk result (self.new.held ≡ []) }
     {
         self.pass_on()?;
@@ -103,15 +96,13 @@ impl<O: Write> Sink for Buffered<'_, '_, O> {
     ghost step = { StepsBuffer O.contents };
 
     fn give_some(&mut self, part: &[u8]) -> io::Result<usize> {
-        if part.len() > self.held.capacity() - self.held.len() {
+        if part.len() > MOST_HELD - self.held.as_bytes().len() {
             self.pass_on()?;
-            if part.len() > self.held.capacity() {
-                return self.output.write(part);
+            if part.len() > MOST_HELD {
+                return write_some(self.output, part);
             }
         }
-        match self.held.extend_from_slice(part) {
-            Ok(()) => Ok(part.len()),
-            Err(_) => Err(io::Error::from(ErrorKind::OutOfMemory)),
-        }
+        self.held.add(part);
+        Ok(part.len())
     }
 }

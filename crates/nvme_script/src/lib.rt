@@ -2,6 +2,7 @@
 #![tactic(auto)]
 
 mod buffered;
+mod held;
 pub mod laws;
 mod program;
 mod run;

@@ -7,14 +7,12 @@ ghost use Rattle.nvme_script.specs.ProgramRuns.{FailsThrough, RunsText};
 ghost use Rattle.nvme_script.specs.ScriptCalls.{RunsCalling};
 
 use crate::buffered::Buffered;
+use crate::held::Held;
 use crate::run::run_text;
 use nvme_medium::Medium;
 use nvme_program::{Failure, ScriptFault};
 use std::alloc::Global;
 use std::io::Write;
-
-/// How many bytes of a transcript are held back at most.
-const ROOM: usize = 8192;
 
 /// Runs a script whose text was read, and writes its transcript through a buffer that is empty yet, and in the end is
 /// again.
@@ -42,12 +40,12 @@ fn run_buffered<O: Write, M: Medium>(
 fn run_held<O: Write, M: Medium>(
     alloc: Global,
     text: &[u8],
-    held: &mut Vec<u8>,
+    held: &mut Held,
     output: &mut O,
     medium: M,
 ) -> Result<M, (ScriptFault, M)>
     requires short { length text.now ≤ longest }
-    requires empty { held.old.items ≡ [] }
+    requires empty { held.old ≡ [] }
     ensures { RunsText M.Medium O.contents result text.now medium output.old output.new }
 {
     let mut buffered = Buffered { output, held };
@@ -77,7 +75,7 @@ pub(crate) fn run_through<O: Write, M: Medium>(
         × RunsCalling M.step M.tells M.device text.now medium after (O.contents output.old) (O.contents output.new)) }
     ensures fault { IfErr result (λ e. FailsThrough M.Medium O.contents e.0 text.now medium e.1 output.old output.new) }
 {
-    let Ok(mut held) = Vec::with_capacity(alloc, ROOM) else {
+    let Ok(mut held) = Held::new(alloc) else {
         return Err((Failure::Memory, medium));
     };
     match run_held(alloc, text, &mut held, output, medium) {

@@ -35,8 +35,6 @@ KNOWN = {
     ("crates/nvme_transcript/src/writing.rt", 'short.push_str("\\n");'),
     # A text has room for a whole line from the beginning, and is not asked for more.
     ("crates/script_text/src/page.rt", "match self.bytes.extend_from_slice(piece.as_bytes()) {"),
-    # The buffer of a transcript is asked to hold no more than it has room for.
-    ("crates/nvme_script/src/buffered.rt", "match self.held.extend_from_slice(part) {"),
     # `parse`.
     ("crates/nvme_grammar/src/script.rt", "Line::Event(event) => self.events.push(KeptEvent::of(event, before))?,"),
     ("crates/nvme_grammar/src/script.rt",

@@ -1,28 +1,28 @@
 use Rattle.std.proofs.Common.{◌∙◌}
 use Rattle.nvme_script.specs.ProgramRuns.{RunsText}
-use Rattle.nvme_script.proofs.Buffering.{fails-over, fault-name, lines-name, runs-through, stops-through}
+use Rattle.nvme_script.proofs.Buffering.{fails-over, fault-name, lines-stay, runs-through, stops-through}
 use Rattle.nvme_script.proofs.transcribing.run_buffered.Goals as goal
 
 pub returns-in-Ok-flush-clause-name : goal.returns-in-Ok-flush-clause-name
 returns-in-Ok-flush-clause-name g c =
-    c.flush.ensures.name ∙ lines-name g.O.Write.contents _ c.args.buffered.now c.run_text.new.writer c.in-Ok.ensures.ok.1.written
+    c.flush.ensures.name ∙ (lines-stay g.O.Write.contents _ c.args.buffered.now c.run_text.new.writer c.in-Ok.ensures.ok.1.written).0
 
 pub returns-in-Ok-flush-clause-ran : goal.returns-in-Ok-flush-clause-ran
 unfolding RunsText
 returns-in-Ok-flush-clause-ran g c = (
   c.in-Ok.ensures.ok.0,
   runs-through g.O.Write.contents g.M.Medium c.args.text.now c.args.medium c.in-Ok.medium c.args.buffered.now
-      c.flush.new.self c.requires.empty c.run_text.new.writer c.in-Ok.ensures.ok.1 c.flush.ensures.bytes c.in-Ok-flush.ensures.ok,
+      c.flush.new.self c.requires.empty c.run_text.new.writer c.in-Ok.ensures.ok.1 c.flush.ensures.few c.flush.ensures.bytes c.in-Ok-flush.ensures.ok,
 )
 
 pub returns-in-Err-flush-clause-name : goal.returns-in-Err-flush-clause-name
 returns-in-Err-flush-clause-name g c =
-    c.flush.ensures.name ∙ lines-name g.O.Write.contents _ c.args.buffered.now c.run_text.new.writer c.in-Ok.ensures.ok.1.written
+    c.flush.ensures.name ∙ (lines-stay g.O.Write.contents _ c.args.buffered.now c.run_text.new.writer c.in-Ok.ensures.ok.1.written).0
 
 pub returns-in-Err-flush-clause-ran : goal.returns-in-Err-flush-clause-ran
 unfolding RunsText
 returns-in-Err-flush-clause-ran g c = stops-through g.O.Write.contents g.M.Medium c.args.text.now c.args.medium c.in-Ok.medium c.args.buffered.now
-    c.flush.new.self c.requires.empty c.run_text.new.writer c.in-Ok.ensures.ok.1 c.flush.ensures.bytes c.in-Ok.ensures.ok.0
+    c.flush.new.self c.requires.empty c.run_text.new.writer c.in-Ok.ensures.ok.1 c.flush.ensures.few c.flush.ensures.bytes c.in-Ok.ensures.ok.0
 
 pub returns-in-Err-clause-name : goal.returns-in-Err-clause-name
 returns-in-Err-clause-name g c = fault-name g.O.Write.contents g.M.Medium c.args.text.now c.args.medium c.in-Err.fault.1 c.args.buffered.now

@@ -12,14 +12,14 @@ none_left (Err e) xs left n is all = tt
 pub returns-clause-ok : goal.returns-clause-ok
 returns-clause-ok g c =
     let n = c.write_front-written.result.0 in
-    let rest : c.remove_front.new.held.items ≡ drop n c.as_slice.result.now = c.remove_front.ensures ∙ ap (drop n) (sym c.as_slice.ensures.value) in
-    none_left c.write_front-written.result.1 c.as_slice.result.now _ n rest c.write_front-written.ensures.all
+    let rest : c.remove_front.new.self ≡ drop n c.as_bytes.result.now = c.remove_front.ensures ∙ ap (drop n) (sym c.as_bytes.ensures.value) in
+    none_left c.write_front-written.result.1 c.as_bytes.result.now _ n rest c.write_front-written.ensures.all
 
 pub returns-clause-bytes : goal.returns-clause-bytes
 returns-clause-bytes g c =
     let n = c.write_front-written.result.0 in
-    let held = c.as_slice.result.now in
-    let rest : c.remove_front.new.held.items ≡ drop n held = c.remove_front.ensures ∙ ap (drop n) (sym c.as_slice.ensures.value) in
-    let moved : Keeps (append_known (g.O.Write.contents c.self.inside.output.now) c.self.inside.held.now.items) (append_known (g.O.Write.contents c.write_front-written.new.output) c.remove_front.new.held.items) =
-    append_known-moved _ _ _ _ _ c.write_front-written.ensures.written (sym c.as_slice.ensures.value ∙ sym (take-append-drop n held) ∙ ap (λ l. take n held ++ l) (sym rest)) in
+    let held = c.as_bytes.result.now in
+    let rest : c.remove_front.new.self ≡ drop n held = c.remove_front.ensures ∙ ap (drop n) (sym c.as_bytes.ensures.value) in
+    let moved : Keeps (append_known (g.O.Write.contents c.self.inside.output.now) c.self.inside.held.now) (append_known (g.O.Write.contents c.write_front-written.new.output) c.remove_front.new.self) =
+    append_known-moved _ _ _ _ _ c.write_front-written.ensures.written (sym c.as_bytes.ensures.value ∙ sym (take-append-drop n held) ∙ ap (λ l. take n held ++ l) (sym rest)) in
     search rules
