@@ -176,18 +176,17 @@ def pattern(seed: int, blocks: int, tail: int = 0) -> bytes:
 
 @dataclass(frozen=True)
 class Flush:
-    """A write of the transcript: the event, counted from 1, in which it is made, or None at the end; the first event
-    whose line it writes; and whether it is of a line by itself."""
+    """A write of the transcript: the event, counted from 1, in which it is made, or None at the end; and the first event
+    whose line it writes."""
     event: Optional[int]
     first: int
-    is_own: bool = False
 
 
 def flushes_of(lines: List[str], capacity: int = 8192) -> List[Flush]:
     """The writes of a transcript.
 
     Lines are put into a buffer; one that is longer than the room left there has the buffer written first, and one that
-    is as long as the buffer is written by itself.
+    is longer than the buffer is written by itself.
     """
     found: List[Flush] = []
     held, first = 0, 1
@@ -196,8 +195,8 @@ def flushes_of(lines: List[str], capacity: int = 8192) -> List[Flush]:
         if length > capacity - held:
             found += [Flush(event, first)] * (held > 0)
             held, first = 0, event
-        if length >= capacity:
-            found.append(Flush(event, event, True))
+        if length > capacity:
+            found.append(Flush(event, event))
             first = event + 1
         else:
             held += length

@@ -48,9 +48,8 @@ class Case:
 
 
 def is_unnoticed(case: Case, at: int, how: str) -> bool:
-    """Whether a write of the transcript goes on. The buffer's write that a signal interrupts is made again; that of a
-    line which is written by itself is not."""
-    return at > len(case.flushes) or how == "fewer" or (how == "EINTR" and not case.flushes[at - 1].is_own)
+    """Whether a write of the transcript goes on. One that a signal interrupts is made again."""
+    return at > len(case.flushes) or how in ("fewer", "EINTR")
 
 
 def try_writes(bench: Bench, case: Case, how: str, is_onward: bool) -> int:
