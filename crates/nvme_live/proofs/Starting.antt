@@ -42,7 +42,7 @@ refuses : (o : Option ConfigFault) (fault : ConfigFault) → fault ≡ unwrap_or
 refuses None fault e other = absurd (other e)
 refuses (Some f) fault e other = ap Some (sym e)
 
--- out of memory is the fault of no configuration
+-- that there is no memory is the fault of no configuration
 never-wanting : (c : Configuration) (blocks : ℕ) → first_config_fault c blocks ≡ Some WantOfMemory → ⊥
 unfolding first_config_fault
 never-wanting c blocks = by (has_too_many c) (has_bad_id c) (has_bad_size c.namespaces) (nat_lt blocks (total_blocks c.namespaces))

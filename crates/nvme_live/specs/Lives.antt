@@ -42,7 +42,7 @@ pub record Rests {M : Type 0} (device : M → Device) (Ended : OverMedium Standi
   pub medium : left ≡ last.medium
   pub rests : device left ≡ device_in d last.state
 
--- What `start`, the n-th line, comes to where its fleet is not opened, or its answer is not sent. It is out of memory for
+-- What `start`, the n-th line, comes to where its fleet is not opened, or its answer is not sent. There is no memory for
 -- the fleet of a configuration without a fault; or the answer that names the fault has no room.
 abbrev pub StartFails : {W : Type 0} → (W → Sending → W → Type 0) → ScriptFault → ℕ → Device → ℕ → SetUp → W → W
     → Type 0

@@ -53,7 +53,8 @@ lives_behind_scripts unread contents = record {
 }
 
 -- The program in a system, on these words, over its input and its output: how it ends, and what it leaves of the system, of
--- the input and of the output. Where there was no session, that is the input as it was.
+-- the input and of the output. Where a word or a file was refused, that is the input as it was. Where there was no memory to
+-- read it ahead, nothing is said of it.
 unfoldable pub SessionProgramEnds : {S I T In Out : Type 0} → (S → SystemCall I T → S → Type 0)
     → (image : medium.Ghosts I) → medium.Ghosts (Cached I image) → (T → Option (List ℕ)) → (In → Option (List ℕ))
     → (Out → Option (List ℕ)) → List (List ℕ) → S → In → Out → Option Failure → S → In → Out → Type 0

@@ -65,7 +65,7 @@ fn put_reason<P: Page>(page: &mut P, reason: Option<(u64, BrokenRule)>) -> Resul
     rule.spell(page)
 }
 
-/// Answers `start`, whose fleet was refused for this reason; out of memory is not answered.
+/// Answers `start`, whose fleet was refused for this reason. `NoMemory` is not answered.
 fn refuse_start<W: FlushedSink>(
     number: u64,
     fault: ConfigFault,

@@ -3,13 +3,13 @@ use Rattle.std.specs.Prelude.{Option, None, Some}
 use Rattle.nvme_program.specs.declared.failure.Failure.{Failure}
 use Rattle.nvme_program.specs.declared.failure.Failure.TheVariants.{Script, File, Memory}
 
--- a file that can't be opened is a file fault, or out of memory
+-- a file can't be opened: that is a file fault, or there is no memory
 abbrev pub IsOfFile : Failure → Type 0
 IsOfFile File = Unit {0}
 IsOfFile Memory = Unit {0}
 IsOfFile _ = ⊥
 
--- the end of a run: none, a fault of the script, or out of memory
+-- what ends a run before its end: nothing, a fault of the script, or that there is no memory
 abbrev pub IsOfRun : Option Failure → Type 0
 IsOfRun None = Unit {0}
 IsOfRun (Some (Script fault)) = Unit {0}

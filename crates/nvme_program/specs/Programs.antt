@@ -70,7 +70,8 @@ module _ {S I T R : Type 0} (step : S → SystemCall I T → S → Type 0) (imag
     pub ends : EndsFromScript behind_cache script cached left system before end mid after
     pub closes : step mid (ClosesImage (inner_of left)) new
 
-  -- behind the opening of the image: its failure is the end, or out of memory for its cache, or else the script decides
+  -- behind the opening of the image: its failure is the end, or there is no memory for its cache, or else the script
+  -- decides
   abbrev pub EndsBehindImage : Result I Failure → Option (List ℕ) → S → R → Option Failure → S → R → Type 0
   EndsBehindImage (Err failure) script system before end new after =
       IsOfFile failure × (new ≡ system) × Tells failure before end after
@@ -95,8 +96,8 @@ module _ {S I T R : Type 0} (step : S → SystemCall I T → S → Type 0) (imag
       ((new ≡ system) × Tells Memory before end after)
       ⊎ EndsFromImage (image_in words) (script_in words) system before end new after
 
-  -- A program on these words: a word that is refused, out of memory, the image, the script and the run end it, in this
-  -- order.
+  -- A program on these words is ended by a refused word, by too little memory, by the image, by the script or by the run:
+  -- by the first of these, in this order.
   abbrev pub ProgramEnds : List (List ℕ) → S → R → Option Failure → S → R → Type 0
   ProgramEnds words system before end new after = EndsByWord (word_fault words) words system before end new after
 

@@ -282,7 +282,7 @@ fn does_not_fit(namespaces: &[NsConfig], medium_blocks: u64) -> Option<ConfigRea
 
 impl ConfigReason {
     /// Why a configuration is refused with this fault over a medium of so many blocks: a rule that it breaks and that
-    /// has this fault, and the first line that breaks it. `None` for out of memory.
+    /// has this fault, and the first line that breaks it. `None` for `NoMemory`, which no line brings about.
     #[tactic(auto, unfolding(crate::specs::Reasons::reason_of))]
     pub fn of(config: &Config, medium_blocks: u64, fault: ConfigFault) -> Option<ConfigReason>
         ensures { result ≡ spec.reason_of (configuration config.now) medium_blocks fault }

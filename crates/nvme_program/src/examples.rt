@@ -73,7 +73,7 @@ fn sizes_and_places()
         ≡ reason_at (SetupLine.Namespace 0) (Some (BrokenRule.DoesNotFit 1 63)) }
 {}
 
-/// No reason: a fault that the configuration has not, and out of memory.
+/// No reason is given for a fault that the configuration does not have, nor for `NoMemory`.
 fn nothing_broken()
     ensures fits { reason_of cluster 72 ConfigFault.DoesNotFit ≡ None }
     ensures identifiers { reason_of cluster 72 ConfigFault.BadId ≡ None }
